@@ -1,0 +1,55 @@
+-- Lines: what a stream of octets is cut into (RFC 3977 section 3.1; docs/FORMATS.md, Blocks of text).
+-- All of it speaks of the octets joined: the pieces that they came in don't occur.
+use Rattle.std.specs.Prelude.{◌≡◌, ℕ, ◌+◌, ◌≤◌, nat_le, ◌==◌, ◌&&◌, List, [], ◌∷◌, ◌++◌, length, flat_map, option_map, Option, None, Some, if◌then◌else◌}
+
+-- carriage return and line feed, which end each line
+abbrev pub crlf : List ℕ
+crlf = 13 ∷ 10 ∷ []
+
+-- The stream begins with this line, written without its CRLF, and the rest follows it: of all that
+-- stands before a CRLF it is the shortest (RFC 3977 section 3.1).
+pub record CutsLine (stream line rest : List ℕ) : Type 0 where
+  pub whole : stream ≡ line ++ 13 ∷ 10 ∷ rest
+  pub shortest : (front after : List ℕ) → stream ≡ front ++ 13 ∷ 10 ∷ after → length line ≤ length front
+
+-- the first line of a stream and what follows it, or None where it has no CRLF
+abbrev pub first_line : List ℕ → Option (List ℕ × List ℕ)
+first_line [] = None
+first_line (a ∷ []) = None
+first_line (a ∷ b ∷ cs) =
+    if a == 13 && b == 10 then Some ([], cs)
+    else option_map (λ (p : List ℕ × List ℕ). (a ∷ p.0, p.1)) (first_line (b ∷ cs))
+
+-- the octets of a command line with its CRLF, at most (RFC 3977 section 3.1)
+abbrev pub line_limit : ℕ
+line_limit = 512
+
+-- what stands at the front of a stream where a command line is due
+pub data NextLine : Type 0 where
+  -- a line within the limit, and what follows it
+  Cut : (line rest : List ℕ) → NextLine
+  -- as many octets as the limit allows, and no CRLF among them
+  TooLong : NextLine
+  -- less than a line so far
+  Incomplete : NextLine
+
+abbrev pub next_line_by : Option (List ℕ × List ℕ) → ℕ → NextLine
+next_line_by (Some p) octets = if nat_le (length p.0 + 2) line_limit then Cut p.0 p.1 else TooLong
+next_line_by None octets = if nat_le line_limit octets then TooLong else Incomplete
+
+-- the first line where the limit holds it, a fault where it doesn't, nothing yet where neither is sure
+abbrev pub next_line : List ℕ → NextLine
+next_line stream = next_line_by (first_line stream) (length stream)
+
+-- a line, written without its CRLF: no CRLF comes before that one
+abbrev pub IsLine : List ℕ → Type 0
+IsLine line = first_line (line ++ crlf) ≡ Some (line, [])
+
+-- each of them is a line
+abbrev pub AreLines : List (List ℕ) → Type 0
+AreLines [] = Unit {0}
+AreLines (line ∷ lines) = IsLine line × AreLines lines
+
+-- lines as they stand in a stream or in a text, each with its CRLF
+abbrev pub spelled : List (List ℕ) → List ℕ
+spelled lines = flat_map (λ line. line ++ crlf) lines

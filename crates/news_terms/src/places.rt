@@ -1,0 +1,43 @@
+//! Laws and worked examples of sizes, runs, places and fronts.
+ghost use Rattle.std.specs.Prelude.{◌≡◌, ℕ, codes, Some, None, [], ◌∷◌};
+ghost use Rattle.news_terms.specs.Places.{size_of, extents, front_after};
+ghost use Rattle.news_terms.specs.PlaceExamples.{eight, six, one_of_eight, eight_then_six, eight_and_six};
+
+/// How many blocks texts of these lengths take.
+pub fn size_examples()
+    ensures one { size_of 480 ≡ 1 }
+    ensures two { size_of 481 ≡ 2 }
+    ensures eight { size_of 3840 ≡ 8 }
+    ensures nine { size_of 3841 ≡ 9 }
+    ensures least { size_of 1 ≡ 1 }
+    ensures nothing { size_of 0 ≡ 0 }
+    ensures large { size_of 1000015 ≡ 2084 }
+{}
+
+/// One buffer of eight blocks: three articles of three blocks, and the front after the last.
+pub fn overwrite_example()
+    ensures places { extents one_of_eight (3 ∷ 3 ∷ 3 ∷ []) ≡
+        record { place = record { buffer = eight; cycle = 0; first = 0 }; size = 3 }
+        ∷ record { place = record { buffer = eight; cycle = 0; first = 3 }; size = 3 }
+        ∷ record { place = record { buffer = eight; cycle = 1; first = 0 }; size = 3 } ∷ [] }
+    ensures front { front_after eight (extents one_of_eight (3 ∷ 3 ∷ 3 ∷ [])) ≡ 11 }
+    ensures none { front_after eight [] ≡ 0 }
+{}
+
+/// Two buffers of eight and six blocks one after the other: articles of five, four, two and three.
+pub fn sequential_example()
+    ensures places { extents eight_then_six (5 ∷ 4 ∷ 2 ∷ 3 ∷ []) ≡
+        record { place = record { buffer = eight; cycle = 0; first = 0 }; size = 5 }
+        ∷ record { place = record { buffer = six; cycle = 0; first = 0 }; size = 4 }
+        ∷ record { place = record { buffer = six; cycle = 0; first = 4 }; size = 2 }
+        ∷ record { place = record { buffer = eight; cycle = 1; first = 0 }; size = 3 } ∷ [] }
+{}
+
+/// The same two in turn: each has runs of its own.
+pub fn interleaved_example()
+    ensures places { extents eight_and_six (5 ∷ 4 ∷ 2 ∷ 3 ∷ []) ≡
+        record { place = record { buffer = eight; cycle = 0; first = 0 }; size = 5 }
+        ∷ record { place = record { buffer = six; cycle = 0; first = 0 }; size = 4 }
+        ∷ record { place = record { buffer = eight; cycle = 0; first = 5 }; size = 2 }
+        ∷ record { place = record { buffer = six; cycle = 1; first = 0 }; size = 3 } ∷ [] }
+{}
