@@ -1,0 +1,15 @@
+-- The rules that stand today where the relay is to have others: this file, WriteToday and is_served of
+-- news_terms are all that changes when it has them.
+use Rattle.std.specs.Prelude.{ℕ, Bool, false, is_some, Option, None}
+
+-- A TAKETHIS doesn't take an offer of another session over yet: it is held.
+abbrev pub takes_over : Bool
+takes_over = false
+
+-- Open offers have no limit yet.
+abbrev pub offer_limit : Option ℕ
+offer_limit = None
+
+-- Only one session is ever opened yet: any number counts as taken once there was one.
+abbrev pub is_number_taken : Option ℕ → ℕ → Bool
+is_number_taken newest s = is_some newest

@@ -1,0 +1,2 @@
+//! The relay that a person can read: its state, its steps, its runs.
+#![tactic(auto)]
