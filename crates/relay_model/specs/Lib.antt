@@ -1,3 +1,14 @@
+pub mod Arrivals
 pub mod Claims
+pub mod Fetches
+pub mod Lines
+pub mod Pace
+pub mod Run
+pub mod Says
 pub mod State
+pub mod Terms
 pub mod Today
+pub mod Turns
+pub mod Verdict
+pub mod World
+pub mod Writes

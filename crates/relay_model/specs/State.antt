@@ -1,7 +1,6 @@
 -- The state of the relay (docs/PROTOCOL.md, State): what it knows, keeps and has promised, with all
 -- that it ever began, stored and gained.
-use Rattle.std.specs.Prelude.{ℕ, Bool, ◌==◌, List, [], Option, None, Some, bytes_eq, if◌then◌else◌}
-use Rattle.news_terms.specs.Command.{Part}
+use Rattle.std.specs.Prelude.{ℕ, ◌==◌, List, [], Option, None, bytes_eq, if◌then◌else◌}
 use Rattle.news_terms.specs.Token.{Token}
 use Rattle.relay_model.specs.Claims.{Accepted, Claim, Unknown}
 
@@ -27,10 +26,10 @@ pub data Outcome : Type 0 where
   IsKept : Outcome
   HasFailed : Outcome
 
--- what a fetch sends: a part of the article of an id, or the article of a token
-pub data Wanted : Type 0 where
-  OfId : (part : Part) (id : List ℕ) → Wanted
-  OfToken : Wanted
+-- what a fetch asks
+pub data Asked : Type 0 where
+  -- STAT: whether the article of this id is there
+  Whether : (id : List ℕ) → Asked
 
 -- what a session does next
 pub data Phase : Type 0 where
@@ -43,7 +42,7 @@ pub data Phase : Type 0 where
   -- it waits for the outcome of its article; None while there is none
   Waits : (transfer : Transfer) (id : List ℕ) (outcome : Option Outcome) → Phase
   -- it fetches this token
-  Fetches : (wanted : Wanted) (token : Token) → Phase
+  Fetches : (asked : Asked) (token : Token) → Phase
   -- it has ended, and gives up what it had
   Leaving : Phase
   -- it is closed
