@@ -1,8 +1,16 @@
+pub mod Article
+pub mod BlockImage
 pub mod Blocks
 pub mod Command
+pub mod Dates
 pub mod Lines
 pub mod MessageId
+pub mod Overview
+pub mod Path
+pub mod Pattern
 pub mod PlaceExamples
 pub mod Places
 pub mod Reply
+pub mod Ring
+pub mod StorageClass
 pub mod Token

@@ -1,9 +1,47 @@
 //! Laws and worked examples of lines and blocks.
-ghost use Rattle.std.specs.Prelude.{◌≡◌, ℕ, ◌+◌, ◌++◌, List, codes, Some, None, [], ◌∷◌, replicate, length};
-ghost use Rattle.news_terms.specs.Lines.{first_line, next_line, crlf, spelled};
+ghost use Rattle.std.specs.Prelude.{◌≡◌, ◌↔◌, ℕ, ◌+◌, ◌++◌, List, codes, Some, None, [], ◌∷◌, replicate, length};
+ghost use Rattle.news_terms.specs.Lines.{first_line, next_line, crlf, spelled, CutsLine, IsLine, AreLines};
 ghost use Rattle.news_terms.specs.Lines as lines;
-ghost use Rattle.news_terms.specs.Blocks.{first_block, next_block, stuffed, unstuffed, dot};
+ghost use Rattle.news_terms.specs.Blocks.{first_block, next_block, stuffed, unstuffed, dot, CutsBlock};
 ghost use Rattle.news_terms.specs.Blocks as blocks;
+
+/// The first line is the shortest that the stream begins with, and there is none only where no line
+/// and rest make up the stream.
+pub fn first_line_law()
+    ensures exact { (stream line rest : List ℕ) →
+        (first_line stream ≡ Some (line, rest)) ↔ CutsLine stream line rest }
+    ensures none { (stream : List ℕ) →
+        (first_line stream ≡ None) ↔ ((line rest : List ℕ) → ¬ CutsLine stream line rest) }
+    ensures grows { (stream line rest more : List ℕ) → first_line stream ≡ Some (line, rest) →
+        first_line (stream ++ more) ≡ Some (line, rest ++ more) }
+{}
+
+/// A line is what has no CRLF in it: with its own CRLF after it, that one is the first.
+pub fn line_law()
+    ensures cut { (line : List ℕ) → IsLine line ↔ CutsLine (line ++ crlf) line [] }
+    ensures last { (line : List ℕ) → IsLine line
+        ↔ ((front after : List ℕ) → line ++ crlf ≡ front ++ 13 ∷ 10 ∷ after → after ≡ []) }
+{}
+
+/// The first block is the one that the stream begins with, and there is none only where no lines and
+/// rest make up the stream.
+pub fn first_block_law()
+    ensures exact { (stream : List ℕ) (lines : List (List ℕ)) (rest : List ℕ) →
+        (first_block stream ≡ Some (lines, rest)) ↔ CutsBlock stream lines rest }
+    ensures none { (stream : List ℕ) → (first_block stream ≡ None)
+        ↔ ((lines : List (List ℕ)) (rest : List ℕ) → ¬ CutsBlock stream lines rest) }
+    ensures grows { (stream : List ℕ) (lines : List (List ℕ)) (rest more : List ℕ) →
+        first_block stream ≡ Some (lines, rest) →
+        first_block (stream ++ more) ≡ Some (lines, rest ++ more) }
+{}
+
+/// The block that sends a text of lines is the first of any stream that it begins, and stands for
+/// that text.
+pub fn stuffing_law()
+    ensures { (lines : List (List ℕ)) (rest : List ℕ) → AreLines lines → (sent : List (List ℕ))
+        × (first_block (stuffed (spelled lines) ++ rest) ≡ Some (sent, rest))
+        × (unstuffed sent ≡ spelled lines) }
+{}
 
 /// A line ends at the first CRLF; a bare LF or CR ends none.
 pub fn line_examples()

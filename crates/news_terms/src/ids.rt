@@ -1,6 +1,6 @@
 //! Laws and worked examples of message-ids.
-ghost use Rattle.std.specs.Prelude.{◌≡◌, ◌++◌, codes, Some, None, replicate};
-ghost use Rattle.news_terms.specs.MessageId.{id_fault};
+ghost use Rattle.std.specs.Prelude.{◌≡◌, ◌≢◌, ℕ, ◌-◌, ◌≤◌, ◌↔◌, List, ◌++◌, codes, length, take, slice_index, All, Some, None, replicate};
+ghost use Rattle.news_terms.specs.MessageId.{id_fault, IsMessageId};
 ghost use Rattle.news_terms.specs.MessageId as ids;
 
 /// The faults in the order of trial.
@@ -14,4 +14,21 @@ pub fn id_examples()
     ensures not_opened { id_fault (codes "a@x>") ≡ Some ids.Brackets }
     ensures not_closed { id_fault (codes "<a@x") ≡ Some ids.Brackets }
     ensures space { id_fault (codes "<a b>") ≡ Some ids.Octet }
+{}
+
+/// A text has no fault exactly where it is a message-id, and else the first fault in that order: the
+/// length, then the brackets, then the octets (RFC 3977 section 3.6).
+pub fn fault_laws()
+    ensures accepted { (text : List ℕ) → (id_fault text ≡ None) ↔ IsMessageId text }
+    ensures length { (text : List ℕ) → (id_fault text ≡ Some ids.Length)
+        ↔ ¬ ((3 ≤ length text) × (length text ≤ 250)) }
+    ensures brackets { (text : List ℕ) → (id_fault text ≡ Some ids.Brackets)
+        ↔ ((3 ≤ length text) × (length text ≤ 250)
+        × ¬ ((slice_index text 0 ≡ 60) × (slice_index text (length text - 1) ≡ 62)
+        × All (λ c. c ≢ 62) (take (length text - 1) text))) }
+    ensures octet { (text : List ℕ) → (id_fault text ≡ Some ids.Octet)
+        ↔ ((3 ≤ length text) × (length text ≤ 250)
+        × (slice_index text 0 ≡ 60) × (slice_index text (length text - 1) ≡ 62)
+        × All (λ c. c ≢ 62) (take (length text - 1) text)
+        × ¬ All (λ c. (33 ≤ c) × (c ≤ 126)) text) }
 {}

@@ -1,0 +1,2 @@
+mod ClaimLemmas
+mod MarkLemmas

@@ -1,0 +1,4 @@
+pub mod Answers
+pub mod Mark
+pub mod Marks
+pub mod Shard

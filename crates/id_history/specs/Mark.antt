@@ -1,0 +1,33 @@
+-- What a shard keeps of a claim (docs/PROTOCOL.md, Claims): the article and the stage of what is
+-- being stored are with the session and the writer that have it.
+use Rattle.std.specs.Prelude.{ℕ, Option, None, Some}
+use Rattle.news_terms.specs.Token.{Token}
+use Rattle.cyc_token.specs.Token.{token_view}
+use Rattle.relay_model.specs.Claims.{Claim}
+use Rattle.relay_model.specs.Claims as claim
+use Rattle.id_history.specs.declared.claims.Entry.{Entry}
+use Rattle.id_history.specs.declared.claims.Entry.TheVariants as entry
+
+-- a claim without article and stage
+pub data Mark : Type 0 where
+  Unknown : Mark
+  Offered : (session : ℕ) → Mark
+  Storing : (session : ℕ) → Mark
+  Stored : (token : Token) (moment : ℕ) → Mark
+  Refused : (moment : ℕ) → Mark
+
+-- what is left of a claim without its article and stage
+abbrev pub mark_of : Claim → Mark
+mark_of claim.Unknown = Unknown
+mark_of (claim.Offered session) = Offered session
+mark_of (claim.Storing session article stage) = Storing session
+mark_of (claim.Stored token moment) = Stored token moment
+mark_of (claim.Refused moment) = Refused moment
+
+-- what an entry of the map says of its message-id; where there is none, nothing is known
+abbrev pub entry_mark : Option Entry → Mark
+entry_mark None = Unknown
+entry_mark (Some (entry.Offered session)) = Offered session
+entry_mark (Some (entry.Storing session)) = Storing session
+entry_mark (Some (entry.Stored token moment)) = Stored (token_view token) moment
+entry_mark (Some (entry.Refused moment)) = Refused moment

@@ -1,0 +1,249 @@
+ghost use Rattle.std.specs.Prelude.{◌≡◌, ◌≢◌, Some, is_some, option_map};
+ghost use Rattle.std.specs.Prelude.{IsOk, IfOk, IfSome, OnOk, OnErr};
+ghost use Rattle.cyc_token.specs.Token.{token_view};
+ghost use Rattle.relay_model.specs.Claims.{Accepted, Unknown, offer_answer, after_offer};
+ghost use Rattle.relay_model.specs.Claims.{take_answer, after_take, after_refuse, after_release};
+ghost use Rattle.relay_model.specs.Claims.{after_forget, is_storing_for, after_settle, look_answer};
+
+use cyc_token::Token;
+use nntp_text::MsgId;
+use std::alloc::{AllocError, Global};
+use std::collections::HashMap;
+use std::hash::RandomState;
+
+/// The answer to a session that offers the article of a message-id (RFC 4644 section 2.4).
+#[derive(Clone, Copy, Debug, PartialEq, Eq)]
+pub enum Offer {
+    /// The session is to send it.
+    Wanted,
+    /// Another session was told to send it, or it is being stored.
+    Later,
+    /// It is stored or was refused.
+    Seen,
+}
+
+/// The answer to a session that has an accepted article.
+#[derive(Clone, Copy, Debug, PartialEq, Eq)]
+pub enum Take {
+    /// The session is to have it stored.
+    Mine,
+    /// Another session was told to send it, or it is being stored.
+    Held,
+    /// It is stored or was refused.
+    Seen,
+}
+
+/// That an article was settled, which `Shard::settle` alone says, once for each article that is
+/// stored. It can be neither copied nor dropped, and has to be spent.
+#[must_use]
+#[derive(Debug)]
+pub struct Settled {
+    token: Token,
+}
+
+impl Settled {
+    ghost use Rattle.id_history.specs.Answers.{token_of};
+
+    /// The token under which the article is stored.
+    pub fn token(&self) -> Token
+        ensures { result ≡ token_of self.now }
+    {
+        self.token
+    }
+
+    /// Uses it up for its token.
+    pub fn spend(self) -> Token
+        ensures { result ≡ token_of self }
+    {
+        let Settled { token } = self;
+        token
+    }
+}
+
+/// What is known of a message-id. Where nothing is known, there is no entry.
+#[derive(Clone, Copy)]
+enum Entry {
+    Offered { session: u64 },
+    Storing { session: u64 },
+    Stored { token: Token, moment: u64 },
+    Refused { moment: u64 },
+}
+
+/// What is known of message-ids (docs/PROTOCOL.md, Claims). Sessions go by their numbers, moments
+/// are seconds since 1970-01-01 00:00:00 UTC. The hasher has random keys, since peers choose the
+/// message-ids.
+#[derive(Drop)]
+pub struct Shard {
+    entries: HashMap<String, Entry, RandomState>,
+    alloc: Global,
+}
+
+impl Shard {
+    ghost use Rattle.id_history.specs.Answers.{offer_view, take_view, token_of};
+    ghost use Rattle.id_history.specs.Mark.{entry_mark};
+    ghost use Rattle.id_history.specs.Mark as mark;
+    ghost use Rattle.id_history.specs.Marks.{SetsMark, SameMarks};
+    ghost use Rattle.id_history.specs.Shard.{mark_at, Keeps, OfClaim, ChangesClaim, KeepsClaims};
+
+    /// A shard to which every message-id is unknown.
+    pub fn new(alloc: Global, hasher: RandomState) -> Shard
+        ensures { Keeps result (λ id. Unknown) }
+    {
+        Shard {
+            entries: HashMap::with_hasher(alloc, hasher),
+            alloc,
+        }
+    }
+
+    /// The session offers the article of the id: an id that is unknown becomes its offer.
+    pub fn offer(&mut self, id: &MsgId, session: u64) -> Result<Offer, AllocError>
+        ensures answer { IfOk result (λ answer. OfClaim self.old id.now
+            (λ claim. offer_view answer ≡ offer_answer session claim)) }
+        ensures claims { OnOk result
+            (ChangesClaim self.old self.new id.now (after_offer session)) }
+        ensures err { OnErr result (KeepsClaims self.old self.new) }
+
+        // An id that is known takes no memory.
+        ensures known { OfClaim self.old id.now (λ claim. claim ≢ Unknown → IsOk result) }
+    {
+        match self.entry(id) {
+            None => {
+                self.add(id, Entry::Offered { session })?;
+                Ok(Offer::Wanted)
+            }
+            Some(Entry::Offered { session: other }) if other == session => Ok(Offer::Wanted),
+            Some(Entry::Offered { .. } | Entry::Storing { .. }) => Ok(Offer::Later),
+            Some(Entry::Stored { .. } | Entry::Refused { .. }) => Ok(Offer::Seen),
+        }
+    }
+
+    /// The session has an accepted article of the id: where the id is unknown or offered to the
+    /// session, it is being stored for the session from now on.
+    pub fn take(&mut self, id: &MsgId, session: u64) -> Result<Take, AllocError>
+        ensures answer { IfOk result (λ answer. OfClaim self.old id.now
+            (λ claim. take_view answer ≡ take_answer session claim)) }
+        ensures claims { OnOk result ((article : Accepted)
+            → ChangesClaim self.old self.new id.now (after_take session article)) }
+        ensures err { OnErr result (KeepsClaims self.old self.new) }
+
+        // An id that is known takes no memory.
+        ensures known { OfClaim self.old id.now (λ claim. claim ≢ Unknown → IsOk result) }
+    {
+        match self.entry(id) {
+            None => {
+                self.add(id, Entry::Storing { session })?;
+                Ok(Take::Mine)
+            }
+            Some(Entry::Offered { session: other }) if other == session => {
+                self.change(id, Entry::Storing { session });
+                Ok(Take::Mine)
+            }
+            Some(Entry::Offered { .. } | Entry::Storing { .. }) => Ok(Take::Held),
+            Some(Entry::Stored { .. } | Entry::Refused { .. }) => Ok(Take::Seen),
+        }
+    }
+
+    /// The session's article of the id was refused at this moment: where the id is unknown or
+    /// offered to the session, that is remembered.
+    pub fn refuse(&mut self, id: &MsgId, session: u64, now: u64) -> Result<(), AllocError>
+        ensures claims { OnOk result
+            (ChangesClaim self.old self.new id.now (after_refuse session now)) }
+        ensures err { OnErr result (KeepsClaims self.old self.new) }
+
+        // An id that is known takes no memory.
+        ensures known { OfClaim self.old id.now (λ claim. claim ≢ Unknown → IsOk result) }
+    {
+        let refused = Entry::Refused { moment: now };
+        match self.entry(id) {
+            None => self.add(id, refused)?,
+            Some(Entry::Offered { session: other }) if other == session => self.change(id, refused),
+            Some(_) => {}
+        }
+        Ok(())
+    }
+
+    /// The session's offer of the id ends, which takes no memory: another session's stays.
+    pub fn release(&mut self, id: &MsgId, session: u64)
+        ensures { ChangesClaim self.old self.new id.now (after_release session) }
+    {
+        match self.entry(id) {
+            Some(Entry::Offered { session: other }) if other == session => self.remove(id),
+            _ => {}
+        }
+    }
+
+    /// The session's article of the id is given up, which takes no memory: the id becomes unknown
+    /// where it is being stored for the session.
+    pub fn forget(&mut self, id: &MsgId, session: u64)
+        ensures { ChangesClaim self.old self.new id.now (after_forget session) }
+    {
+        match self.entry(id) {
+            Some(Entry::Storing { session: other }) if other == session => self.remove(id),
+            _ => {}
+        }
+    }
+
+    /// The session's article of the id has been stored under the token at this moment, which takes
+    /// no memory. `None`, with nothing changed, exactly where the id isn't being stored for the
+    /// session.
+    pub fn settle(&mut self, id: &MsgId, session: u64, token: Token, now: u64) -> Option<Settled>
+        ensures answer { OfClaim self.old id.now
+            (λ claim. is_some result ≡ is_storing_for session claim) }
+        ensures token { IfSome result (λ settled. token_of settled ≡ token) }
+        ensures claims { ChangesClaim self.old self.new id.now
+            (after_settle session (token_view token) now) }
+    {
+        match self.entry(id) {
+            Some(Entry::Storing { session: other }) if other == session => {
+                self.change(id, Entry::Stored { token, moment: now });
+                Some(Settled { token })
+            }
+            _ => None,
+        }
+    }
+
+    /// The token under which the article of the id is stored. It takes no memory.
+    pub fn look(&self, id: &MsgId) -> Option<Token>
+        ensures { OfClaim self.now id.now
+            (λ claim. option_map token_view result ≡ look_answer claim) }
+    {
+        match self.entry(id) {
+            Some(Entry::Stored { token, .. }) => Some(token),
+            _ => None,
+        }
+    }
+
+    /// The entry of the id.
+    fn entry(&self, id: &MsgId) -> Option<Entry>
+        ensures { entry_mark result ≡ mark_at self.now id.now }
+    {
+        self.entries.get(id.as_str()).copied()
+    }
+
+    /// Makes an entry for the id.
+    fn add(&mut self, id: &MsgId, entry: Entry) -> Result<(), AllocError>
+        ensures ok { OnOk result (SetsMark self.old self.new id.now (entry_mark (Some entry))) }
+        ensures err { OnErr result (SameMarks self.old self.new) }
+    {
+        let text = id.copied(self.alloc)?.into_string();
+        self.entries.insert(text, entry)?;
+        Ok(())
+    }
+
+    /// Gives the id, which has an entry, another one.
+    fn change(&mut self, id: &MsgId, entry: Entry)
+        requires { mark_at self.old id.now ≢ mark.Unknown }
+        ensures { SetsMark self.old self.new id.now (entry_mark (Some entry)) }
+    {
+        if let Some(kept) = self.entries.get_mut(id.as_str()) {
+            *kept = entry;
+        }
+    }
+
+    /// Takes the entry of the id away.
+    fn remove(&mut self, id: &MsgId)
+        ensures { SetsMark self.old self.new id.now mark.Unknown }
+    {
+        self.entries.remove(id.as_str());
+    }
+}

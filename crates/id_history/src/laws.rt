@@ -1,0 +1,19 @@
+//! Laws of what a shard keeps: each is the contract of an empty body.
+ghost use Rattle.std.specs.Prelude.{◌≡◌, ◌↔◌, ℕ, List};
+ghost use Rattle.relay_model.specs.Claims.{Claim};
+ghost use Rattle.id_history.specs.Mark.{mark_of};
+ghost use Rattle.id_history.specs.Shard.{Keeps};
+
+use crate::Shard;
+
+/// Every shard keeps some claims, so nothing is said of it in vain.
+pub fn keeps_some(shard: &Shard)
+    ensures { (claims : List ℕ → Claim) × Keeps shard.now claims }
+{}
+
+/// Besides the claims that it keeps, a shard keeps those alone that differ from them in nothing
+/// but articles and stages.
+pub fn keeps_alike(shard: &Shard)
+    ensures { (claims others : List ℕ → Claim) → Keeps shard.now claims
+        → (Keeps shard.now others ↔ ((id : List ℕ) → mark_of (others id) ≡ mark_of (claims id))) }
+{}

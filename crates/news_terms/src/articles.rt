@@ -1,0 +1,103 @@
+//! Articles: laws and worked examples.
+
+ghost use Rattle.std.specs.Prelude.{◌≡◌, ◌++◌, ◌∷◌, [], ◌↔◌, ℕ, List, true, false, codes, length};
+ghost use Rattle.std.specs.Prelude.{take, remove, Some, IsTrue, slice_index};
+ghost use Rattle.std.specs.Str.{byte};
+ghost use Rattle.news_terms.specs.Article.{Article, Fault, Nul, BareCrLf, NoBlankLine};
+ghost use Rattle.news_terms.specs.Article.{BadHeader, Missing, Twice, Path, Subject, IsLaidOut};
+ghost use Rattle.news_terms.specs.Article.{IsArticleText, IsFirstFault, HasEmptyLine, HasBadHeader};
+ghost use Rattle.news_terms.specs.Article.{article_text, worked_article, begins_field};
+ghost use Rattle.news_terms.specs.Article.{carriage_return, line_feed, are_header_lines};
+ghost use Rattle.news_terms.specs.Article.{first_content, has_empty_line, header_lines, is_folded};
+ghost use Rattle.news_terms.specs.Article.{is_newsgroup_name, is_paired, message_id, newsgroups};
+ghost use Rattle.news_terms.specs.Article.{newsgroups_in, trimmed, unfolded};
+
+/// A text is laid out as one article at most.
+pub fn one_reading()
+    ensures { (text : List ℕ) (a b : Article) → IsLaidOut text a → IsLaidOut text b → a ≡ b }
+{}
+
+/// The fault of a text is one, and an article's text has none.
+pub fn one_fault()
+    ensures one { (text : List ℕ) (f g : Fault) → IsFirstFault text f → IsFirstFault text g
+        → f ≡ g }
+    ensures none { (text : List ℕ) (a : Article) (fault : Fault) → IsArticleText text a
+        → ¬ IsFirstFault text fault }
+{}
+
+/// The tests of a whole text say what the text is made of.
+pub fn text_tests()
+    ensures paired { (text : List ℕ) → IsTrue (is_paired text)
+        ↔ ((k : ℕ) → (slice_index (0 ∷ text) k ≡ carriage_return)
+        ↔ (slice_index text k ≡ line_feed)) }
+    ensures empty_line { (text : List ℕ) → IsTrue (has_empty_line text) ↔ HasEmptyLine text }
+    ensures laid_out_line { (text : List ℕ) (a : Article) → IsLaidOut text a → HasEmptyLine text }
+    ensures laid_out_header { (text : List ℕ) (a : Article) → IsLaidOut text a
+        → ¬ HasBadHeader text }
+{}
+
+/// The worked article A(a, 1) is one, also with an optional field that is empty.
+pub fn accepted_examples()
+    ensures worked { IsArticleText (article_text (worked_article (byte "a") 1))
+        (worked_article (byte "a") 1) }
+    ensures empty_optional_field { let a = worked_article (byte "a") 1 in
+        let b = record a { fields = record { name = codes "Keywords"; content = [] } ∷ a.fields } in
+        IsArticleText (codes "Keywords:\r\n" ++ article_text a) b }
+{}
+
+/// The first fault of texts made from the worked article A(a, 1).
+pub fn fault_examples()
+    ensures ends_inside_header { IsFirstFault
+        (take 100 (article_text (worked_article (byte "a") 1))) NoBlankLine }
+    ensures line_without_colon { IsFirstFault
+        (codes "Lines 1\r\n" ++ article_text (worked_article (byte "a") 1)) BadHeader }
+    ensures bare_line_feed { IsFirstFault
+        (article_text (worked_article (byte "a") 1) ++ codes "\n") BareCrLf }
+    ensures octet_zero { IsFirstFault (article_text (worked_article (byte "a") 1) ++ 0 ∷ []) Nul }
+    ensures no_subject { let a = worked_article (byte "a") 1 in
+        IsFirstFault (article_text (record a { fields = remove a.fields 3 })) (Missing Subject) }
+    ensures two_paths { let a = worked_article (byte "a") 1 in
+        IsFirstFault (codes "Path: x\r\n" ++ article_text a) (Twice Path) }
+{}
+
+/// Line ends are pairs, and a folded line continues its field.
+pub fn line_examples()
+    ensures bare_line_feed { is_paired (codes "a\nb") ≡ false }
+    ensures bare_carriage_return { is_paired (codes "a\rb\r\n") ≡ false }
+    ensures ends_in_carriage_return { is_paired (codes "a\r") ≡ false }
+    ensures two_carriage_returns { is_paired (codes "a\r\r\n") ≡ false }
+    ensures pair { is_paired (codes "a\r\nb") ≡ true }
+    ensures folded { is_folded (codes "\r\n one.example!x") ≡ true }
+    ensures not_folded { is_folded (codes " a\r\nb") ≡ false }
+    ensures empty_line_in_content { is_folded (codes " a\r\n\r\n b") ≡ false }
+    ensures header { header_lines (codes "Path: a\r\n b\r\n\r\nbody\r\n")
+        ≡ codes "Path: a" ∷ codes " b" ∷ [] }
+    ensures no_colon { are_header_lines (codes "Path a" ∷ []) ≡ false }
+    ensures no_space { begins_field (codes "Path:a") ≡ false }
+    ensures space_in_name { begins_field (codes "Path : a") ≡ false }
+    ensures ends_at_colon { begins_field (codes "Path:") ≡ true }
+    ensures continues_nothing { are_header_lines (codes " b" ∷ codes "Path: a" ∷ []) ≡ false }
+{}
+
+/// Contents, trimmed and cut.
+pub fn content_examples()
+    ensures unfolds { unfolded (codes "\r\n one.example!x") ≡ codes "one.example!x" }
+    ensures keeps_second_space { unfolded (codes "  a ") ≡ codes " a " }
+    ensures trims { trimmed (codes " \t a b\t ") ≡ codes "a b" }
+    ensures cuts { newsgroups_in (codes " comp.x ,\r\n\talt.a")
+        ≡ codes "comp.x" ∷ codes "alt.a" ∷ [] }
+    ensures name { is_newsgroup_name (codes "comp.lang.c++") ≡ true }
+    ensures empty_component { is_newsgroup_name (codes "comp..x") ≡ false }
+    ensures empty_name { is_newsgroup_name (codes "") ≡ false }
+{}
+
+/// The worked article A(a, 1).
+pub fn worked_article_examples()
+    ensures header { length (article_text (record (worked_article (byte "a") 1) { body = [] }))
+        ≡ 146 }
+    ensures text { length (article_text (worked_article (byte "a") 1)) ≡ 149 }
+    ensures id { message_id (worked_article (byte "a") 1).fields ≡ codes "<a@x>" }
+    ensures groups { newsgroups (worked_article (byte "a") 1).fields ≡ codes "misc.test" ∷ [] }
+    ensures any_case { first_content (codes "subject") (worked_article (byte "a") 1).fields
+        ≡ Some (codes " t") }
+{}

@@ -1,0 +1,54 @@
+//! Dates: worked examples, of which now is 1609459200, the first second of 2021.
+
+ghost use Rattle.std.specs.Prelude.{◌≡◌, ◌++◌, ◌∷◌, ◌↔◌, ◌+◌, ◌+ℤ◌, ◌≤ℤ◌, ◌<ℤ◌, ℕ, ℤ, codes};
+ghost use Rattle.std.specs.Prelude.{Some, None, pos, negsuc};
+ghost use Rattle.news_terms.specs.Article.{worked_article};
+ghost use Rattle.news_terms.specs.Dates.{seconds_ahead, prepared_date, date_fault, judged_date};
+ghost use Rattle.news_terms.specs.Dates.{BadDate, Future, TooOld};
+
+/// A date has no fault from the cutoff before now to a day after it.
+pub fn window()
+    ensures within { (now cutoff : ℕ) (second : ℤ) → (date_fault now cutoff (Some second) ≡ None)
+        ↔ ((pos now ≤ℤ (second +ℤ pos cutoff)) × (second ≤ℤ pos (now + seconds_ahead))) }
+    ensures future { (now cutoff : ℕ) (second : ℤ)
+        → (date_fault now cutoff (Some second) ≡ Some Future)
+        ↔ (pos (now + seconds_ahead) <ℤ second) }
+    ensures too_old { (now cutoff : ℕ) (second : ℤ)
+        → (date_fault now cutoff (Some second) ≡ Some TooOld)
+        ↔ ((second +ℤ pos cutoff) <ℤ pos now) }
+{}
+
+/// What of a date is read.
+pub fn preparation_examples()
+    ensures day { prepared_date (codes " Sat, 02 Jan 2021 00:00:00 +0000")
+        ≡ Some (codes "02 Jan 2021 00:00:00 +0000") }
+    ensures no_day { prepared_date (codes " 21 Dec 2020 23:59:59 +0000")
+        ≡ Some (codes "21 Dec 2020 23:59:59 +0000") }
+    ensures greenwich { prepared_date (codes " Fri, 01 Jan 2021 00:00:00 GMT")
+        ≡ Some (codes "01 Jan 2021 00:00:00 +0000") }
+    ensures comment { prepared_date (codes " Fri, 01 Jan 2021 00:00:00 +0000 (UTC)")
+        ≡ Some (codes "01 Jan 2021 00:00:00 +0000") }
+    ensures word_and_comment { prepared_date (codes " Fri, 01 Jan 2021 00:00:00 ut (a) (b)")
+        ≡ Some (codes "01 Jan 2021 00:00:00 ut (a)") }
+    ensures no_date { prepared_date (codes " yesterday") ≡ Some (codes "yesterday") }
+    ensures invented_day { prepared_date (codes "Foo,1 Jan 2021 00:00:00 Utc")
+        ≡ Some (codes "1 Jan 2021 00:00:00 +0000") }
+    ensures no_letter { prepared_date (codes " ,1 Jan") ≡ Some (codes ",1 Jan") }
+    ensures no_opening { prepared_date (codes " 1 Jan)") ≡ Some (codes "1 Jan)") }
+    ensures past_ascii { prepared_date (codes " 1 J" ++ 0xE4 ∷ codes "n") ≡ None }
+    ensures past_ascii_in_comment { prepared_date (codes " 1 Jan (" ++ 0xE4 ∷ codes ")")
+        ≡ Some (codes "1 Jan") }
+    ensures falls_back { judged_date (worked_article 97 1).fields
+        ≡ codes " Fri, 01 Jan 2021 00:00:00 +0000" }
+{}
+
+/// The window of a cutoff of 864,000 seconds.
+pub fn window_examples()
+    ensures a_day_ahead { date_fault 1609459200 864000 (Some (pos 1609545600)) ≡ None }
+    ensures a_second_more { date_fault 1609459200 864000 (Some (pos 1609545601)) ≡ Some Future }
+    ensures ten_days_ago { date_fault 1609459200 864000 (Some (pos 1608595200)) ≡ None }
+    ensures a_second_earlier { date_fault 1609459200 864000 (Some (pos 1608595199)) ≡ Some TooOld }
+    ensures before_1970 { date_fault 0 864000 (Some (negsuc 863999)) ≡ None }
+    ensures long_before_1970 { date_fault 0 864000 (Some (negsuc 864000)) ≡ Some TooOld }
+    ensures unread { date_fault 1609459200 864000 None ≡ Some BadDate }
+{}

@@ -1,0 +1,83 @@
+//! Patterns: laws and worked examples.
+
+ghost use Rattle.std.specs.Prelude.{◌≡◌, ◌++◌, ◌∷◌, [], ◌↔◌, ℕ, List, true, false, codes, map, All};
+ghost use Rattle.std.specs.Prelude.{IsTrue};
+ghost use Rattle.std.specs.Str.{byte};
+ghost use Rattle.news_terms.specs.Pattern.{ExpressionFault, Item, Matches, Marked, Match, Fail};
+ghost use Rattle.news_terms.specs.Pattern.{Poison, Star};
+ghost use Rattle.news_terms.specs.Pattern.{AnyOctet, Literal, Escaped, OneOf, NoneOf, OpenSet};
+ghost use Rattle.news_terms.specs.Pattern.{EmptySet, BadRange, DanglingEscape, NonAscii};
+ghost use Rattle.news_terms.specs.Pattern.{IsExpressionText, HasLeftmostFault, matches, verdict};
+ghost use Rattle.news_terms.specs.Pattern.{worked_expression};
+
+/// A text is one expression at most.
+pub fn one_expression()
+    ensures { (text : List ℕ) (a b : List Marked) → IsExpressionText text a
+        → IsExpressionText text b
+        → a ≡ b }
+{}
+
+/// A text that is an expression has no fault.
+pub fn expression_without_fault()
+    ensures { (text : List ℕ) (expression : List Marked) (fault : ExpressionFault)
+        → IsExpressionText text expression
+        → ¬ HasLeftmostFault text fault }
+{}
+
+/// The test of a pattern says what its parts say.
+pub fn matching_tests()
+    ensures { (pattern : List Item) (name : List ℕ) → IsTrue (matches pattern name)
+        ↔ Matches pattern name }
+{}
+
+/// The last pattern that matches decides, and where none does the verdict is Fail.
+pub fn last_decides()
+    ensures last { (before after : List Marked) (m : Marked) (name : List ℕ)
+        → Matches m.pattern name
+        → All (λ other. ¬ Matches other.pattern name) after
+        → verdict (before ++ m ∷ after) name ≡ m.mark }
+    ensures none { (expression : List Marked) (name : List ℕ)
+        → All (λ other. ¬ Matches other.pattern name) expression
+        → verdict expression name ≡ Fail }
+{}
+
+/// Single patterns, and the verdicts of an expression.
+pub fn match_examples()
+    ensures verdicts { map (verdict worked_expression)
+        (codes "comp.x" ∷ codes "alt.a" ∷ codes "alt.binaries.b" ∷ [])
+        ≡ Match ∷ Fail ∷ Poison ∷ [] }
+    ensures no_pattern { verdict [] (codes "comp.x") ≡ Fail }
+    ensures star_in_middle { matches (Literal (byte "a") ∷ Star ∷ Literal (byte "b") ∷ [])
+        (codes "axbab") ≡ true }
+    ensures star_for_nothing { matches (Star ∷ Star ∷ []) (codes "") ≡ true }
+    ensures one_octet { matches (AnyOctet ∷ AnyOctet ∷ []) (codes "a") ≡ false }
+    ensures comma_in_set { matches
+        (Literal (byte "a") ∷ OneOf (codes ",b") ∷ Literal (byte "c") ∷ []) (codes "a,c") ≡ true }
+    ensures range { matches (OneOf (codes "a-c-z") ∷ []) (codes "b") ≡ true }
+    ensures dash_after_range { matches (OneOf (codes "a-c-z") ∷ []) (codes "-") ≡ true }
+    ensures not_in_range { matches (OneOf (codes "a-c-z") ∷ []) (codes "d") ≡ false }
+    ensures reverse { matches (NoneOf (codes "a-c") ∷ []) (codes "d") ≡ true }
+    ensures escaped { matches (Escaped (byte "*") ∷ []) (codes "*") ≡ true }
+{}
+
+/// Expressions as they are written.
+pub fn expression_examples()
+    ensures three_patterns { IsExpressionText (codes "*,!alt.*,@alt.binaries.*") worked_expression }
+    ensures comma_in_set { IsExpressionText (codes "a[,b]c")
+        (record {
+          mark = Match;
+          pattern = Literal (byte "a") ∷ OneOf (codes ",b") ∷ Literal (byte "c") ∷ [];
+        } ∷ []) }
+    ensures empty { IsExpressionText [] (record { mark = Match; pattern = [] } ∷ []) }
+{}
+
+/// The leftmost fault of a text that is no expression.
+pub fn fault_examples()
+    ensures range_upside_down { HasLeftmostFault (codes "[z-a]") BadRange }
+    ensures empty_set { HasLeftmostFault (codes "[]") EmptySet }
+    ensures empty_reverse { HasLeftmostFault (codes "x,[^]") EmptySet }
+    ensures open_set { HasLeftmostFault (codes "[ab") OpenSet }
+    ensures dangling { HasLeftmostFault (codes "a\\") DanglingEscape }
+    ensures past_ascii { HasLeftmostFault (codes "!" ++ 0xE4 ∷ codes "[]") NonAscii }
+    ensures two_at_one_octet { HasLeftmostFault (codes "[" ++ 0xE4 ∷ codes "-a]") BadRange }
+{}

@@ -1,0 +1,4 @@
+pub mod Command
+pub mod MessageId
+pub mod Reply
+pub mod Words

@@ -1,0 +1,6 @@
+pub mod CutLemmas
+pub mod NextLemmas
+pub mod PassLemmas
+pub mod PlaceLemmas
+pub mod RunLemmas
+pub mod TextLemmas

@@ -1,0 +1,4 @@
+pub mod Cuts
+pub mod Look
+pub mod Steps
+pub mod Stream

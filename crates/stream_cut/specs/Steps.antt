@@ -1,0 +1,33 @@
+-- What one step of a run does, whatever comes after it. No public contract cites it.
+use Rattle.std.specs.Prelude.{◌≡◌, ℕ, false, List, [], ◌∷◌, ◌++◌, Option, Some, None}
+use Rattle.stream_cut.specs.declared.run.Want.{Want}
+use Rattle.stream_cut.specs.declared.run.Cut.{Cut}
+use Rattle.stream_cut.specs.declared.run.Cut.TheVariants as cut
+use Rattle.stream_cut.specs.Stream.{Stream}
+use Rattle.stream_cut.specs.Cuts.{CutOff, OfTooLong, cut_off, want_and_later}
+
+-- What was cut is what the stream has next, however it goes on, and the new stream goes on after it.
+pub record Advances (old : Stream) (want : Want) (cut : CutOff) (new : Stream) : Type 0 where
+  pub sound : new.overlong ≡ false
+  pub limit : new.limit ≡ old.limit
+  pub cuts : (later : List ℕ → List CutOff) (more : List ℕ) →
+      want_and_later old.limit want later (old.unread ++ more) ≡ cut ∷ later (new.unread ++ more)
+
+-- A line is too long, however the stream goes on.
+pub record Ends (old : Stream) (want : Want) (new : Stream) : Type 0 where
+  pub limit : new.limit ≡ old.limit
+  pub unread : new.unread ≡ old.unread
+  pub cuts : (later : List ℕ → List CutOff) (more : List ℕ) →
+      want_and_later old.limit want later (old.unread ++ more) ≡ OfTooLong ∷ []
+
+-- What is wanted isn't whole so far.
+pub record Waits (old : Stream) (want : Want) (new : Stream) : Type 0 where
+  pub same : new ≡ old
+  pub cuts : (later : List ℕ → List CutOff) → want_and_later old.limit want later old.unread ≡ []
+
+-- what a step cuts
+abbrev pub CutsNext : Stream → Want → Option Cut → Stream → Type 0
+CutsNext old want None new = Waits old want new
+CutsNext old want (Some cut.TooLong) new = Ends old want new
+CutsNext old want (Some (cut.Line line)) new = Advances old want (cut_off (cut.Line line)) new
+CutsNext old want (Some (cut.Block block)) new = Advances old want (cut_off (cut.Block block)) new
