@@ -1,6 +1,6 @@
 -- Whole lines of a block that were passed, and what follows them.
 use Rattle.std.proofs.Common.{◌≡◌, ℕ, ◌+◌, ◌-◌, ◌<◌, ◌≤◌, ◌==◌, true, false, List, [], ◌∷◌, ◌++◌, length, take, drop, bytes_eq, Some, None, refl, sym, ap, ◌∙◌, arith, ⊎_elim, append_assoc, append-nil, length-append, length-drop}
-use Rattle.std.proofs.lemmas.List.{take_at, drop_at, drop-drop, get_or_append_left, length-take-le}
+use Rattle.std.proofs.lemmas.List.{take_at, drop_at, drop-drop, length-take-le}
 use Rattle.std.proofs.lemmas.Grind.{flat_map-append}
 use Rattle.std.proofs.lemmas.Bool.{cases_Bool, cond-true, cond-false, lt-ltb, le-ltb}
 use Rattle.std.proofs.lemmas.Slice.Eq.{bytes_eq-Decides}
@@ -17,31 +17,9 @@ use Rattle.stream_cut.proofs.PlaceLemmas.{looked_all}
 pub IsLooked-none : (s : List ℕ) → IsLooked s 0
 IsLooked-none s = record { within = omega arith; none = λ k below. absurd (omega arith) }
 
--- more octets leave what was looked at as it is
-IsLooked-append : (s more : List ℕ) (looked : ℕ) → IsLooked s looked → IsLooked (s ++ more) looked
-IsLooked-append s more looked h = record {
-  within = omega (arith, h.within, length-append s more);
-  none = λ k below ends. h.none k below (
-    sym (get_or_append_left s more 0 k (omega (arith, h.within))) ∙ ends.0,
-    sym (get_or_append_left s more 0 (k + 1) (omega (arith, h.within))) ∙ ends.1,
-  );
-}
-
 -- nothing was passed
 pub IsPassed-none : (s : List ℕ) (looked : ℕ) → IsLooked s looked → IsPassed s 0 looked 0
 IsPassed-none s looked h = record { lines = []; unclosed = tt; tail = s; whole = refl; count = refl; dotted = refl; seen = h }
-
--- more octets leave what was passed as it is
-pub IsPassed-append : (s more : List ℕ) (passed looked dots : ℕ) → IsPassed s passed looked dots → IsPassed (s ++ more) passed looked dots
-IsPassed-append s more passed looked dots h = record {
-  lines = h.lines;
-  unclosed = h.unclosed;
-  tail = h.tail ++ more;
-  whole = ap (λ (x : List ℕ). x ++ more) h.whole ∙ append_assoc (spelled h.lines) h.tail more;
-  count = h.count;
-  dotted = h.dotted;
-  seen = IsLooked-append h.tail more looked h.seen;
-}
 
 -- what follows the lines
 pub passed-tail : (s : List ℕ) (passed looked dots : ℕ) (h : IsPassed s passed looked dots) → drop passed s ≡ h.tail

@@ -121,11 +121,6 @@ line_missed s hay looked seen e none = line_nowhere s (λ j h. ⊎_elim
 pub looked_all : (s : List ℕ) (n : ℕ) → first_line s ≡ None → n ≡ length s - 1 → IsLooked s n
 looked_all s n none e = record { within = omega arith; none = λ k below h. EndsAt-line s k none h }
 
--- a CRLF of a front is one of the whole
-pub EndsAt-take : (s : List ℕ) (n k : ℕ) → k + 1 < n → EndsAt (take n s) k → EndsAt s k
-EndsAt-take s n k below h =
-    (sym (get_or-take n s k 0 (omega arith)) ∙ h.0, sym (get_or-take n s (k + 1) 0 below) ∙ h.1)
-
 -- a CRLF that stands in a front is one of the front
 pub take-EndsAt : (s : List ℕ) (n k : ℕ) → k + 1 < n → EndsAt s k → EndsAt (take n s) k
 take-EndsAt s n k below h =

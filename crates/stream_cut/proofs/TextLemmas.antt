@@ -1,5 +1,5 @@
 -- A text that is sent line by line.
-use Rattle.std.proofs.Common.{◌≡◌, ℕ, ◌+◌, ◌-◌, ◌<◌, ◌≤◌, ◌==◌, List, [], ◌∷◌, ◌++◌, length, take, drop, map, None, refl, sym, ap, subst, ◌∙◌, arith, ⊎_elim, append_assoc, append-nil, length-append, length-drop}
+use Rattle.std.proofs.Common.{◌≡◌, ℕ, ◌+◌, ◌-◌, ◌≤◌, ◌==◌, List, [], ◌∷◌, ◌++◌, length, take, drop, map, None, refl, sym, ap, subst, ◌∙◌, arith, ⊎_elim, append_assoc, append-nil, length-append, length-drop}
 use Rattle.std.proofs.lemmas.List.{take_at, drop-drop, drop_all, append_cancel_left}
 use Rattle.std.proofs.lemmas.Bool.{cases_Bool, cases_lt, cond-true, cond-false}
 use Rattle.news_terms.specs.Lines.{crlf, first_line, spelled}
@@ -48,17 +48,6 @@ module _ (f : List ℕ → List ℕ) where
       append_assoc before (f (take (next - at) left)) (sent (drop next t))
       ∙ ap (λ (x : List ℕ). before ++ (x ++ sent (drop next t))) one
       ∙ ap (λ (x : List ℕ). before ++ ((f line ++ crlf) ++ sent x)) (sym after)
-      ∙ ap (λ (x : List ℕ). before ++ x) (sym lines)
-      ∙ so_far
-
-  -- octets that no CRLF ends are the last line
-  pub sent_last : (t before whole : List ℕ) (at : ℕ) → first_line (drop at t) ≡ None → at < length t → before ++ sent (drop at t) ≡ whole
-      → (before ++ f (drop at t)) ++ crlf ≡ whole
-  sent_last t before whole at none some so_far =
-      let left = drop at t in
-      let lines : sent left ≡ (f left ++ crlf) ++ [] = ap (λ (x : List (List ℕ)). spelled (map f x)) (text_lines-last left none (omega (arith, length-drop at t))) in
-      append_assoc before (f left) crlf
-      ∙ ap (λ (x : List ℕ). before ++ x) (sym (append-nil (f left ++ crlf)))
       ∙ ap (λ (x : List ℕ). before ++ x) (sym lines)
       ∙ so_far
 

@@ -44,8 +44,8 @@ abbrev pub want_and_later : ℕ → Want → (List ℕ → List CutOff) → List
 want_and_later limit want.Line later stream = line_and_later later (next_line stream)
 want_and_later limit want.Block later stream = block_and_later later (next_block limit stream)
 
--- what is cut off a whole stream: what is wanted, in order, up to the first that isn't whole and up to
--- a line that is too long
+-- what is cut off a whole stream: what is wanted, in order, up to the first that isn't whole and
+-- up to a line that is too long
 abbrev pub cuts_of : ℕ → List Want → List ℕ → List CutOff
 cuts_of limit [] stream = []
 cuts_of limit (w ∷ wants) stream = want_and_later limit w (λ rest. cuts_of limit wants rest) stream
@@ -71,8 +71,8 @@ pub record BeginsBlock (stream text rest : List ℕ) : Type 0 where
   pub cuts : CutsBlock stream lines rest
   pub unstuffs : text ≡ unstuffed lines
 
--- Of the stream was cut what is wanted, in order, and this rest stayed: each octet is of what was cut
--- or of the rest, and what is wanted next isn't whole in the rest.
+-- Of the stream was cut what is wanted, in order, and this rest stayed: each octet is of what was
+-- cut or of the rest, and what is wanted next isn't whole in the rest.
 abbrev pub CutsUp : ℕ → List Want → List CutOff → List ℕ → List ℕ → Type 0
 CutsUp limit [] [] stream rest = stream ≡ rest
 CutsUp limit [] (c ∷ cuts) stream rest = ⊥
@@ -81,12 +81,15 @@ CutsUp limit (want.Line ∷ wants) (OfLine line ∷ cuts) stream rest =
     (after : List ℕ) × BeginsLine stream line after × CutsUp limit wants cuts after rest
 CutsUp limit (want.Line ∷ wants) (OfText text ∷ cuts) stream rest = ⊥
 CutsUp limit (want.Line ∷ wants) (OfOversize ∷ cuts) stream rest = ⊥
-CutsUp limit (want.Line ∷ wants) (OfTooLong ∷ cuts) stream rest = (cuts ≡ []) × (stream ≡ rest) × HasLongLine rest
+CutsUp limit (want.Line ∷ wants) (OfTooLong ∷ cuts) stream rest =
+    (cuts ≡ []) × (stream ≡ rest) × HasLongLine rest
 CutsUp limit (want.Block ∷ wants) [] stream rest =
     (stream ≡ rest) × ((lines : List (List ℕ)) (after : List ℕ) → ¬ CutsBlock rest lines after)
 CutsUp limit (want.Block ∷ wants) (OfLine line ∷ cuts) stream rest = ⊥
 CutsUp limit (want.Block ∷ wants) (OfText text ∷ cuts) stream rest =
-    (after : List ℕ) × BeginsBlock stream text after × (length text ≤ limit) × CutsUp limit wants cuts after rest
+    (after : List ℕ) × BeginsBlock stream text after × (length text ≤ limit)
+    × CutsUp limit wants cuts after rest
 CutsUp limit (want.Block ∷ wants) (OfOversize ∷ cuts) stream rest =
-    (text after : List ℕ) × BeginsBlock stream text after × (limit < length text) × CutsUp limit wants cuts after rest
+    (text after : List ℕ) × BeginsBlock stream text after × (limit < length text)
+    × CutsUp limit wants cuts after rest
 CutsUp limit (want.Block ∷ wants) (OfTooLong ∷ cuts) stream rest = ⊥

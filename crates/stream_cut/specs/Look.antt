@@ -1,4 +1,5 @@
--- How far a stream was looked through, so that nothing is looked at twice. No public contract cites it.
+-- How far a stream was looked through, so that nothing is looked at twice. No public contract
+-- cites it.
 use Rattle.std.specs.Prelude.{◌≡◌, ℕ, ◌+◌, ◌-◌, ◌<◌, ◌≤◌, ◌==◌, if◌then◌else◌, List, [], ◌∷◌, ◌++◌, length, take, drop, slice_index, Some, None}
 use Rattle.news_terms.specs.Lines.{first_line, next_line, spelled}
 use Rattle.news_terms.specs.Lines as lines
@@ -32,8 +33,8 @@ abbrev pub dots_of : List (List ℕ) → ℕ
 dots_of [] = 0
 dots_of (line ∷ lines) = dot_of line + dots_of lines
 
--- The octets begin with whole lines of a block, of so many octets, so many of them with a dot at their
--- front, and of what follows those so many octets were looked at.
+-- The octets begin with whole lines of a block, of so many octets, so many of them with a dot at
+-- their front, and of what follows those so many octets were looked at.
 pub record IsPassed (octets : List ℕ) (passed looked dots : ℕ) : Type 0 where
   pub lines : List (List ℕ)
   pub unclosed : AreOpenLines lines
@@ -50,14 +51,17 @@ ClosesAt octets k = first_line (drop k octets) ≡ Some (46 ∷ [], drop (k + 3)
 -- what stands where a line is wanted: a line within the limit, none, or none so far
 abbrev pub FindsLine : List ℕ → LineLook → Type 0
 FindsLine octets (Ends end) =
-    (end + 2 ≤ length octets) × (next_line octets ≡ lines.Cut (take end octets) (drop (end + 2) octets))
+    (end + 2 ≤ length octets)
+    × (next_line octets ≡ lines.Cut (take end octets) (drop (end + 2) octets))
 FindsLine octets TooLong = next_line octets ≡ lines.TooLong
 FindsLine octets (Incomplete progress) =
-    (next_line octets ≡ lines.Incomplete) × IsPassed octets progress.passed progress.looked progress.dots
+    (next_line octets ≡ lines.Incomplete)
+    × IsPassed octets progress.passed progress.looked progress.dots
 
 -- what stands where a block is wanted: open lines, and then the lone dot or no line so far
 abbrev pub FindsBlock : List ℕ → BlockLook → Type 0
 FindsBlock octets (Closed progress) =
     IsPassed octets progress.passed progress.looked progress.dots × ClosesAt octets progress.passed
 FindsBlock octets (Open progress) =
-    IsPassed octets progress.passed progress.looked progress.dots × (first_line (drop progress.passed octets) ≡ None)
+    IsPassed octets progress.passed progress.looked progress.dots
+    × (first_line (drop progress.passed octets) ≡ None)

@@ -6,7 +6,7 @@ use Rattle.stream_cut.specs.declared.run.Cut.TheVariants as cut
 use Rattle.stream_cut.specs.Stream.{Stream}
 use Rattle.stream_cut.specs.Cuts.{CutOff, OfTooLong, cut_off, want_and_later}
 
--- What was cut is what the stream has next, however it goes on, and the new stream goes on after it.
+-- What was cut is what the stream has next, however it goes on, and the new stream is what follows.
 pub record Advances (old : Stream) (want : Want) (cut : CutOff) (new : Stream) : Type 0 where
   pub sound : new.overlong ≡ false
   pub limit : new.limit ≡ old.limit

@@ -50,8 +50,8 @@ LineCut old (Ok None) new = AwaitsLine old new
 LineCut old (Err Memory) new = new ≡ old
 LineCut old (Err LineTooLong) new = RefusesLine old new
 
--- The text is that of the first block of the old stream's unread octets and within the limit, and the
--- new stream has what follows the block.
+-- The text is that of the first block of the old stream's unread octets and within the limit, and
+-- the new stream has what follows the block.
 pub record TakesText (old : Stream) (text : List ℕ) (new : Stream) : Type 0 where
   pub sound : old.overlong ≡ false
   pub rest : List ℕ

@@ -1,5 +1,6 @@
 //! The cutter: the octets that came, and what is cut off their front.
-ghost use Rattle.std.specs.Prelude.{◌≡◌, ◌++◌, ◌≤◌, [], length, drop, false, IfOk, IfErr, OnOk, vec_len};
+ghost use Rattle.std.specs.Prelude.{◌≡◌, ◌++◌, ◌≤◌, [], length, drop, false, vec_len};
+ghost use Rattle.std.specs.Prelude.{IfOk, IfErr, OnOk};
 ghost use Rattle.news_terms.specs.Lines.{spelled};
 ghost use Rattle.news_terms.specs.Blocks.{text_lines, unstuffed};
 ghost use Rattle.stream_cut.specs.Stream.{Stream, with_unread, LineCut, BlockCut, IsBlockOf};
@@ -16,7 +17,8 @@ use std::marker::Model;
 pub enum CutError {
     /// Memory was refused.
     Memory,
-    /// The next 512 octets hold no CRLF, now or when a line was wanted before (RFC 3977 section 3.1).
+    /// The next 512 octets hold no CRLF, now or when a line was wanted before (RFC 3977 section
+    /// 3.1).
     LineTooLong,
 }
 
@@ -65,12 +67,13 @@ impl Model for Cutter {
     } };
 
     ghost invariant = { λ c. (c.start ≤ vec_len c.octets)
-        × IsPassed (drop c.start c.octets.items) c.progress.passed c.progress.looked c.progress.dots };
+        × IsPassed (drop c.start c.octets.items) c.progress.passed c.progress.looked
+        c.progress.dots };
 }
 
 impl Cutter {
-    /// A cutter that was fed nothing, for blocks with texts of up to `max_block` octets. It takes no
-    /// memory.
+    /// A cutter that was fed nothing, for blocks with texts of up to `max_block` octets. It takes
+    /// no memory.
     pub fn new(alloc: Global, max_block: usize) -> Cutter
         ensures { result ≡ record { unread = []; limit = max_block; overlong = false } }
     {
@@ -87,7 +90,8 @@ impl Cutter {
     /// Adds the next piece of the stream.
     pub fn feed(&mut self, piece: &[u8]) -> Result<(), CutError>
         ensures fed { OnOk result (self.new ≡ with_unread self.old (self.old.unread ++ piece.now)) }
-        ensures refused { IfErr result (λ error. (error ≡ CutError.Memory) × (self.new ≡ self.old)) }
+        ensures refused { IfErr result (λ error.
+            (error ≡ CutError.Memory) × (self.new ≡ self.old)) }
     {
         self.drop_cut();
         self.octets.extend_from_slice(piece)?;
@@ -121,8 +125,8 @@ impl Cutter {
         }
     }
 
-    /// The first block that is unread, or `None` as long as it isn't whole. Once a line was too long
-    /// there is none.
+    /// The first block that is unread, or `None` as long as it isn't whole. Once a line was too
+    /// long there is none.
     pub fn block(&mut self) -> Result<Option<Block>, CutError>
         ensures cut { BlockCut self.old result self.new }
     {

@@ -6,8 +6,8 @@ ghost use Rattle.news_terms.specs.Blocks.{next_block, CutsBlock};
 ghost use Rattle.news_terms.specs.Blocks as blocks;
 ghost use Rattle.stream_cut.specs.Cuts.{BeginsLine, HasLongLine, HasNoLine, BeginsBlock};
 
-/// Where a command line is due: a line within the limit at the front of the stream, more octets than
-/// one may have, or less than a line (RFC 3977 section 3.1).
+/// Where a command line is due: a line within the limit at the front of the stream, more octets
+/// than one may have, or less than a line (RFC 3977 section 3.1).
 pub fn next_line_law()
     ensures line { (stream line rest : List ℕ) →
         (next_line stream ≡ lines.Cut line rest) ↔ BeginsLine stream line rest }

@@ -1,5 +1,6 @@
 //! A whole run over pieces: what is cut depends on the joined octets alone.
-ghost use Rattle.std.specs.Prelude.{◌≡◌, ◌++◌, ◌<◌, [], List, ℕ, length, drop, map, flat_map, false, IfOk};
+ghost use Rattle.std.specs.Prelude.{◌≡◌, ◌++◌, ◌<◌, [], List, ℕ, length, drop, map, flat_map};
+ghost use Rattle.std.specs.Prelude.{false, IfOk};
 ghost use Rattle.stream_cut.specs.Cuts.{cut_off, cuts_of, CutsUp};
 ghost use Rattle.stream_cut.specs.Steps.{CutsNext};
 
@@ -63,8 +64,8 @@ fn cut_ready(
     requires sound { next < length wants.now → cutter.old.overlong ≡ false }
     ensures sound { IfOk result (λ at. at < length wants.now → cutter.new.overlong ≡ false) }
     ensures limit { IfOk result (λ at. cutter.new.limit ≡ cutter.old.limit) }
-    ensures waits { IfOk result (λ at. cuts_of cutter.old.limit (drop at wants.now) cutter.new.unread
-        ≡ []) }
+    ensures waits { IfOk result (λ at.
+        cuts_of cutter.old.limit (drop at wants.now) cutter.new.unread ≡ []) }
     ensures cut { IfOk result (λ at. (more : List ℕ) → map cut_off cuts.new.items
         ++ cuts_of cutter.old.limit (drop at wants.now) (cutter.new.unread ++ more)
         ≡ map cut_off cuts.old.items

@@ -1,13 +1,14 @@
 //! Dot-stuffing (RFC 3977 section 3.1.1).
 ghost use Rattle.std.specs.Prelude.{◌≡◌, ◌+◌, ◌++◌, [], ◌∷◌, length, List, ℕ, IfOk, OnOk};
 ghost use Rattle.news_terms.specs.Lines.{spelled};
-ghost use Rattle.news_terms.specs.Blocks.{stuffed, stuffed_line, unstuffed, unstuffed_line, text_lines};
+ghost use Rattle.news_terms.specs.Blocks.{stuffed, stuffed_line, text_lines};
+ghost use Rattle.news_terms.specs.Blocks.{unstuffed, unstuffed_line};
 
 use crate::look::line_end;
 use std::alloc::{AllocError, Global};
 
-/// The block that sends a text: each line that begins with a dot gets one more, a CRLF ends the last
-/// line where none did, and the line of a lone dot closes it (RFC 3977 section 3.1.1).
+/// The block that sends a text: each line that begins with a dot gets one more, a CRLF ends the
+/// last line where none did, and the line of a lone dot closes it (RFC 3977 section 3.1.1).
 pub fn stuff(alloc: Global, text: &[u8]) -> Result<Vec<u8>, AllocError>
     ensures { IfOk result (λ v. v.items ≡ stuffed text.now) }
 {

@@ -165,3 +165,24 @@ fn long_line_ends_a_run(rt: HostRuntime) -> Result<(), Fail> {
     assert!(rt; matches!(cuts.as_slice(), [Cut::TooLong]));
     Ok(())
 }
+
+/// A call that memory was refused is made again, and gives what it would have given.
+#[test]
+fn refused_memory(rt: HostRuntime) -> Result<(), Fail> {
+    let mut cutter = Cutter::new(rt.alloc(), 6);
+    for piece in b"STAT\r\n..\r\nx\r\n.\r\nabcdef\r\n.\r\nQUIT\r\n".chunks(7) {
+        if cutter.feed(piece).is_err() {
+            cutter.feed(piece)?;
+        }
+    }
+    assert!(rt;
+        gives_line(&mut cutter, b"STAT").unwrap_or(false) || gives_line(&mut cutter, b"STAT")?
+    );
+    let text = b".\r\nx\r\n";
+    assert!(rt; gives_text(&mut cutter, text).unwrap_or(false) || gives_text(&mut cutter, text)?);
+    assert!(rt; is_oversize(&mut cutter)?);
+    assert!(rt;
+        gives_line(&mut cutter, b"QUIT").unwrap_or(false) || gives_line(&mut cutter, b"QUIT")?
+    );
+    Ok(())
+}
