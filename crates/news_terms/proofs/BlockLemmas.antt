@@ -25,10 +25,6 @@ spelled-cons l ls tail = ap (λ (x : List ℕ). x ++ tail) (append_assoc l crlf 
 pub block_within-line : (n : ℕ) (s l r : List ℕ) → first_line s ≡ Some (l, r) → bytes_eq l dot ≡ false → block_within (suc n) s ≡ option_map (with_line l) (block_within n r)
 block_within-line n s l r e open_line = ap (option_and_then (after_line n)) e ∙ cond-false _ _ _ open_line
 
--- a lone dot ends the block
-pub block_within-dot : (n : ℕ) (s r : List ℕ) → first_line s ≡ Some (dot, r) → block_within (suc n) s ≡ Some ([], r)
-block_within-dot n s r e = ap (option_and_then (after_line n)) e
-
 -- the lines that are found and what follows them are the stream
 pub block_cuts : (n : ℕ) (s : List ℕ) (q : List (List ℕ) × List ℕ) → block_within n s ≡ Some q → CutsBlock s q.0 q.1
 block_cuts zero s q e = absurd (none-some q e)

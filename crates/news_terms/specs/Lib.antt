@@ -3,6 +3,7 @@ pub mod BlockImage
 pub mod Blocks
 pub mod Command
 pub mod Dates
+pub mod Fronts
 pub mod Lines
 pub mod MessageId
 pub mod Overview

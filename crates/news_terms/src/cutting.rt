@@ -1,8 +1,11 @@
 //! Laws and worked examples of lines and blocks.
-ghost use Rattle.std.specs.Prelude.{◌≡◌, ◌↔◌, ℕ, ◌+◌, ◌++◌, List, codes, Some, None, [], ◌∷◌, replicate, length};
-ghost use Rattle.news_terms.specs.Lines.{first_line, next_line, crlf, spelled, CutsLine, IsLine, AreLines};
+ghost use Rattle.std.specs.Prelude.{◌≡◌, ◌↔◌, ℕ, ◌+◌, ◌++◌, List, [], ◌∷◌, replicate, length};
+ghost use Rattle.std.specs.Prelude.{codes, Some, None};
+ghost use Rattle.news_terms.specs.Lines.{first_line, next_line, crlf, spelled};
+ghost use Rattle.news_terms.specs.Lines.{CutsLine, IsLine, AreLines};
 ghost use Rattle.news_terms.specs.Lines as lines;
-ghost use Rattle.news_terms.specs.Blocks.{first_block, next_block, stuffed, unstuffed, dot, CutsBlock};
+ghost use Rattle.news_terms.specs.Blocks.{first_block, next_block, stuffed, unstuffed, dot};
+ghost use Rattle.news_terms.specs.Blocks.{CutsBlock};
 ghost use Rattle.news_terms.specs.Blocks as blocks;
 
 /// The first line is the shortest that the stream begins with, and there is none only where no line
@@ -23,8 +26,8 @@ pub fn line_law()
         ↔ ((front after : List ℕ) → line ++ crlf ≡ front ++ 13 ∷ 10 ∷ after → after ≡ []) }
 {}
 
-/// The first block is the one that the stream begins with, and there is none only where no lines and
-/// rest make up the stream.
+/// The first block is the one that the stream begins with, and there is none only where no lines
+/// and rest make up the stream.
 pub fn first_block_law()
     ensures exact { (stream : List ℕ) (lines : List (List ℕ)) (rest : List ℕ) →
         (first_block stream ≡ Some (lines, rest)) ↔ CutsBlock stream lines rest }

@@ -11,6 +11,7 @@ pub mod classes;
 pub mod commands;
 pub mod cutting;
 pub mod dates;
+pub mod fronts;
 pub mod ids;
 pub mod images;
 pub mod overviews;

@@ -1,6 +1,6 @@
 //! Laws and worked examples of sizes, runs, places and fronts.
 ghost use Rattle.std.specs.Prelude.{◌≡◌, ℕ, codes, Some, None, [], ◌∷◌};
-ghost use Rattle.news_terms.specs.Places.{size_of, extents, front_after};
+ghost use Rattle.news_terms.specs.Places.{IsSize, size_of, extents, front_after};
 ghost use Rattle.news_terms.specs.PlaceExamples.{eight, six, one_of_eight, eight_then_six, eight_and_six};
 
 /// How many blocks texts of these lengths take.
@@ -12,6 +12,11 @@ pub fn size_examples()
     ensures least { size_of 1 ≡ 1 }
     ensures nothing { size_of 0 ≡ 0 }
     ensures large { size_of 1000015 ≡ 2084 }
+{}
+
+/// The size is the least number of blocks that have room.
+pub fn size_is_least()
+    ensures { (octets : ℕ) → IsSize octets (size_of octets) }
 {}
 
 /// One buffer of eight blocks: three articles of three blocks, and the front after the last.
