@@ -1,0 +1,4 @@
+pub mod Effects
+pub mod Example
+pub mod Laws
+pub mod Sound
