@@ -4,7 +4,7 @@ use Rattle.std.specs.Prelude.{nat_eq}
 use Rattle.std.specs.declared.collections.VecDeque.{VecDeque}
 use Rattle.std.specs.declared.alloc.Global.{Global}
 use Rattle.relay_core.proofs.TurnLemmas.{stores_none, put_at-same, put_at-other, agrees_open, IsIdle}
-use Rattle.relay_core.specs.Agreement.{Place, QueueIs, WriterIs, SlotIs, IsWaiting, Awaits, Core, Around, AgreesBy, Agrees, IsTurn}
+use Rattle.relay_core.specs.Agreement.{Place, QueueIs, WriterIs, SlotIs, IsWaiting, Awaits, Core, Around, AgreesBy, Agrees, OnlyStoring, IsTurn}
 use Rattle.relay_core.specs.Agreement as agreement
 use Rattle.relay_core.specs.Machine.{Due, done}
 use Rattle.relay_core.specs.Machine as machine
@@ -31,18 +31,19 @@ use Rattle.relay_model.specs.World as world
 pub record IsInHand (claim : List ℕ → Claim) (n : ℕ) (job : Job) (queue : List Job) (ids : List (List ℕ)) (w : Writer) (v : world.Writer) (slot : Option Outcome) (told : Bool) : Type 0 where
   pub waits : IsWaiting claim n job
   pub idle : IsIdle queue ids w v slot told
+  pub only : OnlyStoring claim (Some job.id)
 
 pub hand_place : {claim : List ℕ → Claim} {ids : List (List ℕ)} {v : world.Writer} {told : Bool} {n : ℕ} {m : model.Session} {p : Phase} {queue : List Job} {w : Writer} {slot : Option Outcome} (job : Job) (id : List ℕ)
     → p ≡ phase.Handing job id → Place claim ids v told n m p queue w slot → IsInHand claim n job queue ids w v slot told
-hand_place job id is (agreement.Nowhere stores q t s) = absurd (subst StoresNone is stores)
-hand_place {claim} {n = n} job id is (agreement.InHand other its at waits q t s) =
+hand_place job id is (agreement.Nowhere stores q t s o) = absurd (subst StoresNone is stores)
+hand_place {claim} {n = n} job id is (agreement.InHand other its at waits q t s o) =
     let same : other ≡ job = let joined : phase.Handing other its ≡ phase.Handing job id = sym at ∙ is in cc in
-    record { waits = subst (IsWaiting claim n) same waits; idle = record { queue_is = q; writer_is = t; slot_is = s } }
-hand_place job id is (agreement.InQueue other awaits waits q t s) = let a = awaits.here in cc
-hand_place job id is (agreement.AtWriter other awaits waits q t s) = let a = awaits.here in cc
-hand_place job id is (agreement.IsWhole other text token awaits whole q t s) = let a = awaits.here in cc
-hand_place job id is (agreement.IsSettled other outcome awaits q t s) = let a = awaits.here in cc
-hand_place job id is (agreement.InSlot other outcome awaits q t s) = let a = awaits.here in cc
+    record { waits = subst (IsWaiting claim n) same waits; idle = record { queue_is = q; writer_is = t; slot_is = s }; only = subst (λ (j : Job). OnlyStoring claim (Some j.id)) same o }
+hand_place job id is (agreement.InQueue other awaits waits q t s o) = let a = awaits.here in cc
+hand_place job id is (agreement.AtWriter other awaits waits q t s o) = let a = awaits.here in cc
+hand_place job id is (agreement.IsWhole other text token awaits whole q t s o) = let a = awaits.here in cc
+hand_place job id is (agreement.IsSettled other outcome awaits q t s o) = let a = awaits.here in cc
+hand_place job id is (agreement.InSlot other outcome awaits q t s o) = let a = awaits.here in cc
 
 -- a session that hands a job over stands for one that waits for its outcome
 pub handing_stands : (w : Terms) (s : Session) (m : model.Session) (hand : Option world.Job) (job : Job) (id : List ℕ)
@@ -94,7 +95,7 @@ push_agrees w system x m job id queue around stands is more =
             here = more ∙ ap (λ (jobs : List Job). jobs ++ job ∷ []) place.idle.queue_is.here;
             there = put_at-same x.work.queue 0 (x.work.queue 0 ++ job.id ∷ []) ∙ ap (λ (ids : List (List ℕ)). ids ++ job.id ∷ []) place.idle.queue_is.there;
           })
-          place.idle.writer_is place.idle.slot_is;
+          place.idle.writer_is place.idle.slot_is place.only;
     })
     (subst (λ (hand : Option world.Job). Stands w (record system.session { phase = phase.Waiting id }) m hand) (sym (put_at-same x.work.hand system.session.number None)) next.3)
 
@@ -118,34 +119,35 @@ kept_in_hand w system x m job back id queue around stands is same still =
     (subst (λ p. Stands w (record system.session { phase = p }) m (x.work.hand system.session.number)) again stands)
 
 -- the outcome is in the slot
-pub record IsInSlot (m : model.Session) (p : Phase) (id : List ℕ) (outcome : Outcome) (queue : List Job) (ids : List (List ℕ)) (w : Writer) (v : world.Writer) (told : Bool) : Type 0 where
+pub record IsInSlot (claim : List ℕ → Claim) (m : model.Session) (p : Phase) (id : List ℕ) (outcome : Outcome) (queue : List Job) (ids : List (List ℕ)) (w : Writer) (v : world.Writer) (told : Bool) : Type 0 where
   pub awaits : Awaits m p id (Some (outcome_view outcome))
   pub queue_is : QueueIs queue ids [] []
   pub writer_is : WriterIs w v writer.Idle world.Idle
   pub told_is : told ≡ true
+  pub only : OnlyStoring claim None
 
 pub slot_place : {claim : List ℕ → Claim} {ids : List (List ℕ)} {v : world.Writer} {told : Bool} {n : ℕ} {m : model.Session} {p : Phase} {queue : List Job} {w : Writer} {slot : Option Outcome} (outcome : Outcome)
-    → slot ≡ Some outcome → Place claim ids v told n m p queue w slot → (id : List ℕ) × IsInSlot m p id outcome queue ids w v told
-slot_place outcome is (agreement.Nowhere stores q t s) = let h = s.here in cc
-slot_place outcome is (agreement.InHand job id at waits q t s) = let h = s.here in cc
-slot_place outcome is (agreement.InQueue job awaits waits q t s) = let h = s.here in cc
-slot_place outcome is (agreement.AtWriter job awaits waits q t s) = let h = s.here in cc
-slot_place outcome is (agreement.IsWhole id text token awaits whole q t s) = let h = s.here in cc
-slot_place outcome is (agreement.IsSettled id other awaits q t s) = let h = s.here in cc
-slot_place {m = m} {p = p} outcome is (agreement.InSlot id other awaits q t s) =
+    → slot ≡ Some outcome → Place claim ids v told n m p queue w slot → (id : List ℕ) × IsInSlot claim m p id outcome queue ids w v told
+slot_place outcome is (agreement.Nowhere stores q t s o) = let h = s.here in cc
+slot_place outcome is (agreement.InHand job id at waits q t s o) = let h = s.here in cc
+slot_place outcome is (agreement.InQueue job awaits waits q t s o) = let h = s.here in cc
+slot_place outcome is (agreement.AtWriter job awaits waits q t s o) = let h = s.here in cc
+slot_place outcome is (agreement.IsWhole id text token awaits whole q t s o) = let h = s.here in cc
+slot_place outcome is (agreement.IsSettled id other awaits q t s o) = let h = s.here in cc
+slot_place {m = m} {p = p} outcome is (agreement.InSlot id other awaits q t s o) =
     let same : other ≡ outcome = let h = s.here in cc in
-    (id, record { awaits = subst (λ (o : Outcome). Awaits m p id (Some (outcome_view o))) same awaits; queue_is = q; writer_is = t; told_is = s.there })
+    (id, record { awaits = subst (λ (o : Outcome). Awaits m p id (Some (outcome_view o))) same awaits; queue_is = q; writer_is = t; told_is = s.there; only = o })
 
 -- where the slot is empty, the session isn't told
 pub untold_place : {claim : List ℕ → Claim} {ids : List (List ℕ)} {v : world.Writer} {told : Bool} {n : ℕ} {m : model.Session} {p : Phase} {queue : List Job} {w : Writer} {slot : Option Outcome}
     → slot ≡ None → Place claim ids v told n m p queue w slot → told ≡ false
-untold_place is (agreement.Nowhere stores q t s) = s.there
-untold_place is (agreement.InHand job id at waits q t s) = s.there
-untold_place is (agreement.InQueue job awaits waits q t s) = s.there
-untold_place is (agreement.AtWriter job awaits waits q t s) = s.there
-untold_place is (agreement.IsWhole id text token awaits whole q t s) = s.there
-untold_place is (agreement.IsSettled id outcome awaits q t s) = s.there
-untold_place is (agreement.InSlot id outcome awaits q t s) = let h = s.here in cc
+untold_place is (agreement.Nowhere stores q t s o) = s.there
+untold_place is (agreement.InHand job id at waits q t s o) = s.there
+untold_place is (agreement.InQueue job awaits waits q t s o) = s.there
+untold_place is (agreement.AtWriter job awaits waits q t s o) = s.there
+untold_place is (agreement.IsWhole id text token awaits whole q t s o) = s.there
+untold_place is (agreement.IsSettled id outcome awaits q t s o) = s.there
+untold_place is (agreement.InSlot id outcome awaits q t s o) = let h = s.here in cc
 
 slot_rests : (x : World) (n : ℕ) (m : model.Session) (id : List ℕ) (outcome : Option model.Outcome)
     → slot_does x n m model.TakesThis id outcome false ≡ record { output = Quiet; world = x }
@@ -171,7 +173,7 @@ wait_tells w x n now m id known outcome d is knows told =
 -- The session was told its outcome, and stores nothing from here on.
 pub told_agrees : (w : Terms) (system : System) (x : World) (m : model.Session) (session : Session) (id : List ℕ) (outcome : Outcome) (after : model.Session)
     → Around w system x m → x.work.hand system.session.number ≡ None
-    → IsInSlot m system.session.phase id outcome system.queue.items (x.work.queue 0) system.writer (x.work.writer 0) (x.work.is_told system.session.number)
+    → IsInSlot x.state.claim m system.session.phase id outcome system.queue.items (x.work.queue 0) system.writer (x.work.writer 0) (x.work.is_told system.session.number)
     → session.number ≡ system.session.number → StoresNone session.phase → Stands w session after None
     → Agrees w (record system { session = session; slot = None }) (with_session (untold x system.session.number) system.session.number after)
 told_agrees w system x m session id outcome after around empty at same stores stands =
@@ -189,7 +191,7 @@ told_agrees w system x m session id outcome after around empty at same stores st
       others = λ s other. let apart = subst (λ (k : ℕ). nat_eq s k ≡ false) same other in
           put_at-other x.state.session system.session.number (Some after) s apart ∙ around.others s apart;
       place = agreement.Nowhere stores at.queue_is at.writer_is
-          (record { here = refl; there = ap (put_at x.work.is_told system.session.number false) same ∙ put_at-same x.work.is_told system.session.number false });
+          (record { here = refl; there = ap (put_at x.work.is_told system.session.number false) same ∙ put_at-same x.work.is_told system.session.number false }) at.only;
     })
     (subst (λ (hand : Option world.Job). Stands w session after hand) (sym (ap x.work.hand same ∙ empty)) stands)
 

@@ -1,5 +1,6 @@
 pub mod HandLemmas
 pub mod MachineLemmas
+pub mod OnlyLemmas
 pub mod OpenLemmas
 pub mod RunLemmas
 pub mod SessionLemmas

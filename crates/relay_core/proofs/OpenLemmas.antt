@@ -11,6 +11,7 @@ use Rattle.stream_cut.specs.Stream as stream
 use Rattle.stream_cut.specs.declared.cutter.Block.{Block}
 use Rattle.stream_cut.specs.declared.cutter.Block.TheVariants as block
 use Rattle.relay_core.proofs.MachineLemmas.{turn_done}
+use Rattle.relay_core.proofs.OnlyLemmas.{only_none}
 use Rattle.relay_core.specs.Agreement.{Agrees, AgreesBy, Around, Core, Unopened, Place, Nowhere, InHand, InQueue, AtWriter, IsWhole, IsSettled, InSlot, Steps, CarriesOut, IsTurn}
 use Rattle.relay_core.specs.Config.{terms_of}
 use Rattle.relay_core.specs.Machine.{Due, due, done}
@@ -116,7 +117,7 @@ opened_agrees w s x new peer un stands ready = (
     newest = refl;
     session = put_here x.state.session new.number (Some (new_session peer));
     others = λ k other. put_other x.state.session new.number (Some (new_session peer)) k other ∙ un.sessions k;
-    place = Nowhere (subst StoresNone (sym ready) tt) un.queue un.writer (un.slot new.number);
+    place = Nowhere (subst StoresNone (sym ready) tt) un.queue un.writer (un.slot new.number) (only_none x.state.claim un.nothing);
   },
   subst (λ (hand : Option world.Job). Stands w new (new_session peer) hand) (sym (un.hand new.number)) stands,
 )
@@ -167,18 +168,18 @@ found test w s x number (Some n) at there =
 -- an article is where it was, whatever was read
 place_of : (claim : List ℕ → Claim) (ids : List (List ℕ)) (v : world.Writer) (told : Bool) (n : ℕ) (m after : model.Session) (p : Phase) (queue : List Job) (w : Writer) (slot : Option Outcome)
     → after.phase ≡ m.phase → Place claim ids v told n m p queue w slot → Place claim ids v told n after p queue w slot
-place_of claim ids v told n m after p queue w slot same (Nowhere none q wr sl) = Nowhere none q wr sl
-place_of claim ids v told n m after p queue w slot same (InHand job id is waits q wr sl) = InHand job id is waits q wr sl
-place_of claim ids v told n m after p queue w slot same (InQueue job awaits waits q wr sl) =
-    InQueue job (record { here = awaits.here; there = same ∙ awaits.there }) waits q wr sl
-place_of claim ids v told n m after p queue w slot same (AtWriter job awaits waits q wr sl) =
-    AtWriter job (record { here = awaits.here; there = same ∙ awaits.there }) waits q wr sl
-place_of claim ids v told n m after p queue w slot same (IsWhole id text token awaits claimed q wr sl) =
-    IsWhole id text token (record { here = awaits.here; there = same ∙ awaits.there }) claimed q wr sl
-place_of claim ids v told n m after p queue w slot same (IsSettled id outcome awaits q wr sl) =
-    IsSettled id outcome (record { here = awaits.here; there = same ∙ awaits.there }) q wr sl
-place_of claim ids v told n m after p queue w slot same (InSlot id outcome awaits q wr sl) =
-    InSlot id outcome (record { here = awaits.here; there = same ∙ awaits.there }) q wr sl
+place_of claim ids v told n m after p queue w slot same (Nowhere none q wr sl only) = Nowhere none q wr sl only
+place_of claim ids v told n m after p queue w slot same (InHand job id is waits q wr sl only) = InHand job id is waits q wr sl only
+place_of claim ids v told n m after p queue w slot same (InQueue job awaits waits q wr sl only) =
+    InQueue job (record { here = awaits.here; there = same ∙ awaits.there }) waits q wr sl only
+place_of claim ids v told n m after p queue w slot same (AtWriter job awaits waits q wr sl only) =
+    AtWriter job (record { here = awaits.here; there = same ∙ awaits.there }) waits q wr sl only
+place_of claim ids v told n m after p queue w slot same (IsWhole id text token awaits claimed q wr sl only) =
+    IsWhole id text token (record { here = awaits.here; there = same ∙ awaits.there }) claimed q wr sl only
+place_of claim ids v told n m after p queue w slot same (IsSettled id outcome awaits q wr sl only) =
+    IsSettled id outcome (record { here = awaits.here; there = same ∙ awaits.there }) q wr sl only
+place_of claim ids v told n m after p queue w slot same (InSlot id outcome awaits q wr sl only) =
+    InSlot id outcome (record { here = awaits.here; there = same ∙ awaits.there }) q wr sl only
 
 -- more octets leave what was cut as it is
 line_more : (line : Option (Vec ℕ Global)) (s : Stream) (unread piece : List ℕ) → HasLine line s unread

@@ -8,8 +8,9 @@ use Rattle.id_history.specs.declared.claims.Shard.{Shard}
 use Rattle.news_terms.specs.Reply.{Reply, Rejected, reply_text}
 use Rattle.news_terms.specs.Token.{Token}
 use Rattle.relay_core.specs.Absorb.{offers_after, offer_reply, look_reply, HandsOver}
-use Rattle.relay_core.specs.Agreement.{Place, QueueIs, WriterIs, SlotIs, IsWaiting, Awaits, Core, Around, AgreesBy, Agrees, is_found, is_found_under}
+use Rattle.relay_core.specs.Agreement.{Place, QueueIs, WriterIs, SlotIs, IsWaiting, Awaits, Core, Around, AgreesBy, Agrees, OnlyStoring, is_found, is_found_under}
 use Rattle.relay_core.specs.Agreement as agreement
+use Rattle.relay_core.proofs.OnlyLemmas.{only_taken}
 use Rattle.relay_core.specs.Machine.{Due, done}
 use Rattle.relay_core.specs.Machine as machine
 use Rattle.relay_core.specs.Session.{Stands, StoresNone, IsPhase, IsShort, Carries}
@@ -68,13 +69,24 @@ waiting_stores p id none is = subst StoresNone is none
 
 pub place_idle : {claim : List ℕ → Claim} {ids : List (List ℕ)} {v : world.Writer} {told : Bool} {n : ℕ} {m : model.Session} {p : Phase} {queue : List Job} {w : Writer} {slot : Option Outcome}
     → StoresNone p → Place claim ids v told n m p queue w slot → IsIdle queue ids w v slot told
-place_idle none (agreement.Nowhere stores q t s) = record { queue_is = q; writer_is = t; slot_is = s }
-place_idle none (agreement.InHand job id is waits q t s) = absurd (handing_stores _ job id none is)
-place_idle none (agreement.InQueue job awaits waits q t s) = absurd (waiting_stores _ job.id none awaits.here)
-place_idle none (agreement.AtWriter job awaits waits q t s) = absurd (waiting_stores _ job.id none awaits.here)
-place_idle none (agreement.IsWhole id text token awaits whole q t s) = absurd (waiting_stores _ id none awaits.here)
-place_idle none (agreement.IsSettled id outcome awaits q t s) = absurd (waiting_stores _ id none awaits.here)
-place_idle none (agreement.InSlot id outcome awaits q t s) = absurd (waiting_stores _ id none awaits.here)
+place_idle none (agreement.Nowhere stores q t s o) = record { queue_is = q; writer_is = t; slot_is = s }
+place_idle none (agreement.InHand job id is waits q t s o) = absurd (handing_stores _ job id none is)
+place_idle none (agreement.InQueue job awaits waits q t s o) = absurd (waiting_stores _ job.id none awaits.here)
+place_idle none (agreement.AtWriter job awaits waits q t s o) = absurd (waiting_stores _ job.id none awaits.here)
+place_idle none (agreement.IsWhole id text token awaits whole q t s o) = absurd (waiting_stores _ id none awaits.here)
+place_idle none (agreement.IsSettled id outcome awaits q t s o) = absurd (waiting_stores _ id none awaits.here)
+place_idle none (agreement.InSlot id outcome awaits q t s o) = absurd (waiting_stores _ id none awaits.here)
+
+-- where the session stores none, no id is being stored
+pub nothing_stored : {claim : List ℕ → Claim} {ids : List (List ℕ)} {v : world.Writer} {told : Bool} {n : ℕ} {m : model.Session} {p : Phase} {queue : List Job} {w : Writer} {slot : Option Outcome}
+    → StoresNone p → Place claim ids v told n m p queue w slot → OnlyStoring claim None
+nothing_stored none (agreement.Nowhere stores q t s o) = o
+nothing_stored none (agreement.InHand job id is waits q t s o) = absurd (handing_stores _ job id none is)
+nothing_stored none (agreement.InQueue job awaits waits q t s o) = absurd (waiting_stores _ job.id none awaits.here)
+nothing_stored none (agreement.AtWriter job awaits waits q t s o) = absurd (waiting_stores _ job.id none awaits.here)
+nothing_stored none (agreement.IsWhole id text token awaits whole q t s o) = absurd (waiting_stores _ id none awaits.here)
+nothing_stored none (agreement.IsSettled id outcome awaits q t s o) = absurd (waiting_stores _ id none awaits.here)
+nothing_stored none (agreement.InSlot id outcome awaits q t s o) = absurd (waiting_stores _ id none awaits.here)
 
 -- a session that has nothing in its hand and waits for nothing stores nothing
 pub stores_none : (p : Phase) (q : model.Phase) → IsPhase p q None
@@ -92,9 +104,10 @@ pub moved : (w : Terms) (system : System) (x : World) (m : model.Session) (shard
     → Around w system x m → StoresNone system.session.phase → x.work.hand system.session.number ≡ None
     → Keeps shard claim → session.number ≡ system.session.number → StoresNone session.phase
     → Stands w session after None
+    → (OnlyStoring x.state.claim None → OnlyStoring claim None)
     → Agrees w (record system { shard = shard; session = session })
     (record x { state = record x.state { claim = claim; session = put_at x.state.session system.session.number (Some after) } })
-moved w system x m shard claim session after around none empty keeps same stores stands =
+moved w system x m shard claim session after around none empty keeps same stores stands only =
     let idle = place_idle none around.place in
     let there : (n : ℕ) → n ≡ system.session.number → put_at x.state.session system.session.number (Some after) n ≡ Some after =
     λ n is. subst (λ (k : ℕ). put_at x.state.session system.session.number (Some after) k ≡ Some after) (sym is) (put_at-same x.state.session system.session.number (Some after)) in
@@ -112,7 +125,8 @@ moved w system x m shard claim session after around none empty keeps same stores
       others = λ s other. let apart = subst (λ (n : ℕ). nat_eq s n ≡ false) same other in
           put_at-other x.state.session system.session.number (Some after) s apart ∙ around.others s apart;
       place = agreement.Nowhere stores idle.queue_is idle.writer_is
-          (record { here = idle.slot_is.here; there = ap x.work.is_told same ∙ idle.slot_is.there });
+          (record { here = idle.slot_is.here; there = ap x.work.is_told same ∙ idle.slot_is.there })
+          (only (nothing_stored none around.place));
     })
     (subst (λ (hand : Option world.Job). Stands w session after hand) (sym (ap x.work.hand same ∙ empty)) stands)
 
@@ -309,7 +323,8 @@ taken_in_hand w system x m shard session id text after around none keeps mine sh
             short = subst IsShort (sym over.same_text) short;
           })
           idle.queue_is idle.writer_is
-          (record { here = idle.slot_is.here; there = ap x.work.is_told same ∙ idle.slot_is.there });
+          (record { here = idle.slot_is.here; there = ap x.work.is_told same ∙ idle.slot_is.there })
+          (only_taken x.state.claim id over.job.id (after_take system.session.number (accepted_text text) (x.state.claim id)) over.same_id (nothing_stored none around.place));
     })
     (subst (λ (hand : Option world.Job). Stands w session next hand)
     (sym (ap (put_at x.work.hand system.session.number (Some job)) same ∙ put_at-same x.work.hand system.session.number (Some job))) over.stands)

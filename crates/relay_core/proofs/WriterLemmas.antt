@@ -11,8 +11,9 @@ use Rattle.id_history.specs.Shard.{Keeps, ChangesClaim}
 use Rattle.id_history.specs.declared.claims.Shard.{Shard}
 use Rattle.news_terms.specs.Places as places
 use Rattle.news_terms.specs.Token as tokens
-use Rattle.relay_core.specs.Agreement.{Agrees, AgreesBy, Around, Awaits, Core, IsWaiting, IsWrite, Meets, Place, Nowhere, InHand, InQueue, AtWriter, IsWhole, IsSettled, InSlot, QueueIs, SlotIs, Steps, Unopened, WriterIs}
+use Rattle.relay_core.specs.Agreement.{Agrees, AgreesBy, Around, Awaits, Core, IsWaiting, IsWrite, Meets, Place, Nowhere, InHand, InQueue, AtWriter, IsWhole, IsSettled, InSlot, OnlyStoring, QueueIs, SlotIs, Steps, Unopened, WriterIs, is_storing}
 use Rattle.relay_core.specs.Agreement as agreement
+use Rattle.relay_core.proofs.OnlyLemmas.{only_gone, only_put}
 use Rattle.relay_core.specs.Session.{Stands, IsPhase, IsShort}
 use Rattle.relay_core.specs.Store.{IsOneBuffer, KeepsState, Places, kept_view, kept_text, the_buffer, the_group}
 use Rattle.relay_core.specs.Views.{outcome_view, output_view}
@@ -87,23 +88,23 @@ one_buffer w s x had = record {
 module _ {claim : List ℕ → Claim} {ids : List (List ℕ)} {v : world.Writer} {told : Bool} {n : ℕ} {m : model.Session} {p : Phase} {queue : List Job} {w : Writer} {slot : Option Outcome} where
   -- the writer is idle in the definitions too
   idle_there : Place claim ids v told n m p queue w slot → w ≡ writer.Idle → v ≡ world.Idle
-  idle_there (Nowhere none q now empty) idle = now.there
-  idle_there (InHand job id here waits q now empty) idle = now.there
-  idle_there (InQueue job awaits waits q now empty) idle = now.there
-  idle_there (AtWriter job awaits waits q now empty) idle = absurd (cc)
-  idle_there (IsWhole id text token awaits claimed q now empty) idle = absurd (cc)
-  idle_there (IsSettled id outcome awaits q now empty) idle = absurd (cc)
-  idle_there (InSlot id outcome awaits q now full) idle = now.there
+  idle_there (Nowhere none q now empty only) idle = now.there
+  idle_there (InHand job id here waits q now empty only) idle = now.there
+  idle_there (InQueue job awaits waits q now empty only) idle = now.there
+  idle_there (AtWriter job awaits waits q now empty only) idle = absurd (cc)
+  idle_there (IsWhole id text token awaits claimed q now empty only) idle = absurd (cc)
+  idle_there (IsSettled id outcome awaits q now empty only) idle = absurd (cc)
+  idle_there (InSlot id outcome awaits q now full only) idle = now.there
 
   -- the queue is empty in the definitions too
   empty_there : Place claim ids v told n m p queue w slot → queue ≡ [] → ids ≡ []
-  empty_there (Nowhere none q now empty) left = q.there
-  empty_there (InHand job id here waits q now empty) left = q.there
-  empty_there (InQueue job awaits waits q now empty) left = absurd (cc)
-  empty_there (AtWriter job awaits waits q now empty) left = q.there
-  empty_there (IsWhole id text token awaits claimed q now empty) left = q.there
-  empty_there (IsSettled id outcome awaits q now empty) left = q.there
-  empty_there (InSlot id outcome awaits q now full) left = q.there
+  empty_there (Nowhere none q now empty only) left = q.there
+  empty_there (InHand job id here waits q now empty only) left = q.there
+  empty_there (InQueue job awaits waits q now empty only) left = absurd (cc)
+  empty_there (AtWriter job awaits waits q now empty only) left = q.there
+  empty_there (IsWhole id text token awaits claimed q now empty only) left = q.there
+  empty_there (IsSettled id outcome awaits q now empty only) left = q.there
+  empty_there (InSlot id outcome awaits q now full only) left = q.there
 
   -- another queue of the same jobs
   with_queue : (jobs : List Job) → queue ≡ jobs → Place claim ids v told n m p queue w slot → Place claim ids v told n m p jobs w slot
@@ -116,37 +117,38 @@ module _ {claim : List ℕ → Claim} {ids : List (List ℕ)} {v : world.Writer}
   -- an idle writer takes the one job of the queue
   popped_place : (job : Job) (rest : List Job) → Place claim ids v told n m p queue w slot → w ≡ writer.Idle → queue ≡ job ∷ rest
       → (ids ≡ job.id ∷ []) × Place claim [] (world.Popped job.id) told n m p rest (writer.Popped job) slot
-  popped_place job rest (Nowhere none q now empty) idle full = absurd (cc)
-  popped_place job rest (InHand had id here waits q now empty) idle full = absurd (cc)
-  popped_place job rest (InQueue found awaits waits q now empty) idle full =
+  popped_place job rest (Nowhere none q now empty only) idle full = absurd (cc)
+  popped_place job rest (InHand had id here waits q now empty only) idle full = absurd (cc)
+  popped_place job rest (InQueue found awaits waits q now empty only) idle full =
       let here = q.here in
       let same : found ≡ job = cc in
       let over : rest ≡ [] = cc in (
         q.there ∙ ap (λ (j : Job). j.id ∷ []) same,
         AtWriter job (subst (λ (j : Job). Awaits m p j.id None) same awaits) (subst (λ (j : Job). IsWaiting claim n j) same waits)
-            (record { here = over; there = refl }) (record { here = refl; there = refl }) empty,
+            (record { here = over; there = refl }) (record { here = refl; there = refl }) empty
+            (subst (λ (j : Job). OnlyStoring claim (Some j.id)) same only),
       )
-  popped_place job rest (AtWriter had awaits waits q now empty) idle full = absurd (cc)
-  popped_place job rest (IsWhole id text token awaits claimed q now empty) idle full = absurd (cc)
-  popped_place job rest (IsSettled id outcome awaits q now empty) idle full = absurd (cc)
-  popped_place job rest (InSlot id outcome awaits q now slotted) idle full = absurd (cc)
+  popped_place job rest (AtWriter had awaits waits q now empty only) idle full = absurd (cc)
+  popped_place job rest (IsWhole id text token awaits claimed q now empty only) idle full = absurd (cc)
+  popped_place job rest (IsSettled id outcome awaits q now empty only) idle full = absurd (cc)
+  popped_place job rest (InSlot id outcome awaits q now slotted only) idle full = absurd (cc)
 
   -- a writer that has an outcome puts it into the slot
   answered_place : (s : ℕ) (outcome : Outcome) → Place claim ids v told n m p queue w slot → w ≡ writer.Answering s outcome
       → (v ≡ world.Answering n) × Place claim ids world.Idle true n m p queue writer.Idle (Some outcome)
-  answered_place s outcome (Nowhere none q now empty) is = absurd (cc)
-  answered_place s outcome (InHand job id here waits q now empty) is = absurd (cc)
-  answered_place s outcome (InQueue job awaits waits q now empty) is = absurd (cc)
-  answered_place s outcome (AtWriter job awaits waits q now empty) is = absurd (cc)
-  answered_place s outcome (IsWhole id text token awaits claimed q now empty) is = absurd (cc)
-  answered_place s outcome (IsSettled id found awaits q now empty) is =
+  answered_place s outcome (Nowhere none q now empty only) is = absurd (cc)
+  answered_place s outcome (InHand job id here waits q now empty only) is = absurd (cc)
+  answered_place s outcome (InQueue job awaits waits q now empty only) is = absurd (cc)
+  answered_place s outcome (AtWriter job awaits waits q now empty only) is = absurd (cc)
+  answered_place s outcome (IsWhole id text token awaits claimed q now empty only) is = absurd (cc)
+  answered_place s outcome (IsSettled id found awaits q now empty only) is =
       let here = now.here in
       let same : found ≡ outcome = cc in (
         now.there,
         InSlot id outcome (subst (λ (o : Outcome). Awaits m p id (Some (outcome_view o))) same awaits) q
-            (record { here = refl; there = refl }) (record { here = refl; there = refl }),
+            (record { here = refl; there = refl }) (record { here = refl; there = refl }) only,
       )
-  answered_place s outcome (InSlot id found awaits q now full) is = absurd (cc)
+  answered_place s outcome (InSlot id found awaits q now full only) is = absurd (cc)
 
 -- the writer has this job, and nothing else is on its way
 pub record HasPopped (claim : List ℕ → Claim) (ids : List (List ℕ)) (v : world.Writer) (told : Bool) (n : ℕ) (m : model.Session) (p : Phase) (queue : List Job) (slot : Option Outcome) (job : Job) : Type 0 where
@@ -155,6 +157,7 @@ pub record HasPopped (claim : List ℕ → Claim) (ids : List (List ℕ)) (v : w
   pub queue_is : QueueIs queue ids [] []
   pub there : v ≡ world.Popped job.id
   pub slot_is : SlotIs slot told None false
+  pub only : OnlyStoring claim (Some job.id)
 
 -- the writer has this whole text, and nothing else is on its way
 pub record HasFinished (claim : List ℕ → Claim) (ids : List (List ℕ)) (v : world.Writer) (told : Bool) (n : ℕ) (m : model.Session) (p : Phase) (queue : List Job) (slot : Option Outcome) (number : ℕ) (id : List ℕ) (token : Token) : Type 0 where
@@ -165,15 +168,16 @@ pub record HasFinished (claim : List ℕ → Claim) (ids : List (List ℕ)) (v :
   pub there : v ≡ world.Finished id
   pub slot_is : SlotIs slot told None false
   pub of_session : number ≡ n
+  pub only : OnlyStoring claim (Some id)
 
 module _ {claim : List ℕ → Claim} {ids : List (List ℕ)} {v : world.Writer} {told : Bool} {n : ℕ} {m : model.Session} {p : Phase} {queue : List Job} {w : Writer} {slot : Option Outcome} where
   -- a writer that took a job has it in the definitions too
   popped_there : (job : Job) → Place claim ids v told n m p queue w slot → w ≡ writer.Popped job
       → HasPopped claim ids v told n m p queue slot job
-  popped_there job (Nowhere none q now empty) is = absurd (cc)
-  popped_there job (InHand had id here waits q now empty) is = absurd (cc)
-  popped_there job (InQueue had awaits waits q now empty) is = absurd (cc)
-  popped_there job (AtWriter found awaits waits q now empty) is =
+  popped_there job (Nowhere none q now empty only) is = absurd (cc)
+  popped_there job (InHand had id here waits q now empty only) is = absurd (cc)
+  popped_there job (InQueue had awaits waits q now empty only) is = absurd (cc)
+  popped_there job (AtWriter found awaits waits q now empty only) is =
       let here = now.here in
       let same : found ≡ job = cc in
       record {
@@ -182,19 +186,20 @@ module _ {claim : List ℕ → Claim} {ids : List (List ℕ)} {v : world.Writer}
         queue_is = q;
         there = now.there ∙ ap (λ (j : Job). world.Popped j.id) same;
         slot_is = empty;
+        only = subst (λ (j : Job). OnlyStoring claim (Some j.id)) same only;
       }
-  popped_there job (IsWhole id text token awaits claimed q now empty) is = absurd (cc)
-  popped_there job (IsSettled id outcome awaits q now empty) is = absurd (cc)
-  popped_there job (InSlot id outcome awaits q now full) is = absurd (cc)
+  popped_there job (IsWhole id text token awaits claimed q now empty only) is = absurd (cc)
+  popped_there job (IsSettled id outcome awaits q now empty only) is = absurd (cc)
+  popped_there job (InSlot id outcome awaits q now full only) is = absurd (cc)
 
   -- a writer that has a whole text has it in the definitions too
   finished_there : (number : ℕ) (id : List ℕ) (token : Token) → Place claim ids v told n m p queue w slot → w ≡ writer.Finished number id token
       → HasFinished claim ids v told n m p queue slot number id token
-  finished_there number id token (Nowhere none q now empty) is = absurd (cc)
-  finished_there number id token (InHand job had here waits q now empty) is = absurd (cc)
-  finished_there number id token (InQueue job awaits waits q now empty) is = absurd (cc)
-  finished_there number id token (AtWriter job awaits waits q now empty) is = absurd (cc)
-  finished_there number id token (IsWhole had text found awaits claimed q now empty) is =
+  finished_there number id token (Nowhere none q now empty only) is = absurd (cc)
+  finished_there number id token (InHand job had here waits q now empty only) is = absurd (cc)
+  finished_there number id token (InQueue job awaits waits q now empty only) is = absurd (cc)
+  finished_there number id token (AtWriter job awaits waits q now empty only) is = absurd (cc)
+  finished_there number id token (IsWhole had text found awaits claimed q now empty only) is =
       let here = now.here in
       let same_id : had ≡ id = cc in
       let same_token : found ≡ token = cc in
@@ -208,9 +213,10 @@ module _ {claim : List ℕ → Claim} {ids : List (List ℕ)} {v : world.Writer}
         there = now.there ∙ ap (λ (i : List ℕ). world.Finished i) same_id;
         slot_is = empty;
         of_session = same_number;
+        only = subst (λ (i : List ℕ). OnlyStoring claim (Some i)) same_id only;
       }
-  finished_there number id token (IsSettled had outcome awaits q now empty) is = absurd (cc)
-  finished_there number id token (InSlot had outcome awaits q now full) is = absurd (cc)
+  finished_there number id token (IsSettled had outcome awaits q now empty only) is = absurd (cc)
+  finished_there number id token (InSlot had outcome awaits q now full only) is = absurd (cc)
 
 -- the writer finds no job
 pub finds_none : (now : ℕ) (w : Terms) (s t : System) (x : World) (n : Option ℕ)
@@ -226,6 +232,7 @@ finds_none now w s t x None idle none left agrees = (
     writer = agrees.writer;
     slot = agrees.slot;
     phase = agrees.phase;
+    nothing = agrees.nothing;
   },
   pace.NoJob agrees.writer.there agrees.queue.there refl,
 )
@@ -327,8 +334,9 @@ outcome_known : (w : Terms) (s t : System) (x : World) (m : model.Session) (id :
     → number ≡ s.session.number
     → Keeps t.shard σ.claim → KeepsState s.store σ → σ.newest ≡ x.state.newest
     → ((i : ℕ) → σ.session i ≡ told x.state s.session.number id (outcome_view outcome) i)
+    → OnlyStoring σ.claim None
     → AgreesBy w (record s { shard = t.shard; writer = writer.Answering number outcome }) (pace.writer_at x σ 0 (world.Answering s.session.number)) (Some k)
-outcome_known w s t x m id outcome σ k number around stands awaits queue slot same claims store newest sessions = (
+outcome_known w s t x m id outcome σ k number around stands awaits queue slot same claims store newest sessions only = (
   in_phase m (model.Waits model.TakesThis id (Some (outcome_view outcome))),
   record {
     core = record { terms = around.core.terms; blocks = around.core.blocks; claims = claims; store = store };
@@ -337,7 +345,7 @@ outcome_known w s t x m id outcome σ k number around stands awaits queue slot s
     session = sessions s.session.number ∙ told_there x.state s.session.number id (outcome_view outcome) m around.session awaits.there;
     others = λ i other. sessions i ∙ put_at-other x.state.session s.session.number (session_told id (outcome_view outcome) (x.state.session s.session.number)) i other ∙ around.others i other;
     place = IsSettled id outcome (record { here = awaits.here; there = refl }) queue
-        (record { here = ap (λ (i : ℕ). writer.Answering i outcome) same; there = refl }) slot;
+        (record { here = ap (λ (i : ℕ). writer.Answering i outcome) same; there = refl }) slot only;
   },
   told_stands w s.session m (x.work.hand s.session.number) id (outcome_view outcome) awaits.here stands,
 )
@@ -369,7 +377,7 @@ settles now w s t x number id token (Some k) is changes agrees =
       pace.writer_at x σ 0 (world.Answering s.session.number),
       outcome_known w s t x agrees.0 id outcomes.Kept σ k number around agrees.2 found.awaits found.queue_is found.slot_is found.of_session
           (subst (λ (c : Claim). Keeps t.shard (put_id x.state.claim id c)) after (changes x.state.claim around.core.claims))
-          around.core.store refl (λ i. refl),
+          around.core.store refl (λ i. refl) (only_gone x.state.claim id (Stored (token_view token) now) refl found.only),
       pace.Settles id s.session.number σ found.there (record {
         article = accepted_text found.text;
         token = token_view token;
@@ -398,7 +406,7 @@ finds_worn now w s t x job (Some k) changes worn agrees =
       pace.writer_at x σ 0 (world.Answering s.session.number),
       outcome_known w (record s { writer = writer.Popped job }) t x agrees.0 job.id outcomes.Failed σ k job.session around agrees.2 found.awaits found.queue_is found.slot_is found.waits.of_session
           (subst (λ (c : Claim). Keeps t.shard (put_id x.state.claim job.id c)) after (changes x.state.claim around.core.claims))
-          around.core.store refl (λ i. refl),
+          around.core.store refl (λ i. refl) (only_gone x.state.claim job.id Unknown refl found.only),
       pace.FindsWorn job.id s.session.number σ found.there (record {
         worn = record {
           article = accepted_text job.text;
@@ -457,7 +465,9 @@ stores now w s t x job token (Some k) fits blocks sizes kept agrees =
           session = around.session;
           others = around.others;
           place = IsWhole job.id job.text token found.awaits whole_here found.queue_is
-              (record { here = ap (λ (i : ℕ). writer.Finished i job.id token) found.waits.of_session; there = refl }) found.slot_is;
+              (record { here = ap (λ (i : ℕ). writer.Finished i job.id token) found.waits.of_session; there = refl }) found.slot_is
+              (only_put begun.claim (Some job.id) job.id (Storing number article (Whole under)) (λ h. ap is_storing begun_here)
+              (only_put x.state.claim (Some job.id) job.id (Storing number article (Begun under)) (λ h. ap is_storing found.waits.claimed) found.only));
         },
         agrees.2,
       ),
@@ -485,6 +495,7 @@ with_room w s t x None blocks sizes kept agrees = record {
   writer = agrees.writer;
   slot = agrees.slot;
   phase = agrees.phase;
+  nothing = agrees.nothing;
 }
 with_room w s t x (Some k) blocks sizes kept agrees =
     let around = agrees.1 in (

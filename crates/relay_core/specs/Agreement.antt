@@ -1,5 +1,5 @@
--- When the core agrees with a state of the relay: all that it keeps is that state's, and the article that
--- its session stores is in exactly one place.
+-- When the core agrees with a state of the relay: all that it keeps is that state's, the article that its
+-- session stores is in exactly one place, and no other article is being stored.
 use Rattle.std.specs.Prelude.{◌≡◌, ℕ, nat_eq, Bool, true, false, List, [], ◌∷◌, Option, None, Some, is_some}
 use Rattle.cyc_token.specs.Token.{token_view}
 use Rattle.cyc_token.specs.declared.Token.{Token}
@@ -20,7 +20,7 @@ use Rattle.relay_core.specs.declared.session.Phase.{Phase}
 use Rattle.relay_core.specs.declared.session.Phase.TheVariants as phase
 use Rattle.relay_core.specs.declared.session.Plan.{Plan}
 use Rattle.relay_core.specs.declared.system.System.{System}
-use Rattle.relay_model.specs.Claims.{Claim, Storing, Waiting, Whole, look_answer}
+use Rattle.relay_model.specs.Claims.{Claim, Unknown, Offered, Storing, Stored, Refused, Waiting, Whole, look_answer}
 use Rattle.relay_model.specs.Fetches.{fetched}
 use Rattle.news_terms.specs.Token as tokens
 use Rattle.relay_model.specs.Pace as pace
@@ -30,6 +30,18 @@ use Rattle.relay_model.specs.Terms.{Terms}
 use Rattle.relay_model.specs.Verdict.{accepted_text}
 use Rattle.relay_model.specs.World.{World, Next}
 use Rattle.relay_model.specs.World as world
+
+-- an id is being stored
+abbrev pub is_storing : Claim → Bool
+is_storing Unknown = false
+is_storing (Offered session) = false
+is_storing (Storing session article stage) = true
+is_storing (Stored token moment) = false
+is_storing (Refused moment) = false
+
+-- an id that is being stored is this one
+abbrev pub OnlyStoring : (List ℕ → Claim) → Option (List ℕ) → Type 0
+OnlyStoring claim one = (id : List ℕ) → is_storing (claim id) ≡ true → one ≡ Some id
 
 -- the queue has these jobs, in the code, and these ids, in the definitions
 pub record QueueIs (queue : List Job) (ids : List (List ℕ)) (jobs : List Job) (same : List (List ℕ)) : Type 0 where
@@ -57,37 +69,43 @@ pub record Awaits (m : model.Session) (p : Phase) (id : List ℕ) (outcome : Opt
   pub here : p ≡ phase.Waiting id
   pub there : m.phase ≡ model.Waits model.TakesThis id outcome
 
--- Where the article that the session stores is: in exactly one of these places. `claim` is what is known
--- of each id; `ids`, `v` and `told` are queue, writer and slot in the definitions.
+-- Where the article that the session stores is: in exactly one of these places, and no other id is being
+-- stored. `claim` is what is known of each id; `ids`, `v` and `told` are queue, writer and slot in the
+-- definitions.
 pub data Place (claim : List ℕ → Claim) (ids : List (List ℕ)) (v : world.Writer) (told : Bool) (n : ℕ) (m : model.Session) (p : Phase) (queue : List Job) (w : Writer) (slot : Option Outcome) : Type 0 where
   -- the session stores none
   Nowhere : StoresNone p → QueueIs queue ids [] [] → WriterIs w v writer.Idle world.Idle
-      → SlotIs slot told None false → Place claim ids v told n m p queue w slot
+      → SlotIs slot told None false → OnlyStoring claim None
+      → Place claim ids v told n m p queue w slot
   -- in the session's hand
   InHand : (job : Job) (id : List ℕ) → p ≡ phase.Handing job id → IsWaiting claim n job
       → QueueIs queue ids [] [] → WriterIs w v writer.Idle world.Idle → SlotIs slot told None false
-      → Place claim ids v told n m p queue w slot
+      → OnlyStoring claim (Some job.id) → Place claim ids v told n m p queue w slot
   -- in the queue
   InQueue : (job : Job) → Awaits m p job.id None → IsWaiting claim n job
       → QueueIs queue ids (job ∷ []) (job.id ∷ []) → WriterIs w v writer.Idle world.Idle
-      → SlotIs slot told None false → Place claim ids v told n m p queue w slot
+      → SlotIs slot told None false → OnlyStoring claim (Some job.id)
+      → Place claim ids v told n m p queue w slot
   -- with the writer, not begun yet
   AtWriter : (job : Job) → Awaits m p job.id None → IsWaiting claim n job → QueueIs queue ids [] []
       → WriterIs w v (writer.Popped job) (world.Popped job.id) → SlotIs slot told None false
-      → Place claim ids v told n m p queue w slot
+      → OnlyStoring claim (Some job.id) → Place claim ids v told n m p queue w slot
   -- with the writer, whole under its token
   IsWhole : (id text : List ℕ) (token : Token) → Awaits m p id None
       → claim id ≡ Storing n (accepted_text text) (Whole (token_view token))
       → QueueIs queue ids [] [] → WriterIs w v (writer.Finished n id token) (world.Finished id)
-      → SlotIs slot told None false → Place claim ids v told n m p queue w slot
+      → SlotIs slot told None false → OnlyStoring claim (Some id)
+      → Place claim ids v told n m p queue w slot
   -- its outcome is with the writer
   IsSettled : (id : List ℕ) (outcome : Outcome) → Awaits m p id (Some (outcome_view outcome))
       → QueueIs queue ids [] [] → WriterIs w v (writer.Answering n outcome) (world.Answering n)
-      → SlotIs slot told None false → Place claim ids v told n m p queue w slot
+      → SlotIs slot told None false → OnlyStoring claim None
+      → Place claim ids v told n m p queue w slot
   -- its outcome is in the slot
   InSlot : (id : List ℕ) (outcome : Outcome) → Awaits m p id (Some (outcome_view outcome))
       → QueueIs queue ids [] [] → WriterIs w v writer.Idle world.Idle
-      → SlotIs slot told (Some outcome) true → Place claim ids v told n m p queue w slot
+      → SlotIs slot told (Some outcome) true → OnlyStoring claim None
+      → Place claim ids v told n m p queue w slot
 
 -- what the core has of the state whether a session is open or not
 pub record Core (w : Terms) (system : System) (x : World) : Type 0 where
@@ -115,6 +133,7 @@ pub record Unopened (w : Terms) (system : System) (x : World) : Type 0 where
   pub writer : WriterIs system.writer (x.work.writer 0) writer.Idle world.Idle
   pub slot : (s : ℕ) → SlotIs system.slot (x.work.is_told s) None false
   pub phase : system.session.phase ≡ phase.Ended
+  pub nothing : (id : List ℕ) → is_storing (x.state.claim id) ≡ false
 
 abbrev pub AgreesBy : Terms → System → World → Option ℕ → Type 0
 AgreesBy w system x None = Unopened w system x

@@ -17,3 +17,6 @@ pub use config::Config;
 pub use event::{CoreError, Event, Output};
 pub use octets::Octets;
 pub use system::{LAST_MOMENT, System};
+
+#[cfg(test)]
+mod tests;

@@ -1,4 +1,5 @@
-use Rattle.std.proofs.Common.{refl, ◌∙◌}
+use Rattle.std.proofs.Common.{None, refl, ◌∙◌}
+use Rattle.relay_core.proofs.OnlyLemmas.{only_put, offer_stores}
 use Rattle.relay_core.proofs.TurnLemmas.{moved, same_but_shard, said_as, offer_done, ready_none}
 use Rattle.relay_core.specs.Absorb.{offers_after, offer_reply}
 use Rattle.relay_core.specs.Session.{past}
@@ -17,7 +18,8 @@ returns-in-Ok c = λ w x m around plan.
       with_session (with_claim x c.args.id (after_offer c.args.self.now.session.number (x.state.claim c.args.id))) c.args.self.now.session.number
           (with_offers (in_phase (past c.args.self.now.session m) model.Ready) (offers_after (offer_view c.in-Ok.answer) m.offers c.args.id)),
       moved w c.args.self.now x m _ _ c.absorb_offer-reply.new.self _ around c.requires.fits plan.4.empty (c.in-Ok.ensures.claims x.state.claim around.core.claims)
-          c.absorb_offer-reply.ensures.number (ready_none w c.absorb_offer-reply.new.self (with_offers (past c.args.self.now.session m) (offers_after (offer_view c.in-Ok.answer) m.offers c.args.id)) stands) stands,
+          c.absorb_offer-reply.ensures.number (ready_none w c.absorb_offer-reply.new.self (with_offers (past c.args.self.now.session m) (offers_after (offer_view c.in-Ok.answer) m.offers c.args.id)) stands) stands
+          (only_put x.state.claim None c.args.id (after_offer c.args.self.now.session.number (x.state.claim c.args.id)) (offer_stores c.args.self.now.session.number (x.state.claim c.args.id))),
       said_as (with_claim x c.args.id (after_offer c.args.self.now.session.number (x.state.claim c.args.id))) c.args.self.now.session.number _ (offer_reply (offer_view c.in-Ok.answer) c.args.id) _ _
           (c.new.ensures ∙ c.absorb_offer-reply.ensures.reply)
           (offer_done w x c.args.self.now.session.number c.args.now m (in_phase (past c.args.self.now.session m) model.Ready) c.args.id (offer_view c.in-Ok.answer) _ plan.1 answer),

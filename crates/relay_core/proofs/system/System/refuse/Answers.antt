@@ -1,4 +1,5 @@
-use Rattle.std.proofs.Common.{refl, ◌∙◌}
+use Rattle.std.proofs.Common.{None, refl, ◌∙◌}
+use Rattle.relay_core.proofs.OnlyLemmas.{only_put, refuse_stores}
 use Rattle.relay_core.proofs.TurnLemmas.{moved, same_but_shard, said_as, refuse_done, ready_none}
 use Rattle.relay_core.specs.Session.{arrived}
 use Rattle.news_terms.specs.Reply.{Rejected}
@@ -14,7 +15,8 @@ returns-in-Ok c = λ w x m around plan.
       with_session (with_claim x c.args.id (after_refuse c.args.self.now.session.number c.args.now (x.state.claim c.args.id))) c.args.self.now.session.number
           (in_phase (arrived c.args.self.now.session m c.args.id) model.Ready),
       moved w c.args.self.now x m _ _ c.absorb_refuse-reply.new.self _ around c.requires.fits plan.4.empty (c.in-Ok.ensures.claims x.state.claim around.core.claims)
-          c.absorb_refuse-reply.ensures.number (ready_none w c.absorb_refuse-reply.new.self (arrived c.args.self.now.session m c.args.id) stands) stands,
+          c.absorb_refuse-reply.ensures.number (ready_none w c.absorb_refuse-reply.new.self (arrived c.args.self.now.session m c.args.id) stands) stands
+          (only_put x.state.claim None c.args.id (after_refuse c.args.self.now.session.number c.args.now (x.state.claim c.args.id)) (refuse_stores c.args.self.now.session.number c.args.now (x.state.claim c.args.id))),
       said_as (with_claim x c.args.id (after_refuse c.args.self.now.session.number c.args.now (x.state.claim c.args.id))) c.args.self.now.session.number _ (Rejected c.args.id) _ _
           (c.new.ensures ∙ c.absorb_refuse-reply.ensures.reply)
           (refuse_done w x c.args.self.now.session.number c.args.now m _ c.args.id plan.1 _ plan.2),

@@ -1,4 +1,5 @@
 use Rattle.std.proofs.Common.{None, refl, sym, ◌∙◌}
+use Rattle.relay_core.proofs.OnlyLemmas.{only_put, take_stores, held_apart, had_apart}
 use Rattle.relay_core.proofs.TurnLemmas.{moved, taken_in_hand, carried_short, same_but_shard, said_as, take_done, ready_none, holds_none}
 use Rattle.news_terms.specs.Reply.{Rejected}
 use Rattle.relay_model.specs.Claims.{after_take, Held, Had, Mine}
@@ -26,7 +27,8 @@ returns-in-Ok-Held c = λ w x m around plan.
     let held = rw c.in-Ok-Held.field-0-is at (c.in-Ok-Held.ensures.answer x.state.claim around.core.claims) in (
       with_session (with_claim x c.args.id (after_take c.args.self.now.session.number (accepted_text plan.1) (x.state.claim c.args.id))) c.args.self.now.session.number (in_phase plan.2 (model.Holds c.args.id (accepted_text plan.1))),
       moved w c.args.self.now x m _ _ c.absorb_held.new.self _ around c.requires.fits plan.6.empty (c.in-Ok-Held.ensures.claims (accepted_text plan.1) x.state.claim around.core.claims)
-          c.absorb_held.ensures.number (holds_none w c.absorb_held.new.self plan.2 c.args.id (accepted_text plan.1) stands) stands,
+          c.absorb_held.ensures.number (holds_none w c.absorb_held.new.self plan.2 c.args.id (accepted_text plan.1) stands) stands
+          (only_put x.state.claim None c.args.id (after_take c.args.self.now.session.number (accepted_text plan.1) (x.state.claim c.args.id)) (take_stores c.args.self.now.session.number (accepted_text plan.1) (x.state.claim c.args.id) Held held held_apart)),
       take_done w x c.args.self.now.session.number c.args.now m plan.2 c.args.id (accepted_text plan.1) Held _ plan.3 held,
     )
 
@@ -36,7 +38,8 @@ returns-in-Ok-Seen c = λ w x m around plan.
     let had = rw c.in-Ok-Seen.field-0-is at (c.in-Ok-Seen.ensures.answer x.state.claim around.core.claims) in (
       with_session (with_claim x c.args.id (after_take c.args.self.now.session.number (accepted_text plan.1) (x.state.claim c.args.id))) c.args.self.now.session.number (in_phase plan.2 model.Ready),
       moved w c.args.self.now x m _ _ c.absorb_had-reply.new.self _ around c.requires.fits plan.6.empty (c.in-Ok-Seen.ensures.claims (accepted_text plan.1) x.state.claim around.core.claims)
-          c.absorb_had-reply.ensures.number (ready_none w c.absorb_had-reply.new.self plan.2 stands) stands,
+          c.absorb_had-reply.ensures.number (ready_none w c.absorb_had-reply.new.self plan.2 stands) stands
+          (only_put x.state.claim None c.args.id (after_take c.args.self.now.session.number (accepted_text plan.1) (x.state.claim c.args.id)) (take_stores c.args.self.now.session.number (accepted_text plan.1) (x.state.claim c.args.id) Had had had_apart)),
       said_as (with_claim x c.args.id (after_take c.args.self.now.session.number (accepted_text plan.1) (x.state.claim c.args.id))) c.args.self.now.session.number _ (Rejected c.args.id) _ _
           (c.new.ensures ∙ c.absorb_had-reply.ensures.reply)
           (take_done w x c.args.self.now.session.number c.args.now m plan.2 c.args.id (accepted_text plan.1) Had _ plan.3 had),
