@@ -48,6 +48,7 @@ pub data NextBlock : Type 0 where
   -- no block is whole so far
   Unfinished : NextBlock
 
+-- by the lines of the first block, where one is closed
 abbrev pub next_block_by : ℕ → Option (List (List ℕ) × List ℕ) → NextBlock
 next_block_by limit None = Unfinished
 next_block_by limit (Some p) =

@@ -184,11 +184,13 @@ command_with OVER after = fetch_with OverviewLine is_range after
 command_with XTAKE after = xtake_with after
 command_with XFETCH after = xfetch_with after
 
+-- by the keyword, where it is one of those that are known
 abbrev pub command_by : (Keyword → Bool) → Option Keyword → List (List ℕ) → Result Command CommandFault
 command_by known None after = Err Unknown
 command_by known (Some keyword) after =
     if known keyword then command_with keyword after else Err Unknown
 
+-- by the words: the first is the keyword
 abbrev pub command_of_words : (Keyword → Bool) → List (List ℕ) → Result Command CommandFault
 command_of_words known [] = Err Unknown
 command_of_words known (word ∷ after) = command_by known (keyword_of word) after

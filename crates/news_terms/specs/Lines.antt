@@ -33,6 +33,7 @@ pub data NextLine : Type 0 where
   -- less than a line so far
   Incomplete : NextLine
 
+-- by the first line, or else by how many octets there are
 abbrev pub next_line_by : Option (List ℕ × List ℕ) → ℕ → NextLine
 next_line_by (Some p) octets = if nat_le (length p.0 + 2) line_limit then Cut p.0 p.1 else TooLong
 next_line_by None octets = if nat_le line_limit octets then TooLong else Incomplete

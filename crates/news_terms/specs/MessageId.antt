@@ -1,4 +1,4 @@
--- Message-ids (RFC 3977 section 3.6; docs/FORMATS.md, Command lines).
+-- Message-ids (RFC 3977 section 3.6; docs/FORMATS.md, Message-ids).
 use Rattle.std.specs.Prelude.{◌≡◌, ◌≢◌, ℕ, ◌-◌, ◌≤◌, ◌==◌, nat_le, ◌&&◌, not, Bool, List, length, take, All, slice_index, Option, None, Some, if◌then◌else◌}
 use Rattle.std.specs.List.{list_all}
 

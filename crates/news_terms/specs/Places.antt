@@ -94,6 +94,7 @@ sequential_at m at None = None
 sequential_at m at (Some buffer) =
     Some (record { buffer = buffer; cycle = buffer.first_cycle + at.run / m; first = at.used })
 
+-- the place of the next article of a group that fills one buffer after the other
 abbrev pub sequential : List Buffer → List ℕ → ℕ → Option Place
 sequential buffers begun size =
     let m = length buffers in
@@ -107,6 +108,7 @@ place_by Interleave buffers begun size =
     interleaved buffers begun size (slice_get buffers (length begun % length buffers))
 place_by Sequential buffers begun size = sequential buffers begun size
 
+-- the place of the next article of a group
 abbrev pub next_place : Group → List ℕ → ℕ → Option Place
 next_place group begun size = place_by group.mode group.buffers begun size
 

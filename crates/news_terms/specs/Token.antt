@@ -1,4 +1,4 @@
--- Tokens: where a stored article lies (docs/FORMATS.md, Blocks on the device).
+-- Tokens: where a stored article lies (docs/FORMATS.md, Tokens).
 use Rattle.std.specs.Prelude.{ℕ, ◌+◌, ◌/◌, ◌%◌, ◌<◌, ◌==◌, nat_lt, ◌&&◌, Bool, List, [], ◌∷◌, ◌++◌, flat_map, ◌^◌, if◌then◌else◌}
 use Rattle.std.specs.Int.{to_be_bytes, w32}
 

@@ -11,6 +11,7 @@ pub mod StoringSteps
 pub mod Fits
 pub mod RisingFronts
 pub mod Gone
+pub mod Fetched
 pub mod Counts
 pub mod Tests
 pub mod BelowFronts

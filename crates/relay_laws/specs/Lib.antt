@@ -1,4 +1,5 @@
 pub mod Effects
 pub mod Example
 pub mod Laws
+pub mod Rules
 pub mod Sound

@@ -1,5 +1,5 @@
 -- What is known of one message-id, and what each step does to it. Each desk's method is one of these
--- (docs/PROTOCOL.md, Sessions).
+-- (docs/PROTOCOL.md, Claims).
 use Rattle.std.specs.Prelude.{ℕ, Bool, false, ◌==◌, ◌||◌, List, Option, None, Some, if◌then◌else◌}
 use Rattle.news_terms.specs.Token.{Token}
 use Rattle.relay_model.specs.Today.{takes_over}

@@ -32,6 +32,7 @@ abbrev pub text_of : Option Kept → Fetched
 text_of None = NotKnown
 text_of (Some kept) = Article kept.text
 
+-- what is whole under this token
 abbrev pub whole_under : State → Token → Fetched
 whole_under σ token = text_of (find (λ (kept : Kept). same_token kept.token token) σ.kept)
 
@@ -43,6 +44,7 @@ fetched_at σ token buffer place front =
     then NotKnown
     else (if nat_lt (place + buffer.blocks) front then Gone else whole_under σ token)
 
+-- by the buffer that the token names, if it names one
 abbrev pub fetched_in : Terms → State → Token → Option Buffer → Fetched
 fetched_in w σ token None = NotKnown
 fetched_in w σ token (Some buffer) =

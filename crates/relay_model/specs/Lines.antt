@@ -25,6 +25,7 @@ with_offer offers id = if is_open offers id then offers else offers ++ id ∷ []
 abbrev pub without_offer : List (List ℕ) → List ℕ → List (List ℕ)
 without_offer offers id = filter (λ offer. not (bytes_eq id offer)) offers
 
+-- so many offers are open as the limit allows, where there is one
 abbrev pub is_at_limit : Option ℕ → List (List ℕ) → Bool
 is_at_limit None offers = false
 is_at_limit (Some limit) offers = nat_le limit (length offers)

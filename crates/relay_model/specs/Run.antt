@@ -1,5 +1,6 @@
--- Run: what a list of events may be answered, and the world after it (docs/PROTOCOL.md, Events). Each
--- case in which a Turn or a Write says nothing is one that turn_does or Writes lists.
+-- Run: what a list of events may be answered, and the world after it (docs/PROTOCOL.md, Events
+-- and outputs). Each case in which a Turn or a Write says nothing is one that turn_does or Writes
+-- lists.
 use Rattle.std.specs.Prelude.{◌≡◌, ℕ, ◌++◌, nat_lt, nat_le, Bool, true, false, List, [], ◌∷◌, length, Option, None, Some, if◌then◌else◌}
 use Rattle.news_terms.specs.Reply.{Greeting, reply_text}
 use Rattle.relay_model.specs.Pace.{Writes}

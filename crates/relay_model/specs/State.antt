@@ -1,5 +1,5 @@
--- The state of the relay (docs/PROTOCOL.md, State): what it knows, keeps and has promised, with all
--- that it ever began, stored and gained.
+-- The state of the relay (docs/PROTOCOL.md, Claims, Sessions, Store): what it knows, keeps and has
+-- promised, with all that it ever began, stored and gained.
 use Rattle.std.specs.Prelude.{ℕ, ◌==◌, List, [], Option, None, bytes_eq, if◌then◌else◌}
 use Rattle.news_terms.specs.Token.{Token}
 use Rattle.relay_model.specs.Claims.{Accepted, Claim, Unknown}
@@ -55,6 +55,7 @@ pub record Session : Type 0 where
   pub offers : List (List ℕ)
   pub phase : Phase
 
+-- what the relay knows, keeps and has promised
 pub record State : Type 0 where
   -- what is known of each message-id
   pub claim : List ℕ → Claim

@@ -22,6 +22,7 @@ pub data Reason : Type 0 where
   -- it takes more blocks than the smallest buffer of its group has
   TooLarge : Reason
 
+-- what the relay is set up with
 pub record Terms : Type 0 where
   -- the octets of the text of a block, at most
   pub max_article : ℕ

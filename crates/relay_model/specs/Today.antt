@@ -1,5 +1,5 @@
--- The rules that stand today where the relay is to have others: this file, WriteToday and is_served of
--- news_terms are all that changes when it has them.
+-- The rules that stand today where the relay is to have others. More such rules are in Pace, in
+-- Verdict, in look_does and the unserved commands of Lines, and in is_served of news_terms.
 use Rattle.std.specs.Prelude.{ℕ, Bool, false, is_some, Option, None}
 
 -- A TAKETHIS doesn't take an offer of another session over yet: it is held.

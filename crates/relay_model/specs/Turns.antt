@@ -42,6 +42,7 @@ pushed x s job =
       };
     }
 
+-- by whether the queue has room
 abbrev pub push_by : World → ℕ → Job → Bool → Next
 push_by x s job true = record { output = Quiet; world = pushed x s job }
 push_by x s job false = rests x

@@ -1,5 +1,5 @@
 -- The state with the work in hand: what decides when an event has nothing to say (docs/PROTOCOL.md,
--- Events). The laws speak of the state alone.
+-- Quiet events). The laws speak of the state alone.
 use Rattle.std.specs.Prelude.{ℕ, Bool, false, List, [], Option, None, Some}
 use Rattle.relay_model.specs.Claims.{Claim}
 use Rattle.relay_model.specs.State.{State, Session, Phase, put_id, put_at, empty_state}
@@ -20,6 +20,7 @@ pub data Writer : Type 0 where
   -- the outcome for this session is known, and isn't put in its slot yet
   Answering : (session : ℕ) → Writer
 
+-- the work in hand: jobs, writers, answers
 pub record Work : Type 0 where
   -- the job in a session's hand, not pushed yet
   pub hand : ℕ → Option Job
@@ -31,6 +32,7 @@ pub record Work : Type 0 where
   -- how many Turns a session's fetch has had
   pub fetch_turns : ℕ → ℕ
 
+-- the state with the work in hand
 pub record World : Type 0 where
   pub state : State
   pub work : Work

@@ -86,6 +86,7 @@ phase_told id outcome (Fetches asked token) = Fetches asked token
 phase_told id outcome Leaving = Leaving
 phase_told id outcome Ended = Ended
 
+-- the same of a session that may not be there
 abbrev pub session_told : List ℕ → Outcome → Option Session → Option Session
 session_told id outcome None = None
 session_told id outcome (Some session) =
