@@ -2,10 +2,16 @@
 //! feeds hand on. It is a value of its own, so that what is queued or asked for by token can speak
 //! of places without the buffers.
 //!
-//! Two tokens are equal exactly where they agree in all five parts.
+//! Two tokens are equal exactly where they agree in all five parts. Each has one text, and nothing
+//! else is read as a token.
 #![tactic(auto)]
 
-/// Where a stored article lies and how long it is (docs/FORMATS.md, Blocks on the device).
+pub mod laws;
+mod text;
+
+pub use text::TokenError;
+
+/// Where a stored article lies and how long it is (docs/FORMATS.md, Tokens).
 #[derive(Clone, Copy, Debug, PartialEq, Eq, Hash)]
 pub struct Token {
     /// The number of its storage class.
@@ -21,31 +27,4 @@ pub struct Token {
 }
 
 #[cfg(test)]
-mod tests {
-    use super::*;
-
-    #[test]
-    fn differs_in_each_part(rt: HostRuntime) {
-        let token = Token {
-            class: 1,
-            buffer: 0,
-            cycle: 8,
-            first: 3,
-            length: 1440,
-        };
-        assert_eq!(rt; token, Token { ..token });
-        let others = [
-            Token { class: 2, ..token },
-            Token { buffer: 1, ..token },
-            Token { cycle: 9, ..token },
-            Token { first: 4, ..token },
-            Token {
-                length: 1441,
-                ..token
-            },
-        ];
-        for other in others {
-            assert_ne!(rt; token, other);
-        }
-    }
-}
+mod tests;

@@ -1,0 +1,98 @@
+ghost use Rattle.std.specs.Prelude.{◌≡◌, ◌≢◌, ◌<◌, ◌≤◌, ◌+◌, ◌-◌, ◌↔◌, length, slice_set};
+ghost use Rattle.std.specs.Prelude.{IsErr, OnErr, OnOk};
+ghost use Rattle.cyc_block.specs.Failing.{calls_left, spent, store_below};
+ghost use Rattle.cyc_block.specs.Store.{block_at, ChangesOnly};
+
+use crate::{BlockStore, DeviceFailed};
+
+/// A store whose call number k fails once; reads and writes are counted together, from 1. The call
+/// that fails does nothing else.
+#[derive(Debug, Drop)]
+pub struct FailAt<S> {
+    store: S,
+    /// The calls up to the one that fails, and that one; 0 where none is to fail any more.
+    left: u64,
+}
+
+impl<S: BlockStore> FailAt<S> {
+    /// The store with its call number k failing; with 0 none does.
+    pub fn new(store: S, k: u64) -> FailAt<S>
+        ensures store { store_below result ≡ store }
+        ensures calls { calls_left result ≡ k }
+        ensures blocks { ⟦<FailAt<S> as BlockStore>⟧.blocks result ≡ S.blocks store }
+        ensures honest { S.honest store → ⟦<FailAt<S> as BlockStore>⟧.honest result }
+    {
+        FailAt { store, left: k }
+    }
+}
+
+impl<S: BlockStore> BlockStore for FailAt<S> {
+    ghost blocks = { λ failing. S.blocks failing.store };
+
+    ghost failures = { λ failing. S.failures failing.store + spent failing };
+
+    ghost honest = { λ failing. S.honest failing.store };
+
+    fn count(&self) -> u32 {
+        self.store.count()
+    }
+
+    fn read(&mut self, k: u32, octets: &mut [u8; 512]) -> Result<(), DeviceFailed>
+        requires { k < length (S.blocks (store_below self.old)) }
+        ensures octets { S.honest (store_below self.old)
+            → OnOk result (octets.new ≡ block_at (S.blocks (store_below self.old)) k) }
+        ensures same { S.honest (store_below self.old)
+            → S.blocks (store_below self.new) ≡ S.blocks (store_below self.old) }
+        ensures honest { S.honest (store_below self.old) → S.honest (store_below self.new) }
+        ensures count { length (S.blocks (store_below self.new))
+            ≡ length (S.blocks (store_below self.old)) }
+        ensures later { S.failures (store_below self.old) + spent self.old
+            ≤ S.failures (store_below self.new) + spent self.new }
+        ensures failed { OnErr result (S.failures (store_below self.old) + spent self.old
+            < S.failures (store_below self.new) + spent self.new) }
+        // Call number k fails, and no other but by the store below.
+        ensures calls { calls_left self.new ≡ calls_left self.old - 1 }
+        ensures due { calls_left self.old ≡ 1
+            → IsErr result × (store_below self.new ≡ store_below self.old) }
+        ensures not_due { calls_left self.old ≢ 1 → OnErr result
+            (S.failures (store_below self.old) < S.failures (store_below self.new)) }
+    {
+        counted(&mut self.left)?;
+        self.store.read(k, octets)
+    }
+
+    fn write(&mut self, k: u32, octets: &[u8; 512]) -> Result<(), DeviceFailed>
+        requires { k < length (S.blocks (store_below self.old)) }
+        ensures written { S.honest (store_below self.old)
+            → OnOk result (S.blocks (store_below self.new)
+            ≡ slice_set (S.blocks (store_below self.old)) k octets.now) }
+        ensures others { S.honest (store_below self.old)
+            → ChangesOnly k (S.blocks (store_below self.old)) (S.blocks (store_below self.new)) }
+        ensures honest { S.honest (store_below self.old) → S.honest (store_below self.new) }
+        ensures count { length (S.blocks (store_below self.new))
+            ≡ length (S.blocks (store_below self.old)) }
+        ensures later { S.failures (store_below self.old) + spent self.old
+            ≤ S.failures (store_below self.new) + spent self.new }
+        ensures failed { OnErr result (S.failures (store_below self.old) + spent self.old
+            < S.failures (store_below self.new) + spent self.new) }
+        // Call number k fails, and no other but by the store below.
+        ensures calls { calls_left self.new ≡ calls_left self.old - 1 }
+        ensures due { calls_left self.old ≡ 1
+            → IsErr result × (store_below self.new ≡ store_below self.old) }
+        ensures not_due { calls_left self.old ≢ 1 → OnErr result
+            (S.failures (store_below self.old) < S.failures (store_below self.new)) }
+    {
+        counted(&mut self.left)?;
+        self.store.write(k, octets)
+    }
+}
+
+/// Counts a call, and fails it where it is the one that fails.
+fn counted(left: &mut u64) -> Result<(), DeviceFailed>
+    ensures left { left.new ≡ left.old - 1 }
+    ensures due { IsErr result ↔ (left.old ≡ 1) }
+{
+    let due = *left == 1;
+    *left = left.saturating_sub(1);
+    if due { Err(DeviceFailed) } else { Ok(()) }
+}

@@ -1,0 +1,100 @@
+ghost use Rattle.std.specs.Prelude.{◌≡◌, ◌≤◌, List, ℕ, length, IfSome, IsSomeAnd};
+ghost use Rattle.news_terms.specs.BlockImage.{Block, IsBlock, block_image as image_of, block_head};
+ghost use Rattle.cyc_block.specs.Image.{stamped};
+
+use crate::{BLOCK_OCTETS, CHUNK_OCTETS};
+
+/// The octets before a block's payload.
+const HEAD_OCTETS: usize = 32;
+
+/// What a block says of itself (docs/FORMATS.md, Blocks on the device).
+#[derive(Clone, Copy, Debug, PartialEq, Eq)]
+pub struct Stamp {
+    /// The cycle of the buffer in which the article was begun.
+    pub cycle: u32,
+    /// The article's first block in the buffer.
+    pub first: u32,
+    /// This block's index in the article, from 0.
+    pub index: u32,
+    /// The octets of the article's text.
+    pub article_length: u32,
+    /// The number of its storage class.
+    pub class: u8,
+}
+
+/// A block that was read: its stamp and the octets of the article that it holds.
+#[derive(Clone, Copy, Debug)]
+pub struct Image<'a> {
+    /// What the block says of itself.
+    pub stamp: Stamp,
+    /// The octets of the article that it holds, 1 to 480 of them.
+    pub payload: &'a [u8],
+}
+
+/// The octets of the block with this stamp that holds this payload.
+pub fn block_image(stamp: &Stamp, payload: &[u8]) -> [u8; 512]
+    requires some { 1 ≤ length payload.now }
+    requires room { length payload.now ≤ 480 }
+    ensures { result ≡ image_of (stamped stamp.now payload.now) }
+{
+    let used = payload.len();
+    let mut image = [0u8; BLOCK_OCTETS];
+    image[HEAD_OCTETS..HEAD_OCTETS + used].copy_from_slice(payload);
+    image[..HEAD_OCTETS].copy_from_slice(&head(stamp, used as u16));
+    image
+}
+
+/// Reads the octets of a block; none where they are no image of a block.
+pub fn read_image(image: &[u8; 512]) -> Option<Image<'_>>
+    ensures image { IfSome result (λ read.
+        IsBlock (stamped read.stamp read.payload.now)
+        × (image.now ≡ image_of (stamped read.stamp read.payload.now))) }
+    ensures read { (b : Block) → IsBlock b → image.now ≡ image_of b
+        → IsSomeAnd result (λ read. stamped read.stamp read.payload.now ≡ b) }
+{
+    let used = usize::from(u16::from_be_bytes([image[20], image[21]]));
+    if used < 1 || used > CHUNK_OCTETS {
+        return None;
+    }
+    let payload = &image[HEAD_OCTETS..HEAD_OCTETS + used];
+    let stamp = read_stamp(image);
+    // What the head says is an image exactly where writing it again gives the same octets.
+    if block_image(&stamp, payload) != *image {
+        return None;
+    }
+    Some(Image { stamp, payload })
+}
+
+/// The stamp that the octets of a block say.
+fn read_stamp(image: &[u8; 512]) -> Stamp
+    ensures { (b : Block) → IsBlock b → image.now ≡ image_of b → stamped result b.payload ≡ b }
+{
+    Stamp {
+        cycle: u32::from_be_bytes([image[4], image[5], image[6], image[7]]),
+        first: u32::from_be_bytes([image[8], image[9], image[10], image[11]]),
+        index: u32::from_be_bytes([image[12], image[13], image[14], image[15]]),
+        article_length: u32::from_be_bytes([image[16], image[17], image[18], image[19]]),
+        class: image[22],
+    }
+}
+
+/// The octets before the payload of a block with this stamp that holds so many octets.
+fn head(stamp: &Stamp, used: u16) -> [u8; 32]
+    ensures { (payload : List ℕ) → length payload ≡ used
+        → result ≡ block_head (stamped stamp.now payload) }
+{
+    let cycle = stamp.cycle.to_be_bytes();
+    let first = stamp.first.to_be_bytes();
+    let index = stamp.index.to_be_bytes();
+    let length = stamp.article_length.to_be_bytes();
+    let used = used.to_be_bytes();
+    let mut head = [0u8; HEAD_OCTETS];
+    head[..4].copy_from_slice(b"CNB1");
+    head[4..8].copy_from_slice(&cycle);
+    head[8..12].copy_from_slice(&first);
+    head[12..16].copy_from_slice(&index);
+    head[16..20].copy_from_slice(&length);
+    head[20..22].copy_from_slice(&used);
+    head[22] = stamp.class;
+    head
+}

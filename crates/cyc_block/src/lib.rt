@@ -1,0 +1,25 @@
+//! Block stores and the octets of a block (docs/FORMATS.md, Blocks on the device).
+//!
+//! A store is a row of blocks of 512 octets. What a read gives is what was last written there, as
+//! far as the store is honest; an error comes only where the device failed. An image reads back,
+//! and nothing else is read as an image.
+#![tactic(auto)]
+
+mod failing;
+mod image;
+mod memory;
+mod store;
+
+pub use failing::FailAt;
+pub use image::{Image, Stamp, block_image, read_image};
+pub use memory::MemoryBlocks;
+pub use store::{BlockStore, DeviceFailed};
+
+/// The octets of a block.
+pub const BLOCK_OCTETS: usize = 512;
+
+/// The octets of a text that one block holds, after the 32 octets of its head.
+pub const CHUNK_OCTETS: usize = 480;
+
+#[cfg(test)]
+mod tests;
