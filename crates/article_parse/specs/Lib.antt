@@ -1,0 +1,5 @@
+pub mod Article
+pub mod Content
+pub mod Faults
+pub mod Header
+pub mod Reads

@@ -1,0 +1,181 @@
+//! Articles, read from their text.
+ghost use Rattle.std.specs.Prelude.{◌≡◌, [], ◌∷◌, map, false, IsTrue, IfOk, IfErr};
+ghost use Rattle.std.specs.Option.{option_copied};
+ghost use Rattle.news_terms.specs.Article.{first_content, message_id, BadId, BadGroups};
+ghost use Rattle.news_terms.specs.Article as terms;
+ghost use Rattle.article_parse.specs.Reads.{IsHeader};
+ghost use Rattle.article_parse.specs.Header.{field_view};
+ghost use Rattle.article_parse.specs.Faults.{FaultGives, IsFaultOf, first_that, is_wrong};
+ghost use Rattle.article_parse.specs.Faults.{field_faults};
+ghost use Rattle.article_parse.specs.Article.{IsReadFrom, article_view, body_place, id_view};
+
+use crate::content::{trim, unfolded};
+use crate::faults::{ArtError, is_named, try_names};
+use crate::groups::are_newsgroup_names;
+use crate::header::{Field, Header, HeaderFault, read_header};
+use crate::lines::{has_empty_line, has_nul, is_paired};
+use nntp_text::{IdError, MsgId};
+use std::alloc::Global;
+
+/// An article (RFC 5536, section 2.1). It borrows its text, and keeps where each field and the body
+/// stand in it.
+#[derive(Drop)]
+pub struct Article<'a> {
+    fields: Vec<Field<'a>>,
+    body: &'a [u8],
+    body_at: usize,
+    id: MsgId,
+}
+
+impl<'a> Article<'a> {
+    /// Reads a text as an article. The body is looked through for octet 0 and line ends, and nothing
+    /// of it is copied.
+    pub fn parse(alloc: Global, text: &'a [u8]) -> Result<Article<'a>, ArtError>
+        ensures read { IfOk result (IsReadFrom text.now) }
+        ensures fault { IfErr result (IsFaultOf text.now) }
+    {
+        if has_nul(text) {
+            return Err(ArtError::Nul);
+        }
+        if !is_paired(text) {
+            return Err(ArtError::BareCrLf);
+        }
+        if !has_empty_line(text) {
+            return Err(ArtError::NoBlankLine);
+        }
+        match read_header(alloc, text) {
+            Ok(header) => with_header(alloc, text, header),
+            Err(HeaderFault::Memory) => Err(ArtError::Memory),
+            Err(HeaderFault::NoBlankLine) => Err(ArtError::NoBlankLine),
+            Err(HeaderFault::BadHeader) => Err(ArtError::BadHeader),
+        }
+    }
+
+    /// The octets after the colon of the first field of that name, without regard to ASCII case.
+    pub fn field(&self, name: &[u8]) -> Option<&'a [u8]>
+        ensures { option_copied result ≡ first_content name.now (article_view self.now).fields }
+    {
+        content_of(&self.fields, name)
+    }
+
+    /// The message-id: the Message-ID without white space at its ends (RFC 5536, section 3.1.3).
+    pub fn id(&self) -> &MsgId
+        ensures { result.now ≡ id_view self.now }
+    {
+        &self.id
+    }
+
+    /// The octets behind the empty line.
+    pub fn body(&self) -> &'a [u8]
+        ensures { result.now ≡ (article_view self.now).body }
+    {
+        self.body
+    }
+
+    /// The place in the text where the body begins.
+    pub fn body_at(&self) -> usize
+        ensures { result ≡ body_place self.now }
+    {
+        self.body_at
+    }
+}
+
+/// Reads the article whose header was read.
+fn with_header<'a>(
+    alloc: Global,
+    text: &'a [u8],
+    header: Header<'a>,
+) -> Result<Article<'a>, ArtError>
+    requires nul { terms.has_nul text.now ≡ false }
+    requires paired { IsTrue (terms.is_paired text.now) }
+    requires header { IsHeader text.now (map field_view header.fields.items) header.body_at }
+    ensures read { IfOk result (IsReadFrom text.now) }
+    ensures fault { IfErr result (IsFaultOf text.now) }
+{
+    match try_fields(alloc, &header.fields) {
+        Ok(id) => Ok(Article {
+            fields: header.fields,
+            body: &text[header.body_at..],
+            body_at: header.body_at,
+            id,
+        }),
+        Err(error) => Err(error),
+    }
+}
+
+/// Tries the faults of the fields, and gives their message-id.
+fn try_fields(alloc: Global, fields: &[Field<'_>]) -> Result<MsgId, ArtError>
+    ensures id { IfOk result (λ id. id ≡ message_id (map field_view fields.now)) }
+    ensures fault { FaultGives result
+        (first_that (is_wrong (map field_view fields.now)) field_faults) }
+{
+    match try_names(fields) {
+        Ok(()) => try_contents(alloc, fields),
+        Err(error) => Err(error),
+    }
+}
+
+/// Tries the faults of the Message-ID and of the newsgroups, and gives the message-id.
+fn try_contents(alloc: Global, fields: &[Field<'_>]) -> Result<MsgId, ArtError>
+    ensures id { IfOk result (λ id. id ≡ message_id (map field_view fields.now)) }
+    ensures fault { FaultGives result
+        (first_that (is_wrong (map field_view fields.now)) (BadId ∷ BadGroups ∷ [])) }
+{
+    match id_of(alloc, fields) {
+        Ok(id) => match try_groups(alloc, fields) {
+            Ok(()) => Ok(id),
+            Err(error) => Err(error),
+        },
+        Err(error) => Err(error),
+    }
+}
+
+/// The message-id of the fields.
+fn id_of(alloc: Global, fields: &[Field<'_>]) -> Result<MsgId, ArtError>
+    ensures id { IfOk result (λ id. id ≡ message_id (map field_view fields.now)) }
+    ensures fault { FaultGives result
+        (first_that (is_wrong (map field_view fields.now)) (BadId ∷ [])) }
+{
+    let line = unfolded(alloc, content_or_empty(fields, b"Message-ID"))?;
+    match MsgId::parse(alloc, trim(&line)) {
+        Ok(id) => Ok(id),
+        Err(IdError::Memory) => Err(ArtError::Memory),
+        Err(IdError::Length) => Err(ArtError::BadId),
+        Err(IdError::Brackets) => Err(ArtError::BadId),
+        Err(IdError::Octet) => Err(ArtError::BadId),
+    }
+}
+
+/// Tries whether the newsgroups of the fields are named as newsgroups are.
+fn try_groups(alloc: Global, fields: &[Field<'_>]) -> Result<(), ArtError>
+    ensures { FaultGives result
+        (first_that (is_wrong (map field_view fields.now)) (BadGroups ∷ [])) }
+{
+    let line = unfolded(alloc, content_or_empty(fields, b"Newsgroups"))?;
+    if are_newsgroup_names(trim(&line)) {
+        return Ok(());
+    }
+    Err(ArtError::BadGroups)
+}
+
+/// The content of the first field of a name, empty where there is none.
+fn content_or_empty<'a>(fields: &[Field<'a>], name: &[u8]) -> &'a [u8]
+    ensures { result.now ≡ terms.content_or_empty name.now (map field_view fields.now) }
+{
+    match content_of(fields, name) {
+        Some(content) => content,
+        None => b"",
+    }
+}
+
+/// The content of the first field of a name.
+fn content_of<'a>(fields: &[Field<'a>], name: &[u8]) -> Option<&'a [u8]>
+    ensures { option_copied result ≡ first_content name.now (map field_view fields.now) }
+{
+    for field in fields {
+        if is_named(field, name) {
+            return Some(field.content);
+        }
+    }
+    None
+}

@@ -1,0 +1,53 @@
+//! Lists of newsgroup names (RFC 5536, section 3.1.4).
+ghost use Rattle.std.specs.Prelude.{◌≡◌, ◌==◌, map};
+ghost use Rattle.std.specs.List.{list_all, slice_split};
+ghost use Rattle.std.specs.Str.{byte};
+ghost use Rattle.news_terms.specs.Article.{without_outer_white};
+ghost use Rattle.news_terms.specs.Article as terms;
+
+use crate::content::trim;
+
+/// Whether each piece of a text cut at commas is a newsgroup name, without white space at its ends.
+pub(crate) fn are_newsgroup_names(text: &[u8]) -> bool
+    ensures { result ≡ list_all (λ piece. terms.is_newsgroup_name (without_outer_white piece))
+        (slice_split (λ c. c == byte ",") text.now) }
+{
+    text.split(|octet| *octet == b',')
+        .all(|piece| is_trimmed_name(piece))
+}
+
+/// Whether a text, without white space at its ends, is a newsgroup name.
+fn is_trimmed_name(text: &[u8]) -> bool
+    ensures { result ≡ terms.is_newsgroup_name (without_outer_white text.now) }
+{
+    is_newsgroup_name(trim(text))
+}
+
+/// Whether a text is components joined by dots.
+fn is_newsgroup_name(text: &[u8]) -> bool
+    ensures { result ≡ terms.is_newsgroup_name text.now }
+{
+    text.split(|octet| *octet == b'.')
+        .all(|component| is_component(component))
+}
+
+/// Whether a text is one or more octets of a component.
+fn is_component(text: &[u8]) -> bool
+    ensures { result ≡ terms.is_component text.now }
+{
+    !text.is_empty() && has_component_octets(text)
+}
+
+/// Whether each octet may stand in a component.
+fn has_component_octets(text: &[u8]) -> bool
+    ensures { result ≡ list_all terms.is_component_octet text.now }
+{
+    text.iter().all(|octet| is_component_octet(*octet))
+}
+
+/// Whether the octet may stand in a component.
+fn is_component_octet(octet: u8) -> bool
+    ensures { result ≡ terms.is_component_octet octet }
+{
+    octet.is_ascii_alphanumeric() || octet == b'+' || octet == b'-' || octet == b'_'
+}

@@ -1,0 +1,168 @@
+//! The header of an article, cut into its fields.
+ghost use Rattle.std.specs.Prelude.{◌≡◌, ◌+◌, ◌<◌, ◌≤◌, ◌==◌, false, length, drop, IsTrue};
+ghost use Rattle.std.specs.Prelude.{MatchOption};
+ghost use Rattle.std.specs.List.{list_all, position_or_len};
+ghost use Rattle.std.specs.Str.{byte};
+ghost use Rattle.news_terms.specs.Article.{has_empty_line, is_paired};
+ghost use Rattle.news_terms.specs.Article as terms;
+ghost use Rattle.article_parse.specs.Header.{IsLineCut, IsWholeContent};
+ghost use Rattle.article_parse.specs.Reads.{FieldGives, HeaderGives};
+
+use crate::content::is_white;
+use crate::lines::line_end;
+use memchr::memchr;
+use std::alloc::Global;
+
+/// A field of an article: its name, and the octets after the colon up to the CRLF that ends it,
+/// folded lines included (RFC 5536, section 2.2).
+#[derive(Clone, Copy, Debug)]
+pub struct Field<'a> {
+    /// The name as it was received.
+    pub name: &'a [u8],
+    /// The octets after the colon.
+    pub content: &'a [u8],
+}
+
+/// A field at the front of a text, and its octets with the CRLF that ends it.
+#[derive(Clone, Copy)]
+pub(crate) struct FieldCut<'a> {
+    pub(crate) field: Field<'a>,
+    pub(crate) octets: usize,
+}
+
+/// The fields of a header, and where the body begins.
+#[derive(Drop)]
+pub(crate) struct Header<'a> {
+    pub(crate) fields: Vec<Field<'a>>,
+    pub(crate) body_at: usize,
+}
+
+/// Why a text has no header.
+pub(crate) enum HeaderFault {
+    /// Memory ran out.
+    Memory,
+    /// The text has no empty line.
+    NoBlankLine,
+    /// A line neither begins a field nor continues one.
+    BadHeader,
+}
+
+/// Reads the fields in front of the first empty line.
+pub(crate) fn read_header<'a>(alloc: Global, text: &'a [u8]) -> Result<Header<'a>, HeaderFault>
+    requires { IsTrue (is_paired text.now) }
+    ensures { HeaderGives text.now result }
+{
+    let mut fields = Vec::new(alloc);
+    let mut at = 0;
+    while let Some(first) = line_end(&text[at..]) {
+        if first == 0 {
+            return Ok(Header {
+                fields,
+                body_at: at + 2,
+            });
+        }
+        let cut = next_field(&text[at..], first)?;
+        if fields.push(cut.field).is_err() {
+            return Err(HeaderFault::Memory);
+        }
+        at += cut.octets;
+    }
+    Err(HeaderFault::NoBlankLine)
+}
+
+/// Reads the field at the front of a text whose first line ends at `first`.
+fn next_field(text: &[u8], first: usize) -> Result<FieldCut<'_>, HeaderFault>
+    requires paired { IsTrue (is_paired text.now) }
+    requires cut { IsLineCut text.now first }
+    requires some { 0 < first }
+    ensures { FieldGives text.now result }
+{
+    let colon = colon_place(&text[..first]);
+    if !begins_field(&text[..first], colon) {
+        return Err(HeaderFault::BadHeader);
+    }
+    let content = &text[colon + 1..];
+    let Some(end) = content_end(content, first - (colon + 1)) else {
+        return Err(HeaderFault::NoBlankLine);
+    };
+    Ok(FieldCut {
+        field: Field {
+            name: &text[..colon],
+            content: &content[..end],
+        },
+        octets: colon + 1 + end + 2,
+    })
+}
+
+/// Where a content ends whose first line ends at `first`: at the first CRLF behind which no line
+/// continues it.
+fn content_end(text: &[u8], first: usize) -> Option<usize>
+    requires { IsLineCut text.now first }
+    ensures { MatchOption result (has_empty_line (drop (first + 2) text.now) ≡ false)
+        (IsWholeContent text.now first) }
+{
+    let mut end = first;
+    while continues_field(&text[end + 2..]) {
+        let Some(line) = line_end(&text[end + 2..]) else {
+            return None;
+        };
+        end = end + 2 + line;
+    }
+    Some(end)
+}
+
+/// Whether a line with an SP or TAB at its front follows, which continues a field.
+fn continues_field(text: &[u8]) -> bool
+    ensures { result ≡ terms.continues_field text.now }
+{
+    match text.first() {
+        Some(octet) => is_white(*octet),
+        None => false,
+    }
+}
+
+/// Where the first colon stands, or the length where there is none.
+fn colon_place(line: &[u8]) -> usize
+    ensures value { result ≡ position_or_len (λ c. c == byte ":") line.now }
+    ensures within { result ≤ length line.now }
+{
+    memchr(b':', line).unwrap_or(line.len())
+}
+
+/// Whether a line begins a field whose name ends at `colon`: a name, a colon, and then the line's
+/// end, or an SP or TAB and anything (RFC 5536, section 2.2).
+fn begins_field(line: &[u8], colon: usize) -> bool
+    requires value { colon ≡ position_or_len (λ c. c == byte ":") line.now }
+    requires within { colon ≤ length line.now }
+    ensures { result ≡ terms.begins_field line.now }
+{
+    if colon == line.len() {
+        return false;
+    }
+    is_field_name(&line[..colon]) && is_set_off(&line[colon + 1..])
+}
+
+/// Whether a text is one or more octets of a name.
+fn is_field_name(text: &[u8]) -> bool
+    ensures { result ≡ terms.is_field_name text.now }
+{
+    !text.is_empty() && has_name_octets(text)
+}
+
+/// Whether each octet may stand in a name.
+fn has_name_octets(text: &[u8]) -> bool
+    ensures { result ≡ list_all terms.is_name_octet text.now }
+{
+    text.iter()
+        .all(|octet| octet.is_ascii_graphic() && *octet != b':')
+}
+
+/// Whether what follows a colon is the line's end, or begins with an SP or TAB.
+fn is_set_off(text: &[u8]) -> bool
+    ensures { result ≡ terms.is_set_off text.now }
+{
+    match text.first() {
+        Some(octet) => is_white(*octet) || *octet == b'\r',
+        None => true,
+    }
+}

@@ -1,0 +1,18 @@
+//! The grammar of articles (RFC 5536, sections 2 and 3; docs/FORMATS.md, Articles): what the content
+//! of a field says, in one line and without white space at its ends.
+#![tactic(auto)]
+
+mod article;
+mod content;
+mod faults;
+mod groups;
+mod header;
+mod lines;
+
+pub use article::Article;
+pub use content::{is_blank, trim, unfolded};
+pub use faults::{ArtError, FieldName};
+pub use header::Field;
+
+#[cfg(test)]
+mod tests;
