@@ -1,0 +1,77 @@
+//! cnrelay, the incoming side of a Netnews transit server: today it runs a drill, a script of events,
+//! over memory, and prints what the relay answers.
+//!
+//! It keeps the promise that a drill writes what its script says by the relay's definitions, and
+//! nothing else (`drill`).
+#![tactic(auto)]
+
+mod command_line;
+mod drill;
+mod fault;
+#[cfg(test)]
+mod fault_tests;
+mod line;
+mod play;
+mod print;
+mod script;
+#[cfg(test)]
+mod tests;
+mod words;
+
+use clap::error::ErrorKind;
+use command_line::read_words;
+use drill::drill;
+use fault::DrillError;
+use relay_core::Config;
+use std::io::LineWriter;
+use std::process::ExitCode;
+use std::{env, io};
+
+/// A wrong command line, or a question for help.
+const COMMAND_LINE: u8 = 1;
+
+/// Memory ran out.
+const MEMORY: u8 = 5;
+
+fn main(rt: HostRuntime) -> ExitCode {
+    let Ok(args) = env::args(&rt) else {
+        return ExitCode::from(MEMORY);
+    };
+    let mut words = Vec::new(rt.alloc());
+    for word in args {
+        if words.push(word).is_err() {
+            return ExitCode::from(MEMORY);
+        }
+    }
+    match read_words(rt.alloc(), &words) {
+        Ok(_job) => report(&rt, run(&rt)),
+        Err(error) => {
+            let _unseen = eprint!(&rt; "{error}");
+            let status = match error.kind() {
+                ErrorKind::OutOfMemory => MEMORY,
+                _ => COMMAND_LINE,
+            };
+            ExitCode::from(status)
+        }
+    }
+}
+
+/// Runs the script on standard input, with the built-in configuration.
+fn run(rt: &HostRuntime) -> Result<(), DrillError> {
+    let config = Config::k1(rt.alloc())?;
+    let Ok(mut writer) = LineWriter::new(rt.alloc(), io::writer(rt)) else {
+        return Err(DrillError::Memory);
+    };
+    drill(rt, rt.alloc(), config, &mut rt.reader(), &mut writer)
+}
+
+/// Prints why a drill failed, and picks the status.
+fn report(rt: &HostRuntime, drilled: Result<(), DrillError>) -> ExitCode {
+    match drilled {
+        Ok(()) => ExitCode::SUCCESS,
+        Err(error) => {
+            let _unseen = eprintln!(rt; "{error}");
+            ExitCode::from(error.status())
+        }
+    }
+}
