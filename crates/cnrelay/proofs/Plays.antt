@@ -6,17 +6,17 @@ use Rattle.relay_core.specs.declared.system.System.{System}
 use Rattle.relay_model.specs.Run.{Turn, is_there, is_running}
 use Rattle.relay_model.specs.Terms.{Terms}
 use Rattle.relay_model.specs.World.{World, Output}
-use Rattle.cnrelay.specs.Play.{Nothing, One, Then, TurnsOne, Stand, is_refused, sessions_after}
+use Rattle.cnrelay.specs.Play.{Act, Nothing, One, Then, TurnsOne, Stand, is_refused, sessions_after}
 use Rattle.cnrelay.specs.Progress.{Did, Underway}
 use Rattle.cnrelay.proofs.Prints.{appends_both, appends_none}
 
 -- At first all is left.
-pub begun : (w : Terms) (act : World → List ℕ → World → Type 0) (x : World) (system : System) (before : Option (List ℕ)) → Agrees w system x → Underway w act act x system before before
+pub begun : (w : Terms) (act : Act) (x : World) (system : System) (before : Option (List ℕ)) → Agrees w system x → Underway w act act x system before before
 begun w act x system before agrees =
     record { world = x; text = []; agrees = agrees; gained = appends_none before; completes = λ more x' acted. acted }
 
 -- Once the first act is done, the second is left.
-pub went_on : (w : Terms) (first rest whole : World → List ℕ → World → Type 0) (x : World) (system system' : System) (before mid after : Option (List ℕ)) → Underway w (Then first rest) whole x system before mid → ((y : World) → Agrees w system y → Did w first y system' mid after) → Underway w rest whole x system' before after
+pub went_on : (w : Terms) (first rest whole : Act) (x : World) (system system' : System) (before mid after : Option (List ℕ)) → Underway w (Then first rest) whole x system before mid → ((y : World) → Agrees w system y → Did w first y system' mid after) → Underway w rest whole x system' before after
 went_on w first rest whole x system system' before mid after so_far step =
     let did = step so_far.world so_far.agrees in
     record {
@@ -38,7 +38,7 @@ went_on w first rest whole x system system' before mid after so_far step =
     }
 
 -- With nothing left the whole is done.
-pub done : (w : Terms) (whole : World → List ℕ → World → Type 0) (x : World) (system : System) (before after : Option (List ℕ)) → Underway w Nothing whole x system before after → Did w whole x system before after
+pub done : (w : Terms) (whole : Act) (x : World) (system : System) (before after : Option (List ℕ)) → Underway w Nothing whole x system before after → Did w whole x system before after
 done w whole x system before after so_far =
     record {
       world = so_far.world;
@@ -50,7 +50,7 @@ done w whole x system before after so_far =
     }
 
 -- What serves for what was left may be left instead.
-pub left_to : (w : Terms) (left other whole : World → List ℕ → World → Type 0) (x : World) (system : System) (before after : Option (List ℕ)) → Underway w left whole x system before after → ((y : World) (text : List ℕ) (x' : World) → other y text x' → left y text x') → Underway w other whole x system before after
+pub left_to : (w : Terms) (left other whole : Act) (x : World) (system : System) (before after : Option (List ℕ)) → Underway w left whole x system before after → ((y : World) (text : List ℕ) (x' : World) → other y text x' → left y text x') → Underway w other whole x system before after
 left_to w left other whole x system before after so_far serves =
     record {
       world = so_far.world;
@@ -61,7 +61,7 @@ left_to w left other whole x system before after so_far serves =
     }
 
 -- The first act done and then the second are both done.
-pub did_both : (w : Terms) (first second : World → List ℕ → World → Type 0) (x : World) (system system' : System) (before mid after : Option (List ℕ)) → Did w first x system before mid → ((y : World) → Agrees w system y → Did w second y system' mid after) → Did w (Then first second) x system' before after
+pub did_both : (w : Terms) (first second : Act) (x : World) (system system' : System) (before mid after : Option (List ℕ)) → Did w first x system before mid → ((y : World) → Agrees w system y → Did w second y system' mid after) → Did w (Then first second) x system' before after
 did_both w first second x system system' before mid after did then =
     let next = then did.world did.agrees in
     record {
@@ -73,7 +73,7 @@ did_both w first second x system system' before mid after did then =
     }
 
 -- An act is that act and then nothing.
-pub did_last : (w : Terms) (act : World → List ℕ → World → Type 0) (x : World) (system : System) (before after : Option (List ℕ)) → Did w act x system before after → Did w (Then act Nothing) x system before after
+pub did_last : (w : Terms) (act : Act) (x : World) (system : System) (before after : Option (List ℕ)) → Did w act x system before after → Did w (Then act Nothing) x system before after
 did_last w act x system before after did =
     record {
       world = did.world;
@@ -91,7 +91,7 @@ did_last w act x system before after did =
     }
 
 -- What is done may be done as another act that it serves for.
-pub did_as : (w : Terms) (act other : World → List ℕ → World → Type 0) (x : World) (system : System) (before after : Option (List ℕ)) → Did w act x system before after → ((text : List ℕ) (x' : World) → act x text x' → other x text x') → Did w other x system before after
+pub did_as : (w : Terms) (act other : Act) (x : World) (system : System) (before after : Option (List ℕ)) → Did w act x system before after → ((text : List ℕ) (x' : World) → act x text x' → other x text x') → Did w other x system before after
 did_as w act other x system before after did serves =
     record { world = did.world; text = did.text; agrees = did.agrees; gained = did.gained; acted = serves did.text did.world did.acted }
 

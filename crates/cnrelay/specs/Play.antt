@@ -1,4 +1,4 @@
--- What running a script may print, by the steps of the relay (docs/FORMATS.md, Drill scripts). An act
+-- What running a script may print, by the steps of the relay (docs/FORMATS.md, Drill scripts). Each act
 -- leads from a world, by what it prints, to a world.
 use Rattle.std.specs.Prelude.{◌≡◌, ℕ, zero, suc, Bool, true, false, ◌++◌, List, [], ◌∷◌, length, take, drop, min, Option, None, Some, if◌then◌else◌}
 use Rattle.std.specs.Bool.{MatchBool}
@@ -7,6 +7,10 @@ use Rattle.relay_model.specs.Terms.{Terms}
 use Rattle.relay_model.specs.World.{World, Output, Quiet, Sent, Ended, Refuses}
 use Rattle.cnrelay.specs.Print.{printed}
 use Rattle.cnrelay.specs.Script.{Line, Opens, Brings, Splits, Turns, Writes, Rounds}
+
+-- what may be done: from a world, by the text that is printed, to a world
+abbrev pub Act : Type 1
+Act = World → List ℕ → World → Type 0
 
 -- nothing is done
 pub record Nothing (x : World) (text : List ℕ) (x' : World) : Type 0 where
@@ -20,7 +24,7 @@ pub record One (w : Terms) (event : Event) (x : World) (text : List ℕ) (x' : W
   pub says : text ≡ printed output
 
 -- one act is done, and then another
-pub record Then (first second : World → List ℕ → World → Type 0) (x : World) (text : List ℕ) (x' : World) : Type 0 where
+pub record Then (first second : Act) (x : World) (text : List ℕ) (x' : World) : Type 0 where
   pub mid : World
   pub before : List ℕ
   pub after : List ℕ
@@ -51,31 +55,31 @@ pieces_of None octets = pieces_in (length octets) (length octets) octets
 pieces_of (Some size) octets = pieces_in (length octets) size octets
 
 -- the pieces come, one after the other
-abbrev pub BringsEach : Terms → ℕ → List (List ℕ) → World → List ℕ → World → Type 0
+abbrev pub BringsEach : Terms → ℕ → List (List ℕ) → Act
 BringsEach w session [] = Nothing
 BringsEach w session (piece ∷ pieces) =
     Then (One w (Bytes session piece)) (BringsEach w session pieces)
 
 -- the session has its turn, where it is not closed
-abbrev pub TurnsOne : Terms → ℕ → ℕ → World → List ℕ → World → Type 0
+abbrev pub TurnsOne : Terms → ℕ → ℕ → Act
 TurnsOne w moment session x text x' =
     MatchBool (is_there is_running (x.state.session session))
     (One w (Turn session moment) x text x') (Nothing x text x')
 
 -- each of the sessions has its turn
-abbrev pub TurnsEach : Terms → ℕ → List ℕ → World → List ℕ → World → Type 0
+abbrev pub TurnsEach : Terms → ℕ → List ℕ → Act
 TurnsEach w moment [] = Nothing
 TurnsEach w moment (session ∷ sessions) =
     Then (TurnsOne w moment session) (TurnsEach w moment sessions)
 
 -- the writer of each of the groups has its turn
-abbrev pub WritesEach : Terms → ℕ → List ℕ → World → List ℕ → World → Type 0
+abbrev pub WritesEach : Terms → ℕ → List ℕ → Act
 WritesEach w moment [] = Nothing
 WritesEach w moment (group ∷ groups) =
     Then (One w (Write group moment)) (WritesEach w moment groups)
 
 -- so many rounds of the sessions and then the groups
-abbrev pub RoundsEach : Terms → ℕ → List ℕ → List ℕ → ℕ → World → List ℕ → World → Type 0
+abbrev pub RoundsEach : Terms → ℕ → List ℕ → List ℕ → ℕ → Act
 RoundsEach w moment sessions groups zero = Nothing
 RoundsEach w moment sessions groups (suc count) =
     Then (Then (TurnsEach w moment sessions) (WritesEach w moment groups))
@@ -106,7 +110,7 @@ pub record OpensOne (w : Terms) (session peer : ℕ) (stand stand' : Stand) (x :
   pub stands : stand' ≡ record stand { sessions = sessions_after stand.sessions session output }
 
 -- what a line does, from how the drill stands to how it stands after it
-abbrev pub LineDoes : Terms → List ℕ → Line → Stand → Stand → World → List ℕ → World → Type 0
+abbrev pub LineDoes : Terms → List ℕ → Line → Stand → Stand → Act
 LineDoes w groups (Opens session peer) stand stand' x text x' =
     OpensOne w session peer stand stand' x text x'
 LineDoes w groups (Brings session octets) stand stand' x text x' =
@@ -121,7 +125,7 @@ LineDoes w groups (Rounds count moment) stand stand' x text x' =
     (stand' ≡ stand) × RoundsEach w moment stand.sessions groups count x text x'
 
 -- what the lines of a script do, one after the other
-abbrev pub LinesDo : Terms → List ℕ → List Line → Stand → World → List ℕ → World → Type 0
+abbrev pub LinesDo : Terms → List ℕ → List Line → Stand → Act
 LinesDo w groups [] stand x text x' = Nothing x text x'
 LinesDo w groups (line ∷ lines) stand x text x' =
     (stand' : Stand)

@@ -35,5 +35,6 @@ fault_text BadMoment = codes "5 BadMoment"
 abbrev pub printed : Output → List ℕ
 printed Quiet = []
 printed (Sent session octets) = session_lines session octets
-printed (Ended session octets) = session_lines session octets ++ session_line session (codes "closed")
+printed (Ended session octets) =
+    session_lines session octets ++ session_line session (codes "closed")
 printed (Refuses fault) = printed_line (codes "refused " ++ fault_text fault)

@@ -7,10 +7,11 @@ use Rattle.relay_core.specs.declared.system.System.{System}
 use Rattle.relay_model.specs.Terms.{Terms}
 use Rattle.relay_model.specs.World.{World}
 use Rattle.cnrelay.specs.declared.play.Stand.{Stand}
+use Rattle.cnrelay.specs.Play.{Act}
 use Rattle.cnrelay.specs.Play as play
 
 -- The act is done: the core agrees with the world after it, and the writer gained what it prints.
-pub record Did (w : Terms) (act : World → List ℕ → World → Type 0) (x : World) (system : System) (before after : Option (List ℕ)) : Type 0 where
+pub record Did (w : Terms) (act : Act) (x : World) (system : System) (before after : Option (List ℕ)) : Type 0 where
   pub world : World
   pub text : List ℕ
   pub agrees : Agrees w system world
@@ -18,12 +19,12 @@ pub record Did (w : Terms) (act : World → List ℕ → World → Type 0) (x : 
   pub acted : act x text world
 
 -- from whatever world the core agreed with, the act is done
-abbrev pub Plays : (Terms → World → List ℕ → World → Type 0) → System → System → Option (List ℕ) → Option (List ℕ) → Type 0
+abbrev pub Plays : (Terms → Act) → System → System → Option (List ℕ) → Option (List ℕ) → Type 0
 Plays act old new before after =
     (w : Terms) (x : World) → Agrees w old x → Did w (act w) x new before after
 
 -- What is left to be done completes the whole act.
-pub record Underway (w : Terms) (left whole : World → List ℕ → World → Type 0) (x : World) (system : System) (before after : Option (List ℕ)) : Type 0 where
+pub record Underway (w : Terms) (left whole : Act) (x : World) (system : System) (before after : Option (List ℕ)) : Type 0 where
   pub world : World
   pub text : List ℕ
   pub agrees : Agrees w system world
@@ -31,7 +32,7 @@ pub record Underway (w : Terms) (left whole : World → List ℕ → World → T
   pub completes : (more : List ℕ) (x' : World) → left world more x' → whole x (text ++ more) x'
 
 -- from whatever world the core agreed with, what is left completes the whole
-abbrev pub Completes : (left whole : Terms → World → List ℕ → World → Type 0) → System → System → Option (List ℕ) → Option (List ℕ) → Type 0
+abbrev pub Completes : (left whole : Terms → Act) → System → System → Option (List ℕ) → Option (List ℕ) → Type 0
 Completes left whole old new before after =
     (w : Terms) (x : World) → Agrees w old x → Underway w (left w) (whole w) x new before after
 

@@ -17,9 +17,9 @@ const MOST_TURNS: u64 = 1 << 40;
 /// The octets that a turn of the reader takes, at most.
 const READ_ROOM: usize = 8_192;
 
-/// Reads a whole script, and runs it on a core with this configuration, over memory. What the core is
-/// answered is written as docs/FORMATS.md, Drill scripts, says. A refused event is written, and the
-/// drill goes on.
+/// Reads a whole script, and runs it on a core with this configuration, over memory. What the core
+/// answers is written as docs/FORMATS.md, Drill scripts, says. A refused event is written, and the
+/// drill goes on. `rt` seeds the core's hasher.
 pub fn drill<R: Read, W: Write>(
     rt: &impl RandomSource,
     alloc: Global,

@@ -6,8 +6,8 @@ ghost use Rattle.cnrelay.specs.declared.fault.DrillError.TheVariants.{Memory};
 use std::alloc::{AllocError, AllocFailed};
 use thiserror::Error;
 
-/// Why a drill ended before its script did (docs/PROTOCOL.md, The call `drill`). Its text is what the
-/// program prints.
+/// Why a drill ended before its script did (docs/PROTOCOL.md, The call `drill`). Its text is what
+/// the program prints.
 #[derive(Debug, Drop, Error)]
 pub enum DrillError {
     /// Memory was refused outside an event. What was written before stands.

@@ -21,7 +21,7 @@ pub enum Line {
     Turn(u64, u64),
     /// `write`: the writer of this group has its turn at this moment.
     Write(u64, u64),
-    /// `rounds`: so many times, at this moment, each session that is not closed has its turn, then the
-    /// writer of each group.
+    /// `rounds`: so many times, at this moment, each session that is not closed has its turn, then
+    /// the writer of each group.
     Rounds(u64, u64),
 }

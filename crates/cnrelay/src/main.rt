@@ -1,5 +1,5 @@
-//! cnrelay, the incoming side of a Netnews transit server: today it runs a drill, a script of events,
-//! over memory, and prints what the relay answers.
+//! cnrelay, the incoming side of a Netnews transit server: today it runs a drill, a script of
+//! events, over memory, and prints what the relay answers.
 //!
 //! It keeps the promise that a drill writes what its script says by the relay's definitions, and
 //! nothing else (`drill`).

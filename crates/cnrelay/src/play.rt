@@ -54,7 +54,8 @@ fn play_line<W: Write>(
     writer: &mut W,
 ) -> Result<(), DrillError>
     ensures { PlayGives result (Plays
-        (λ w. LineDoes w (0 ∷ []) (line_view line.now) (stand_view stand.old) (stand_view stand.new))
+        (λ w. LineDoes w (0 ∷ []) (line_view line.now)
+        (stand_view stand.old) (stand_view stand.new))
         system.old system.new (W.contents writer.old) (W.contents writer.new)) }
 {
     match line {

@@ -1,4 +1,5 @@
-//! The words of a script's line, and the values that they stand for (docs/FORMATS.md, Drill scripts).
+//! The words of a script's line, and the values that they stand for (docs/FORMATS.md, Drill
+//! scripts).
 ghost use Rattle.std.specs.Prelude.{◌≡◌, ◌≤◌, ◌<◌, ◌∷◌, ℕ, List, length, map, string_bytes, option_map, IsTrue, IfOk};
 ghost use Rattle.std.specs.Option.{option_copied};
 ghost use Rattle.std.specs.Str.{all_ascii_digits};
@@ -34,7 +35,8 @@ pub fn one_word<'a>(rest: Option<&'a [u8]>) -> Option<&'a [u8]>
 
 /// The two words of what follows a keyword, where they are just two.
 pub fn two_words<'a>(rest: Option<&'a [u8]>) -> Option<(&'a [u8], &'a [u8])>
-    ensures { option_map (λ two. (two.0.now, two.1.now)) result ≡ two_of (parts_after 32 rest.entry) }
+    ensures { option_map (λ two. (two.0.now, two.1.now)) result
+        ≡ two_of (parts_after 32 rest.entry) }
 {
     let (first, rest) = cut(rest?, b' ');
     Some((first, one_word(rest)?))
@@ -84,7 +86,8 @@ fn value_of(digits: &[u8]) -> u64
 
 /// The octets that the word writes by pairs of hexadecimal digits, at least one.
 pub fn octets_of(alloc: Global, word: &[u8]) -> Result<Option<Vec<u8>>, AllocError>
-    ensures { IfOk result (λ octets. option_map (λ octets. octets.items) octets ≡ terms.octets_of word.now) }
+    ensures { IfOk result (λ octets.
+        option_map (λ octets. octets.items) octets ≡ terms.octets_of word.now) }
 {
     if word.is_empty() {
         return Ok(None);
