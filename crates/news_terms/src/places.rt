@@ -1,6 +1,6 @@
 //! Laws and worked examples of sizes, runs, places and fronts.
-ghost use Rattle.std.specs.Prelude.{◌≡◌, ℕ, codes, Some, None, [], ◌∷◌};
-ghost use Rattle.news_terms.specs.Places.{IsSize, size_of, extents, front_after};
+ghost use Rattle.std.specs.Prelude.{◌≡◌, ◌<◌, ℕ, codes, Some, None, [], ◌∷◌};
+ghost use Rattle.news_terms.specs.Places.{IsSize, IsLive, IsGone, size_of, extents, front_after};
 ghost use Rattle.news_terms.specs.PlaceExamples.{eight, six, one_of_eight, eight_then_six, eight_and_six};
 
 /// How many blocks texts of these lengths take.
@@ -17,6 +17,13 @@ pub fn size_examples()
 /// The size is the least number of blocks that have room.
 pub fn size_is_least()
     ensures { (octets : ℕ) → IsSize octets (size_of octets) }
+{}
+
+/// What is gone was begun, and isn't live.
+pub fn gone_is_not_live()
+    ensures begun { (blocks front place : ℕ) → IsGone blocks front place → place < front }
+    ensures apart { (blocks front place : ℕ) → IsGone blocks front place
+        → IsLive blocks front place → ⊥ }
 {}
 
 /// One buffer of eight blocks: three articles of three blocks, and the front after the last.
