@@ -126,7 +126,7 @@ struct Failing {
 
 impl Read for Failing {
     fn read(&mut self, buf: &mut [u8]) -> io::Result<usize> {
-        if self.turn == 3 {
+        if self.turn >= 3 {
             return Err(io::Error::from(ErrorKind::BrokenPipe));
         }
         self.turn += 1;
