@@ -1,3 +1,4 @@
+pub mod CommandLine
 pub mod Drill
 pub mod Fault
 pub mod Play
@@ -5,4 +6,5 @@ pub mod Print
 pub mod Progress
 pub mod Script
 pub mod Status
+pub mod Tell
 pub mod Words

@@ -1,6 +1,11 @@
 //! Reading the program's words (docs/PROTOCOL.md, Commands).
-use clap::{Arg, ArgAction, Command, Error};
-use std::alloc::Global;
+ghost use Rattle.std.specs.Prelude.{◌≡◌, false, map, string_bytes, Some, IfOk};
+ghost use Rattle.clap.specs.Words.{found_of, rows_of, rule_of, subcommand_rows_of};
+ghost use Rattle.clap.specs.declared.builder.ValueParser.{ValueParser};
+ghost use Rattle.cnrelay.specs.CommandLine.{Reads, IsAskedBy, asked, asked_by, program_words, word_given, check_words, drill_words, token_words, needed};
+
+use clap::{Arg, ArgAction, ArgMatches, Command, Error};
+use std::alloc::{AllocError, Global};
 
 /// The configurations that a drill has today.
 static CONFIGURATIONS: [&str; 1] = ["K1"];
@@ -13,33 +18,108 @@ static SCRIPTS: [&str; 1] = ["stdin"];
 pub enum Job {
     /// To run the script on standard input with the built-in configuration.
     Drill,
+    /// To read the configuration in this folder, or the built-in one, and say what it has.
+    Check(String),
+    /// To say what this text of a token stands for.
+    Token(String),
 }
 
 /// Reads the words, the program's name first. Without further words they ask for a drill.
-pub fn read_words(alloc: Global, words: &[String]) -> Result<Job, Error> {
-    command(alloc)?.try_get_matches_from(words)?;
+pub fn read_words(alloc: Global, words: &[String]) -> Result<Job, Error>
+    ensures { IfOk result (λ job. IsAskedBy (map string_bytes words.now) (asked job)) }
+{
+    let matches = command(alloc)?.try_get_matches_from(words)?;
+    Ok(job_of(alloc, &matches)?)
+}
+
+/// What the words that were matched ask for.
+fn job_of(alloc: Global, matches: &ArgMatches<'_>) -> Result<Job, AllocError>
+    ensures { IfOk result (λ job. asked job ≡ asked_by (subcommand_rows_of matches.now)) }
+{
+    match matches.subcommand() {
+        Some((name, given)) => job_named(alloc, name, given),
+        None => Ok(Job::Drill),
+    }
+}
+
+/// What the subcommand of this name asks for, with what was given for its words.
+fn job_named(alloc: Global, name: &str, given: &ArgMatches<'_>) -> Result<Job, AllocError>
+    ensures { IfOk result (λ job. asked job
+        ≡ asked_by (Some (name.now, rows_of (found_of given.now)))) }
+{
+    if name == "check" {
+        return Ok(Job::Check(word(alloc, given, "DIR")?));
+    }
+    if name == "token" {
+        return Ok(Job::Token(word(alloc, given, "TEXT")?));
+    }
     Ok(Job::Drill)
 }
 
+/// The word that was given for a name, empty where none was.
+fn word(alloc: Global, given: &ArgMatches<'_>, name: &str) -> Result<String, AllocError>
+    ensures { IfOk result (λ word. string_bytes word
+        ≡ word_given name.now (rows_of (found_of given.now))) }
+{
+    match given.get_str(name) {
+        Some(word) => String::from_str(alloc, word),
+        None => Ok(String::new(alloc)),
+    }
+}
+
 /// The words that there are.
-fn command<'a>(alloc: Global) -> Result<Command<'a>, Error> {
-    let configuration = Arg::new(alloc, "DIR")
+fn command<'a>(alloc: Global) -> Result<Command<'a>, Error>
+    ensures { IfOk result (λ command. (folders scripts : ValueParser)
+        × Reads command (program_words folders scripts)) }
+{
+    let whole = Command::new(alloc, "cnrelay").about("The incoming side of a Netnews transit server");
+    Ok(whole
+        .subcommand(check(alloc)?)?
+        .subcommand(drill(alloc)?)?
+        .subcommand(token(alloc)?)?)
+}
+
+/// `check DIR`.
+fn check<'a>(alloc: Global) -> Result<Command<'a>, Error>
+    ensures { IfOk result (λ command. Reads command check_words) }
+{
+    let folder = needed(alloc, "DIR").help("The folder of the configuration: K1 is the built-in one");
+    Ok(Command::new(alloc, "check")
+        .about("Reads a configuration and says what it has")
+        .arg(folder)?)
+}
+
+/// `drill DIR SCRIPT`.
+fn drill<'a>(alloc: Global) -> Result<Command<'a>, Error>
+    ensures { IfOk result (λ command. (folders scripts : ValueParser)
+        × Reads command (drill_words folders scripts)) }
+{
+    let configuration = needed(alloc, "DIR")
         .help("The configuration: K1 is the built-in one")
-        .required(true)
-        .action(ArgAction::Set)
         .value_parser(CONFIGURATIONS.as_slice());
-    let script = Arg::new(alloc, "SCRIPT")
+    let script = needed(alloc, "SCRIPT")
         .help("The script: stdin is standard input")
-        .required(true)
-        .action(ArgAction::Set)
         .value_parser(SCRIPTS.as_slice());
-    let drill = Command::new(alloc, "drill")
+    Ok(Command::new(alloc, "drill")
         .about("Runs a script over memory")
         .arg(configuration)?
-        .arg(script)?;
-    Ok(
-        Command::new(alloc, "cnrelay")
-            .about("The incoming side of a Netnews transit server")
-            .subcommand(drill)?,
-    )
+        .arg(script)?)
+}
+
+/// `token TEXT`.
+fn token<'a>(alloc: Global) -> Result<Command<'a>, Error>
+    ensures { IfOk result (λ command. Reads command token_words) }
+{
+    let text = needed(alloc, "TEXT").help("The text of the token");
+    Ok(Command::new(alloc, "token")
+        .about("Says what a token stands for")
+        .arg(text)?)
+}
+
+/// A word that has to be there.
+fn needed<'a>(alloc: Global, name: &'a str) -> Arg<'a>
+    ensures rule { rule_of result ≡ needed name.entry.now }
+    ensures own { result.global ≡ false }
+{
+    Arg::new(alloc, name).required(true).action(ArgAction::Set)
 }

@@ -16,16 +16,20 @@ mod print;
 mod script;
 #[cfg(test)]
 mod tests;
+mod token;
+#[cfg(test)]
+mod token_tests;
 mod words;
 
 use clap::error::ErrorKind;
-use command_line::read_words;
+use command_line::{Job, read_words};
 use drill::drill;
 use fault::DrillError;
 use relay_core::Config;
 use std::io::LineWriter;
 use std::process::ExitCode;
 use std::{env, io};
+use token::tell;
 
 /// A wrong command line, or a question for help.
 const COMMAND_LINE: u8 = 1;
@@ -44,7 +48,7 @@ fn main(rt: HostRuntime) -> ExitCode {
         }
     }
     match read_words(rt.alloc(), &words) {
-        Ok(_job) => report(&rt, run(&rt)),
+        Ok(job) => perform(&rt, &job),
         Err(error) => {
             let _unseen = eprint!(&rt; "{error}");
             let status = match error.kind() {
@@ -52,6 +56,26 @@ fn main(rt: HostRuntime) -> ExitCode {
                 _ => COMMAND_LINE,
             };
             ExitCode::from(status)
+        }
+    }
+}
+
+/// Does what the words ask for.
+fn perform(rt: &HostRuntime, job: &Job) -> ExitCode {
+    match job {
+        Job::Drill => report(rt, run(rt)),
+        Job::Check(_folder) => ExitCode::from(COMMAND_LINE),
+        Job::Token(text) => tell_token(rt, text),
+    }
+}
+
+/// Prints what the text of a token stands for.
+fn tell_token(rt: &HostRuntime, text: &str) -> ExitCode {
+    match tell(text.as_bytes(), &mut io::writer(rt)) {
+        Ok(()) => ExitCode::SUCCESS,
+        Err(fault) => {
+            let _unseen = eprintln!(rt; "{fault}");
+            ExitCode::from(fault.status())
         }
     }
 }
