@@ -47,6 +47,17 @@ fn refused_and_remembered(rt: HostRuntime) -> Result<(), Fail> {
 }
 
 #[test]
+fn offered_to_another_and_refused(rt: HostRuntime) -> Result<(), Fail> {
+    let (mut shard, id) = shard_and_id(&rt, "<f@x>")?;
+    assert_eq!(rt; shard.offer(&id, 1)?, Offer::Wanted);
+    // What session 2 sent is refused; session 1 may still send its own.
+    shard.refuse(&id, 2, NOW)?;
+    assert_eq!(rt; shard.offer(&id, 2)?, Offer::Later);
+    assert_eq!(rt; shard.take(&id, 1)?, Take::Mine);
+    Ok(())
+}
+
+#[test]
 fn stored_under_its_token(rt: HostRuntime) -> Result<(), Fail> {
     let (mut shard, id) = shard_and_id(&rt, "<a@x>")?;
     let other = MsgId::parse(rt.alloc(), b"<b@x>")?;

@@ -12,6 +12,7 @@ mod octets;
 mod session;
 mod store;
 mod system;
+mod writing;
 
 pub use config::Config;
 pub use event::{CoreError, Event, Output};
