@@ -1,7 +1,8 @@
-//! Benchmarks: how fast a stream is cut. They promise nothing and are no tests; with no words the program
-//! does nothing.
+//! Benchmarks: how fast a stream is cut and an article is read. They promise nothing and are no tests;
+//! with no words the program does nothing.
 #![tactic(auto)]
 
+mod articles;
 mod cutting;
 
 use std::process::ExitCode;
@@ -27,8 +28,12 @@ fn run(rt: &HostRuntime) -> io::Result<ExitCode> {
             cutting::measure(rt)?;
             Ok(ExitCode::SUCCESS)
         }
+        Some(word) if word.as_str() == "articles" => {
+            articles::measure(rt)?;
+            Ok(ExitCode::SUCCESS)
+        }
         Some(_) => {
-            eprintln!(rt; "relay_bench: cutting is the one benchmark that there is")?;
+            eprintln!(rt; "relay_bench: the benchmarks are cutting and articles")?;
             Ok(ExitCode::FAILURE)
         }
     }
