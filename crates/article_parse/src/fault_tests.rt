@@ -151,7 +151,7 @@ const OTHERS: &[u8] = b"Path: x\r\nFrom: a\r\nSubject: t\r\nDate: d\r\n";
 
 #[test]
 fn contents_that_are_no_id_and_no_groups(rt: HostRuntime) -> Result<(), Fail> {
-    let cases: [(&[u8], Option<ArtError>); 7] = [
+    let cases: [(&[u8], Option<ArtError>); 9] = [
         (
             b"Message-ID:\r\n <a@x>\r\nNewsgroups: comp.x ,\r\n\talt.a\r\n\r\n",
             None,
@@ -162,6 +162,14 @@ fn contents_that_are_no_id_and_no_groups(rt: HostRuntime) -> Result<(), Fail> {
         ),
         (
             b"Message-ID: a@x\r\nNewsgroups: misc.test\r\n\r\n",
+            Some(ArtError::BadId),
+        ),
+        (
+            b"Message-ID: <>\r\nNewsgroups: misc.test\r\n\r\n",
+            Some(ArtError::BadId),
+        ),
+        (
+            b"Message-ID: <a\r\n @x>\r\nNewsgroups: misc.test\r\n\r\n",
             Some(ArtError::BadId),
         ),
         (
