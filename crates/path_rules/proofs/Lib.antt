@@ -1,1 +1,2 @@
 pub mod PathCuts
+pub mod UpdateLengths

@@ -1,5 +1,5 @@
 //! The article with its Path updated by a relaying agent.
-ghost use Rattle.std.specs.Prelude.{◌≡◌, ◌↔◌, ◌++◌, ◌∷◌, List, ℕ, IsTrue, Err, IfOk, OnOk};
+ghost use Rattle.std.specs.Prelude.{◌≡◌, ◌↔◌, ◌++◌, ◌∷◌, ◌-◌, ◌^◌, min, length, List, ℕ, IsTrue, Err, IfOk, OnOk};
 ghost use Rattle.news_terms.specs.Article.{article_text, content_or_empty, field_text, name_of, space};
 ghost use Rattle.news_terms.specs.Article.{Path, IsArticleText};
 ghost use Rattle.std.specs.Str.{str_eq_ignore_ascii_case};
@@ -108,25 +108,40 @@ fn write_path(
     text.extend_from_slice(without_leading_folding(content))
 }
 
-/// The octets that the updated article has, or the most that a number can say.
-fn updated_octets(article: &Article<'_>, own: &[u8], expected: &[u8]) -> usize {
+/// The octets of the updated article, or the most that a number can say.
+fn updated_octets(article: &Article<'_>, own: &[u8], expected: &[u8]) -> usize
+    ensures { result ≡ min (length (article_text
+        (updated_article own.now expected.now (article_view article.now)))) (2 ^ 64 - 1) }
+{
     let mut octets = article.body().len().saturating_add(b"\r\n".len());
     for field in article.fields() {
-        let content = if is_path(field) {
-            path_octets(field.content, own, expected)
-        } else {
-            field.content.len()
-        };
-        octets = octets
-            .saturating_add(field.name.len())
-            .saturating_add(b":\r\n".len())
-            .saturating_add(content);
+        octets = octets.saturating_add(field_octets(field, own, expected));
     }
     octets
 }
 
+/// The octets of a field as the update has it, or the most that a number can say.
+fn field_octets(field: &Field<'_>, own: &[u8], expected: &[u8]) -> usize
+    ensures { result ≡ min (length (field_text
+        (updated_field own.now expected.now (field_view field.now)))) (2 ^ 64 - 1) }
+{
+    let content = if is_path(field) {
+        path_octets(field.content, own, expected)
+    } else {
+        field.content.len()
+    };
+    field
+        .name
+        .len()
+        .saturating_add(b":\r\n".len())
+        .saturating_add(content)
+}
+
 /// The octets of an SP and the new Path, or the most that a number can say.
-fn path_octets(content: &[u8], own: &[u8], expected: &[u8]) -> usize {
+fn path_octets(content: &[u8], own: &[u8], expected: &[u8]) -> usize
+    ensures { result ≡ min (length (space ∷ updated_content own.now expected.now content.now))
+        (2 ^ 64 - 1) }
+{
     let source = if is_from(content, expected) {
         b"!!".len()
     } else {

@@ -1,8 +1,9 @@
-//! Benchmarks: how fast a stream is cut. They promise nothing and are no tests; with no words the program
-//! does nothing.
+//! Benchmarks: how fast a stream is cut, and how fast a Path is read and updated. They promise nothing
+//! and are no tests; with no words the program does nothing.
 #![tactic(auto)]
 
 mod cutting;
+mod paths;
 
 use std::process::ExitCode;
 use std::{env, io};
@@ -27,8 +28,12 @@ fn run(rt: &HostRuntime) -> io::Result<ExitCode> {
             cutting::measure(rt)?;
             Ok(ExitCode::SUCCESS)
         }
+        Some(word) if word.as_str() == "paths" => {
+            paths::measure(rt)?;
+            Ok(ExitCode::SUCCESS)
+        }
         Some(_) => {
-            eprintln!(rt; "relay_bench: cutting is the one benchmark that there is")?;
+            eprintln!(rt; "relay_bench: the benchmarks are cutting and paths")?;
             Ok(ExitCode::FAILURE)
         }
     }
