@@ -94,6 +94,14 @@ impl<'a> Article<'a> {
         content_of(&self.fields, name)
     }
 
+    /// The fields in their order, each with its name and the octets after its colon (RFC 5536, section
+    /// 2.2).
+    pub fn fields(&self) -> &[Field<'a>]
+        ensures { map field_view result.now ≡ (article_view self.now).fields }
+    {
+        &self.fields
+    }
+
     /// The message-id: the Message-ID without white space at its ends (RFC 5536, section 3.1.3).
     pub fn id(&self) -> &MsgId
         ensures { result.now ≡ id_view self.now }
