@@ -1,6 +1,7 @@
 -- Contents of fields, as far as they are cut. No public contract cites it.
 use Rattle.std.specs.Prelude.{ℕ, ◌+◌, List, [], ◌∷◌, reverse, if◌then◌else◌}
-use Rattle.news_terms.specs.Article.{is_white, is_of_line_end, without_leading_white}
+use Rattle.news_terms.specs.Article.{Field, is_white, is_of_line_end, without_leading_white, unfolded}
+use Rattle.news_terms.specs.Article.{content_or_empty, name_of, Newsgroups}
 
 -- a text up to its last octet that is no SP or TAB
 abbrev pub without_trailing_white : List ℕ → List ℕ
@@ -11,3 +12,7 @@ abbrev pub first_kept : List ℕ → ℕ
 first_kept [] = 0
 first_kept (c ∷ rest) =
     if is_of_line_end c then 1 + first_kept rest else (if is_white c then 1 else 0)
+
+-- the content of the first Newsgroups in one line
+abbrev pub unfolded_newsgroups : List Field → List ℕ
+unfolded_newsgroups fields = unfolded (content_or_empty (name_of Newsgroups) fields)

@@ -1,4 +1,4 @@
--- How a header is cut into fields. No public contract cites it.
+-- How a header is cut into fields. Of this, public contracts cite `field_view` alone.
 use Rattle.std.specs.Prelude.{◌≡◌, ℕ, ◌+◌, ◌≤◌, ◌<◌, Bool, true, false, not, ◌||◌, ◌&&◌, List, ◌∷◌, ◌++◌}
 use Rattle.std.specs.Prelude.{length, take, drop, flat_map, IsTrue}
 use Rattle.std.specs.List.{list_all, AllByRecursion}

@@ -3,31 +3,43 @@ ghost use Rattle.std.specs.Prelude.{◌≡◌, [], ◌∷◌, map, false, IsTrue
 ghost use Rattle.std.specs.Option.{option_copied};
 ghost use Rattle.news_terms.specs.Article.{first_content, message_id, BadId, BadGroups};
 ghost use Rattle.news_terms.specs.Article as terms;
+ghost use Rattle.article_parse.specs.Content.{unfolded_newsgroups};
 ghost use Rattle.article_parse.specs.Reads.{IsHeader};
 ghost use Rattle.article_parse.specs.Header.{field_view};
 ghost use Rattle.article_parse.specs.Faults.{FaultGives, IsFaultOf, first_that, is_wrong};
 ghost use Rattle.article_parse.specs.Faults.{field_faults};
-ghost use Rattle.article_parse.specs.Article.{IsReadFrom, article_view, body_place, id_view};
 
 use crate::content::{trim, unfolded};
 use crate::faults::{ArtError, is_named, try_names};
-use crate::groups::are_newsgroup_names;
+use crate::groups::{are_newsgroup_names, names_in};
 use crate::header::{Field, Header, HeaderFault, read_header};
 use crate::lines::{has_empty_line, has_nul, is_paired};
 use nntp_text::{IdError, MsgId};
-use std::alloc::Global;
+use std::alloc::{AllocError, Global};
 
 /// An article (RFC 5536, section 2.1). It borrows its text, and keeps where each field and the body
-/// stand in it.
+/// stand in it, and a copy of its Newsgroups in one line.
 #[derive(Drop)]
 pub struct Article<'a> {
     fields: Vec<Field<'a>>,
     body: &'a [u8],
     body_at: usize,
     id: MsgId,
+    newsgroups_line: Vec<u8>,
+    ghost is_newsgroups_line: { newsgroups_line.items
+        ≡ unfolded_newsgroups (map field_view fields.items) },
+}
+
+/// What the contents of the fields say: the message-id, and the Newsgroups in one line.
+#[derive(Drop)]
+struct Contents {
+    id: MsgId,
+    newsgroups_line: Vec<u8>,
 }
 
 impl<'a> Article<'a> {
+    ghost use Rattle.article_parse.specs.Article.{IsReadFrom, article_view, body_place, id_view};
+
     /// Reads a text as an article. The body is looked through for octet 0 and line ends, and nothing
     /// of it is copied.
     pub fn parse(alloc: Global, text: &'a [u8]) -> Result<Article<'a>, ArtError>
@@ -44,10 +56,34 @@ impl<'a> Article<'a> {
             return Err(ArtError::NoBlankLine);
         }
         match read_header(alloc, text) {
-            Ok(header) => with_header(alloc, text, header),
+            Ok(header) => Article::with_header(alloc, text, header),
             Err(HeaderFault::Memory) => Err(ArtError::Memory),
             Err(HeaderFault::NoBlankLine) => Err(ArtError::NoBlankLine),
             Err(HeaderFault::BadHeader) => Err(ArtError::BadHeader),
+        }
+    }
+
+    /// Reads the article whose header was read.
+    fn with_header(
+        alloc: Global,
+        text: &'a [u8],
+        header: Header<'a>,
+    ) -> Result<Article<'a>, ArtError>
+        requires nul { terms.has_nul text.now ≡ false }
+        requires paired { IsTrue (terms.is_paired text.now) }
+        requires header { IsHeader text.now (map field_view header.fields.items) header.body_at }
+        ensures read { IfOk result (IsReadFrom text.now) }
+        ensures fault { IfErr result (IsFaultOf text.now) }
+    {
+        match try_fields(alloc, &header.fields) {
+            Ok(contents) => Ok(Article {
+                fields: header.fields,
+                body: &text[header.body_at..],
+                body_at: header.body_at,
+                id: contents.id,
+                newsgroups_line: contents.newsgroups_line,
+            }),
+            Err(error) => Err(error),
         }
     }
 
@@ -58,11 +94,27 @@ impl<'a> Article<'a> {
         content_of(&self.fields, name)
     }
 
+    /// The fields in their order, each with its name and the octets after its colon (RFC 5536, section
+    /// 2.2).
+    pub fn fields(&self) -> &[Field<'a>]
+        ensures { map field_view result.now ≡ (article_view self.now).fields }
+    {
+        &self.fields
+    }
+
     /// The message-id: the Message-ID without white space at its ends (RFC 5536, section 3.1.3).
     pub fn id(&self) -> &MsgId
         ensures { result.now ≡ id_view self.now }
     {
         &self.id
+    }
+
+    /// The newsgroups that the article is posted to, in order (RFC 5536, section 3.1.4).
+    pub fn groups(&self, alloc: Global) -> Result<Vec<&[u8]>, AllocError>
+        ensures { IfOk result (λ names. map (λ name. name.now) names.items
+            ≡ terms.newsgroups (article_view self.now).fields) }
+    {
+        names_in(alloc, trim(&self.newsgroups_line))
     }
 
     /// The octets behind the empty line.
@@ -80,32 +132,11 @@ impl<'a> Article<'a> {
     }
 }
 
-/// Reads the article whose header was read.
-fn with_header<'a>(
-    alloc: Global,
-    text: &'a [u8],
-    header: Header<'a>,
-) -> Result<Article<'a>, ArtError>
-    requires nul { terms.has_nul text.now ≡ false }
-    requires paired { IsTrue (terms.is_paired text.now) }
-    requires header { IsHeader text.now (map field_view header.fields.items) header.body_at }
-    ensures read { IfOk result (IsReadFrom text.now) }
-    ensures fault { IfErr result (IsFaultOf text.now) }
-{
-    match try_fields(alloc, &header.fields) {
-        Ok(id) => Ok(Article {
-            fields: header.fields,
-            body: &text[header.body_at..],
-            body_at: header.body_at,
-            id,
-        }),
-        Err(error) => Err(error),
-    }
-}
-
-/// Tries the faults of the fields, and gives their message-id.
-fn try_fields(alloc: Global, fields: &[Field<'_>]) -> Result<MsgId, ArtError>
-    ensures id { IfOk result (λ id. id ≡ message_id (map field_view fields.now)) }
+/// Tries the faults of the fields, and gives what their contents say.
+fn try_fields(alloc: Global, fields: &[Field<'_>]) -> Result<Contents, ArtError>
+    ensures id { IfOk result (λ contents. contents.id ≡ message_id (map field_view fields.now)) }
+    ensures newsgroups { IfOk result (λ contents. contents.newsgroups_line.items
+        ≡ unfolded_newsgroups (map field_view fields.now)) }
     ensures fault { FaultGives result
         (first_that (is_wrong (map field_view fields.now)) field_faults) }
 {
@@ -115,15 +146,20 @@ fn try_fields(alloc: Global, fields: &[Field<'_>]) -> Result<MsgId, ArtError>
     }
 }
 
-/// Tries the faults of the Message-ID and of the newsgroups, and gives the message-id.
-fn try_contents(alloc: Global, fields: &[Field<'_>]) -> Result<MsgId, ArtError>
-    ensures id { IfOk result (λ id. id ≡ message_id (map field_view fields.now)) }
+/// Tries the faults of the Message-ID and of the newsgroups, and gives what they say.
+fn try_contents(alloc: Global, fields: &[Field<'_>]) -> Result<Contents, ArtError>
+    ensures id { IfOk result (λ contents. contents.id ≡ message_id (map field_view fields.now)) }
+    ensures newsgroups { IfOk result (λ contents. contents.newsgroups_line.items
+        ≡ unfolded_newsgroups (map field_view fields.now)) }
     ensures fault { FaultGives result
         (first_that (is_wrong (map field_view fields.now)) (BadId ∷ BadGroups ∷ [])) }
 {
     match id_of(alloc, fields) {
-        Ok(id) => match try_groups(alloc, fields) {
-            Ok(()) => Ok(id),
+        Ok(id) => match newsgroups_of(alloc, fields) {
+            Ok(newsgroups_line) => Ok(Contents {
+                id,
+                newsgroups_line,
+            }),
             Err(error) => Err(error),
         },
         Err(error) => Err(error),
@@ -146,14 +182,16 @@ fn id_of(alloc: Global, fields: &[Field<'_>]) -> Result<MsgId, ArtError>
     }
 }
 
-/// Tries whether the newsgroups of the fields are named as newsgroups are.
-fn try_groups(alloc: Global, fields: &[Field<'_>]) -> Result<(), ArtError>
-    ensures { FaultGives result
+/// The Newsgroups of the fields in one line, where they are named as newsgroups are.
+fn newsgroups_of(alloc: Global, fields: &[Field<'_>]) -> Result<Vec<u8>, ArtError>
+    ensures line { IfOk result (λ line. line.items
+        ≡ unfolded_newsgroups (map field_view fields.now)) }
+    ensures fault { FaultGives result
         (first_that (is_wrong (map field_view fields.now)) (BadGroups ∷ [])) }
 {
     let line = unfolded(alloc, content_or_empty(fields, b"Newsgroups"))?;
     if are_newsgroup_names(trim(&line)) {
-        return Ok(());
+        return Ok(line);
     }
     Err(ArtError::BadGroups)
 }

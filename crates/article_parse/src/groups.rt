@@ -1,11 +1,22 @@
 //! Lists of newsgroup names (RFC 5536, section 3.1.4).
-ghost use Rattle.std.specs.Prelude.{◌≡◌, ◌==◌, map};
+ghost use Rattle.std.specs.Prelude.{◌≡◌, ◌==◌, map, IfOk};
 ghost use Rattle.std.specs.List.{list_all, slice_split};
 ghost use Rattle.std.specs.Str.{byte};
 ghost use Rattle.news_terms.specs.Article.{without_outer_white};
 ghost use Rattle.news_terms.specs.Article as terms;
 
 use crate::content::trim;
+use std::alloc::{AllocError, Global};
+
+/// The pieces of a line cut at commas, each without white space at its ends.
+pub(crate) fn names_in(alloc: Global, line: &[u8]) -> Result<Vec<&[u8]>, AllocError>
+    ensures { IfOk result (λ names. map (λ name. name.now) names.items
+        ≡ map without_outer_white (slice_split (λ c. c == byte ",") line.now)) }
+{
+    line.split(|octet| *octet == b',')
+        .map(|piece| trim(piece))
+        .collect(alloc)
+}
 
 /// Whether each piece of a text cut at commas is a newsgroup name, without white space at its ends.
 pub(crate) fn are_newsgroup_names(text: &[u8]) -> bool

@@ -15,4 +15,8 @@ pub use faults::{ArtError, FieldName};
 pub use header::Field;
 
 #[cfg(test)]
+mod damage_tests;
+#[cfg(test)]
+mod fault_tests;
+#[cfg(test)]
 mod tests;

@@ -1,6 +1,16 @@
 use super::*;
 use std::test::*;
 
+/// The article A(a, 1) of the formats.
+pub(crate) const WORKED: &[u8] = b"Path: one.example!not-for-mail\r\n\
+From: a@x.example\r\n\
+Newsgroups: misc.test\r\n\
+Subject: t\r\n\
+Message-ID: <a@x>\r\n\
+Date: Fri, 01 Jan 2021 00:00:00 +0000\r\n\
+\r\n\
+x\r\n";
+
 #[test]
 fn contents_in_one_line(rt: HostRuntime) -> Result<(), Fail> {
     let cases: [(&[u8], &[u8]); 5] = [
@@ -27,16 +37,6 @@ fn ends_without_white_space(rt: HostRuntime) -> Result<(), Fail> {
     Ok(())
 }
 
-/// The article A(a, 1) of the formats.
-const WORKED: &[u8] = b"Path: one.example!not-for-mail\r\n\
-From: a@x.example\r\n\
-Newsgroups: misc.test\r\n\
-Subject: t\r\n\
-Message-ID: <a@x>\r\n\
-Date: Fri, 01 Jan 2021 00:00:00 +0000\r\n\
-\r\n\
-x\r\n";
-
 #[test]
 fn worked_article(rt: HostRuntime) -> Result<(), Fail> {
     assert_eq!(rt; WORKED.len(), 149);
@@ -44,79 +44,85 @@ fn worked_article(rt: HostRuntime) -> Result<(), Fail> {
     assert_eq!(rt; article.id().as_bytes(), b"<a@x>".as_slice());
     assert_eq!(rt; article.body_at(), 146);
     assert_eq!(rt; article.body(), b"x\r\n".as_slice());
-    let subject = article.field(b"subject").ok_or("a subject")?;
-    assert_eq!(rt; subject, b" t".as_slice());
-    let path = article.field(b"PATH").ok_or("a path")?;
-    assert_eq!(rt; path, b" one.example!not-for-mail".as_slice());
-    assert!(rt; article.field(b"References").is_none());
+    let groups = article.groups(rt.alloc()).map_err(|_| "memory")?;
+    assert_eq!(rt; groups.as_slice(), [b"misc.test".as_slice()].as_slice());
     Ok(())
 }
 
-/// What a text of these parts gives.
-fn fault_of(rt: &HostRuntime, parts: [&[u8]; 3]) -> Result<Option<ArtError>, Fail> {
-    let mut text = Vec::new(rt.alloc());
-    for part in parts {
-        text.extend_from_slice(part).map_err(|_| "memory")?;
-    }
-    match Article::parse(rt.alloc(), &text) {
-        Ok(_) => Ok(None),
-        Err(error) => Ok(Some(error)),
+/// Whether the first field of that name has that content.
+fn has_field(article: &Article<'_>, name: &[u8], content: &[u8]) -> bool {
+    match article.field(name) {
+        Some(found) => found == content,
+        None => false,
     }
 }
 
 #[test]
-fn article_faults(rt: HostRuntime) -> Result<(), Fail> {
-    let none = b"".as_slice();
-    let front = &WORKED[..100];
-    assert_eq!(rt;
-        fault_of(&rt, [front, none, none])?,
-        Some(ArtError::NoBlankLine)
-    );
-    let line = b"Lines 1\r\n".as_slice();
-    assert_eq!(rt;
-        fault_of(&rt, [line, WORKED, none])?,
-        Some(ArtError::BadHeader)
-    );
-    let bare = b"\n".as_slice();
-    assert_eq!(rt;
-        fault_of(&rt, [WORKED, bare, none])?,
-        Some(ArtError::BareCrLf)
-    );
-    let nul = b"\0".as_slice();
-    assert_eq!(rt; fault_of(&rt, [WORKED, nul, none])?, Some(ArtError::Nul));
-    assert_eq!(rt;
-        fault_of(&rt, [line, WORKED, bare])?,
-        Some(ArtError::BareCrLf)
-    );
-    assert_eq!(rt; fault_of(&rt, [bare, WORKED, nul])?, Some(ArtError::Nul));
-    assert_eq!(rt;
-        fault_of(&rt, [line, front, none])?,
-        Some(ArtError::NoBlankLine)
-    );
-    let path = b"Path: x\r\n".as_slice();
-    let twice = ArtError::Twice(FieldName::Path);
-    assert_eq!(rt; fault_of(&rt, [path, WORKED, none])?, Some(twice));
-    let optional = b"Keywords:\r\n".as_slice();
-    assert_eq!(rt; fault_of(&rt, [optional, WORKED, none])?, None);
-    let injection = b"injection-date: \r\n".as_slice();
-    let empty = ArtError::EmptyField(FieldName::InjectionDate);
-    assert_eq!(rt; fault_of(&rt, [injection, WORKED, none])?, Some(empty));
-    let missing = ArtError::Missing(FieldName::Path);
-    assert_eq!(rt; fault_of(&rt, [&WORKED[32..], none, none])?, Some(missing));
+fn worked_fields(rt: HostRuntime) -> Result<(), Fail> {
+    let article = Article::parse(rt.alloc(), WORKED).map_err(|_| "an article")?;
+    let fields: [(&[u8], &[u8]); 8] = [
+        (b"Path", b" one.example!not-for-mail"),
+        (b"From", b" a@x.example"),
+        (b"Newsgroups", b" misc.test"),
+        (b"Subject", b" t"),
+        (b"Message-ID", b" <a@x>"),
+        (b"Date", b" Fri, 01 Jan 2021 00:00:00 +0000"),
+        (b"PATH", b" one.example!not-for-mail"),
+        (b"message-id", b" <a@x>"),
+    ];
+    for (name, content) in fields {
+        let has = has_field(&article, name, content);
+        assert!(rt; has);
+    }
+    let absent = article.field(b"References").is_none();
+    assert!(rt; absent);
+    Ok(())
+}
+
+/// An article whose fields are folded, named in any case, empty, repeated or past ASCII, as far as
+/// they may be; it has no body.
+const ODD: &[u8] = b"pATH: x\r\n\
+FROM:\r\n\ta\r\n b\r\n\
+Newsgroups: comp.lang.c++ ,\r\n\talt.a_b-c,9\r\n \r\n\
+subject: \xE4\xFF\x80\r\n\
+message-Id:\r\n <a@x>\t\r\n\
+Keywords:\r\n\
+Keywords: one\r\n\
+Lines\x7E:\t\x01\r\n\
+DATE: d\r\n\
+INJECTION-DATE: e\r\n\
+\r\n";
+
+#[test]
+fn odd_article(rt: HostRuntime) -> Result<(), Fail> {
+    let article = Article::parse(rt.alloc(), ODD).map_err(|_| "an article")?;
+    let fields: [(&[u8], &[u8]); 7] = [
+        (b"from", b"\r\n\ta\r\n b"),
+        (b"Newsgroups", b" comp.lang.c++ ,\r\n\talt.a_b-c,9\r\n "),
+        (b"Subject", b" \xE4\xFF\x80"),
+        (b"Keywords", b""),
+        (b"LINES~", b"\t\x01"),
+        (b"Injection-Date", b" e"),
+        (b"Message-ID", b"\r\n <a@x>\t"),
+    ];
+    for (name, content) in fields {
+        let has = has_field(&article, name, content);
+        assert!(rt; has);
+    }
+    let id = article.id().as_bytes();
+    assert_eq!(rt; id, b"<a@x>".as_slice());
+    let body = article.body();
+    assert_eq!(rt; body, b"".as_slice());
+    let body_at = article.body_at();
+    assert_eq!(rt; body_at, ODD.len());
     Ok(())
 }
 
 #[test]
-fn contents_that_are_no_id_and_no_groups(rt: HostRuntime) -> Result<(), Fail> {
-    let rest = b"Path: x\r\nFrom: a\r\nSubject: t\r\nDate: d\r\n".as_slice();
-    let good = b"Message-ID:\r\n <a@x>\r\nNewsgroups: comp.x ,\r\n\talt.a\r\n\r\n".as_slice();
-    assert_eq!(rt; fault_of(&rt, [rest, good, b""])?, None);
-    let id = b"Message-ID: a@x\r\nNewsgroups: misc..test\r\n\r\n".as_slice();
-    assert_eq!(rt; fault_of(&rt, [rest, id, b""])?, Some(ArtError::BadId));
-    let groups = b"Message-ID: <a@x>\r\nNewsgroups: misc..test\r\n\r\n".as_slice();
-    assert_eq!(rt;
-        fault_of(&rt, [rest, groups, b""])?,
-        Some(ArtError::BadGroups)
-    );
+fn odd_newsgroups(rt: HostRuntime) -> Result<(), Fail> {
+    let article = Article::parse(rt.alloc(), ODD).map_err(|_| "an article")?;
+    let groups = article.groups(rt.alloc()).map_err(|_| "memory")?;
+    let names: [&[u8]; 3] = [b"comp.lang.c++", b"alt.a_b-c", b"9"];
+    assert_eq!(rt; groups.as_slice(), names.as_slice());
     Ok(())
 }

@@ -3,10 +3,13 @@
 //! that a relay tells as fourteen digits (RFC 3977, section 7.1).
 #![tactic(auto)]
 
+pub mod laws;
 mod reading;
+mod stamps;
 mod window;
 
 pub use reading::seconds;
+pub use stamps::stamp;
 pub use window::{DateError, judge};
 
 #[cfg(test)]

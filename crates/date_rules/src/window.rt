@@ -1,13 +1,17 @@
 //! The window that an article's date lies in.
-ghost use Rattle.std.specs.Prelude.{◌≡◌, ◌≢◌, ◌≤◌, Some, Err};
+ghost use Rattle.std.specs.Prelude.{◌≡◌, ◌≢◌, Some, Err, IfOk};
+ghost use Rattle.news_terms.specs.Article.{content_or_empty, name_of, Date};
+ghost use Rattle.news_terms.specs.Dates as terms;
+ghost use Rattle.article_parse.specs.Article.{article_view};
 ghost use Rattle.date_rules.specs.Seconds.{second_of, JudgedAs};
 ghost use Rattle.date_rules.specs.declared.window.DateError.TheVariants.{Memory};
 
 use crate::reading::seconds;
+use article_parse::Article;
 use std::alloc::{AllocError, Global};
 
 /// The seconds of a day, by which a date may be ahead (RFC 5537, section 3.6).
-const DAY: i64 = 86_400;
+const DAY: i128 = 86_400;
 
 /// Why an article's date is refused, in the order of trial.
 #[derive(Clone, Copy, Debug, PartialEq, Eq)]
@@ -30,30 +34,58 @@ impl From<AllocError> for DateError {
     }
 }
 
-/// Whether the content of an article's date lies in the window of `cutoff` seconds before `now` and
-/// a day after it; `now` in seconds since the first of 1970, at most the last of the year 9998.
-pub fn judge(alloc: Global, content: &[u8], now: u64, cutoff: u64) -> Result<(), DateError>
-    requires now { now ≤ 253_370_764_799 }
-    requires cutoff { cutoff ≤ 4_000_000_000 }
-    ensures { JudgedAs now cutoff (second_of content.now) result }
+/// Whether the date that an article is judged by lies in the window of `cutoff` seconds before `now`
+/// and a day after it; `now` in seconds since the first of 1970 (RFC 5537, section 3.6).
+pub fn judge(alloc: Global, article: &Article<'_>, now: u64, cutoff: u64) -> Result<(), DateError>
+    ensures { JudgedAs now cutoff
+        (second_of (terms.judged_date (article_view article.now).fields)) result }
 {
-    match seconds(alloc, content)? {
+    match judged_second(alloc, article)? {
         None => Err(DateError::BadDate),
         Some(second) => in_window(second, now, cutoff),
     }
 }
 
+/// The second of the date that an article is judged by.
+fn judged_second(alloc: Global, article: &Article<'_>) -> Result<Option<i64>, AllocError>
+    ensures { IfOk result (λ second. second
+        ≡ second_of (terms.judged_date (article_view article.now).fields)) }
+{
+    seconds(alloc, judged_date(article))
+}
+
+/// The content of the date that an article is judged by: Injection-Date, or else Date (RFC 5537,
+/// section 3.6).
+fn judged_date<'a>(article: &Article<'a>) -> &'a [u8]
+    ensures { result.now ≡ terms.judged_date (article_view article.now).fields }
+{
+    match article.field(b"Injection-Date") {
+        Some(injected) => injected,
+        None => date(article),
+    }
+}
+
+/// The content of Date, empty where it isn't there.
+fn date<'a>(article: &Article<'a>) -> &'a [u8]
+    ensures { result.now ≡ content_or_empty (name_of Date) (article_view article.now).fields }
+{
+    match article.field(b"Date") {
+        Some(content) => content,
+        None => b"",
+    }
+}
+
 /// Whether a second lies in the window.
 fn in_window(second: i64, now: u64, cutoff: u64) -> Result<(), DateError>
-    requires now { now ≤ 253_370_764_799 }
-    requires cutoff { cutoff ≤ 4_000_000_000 }
     ensures judged { JudgedAs now cutoff (Some second) result }
     ensures no_memory { result ≢ Err DateError.Memory }
 {
-    if second > now as i64 + DAY {
+    let second = i128::from(second);
+    let now = i128::from(now);
+    if second > now + DAY {
         return Err(DateError::Future);
     }
-    if second < now as i64 - cutoff as i64 {
+    if second + i128::from(cutoff) < now {
         return Err(DateError::TooOld);
     }
     Ok(())

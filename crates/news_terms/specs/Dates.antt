@@ -1,5 +1,7 @@
--- Dates: what of a date's text is read, and the window that an article's date lies in.
-use Rattle.std.specs.Prelude.{ℕ, ◌+◌, ◌-◌, Bool, ◌&&◌, ◌||◌, List, ◌++◌, length, take, drop, ℤ, pos}
+-- Dates: what of a date's text is read, the window that an article's date lies in, and the digits
+-- of a moment.
+use Rattle.std.specs.Prelude.{ℕ, ◌+◌, ◌-◌, ◌/◌, ◌%◌, Bool, ◌&&◌, ◌||◌, List, [], ◌∷◌, ◌++◌, length}
+use Rattle.std.specs.Prelude.{take, drop, ℤ, pos}
 use Rattle.std.specs.Prelude.{◌+ℤ◌, Option, Some, None, unwrap_or, if◌then◌else◌, ◌==◌, nat_eq}
 use Rattle.std.specs.Prelude.{not, int_lt, codes}
 use Rattle.std.specs.List.{list_all, list_any, take_while, before_last, after_last, starts_with}
@@ -91,3 +93,26 @@ date_fault now cutoff None = Some BadDate
 date_fault now cutoff (Some second) =
     if is_future now second then Some Future
     else (if is_too_old now cutoff second then Some TooOld else None)
+
+-- a date of the calendar and a time of the clock
+pub record CivilTime : Type 0 where
+  pub year : ℕ
+  pub month : ℕ
+  pub day : ℕ
+  pub hour : ℕ
+  pub minute : ℕ
+  pub second : ℕ
+
+-- the two decimal digits of a number below 100, with leading zeros (RFC 3977, section 7.1)
+abbrev pub two_digits : ℕ → List ℕ
+two_digits n = (byte "0" + n / 10) ∷ (byte "0" + n % 10) ∷ []
+
+-- the four decimal digits of a number below 10,000, with leading zeros (RFC 3977, section 7.1)
+abbrev pub four_digits : ℕ → List ℕ
+four_digits n = two_digits (n / 100) ++ two_digits (n % 100)
+
+-- the fourteen digits: year (4), month, day, hour, minute, second (2 each) (RFC 3977, section 7.1)
+abbrev pub fourteen_digits : CivilTime → List ℕ
+fourteen_digits t =
+    four_digits t.year ++ two_digits t.month ++ two_digits t.day
+    ++ two_digits t.hour ++ two_digits t.minute ++ two_digits t.second

@@ -1,10 +1,12 @@
 //! Dates: worked examples, of which now is 1609459200, the first second of 2021.
 
 ghost use Rattle.std.specs.Prelude.{◌≡◌, ◌++◌, ◌∷◌, ◌↔◌, ◌+◌, ◌+ℤ◌, ◌≤ℤ◌, ◌<ℤ◌, ℕ, ℤ, codes};
-ghost use Rattle.std.specs.Prelude.{Some, None, pos, negsuc};
+ghost use Rattle.std.specs.Prelude.{◌<◌, Some, None, pos, negsuc};
 ghost use Rattle.news_terms.specs.Article.{worked_article};
 ghost use Rattle.news_terms.specs.Dates.{seconds_ahead, prepared_date, date_fault, judged_date};
-ghost use Rattle.news_terms.specs.Dates.{BadDate, Future, TooOld};
+ghost use Rattle.news_terms.specs.Dates.{BadDate, Future, TooOld, two_digits, four_digits};
+ghost use Rattle.news_terms.specs.Dates.{fourteen_digits};
+ghost use Rattle.news_terms.specs.Command.{number_of};
 
 /// A date has no fault from the cutoff before now to a day after it.
 pub fn window()
@@ -51,4 +53,24 @@ pub fn window_examples()
     ensures before_1970 { date_fault 0 864000 (Some (negsuc 863999)) ≡ None }
     ensures long_before_1970 { date_fault 0 864000 (Some (negsuc 864000)) ≡ Some TooOld }
     ensures unread { date_fault 1609459200 864000 None ≡ Some BadDate }
+{}
+
+/// The digits of a number stand for it.
+pub fn digits_stand_for_number()
+    ensures two { (n : ℕ) → n < 100 → number_of (two_digits n) ≡ n }
+    ensures four { (n : ℕ) → n < 10000 → number_of (four_digits n) ≡ n }
+{}
+
+/// Fourteen digits.
+pub fn digit_examples()
+    ensures zeros { two_digits 7 ≡ codes "07" }
+    ensures year { four_digits 987 ≡ codes "0987" }
+    ensures in_order { fourteen_digits (record {
+      year = 2021;
+      month = 1;
+      day = 2;
+      hour = 3;
+      minute = 4;
+      second = 59;
+    }) ≡ codes "20210102030459" }
 {}

@@ -1,8 +1,10 @@
-//! Benchmarks: how fast a stream is cut. They promise nothing and are no tests; with no words the program
-//! does nothing.
+//! Benchmarks: how fast the crates of texts, settings and store are. They promise nothing and are no
+//! tests; with no words the program does nothing.
 #![tactic(auto)]
 
+mod articles;
 mod cutting;
+mod paths;
 
 use std::process::ExitCode;
 use std::{env, io};
@@ -23,13 +25,20 @@ fn run(rt: &HostRuntime) -> io::Result<ExitCode> {
     let _program = words.next();
     match words.next() {
         None => Ok(ExitCode::SUCCESS),
-        Some(word) if word.as_str() == "cutting" => {
-            cutting::measure(rt)?;
-            Ok(ExitCode::SUCCESS)
-        }
-        Some(_) => {
-            eprintln!(rt; "relay_bench: cutting is the one benchmark that there is")?;
-            Ok(ExitCode::FAILURE)
+        Some(word) => measure(rt, word.as_str()),
+    }
+}
+
+/// Runs the benchmark of this name.
+fn measure(rt: &HostRuntime, word: &str) -> io::Result<ExitCode> {
+    match word {
+        "articles" => articles::measure(rt)?,
+        "cutting" => cutting::measure(rt)?,
+        "paths" => paths::measure(rt)?,
+        _ => {
+            eprintln!(rt; "relay_bench: the benchmarks are articles, cutting and paths")?;
+            return Ok(ExitCode::FAILURE);
         }
     }
+    Ok(ExitCode::SUCCESS)
 }

@@ -7,7 +7,7 @@ use Rattle.news_terms.specs.Article.{Field, Fault, BadGroups, is_newsgroup_name,
 use Rattle.news_terms.specs.Article.{without_outer_white, unfolded, trimmed, content_or_empty, name_of}
 use Rattle.news_terms.specs.Article.{Newsgroups}
 use Rattle.article_parse.specs.Header.{field_view}
-use Rattle.article_parse.proofs.article.try_groups.Goals as goal
+use Rattle.article_parse.proofs.article.newsgroups_of.Goals as goal
 
 -- what the test of the trimmed content says of the newsgroups
 groups_test : (fields : List Field) (text : List ℕ) (r : Bool)
@@ -26,14 +26,14 @@ groups_test fields text r e same =
 abbrev tried : Bool → Option Fault
 tried b = if not b then Some BadGroups else None
 
-pub returns-then-are_newsgroup_names : goal.returns-then-are_newsgroup_names
-returns-then-are_newsgroup_names c =
+pub returns-then-are_newsgroup_names-clause-fault : goal.returns-then-are_newsgroup_names-clause-fault
+returns-then-are_newsgroup_names-clause-fault c =
     ap tried (groups_test (map field_view c.args.fields.now) c.trim.result.now _ c.if-are_newsgroup_names.ensures
     (c.trim.ensures ∙ ap without_outer_white (c.deref.ensures.value ∙ c.in_ok-line.ensures
     ∙ ap unfolded c.content_or_empty.ensures)))
 
-pub returns : goal.returns
-returns c =
+pub returns-clause-fault : goal.returns-clause-fault
+returns-clause-fault c =
     ap tried (groups_test (map field_view c.args.fields.now) c.trim.result.now _ c.if-are_newsgroup_names.ensures
     (c.trim.ensures ∙ ap without_outer_white (c.deref.ensures.value ∙ c.in_ok-line.ensures
     ∙ ap unfolded c.content_or_empty.ensures)))

@@ -6,7 +6,7 @@ use Rattle.article_parse.specs.declared.header.Field.{Field}
 use Rattle.article_parse.specs.Header.{field_view}
 use Rattle.article_parse.specs.Faults.{ErrorGives, first_that, is_wrong, field_faults}
 use Rattle.article_parse.proofs.FirstFaults.{laid_out, fields_right, error_is_first}
-use Rattle.article_parse.proofs.article.with_header.Goals as goal
+use Rattle.article_parse.proofs.article.Article.with_header.Goals as goal
 
 pub returns-in-Ok-clause-read : goal.returns-in-Ok-clause-read
 returns-in-Ok-clause-read c =

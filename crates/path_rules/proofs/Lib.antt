@@ -1,0 +1,2 @@
+pub mod PathCuts
+pub mod UpdateLengths
