@@ -59,12 +59,12 @@ pub fn identities(alloc: Global, path: &[u8]) -> Result<Vec<Identity>, PathError
     if !is_good(path) {
         return Err(PathError::BadPath);
     }
-    let list = good_identities(alloc, path)?;
+    let list = listed_identities(alloc, path)?;
     Ok(list)
 }
 
 /// The identities of a Path, whatever its octets.
-fn good_identities(alloc: Global, path: &[u8]) -> Result<Vec<Identity>, AllocError>
+fn listed_identities(alloc: Global, path: &[u8]) -> Result<Vec<Identity>, AllocError>
     ensures { IfOk result (λ list. list.items ≡ path_identities path.now) }
 {
     let mut list = Vec::new(alloc);

@@ -1,5 +1,6 @@
 //! The article with its Path updated by a relaying agent.
-ghost use Rattle.std.specs.Prelude.{◌≡◌, ◌↔◌, ◌++◌, ◌∷◌, ◌-◌, ◌^◌, min, length, List, ℕ, IsTrue, Err, IfOk, OnOk};
+ghost use Rattle.std.specs.Prelude.{◌≡◌, ◌↔◌, ◌++◌, ◌∷◌, ◌-◌, ◌^◌, min, length, List, ℕ, IsTrue};
+ghost use Rattle.std.specs.Prelude.{Err, IfOk, OnOk};
 ghost use Rattle.news_terms.specs.Article.{article_text, content_or_empty, field_text, name_of, space};
 ghost use Rattle.news_terms.specs.Article.{Path, IsArticleText};
 ghost use Rattle.std.specs.Str.{str_eq_ignore_ascii_case};

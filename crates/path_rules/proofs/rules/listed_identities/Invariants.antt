@@ -1,6 +1,6 @@
 use Rattle.std.proofs.Common.{◌≡◌, ◌++◌, length}
 use Rattle.news_terms.specs.Path.{path_identities}
-use Rattle.path_rules.proofs.rules.good_identities.Given as goal
+use Rattle.path_rules.proofs.rules.listed_identities.Given as goal
 
 -- the identities so far and those of what is left are those of the Path
 abbrev pub invariant-loop-cut : goal.invariant-loop-cut
