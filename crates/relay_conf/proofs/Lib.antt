@@ -1,0 +1,6 @@
+pub mod CycbuffLines
+pub mod FileLines
+pub mod FirstFaults
+pub mod Numbered
+pub mod Numerals
+pub mod Parts

@@ -1,0 +1,5 @@
+pub mod Cycbuff
+pub mod Faults
+pub mod Lines
+pub mod Words
+pub mod Settings
