@@ -9,6 +9,7 @@ use Rattle.news_terms.specs.Pattern.{Marked, Item, BeginsFaulty, ExpressionFault
 use Rattle.news_terms.specs.Pattern.{item_text, mark_text, marked_text, is_marked, is_match, set_fault}
 use Rattle.news_terms.specs.Pattern as terms
 use Rattle.uwild.specs.declared.expression.WildError.{WildError}
+use Rattle.uwild.specs.declared.item.Item as own
 use Rattle.uwild.specs.declared.item.Front.{Front}
 use Rattle.uwild.specs.declared.item.Front.TheVariants as fronts
 use Rattle.uwild.specs.declared.pattern.PatternCut.{PatternCut}
@@ -27,6 +28,15 @@ HasSetFault set terms.NonAscii = set_fault set ≡ Some terms.NonAscii
 abbrev pub SetGives : List ℕ → Result (Vec ℕ) WildError → Type 0
 SetGives set (Ok copy) = (copy.items ≡ set) × IsTrue (is_set set)
 SetGives set (Err error) = IsFault (HasSetFault set) error
+
+-- the answer is the set between the brackets, or the fault at its `[` whatever follows
+abbrev pub BetweenGives : List ℕ → Result own.Item WildError → Type 0
+BetweenGives between (Ok item) =
+    (item_text (item_view item) ≡ byte "[" ∷ (between ++ byte "]" ∷ []))
+    × IsTrue (is_item (item_view item))
+BetweenGives between (Err error) =
+    IsFault (λ fault. (rest : List ℕ) → BeginsFaulty (byte "[" ∷ (between ++ byte "]" ∷ rest)) fault)
+    error
 
 -- a part of a pattern stands at the front of a text, and the rest follows it
 pub record IsItemCut (text : List ℕ) (item : Item) (rest : List ℕ) : Type 0 where

@@ -1,6 +1,7 @@
 -- The walk over a pattern and a name. No public contract cites it.
-use Rattle.std.specs.Prelude.{◌≡◌, ◌==◌, ◌+◌, ℕ, Bool, true, false, not, IsFalse, List, [], ◌∷◌, length, map}
-use Rattle.std.specs.Prelude.{Option, None, Some}
+use Rattle.std.specs.Prelude.{◌≡◌, ◌==◌, ◌||◌, ◌+◌, ◌*◌, ◌≤◌, ℕ, Bool, true, false, not, IsTrue, IsFalse}
+use Rattle.std.specs.Prelude.{List, [], ◌∷◌, ◌++◌, length, map, Option, None, Some}
+use Rattle.std.specs.List.{list_all}
 use Rattle.news_terms.specs.Pattern.{Item, Star, AnyOctet, Literal, Escaped, OneOf, NoneOf, matches, is_of_set}
 use Rattle.uwild.specs.declared.matching.Rest.{Rest}
 use Rattle.uwild.specs.declared.matching.Step.{Step}
@@ -37,7 +38,6 @@ goes r = matches (items_left r) r.name.now
 pub record IsBehindStar (at rest : Rest) : Type 0 where
   pub items : items_left at ≡ Star ∷ items_left rest
   pub name : rest.name.now ≡ at.name.now
-  pub one : length at.items.now ≡ length rest.items.now + 1
 
 -- a part that is no star took an octet, and the others are left
 pub record IsBehindOctet (at rest : Rest) : Type 0 where
@@ -47,7 +47,6 @@ pub record IsBehindOctet (at rest : Rest) : Type 0 where
   pub items : items_left at ≡ item ∷ items_left rest
   pub name : at.name.now ≡ octet ∷ rest.name.now
   pub same : goes at ≡ goes rest
-  pub one : length at.items.now ≡ length rest.items.now + 1
 
 -- the step is the one that the walk asks for
 abbrev pub StepGives : Rest → Step → Type 0
@@ -67,3 +66,43 @@ abbrev pub FurtherGives : Option Rest → Option Rest → Type 0
 FurtherGives None further = further ≡ None
 FurtherGives (Some star) None = star.name.now ≡ []
 FurtherGives (Some star) (Some rest) = IsFurther star rest
+
+-- the pattern behind a star matches where the star has one octet or more
+abbrev pub later : List Item → List ℕ → Bool
+later items [] = false
+later items (c ∷ name) = matches (Star ∷ items) name
+
+-- parts that are no stars took an octet each since the last star
+pub record IsSinceStar (star at : Rest) : Type 0 where
+  pub run : List Item
+  pub taken : List ℕ
+  pub no_star : IsTrue (list_all (λ i. not (is_star i)) run)
+  pub items : items_left star ≡ run ++ items_left at
+  pub name : star.name.now ≡ taken ++ at.name.now
+  pub long : length taken ≡ length run
+
+-- before the first star the pattern matches where what is left of it does
+pub record IsFirstWalk (pattern : List Item) (name : List ℕ) (at : Rest) : Type 0 where
+  pub same : matches pattern name ≡ goes at
+  pub parts : length (items_left at) ≤ length pattern
+  pub octets : length at.name.now ≤ length name
+
+-- behind a star it matches where what is left does, or where that star has more octets
+pub record IsStarWalk (pattern : List Item) (name : List ℕ) (star at : Rest) : Type 0 where
+  pub same : matches pattern name ≡ goes at || later (items_left star) star.name.now
+  pub since : IsSinceStar star at
+  pub parts : length (items_left star) ≤ length pattern
+  pub octets : length star.name.now ≤ length name
+
+-- the walk has not missed a match
+abbrev pub IsWalk : List Item → List ℕ → Option Rest → Rest → Type 0
+IsWalk pattern name None at = IsFirstWalk pattern name at
+IsWalk pattern name (Some star) at = IsStarWalk pattern name star at
+
+-- the steps that can be left, where a pattern has so many parts and a name so many octets
+abbrev pub steps_left : ℕ → ℕ → Option Rest → Rest → ℕ
+steps_left parts octets None at =
+    ((parts + 1) * (octets + 1) + octets) * (parts + 1) + length (items_left at)
+steps_left parts octets (Some star) at =
+    (length (items_left star) * (octets + 1) + length star.name.now) * (parts + 1)
+    + length (items_left at)

@@ -1,10 +1,10 @@
 //! Parts of patterns: how they are written, and which octets they take.
-ghost use Rattle.std.specs.Prelude.{◌≡◌, ◌∷◌, true, MatchOption};
+ghost use Rattle.std.specs.Prelude.{◌≡◌, ◌==◌, ◌∷◌, true};
+ghost use Rattle.std.specs.List.{position};
 ghost use Rattle.std.specs.Str.{byte};
 ghost use Rattle.news_terms.specs.Pattern.{has_no_bracket};
 ghost use Rattle.uwild.specs.Expression.{item_view};
-ghost use Rattle.uwild.specs.Reads.{FrontGives, SetGives};
-ghost use Rattle.uwild.specs.Sets.{IsBracketAt};
+ghost use Rattle.uwild.specs.Reads.{FrontGives, BetweenGives, SetGives};
 ghost use Rattle.uwild.specs.Walks.{takes};
 
 use crate::expression::WildError;
@@ -91,24 +91,28 @@ fn read_set(alloc: Global, text: &[u8]) -> Result<Front<'_>, WildError>
     let Some(end) = bracket_place(text) else {
         return Err(WildError::OpenSet);
     };
-    let rest = &text[end + 1..];
-    match &text[..end] {
-        [b'^', set @ ..] => {
-            let set = checked_set(alloc, set)?;
-            Ok(Front::Item(Item::NoneOf(set), rest))
-        }
-        set => {
-            let set = checked_set(alloc, set)?;
-            Ok(Front::Item(Item::OneOf(set), rest))
-        }
-    }
+    let item = set_between(alloc, &text[..end])?;
+    Ok(Front::Item(item, &text[end + 1..]))
 }
 
 /// Where the first `]` stands.
 fn bracket_place(text: &[u8]) -> Option<usize>
-    ensures { MatchOption result (has_no_bracket text.now ≡ true) (IsBracketAt text.now) }
+    ensures { result ≡ position (λ c. c == byte "]") text.now }
 {
     text.iter().position(|octet| *octet == b']')
+}
+
+/// The set, or the reverse of one, that stands between brackets.
+fn set_between(alloc: Global, between: &[u8]) -> Result<Item, WildError>
+    requires { has_no_bracket between.now ≡ true }
+    ensures { BetweenGives between.now result }
+{
+    if between.starts_with(b"^") {
+        let set = checked_set(alloc, &between[1..])?;
+        return Ok(Item::NoneOf(set));
+    }
+    let set = checked_set(alloc, between)?;
+    Ok(Item::OneOf(set))
 }
 
 /// A copy of the octets between brackets, if they have no fault.
