@@ -3,3 +3,4 @@ pub mod Faults
 pub mod Lines
 pub mod Words
 pub mod Settings
+pub mod Storage

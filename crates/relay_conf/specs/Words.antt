@@ -1,11 +1,11 @@
 -- Words of configuration files: how a text is cut, names, identities and numbers.
-use Rattle.std.specs.Prelude.{ℕ, ◌==◌, ◌&&◌, ◌||◌, not, nat_le, Bool, true, false, List, [], ◌∷◌, length, Option, None, Some, if◌then◌else◌}
+use Rattle.std.specs.Prelude.{ℕ, ◌==◌, ◌&&◌, ◌||◌, not, nat_le, filter, Bool, true, false, List, [], ◌∷◌, length, Option, None, Some, if◌then◌else◌}
 use Rattle.std.specs.List.{slice_split, list_all}
 use Rattle.std.specs.Char.{is_ascii_alphanumeric}
 use Rattle.std.specs.Str.{byte, all_ascii_digits}
 use Rattle.std.specs.Str.Parse.{digits_value}
 use Rattle.std.specs.Borrow.{Bor}
-use Rattle.news_terms.specs.Article.{is_empty}
+use Rattle.news_terms.specs.Article.{is_empty, space}
 
 -- the parts of a text between octets of this value (docs/FORMATS.md, Configuration)
 abbrev pub parts : ℕ → List ℕ → List (List ℕ)
@@ -36,6 +36,15 @@ three_of (word ∷ []) = None
 three_of (first ∷ second ∷ []) = None
 three_of (first ∷ second ∷ third ∷ []) = Some (first, second, third)
 three_of (first ∷ second ∷ third ∷ fourth ∷ more) = None
+
+-- an octet that stands between the words of relay.conf (docs/FORMATS.md, Configuration)
+abbrev pub is_space : ℕ → Bool
+is_space c = c == space
+
+-- the words of a line of relay.conf: what stands between spaces, and at either end
+-- (docs/FORMATS.md, Configuration)
+abbrev pub words : List ℕ → List (List ℕ)
+words line = filter (λ word. not (length word == 0)) (slice_split is_space line)
 
 -- an octet of a name: an ASCII letter or digit, `-`, `_` or `.` (docs/FORMATS.md, Configuration)
 abbrev pub is_name_octet : ℕ → Bool

@@ -127,3 +127,11 @@ impl<T: Drop> From<AllocFailed<T>> for Refusal {
         Refusal::Memory
     }
 }
+
+impl<T: Drop> From<AllocFailed<T>> for ConfError {
+    ghost from_gives = { λ _ e. e ≡ Memory };
+
+    fn from(_error: AllocFailed<T>) -> ConfError {
+        ConfError::Memory
+    }
+}

@@ -1,6 +1,7 @@
 //! The worked examples of docs/FORMATS.md, and each fault of each file.
-use crate::{ConfError, Fault, LineFault, Mode, read_cycbuff};
+use crate::{ConfError, Config, Fault, LineFault, Mode, read_cycbuff, read_relay, read_storage};
 use std::test::Fail;
+use uwild::Verdict;
 
 /// What reading a text answers: nothing, a fault, or that memory ran out.
 #[derive(Clone, Copy, Debug, PartialEq, Eq)]
@@ -169,4 +170,240 @@ fn cuts_of_k1(rt: HostRuntime) {
     assert_eq!(rt; whole, Answer::Settings);
     let without_name = cycbuff(&rt, b"cycbuff:A:a.buf:4\nmetacycbuff:G:");
     assert_eq!(rt; without_name, Answer::Faulty(2, Fault::NoBuffers));
+}
+
+/// How storage.conf is answered over the groups of K1.
+fn storage(rt: &HostRuntime, text: &[u8]) -> Answer {
+    match read_cycbuff(rt.alloc(), K1_CYCBUFF) {
+        Ok(buffers) => match read_storage(rt.alloc(), text, &buffers) {
+            Ok(_) => Answer::Settings,
+            Err(error) => answer_of(error),
+        },
+        Err(error) => answer_of(error),
+    }
+}
+
+/// How relay.conf is answered.
+fn relay(rt: &HostRuntime, text: &[u8]) -> Answer {
+    match read_relay(rt.alloc(), text) {
+        Ok(_) => Answer::Settings,
+        Err(error) => answer_of(error),
+    }
+}
+
+const K1_STORAGE: &[u8] = b"method cnfs {\nclass: 1\nnewsgroups: *\noptions: G\n}\n";
+
+const K1_RELAY: &[u8] =
+    b"own relay.example\npeer p1 one.example 0\npeer p2 two.example 0\nfeed p2 2 *\n";
+
+#[test]
+fn settings_of_k1(rt: HostRuntime) -> Result<(), Fail> {
+    let config = Config::k1(rt.alloc())?;
+    assert_eq!(rt; config.buffers.buffers.len(), 1);
+    assert_eq!(rt; config.methods.len(), 1);
+    assert_eq!(rt; config.methods[0].class, 1);
+    assert_eq!(rt; config.methods[0].group, 0);
+    assert_eq!(rt; config.methods[0].smallest, 0);
+    assert_eq!(rt; config.methods[0].largest, None);
+    assert_eq!(rt; config.methods[0].exactmatch, false);
+    let verdict = config.methods[0].newsgroups.judge(b"comp.x");
+    assert_eq!(rt; verdict, Verdict::Match);
+    assert_eq!(rt; config.relay.own.as_slice(), b"relay.example".as_slice());
+    assert_eq!(rt; config.relay.max_article, 1_000_000);
+    assert_eq!(rt; config.relay.cutoff, 864_000);
+    assert_eq!(rt; config.relay.remember, None);
+    assert_eq!(rt; config.relay.peers.len(), 2);
+    assert_eq!(rt; config.relay.peers[0].name.as_slice(), b"p1".as_slice());
+    assert_eq!(rt;
+        config.relay.peers[1].identity.as_slice(),
+        b"two.example".as_slice()
+    );
+    assert_eq!(rt; config.relay.peers[1].port, 0);
+    assert_eq!(rt; config.relay.feeds.len(), 1);
+    assert_eq!(rt; config.relay.feeds[0].peer, 1);
+    assert_eq!(rt; config.relay.feeds[0].ring, 2);
+    Ok(())
+}
+
+#[test]
+fn settings_of_storage(rt: HostRuntime) -> Result<(), Fail> {
+    let buffers = read_cycbuff(rt.alloc(), K2_CYCBUFF)?;
+    let text =
+        b"# c\r\n method  cnfs {\r\nclass:007 \nnewsgroups:\noptions:\tG\nsize: 5,9\nexactmatch: TRUE\n }\nmethod cnfs {\nclass: 255\noptions: G\nnewsgroups: a,!b\nsize: 7,\nexactmatch: off\n}";
+    let methods = read_storage(rt.alloc(), text, &buffers)?;
+    assert_eq!(rt; methods.len(), 2);
+    assert_eq!(rt; methods[0].class, 7);
+    assert_eq!(rt; methods[0].smallest, 5);
+    assert_eq!(rt; methods[0].largest, Some(9));
+    assert_eq!(rt; methods[0].exactmatch, true);
+    assert_eq!(rt; methods[1].class, 255);
+    assert_eq!(rt; methods[1].smallest, 7);
+    assert_eq!(rt; methods[1].largest, None);
+    assert_eq!(rt; methods[1].exactmatch, false);
+    Ok(())
+}
+
+#[test]
+fn lines_of_storage(rt: HostRuntime) {
+    let outside = storage(&rt, b"class: 1\n");
+    assert_eq!(rt; outside, Answer::Faulty(1, Fault::Syntax));
+    let end = storage(&rt, b"\n}\n");
+    assert_eq!(rt; end, Answer::Faulty(2, Fault::Syntax));
+    let name = storage(&rt, b"method c/d {\n}\n");
+    assert_eq!(rt; name, Answer::Faulty(1, Fault::Syntax));
+    let open = storage(&rt, b"method cnfs {\nclass: 1\n");
+    assert_eq!(rt; open, Answer::Faulty(0, Fault::Syntax));
+    let lacks = storage(&rt, b"method cnfs {\nclass: 1\nnewsgroups: *\n}\n");
+    assert_eq!(rt; lacks, Answer::Faulty(4, Fault::Syntax));
+    let nested = storage(&rt, b"method cnfs {\nmethod cnfs {\n}\n}\n");
+    assert_eq!(rt; nested, Answer::Faulty(2, Fault::Syntax));
+    let key = storage(&rt, b"method cnfs {\nexpires: 1\n}\n");
+    assert_eq!(rt; key, Answer::Faulty(2, Fault::UnknownKey));
+    let spaced = storage(&rt, b"method cnfs {\nclass : 1\n}\n");
+    assert_eq!(rt; spaced, Answer::Faulty(2, Fault::UnknownKey));
+    let no_colon = storage(&rt, b"method cnfs {\nclass\n}\n");
+    assert_eq!(rt; no_colon, Answer::Faulty(2, Fault::Syntax));
+    let word = storage(&rt, b"method cnfs {\nhello\n}\n");
+    assert_eq!(rt; word, Answer::Faulty(2, Fault::UnknownKey));
+    let nothing = storage(&rt, b"# nothing\n");
+    assert_eq!(rt; nothing, Answer::Settings);
+}
+
+#[test]
+fn values_of_storage(rt: HostRuntime) {
+    let empty = storage(&rt, b"method cnfs {\nclass:\n}\n");
+    assert_eq!(rt; empty, Answer::Faulty(2, Fault::Syntax));
+    let class = storage(&rt, b"method cnfs {\nclass: 256\n}\n");
+    assert_eq!(rt; class, Answer::Faulty(2, Fault::Number));
+    let pattern = storage(&rt, b"method cnfs {\nnewsgroups: [ab\n}\n");
+    assert_eq!(rt; pattern, Answer::Faulty(2, Fault::Pattern));
+    let options = storage(&rt, b"method cnfs {\noptions: a/b\n}\n");
+    assert_eq!(rt; options, Answer::Faulty(2, Fault::Syntax));
+    let commas = storage(&rt, b"method cnfs {\nsize: x,2,3\n}\n");
+    assert_eq!(rt; commas, Answer::Faulty(2, Fault::Syntax));
+    let size = storage(
+        &rt,
+        b"method cnfs {\nsize: 123456789012345678901234567890\n}\n",
+    );
+    assert_eq!(rt; size, Answer::Faulty(2, Fault::Number));
+    let no_size = storage(&rt, b"method cnfs {\nsize: ,5\n}\n");
+    assert_eq!(rt; no_size, Answer::Faulty(2, Fault::Number));
+    let exact = storage(&rt, b"method cnfs {\nexactmatch: maybe\n}\n");
+    assert_eq!(rt; exact, Answer::Faulty(2, Fault::Syntax));
+    let twice = storage(&rt, b"method cnfs {\nclass: 1\nclass: 1\n}\n");
+    assert_eq!(rt; twice, Answer::Faulty(3, Fault::Duplicate));
+    let number_first = storage(&rt, b"method cnfs {\nclass: 1\nclass: x\n}\n");
+    assert_eq!(rt; number_first, Answer::Faulty(3, Fault::Number));
+    let pattern_first = storage(&rt, b"method cnfs {\nnewsgroups: *\nnewsgroups: []\n}\n");
+    assert_eq!(rt; pattern_first, Answer::Faulty(3, Fault::Pattern));
+}
+
+#[test]
+fn late_faults_of_storage(rt: HostRuntime) {
+    let method = storage(
+        &rt,
+        b"method cnfa {\nclass: 1\nnewsgroups: *\noptions: G\n}\n",
+    );
+    assert_eq!(rt; method, Answer::Faulty(1, Fault::UnknownName));
+    let early = storage(&rt, b"method cnfa {\nclass: x\n}\n");
+    assert_eq!(rt; early, Answer::Faulty(2, Fault::Number));
+    let group = storage(
+        &rt,
+        b"method cnfs {\nclass: 1\nnewsgroups: *\noptions: H\n}\n",
+    );
+    assert_eq!(rt; group, Answer::Faulty(4, Fault::UnknownName));
+    let open = storage(&rt, b"method cnfs {\noptions: H\n");
+    assert_eq!(rt; open, Answer::Faulty(0, Fault::Syntax));
+}
+
+#[test]
+fn faults_of_relay(rt: HostRuntime) {
+    let key = relay(&rt, b"owner a b\n");
+    assert_eq!(rt; key, Answer::Faulty(1, Fault::UnknownKey));
+    let none = relay(&rt, b"cutoff 1\n");
+    assert_eq!(rt; none, Answer::Faulty(0, Fault::Syntax));
+    let dot = relay(&rt, b"own .example\n");
+    assert_eq!(rt; dot, Answer::Faulty(1, Fault::Syntax));
+    let tab = relay(&rt, b"own\ta\n");
+    assert_eq!(rt; tab, Answer::Faulty(1, Fault::UnknownKey));
+    let words = relay(&rt, b"own a b\n");
+    assert_eq!(rt; words, Answer::Faulty(1, Fault::Syntax));
+    let small = relay(&rt, b"maxart 0\n");
+    assert_eq!(rt; small, Answer::Faulty(1, Fault::Number));
+    let large = relay(&rt, b"maxart 16777217\n");
+    assert_eq!(rt; large, Answer::Faulty(1, Fault::Number));
+    let cutoff = relay(&rt, b"cutoff 4000000001\n");
+    assert_eq!(rt; cutoff, Answer::Faulty(1, Fault::Number));
+    let port = relay(&rt, b"peer a b 65536\n");
+    assert_eq!(rt; port, Answer::Faulty(1, Fault::Number));
+    let name = relay(&rt, b"peer a/ b 65536\n");
+    assert_eq!(rt; name, Answer::Faulty(1, Fault::Syntax));
+    let ring = relay(&rt, b"feed a 0 [\n");
+    assert_eq!(rt; ring, Answer::Faulty(1, Fault::Number));
+    let pattern = relay(&rt, b"feed a 1 [\n");
+    assert_eq!(rt; pattern, Answer::Faulty(1, Fault::Pattern));
+    let few = relay(&rt, b"feed a 1\n");
+    assert_eq!(rt; few, Answer::Faulty(1, Fault::Syntax));
+}
+
+#[test]
+fn doubles_of_relay(rt: HostRuntime) {
+    let own = relay(&rt, b"own a\nown a\n");
+    assert_eq!(rt; own, Answer::Faulty(2, Fault::Duplicate));
+    let maxart = relay(&rt, b"maxart 1\nmaxart 2\n");
+    assert_eq!(rt; maxart, Answer::Faulty(2, Fault::Duplicate));
+    let cutoff = relay(&rt, b"cutoff 0\ncutoff 0\n");
+    assert_eq!(rt; cutoff, Answer::Faulty(2, Fault::Duplicate));
+    let remember = relay(&rt, b"remember 0\nremember 0\n");
+    assert_eq!(rt; remember, Answer::Faulty(2, Fault::Duplicate));
+    let peer = relay(&rt, b"peer a b 1\npeer a c 2\n");
+    assert_eq!(rt; peer, Answer::Faulty(2, Fault::Duplicate));
+    let feed = relay(&rt, b"feed a 1 *\nfeed a 2 *\n");
+    assert_eq!(rt; feed, Answer::Faulty(2, Fault::Duplicate));
+    let pattern = relay(&rt, b"feed a 1 *\nfeed a 2 [\n");
+    assert_eq!(rt; pattern, Answer::Faulty(2, Fault::Pattern));
+    let unknown = relay(&rt, b"own a\nfeed a 1 *\nfeed b 2 *\npeer b b 0\n");
+    assert_eq!(rt; unknown, Answer::Faulty(2, Fault::UnknownName));
+    let whole = relay(&rt, b"feed a 1 *\n");
+    assert_eq!(rt; whole, Answer::Faulty(0, Fault::Syntax));
+    let early = relay(&rt, b"feed a 1 *\ncutoff x\n");
+    assert_eq!(rt; early, Answer::Faulty(2, Fault::Number));
+    let accepted = relay(
+        &rt,
+        b" own a \r\n# c\npeer b a 65535\npeer c a 0\nmaxart 16777216\ncutoff 0\nremember 4000000000\nfeed  b 65536 *,!x",
+    );
+    assert_eq!(rt; accepted, Answer::Settings);
+}
+
+/// Whether a file of K1 cut before this octet has a fault or is accepted, and memory is enough.
+fn storage_cut(rt: &HostRuntime, octets: usize) -> bool {
+    if octets > K1_STORAGE.len() {
+        return false;
+    }
+    !matches!(storage(rt, &K1_STORAGE[..octets]), Answer::Memory)
+}
+
+/// The same of relay.conf.
+fn relay_cut(rt: &HostRuntime, octets: usize) -> bool {
+    if octets > K1_RELAY.len() {
+        return false;
+    }
+    !matches!(relay(rt, &K1_RELAY[..octets]), Answer::Memory)
+}
+
+#[test]
+fn cuts_of_the_others(rt: HostRuntime) {
+    for octets in 0..50 {
+        let answered = storage_cut(&rt, octets);
+        assert!(rt; answered);
+    }
+    for octets in 0..75 {
+        let answered = relay_cut(&rt, octets);
+        assert!(rt; answered);
+    }
+    let half = relay(
+        &rt,
+        b"own relay.example\npeer p1 one.example 0\npeer p2 two.example",
+    );
+    assert_eq!(rt; half, Answer::Faulty(3, Fault::Syntax));
 }
