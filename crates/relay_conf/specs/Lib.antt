@@ -4,3 +4,5 @@ pub mod Lines
 pub mod Words
 pub mod Settings
 pub mod Storage
+pub mod Relay
+pub mod RelayViews

@@ -1,5 +1,8 @@
 //! relay.conf: the relay itself, its peers and their feeds (docs/FORMATS.md, Configuration).
-ghost use Rattle.std.specs.Prelude.{◌≤◌, IfOk};
+ghost use Rattle.std.specs.Prelude.{◌≡◌, ◌≤◌, IfOk};
+ghost use Rattle.relay_conf.specs.Relay as terms;
+ghost use Rattle.relay_conf.specs.RelayViews.{raw_by};
+ghost use Rattle.relay_conf.specs.Words.{words, one_of, three_of};
 
 use crate::faults::{ConfError, Fault, LineFault, Refusal};
 use crate::lines::{is_skipped, lines_of, trim};
@@ -274,7 +277,9 @@ enum Line<'a> {
 }
 
 /// Reads a line alone, but for the expression of a feed.
-fn relay_line(line: &[u8]) -> Result<Line<'_>, Fault> {
+fn relay_line(line: &[u8]) -> Result<Line<'_>, Fault>
+    ensures { raw_by result ≡ terms.relay_line line.now }
+{
     let line = trim(line);
     if is_skipped(line) {
         return Ok(Line::Skipped);
@@ -300,7 +305,9 @@ fn relay_line(line: &[u8]) -> Result<Line<'_>, Fault> {
 }
 
 /// Reads what follows `own`.
-fn own_line(rest: &[u8]) -> Result<Line<'_>, Fault> {
+fn own_line(rest: &[u8]) -> Result<Line<'_>, Fault>
+    ensures { raw_by result ≡ terms.own_line (one_of (words rest.now)) }
+{
     match one_word(rest) {
         Some(identity) if is_identity(identity) => Ok(Line::Own(identity)),
         _ => Err(Fault::Syntax),
@@ -309,7 +316,8 @@ fn own_line(rest: &[u8]) -> Result<Line<'_>, Fault> {
 
 /// Reads the one number of a line, in this range.
 fn number_line(least: u64, most: u64, rest: &[u8]) -> Result<u64, Fault>
-    ensures { IfOk result (λ number. number ≤ most) }
+    ensures number { result ≡ terms.number_line least most (one_of (words rest.now)) }
+    ensures within { IfOk result (λ number. number ≤ most) }
 {
     let Some(word) = one_word(rest) else {
         return Err(Fault::Syntax);
@@ -321,7 +329,9 @@ fn number_line(least: u64, most: u64, rest: &[u8]) -> Result<u64, Fault>
 }
 
 /// Reads what follows `peer`.
-fn peer_line(rest: &[u8]) -> Result<Line<'_>, Fault> {
+fn peer_line(rest: &[u8]) -> Result<Line<'_>, Fault>
+    ensures { raw_by result ≡ terms.peer_line (three_of (words rest.now)) }
+{
     let Some((name, identity, port)) = three_words(rest) else {
         return Err(Fault::Syntax);
     };
@@ -335,7 +345,9 @@ fn peer_line(rest: &[u8]) -> Result<Line<'_>, Fault> {
 }
 
 /// Reads what follows `feed`, but for the expression.
-fn feed_line(rest: &[u8]) -> Result<Line<'_>, Fault> {
+fn feed_line(rest: &[u8]) -> Result<Line<'_>, Fault>
+    ensures { raw_by result ≡ terms.feed_line (three_of (words rest.now)) }
+{
     let Some((name, ring, text)) = three_words(rest) else {
         return Err(Fault::Syntax);
     };
