@@ -6,6 +6,7 @@ mod config;
 mod cycbuff;
 mod faults;
 mod lines;
+mod names;
 mod numbers;
 mod octets;
 mod relay;
