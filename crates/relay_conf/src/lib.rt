@@ -5,6 +5,7 @@
 mod config;
 mod cycbuff;
 mod faults;
+pub mod laws;
 mod lines;
 mod names;
 mod numbers;
