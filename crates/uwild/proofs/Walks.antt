@@ -1,0 +1,175 @@
+-- Each step of a walk over a pattern and a name keeps what is known of it, and leaves fewer steps.
+use Rattle.std.proofs.Common.{◌≡◌, ℕ, ◌+◌, ◌*◌, ◌<◌, ◌≤◌, true, false, not, List, [], ◌∷◌, ◌++◌}
+use Rattle.std.proofs.Common.{length, map, Option, Some, None, refl, sym, ap, subst, ◌∙◌, arith}
+use Rattle.std.proofs.Common.{append_assoc, length-append}
+use Rattle.std.proofs.Math.Nat.{mul-le-mul_right, add-mul}
+use Rattle.std.specs.Prelude.{◌||◌, ◌&&◌, IsTrue, IsFalse}
+use Rattle.std.specs.List.{list_all}
+use Rattle.std.proofs.lemmas.Bool.{and_from, not_from_false}
+use Rattle.std.proofs.lemmas.List.{append-nil}
+use Rattle.std.proofs.lemmas.List.Folds.{list_all-append}
+use Rattle.news_terms.specs.Pattern.{Item, Star, matches}
+use Rattle.uwild.specs.declared.matching.Rest.{Rest}
+use Rattle.uwild.specs.Expression.{item_view}
+use Rattle.uwild.specs.Walks.{is_star, items_left, goes, IsBehindStar, IsBehindOctet, IsFurther}
+use Rattle.uwild.specs.Walks.{FurtherGives, later, IsSinceStar, IsFirstWalk, IsStarWalk, IsWalk}
+use Rattle.uwild.specs.Walks.{steps_left}
+use Rattle.uwild.proofs.Stars.{star_tried, last_star}
+
+-- the star where the walk stands behind it
+at_star : (at : Rest) → IsSinceStar at at
+at_star at = record {
+  run = [];
+  taken = [];
+  no_star = refl;
+  items = refl;
+  name = refl;
+  long = refl;
+}
+
+-- a part that is no star took an octet
+since_octet : (star at rest : Rest) → IsSinceStar star at → IsBehindOctet at rest
+    → IsSinceStar star rest
+since_octet star at rest h step = record {
+  run = h.run ++ step.item ∷ [];
+  taken = h.taken ++ step.octet ∷ [];
+  no_star = list_all-append (λ i. not (is_star i)) h.run (step.item ∷ [])
+      ∙ and_from _ _ h.no_star (and_from _ _ (not_from_false _ step.no_star) refl);
+  items = h.items ∙ ap (λ x. h.run ++ x) step.items
+      ∙ sym (append_assoc h.run (step.item ∷ []) (items_left rest));
+  name = h.name ∙ ap (λ x. h.taken ++ x) step.name
+      ∙ sym (append_assoc h.taken (step.octet ∷ []) rest.name.now);
+  long = let e = h.long in simp length-append (omega (arith, e));
+}
+
+-- the walk goes on behind an octet
+pub walk_octet : (pattern : List Item) (name : List ℕ) (star : Option Rest) (at rest : Rest)
+    → IsWalk pattern name star at → IsBehindOctet at rest → IsWalk pattern name star rest
+walk_octet pattern name None at rest h step = record {
+  same = h.same ∙ step.same;
+  parts = let e = ap length step.items in let b = h.parts in omega (arith, e, b);
+  octets = let e = ap length step.name in let b = h.octets in omega (arith, e, b);
+}
+walk_octet pattern name (Some star) at rest h step = record {
+  same = h.same ∙ ap (λ b. b || later (items_left star) star.name.now) step.same;
+  since = since_octet star at rest h.since step;
+  parts = h.parts;
+  octets = h.octets;
+}
+
+-- the walk goes on behind a star
+pub walk_star : (pattern : List Item) (name : List ℕ) (star : Option Rest) (at rest : Rest)
+    → IsWalk pattern name star at → IsBehindStar at rest → IsWalk pattern name (Some rest) rest
+walk_star pattern name None at rest h step = record {
+  same = h.same ∙ ap (λ x. matches x at.name.now) step.items
+      ∙ ap (λ x. matches (Star ∷ items_left rest) x) (sym step.name)
+      ∙ star_tried (items_left rest) rest.name.now;
+  since = at_star rest;
+  parts = let e = ap length step.items in let b = h.parts in omega (arith, e, b);
+  octets = let e = ap length step.name in let b = h.octets in omega (arith, e, b);
+}
+walk_star pattern name (Some star) at rest h step = record {
+  same = h.same
+      ∙ ap (λ x. matches x at.name.now || later (items_left star) star.name.now) step.items
+      ∙ ap (λ x. matches (Star ∷ items_left rest) x || later (items_left star) star.name.now)
+      (sym step.name)
+      ∙ ap (λ x. matches (Star ∷ items_left rest) rest.name.now || later x star.name.now)
+      (h.since.items ∙ ap (λ x. h.since.run ++ x) step.items)
+      ∙ last_star h.since.run (items_left rest) h.since.taken rest.name.now star.name.now
+      (h.since.name ∙ ap (λ x. h.since.taken ++ x) (sym step.name)) h.since.long h.since.no_star;
+  since = at_star rest;
+  parts =
+      let e = ap length (h.since.items ∙ ap (λ x. h.since.run ++ x) step.items) in
+      let b = h.parts in omega (arith, simp length-append at e, b);
+  octets =
+      let e = ap length (h.since.name ∙ ap (λ x. h.since.taken ++ x) (sym step.name)) in
+      let b = h.octets in omega (arith, simp length-append at e, b);
+}
+
+-- the walk goes on where the star has one octet more
+pub walk_further : (pattern : List Item) (name : List ℕ) (star : Option Rest) (at rest : Rest)
+    → IsWalk pattern name star at → goes at ≡ false → FurtherGives star (Some rest)
+    → IsWalk pattern name (Some rest) rest
+walk_further pattern name None at rest h stuck f = absurd cc
+walk_further pattern name (Some star) at rest h stuck f = record {
+  same = h.same ∙ ap (λ b. b || later (items_left star) star.name.now) stuck
+      ∙ ap (λ x. later (items_left star) x) f.name
+      ∙ star_tried (items_left star) rest.name.now
+      ∙ ap (λ x. matches x rest.name.now || later x rest.name.now) (same_items star rest f);
+  since = at_star rest;
+  parts = let e = ap length (same_items star rest f) in let b = h.parts in omega (arith, e, b);
+  octets = let e = ap length f.name in let b = h.octets in omega (arith, e, b);
+}
+  where
+    same_items : (star rest : Rest) → IsFurther star rest → items_left star ≡ items_left rest
+    same_items star rest f = ap (map item_view) (sym f.items)
+
+-- where the walk is stuck and the star has no octet more, nothing matches
+pub walk_ends : (pattern : List Item) (name : List ℕ) (star : Option Rest) (at : Rest)
+    → IsWalk pattern name star at → goes at ≡ false → FurtherGives star None
+    → matches pattern name ≡ false
+walk_ends pattern name None at h stuck f = h.same ∙ stuck
+walk_ends pattern name (Some star) at h stuck f =
+    h.same ∙ ap (λ b. b || later (items_left star) star.name.now) stuck
+    ∙ ap (λ x. later (items_left star) x) f
+
+-- where what is left matches, the pattern does
+pub walk_matches : (pattern : List Item) (name : List ℕ) (star : Option Rest) (at : Rest)
+    → IsWalk pattern name star at → goes at ≡ true → matches pattern name ≡ true
+walk_matches pattern name None at h whole = h.same ∙ whole
+walk_matches pattern name (Some star) at h whole =
+    h.same ∙ ap (λ b. b || later (items_left star) star.name.now) whole
+
+-- a number with a lower first digit is lower
+lower_digit : (x y a b m : ℕ) → x < y → a ≤ m → x * (m + 1) + a < y * (m + 1) + b
+lower_digit x y a b m lt le =
+    let product : (x + 1) * (m + 1) ≤ y * (m + 1) = mul-le-mul_right (m + 1) (omega arith) in
+    omega (arith, add-mul x 1 (m + 1), product)
+
+-- an octet leaves fewer steps
+pub steps_octet : (parts octets : ℕ) (star : Option Rest) (at rest : Rest) → IsBehindOctet at rest
+    → steps_left parts octets star rest < steps_left parts octets star at
+steps_octet parts octets None at rest step =
+    let e = ap length step.items in omega (arith, e)
+steps_octet parts octets (Some star) at rest step =
+    let e = ap length step.items in omega (arith, e)
+
+-- a star leaves fewer steps
+pub steps_star : (pattern : List Item) (name : List ℕ) (star : Option Rest) (at rest : Rest)
+    → IsWalk pattern name star at → IsBehindStar at rest
+    → steps_left (length pattern) (length name) (Some rest) rest
+    < steps_left (length pattern) (length name) star at
+steps_star pattern name None at rest h step =
+    let e = ap length step.items in
+    let b = h.parts in
+    let o = h.octets in
+    let n = ap length step.name in
+    lower_digit _ _ _ _ (length pattern)
+    (lower_digit _ _ _ _ (length name) (omega (arith, e, b)) (omega (arith, o, n)))
+    (omega (arith, e, b))
+steps_star pattern name (Some star) at rest h step =
+    let e = ap length (h.since.items ∙ ap (λ x. h.since.run ++ x) step.items) in
+    let l = simp length-append at e in
+    let b = h.parts in
+    let f = ap length (h.since.name ∙ ap (λ x. h.since.taken ++ x) (sym step.name)) in
+    let n = simp length-append at f in
+    let o = h.octets in
+    lower_digit _ _ _ _ (length pattern)
+    (lower_digit _ _ _ _ (length name) (omega (arith, l)) (omega (arith, o, n)))
+    (omega (arith, l, b))
+
+-- one octet more of a star leaves fewer steps
+pub steps_further : (pattern : List Item) (name : List ℕ) (star : Option Rest) (at rest : Rest)
+    → IsWalk pattern name star at → FurtherGives star (Some rest)
+    → steps_left (length pattern) (length name) (Some rest) rest
+    < steps_left (length pattern) (length name) star at
+steps_further pattern name None at rest h f = absurd cc
+steps_further pattern name (Some star) at rest h f =
+    let e : length (items_left rest) ≡ length (items_left star) =
+    ap (λ x. length (map item_view x)) f.items in
+    let n = ap length f.name in
+    let b = h.parts in
+    lower_digit _ _ _ _ (length pattern)
+    (subst (λ (k : ℕ). k * (length name + 1) + length rest.name.now
+    < length (items_left star) * (length name + 1) + length star.name.now) (sym e) (omega (arith, n)))
+    (omega (arith, e, b))

@@ -1,0 +1,4 @@
+pub mod Expression
+pub mod Reads
+pub mod Sets
+pub mod Walks

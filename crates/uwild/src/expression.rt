@@ -1,0 +1,115 @@
+//! Expressions: patterns with their marks.
+ghost use Rattle.std.specs.Prelude.{◌≡◌, find, map, reverse, IfOk, IfErr};
+ghost use Rattle.std.specs.Option.{option_copied};
+ghost use Rattle.news_terms.specs.Pattern as terms;
+ghost use Rattle.uwild.specs.Expression.{verdict_view, pattern_view, item_view, IsFault};
+ghost use Rattle.uwild.specs.declared.expression.WildError.TheVariants.{Memory};
+
+use crate::matching::matches;
+use crate::pattern::{Pattern, read_pattern};
+use std::alloc::{AllocError, AllocFailed, Global};
+use std::marker::Model;
+
+/// What an expression says of a newsgroup name (docs/FORMATS.md, Patterns).
+#[derive(Clone, Copy, Debug, PartialEq, Eq)]
+pub enum Verdict {
+    /// The last pattern that matches has no mark.
+    Match,
+    /// The last pattern that matches is marked `!`, or none matches.
+    Fail,
+    /// The last pattern that matches is marked `@`.
+    Poison,
+}
+
+/// Why a text is no expression: its leftmost fault, and of two at one octet the one listed first
+/// (docs/FORMATS.md, Patterns).
+#[derive(Clone, Copy, Debug, PartialEq, Eq)]
+pub enum WildError {
+    /// Memory ran out, which says nothing of the text.
+    Memory,
+    /// A `[` without a `]` behind it.
+    OpenSet,
+    /// `[]` or `[^]`.
+    EmptySet,
+    /// A range whose first octet is above its second.
+    BadRange,
+    /// A `\` at the end.
+    DanglingEscape,
+    /// An octet past ASCII.
+    NonAscii,
+}
+
+impl From<AllocError> for WildError {
+    ghost from_gives = { λ _ e. e ≡ Memory };
+
+    fn from(_error: AllocError) -> WildError {
+        WildError::Memory
+    }
+}
+
+impl<T: Drop> From<AllocFailed<T>> for WildError {
+    ghost from_gives = { λ _ e. e ≡ Memory };
+
+    fn from(_error: AllocFailed<T>) -> WildError {
+        WildError::Memory
+    }
+}
+
+/// An expression over newsgroup names (uwildmat(3) of INN; docs/FORMATS.md, Patterns).
+#[derive(Debug, Drop)]
+pub struct Expr {
+    patterns: Vec<Pattern>,
+}
+
+impl Model for Expr {
+    ghost use Rattle.std.specs.Prelude.{List, map};
+    ghost use Rattle.news_terms.specs.Pattern.{Marked};
+
+    ghost Value = { List Marked };
+
+    ghost use Rattle.uwild.specs.Expression.{pattern_view};
+
+    ghost view = { λ e. map pattern_view e.patterns.items };
+}
+
+impl Expr {
+    /// Reads an expression; the whole text is one.
+    pub fn parse(alloc: Global, text: &[u8]) -> Result<Expr, WildError>
+        ensures read { IfOk result (λ e. terms.IsExpressionText text.now e) }
+        ensures fault { IfErr result (IsFault (terms.HasLeftmostFault text.now)) }
+    {
+        let mut patterns = Vec::new(alloc);
+        let mut rest = text;
+        loop {
+            let cut = read_pattern(alloc, rest)?;
+            patterns.push(cut.pattern)?;
+            match cut.more {
+                Some(more) => rest = more,
+                None => return Ok(Expr { patterns }),
+            }
+        }
+    }
+
+    /// What the expression says of a newsgroup name. It takes no memory, and for each pattern at most
+    /// as many steps as the octets of the pattern times those of the name.
+    pub fn judge(&self, name: &[u8]) -> Verdict
+        ensures { verdict_view result ≡ terms.verdict self.now name.now }
+    {
+        match deciding(&self.patterns, name) {
+            Some(pattern) => pattern.mark,
+            None => Verdict::Fail,
+        }
+    }
+}
+
+/// The last pattern that matches the name.
+fn deciding<'a>(patterns: &'a [Pattern], name: &[u8]) -> Option<&'a Pattern>
+    ensures { option_copied result
+        ≡ find (λ p. terms.matches (map item_view p.items.items) name.now)
+        (reverse patterns.now) }
+{
+    patterns
+        .iter()
+        .rev()
+        .find(|pattern| matches(&pattern.items, name))
+}

@@ -1,0 +1,14 @@
+//! Expressions over newsgroup names (uwildmat(3) of INN; docs/FORMATS.md, Patterns): which names a
+//! peer, a storage class or an expiry rule speaks of.
+#![tactic(auto)]
+
+mod expression;
+mod item;
+mod matching;
+mod pattern;
+mod set;
+
+pub use expression::{Expr, Verdict, WildError};
+
+#[cfg(test)]
+mod tests;
