@@ -1,3 +1,4 @@
+pub mod Check
 pub mod CommandLine
 pub mod Drill
 pub mod Fault

@@ -72,21 +72,29 @@ fn command<'a>(alloc: Global) -> Result<Command<'a>, Error>
     ensures { IfOk result (λ command. (folders scripts : ValueParser)
         × Reads command (program_words folders scripts)) }
 {
-    let whole = Command::new(alloc, "cnrelay").about("The incoming side of a Netnews transit server");
-    Ok(whole
-        .subcommand(check(alloc)?)?
-        .subcommand(drill(alloc)?)?
-        .subcommand(token(alloc)?)?)
+    let whole = Command::new(alloc, "cnrelay").about(
+        "The incoming side of a Netnews transit server",
+    );
+    Ok(
+        whole
+            .subcommand(check(alloc)?)?
+            .subcommand(drill(alloc)?)?
+            .subcommand(token(alloc)?)?,
+    )
 }
 
 /// `check DIR`.
 fn check<'a>(alloc: Global) -> Result<Command<'a>, Error>
     ensures { IfOk result (λ command. Reads command check_words) }
 {
-    let folder = needed(alloc, "DIR").help("The folder of the configuration: K1 is the built-in one");
-    Ok(Command::new(alloc, "check")
-        .about("Reads a configuration and says what it has")
-        .arg(folder)?)
+    let folder = needed(alloc, "DIR").help(
+        "The folder of the configuration: K1 is the built-in one",
+    );
+    Ok(
+        Command::new(alloc, "check")
+            .about("Reads a configuration and says what it has")
+            .arg(folder)?,
+    )
 }
 
 /// `drill DIR SCRIPT`.
@@ -100,10 +108,12 @@ fn drill<'a>(alloc: Global) -> Result<Command<'a>, Error>
     let script = needed(alloc, "SCRIPT")
         .help("The script: stdin is standard input")
         .value_parser(SCRIPTS.as_slice());
-    Ok(Command::new(alloc, "drill")
-        .about("Runs a script over memory")
-        .arg(configuration)?
-        .arg(script)?)
+    Ok(
+        Command::new(alloc, "drill")
+            .about("Runs a script over memory")
+            .arg(configuration)?
+            .arg(script)?,
+    )
 }
 
 /// `token TEXT`.
@@ -111,9 +121,11 @@ fn token<'a>(alloc: Global) -> Result<Command<'a>, Error>
     ensures { IfOk result (λ command. Reads command token_words) }
 {
     let text = needed(alloc, "TEXT").help("The text of the token");
-    Ok(Command::new(alloc, "token")
-        .about("Says what a token stands for")
-        .arg(text)?)
+    Ok(
+        Command::new(alloc, "token")
+            .about("Says what a token stands for")
+            .arg(text)?,
+    )
 }
 
 /// A word that has to be there.

@@ -39,7 +39,7 @@ pub fn drill<R: Read, W: Write>(
 }
 
 /// All that the reader has.
-fn read_all<R: Read>(alloc: Global, reader: &mut R) -> Result<Vec<u8>, DrillError>
+pub fn read_all<R: Read>(alloc: Global, reader: &mut R) -> Result<Vec<u8>, DrillError>
     ensures { ReadGives vec_items result (R.remaining reader.old) }
 {
     let mut text = Vec::new(alloc);

@@ -230,6 +230,10 @@ fn reads_the_command_line(rt: HostRuntime) -> Result<(), Fail> {
     assert!(rt; !is_command_line(&rt, &["cnrelay", "drill", "K2", "stdin"])?);
     assert!(rt; !is_command_line(&rt, &["cnrelay", "drill", "K1", "script"])?);
     assert!(rt; !is_command_line(&rt, &["cnrelay", "drill", "K1", "stdin", "more"])?);
+    assert!(rt; is_command_line(&rt, &["cnrelay", "check", "K1"])?);
+    assert!(rt; is_command_line(&rt, &["cnrelay", "token", "anything"])?);
+    assert!(rt; !is_command_line(&rt, &["cnrelay", "check"])?);
+    assert!(rt; !is_command_line(&rt, &["cnrelay", "token", "one", "two"])?);
     assert!(rt; !is_command_line(&rt, &["cnrelay", "serve", "K1"])?);
     assert!(rt; !is_command_line(&rt, &["cnrelay", "--help"])?);
     assert!(rt; !is_command_line(&rt, &["cnrelay", "drill", "--help"])?);

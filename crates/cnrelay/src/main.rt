@@ -1,12 +1,18 @@
 //! cnrelay, the incoming side of a Netnews transit server: today it runs a drill, a script of
-//! events, over memory, and prints what the relay answers.
+//! events, over memory, and prints what the relay answers; it says how much a configuration has, or
+//! its first fault, and what a token stands for.
 //!
 //! It keeps the promise that a drill writes what its script says by the relay's definitions, and
 //! nothing else (`drill`).
 #![tactic(auto)]
 
+mod check;
+#[cfg(test)]
+mod check_tests;
 mod command_line;
 mod drill;
+#[cfg(test)]
+mod example_tests;
 mod fault;
 #[cfg(test)]
 mod fault_tests;
@@ -21,6 +27,7 @@ mod token;
 mod token_tests;
 mod words;
 
+use check::check;
 use clap::error::ErrorKind;
 use command_line::{Job, read_words};
 use drill::drill;
@@ -64,8 +71,19 @@ fn main(rt: HostRuntime) -> ExitCode {
 fn perform(rt: &HostRuntime, job: &Job) -> ExitCode {
     match job {
         Job::Drill => report(rt, run(rt)),
-        Job::Check(_folder) => ExitCode::from(COMMAND_LINE),
+        Job::Check(folder) => check_folder(rt, folder),
         Job::Token(text) => tell_token(rt, text),
+    }
+}
+
+/// Prints how much the configuration in a folder has.
+fn check_folder(rt: &HostRuntime, folder: &str) -> ExitCode {
+    match check(rt, rt.alloc(), folder, &mut io::writer(rt)) {
+        Ok(()) => ExitCode::SUCCESS,
+        Err(error) => {
+            let _unseen = eprintln!(rt; "{error}");
+            ExitCode::from(error.status())
+        }
     }
 }
 

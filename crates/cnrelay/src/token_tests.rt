@@ -17,7 +17,10 @@ fn told(rt: &HostRuntime, text: &[u8]) -> Result<String, Fail> {
 #[test]
 fn tells_the_parts_of_a_token(rt: HostRuntime) -> Result<(), Fail> {
     let first = told(&rt, b"@01000000000000000000000000A4@")?;
-    assert_eq!(rt; first.as_str(), "class 1 buffer 0 cycle 0 first 0 length 164\n");
+    assert_eq!(rt;
+        first.as_str(),
+        "class 1 buffer 0 cycle 0 first 0 length 164\n"
+    );
     let most = told(&rt, b"@FFFFFFFFFFFFFFFFFFFFFFFFFFFF@")?;
     let line = "class 255 buffer 255 cycle 4294967295 first 4294967295 length 4294967295\n";
     assert_eq!(rt; most.as_str(), line);

@@ -20,13 +20,13 @@ pub struct Config {
 }
 
 /// The text of cycbuff.conf in K1 (docs/FORMATS.md, K1).
-const K1_CYCBUFF: &[u8] = b"cycbuff:A:a.buf:4\nmetacycbuff:G:A\n";
+pub const K1_CYCBUFF: &[u8] = b"cycbuff:A:a.buf:4\nmetacycbuff:G:A\n";
 
 /// The text of storage.conf in K1 (docs/FORMATS.md, K1).
-const K1_STORAGE: &[u8] = b"method cnfs {\nclass: 1\nnewsgroups: *\noptions: G\n}\n";
+pub const K1_STORAGE: &[u8] = b"method cnfs {\nclass: 1\nnewsgroups: *\noptions: G\n}\n";
 
 /// The text of relay.conf in K1 (docs/FORMATS.md, K1).
-const K1_RELAY: &[u8] =
+pub const K1_RELAY: &[u8] =
     b"own relay.example\npeer p1 one.example 0\npeer p2 two.example 0\nfeed p2 2 *\n";
 
 impl Config {

@@ -14,7 +14,7 @@ mod relay;
 mod storage;
 mod words;
 
-pub use config::Config;
+pub use config::{Config, K1_CYCBUFF, K1_RELAY, K1_STORAGE};
 pub use cycbuff::{BufferConf, Buffers, GroupConf, Mode, read_cycbuff};
 pub use faults::{ConfError, Fault, LineFault};
 pub use octets::Octets;
