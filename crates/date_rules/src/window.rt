@@ -1,5 +1,5 @@
 //! The window that an article's date lies in.
-ghost use Rattle.std.specs.Prelude.{◌≡◌, ◌≢◌, Some, Err, IfOk};
+ghost use Rattle.std.specs.Prelude.{◌≡◌, ◌≢◌, Err, IfOk};
 ghost use Rattle.news_terms.specs.Article.{content_or_empty, name_of, Date};
 ghost use Rattle.news_terms.specs.Dates as terms;
 ghost use Rattle.article_parse.specs.Article.{article_view};
@@ -40,10 +40,8 @@ pub fn judge(alloc: Global, article: &Article<'_>, now: u64, cutoff: u64) -> Res
     ensures { JudgedAs now cutoff
         (second_of (terms.judged_date (article_view article.now).fields)) result }
 {
-    match judged_second(alloc, article)? {
-        None => Err(DateError::BadDate),
-        Some(second) => in_window(second, now, cutoff),
-    }
+    let second = judged_second(alloc, article)?;
+    in_window(second, now, cutoff)
 }
 
 /// The second of the date that an article is judged by.
@@ -75,11 +73,14 @@ fn date<'a>(article: &Article<'a>) -> &'a [u8]
     }
 }
 
-/// Whether a second lies in the window.
-fn in_window(second: i64, now: u64, cutoff: u64) -> Result<(), DateError>
-    ensures judged { JudgedAs now cutoff (Some second) result }
+/// Whether a second was read, and lies in the window.
+fn in_window(second: Option<i64>, now: u64, cutoff: u64) -> Result<(), DateError>
+    ensures judged { JudgedAs now cutoff second result }
     ensures no_memory { result ≢ Err DateError.Memory }
 {
+    let Some(second) = second else {
+        return Err(DateError::BadDate);
+    };
     let second = i128::from(second);
     let now = i128::from(now);
     if second > now + DAY {
