@@ -1,8 +1,9 @@
-//! Benchmarks: how fast a stream is cut. They promise nothing and are no tests; with no words the program
-//! does nothing.
+//! Benchmarks: how fast a stream is cut, and how fast names are judged by patterns. They promise
+//! nothing and are no tests; with no words the program does nothing.
 #![tactic(auto)]
 
 mod cutting;
+mod patterns;
 
 use std::process::ExitCode;
 use std::{env, io};
@@ -27,8 +28,12 @@ fn run(rt: &HostRuntime) -> io::Result<ExitCode> {
             cutting::measure(rt)?;
             Ok(ExitCode::SUCCESS)
         }
+        Some(word) if word.as_str() == "patterns" => {
+            patterns::measure(rt)?;
+            Ok(ExitCode::SUCCESS)
+        }
         Some(_) => {
-            eprintln!(rt; "relay_bench: cutting is the one benchmark that there is")?;
+            eprintln!(rt; "relay_bench: the benchmarks are cutting and patterns")?;
             Ok(ExitCode::FAILURE)
         }
     }
