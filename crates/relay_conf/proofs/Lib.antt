@@ -1,0 +1,9 @@
+pub mod CycbuffLines
+pub mod FileLines
+pub mod FirstFaults
+pub mod LineWords
+pub mod NameTexts
+pub mod Numbered
+pub mod Numerals
+pub mod Parts
+pub mod Readings

@@ -1,0 +1,9 @@
+pub mod Cycbuff
+pub mod Draft
+pub mod Faults
+pub mod Lines
+pub mod Relay
+pub mod RelayViews
+pub mod Settings
+pub mod Storage
+pub mod Words

@@ -1,0 +1,33 @@
+-- The lines of a configuration file.
+use Rattle.std.specs.Prelude.{ℕ, ◌==◌, Bool, true, List, [], ◌∷◌, Option, None, Some, reverse}
+use Rattle.std.specs.Str.{byte}
+use Rattle.std.specs.Str.Lines.{strip_carriage_return}
+use Rattle.std.specs.Borrow.{Bor}
+use Rattle.news_terms.specs.Article.{line_feed, without_leading_white}
+use Rattle.relay_conf.specs.Words.{parts}
+
+-- the lines in the parts between LFs: one that LF ends is without the CR before it
+-- (docs/FORMATS.md, Configuration)
+abbrev pub lines_in : List (List ℕ) → List (List ℕ)
+lines_in [] = []
+lines_in (last ∷ []) = last ∷ []
+lines_in (line ∷ next ∷ more) = strip_carriage_return line ∷ lines_in (next ∷ more)
+
+-- the lines of a text, each ended by LF or CRLF, the last by the end of the text
+-- (docs/FORMATS.md, Configuration)
+abbrev pub lines_of : (text : List ℕ) → List (List ℕ)
+lines_of text = lines_in (parts line_feed text)
+
+-- the lines of what is left of a text
+abbrev pub lines_after : Option (Bor (List ℕ)) → List (List ℕ)
+lines_after None = []
+lines_after (Some rest) = lines_of rest.now
+
+-- an empty line or a comment says nothing (docs/FORMATS.md, Configuration)
+abbrev pub is_skipped : List ℕ → Bool
+is_skipped [] = true
+is_skipped (first ∷ rest) = first == byte "#"
+
+-- a text up to its last octet that is no SP or TAB
+abbrev pub without_trailing_white : List ℕ → List ℕ
+without_trailing_white text = reverse (without_leading_white (reverse text))

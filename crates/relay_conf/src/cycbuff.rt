@@ -1,0 +1,384 @@
+//! cycbuff.conf: the buffers and their groups (docs/FORMATS.md, Configuration).
+ghost use Rattle.std.specs.Prelude.{◌≡◌, ◌∷◌, ◌++◌, [], map, option_map, vec_items, bytes_eq, IfOk, OnOk};
+ghost use Rattle.std.specs.Option.{option_to_list};
+ghost use Rattle.std.specs.List.{list_all, list_any};
+ghost use Rattle.relay_conf.specs.Cycbuff.{cycbuff_of, buffers_said, groups_said, buffer_line};
+ghost use Rattle.relay_conf.specs.Cycbuff.{group_line, group_moded, name_fault, line_fault};
+ghost use Rattle.relay_conf.specs.Cycbuff.{buffer_of, group_name_of, list_fault, listed_fault};
+ghost use Rattle.relay_conf.specs.Cycbuff.{group_of, members_of, number_of};
+ghost use Rattle.relay_conf.specs.Cycbuff as terms;
+ghost use Rattle.relay_conf.specs.Faults.{ConfGives, LineGives};
+ghost use Rattle.relay_conf.specs.Lines.{lines_of};
+ghost use Rattle.relay_conf.specs.Settings.{buffers_view, group_view, said_by, cycbuff_view};
+ghost use Rattle.relay_conf.specs.Words.{parts, parts_after};
+ghost use Rattle.relay_conf.specs.Words as words;
+
+use crate::faults::{ConfError, Fault, LineFault, Refusal};
+use crate::lines::{is_skipped, lines_of, trim};
+use crate::numbers::number_within;
+use crate::octets::Octets;
+use crate::words::{cut, is_name, three_parts, two_parts};
+use std::alloc::{AllocError, Global};
+
+/// A buffer: its name, the path of its file, and its size in blocks of 512 octets.
+#[derive(Debug, Drop)]
+pub struct BufferConf {
+    pub name: Octets,
+    pub file: Octets,
+    pub blocks: u32,
+}
+
+/// The order in which a group fills its buffers.
+#[derive(Clone, Copy, Debug, PartialEq, Eq)]
+pub enum Mode {
+    /// Article by article, one buffer after the other.
+    Interleave,
+    /// Each buffer to its end before the next.
+    Sequential,
+}
+
+/// A group of buffers: its name, the numbers of its buffers in the order of its list, and its mode.
+#[derive(Debug, Drop)]
+pub struct GroupConf {
+    pub name: Octets,
+    pub buffers: Vec<usize>,
+    pub mode: Mode,
+}
+
+/// The settings of cycbuff.conf. Buffers and groups are numbered from 0, each in the order of their
+/// lines.
+#[derive(Debug, Drop)]
+pub struct Buffers {
+    pub buffers: Vec<BufferConf>,
+    pub groups: Vec<GroupConf>,
+}
+
+/// Reads the text of cycbuff.conf.
+pub fn read_cycbuff(alloc: Global, text: &[u8]) -> Result<Buffers, ConfError>
+    ensures { ConfGives buffers_view result (cycbuff_of (lines_of text.now)) }
+{
+    let lines = lines_of(alloc, text)?;
+    let buffers = read_buffers(alloc, &lines)?;
+    let groups = read_groups(alloc, &lines, &buffers)?;
+    Ok(Buffers { buffers, groups })
+}
+
+/// Reads the lines up to the first fault that is looked for line by line, and gives the buffers.
+fn read_buffers(alloc: Global, lines: &[&[u8]]) -> Result<Vec<BufferConf>, ConfError>
+    ensures { ConfGives vec_items result
+        (buffers_said (map (λ line. terms.cycbuff_line line.now) lines.now)) }
+{
+    let mut buffers = Vec::new(alloc);
+    let mut names = Vec::new(alloc);
+    for (index, line) in lines.iter().enumerate() {
+        if let Err(refusal) = add_line(alloc, &mut buffers, &mut names, line) {
+            return Err(refusal.at(index + 1));
+        }
+    }
+    if names.is_empty() {
+        return Err(ConfError::Faulty(LineFault {
+            line: 0,
+            fault: Fault::NoBuffers,
+        }));
+    }
+    Ok(buffers)
+}
+
+/// Adds what a line says to the buffers and the names of the groups.
+fn add_line(
+    alloc: Global,
+    buffers: &mut Vec<BufferConf>,
+    names: &mut Vec<Octets>,
+    line: &[u8],
+) -> Result<(), Refusal>
+    ensures fault { LineGives result
+        (line_fault buffers.old.items names.old.items (terms.cycbuff_line line.now)) }
+    ensures buffers { OnOk result (buffers.new.items
+        ≡ buffers.old.items ++ option_to_list (buffer_of (terms.cycbuff_line line.now))) }
+    ensures names { OnOk result (names.new.items
+        ≡ names.old.items ++ option_to_list (group_name_of (terms.cycbuff_line line.now))) }
+{
+    match cycbuff_line(line) {
+        Ok(Line::Skipped) => Ok(()),
+        Ok(Line::Buffer(name, file, blocks)) => { add_buffer(alloc, buffers, name, file, blocks) }
+        Ok(Line::Group(name, _list, _mode)) => add_name(alloc, names, name),
+        Err(fault) => Err(Refusal::Faulty(fault)),
+    }
+}
+
+/// Adds a buffer.
+fn add_buffer(
+    alloc: Global,
+    buffers: &mut Vec<BufferConf>,
+    name: &[u8],
+    file: &[u8],
+    blocks: u32,
+) -> Result<(), Refusal>
+    ensures fault { LineGives result
+        (name_fault (map (λ buffer. buffer.name) buffers.old.items) name.now) }
+    ensures buffers { OnOk result (buffers.new.items ≡ buffers.old.items
+        ++ record { name = name.now; file = file.now; blocks = blocks } ∷ []) }
+{
+    if buffers.len() >= 256 {
+        return Err(Refusal::Faulty(Fault::Number));
+    }
+    if has_buffer(buffers, name) {
+        return Err(Refusal::Faulty(Fault::Duplicate));
+    }
+    buffers.push(BufferConf {
+        name: Octets::copied(alloc, name)?,
+        file: Octets::copied(alloc, file)?,
+        blocks,
+    })?;
+    Ok(())
+}
+
+/// Whether a buffer has this name.
+fn has_buffer(buffers: &[BufferConf], name: &[u8]) -> bool
+    ensures { result ≡ list_any (bytes_eq name.now) (map (λ buffer. buffer.name) buffers.now) }
+{
+    buffers.iter().any(|buffer| name == buffer.name.as_slice())
+}
+
+/// Whether one of the names is this.
+fn is_among(names: &[Octets], name: &[u8]) -> bool
+    ensures { result ≡ list_any (bytes_eq name.now) names.now }
+{
+    names.iter().any(|other| name == other.as_slice())
+}
+
+/// Adds the name of a group.
+fn add_name(alloc: Global, names: &mut Vec<Octets>, name: &[u8]) -> Result<(), Refusal>
+    ensures fault { LineGives result (name_fault names.old.items name.now) }
+    ensures names { OnOk result (names.new.items ≡ names.old.items ++ name.now ∷ []) }
+{
+    if names.len() >= 256 {
+        return Err(Refusal::Faulty(Fault::Number));
+    }
+    if is_among(names, name) {
+        return Err(Refusal::Faulty(Fault::Duplicate));
+    }
+    names.push(Octets::copied(alloc, name)?)?;
+    Ok(())
+}
+
+/// The number of the buffer of a name, where there is one.
+fn place_of(buffers: &[BufferConf], name: &[u8]) -> Option<usize>
+    ensures { result ≡ terms.place_of buffers.now name.now }
+{
+    buffers
+        .iter()
+        .position(|buffer| name == buffer.name.as_slice())
+}
+
+/// Reads the groups of lines that are each without fault, up to the first fault that is looked for
+/// after the last line.
+fn read_groups(
+    alloc: Global,
+    lines: &[&[u8]],
+    buffers: &[BufferConf],
+) -> Result<Vec<GroupConf>, ConfError>
+    ensures { ConfGives (λ groups. map group_view groups.items) result
+        (groups_said buffers.now (map (λ line. terms.cycbuff_line line.now) lines.now)) }
+{
+    let mut groups = Vec::new(alloc);
+    for (index, line) in lines.iter().enumerate() {
+        if let Err(refusal) = add_group_line(alloc, buffers, &mut groups, line) {
+            return Err(refusal.at(index + 1));
+        }
+    }
+    Ok(groups)
+}
+
+/// Adds the group that a line says, if it says one.
+fn add_group_line(
+    alloc: Global,
+    buffers: &[BufferConf],
+    groups: &mut Vec<GroupConf>,
+    line: &[u8],
+) -> Result<(), Refusal>
+    ensures fault { LineGives result
+        (listed_fault buffers.now (map group_view groups.old.items)
+        (terms.cycbuff_line line.now)) }
+    ensures groups { OnOk result (map group_view groups.new.items ≡ map group_view groups.old.items
+        ++ option_to_list (group_of buffers.now (terms.cycbuff_line line.now))) }
+{
+    if let Ok(Line::Group(name, list, mode)) = cycbuff_line(line) {
+        let numbers = listed_buffers(alloc, buffers, groups, list)?;
+        groups.push(GroupConf {
+            name: Octets::copied(alloc, name)?,
+            buffers: numbers,
+            mode,
+        })?;
+    }
+    Ok(())
+}
+
+/// The numbers of the buffers of a list, in its order.
+fn listed_buffers(
+    alloc: Global,
+    buffers: &[BufferConf],
+    groups: &[GroupConf],
+    list: &[u8],
+) -> Result<Vec<usize>, Refusal>
+    ensures fault { LineGives result
+        (list_fault buffers.now (map group_view groups.now) (members_of list.now)) }
+    ensures numbers { IfOk result (λ numbers.
+        numbers.items ≡ map (number_of buffers.now) (members_of list.now)) }
+{
+    if list.is_empty() {
+        return Err(Refusal::Faulty(Fault::NoBuffers));
+    }
+    let Some(numbers) = known_numbers(alloc, buffers, list)? else {
+        return Err(Refusal::Faulty(Fault::UnknownName));
+    };
+    if is_shared(groups, &numbers) {
+        return Err(Refusal::Faulty(Fault::Shared));
+    }
+    Ok(numbers)
+}
+
+/// The numbers of the buffers of names between commas, or `None` where one is of no buffer.
+fn known_numbers(
+    alloc: Global,
+    buffers: &[BufferConf],
+    list: &[u8],
+) -> Result<Option<Vec<usize>>, AllocError>
+    ensures { IfOk result (λ numbers. option_map vec_items numbers
+        ≡ terms.known_numbers buffers.now (parts 44 list.now)) }
+{
+    let mut numbers = Vec::new(alloc);
+    let mut unread = Some(list);
+    while let Some(rest) = unread {
+        let (name, after) = cut(rest, b',');
+        match place_of(buffers, name) {
+            Some(number) => numbers.push(number)?,
+            None => return Ok(None),
+        }
+        unread = after;
+    }
+    Ok(Some(numbers))
+}
+
+/// Whether a number stands in one of the groups, or twice among the numbers.
+fn is_shared(groups: &[GroupConf], numbers: &[usize]) -> bool
+    ensures { result ≡ terms.is_shared (map group_view groups.now) [] numbers.now }
+{
+    for (index, number) in numbers.iter().enumerate() {
+        if is_listed(groups, *number) || numbers[..index].contains(number) {
+            return true;
+        }
+    }
+    false
+}
+
+/// Whether a number stands in one of the groups.
+fn is_listed(groups: &[GroupConf], number: usize) -> bool
+    ensures { result ≡ terms.is_listed (map group_view groups.now) number }
+{
+    groups.iter().any(|group| group.buffers.contains(&number))
+}
+
+/// What a line says, without fault.
+#[derive(Clone, Copy)]
+enum Line<'a> {
+    /// A comment, an empty line, or a key that is accepted and ignored.
+    Skipped,
+    /// A buffer: its name, its file and its blocks of 512 octets.
+    Buffer(&'a [u8], &'a [u8], u32),
+    /// A group: its name, its list and its mode.
+    Group(&'a [u8], &'a [u8], Mode),
+}
+
+/// Reads a line alone.
+fn cycbuff_line(line: &[u8]) -> Result<Line<'_>, Fault>
+    ensures { said_by result ≡ terms.cycbuff_line line.now }
+{
+    let line = trim(line);
+    if is_skipped(line) {
+        return Ok(Line::Skipped);
+    }
+    let (word, rest) = cut(line, b':');
+    if word == b"cycbuff".as_slice() {
+        buffer_line(rest)
+    } else if word == b"metacycbuff".as_slice() {
+        group_line(rest)
+    } else if word == b"cycbuffupdate".as_slice() || word == b"refreshinterval".as_slice() {
+        ignored_line(rest)
+    } else {
+        Err(Fault::UnknownKey)
+    }
+}
+
+/// Reads what follows `cycbuff`.
+fn buffer_line<'a>(rest: Option<&'a [u8]>) -> Result<Line<'a>, Fault>
+    ensures { said_by result ≡ terms.buffer_line (parts_after 58 rest.entry) }
+{
+    let Some((name, file, size)) = three_parts(rest, b':') else {
+        return Err(Fault::Syntax);
+    };
+    if !is_name(name) || file.is_empty() {
+        return Err(Fault::Syntax);
+    }
+    match number_within(1, 2_097_152, size) {
+        Some(kilobytes) => Ok(Line::Buffer(name, file, 2 * kilobytes as u32)),
+        None => Err(Fault::Number),
+    }
+}
+
+/// Reads what follows `metacycbuff`.
+fn group_line<'a>(rest: Option<&'a [u8]>) -> Result<Line<'a>, Fault>
+    ensures { said_by result ≡ terms.group_line (parts_after 58 rest.entry) }
+{
+    if let Some((name, list)) = two_parts(rest, b':') {
+        return group_moded(name, list, Some(Mode::Interleave));
+    }
+    match three_parts(rest, b':') {
+        Some((name, list, mode)) => group_moded(name, list, mode_of(mode)),
+        None => Err(Fault::Syntax),
+    }
+}
+
+/// The group of a name, a list and a mode.
+fn group_moded<'a>(name: &'a [u8], list: &'a [u8], mode: Option<Mode>) -> Result<Line<'a>, Fault>
+    ensures { said_by result ≡ terms.group_moded name.now list.now mode }
+{
+    let Some(mode) = mode else {
+        return Err(Fault::Syntax);
+    };
+    if is_name(name) && are_names(list) {
+        Ok(Line::Group(name, list, mode))
+    } else {
+        Err(Fault::Syntax)
+    }
+}
+
+/// Whether a list is names between commas, or empty.
+fn are_names(list: &[u8]) -> bool
+    ensures { result ≡ list_all words.is_name (members_of list.now) }
+{
+    list.is_empty() || list.split(|octet| *octet == b',').all(|name| is_name(name))
+}
+
+/// The mode that the word is.
+fn mode_of(word: &[u8]) -> Option<Mode>
+    ensures { result ≡ terms.mode_of word.now }
+{
+    if word == b"INTERLEAVE".as_slice() {
+        Some(Mode::Interleave)
+    } else if word == b"SEQUENTIAL".as_slice() {
+        Some(Mode::Sequential)
+    } else {
+        None
+    }
+}
+
+/// Reads what follows an ignored key.
+fn ignored_line<'a>(rest: Option<&'a [u8]>) -> Result<Line<'a>, Fault>
+    ensures { said_by result ≡ terms.ignored_line (parts_after 58 rest.entry) }
+{
+    match rest {
+        Some(_) => Ok(Line::Skipped),
+        None => Err(Fault::Syntax),
+    }
+}

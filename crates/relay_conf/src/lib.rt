@@ -1,0 +1,24 @@
+//! The configuration of the relay: its three files, read from their texts (docs/FORMATS.md,
+//! Configuration).
+#![tactic(auto)]
+
+mod config;
+mod cycbuff;
+mod faults;
+mod lines;
+mod names;
+mod numbers;
+mod octets;
+mod relay;
+mod storage;
+mod words;
+
+pub use config::Config;
+pub use cycbuff::{BufferConf, Buffers, GroupConf, Mode, read_cycbuff};
+pub use faults::{ConfError, Fault, LineFault};
+pub use octets::Octets;
+pub use relay::{Feed, Peer, Relay, read_relay};
+pub use storage::{Method, read_storage};
+
+#[cfg(test)]
+mod tests;

@@ -1,0 +1,437 @@
+//! relay.conf: the relay itself, its peers and their feeds (docs/FORMATS.md, Configuration).
+ghost use Rattle.std.specs.Prelude.{◌≡◌, ◌≤◌, ◌∷◌, ◌++◌, [], length, map, bytes_eq, vec_items, IsTrue, IfOk, OnOk};
+ghost use Rattle.std.specs.Option.{option_to_list};
+ghost use Rattle.std.specs.List.{list_any};
+ghost use Rattle.relay_conf.specs.Faults.{ConfGives, LineGives};
+ghost use Rattle.relay_conf.specs.Lines.{lines_of};
+ghost use Rattle.relay_conf.specs.Relay.{once, peer_fault};
+ghost use Rattle.relay_conf.specs.Draft.{DraftGives, StepGives, FeedGives, ExpressionGives, Lists, nothing};
+ghost use Rattle.relay_conf.specs.Draft.{draft_view, draft_said, named_said, known_number, with_peers};
+ghost use Rattle.relay_conf.specs.Relay as terms;
+ghost use Rattle.relay_conf.specs.RelayViews.{raw_by, relay_view, IsNamed, RelayGives};
+ghost use Rattle.relay_conf.specs.Words.{words, one_of, three_of, is_name};
+
+use crate::faults::{ConfError, Fault, LineFault, Refusal};
+use crate::lines::{is_skipped, lines_of, trim};
+use crate::names::NameSet;
+use crate::numbers::number_within;
+use crate::octets::Octets;
+use crate::words::{first_word, is_identity, is_name, one_word, three_words};
+use std::alloc::Global;
+use uwild::{Expr, WildError};
+
+/// A peer: its name, its identity and its port, where 0 is not served.
+#[derive(Debug, Drop)]
+pub struct Peer {
+    pub name: Octets,
+    pub identity: Octets,
+    pub port: u16,
+}
+
+/// A feed: the number of its peer, the tokens that its ring holds, and the newsgroups that it
+/// takes.
+#[derive(Debug, Drop)]
+pub struct Feed {
+    pub peer: u16,
+    pub ring: u32,
+    pub expression: Expr,
+}
+
+/// The settings of relay.conf. Peers and feeds are numbered from 0, each in the order of their
+/// lines.
+#[derive(Debug, Drop)]
+pub struct Relay {
+    /// The relay's own identity.
+    pub own: Octets,
+    /// The octets of the largest article that is received.
+    pub max_article: u32,
+    /// The age in seconds past which an article is refused.
+    pub cutoff: u64,
+    /// The seconds after which an id may be forgotten; without it none is.
+    pub remember: Option<u64>,
+    pub peers: Vec<Peer>,
+    pub feeds: Vec<Feed>,
+}
+
+/// The articles' largest size without `maxart`.
+const MAX_ARTICLE: u32 = 1_000_000;
+
+/// The age without `cutoff`.
+const CUTOFF: u64 = 864_000;
+
+/// Reads the text of relay.conf.
+pub fn read_relay(alloc: Global, text: &[u8]) -> Result<Relay, ConfError>
+    ensures { RelayGives result (lines_of text.now) }
+{
+    let lines = lines_of(alloc, text)?;
+    let draft = read_lines(alloc, &lines)?;
+    finished(alloc, draft)
+}
+
+/// Reads the lines up to the first fault that is looked for line by line.
+fn read_lines(alloc: Global, lines: &[&[u8]]) -> Result<Draft, ConfError>
+    ensures { DraftGives (map (λ line. line.now) lines.now) result }
+{
+    let mut draft = Draft::new(alloc);
+    for (index, line) in lines.iter().enumerate() {
+        if let Err(refusal) = draft.add_line(alloc, index + 1, line) {
+            return Err(refusal.at(index + 1));
+        }
+    }
+    Ok(draft)
+}
+
+/// What the lines so far say.
+#[derive(Drop)]
+struct Draft {
+    own: Option<Octets>,
+    max_article: Option<u32>,
+    cutoff: Option<u64>,
+    remember: Option<u64>,
+    peers: Vec<Peer>,
+    feeds: Vec<NamedFeed>,
+    /// The names of the feeds.
+    feed_names: NameSet,
+}
+
+/// A feed by the name of its peer, and its line.
+#[derive(Drop)]
+struct NamedFeed {
+    line: usize,
+    name: Octets,
+    ring: u32,
+    expression: Expr,
+}
+
+impl Draft {
+    fn new(alloc: Global) -> Draft
+        ensures stand { draft_view result ≡ nothing }
+        ensures listed { Lists result }
+    {
+        Draft {
+            own: None,
+            max_article: None,
+            cutoff: None,
+            remember: None,
+            peers: Vec::new(alloc),
+            feeds: Vec::new(alloc),
+            feed_names: NameSet::new(alloc),
+        }
+    }
+
+    /// Adds what a line says.
+    fn add_line(&mut self, alloc: Global, number: usize, line: &[u8]) -> Result<(), Refusal>
+        requires { Lists self.old }
+        ensures step { StepGives number (draft_view self.old) (terms.relay_line line.now)
+            (draft_view self.new) result }
+        ensures listed { OnOk result (Lists self.new) }
+    {
+        match relay_line(line) {
+            Ok(Line::Skipped) => Ok(()),
+            Ok(Line::Own(identity)) => self.add_own(alloc, identity),
+            Ok(Line::MaxArticle(octets)) => self.add_max_article(octets),
+            Ok(Line::Cutoff(seconds)) => self.add_cutoff(seconds),
+            Ok(Line::Remember(seconds)) => self.add_remember(seconds),
+            Ok(Line::Peer(name, identity, port)) => self.add_peer(alloc, name, identity, port),
+            Ok(Line::Feed(name, ring, text)) => self.add_feed(alloc, number, name, ring, text),
+            Err(fault) => Err(Refusal::Faulty(fault)),
+        }
+    }
+
+    /// Adds the own identity.
+    fn add_own(&mut self, alloc: Global, identity: &[u8]) -> Result<(), Refusal>
+        ensures fault { LineGives result (once (option_to_list self.old.own)) }
+        ensures own { OnOk result (self.new ≡ record self.old { own = Some identity.now }) }
+    {
+        if self.own.is_some() {
+            return Err(Refusal::Faulty(Fault::Duplicate));
+        }
+        self.own = Some(Octets::copied(alloc, identity)?);
+        Ok(())
+    }
+
+    /// Adds the largest article.
+    fn add_max_article(&mut self, octets: u32) -> Result<(), Refusal>
+        ensures fault { LineGives result (once (option_to_list self.old.max_article)) }
+        ensures size { OnOk result (self.new ≡ record self.old { max_article = Some octets }) }
+    {
+        if self.max_article.is_some() {
+            return Err(Refusal::Faulty(Fault::Duplicate));
+        }
+        self.max_article = Some(octets);
+        Ok(())
+    }
+
+    /// Adds the cutoff.
+    fn add_cutoff(&mut self, seconds: u64) -> Result<(), Refusal>
+        ensures fault { LineGives result (once (option_to_list self.old.cutoff)) }
+        ensures cutoff { OnOk result (self.new ≡ record self.old { cutoff = Some seconds }) }
+    {
+        if self.cutoff.is_some() {
+            return Err(Refusal::Faulty(Fault::Duplicate));
+        }
+        self.cutoff = Some(seconds);
+        Ok(())
+    }
+
+    /// Adds how long ids are remembered.
+    fn add_remember(&mut self, seconds: u64) -> Result<(), Refusal>
+        ensures fault { LineGives result (once (option_to_list self.old.remember)) }
+        ensures remember { OnOk result (self.new ≡ record self.old { remember = Some seconds }) }
+    {
+        if self.remember.is_some() {
+            return Err(Refusal::Faulty(Fault::Duplicate));
+        }
+        self.remember = Some(seconds);
+        Ok(())
+    }
+
+    /// Adds a peer.
+    fn add_peer(
+        &mut self,
+        alloc: Global,
+        name: &[u8],
+        identity: &[u8],
+        port: u16,
+    ) -> Result<(), Refusal>
+        ensures fault { LineGives result (peer_fault self.old.peers.items name.now) }
+        ensures peers { OnOk result (draft_view self.new ≡ with_peers (draft_view self.old)
+            (self.old.peers.items
+            ++ record { name = name.now; identity = identity.now; port = port } ∷ [])) }
+        ensures names { OnOk result (self.new.feed_names ≡ self.old.feed_names) }
+    {
+        if self.peers.len() >= 1_024 {
+            return Err(Refusal::Faulty(Fault::Number));
+        }
+        if has_peer(&self.peers, name) {
+            return Err(Refusal::Faulty(Fault::Duplicate));
+        }
+        self.peers.push(Peer {
+            name: Octets::copied(alloc, name)?,
+            identity: Octets::copied(alloc, identity)?,
+            port,
+        })?;
+        Ok(())
+    }
+
+    /// Adds a feed.
+    fn add_feed(
+        &mut self,
+        alloc: Global,
+        line: usize,
+        name: &[u8],
+        ring: u32,
+        text: &[u8],
+    ) -> Result<(), Refusal>
+        requires named { IsTrue (is_name name.now) }
+        requires listed { Lists self.old }
+        ensures step { FeedGives line name.now ring text.now (draft_view self.old)
+            (draft_view self.new) result }
+        ensures listed { OnOk result (Lists self.new) }
+    {
+        let expression = expression_of(alloc, text)?;
+        if !self.feed_names.add(alloc, name)? {
+            return Err(Refusal::Faulty(Fault::Duplicate));
+        }
+        self.feeds.push(NamedFeed {
+            line,
+            name: Octets::copied(alloc, name)?,
+            ring,
+            expression,
+        })?;
+        Ok(())
+    }
+}
+
+/// The settings, or the first fault that is looked for after the last line.
+fn finished(alloc: Global, draft: Draft) -> Result<Relay, ConfError>
+    requires { length draft.peers.items ≤ 1024 }
+    ensures { ConfGives relay_view result (draft_said (draft_view draft)) }
+{
+    let Draft {
+        own,
+        max_article,
+        cutoff,
+        remember,
+        peers,
+        feeds,
+        feed_names: _,
+    } = draft;
+    let Some(own) = own else {
+        return Err(ConfError::Faulty(LineFault {
+            line: 0,
+            fault: Fault::Syntax,
+        }));
+    };
+    let feeds = numbered(alloc, &peers, feeds)?;
+    Ok(Relay {
+        own,
+        max_article: max_article.unwrap_or(MAX_ARTICLE),
+        cutoff: cutoff.unwrap_or(CUTOFF),
+        remember,
+        peers,
+        feeds,
+    })
+}
+
+/// The expression that a text is.
+fn expression_of(alloc: Global, text: &[u8]) -> Result<Expr, Refusal>
+    ensures { ExpressionGives text.now result }
+{
+    match Expr::parse(alloc, text) {
+        Ok(expression) => Ok(expression),
+        Err(WildError::Memory) => Err(Refusal::Memory),
+        Err(_) => Err(Refusal::Faulty(Fault::Pattern)),
+    }
+}
+
+/// Whether a peer has this name.
+fn has_peer(peers: &[Peer], name: &[u8]) -> bool
+    ensures { result ≡ list_any (bytes_eq name.now) (map (λ peer. peer.name) peers.now) }
+{
+    peers.iter().any(|peer| name == peer.name.as_slice())
+}
+
+/// The number of the peer of a name, where there is one.
+fn number_of(peers: &[Peer], name: &[u8]) -> Option<u16>
+    requires { length peers.now ≤ 1024 }
+    ensures { result ≡ known_number peers.now name.now }
+{
+    let number = peers.iter().position(|peer| name == peer.name.as_slice())?;
+    Some(number as u16)
+}
+
+/// The feeds by the numbers of their peers, or the first that is of no peer.
+fn numbered(alloc: Global, peers: &[Peer], named: Vec<NamedFeed>) -> Result<Vec<Feed>, ConfError>
+    requires { length peers.now ≤ 1024 }
+    ensures { ConfGives vec_items result (named_said peers.now named.items) }
+{
+    let mut feeds = Vec::new(alloc);
+    for feed in named {
+        let NamedFeed {
+            line,
+            name,
+            ring,
+            expression,
+        } = feed;
+        let Some(peer) = number_of(peers, name.as_slice()) else {
+            return Err(ConfError::Faulty(LineFault {
+                line,
+                fault: Fault::UnknownName,
+            }));
+        };
+        feeds.push(Feed {
+            peer,
+            ring,
+            expression,
+        })?;
+    }
+    Ok(feeds)
+}
+
+/// What a line says, without fault.
+#[derive(Clone, Copy)]
+enum Line<'a> {
+    /// A comment or an empty line.
+    Skipped,
+    /// The own identity.
+    Own(&'a [u8]),
+    /// The octets of the largest article.
+    MaxArticle(u32),
+    /// The seconds past which an article is refused.
+    Cutoff(u64),
+    /// The seconds after which an id may be forgotten.
+    Remember(u64),
+    /// A peer: its name, its identity and its port.
+    Peer(&'a [u8], &'a [u8], u16),
+    /// A feed: the name of its peer, its ring and the text of its expression.
+    Feed(&'a [u8], u32, &'a [u8]),
+}
+
+/// Reads a line alone, but for the expression of a feed.
+fn relay_line(line: &[u8]) -> Result<Line<'_>, Fault>
+    ensures says { raw_by result ≡ terms.relay_line line.now }
+    ensures named { IfOk result IsNamed }
+{
+    let line = trim(line);
+    if is_skipped(line) {
+        return Ok(Line::Skipped);
+    }
+    let Some((word, rest)) = first_word(line) else {
+        return Err(Fault::UnknownKey);
+    };
+    if word == b"own".as_slice() {
+        own_line(rest)
+    } else if word == b"maxart".as_slice() {
+        Ok(Line::MaxArticle(number_line(1, 16_777_216, rest)? as u32))
+    } else if word == b"cutoff".as_slice() {
+        Ok(Line::Cutoff(number_line(0, 4_000_000_000, rest)?))
+    } else if word == b"remember".as_slice() {
+        Ok(Line::Remember(number_line(0, 4_000_000_000, rest)?))
+    } else if word == b"peer".as_slice() {
+        peer_line(rest)
+    } else if word == b"feed".as_slice() {
+        feed_line(rest)
+    } else {
+        Err(Fault::UnknownKey)
+    }
+}
+
+/// Reads what follows `own`.
+fn own_line(rest: &[u8]) -> Result<Line<'_>, Fault>
+    ensures named { IfOk result IsNamed }
+    ensures says { raw_by result ≡ terms.own_line (one_of (words rest.now)) }
+{
+    match one_word(rest) {
+        Some(identity) if is_identity(identity) => Ok(Line::Own(identity)),
+        _ => Err(Fault::Syntax),
+    }
+}
+
+/// Reads the one number of a line, in this range.
+fn number_line(least: u64, most: u64, rest: &[u8]) -> Result<u64, Fault>
+    ensures number { result ≡ terms.number_line least most (one_of (words rest.now)) }
+    ensures within { IfOk result (λ number. number ≤ most) }
+{
+    let Some(word) = one_word(rest) else {
+        return Err(Fault::Syntax);
+    };
+    match number_within(least, most, word) {
+        Some(number) => Ok(number),
+        None => Err(Fault::Number),
+    }
+}
+
+/// Reads what follows `peer`.
+fn peer_line(rest: &[u8]) -> Result<Line<'_>, Fault>
+    ensures named { IfOk result IsNamed }
+    ensures says { raw_by result ≡ terms.peer_line (three_of (words rest.now)) }
+{
+    let Some((name, identity, port)) = three_words(rest) else {
+        return Err(Fault::Syntax);
+    };
+    if !is_name(name) || !is_identity(identity) {
+        return Err(Fault::Syntax);
+    }
+    match number_within(0, 65_535, port) {
+        Some(port) => Ok(Line::Peer(name, identity, port as u16)),
+        None => Err(Fault::Number),
+    }
+}
+
+/// Reads what follows `feed`, but for the expression.
+fn feed_line(rest: &[u8]) -> Result<Line<'_>, Fault>
+    ensures says { raw_by result ≡ terms.feed_line (three_of (words rest.now)) }
+    ensures named { IfOk result IsNamed }
+{
+    let Some((name, ring, text)) = three_words(rest) else {
+        return Err(Fault::Syntax);
+    };
+    if !is_name(name) {
+        return Err(Fault::Syntax);
+    }
+    match number_within(1, 65_536, ring) {
+        Some(ring) => Ok(Line::Feed(name, ring as u32, text)),
+        None => Err(Fault::Number),
+    }
+}

@@ -1,0 +1,139 @@
+//! The words of a configuration file's lines.
+ghost use Rattle.std.specs.Prelude.{◌≡◌, ◌≤◌, ◌∷◌, [], length, not, option_map, MatchOption};
+ghost use Rattle.std.specs.Option.{option_copied};
+ghost use Rattle.std.specs.List.{list_all, position_or_len};
+ghost use Rattle.relay_conf.specs.Words.{parts, parts_after, one_of, two_of, three_of, words};
+ghost use Rattle.relay_conf.specs.Words as terms;
+
+/// The octets before the first of this value, and what follows that one where it is there.
+pub(crate) fn cut(text: &[u8], octet: u8) -> (&[u8], Option<&[u8]>)
+    ensures { parts octet text.now ≡ result.0.now ∷ parts_after octet result.1 }
+{
+    match text.iter().position(|other| *other == octet) {
+        Some(at) => (&text[..at], Some(&text[at + 1..])),
+        None => (text, None),
+    }
+}
+
+/// The one part of what follows such an octet, where it is just one.
+pub(crate) fn one_part<'a>(rest: Option<&'a [u8]>, octet: u8) -> Option<&'a [u8]>
+    ensures { option_copied result ≡ one_of (parts_after octet rest.entry) }
+{
+    match cut(rest?, octet) {
+        (word, None) => Some(word),
+        (_, Some(_)) => None,
+    }
+}
+
+/// The two parts of what follows such an octet, where they are just two.
+pub(crate) fn two_parts<'a>(rest: Option<&'a [u8]>, octet: u8) -> Option<(&'a [u8], &'a [u8])>
+    ensures { option_map (λ two. (two.0.now, two.1.now)) result
+        ≡ two_of (parts_after octet rest.entry) }
+{
+    let (first, rest) = cut(rest?, octet);
+    Some((first, one_part(rest, octet)?))
+}
+
+/// The three parts of what follows such an octet, where they are just three.
+pub(crate) fn three_parts<'a>(
+    rest: Option<&'a [u8]>,
+    octet: u8,
+) -> Option<(&'a [u8], &'a [u8], &'a [u8])>
+    ensures { option_map (λ three. (three.0.now, three.1.now, three.2.now)) result
+        ≡ three_of (parts_after octet rest.entry) }
+{
+    let (first, rest) = cut(rest?, octet);
+    let (second, third) = two_parts(rest, octet)?;
+    Some((first, second, third))
+}
+
+/// Whether the word is a name: 1 to 16 octets of names.
+pub(crate) fn is_name(word: &[u8]) -> bool
+    ensures { result ≡ terms.is_name word.now }
+{
+    !word.is_empty() && word.len() <= 16 && has_name_octets(word)
+}
+
+/// Whether each octet may stand in a name.
+fn has_name_octets(word: &[u8]) -> bool
+    ensures { result ≡ list_all terms.is_name_octet word.now }
+{
+    word.iter().all(|octet| is_name_octet(*octet))
+}
+
+/// Whether the octet may stand in a name.
+fn is_name_octet(octet: u8) -> bool
+    ensures { result ≡ terms.is_name_octet octet }
+{
+    octet.is_ascii_alphanumeric() || octet == b'-' || octet == b'_' || octet == b'.'
+}
+
+/// The first word of a line between spaces and what follows it, or `None` where there is none.
+pub(crate) fn first_word(line: &[u8]) -> Option<(&[u8], &[u8])>
+    ensures { MatchOption result (words line.now ≡ [])
+        (λ cut. words line.now ≡ cut.0.now ∷ words cut.1.now) }
+{
+    let line = &line[spaces_before(line)..];
+    if line.is_empty() {
+        return None;
+    }
+    Some(line.split_at(word_length(line)))
+}
+
+/// How many spaces the line begins with.
+fn spaces_before(line: &[u8]) -> usize
+    ensures value { result ≡ position_or_len (λ c. not (terms.is_space c)) line.now }
+    ensures within { result ≤ length line.now }
+{
+    line.iter()
+        .position(|octet| *octet != b' ')
+        .unwrap_or(line.len())
+}
+
+/// How many octets stand before the first space.
+fn word_length(line: &[u8]) -> usize
+    ensures value { result ≡ position_or_len terms.is_space line.now }
+    ensures within { result ≤ length line.now }
+{
+    line.iter()
+        .position(|octet| *octet == b' ')
+        .unwrap_or(line.len())
+}
+
+/// The one word of a line, where there is just one.
+pub(crate) fn one_word(line: &[u8]) -> Option<&[u8]>
+    ensures { option_copied result ≡ one_of (words line.now) }
+{
+    let (word, rest) = first_word(line)?;
+    match first_word(rest) {
+        None => Some(word),
+        Some(_) => None,
+    }
+}
+
+/// The three words of a line, where there are just three.
+pub(crate) fn three_words(line: &[u8]) -> Option<(&[u8], &[u8], &[u8])>
+    ensures { option_map (λ three. (three.0.now, three.1.now, three.2.now)) result
+        ≡ three_of (words line.now) }
+{
+    let (first, rest) = first_word(line)?;
+    let (second, rest) = first_word(rest)?;
+    Some((first, second, one_word(rest)?))
+}
+
+/// Whether the word is an identity: 1 to 64 octets of names, the first no dot.
+pub(crate) fn is_identity(word: &[u8]) -> bool
+    ensures { result ≡ terms.is_identity word.now }
+{
+    !word.is_empty() && word.len() <= 64 && has_name_octets(word) && !begins_with_dot(word)
+}
+
+/// Whether the first octet is a dot.
+fn begins_with_dot(word: &[u8]) -> bool
+    ensures { result ≡ terms.begins_with_dot word.now }
+{
+    match word.first() {
+        Some(first) => *first == b'.',
+        None => false,
+    }
+}
