@@ -20,9 +20,9 @@ use Rattle.news_terms.proofs.ItemFaults.{fault_head}
 use Rattle.news_terms.proofs.ItemFaults.{item_fault}
 
 -- a text that ends a pattern, and at which no fault begins
-record EndsFine (s : List ℕ) : Type 0 where
-  ends : Ends s
-  fine : (fault : ExpressionFault) → BeginsFaulty s fault → ⊥
+pub record EndsFine (s : List ℕ) : Type 0 where
+  pub ends : Ends s
+  pub fine : (fault : ExpressionFault) → BeginsFaulty s fault → ⊥
 
 -- the end, and a comma
 fine_end : EndsFine []
@@ -33,7 +33,7 @@ fine_end = record {
       (omega arith) w;
 }
 
-fine_comma : (rest : List ℕ) → EndsFine (byte "," ∷ rest)
+pub fine_comma : (rest : List ℕ) → EndsFine (byte "," ∷ rest)
 fine_comma rest = record {
   ends = comma_ends rest;
   fine = λ fault w. fault_head (byte "," ∷ rest) fault (λ e. omega (arith, e))
@@ -100,7 +100,7 @@ marked_begins Poison q t fault hq et w =
     (λ e. omega (arith, e)) (omega arith) w
 
 -- nor behind the front of one
-marked_fault : (mark : Verdict) (p : List Item) (n : Marked) (rest t : List ℕ)
+pub marked_fault : (mark : Verdict) (p : List Item) (n : Marked) (rest t : List ℕ)
     (fault : ExpressionFault)
     → IsTrue (is_marked (record { mark = mark; pattern = p })) → IsTrue (is_marked n) → EndsFine t
     → marked_text (record { mark = mark; pattern = p }) ++ rest ≡ marked_text n ++ t
@@ -111,19 +111,19 @@ marked_fault Match [] n rest t fault hm hn et e w =
 marked_fault Match (i ∷ p) n rest t fault hm hn et e w =
     let good = and_parts (list_all is_item (i ∷ p)) (begins_unmarked (i ∷ p)) hm in
     let both = sym (unmarked_part i p rest good.1) ∙ ap read_mark e
-    ∙ mark_read n.mark n.pattern t hn et.ends in
+    ∙ mark_read n.mark n.pattern t hn et.ends.no_mark in
     pattern_fault (i ∷ p) n.pattern rest t fault good.0
     (and_parts (list_all is_item n.pattern) _ hn).0 et (ap (λ x. x.1) both) w
 marked_fault Fail p n rest t fault hm hn et e w =
     let both : ◌≡◌ {A = Verdict × List ℕ} (Fail, flat_map item_text p ++ rest)
     (n.mark, flat_map item_text n.pattern ++ t) =
-    ap read_mark e ∙ mark_read n.mark n.pattern t hn et.ends in
+    ap read_mark e ∙ mark_read n.mark n.pattern t hn et.ends.no_mark in
     pattern_fault p n.pattern rest t fault (and_parts (list_all is_item p) _ hm).0
     (and_parts (list_all is_item n.pattern) _ hn).0 et (ap (λ x. x.1) both) w
 marked_fault Poison p n rest t fault hm hn et e w =
     let both : ◌≡◌ {A = Verdict × List ℕ} (Poison, flat_map item_text p ++ rest)
     (n.mark, flat_map item_text n.pattern ++ t) =
-    ap read_mark e ∙ mark_read n.mark n.pattern t hn et.ends in
+    ap read_mark e ∙ mark_read n.mark n.pattern t hn et.ends.no_mark in
     pattern_fault p n.pattern rest t fault (and_parts (list_all is_item p) _ hm).0
     (and_parts (list_all is_item n.pattern) _ hn).0 et (ap (λ x. x.1) both) w
 

@@ -148,26 +148,27 @@ pub record Ends (s : List ℕ) : Type 0 where
   pub no_item : first_item s ≡ None
 
 -- an unmarked pattern is read as one
-pub unmarked : (p : List Item) (s : List ℕ) → IsTrue (begins_unmarked p) → Ends s
+pub unmarked : (p : List Item) (s : List ℕ) → IsTrue (begins_unmarked p)
+    → read_mark s ≡ (Match, s)
     → read_mark (flat_map item_text p ++ s) ≡ (Match, flat_map item_text p ++ s)
-unmarked [] s h ends = ends.no_mark
-unmarked (Star ∷ p) s h ends = refl
-unmarked (AnyOctet ∷ p) s h ends = refl
-unmarked (Literal c ∷ p) s h ends =
+unmarked [] s h no_mark = no_mark
+unmarked (Star ∷ p) s h no_mark = refl
+unmarked (AnyOctet ∷ p) s h no_mark = refl
+unmarked (Literal c ∷ p) s h no_mark =
     let parts = or_parts (c == byte "!") (c == byte "@") (not-true _ h) in
     rw (parts.0, parts.1) refl
-unmarked (Escaped c ∷ p) s h ends = refl
-unmarked (OneOf set ∷ p) s h ends = refl
-unmarked (NoneOf set ∷ p) s h ends = refl
+unmarked (Escaped c ∷ p) s h no_mark = refl
+unmarked (OneOf set ∷ p) s h no_mark = refl
+unmarked (NoneOf set ∷ p) s h no_mark = refl
 
 -- a pattern is read behind its mark
 pub mark_read : (mark : Verdict) (p : List Item) (s : List ℕ)
-    → IsTrue (is_marked (record { mark = mark; pattern = p })) → Ends s
+    → IsTrue (is_marked (record { mark = mark; pattern = p })) → read_mark s ≡ (Match, s)
     → read_mark (marked_text (record { mark = mark; pattern = p }) ++ s)
     ≡ (mark, flat_map item_text p ++ s)
-mark_read Match p s h ends = unmarked p s (and_parts (list_all is_item p) _ h).1 ends
-mark_read Fail p s h ends = refl
-mark_read Poison p s h ends = refl
+mark_read Match p s h no_mark = unmarked p s (and_parts (list_all is_item p) _ h).1 no_mark
+mark_read Fail p s h no_mark = refl
+mark_read Poison p s h no_mark = refl
 
 -- two marked patterns, each with an end behind it, are the same
 pub one_marked : (m n : Marked) (s t : List ℕ) → IsTrue (is_marked m) → IsTrue (is_marked n)
@@ -175,8 +176,8 @@ pub one_marked : (m n : Marked) (s t : List ℕ) → IsTrue (is_marked m) → Is
     → Ends t
     → marked_text m ++ s ≡ marked_text n ++ t → (m ≡ n) × (s ≡ t)
 one_marked m n s t hm hn es et e =
-    let both = sym (mark_read m.mark m.pattern s hm es) ∙ ap read_mark e
-    ∙ mark_read n.mark n.pattern t hn et in
+    let both = sym (mark_read m.mark m.pattern s hm es.no_mark) ∙ ap read_mark e
+    ∙ mark_read n.mark n.pattern t hn et.no_mark in
     let im = (and_parts (list_all is_item m.pattern) _ hm).0 in
     let inn = (and_parts (list_all is_item n.pattern) _ hn).0 in
     let rest = one_pattern m.pattern n.pattern s t im inn es.no_item et.no_item

@@ -11,6 +11,7 @@ pub mod HeaderLines
 pub mod IdFaults
 pub mod InterleavedFronts
 pub mod ItemFaults
+pub mod LeftmostFaults
 pub mod LineLemmas
 pub mod LinePairs
 pub mod Matching

@@ -24,6 +24,13 @@ pub fn expression_without_fault()
         → ¬ HasLeftmostFault text fault }
 {}
 
+/// The leftmost fault of a text is one.
+pub fn one_fault()
+    ensures { (text : List ℕ) (a b : ExpressionFault) → HasLeftmostFault text a
+        → HasLeftmostFault text b
+        → a ≡ b }
+{}
+
 /// The test of a pattern says what its parts say.
 pub fn matching_tests()
     ensures { (pattern : List Item) (name : List ℕ) → IsTrue (matches pattern name)

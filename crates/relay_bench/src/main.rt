@@ -5,6 +5,7 @@
 mod articles;
 mod cutting;
 mod paths;
+mod patterns;
 
 use std::process::ExitCode;
 use std::{env, io};
@@ -35,8 +36,9 @@ fn measure(rt: &HostRuntime, word: &str) -> io::Result<ExitCode> {
         "articles" => articles::measure(rt)?,
         "cutting" => cutting::measure(rt)?,
         "paths" => paths::measure(rt)?,
+        "patterns" => patterns::measure(rt)?,
         _ => {
-            eprintln!(rt; "relay_bench: the benchmarks are articles, cutting and paths")?;
+            eprintln!(rt; "relay_bench: the benchmarks are articles, cutting, paths and patterns")?;
             return Ok(ExitCode::FAILURE);
         }
     }

@@ -1,0 +1,10 @@
+use Rattle.std.proofs.Common.{◌≡◌, map, drop}
+use Rattle.news_terms.specs.StorageClass as terms
+use Rattle.relay_conf.specs.Storage.{entry_view}
+use Rattle.store_class.specs.Choice.{octets_of, takes_rest}
+use Rattle.store_class.proofs.choice.takes_groups.Given as goal
+
+abbrev pub invariant-loop-group : goal.invariant-loop-group
+invariant-loop-group l =
+    terms.takes_groups (entry_view l.method) (map octets_of l.groups)
+    ≡ takes_rest (entry_view l.method) l.has_match (map octets_of (drop l.group-index l.groups))

@@ -1,0 +1,10 @@
+//! The choice of a storage class: which entry of storage.conf an article falls to (docs/FORMATS.md,
+//! Configuration).
+#![tactic(auto)]
+
+mod choice;
+
+pub use choice::choose;
+
+#[cfg(test)]
+mod tests;
