@@ -5,3 +5,5 @@ pub mod LineWords
 pub mod Numbered
 pub mod Numerals
 pub mod Parts
+pub mod StorageReadings
+pub mod StorageWords

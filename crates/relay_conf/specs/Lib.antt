@@ -6,3 +6,6 @@ pub mod Settings
 pub mod Storage
 pub mod Relay
 pub mod RelayViews
+pub mod StorageLines
+pub mod StorageViews
+pub mod StorageDraft

@@ -10,6 +10,7 @@ mod numbers;
 mod octets;
 mod relay;
 mod storage;
+mod storage_lines;
 mod words;
 
 pub use config::Config;
