@@ -1,9 +1,12 @@
 pub mod CycbuffLines
 pub mod FileLines
 pub mod FirstFaults
+pub mod JoinedLines
 pub mod LineWords
+pub mod NameTexts
 pub mod Numbered
 pub mod Numerals
 pub mod Parts
+pub mod Readings
 pub mod StorageReadings
 pub mod StorageWords

@@ -1,11 +1,12 @@
 pub mod Cycbuff
+pub mod Draft
 pub mod Faults
 pub mod Lines
-pub mod Words
-pub mod Settings
-pub mod Storage
 pub mod Relay
 pub mod RelayViews
+pub mod Settings
+pub mod Storage
+pub mod StorageDraft
 pub mod StorageLines
 pub mod StorageViews
-pub mod StorageDraft
+pub mod Words

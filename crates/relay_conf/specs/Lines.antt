@@ -1,9 +1,10 @@
 -- The lines of a configuration file.
-use Rattle.std.specs.Prelude.{ℕ, ◌==◌, Bool, true, List, [], ◌∷◌, Option, None, Some, reverse}
+use Rattle.std.specs.Prelude.{ℕ, ◌==◌, Bool, true, List, [], ◌∷◌, Option, None, Some, reverse, ◌++◌, ◌&&◌, ◌-◌, not, slice_index, length}
+use Rattle.std.specs.List.{list_all}
 use Rattle.std.specs.Str.{byte}
 use Rattle.std.specs.Str.Lines.{strip_carriage_return}
 use Rattle.std.specs.Borrow.{Bor}
-use Rattle.news_terms.specs.Article.{line_feed, without_leading_white}
+use Rattle.news_terms.specs.Article.{line_feed, carriage_return, without_leading_white}
 use Rattle.relay_conf.specs.Words.{parts}
 
 -- the lines in the parts between LFs: one that LF ends is without the CR before it
@@ -22,6 +23,18 @@ lines_of text = lines_in (parts line_feed text)
 abbrev pub lines_after : Option (Bor (List ℕ)) → List (List ℕ)
 lines_after None = []
 lines_after (Some rest) = lines_of rest.now
+
+-- a line that may stand before either line end: no LF, and no CR at its end
+abbrev pub is_line : List ℕ → Bool
+is_line line =
+    list_all (λ c. not (c == line_feed)) line
+    && not (slice_index line (length line - 1) == carriage_return)
+
+-- lines with this between them
+abbrev pub joined_by : (ending : List ℕ) → (lines : List (List ℕ)) → List ℕ
+joined_by ending [] = []
+joined_by ending (last ∷ []) = last
+joined_by ending (line ∷ next ∷ more) = line ++ ending ++ joined_by ending (next ∷ more)
 
 -- an empty line or a comment says nothing (docs/FORMATS.md, Configuration)
 abbrev pub is_skipped : List ℕ → Bool

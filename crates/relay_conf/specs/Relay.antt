@@ -1,5 +1,5 @@
 -- relay.conf: what its lines say, one by one and together.
-use Rattle.std.specs.Prelude.{◌≡◌, ℕ, ◌==◌, ◌&&◌, nat_le, Bool, true, false, List, [], ◌∷◌, ◌++◌, length, map, filter_map, codes, bytes_eq, Option, None, Some, Result, Ok, Err, if◌then◌else◌}
+use Rattle.std.specs.Prelude.{◌≡◌, ℕ, ◌==◌, ◌&&◌, nat_le, nat_lt, Bool, true, false, List, [], ◌∷◌, ◌++◌, length, map, filter_map, codes, bytes_eq, Option, None, Some, Result, Ok, Err, if◌then◌else◌}
 use Rattle.std.specs.List.{list_any, position_or_len}
 use Rattle.news_terms.specs.Article.{without_outer_white}
 use Rattle.news_terms.specs.Pattern.{Marked, ExpressionFault, IsExpressionText, HasLeftmostFault}
@@ -271,11 +271,14 @@ line_fault stand (Ok (FeedLine name ring expression)) = feed_fault stand.feed_na
 abbrev pub early_fault : (before : List SaidLine) → SaidLine → Option Fault
 early_fault before line = line_fault (stand_of before) line
 
+-- a peer has this name (docs/FORMATS.md, Configuration)
+abbrev pub is_peer : List Peer → (name : List ℕ) → Bool
+is_peer peers name = nat_lt (peer_number peers name) (length peers)
+
 -- a feed of no peer (docs/FORMATS.md, Configuration)
 abbrev pub unknown_fault : List Peer → Option (List ℕ) → Option Fault
 unknown_fault peers None = None
-unknown_fault peers (Some name) =
-    if list_any (bytes_eq name) (map (λ peer. peer.name) peers) then None else Some UnknownName
+unknown_fault peers (Some name) = if is_peer peers name then None else Some UnknownName
 
 -- what is wrong with a line, looked for after the last line (docs/FORMATS.md, Configuration)
 abbrev pub late_fault : List Peer → (before : List SaidLine) → SaidLine → Option Fault

@@ -120,12 +120,6 @@ abbrev pub NewsgroupsGive : (text : List ℕ) → Reading → (after : Reading) 
 NewsgroupsGive text r after result =
     (groups : List Group) → (number : ℕ) → StepGives groups number r (Ok (NewsgroupsLine text)) after result
 
--- the answer is the expression of a text, or that it has a fault, unless memory ran out
-abbrev pub ExpressionGives : (text : List ℕ) → Result (List Marked) Refusal → Type 0
-ExpressionGives text (Ok expression) = IsExpressionText text expression
-ExpressionGives text (Err Memory) = Unit {0}
-ExpressionGives text (Err (Faulty fault)) = (fault ≡ Pattern) × ((found : ExpressionFault) × HasLeftmostFault text found)
-
 -- a reading is that of these lines
 pub record IsReadingOf (groups : List Group) (said : List SaidLine) (r : Reading) : Type 0 where
   pub entries : r.entries ≡ entries_of groups [] said

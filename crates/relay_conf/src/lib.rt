@@ -5,7 +5,9 @@
 mod config;
 mod cycbuff;
 mod faults;
+pub mod laws;
 mod lines;
+mod names;
 mod numbers;
 mod octets;
 mod relay;

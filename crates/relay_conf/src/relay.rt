@@ -1,16 +1,23 @@
 //! relay.conf: the relay itself, its peers and their feeds (docs/FORMATS.md, Configuration).
-ghost use Rattle.std.specs.Prelude.{◌≡◌, ◌≤◌, IfOk};
+ghost use Rattle.std.specs.Prelude.{◌≡◌, ◌≤◌, ◌∷◌, ◌++◌, [], length, map, bytes_eq, vec_items, IsTrue, IfOk, OnOk};
+ghost use Rattle.std.specs.Option.{option_to_list};
+ghost use Rattle.std.specs.List.{list_any};
+ghost use Rattle.relay_conf.specs.Faults.{ConfGives, LineGives};
+ghost use Rattle.relay_conf.specs.Lines.{lines_of};
+ghost use Rattle.relay_conf.specs.Relay.{once, peer_fault};
+ghost use Rattle.relay_conf.specs.Draft.{DraftGives, StepGives, FeedGives, ExpressionGives, Lists, nothing};
+ghost use Rattle.relay_conf.specs.Draft.{draft_view, draft_said, named_said, known_number, with_peers};
 ghost use Rattle.relay_conf.specs.Relay as terms;
-ghost use Rattle.relay_conf.specs.RelayViews.{raw_by};
-ghost use Rattle.relay_conf.specs.Words.{words, one_of, three_of};
+ghost use Rattle.relay_conf.specs.RelayViews.{raw_by, relay_view, IsNamed, RelayGives};
+ghost use Rattle.relay_conf.specs.Words.{words, one_of, three_of, is_name};
 
 use crate::faults::{ConfError, Fault, LineFault, Refusal};
 use crate::lines::{is_skipped, lines_of, trim};
+use crate::names::NameSet;
 use crate::numbers::number_within;
 use crate::octets::Octets;
 use crate::words::{first_word, is_identity, is_name, one_word, three_words};
 use std::alloc::Global;
-use std::collections::HashMap;
 use uwild::{Expr, WildError};
 
 /// A peer: its name, its identity and its port, where 0 is not served.
@@ -52,19 +59,26 @@ const MAX_ARTICLE: u32 = 1_000_000;
 /// The age without `cutoff`.
 const CUTOFF: u64 = 864_000;
 
-/// How many peers a file may have.
-const MOST_PEERS: usize = 1_024;
-
 /// Reads the text of relay.conf.
-pub fn read_relay(alloc: Global, text: &[u8]) -> Result<Relay, ConfError> {
+pub fn read_relay(alloc: Global, text: &[u8]) -> Result<Relay, ConfError>
+    ensures { RelayGives result (lines_of text.now) }
+{
     let lines = lines_of(alloc, text)?;
+    let draft = read_lines(alloc, &lines)?;
+    finished(alloc, draft)
+}
+
+/// Reads the lines up to the first fault that is looked for line by line.
+fn read_lines(alloc: Global, lines: &[&[u8]]) -> Result<Draft, ConfError>
+    ensures { DraftGives (map (λ line. line.now) lines.now) result }
+{
     let mut draft = Draft::new(alloc);
     for (index, line) in lines.iter().enumerate() {
         if let Err(refusal) = draft.add_line(alloc, index + 1, line) {
             return Err(refusal.at(index + 1));
         }
     }
-    draft.finish(alloc)
+    Ok(draft)
 }
 
 /// What the lines so far say.
@@ -75,8 +89,9 @@ struct Draft {
     cutoff: Option<u64>,
     remember: Option<u64>,
     peers: Vec<Peer>,
-    feed_names: HashMap<String, usize>,
     feeds: Vec<NamedFeed>,
+    /// The names of the feeds.
+    feed_names: NameSet,
 }
 
 /// A feed by the name of its peer, and its line.
@@ -89,26 +104,34 @@ struct NamedFeed {
 }
 
 impl Draft {
-    fn new(alloc: Global) -> Draft {
+    fn new(alloc: Global) -> Draft
+        ensures stand { draft_view result ≡ nothing }
+        ensures listed { Lists result }
+    {
         Draft {
             own: None,
             max_article: None,
             cutoff: None,
             remember: None,
             peers: Vec::new(alloc),
-            feed_names: HashMap::new(alloc),
             feeds: Vec::new(alloc),
+            feed_names: NameSet::new(alloc),
         }
     }
 
     /// Adds what a line says.
-    fn add_line(&mut self, alloc: Global, number: usize, line: &[u8]) -> Result<(), Refusal> {
+    fn add_line(&mut self, alloc: Global, number: usize, line: &[u8]) -> Result<(), Refusal>
+        requires { Lists self.old }
+        ensures step { StepGives number (draft_view self.old) (terms.relay_line line.now)
+            (draft_view self.new) result }
+        ensures listed { OnOk result (Lists self.new) }
+    {
         match relay_line(line) {
             Ok(Line::Skipped) => Ok(()),
             Ok(Line::Own(identity)) => self.add_own(alloc, identity),
-            Ok(Line::MaxArticle(octets)) => set_once(&mut self.max_article, octets),
-            Ok(Line::Cutoff(seconds)) => set_once(&mut self.cutoff, seconds),
-            Ok(Line::Remember(seconds)) => set_once(&mut self.remember, seconds),
+            Ok(Line::MaxArticle(octets)) => self.add_max_article(octets),
+            Ok(Line::Cutoff(seconds)) => self.add_cutoff(seconds),
+            Ok(Line::Remember(seconds)) => self.add_remember(seconds),
             Ok(Line::Peer(name, identity, port)) => self.add_peer(alloc, name, identity, port),
             Ok(Line::Feed(name, ring, text)) => self.add_feed(alloc, number, name, ring, text),
             Err(fault) => Err(Refusal::Faulty(fault)),
@@ -116,11 +139,50 @@ impl Draft {
     }
 
     /// Adds the own identity.
-    fn add_own(&mut self, alloc: Global, identity: &[u8]) -> Result<(), Refusal> {
+    fn add_own(&mut self, alloc: Global, identity: &[u8]) -> Result<(), Refusal>
+        ensures fault { LineGives result (once (option_to_list self.old.own)) }
+        ensures own { OnOk result (self.new ≡ record self.old { own = Some identity.now }) }
+    {
         if self.own.is_some() {
             return Err(Refusal::Faulty(Fault::Duplicate));
         }
         self.own = Some(Octets::copied(alloc, identity)?);
+        Ok(())
+    }
+
+    /// Adds the largest article.
+    fn add_max_article(&mut self, octets: u32) -> Result<(), Refusal>
+        ensures fault { LineGives result (once (option_to_list self.old.max_article)) }
+        ensures size { OnOk result (self.new ≡ record self.old { max_article = Some octets }) }
+    {
+        if self.max_article.is_some() {
+            return Err(Refusal::Faulty(Fault::Duplicate));
+        }
+        self.max_article = Some(octets);
+        Ok(())
+    }
+
+    /// Adds the cutoff.
+    fn add_cutoff(&mut self, seconds: u64) -> Result<(), Refusal>
+        ensures fault { LineGives result (once (option_to_list self.old.cutoff)) }
+        ensures cutoff { OnOk result (self.new ≡ record self.old { cutoff = Some seconds }) }
+    {
+        if self.cutoff.is_some() {
+            return Err(Refusal::Faulty(Fault::Duplicate));
+        }
+        self.cutoff = Some(seconds);
+        Ok(())
+    }
+
+    /// Adds how long ids are remembered.
+    fn add_remember(&mut self, seconds: u64) -> Result<(), Refusal>
+        ensures fault { LineGives result (once (option_to_list self.old.remember)) }
+        ensures remember { OnOk result (self.new ≡ record self.old { remember = Some seconds }) }
+    {
+        if self.remember.is_some() {
+            return Err(Refusal::Faulty(Fault::Duplicate));
+        }
+        self.remember = Some(seconds);
         Ok(())
     }
 
@@ -131,11 +193,17 @@ impl Draft {
         name: &[u8],
         identity: &[u8],
         port: u16,
-    ) -> Result<(), Refusal> {
-        if self.peers.len() >= MOST_PEERS {
+    ) -> Result<(), Refusal>
+        ensures fault { LineGives result (peer_fault self.old.peers.items name.now) }
+        ensures peers { OnOk result (draft_view self.new ≡ with_peers (draft_view self.old)
+            (self.old.peers.items
+            ++ record { name = name.now; identity = identity.now; port = port } ∷ [])) }
+        ensures names { OnOk result (self.new.feed_names ≡ self.old.feed_names) }
+    {
+        if self.peers.len() >= 1_024 {
             return Err(Refusal::Faulty(Fault::Number));
         }
-        if peer_of(&self.peers, name).is_some() {
+        if has_peer(&self.peers, name) {
             return Err(Refusal::Faulty(Fault::Duplicate));
         }
         self.peers.push(Peer {
@@ -154,15 +222,17 @@ impl Draft {
         name: &[u8],
         ring: u32,
         text: &[u8],
-    ) -> Result<(), Refusal> {
+    ) -> Result<(), Refusal>
+        requires named { IsTrue (is_name name.now) }
+        requires listed { Lists self.old }
+        ensures step { FeedGives line name.now ring text.now (draft_view self.old)
+            (draft_view self.new) result }
+        ensures listed { OnOk result (Lists self.new) }
+    {
         let expression = expression_of(alloc, text)?;
-        let Ok(key) = str::from_utf8(name) else {
-            return Err(Refusal::Faulty(Fault::Syntax));
-        };
-        if self.feed_names.contains_key(key) {
+        if !self.feed_names.add(alloc, name)? {
             return Err(Refusal::Faulty(Fault::Duplicate));
         }
-        self.feed_names.insert(String::from_str(alloc, key)?, line)?;
         self.feeds.push(NamedFeed {
             line,
             name: Octets::copied(alloc, name)?,
@@ -171,47 +241,43 @@ impl Draft {
         })?;
         Ok(())
     }
-
-    /// The settings, or the first fault that is looked for after the last line.
-    fn finish(self, alloc: Global) -> Result<Relay, ConfError> {
-        let Draft {
-            own,
-            max_article,
-            cutoff,
-            remember,
-            peers,
-            feed_names: _,
-            feeds,
-        } = self;
-        let Some(own) = own else {
-            return Err(ConfError::Faulty(LineFault {
-                line: 0,
-                fault: Fault::Syntax,
-            }));
-        };
-        let feeds = numbered(alloc, &peers, feeds)?;
-        Ok(Relay {
-            own,
-            max_article: max_article.unwrap_or(MAX_ARTICLE),
-            cutoff: cutoff.unwrap_or(CUTOFF),
-            remember,
-            peers,
-            feeds,
-        })
-    }
 }
 
-/// Sets a value that may be set once.
-fn set_once<T: Copy>(value: &mut Option<T>, said: T) -> Result<(), Refusal> {
-    if value.is_some() {
-        return Err(Refusal::Faulty(Fault::Duplicate));
-    }
-    *value = Some(said);
-    Ok(())
+/// The settings, or the first fault that is looked for after the last line.
+fn finished(alloc: Global, draft: Draft) -> Result<Relay, ConfError>
+    requires { length draft.peers.items ≤ 1024 }
+    ensures { ConfGives relay_view result (draft_said (draft_view draft)) }
+{
+    let Draft {
+        own,
+        max_article,
+        cutoff,
+        remember,
+        peers,
+        feeds,
+        feed_names: _,
+    } = draft;
+    let Some(own) = own else {
+        return Err(ConfError::Faulty(LineFault {
+            line: 0,
+            fault: Fault::Syntax,
+        }));
+    };
+    let feeds = numbered(alloc, &peers, feeds)?;
+    Ok(Relay {
+        own,
+        max_article: max_article.unwrap_or(MAX_ARTICLE),
+        cutoff: cutoff.unwrap_or(CUTOFF),
+        remember,
+        peers,
+        feeds,
+    })
 }
 
 /// The expression that a text is.
-fn expression_of(alloc: Global, text: &[u8]) -> Result<Expr, Refusal> {
+fn expression_of(alloc: Global, text: &[u8]) -> Result<Expr, Refusal>
+    ensures { ExpressionGives text.now result }
+{
     match Expr::parse(alloc, text) {
         Ok(expression) => Ok(expression),
         Err(WildError::Memory) => Err(Refusal::Memory),
@@ -219,13 +285,27 @@ fn expression_of(alloc: Global, text: &[u8]) -> Result<Expr, Refusal> {
     }
 }
 
+/// Whether a peer has this name.
+fn has_peer(peers: &[Peer], name: &[u8]) -> bool
+    ensures { result ≡ list_any (bytes_eq name.now) (map (λ peer. peer.name) peers.now) }
+{
+    peers.iter().any(|peer| name == peer.name.as_slice())
+}
+
 /// The number of the peer of a name, where there is one.
-fn peer_of(peers: &[Peer], name: &[u8]) -> Option<usize> {
-    peers.iter().position(|peer| name == peer.name.as_slice())
+fn number_of(peers: &[Peer], name: &[u8]) -> Option<u16>
+    requires { length peers.now ≤ 1024 }
+    ensures { result ≡ known_number peers.now name.now }
+{
+    let number = peers.iter().position(|peer| name == peer.name.as_slice())?;
+    Some(number as u16)
 }
 
 /// The feeds by the numbers of their peers, or the first that is of no peer.
-fn numbered(alloc: Global, peers: &[Peer], named: Vec<NamedFeed>) -> Result<Vec<Feed>, ConfError> {
+fn numbered(alloc: Global, peers: &[Peer], named: Vec<NamedFeed>) -> Result<Vec<Feed>, ConfError>
+    requires { length peers.now ≤ 1024 }
+    ensures { ConfGives vec_items result (named_said peers.now named.items) }
+{
     let mut feeds = Vec::new(alloc);
     for feed in named {
         let NamedFeed {
@@ -249,14 +329,6 @@ fn numbered(alloc: Global, peers: &[Peer], named: Vec<NamedFeed>) -> Result<Vec<
     Ok(feeds)
 }
 
-/// The number of the peer of a name, where there is one of at most 65,535.
-fn number_of(peers: &[Peer], name: &[u8]) -> Option<u16> {
-    match peer_of(peers, name) {
-        Some(number) if number <= 65_535 => Some(number as u16),
-        _ => None,
-    }
-}
-
 /// What a line says, without fault.
 #[derive(Clone, Copy)]
 enum Line<'a> {
@@ -278,7 +350,8 @@ enum Line<'a> {
 
 /// Reads a line alone, but for the expression of a feed.
 fn relay_line(line: &[u8]) -> Result<Line<'_>, Fault>
-    ensures { raw_by result ≡ terms.relay_line line.now }
+    ensures says { raw_by result ≡ terms.relay_line line.now }
+    ensures named { IfOk result IsNamed }
 {
     let line = trim(line);
     if is_skipped(line) {
@@ -306,7 +379,8 @@ fn relay_line(line: &[u8]) -> Result<Line<'_>, Fault>
 
 /// Reads what follows `own`.
 fn own_line(rest: &[u8]) -> Result<Line<'_>, Fault>
-    ensures { raw_by result ≡ terms.own_line (one_of (words rest.now)) }
+    ensures named { IfOk result IsNamed }
+    ensures says { raw_by result ≡ terms.own_line (one_of (words rest.now)) }
 {
     match one_word(rest) {
         Some(identity) if is_identity(identity) => Ok(Line::Own(identity)),
@@ -330,7 +404,8 @@ fn number_line(least: u64, most: u64, rest: &[u8]) -> Result<u64, Fault>
 
 /// Reads what follows `peer`.
 fn peer_line(rest: &[u8]) -> Result<Line<'_>, Fault>
-    ensures { raw_by result ≡ terms.peer_line (three_of (words rest.now)) }
+    ensures named { IfOk result IsNamed }
+    ensures says { raw_by result ≡ terms.peer_line (three_of (words rest.now)) }
 {
     let Some((name, identity, port)) = three_words(rest) else {
         return Err(Fault::Syntax);
@@ -346,7 +421,8 @@ fn peer_line(rest: &[u8]) -> Result<Line<'_>, Fault>
 
 /// Reads what follows `feed`, but for the expression.
 fn feed_line(rest: &[u8]) -> Result<Line<'_>, Fault>
-    ensures { raw_by result ≡ terms.feed_line (three_of (words rest.now)) }
+    ensures says { raw_by result ≡ terms.feed_line (three_of (words rest.now)) }
+    ensures named { IfOk result IsNamed }
 {
     let Some((name, ring, text)) = three_words(rest) else {
         return Err(Fault::Syntax);

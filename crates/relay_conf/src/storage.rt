@@ -1,13 +1,14 @@
 //! storage.conf: the classes of articles (docs/FORMATS.md, Configuration).
 ghost use Rattle.std.specs.Prelude.{◌≡◌, map, Option, None, Some, Ok, IfOk, OnOk};
 ghost use Rattle.std.specs.Option.{option_to_list};
+ghost use Rattle.relay_conf.specs.Draft.{ExpressionGives};
 ghost use Rattle.relay_conf.specs.Faults.{ConfGives, LineGives};
 ghost use Rattle.relay_conf.specs.Lines.{lines_of};
 ghost use Rattle.relay_conf.specs.Settings.{buffers_view, group_view};
 ghost use Rattle.relay_conf.specs.Storage.{entry_view};
 ghost use Rattle.relay_conf.specs.Relay.{once};
 ghost use Rattle.relay_conf.specs.StorageDraft.{DraftGives, StepGives, NewsgroupsGive};
-ghost use Rattle.relay_conf.specs.StorageDraft.{ExpressionGives, draft_view, draft_said, stand_view};
+ghost use Rattle.relay_conf.specs.StorageDraft.{draft_view, draft_said, stand_view};
 ghost use Rattle.relay_conf.specs.StorageDraft.{nothing, no_lines, opened, closed, grouped};
 ghost use Rattle.relay_conf.specs.StorageDraft.{late_or, unknown_at};
 ghost use Rattle.relay_conf.specs.StorageLines as terms;

@@ -1,0 +1,48 @@
+-- Names as text, and sets of them.
+use Rattle.std.proofs.Common.{◌≡◌, ℕ, ◌<◌, Bool, true, false, cond, List, [], ◌∷◌, ◌++◌, map, refl, sym, ap, ◌∙◌, arith, rules, tests, get_or, zero, suc}
+use Rattle.std.specs.Prelude.{◌&&◌, ◌||◌, not, bytes_eq}
+use Rattle.std.specs.List.{list_all, list_any}
+use Rattle.std.specs.Str.{IsAscii, IsUtf8}
+use Rattle.std.proofs.lemmas.Str.{IsUtf8-from_ascii}
+use Rattle.std.proofs.lemmas.List.Folds.{list_any-append}
+use Rattle.std.proofs.lemmas.Slice.Eq.{bytes_eq-Decides}
+use Rattle.std.proofs.lemmas.Bool.Decides.{same_from_decides, Decides-like}
+use Rattle.relay_conf.specs.Words.{is_name, is_name_octet}
+use Rattle.relay_conf.proofs.Numerals.{and-parts}
+
+-- An octet of a name is ASCII.
+name_octet : (c : ℕ) → is_name_octet c ≡ true → c < 128
+name_octet c h = search (rules, tests)
+
+-- Octets of names are ASCII.
+name_octets : (word : List ℕ) → list_all is_name_octet word ≡ true → IsAscii word
+name_octets [] h i = omega arith
+name_octets (c ∷ word) h zero = name_octet c (and-parts (is_name_octet c) (list_all is_name_octet word) h).0
+name_octets (c ∷ word) h (suc i) = name_octets word (and-parts (is_name_octet c) (list_all is_name_octet word) h).1 i
+
+-- A name is text.
+pub name_utf8 : (word : List ℕ) → is_name word ≡ true → IsUtf8 word
+name_utf8 word h = IsUtf8-from_ascii word (name_octets word (and-parts _ (list_all is_name_octet word) h).1)
+
+-- A choice of true is an or.
+pub cond_or : (b c : Bool) → cond b true c ≡ b || c
+cond_or true c = refl
+cond_or false c = refl
+
+-- Texts are equal either way round.
+bytes_eq-sym : (xs ys : List ℕ) → bytes_eq xs ys ≡ bytes_eq ys xs
+bytes_eq-sym xs ys =
+    same_from_decides (bytes_eq xs ys) (bytes_eq ys xs) (bytes_eq-Decides xs ys)
+    (Decides-like (bytes_eq ys xs) sym sym (bytes_eq-Decides ys xs))
+
+-- One name more is found as well.
+pub any_more : (names : List (List ℕ)) (name other : List ℕ) → bytes_eq name other || list_any (bytes_eq other) names ≡ list_any (bytes_eq other) (names ++ name ∷ [])
+any_more names name other =
+    rw (bytes_eq-sym name other) (swapped (bytes_eq other name) (list_any (bytes_eq other) names))
+    ∙ sym (list_any-append (bytes_eq other) names (name ∷ []))
+  where
+    swapped : (a b : Bool) → a || b ≡ (b || (a || false))
+    swapped true true = refl
+    swapped true false = refl
+    swapped false true = refl
+    swapped false false = refl

@@ -1,0 +1,5 @@
+use Rattle.relay_conf.proofs.JoinedLines.{joined_by_crlf}
+use Rattle.relay_conf.proofs.laws.lines_joined_by_line_ends.Goals as goal
+
+pub returns : goal.returns
+returns c = joined_by_crlf

@@ -1,0 +1,181 @@
+-- How far the lines of relay.conf are read. No public contract cites it.
+use Rattle.std.specs.Prelude.{◌≡◌, ℕ, ◌+◌, ◌≤◌, nat_lt, List, [], ◌∷◌, ◌++◌, length, map, bytes_eq, unwrap_or, Option, None, Some, Result, Ok, Err, if◌then◌else◌}
+use Rattle.std.specs.List.{list_any}
+use Rattle.std.specs.Option.{option_to_list}
+use Rattle.std.specs.HashSet.{contains_text}
+use Rattle.news_terms.specs.Pattern.{Marked, ExpressionFault, IsExpressionText, HasLeftmostFault}
+use Rattle.relay_conf.specs.declared.faults.Fault.{Fault}
+use Rattle.relay_conf.specs.declared.faults.Fault.TheVariants.{UnknownName, Pattern}
+use Rattle.relay_conf.specs.declared.faults.LineFault.{LineFault}
+use Rattle.relay_conf.specs.declared.faults.ConfError.{ConfError}
+use Rattle.relay_conf.specs.declared.faults.ConfError.TheVariants as errors
+use Rattle.relay_conf.specs.declared.faults.Refusal.{Refusal}
+use Rattle.relay_conf.specs.declared.faults.Refusal.TheVariants.{Memory, Faulty}
+use Rattle.relay_conf.specs.declared.relay.Peer.{Peer}
+use Rattle.relay_conf.specs.declared.relay.Feed.{Feed}
+use Rattle.relay_conf.specs.declared.relay.NamedFeed.{NamedFeed}
+use Rattle.relay_conf.specs.declared.relay.Draft.{Draft}
+use Rattle.relay_conf.specs.Faults.{first_fault, whole_fault, unless_fault}
+use Rattle.relay_conf.specs.Relay.{RelayLine, RawLine, SaidLine, RawSays, LinesSay, Stand, stand_of, Skipped, Own, MaxArticle, Cutoff, Remember, PeerLine, FeedLine, line_fault, early_fault, peer_number, is_peer, no_own_fault, RelaySettings}
+use Rattle.relay_conf.specs.RelayViews.{HasEarlyFault}
+
+-- what lines so far say
+pub record Reading : Type 0 where
+  pub own : Option (List ℕ)
+  pub max_article : Option ℕ
+  pub cutoff : Option ℕ
+  pub remember : Option ℕ
+  pub peers : List Peer
+  pub feeds : List NamedFeed
+
+-- the draft as a reading
+abbrev pub draft_view : Draft → Reading
+draft_view d =
+    record {
+      own = d.own;
+      max_article = d.max_article;
+      cutoff = d.cutoff;
+      remember = d.remember;
+      peers = d.peers.items;
+      feeds = d.feeds.items;
+    }
+
+-- the reading of no lines
+abbrev pub nothing : Reading
+nothing = record { own = None; max_article = None; cutoff = None; remember = None; peers = []; feeds = [] }
+
+-- the reading with other peers
+abbrev pub with_peers : Reading → List Peer → Reading
+with_peers r peers = record r { peers = peers }
+
+-- what of a reading a further line may double
+abbrev pub stand_view : Reading → Stand
+stand_view r =
+    record {
+      owns = option_to_list r.own;
+      sizes = option_to_list r.max_article;
+      cutoffs = option_to_list r.cutoff;
+      remembers = option_to_list r.remember;
+      peers = r.peers;
+      feed_names = map (λ feed. feed.name) r.feeds;
+    }
+
+-- the reading after a line of this number that has no fault
+abbrev pub after_line : ℕ → Reading → RelayLine (List Marked) → Reading
+after_line number r Skipped = r
+after_line number r (Own identity) = record r { own = Some identity }
+after_line number r (MaxArticle octets) = record r { max_article = Some octets }
+after_line number r (Cutoff seconds) = record r { cutoff = Some seconds }
+after_line number r (Remember seconds) = record r { remember = Some seconds }
+after_line number r (PeerLine name identity port) =
+    record r { peers = r.peers ++ record { name = name; identity = identity; port = port } ∷ [] }
+after_line number r (FeedLine name ring expression) =
+    record r { feeds = r.feeds ++ record { line = number; name = name; ring = ring; expression = expression } ∷ [] }
+
+-- the line says this without fault, and this is the reading after it
+pub record Passes (number : ℕ) (r : Reading) (raw : RawLine) (after : Reading) : Type 0 where
+  pub line : RelayLine (List Marked)
+  pub says : RawSays raw (Ok line)
+  pub none : line_fault (stand_view r) (Ok line) ≡ None
+  pub reading : after ≡ after_line number r line
+
+-- the line says this, and this is its fault
+pub record Refuses (r : Reading) (raw : RawLine) (fault : Fault) : Type 0 where
+  pub said : SaidLine
+  pub says : RawSays raw said
+  pub found : line_fault (stand_view r) said ≡ Some fault
+
+-- the answer is what a line of this number says behind a reading, unless memory ran out
+abbrev pub StepGives : ℕ → Reading → RawLine → (after : Reading) → Result (Unit {0}) Refusal → Type 0
+StepGives number r raw after (Ok done) = Passes number r raw after
+StepGives number r raw after (Err Memory) = Unit {0}
+StepGives number r raw after (Err (Faulty fault)) = Refuses r raw fault
+
+-- the same of a feed
+abbrev pub FeedGives : ℕ → (name : List ℕ) (ring : ℕ) (text : List ℕ) → Reading → (after : Reading) → Result (Unit {0}) Refusal → Type 0
+FeedGives number name ring text r after result = StepGives number r (Ok (FeedLine name ring text)) after result
+
+-- the answer is the expression of a text, or that it has a fault, unless memory ran out
+abbrev pub ExpressionGives : (text : List ℕ) → Result (List Marked) Refusal → Type 0
+ExpressionGives text (Ok expression) = IsExpressionText text expression
+ExpressionGives text (Err Memory) = Unit {0}
+ExpressionGives text (Err (Faulty fault)) = (fault ≡ Pattern) × ((found : ExpressionFault) × HasLeftmostFault text found)
+
+-- the set has just the names of the feeds
+abbrev pub Lists : Draft → Type 0
+Lists d = (name : List ℕ) → contains_text d.feed_names.names name ≡ list_any (bytes_eq name) (map (λ feed. feed.name) d.feeds.items)
+
+-- the feed that a line of this number says, by the name of its peer
+abbrev pub named_of : ℕ → SaidLine → Option NamedFeed
+named_of number (Err fault) = None
+named_of number (Ok Skipped) = None
+named_of number (Ok (Own identity)) = None
+named_of number (Ok (MaxArticle octets)) = None
+named_of number (Ok (Cutoff seconds)) = None
+named_of number (Ok (Remember seconds)) = None
+named_of number (Ok (PeerLine name identity port)) = None
+named_of number (Ok (FeedLine name ring expression)) =
+    Some (record { line = number; name = name; ring = ring; expression = expression })
+
+-- the feeds that lines from this number on say
+abbrev pub named_from : ℕ → List SaidLine → List NamedFeed
+named_from number [] = []
+named_from number (line ∷ more) = option_to_list (named_of number line) ++ named_from (number + 1) more
+
+-- a reading is that of these lines
+pub record IsReadingOf (said : List SaidLine) (r : Reading) : Type 0 where
+  pub stand : stand_view r ≡ stand_of said
+  pub feeds : r.feeds ≡ named_from 1 said
+  pub few : length r.peers ≤ 1024
+
+-- lines say this without a fault, and this is their reading
+pub record ReadsTo (lines : List (List ℕ)) (r : Reading) : Type 0 where
+  pub said : List SaidLine
+  pub says : LinesSay lines said
+  pub none : first_fault early_fault [] said ≡ None
+  pub reading : IsReadingOf said r
+
+-- the answer is the reading of the lines, or their first fault that is looked for line by line,
+-- unless memory ran out
+abbrev pub DraftGives : (lines : List (List ℕ)) → Result Draft ConfError → Type 0
+DraftGives lines (Ok d) = ReadsTo lines (draft_view d)
+DraftGives lines (Err errors.Memory) = Unit {0}
+DraftGives lines (Err (errors.Faulty fault)) = HasEarlyFault lines fault
+
+-- the number of the peer of a name, where there is one
+abbrev pub known_number : List Peer → (name : List ℕ) → Option ℕ
+known_number peers name = if is_peer peers name then Some (peer_number peers name) else None
+
+-- the first feed of no peer
+abbrev pub first_unknown : List Peer → List NamedFeed → Option LineFault
+first_unknown peers [] = None
+first_unknown peers (feed ∷ more) =
+    if is_peer peers feed.name then first_unknown peers more
+    else Some (record { line = feed.line; fault = UnknownName })
+
+-- a feed by the number of its peer
+abbrev pub numbered_feed : List Peer → NamedFeed → Feed
+numbered_feed peers feed =
+    record { peer = peer_number peers feed.name; ring = feed.ring; expression = feed.expression }
+
+-- the feeds by the numbers of their peers, or the first that is of no peer
+abbrev pub named_said : List Peer → List NamedFeed → Result (List Feed) LineFault
+named_said peers named = unless_fault (first_unknown peers named) (Ok (map (numbered_feed peers) named))
+
+-- the settings of a reading
+abbrev pub reading_settings : Reading → RelaySettings
+reading_settings r =
+    record {
+      own = unwrap_or r.own [];
+      max_article = unwrap_or r.max_article 1000000;
+      cutoff = unwrap_or r.cutoff 864000;
+      remember = r.remember;
+      peers = r.peers;
+      feeds = map (numbered_feed r.peers) r.feeds;
+    }
+
+-- what a reading without early fault says
+abbrev pub draft_said : Reading → Result RelaySettings LineFault
+draft_said r =
+    unless_fault (whole_fault (no_own_fault (option_to_list r.own)))
+    (unless_fault (first_unknown r.peers r.feeds) (Ok (reading_settings r)))

@@ -1,0 +1,17 @@
+//! Laws of the lines of a file: nothing of the code stands on them.
+ghost use Rattle.std.specs.Prelude.{◌≡◌, ℕ, List, [], ◌∷◌, IsTrue};
+ghost use Rattle.std.specs.List.{list_all};
+ghost use Rattle.news_terms.specs.Article.{line_feed, line_end};
+ghost use Rattle.relay_conf.specs.Lines.{lines_of, joined_by, is_line};
+
+/// Lines joined by LF are the lines of that text.
+pub fn lines_joined_by_line_feeds()
+    ensures { (first : List ℕ) (more : List (List ℕ)) → IsTrue (list_all is_line (first ∷ more))
+        → lines_of (joined_by (line_feed ∷ []) (first ∷ more)) ≡ first ∷ more }
+{}
+
+/// Lines joined by CRLF are the lines of that text: so LF or CRLF makes no difference.
+pub fn lines_joined_by_line_ends()
+    ensures { (first : List ℕ) (more : List (List ℕ)) → IsTrue (list_all is_line (first ∷ more))
+        → lines_of (joined_by line_end (first ∷ more)) ≡ first ∷ more }
+{}
