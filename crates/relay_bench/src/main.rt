@@ -1,8 +1,9 @@
-//! Benchmarks: how fast a stream is cut. They promise nothing and are no tests; with no words the program
+//! Benchmarks: how fast a stream is cut, and how fast configuration files are read. They promise nothing and are no tests; with no words the program
 //! does nothing.
 #![tactic(auto)]
 
 mod cutting;
+mod settings;
 
 use std::process::ExitCode;
 use std::{env, io};
@@ -27,8 +28,12 @@ fn run(rt: &HostRuntime) -> io::Result<ExitCode> {
             cutting::measure(rt)?;
             Ok(ExitCode::SUCCESS)
         }
+        Some(word) if word.as_str() == "settings" => {
+            settings::measure(rt)?;
+            Ok(ExitCode::SUCCESS)
+        }
         Some(_) => {
-            eprintln!(rt; "relay_bench: cutting is the one benchmark that there is")?;
+            eprintln!(rt; "relay_bench: cutting and settings are the benchmarks that there are")?;
             Ok(ExitCode::FAILURE)
         }
     }
