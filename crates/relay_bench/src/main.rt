@@ -6,6 +6,7 @@ mod articles;
 mod cutting;
 mod paths;
 mod patterns;
+mod settings;
 
 use std::process::ExitCode;
 use std::{env, io};
@@ -37,8 +38,9 @@ fn measure(rt: &HostRuntime, word: &str) -> io::Result<ExitCode> {
         "cutting" => cutting::measure(rt)?,
         "paths" => paths::measure(rt)?,
         "patterns" => patterns::measure(rt)?,
+        "settings" => settings::measure(rt)?,
         _ => {
-            eprintln!(rt; "relay_bench: the benchmarks are articles, cutting, paths and patterns")?;
+            eprintln!(rt; "relay_bench: the benchmarks are articles, cutting, paths, patterns and settings")?;
             return Ok(ExitCode::FAILURE);
         }
     }

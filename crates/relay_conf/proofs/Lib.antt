@@ -8,3 +8,5 @@ pub mod Numbered
 pub mod Numerals
 pub mod Parts
 pub mod Readings
+pub mod StorageReadings
+pub mod StorageWords

@@ -6,4 +6,7 @@ pub mod Relay
 pub mod RelayViews
 pub mod Settings
 pub mod Storage
+pub mod StorageDraft
+pub mod StorageLines
+pub mod StorageViews
 pub mod Words

@@ -1,9 +1,11 @@
 //! The whole configuration.
-ghost use Rattle.std.specs.Prelude.{◌≡◌, IfOk};
+ghost use Rattle.std.specs.Prelude.{◌≡◌, map, IfOk};
 ghost use Rattle.relay_conf.specs.Cycbuff.{cycbuff_of};
 ghost use Rattle.relay_conf.specs.Lines.{lines_of};
 ghost use Rattle.relay_conf.specs.RelayViews.{HasSettings, relay_view};
 ghost use Rattle.relay_conf.specs.Settings.{buffers_view};
+ghost use Rattle.relay_conf.specs.Storage.{entry_view};
+ghost use Rattle.relay_conf.specs.StorageViews.{HasEntries};
 
 use crate::cycbuff::{Buffers, read_cycbuff};
 use crate::faults::ConfError;
@@ -34,6 +36,8 @@ impl Config {
     pub fn k1(alloc: Global) -> Result<Config, ConfError>
         ensures cycbuff { IfOk result (λ config.
             cycbuff_of (lines_of K1_CYCBUFF.now) ≡ Ok (buffers_view config.buffers)) }
+        ensures storage { IfOk result (λ config. HasEntries (buffers_view config.buffers).groups
+            (lines_of K1_STORAGE.now) (map entry_view config.methods.items)) }
         ensures relay { IfOk result (λ config.
             HasSettings (lines_of K1_RELAY.now) (relay_view config.relay)) }
     {

@@ -12,6 +12,7 @@ mod numbers;
 mod octets;
 mod relay;
 mod storage;
+mod storage_lines;
 mod words;
 
 pub use config::{Config, K1_CYCBUFF, K1_RELAY, K1_STORAGE};

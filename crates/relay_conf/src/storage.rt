@@ -1,132 +1,260 @@
 //! storage.conf: the classes of articles (docs/FORMATS.md, Configuration).
-use crate::cycbuff::Buffers;
+ghost use Rattle.std.specs.Prelude.{◌≡◌, map, Option, None, Some, Ok, IfOk, OnOk};
+ghost use Rattle.std.specs.Option.{option_to_list};
+ghost use Rattle.relay_conf.specs.Draft.{ExpressionGives};
+ghost use Rattle.relay_conf.specs.Faults.{ConfGives, LineGives};
+ghost use Rattle.relay_conf.specs.Lines.{lines_of};
+ghost use Rattle.relay_conf.specs.Settings.{buffers_view, group_view};
+ghost use Rattle.relay_conf.specs.Storage.{entry_view};
+ghost use Rattle.relay_conf.specs.Relay.{once};
+ghost use Rattle.relay_conf.specs.StorageDraft.{DraftGives, StepGives, NewsgroupsGive};
+ghost use Rattle.relay_conf.specs.StorageDraft.{draft_view, draft_said, stand_view};
+ghost use Rattle.relay_conf.specs.StorageDraft.{nothing, no_lines, opened, closed, grouped};
+ghost use Rattle.relay_conf.specs.StorageDraft.{late_or, unknown_at};
+ghost use Rattle.relay_conf.specs.StorageLines as terms;
+ghost use Rattle.relay_conf.specs.StorageViews.{StorageGives};
+
+use crate::cycbuff::{Buffers, GroupConf};
 use crate::faults::{ConfError, Fault, LineFault, Refusal};
-use crate::lines::{is_skipped, lines_of, trim};
-use crate::numbers::number_within;
-use crate::words::{cut, first_word, is_name, three_words};
+use crate::lines::lines_of;
+use crate::storage_lines::{Line, Sizes, storage_line};
 use std::alloc::Global;
+use std::mem;
 use uwild::{Expr, WildError};
 
 /// An entry of storage.conf: the articles that it takes, their class, and the number of the group
-/// of buffers that they go to. No upper limit is `None`.
+/// of buffers that they go to. Sizes are in octets, both ends included; no upper limit is `None`.
 #[derive(Debug, Drop)]
 pub struct Method {
     pub class: u8,
     pub newsgroups: Expr,
-    pub group: u16,
+    pub group: usize,
     pub smallest: u64,
     pub largest: Option<u64>,
     pub exactmatch: bool,
 }
 
+/// The sizes without `size`.
+const EVERY_SIZE: Sizes = Sizes {
+    smallest: 0,
+    largest: None,
+};
+
 /// Reads the text of storage.conf, over the groups of cycbuff.conf.
-pub fn read_storage(
-    alloc: Global,
-    text: &[u8],
-    buffers: &Buffers,
-) -> Result<Vec<Method>, ConfError> {
+pub fn read_storage(alloc: Global, text: &[u8], buffers: &Buffers) -> Result<Vec<Method>, ConfError>
+    ensures { StorageGives result (buffers_view buffers.now).groups (lines_of text.now) }
+{
     let lines = lines_of(alloc, text)?;
-    let mut draft = Draft {
-        methods: Vec::new(alloc),
-        entry: None,
-        late: None,
-    };
+    let draft = read_lines(alloc, &buffers.groups, &lines)?;
+    finished(draft)
+}
+
+/// Reads the lines up to the first fault that is looked for line by line.
+fn read_lines(alloc: Global, groups: &[GroupConf], lines: &[&[u8]]) -> Result<Draft, ConfError>
+    ensures { DraftGives (map group_view groups.now) (map (λ line. line.now) lines.now) result }
+{
+    let mut draft = Draft::new(alloc);
     for (index, line) in lines.iter().enumerate() {
-        if let Err(refusal) = draft.add_line(alloc, buffers, index + 1, line) {
+        if let Err(refusal) = draft.add_line(alloc, groups, index + 1, line) {
             return Err(refusal.at(index + 1));
         }
     }
-    draft.finish()
+    Ok(draft)
 }
 
 /// What the lines so far say.
 #[derive(Drop)]
 struct Draft {
     methods: Vec<Method>,
-    /// The entry that is open.
-    entry: Option<Entry>,
+    /// Whether an entry is open.
+    is_inside: bool,
+    /// What is said of the open entry.
+    entry: OpenEntry,
     /// The first fault that is looked for after the last line.
     late: Option<LineFault>,
 }
 
 /// What the lines of an entry so far say.
 #[derive(Drop)]
-struct Entry {
+struct OpenEntry {
     class: Option<u8>,
     newsgroups: Option<Expr>,
-    group: Option<u16>,
-    size: Option<Sizes>,
+    group: Option<usize>,
+    sizes: Option<Sizes>,
     exactmatch: Option<bool>,
 }
 
-/// The sizes that an entry takes; no upper limit is `None`.
-#[derive(Clone, Copy)]
-struct Sizes {
-    smallest: u64,
-    largest: Option<u64>,
+impl OpenEntry {
+    /// An entry of which nothing is said.
+    fn new() -> OpenEntry
+        ensures { stand_view result ≡ nothing }
+    {
+        OpenEntry {
+            class: None,
+            newsgroups: None,
+            group: None,
+            sizes: None,
+            exactmatch: None,
+        }
+    }
+
+    /// Adds the class.
+    fn add_class(&mut self, class: u8) -> Result<(), Refusal>
+        ensures fault { LineGives result (once (option_to_list self.old.class)) }
+        ensures class { OnOk result (self.new ≡ record self.old { class = Some class }) }
+    {
+        if self.class.is_some() {
+            return Err(Refusal::Faulty(Fault::Duplicate));
+        }
+        self.class = Some(class);
+        Ok(())
+    }
+
+    /// Adds the expression.
+    fn add_newsgroups(&mut self, expression: Expr) -> Result<(), Refusal>
+        ensures fault { LineGives result (once (option_to_list self.old.newsgroups)) }
+        ensures newsgroups { OnOk result (self.new
+            ≡ record self.old { newsgroups = Some expression }) }
+    {
+        if self.newsgroups.is_some() {
+            return Err(Refusal::Faulty(Fault::Duplicate));
+        }
+        self.newsgroups = Some(expression);
+        Ok(())
+    }
+
+    /// Adds the number of the group.
+    fn add_group(&mut self, group: usize) -> Result<(), Refusal>
+        ensures fault { LineGives result (once (option_to_list self.old.group)) }
+        ensures group { OnOk result (self.new ≡ record self.old { group = Some group }) }
+    {
+        if self.group.is_some() {
+            return Err(Refusal::Faulty(Fault::Duplicate));
+        }
+        self.group = Some(group);
+        Ok(())
+    }
+
+    /// Adds the sizes.
+    fn add_sizes(&mut self, sizes: Sizes) -> Result<(), Refusal>
+        ensures fault { LineGives result (once (option_to_list self.old.sizes)) }
+        ensures sizes { OnOk result (self.new ≡ record self.old { sizes = Some sizes }) }
+    {
+        if self.sizes.is_some() {
+            return Err(Refusal::Faulty(Fault::Duplicate));
+        }
+        self.sizes = Some(sizes);
+        Ok(())
+    }
+
+    /// Adds whether each newsgroup has to match.
+    fn add_exactmatch(&mut self, exactmatch: bool) -> Result<(), Refusal>
+        ensures fault { LineGives result (once (option_to_list self.old.exactmatch)) }
+        ensures exact { OnOk result (self.new ≡ record self.old { exactmatch = Some exactmatch }) }
+    {
+        if self.exactmatch.is_some() {
+            return Err(Refusal::Faulty(Fault::Duplicate));
+        }
+        self.exactmatch = Some(exactmatch);
+        Ok(())
+    }
 }
 
 impl Draft {
+    fn new(alloc: Global) -> Draft
+        ensures { draft_view result ≡ no_lines }
+    {
+        Draft {
+            methods: Vec::new(alloc),
+            is_inside: false,
+            entry: OpenEntry::new(),
+            late: None,
+        }
+    }
+
     /// Adds what a line says.
     fn add_line(
         &mut self,
         alloc: Global,
-        buffers: &Buffers,
+        groups: &[GroupConf],
         number: usize,
         line: &[u8],
-    ) -> Result<(), Refusal> {
-        let line = trim(line);
-        if is_skipped(line) {
-            return Ok(());
-        }
-        match self.entry.take() {
-            None => self.open(number, line),
-            Some(entry) => self.go_on(alloc, buffers, number, line, entry),
+    ) -> Result<(), Refusal>
+        ensures { StepGives (map group_view groups.now) number (draft_view self.old)
+            (terms.storage_line self.old.is_inside line.now) (draft_view self.new) result }
+    {
+        match storage_line(self.is_inside, line) {
+            Ok(Line::Skipped) => Ok(()),
+            Ok(Line::Opens(method)) => self.open_entry(number, method),
+            Ok(Line::Closes) => self.close_entry(),
+            Ok(Line::Class(class)) => self.entry.add_class(class),
+            Ok(Line::Newsgroups(text)) => self.add_newsgroups(alloc, text),
+            Ok(Line::Options(name)) => self.add_options(groups, number, name),
+            Ok(Line::Size(sizes)) => self.entry.add_sizes(sizes),
+            Ok(Line::ExactMatch(exactmatch)) => self.entry.add_exactmatch(exactmatch),
+            Err(fault) => Err(Refusal::Faulty(fault)),
         }
     }
 
-    /// Opens an entry.
-    fn open(&mut self, number: usize, line: &[u8]) -> Result<(), Refusal> {
-        let Some(name) = method_name(line) else {
-            return Err(Refusal::Faulty(Fault::Syntax));
-        };
-        if name != b"cnfs".as_slice() {
+    /// Opens an entry of this method.
+    fn open_entry(&mut self, number: usize, method: &[u8]) -> Result<(), Refusal>
+        ensures opened { OnOk result (draft_view self.new
+            ≡ opened number (draft_view self.old) method.now) }
+        ensures taken { LineGives result None }
+    {
+        if method != b"cnfs".as_slice() {
             self.note(number);
         }
-        self.entry = Some(Entry {
-            class: None,
-            newsgroups: None,
-            group: None,
-            size: None,
-            exactmatch: None,
-        });
+        self.is_inside = true;
+        self.entry = OpenEntry::new();
         Ok(())
     }
 
-    /// Adds a line to the open entry, or closes that.
-    fn go_on(
+    /// Closes the open entry.
+    fn close_entry(&mut self) -> Result<(), Refusal>
+        ensures fault { LineGives result
+            (terms.line_fault (stand_view self.old.entry) (Ok terms.Closes)) }
+        ensures entries { OnOk result (draft_view self.new ≡ closed (draft_view self.old)) }
+    {
+        let entry = mem::replace(&mut self.entry, OpenEntry::new());
+        self.methods.push(method_of(entry)?)?;
+        self.is_inside = false;
+        Ok(())
+    }
+
+    /// Adds the expression that a text is.
+    fn add_newsgroups(&mut self, alloc: Global, text: &[u8]) -> Result<(), Refusal>
+        ensures { NewsgroupsGive text.now (draft_view self.old) (draft_view self.new) result }
+    {
+        let expression = expression_of(alloc, text)?;
+        self.entry.add_newsgroups(expression)
+    }
+
+    /// Adds the group of a name.
+    fn add_options(
         &mut self,
-        alloc: Global,
-        buffers: &Buffers,
+        groups: &[GroupConf],
         number: usize,
-        line: &[u8],
-        entry: Entry,
-    ) -> Result<(), Refusal> {
-        if line == b"}".as_slice() {
-            let method = closed(entry)?;
-            self.methods.push(method)?;
-            return Ok(());
-        }
-        let mut entry = entry;
-        if set_key(alloc, buffers, line, &mut entry)? {
+        name: &[u8],
+    ) -> Result<(), Refusal>
+        ensures fault { LineGives result (once (option_to_list self.old.entry.group)) }
+        ensures group { OnOk result (draft_view self.new
+            ≡ grouped (map group_view groups.now) number (draft_view self.old) name.now) }
+    {
+        let group = group_number(groups, name);
+        self.entry.add_group(group)?;
+        if group >= groups.len() {
             self.note(number);
         }
-        self.entry = Some(entry);
         Ok(())
     }
 
     /// Notes that a name on this line stands for nothing.
-    fn note(&mut self, line: usize) {
+    fn note(&mut self, line: usize)
+        ensures { self.new ≡ record self.old {
+          late = late_or self.old.late (unknown_at line);
+        } }
+    {
         if self.late.is_none() {
             self.late = Some(LineFault {
                 line,
@@ -134,53 +262,25 @@ impl Draft {
             });
         }
     }
-
-    /// The entries, or the first fault that is looked for after the last line.
-    fn finish(self) -> Result<Vec<Method>, ConfError> {
-        let Draft {
-            methods,
-            entry,
-            late,
-        } = self;
-        if entry.is_some() {
-            return Err(ConfError::Faulty(LineFault {
-                line: 0,
-                fault: Fault::Syntax,
-            }));
-        }
-        match late {
-            Some(fault) => Err(ConfError::Faulty(fault)),
-            None => Ok(methods),
-        }
-    }
-}
-
-/// The name of the method that a line opens, where it is of that form.
-fn method_name(line: &[u8]) -> Option<&[u8]> {
-    let (first, second, third) = three_words(line)?;
-    if first == b"method".as_slice() && is_name(second) && third == b"{".as_slice() {
-        Some(second)
-    } else {
-        None
-    }
 }
 
 /// The entry whose lines are read.
-fn closed(entry: Entry) -> Result<Method, Refusal> {
-    let Entry {
+fn method_of(entry: OpenEntry) -> Result<Method, Refusal>
+    ensures fault { LineGives result (terms.line_fault (stand_view entry) (Ok terms.Closes)) }
+    ensures entry { IfOk result (λ method.
+        entry_view method ≡ terms.entry_of (stand_view entry)) }
+{
+    let OpenEntry {
         class,
         newsgroups,
         group,
-        size,
+        sizes,
         exactmatch,
     } = entry;
     let (Some(class), Some(newsgroups), Some(group)) = (class, newsgroups, group) else {
         return Err(Refusal::Faulty(Fault::Syntax));
     };
-    let sizes = size.unwrap_or(Sizes {
-        smallest: 0,
-        largest: None,
-    });
+    let sizes = sizes.unwrap_or(EVERY_SIZE);
     Ok(Method {
         class,
         newsgroups,
@@ -191,190 +291,46 @@ fn closed(entry: Entry) -> Result<Method, Refusal> {
     })
 }
 
-/// The keys of an entry.
-#[derive(Clone, Copy)]
-enum Key {
-    Class,
-    Newsgroups,
-    Options,
-    Size,
-    ExactMatch,
-}
-
-/// The key that the word is.
-fn key_of(word: &[u8]) -> Option<Key> {
-    if word == b"class".as_slice() {
-        Some(Key::Class)
-    } else if word == b"newsgroups".as_slice() {
-        Some(Key::Newsgroups)
-    } else if word == b"options".as_slice() {
-        Some(Key::Options)
-    } else if word == b"size".as_slice() {
-        Some(Key::Size)
-    } else if word == b"exactmatch".as_slice() {
-        Some(Key::ExactMatch)
-    } else {
-        None
+/// The expression that a text is.
+fn expression_of(alloc: Global, text: &[u8]) -> Result<Expr, Refusal>
+    ensures { ExpressionGives text.now result }
+{
+    match Expr::parse(alloc, text) {
+        Ok(expression) => Ok(expression),
+        Err(WildError::Memory) => Err(Refusal::Memory),
+        Err(_) => Err(Refusal::Faulty(Fault::Pattern)),
     }
 }
 
-/// Sets what a line of an entry says, and answers whether it names a group that isn't there.
-fn set_key(
-    alloc: Global,
-    buffers: &Buffers,
-    line: &[u8],
-    entry: &mut Entry,
-) -> Result<bool, Refusal> {
-    let (word, value) = cut(line, b':');
-    let Some(value) = value else {
-        return Err(Refusal::Faulty(fault_without_colon(line)));
-    };
-    let Some(key) = key_of(word) else {
-        return Err(Refusal::Faulty(Fault::UnknownKey));
-    };
-    let value = trim(value);
-    if value.is_empty() && !matches!(key, Key::Newsgroups) {
-        return Err(Refusal::Faulty(Fault::Syntax));
-    }
-    match key {
-        Key::Class => set_class(entry, value)?,
-        Key::Newsgroups => set_newsgroups(alloc, entry, value)?,
-        Key::Options => return set_options(buffers, entry, value),
-        Key::Size => set_size(entry, value)?,
-        Key::ExactMatch => set_exactmatch(entry, value)?,
-    }
-    Ok(false)
-}
-
-/// The fault of a line of an entry that has no colon: of no form where its first word is one that
-/// the file knows.
-fn fault_without_colon(line: &[u8]) -> Fault {
-    match first_word(line) {
-        Some((word, _)) if is_known_word(word) => Fault::Syntax,
-        _ => Fault::UnknownKey,
-    }
-}
-
-/// Whether the word may begin a line of storage.conf.
-fn is_known_word(word: &[u8]) -> bool {
-    key_of(word).is_some() || word == b"method".as_slice() || word == b"}".as_slice()
-}
-
-/// Sets `class`.
-fn set_class(entry: &mut Entry, value: &[u8]) -> Result<(), Refusal> {
-    let Some(class) = number_within(0, 255, value) else {
-        return Err(Refusal::Faulty(Fault::Number));
-    };
-    if entry.class.is_some() {
-        return Err(Refusal::Faulty(Fault::Duplicate));
-    }
-    entry.class = Some(class as u8);
-    Ok(())
-}
-
-/// Sets `newsgroups`.
-fn set_newsgroups(alloc: Global, entry: &mut Entry, value: &[u8]) -> Result<(), Refusal> {
-    let expression = match Expr::parse(alloc, value) {
-        Ok(expression) => expression,
-        Err(WildError::Memory) => return Err(Refusal::Memory),
-        Err(_) => return Err(Refusal::Faulty(Fault::Pattern)),
-    };
-    if entry.newsgroups.is_some() {
-        return Err(Refusal::Faulty(Fault::Duplicate));
-    }
-    entry.newsgroups = Some(expression);
-    Ok(())
-}
-
-/// Sets `options`, and answers whether it names a group that isn't there.
-fn set_options(buffers: &Buffers, entry: &mut Entry, value: &[u8]) -> Result<bool, Refusal> {
-    if !is_name(value) {
-        return Err(Refusal::Faulty(Fault::Syntax));
-    }
-    if entry.group.is_some() {
-        return Err(Refusal::Faulty(Fault::Duplicate));
-    }
-    let group = group_of(buffers, value);
-    entry.group = Some(group.unwrap_or(0));
-    Ok(group.is_none())
-}
-
-/// The number of the group of a name, where there is one.
-fn group_of(buffers: &Buffers, name: &[u8]) -> Option<u16> {
-    match buffers
-        .groups
+/// The number of the group of a name: how many stand before the first of that name.
+fn group_number(groups: &[GroupConf], name: &[u8]) -> usize
+    ensures { result ≡ terms.group_number (map group_view groups.now) name.now }
+{
+    groups
         .iter()
         .position(|group| name == group.name.as_slice())
-    {
-        Some(number) if number <= 65_535 => Some(number as u16),
-        _ => None,
-    }
+        .unwrap_or(groups.len())
 }
 
-/// Sets `size`.
-fn set_size(entry: &mut Entry, value: &[u8]) -> Result<(), Refusal> {
-    let sizes = match sizes_of(value) {
-        Ok(sizes) => sizes,
-        Err(fault) => return Err(Refusal::Faulty(fault)),
-    };
-    if entry.size.is_some() {
-        return Err(Refusal::Faulty(Fault::Duplicate));
+/// The entries, or the first fault that is looked for after the last line.
+fn finished(draft: Draft) -> Result<Vec<Method>, ConfError>
+    ensures { ConfGives (λ methods. map entry_view methods.items) result
+        (draft_said (draft_view draft)) }
+{
+    let Draft {
+        methods,
+        is_inside,
+        entry: _,
+        late,
+    } = draft;
+    if is_inside {
+        return Err(ConfError::Faulty(LineFault {
+            line: 0,
+            fault: Fault::Syntax,
+        }));
     }
-    entry.size = Some(sizes);
-    Ok(())
-}
-
-/// The sizes that a value says: `min` or `min,max`, where a max of 0 or none is no limit.
-fn sizes_of(value: &[u8]) -> Result<Sizes, Fault> {
-    let (smallest, largest) = match cut(value, b',') {
-        (smallest, None) => (smallest, b"0".as_slice()),
-        (smallest, Some(b"")) => (smallest, b"0".as_slice()),
-        (smallest, Some(largest)) => (smallest, largest),
-    };
-    if let (_, Some(_)) = cut(largest, b',') {
-        return Err(Fault::Syntax);
+    match late {
+        Some(fault) => Err(ConfError::Faulty(fault)),
+        None => Ok(methods),
     }
-    match (size_of(smallest), size_of(largest)) {
-        (Some(smallest), Some(0)) => Ok(Sizes {
-            smallest,
-            largest: None,
-        }),
-        (Some(smallest), largest @ Some(_)) => Ok(Sizes { smallest, largest }),
-        _ => Err(Fault::Number),
-    }
-}
-
-/// The size that a word says.
-fn size_of(word: &[u8]) -> Option<u64> {
-    number_within(0, u64::MAX, word)
-}
-
-/// Sets `exactmatch`.
-fn set_exactmatch(entry: &mut Entry, value: &[u8]) -> Result<(), Refusal> {
-    let Some(exactmatch) = truth_of(value) else {
-        return Err(Refusal::Faulty(Fault::Syntax));
-    };
-    if entry.exactmatch.is_some() {
-        return Err(Refusal::Faulty(Fault::Duplicate));
-    }
-    entry.exactmatch = Some(exactmatch);
-    Ok(())
-}
-
-/// What `true`, `yes`, `on` or `false`, `no`, `off` say, without regard to ASCII case.
-fn truth_of(word: &[u8]) -> Option<bool> {
-    if is_one_of(word, b"true", b"yes", b"on") {
-        Some(true)
-    } else if is_one_of(word, b"false", b"no", b"off") {
-        Some(false)
-    } else {
-        None
-    }
-}
-
-/// Whether the word is one of these, without regard to ASCII case.
-fn is_one_of(word: &[u8], first: &[u8], second: &[u8], third: &[u8]) -> bool {
-    word.eq_ignore_ascii_case(first)
-        || word.eq_ignore_ascii_case(second)
-        || word.eq_ignore_ascii_case(third)
 }
