@@ -1,0 +1,4 @@
+mod MarkLemmas
+mod Places
+mod Finished
+mod Keeping
