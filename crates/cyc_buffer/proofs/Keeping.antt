@@ -90,3 +90,25 @@ block_before buffer begins b since first index article sized none finished insid
       inl p ↦ (was, p.0, p.1)
     | inr past ↦ absurd (not_past buffer begins since first index article l inside past)
     ]
+
+-- a block of an article that wasn't passed, and isn't by a begin, is not passed after it
+pub block_after : (buffer : Buffer) (begins : List Begin) (b : Begin) (since first index : ℕ) (article : Article)
+    → AllByRecursion (IsSized buffer.blocks) begins
+    → finished_at buffer begins since first ≡ Some article → index < size_of (length article.text)
+    → (let head = as_cycles buffer (head_of buffer.blocks begins) in
+       let at = as_cycles buffer (place_after buffer.blocks (head_of buffer.blocks begins) b.fresh b.size) in
+       IsHeld head.run head.used since (first + index)
+       → passes buffer.blocks head.run head.used at.run at.used b.size (first + index) ≡ false
+       → (finished_at buffer (b ∷ begins) since first ≡ Some article)
+       × IsHeld at.run (at.used + b.size) since (first + index))
+block_after buffer begins b since first index article sized finished inside held unpassed =
+    let l = lies buffer begins since first article sized finished in
+    (stays_finished buffer begins b since first article sized finished,
+    held_after buffer.blocks (as_cycles buffer (head_of buffer.blocks begins))
+    (as_cycles buffer (place_after buffer.blocks (head_of buffer.blocks begins) b.fresh b.size)) b.size since (first + index)
+    (placed_cycles buffer (head_of buffer.blocks begins) b.fresh b.size) (omega (arith, l.within, inside)) held unpassed)
+
+-- the head that a register agrees with, as its line has it
+pub line_is : (r : Register) (h : History) → Keeps r h → line_head r.line ≡ as_cycles h.buffer (head_of h.buffer.blocks h.begins)
+line_is r h keeps = ap (λ n. head_at n r.line.used) keeps.cycle ∙ ap (head_at (h.buffer.first_cycle + (head_of h.buffer.blocks h.begins).run)) keeps.used
+

@@ -2,3 +2,4 @@ mod MarkLemmas
 mod Places
 mod Finished
 mod Keeping
+mod Beginning

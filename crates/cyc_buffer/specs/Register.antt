@@ -87,6 +87,7 @@ pub record IsWriting (h : History) (p : Progress) (w : Writing) : Type 0 where
   pub newest : h.begins ≡ record { size = size_of w.octets; fresh = fresh; finished = None } ∷ earlier
   pub token : token_view p.token ≡ token_at h.buffer
       (place_after h.buffer.blocks (head_of h.buffer.blocks earlier) fresh (size_of w.octets)) w.class w.octets
+  pub some : 1 ≤ w.octets
   pub class : w.class < 2 ^ 8
   pub octets : w.octets < 2 ^ 32
   pub written : p.written ≡ w.blocks
