@@ -3,3 +3,5 @@ mod Places
 mod Finished
 mod Keeping
 mod Beginning
+mod Finishing
+mod OpenLemmas

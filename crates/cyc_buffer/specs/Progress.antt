@@ -11,6 +11,11 @@ abbrev pub end_of : Option Progress → ℕ
 end_of None = 0
 end_of (Some p) = p.token.first + size_of p.token.length
 
+-- the block after the first one of the open write, or 0 where there is none
+abbrev pub start_of : Option Progress → ℕ
+start_of None = 0
+start_of (Some p) = p.token.first + 1
+
 -- this is the open write
 abbrev pub IsTheOpen : Open → Option Progress → Type 0
 IsTheOpen write None = ⊥

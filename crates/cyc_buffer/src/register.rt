@@ -1,6 +1,6 @@
 ghost use Rattle.std.specs.Prelude.{◌≡◌, ◌≢◌, ◌≤◌, ◌<◌, ◌*◌, ◌+◌, ◌↔◌, ℕ, length, false, true, IfOk};
 ghost use Rattle.news_terms.specs.Places.{size_of};
-ghost use Rattle.cyc_buffer.specs.Progress.{end_of};
+ghost use Rattle.cyc_buffer.specs.Progress.{start_of, end_of};
 
 use crate::answers::{BufError, Fault, FaultKind, Front};
 use crate::line::{Line, Place, size_of};
@@ -47,7 +47,8 @@ pub(crate) struct Register {
     pub(crate) progress: Option<Progress>,
     ghost starts_room: { line.blocks ≤ 64 * length starts.words.items },
     ghost kept_room: { line.blocks ≤ 64 * length kept.words.items },
-    ghost within: { end_of progress ≤ line.blocks },
+    ghost begins_within: { start_of progress ≤ line.blocks },
+    ghost ends_within: { end_of progress ≤ line.blocks },
 }
 
 /// What the register says of a block that is asked for.
@@ -244,6 +245,7 @@ impl Register {
     }
 
     /// Finishes the open write.
+    #[tactic(auto, using(crate::proofs::OpenLemmas::open_end, crate::proofs::OpenLemmas::open_start))]
     pub(crate) fn finish(&mut self, write: Open) -> Token
         requires open { IsTheOpen write self.old.progress }
         requires written { written_of self.old.progress ≡ size_of write.token.length }
@@ -253,9 +255,10 @@ impl Register {
         ensures progress { self.new.progress ≡ None }
     {
         let Open { token } = write;
-        let first = token.first;
+        let Token { first, length, .. } = token;
+        prove!(first < self.line.blocks);
         self.starts.change(first, first + 1, true);
-        self.kept.change(first, first + size_of(token.length), true);
+        self.kept.change(first, first + size_of(length), true);
         self.progress = None;
         token
     }
