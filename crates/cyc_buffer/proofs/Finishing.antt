@@ -25,7 +25,7 @@ same_some : {X : Type 0} → {x y : X} → Some x ≡ Some y → x ≡ y
 same_some e = cc
 
 -- a history of these parts
-abbrev history_of : Buffer → List Begin → Option Writing → History
+abbrev pub history_of : Buffer → List Begin → Option Writing → History
 history_of buffer begins writing = record { buffer = buffer; begins = begins; writing = writing }
 
 -- a block among some

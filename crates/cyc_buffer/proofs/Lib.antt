@@ -5,3 +5,5 @@ mod Keeping
 mod Beginning
 mod Finishing
 mod OpenLemmas
+mod Contents
+mod Writes

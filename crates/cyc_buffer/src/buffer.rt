@@ -1,4 +1,7 @@
-ghost use Rattle.std.specs.Prelude.{◌≡◌, ◌≤◌, ◌<◌, ℕ, length};
+ghost use Rattle.std.specs.Prelude.{◌≡◌, ◌≤◌, ◌<◌, ◌*◌, ℕ, length, take, IfSome, IsSomeAnd};
+ghost use Rattle.news_terms.specs.BlockImage.{Block, IsBlock, chunk, block_image as image_of};
+ghost use Rattle.cyc_block.specs.Image.{stamped};
+ghost use Rattle.cyc_buffer.specs.Progress.{stamp_of};
 
 use crate::answers::{BufError, FaultKind, Found, Front};
 use crate::register::{Look, Open, Register};
@@ -50,7 +53,7 @@ impl<S: BlockStore> Buffer<S> {
         requires { 1 ≤ length }
         // Refused for the first reason, and then nothing is changed; else begun.
         ensures refusal { (h : History) → Agrees self.old h → error_of result ≡ refusal h length fresh }
-        ensures refused { OnErr result (self.new ≡ self.old) }
+        ensures refused { OnErr result (register_of self.new ≡ register_of self.old) }
         ensures begun { OnOk result (Follows (with_begin class length fresh) self.old self.new) }
         // The open write is this one, of which nothing is written.
         ensures open { IfOk result (λ write. Owns self.new write) }
@@ -100,7 +103,7 @@ impl<S: BlockStore> Buffer<S> {
     pub fn finish(&mut self, write: Open) -> Token
         requires open { Owns self.old write }
         requires whole { is_broken self.old ≡ false }
-        requires written { blocks_written self.old ≡ size_of (length_of open) }
+        requires written { blocks_written self.old ≡ size_of (length_of write) }
         ensures token { (h : History) → Agrees self.old h → Some (token_view result) ≡ open_token h }
         ensures finished { Follows with_finish self.old self.new }
         ensures store { store_of self.new ≡ store_of self.old }
@@ -185,7 +188,10 @@ impl<S: BlockStore> Buffer<S> {
 }
 
 /// The k-th chunk of a text, which has one.
-fn chunk_of(text: &[u8], k: u32) -> &[u8] {
+fn chunk_of(text: &[u8], k: u32) -> &[u8]
+    requires { 480 * k < length text.now }
+    ensures { result.now ≡ chunk k text.now }
+{
     let from = CHUNK_OCTETS * k as usize;
     let rest = &text[from..];
     &rest[..rest.len().min(CHUNK_OCTETS)]
@@ -193,7 +199,14 @@ fn chunk_of(text: &[u8], k: u32) -> &[u8] {
 
 /// Takes the chunk that a block holds, and says how many octets it has; none where the block is no
 /// image, or its stamp isn't that of block k of the token's article.
-fn take_chunk(image: &[u8; 512], token: &Token, k: u32, chunk: &mut [u8; 480]) -> Option<usize> {
+fn take_chunk(image: &[u8; 512], token: &Token, k: u32, chunk: &mut [u8; 480]) -> Option<usize>
+    ensures same { (b : Block) → IsBlock b → image.now ≡ image_of b
+        → stamped (stamp_of token.now k) b.payload ≡ b
+        → IsSomeAnd result (λ octets. (octets ≡ length b.payload) × (take octets chunk.new ≡ b.payload)) }
+    ensures other { (b : Block) → IsBlock b → image.now ≡ image_of b
+        → IfSome result (λ octets. stamped (stamp_of token.now k) b.payload ≡ b) }
+    ensures room { IfSome result (λ octets. octets ≤ 480) }
+{
     let read = read_image(image)?;
     let wanted = Stamp {
         cycle: token.cycle,

@@ -225,10 +225,12 @@ impl Register {
         ensures rest { Stays self.old self.new }
         ensures last { result ≡ (written_of self.old.progress + 1 == size_of write.now.token.length) }
     {
+        let blocks = size_of(write.token.length);
         match &mut self.progress {
             Some(progress) => {
+                prove!(progress.written < blocks);
                 progress.written += 1;
-                progress.written == size_of(write.token.length)
+                progress.written == blocks
             }
             None => unreachable!(),
         }
