@@ -18,7 +18,7 @@ pub struct Buffer<S: BlockStore> {
 }
 
 impl<S: BlockStore> Buffer<S> {
-    ghost use Rattle.std.specs.Prelude.{◌≡◌, ◌≢◌, ◌≤◌, ◌<◌, ◌*◌, ◌+◌, ◌==◌, ℕ, length, take, false, true};
+    ghost use Rattle.std.specs.Prelude.{◌≡◌, ◌≤◌, ◌<◌, ◌+◌, ◌==◌, length, Bool, false, true};
     ghost use Rattle.std.specs.Prelude.{None, Some, IfOk, OnOk, OnErr, IfErr, IfSome, IsOk};
     ghost use Rattle.news_terms.specs.Places.{size_of};
     ghost use Rattle.cyc_token.specs.Token.{token_view};
@@ -38,7 +38,8 @@ impl<S: BlockStore> Buffer<S> {
     ) -> Result<Buffer<S>, AllocError>
     where
         S: Drop,
-        ensures new { IfOk result (λ buffer. Agrees buffer (new_history (record {
+        ensures new { IfOk result (λ buffer. (trusted : Bool) → (trusted ≡ true → S.honest store)
+            → Agrees trusted buffer (new_history (record {
             number = number; blocks = length (S.blocks store); first_cycle = first_cycle }))) }
         ensures store { IfOk result (λ buffer. store_of buffer ≡ store) }
     {
@@ -52,7 +53,7 @@ impl<S: BlockStore> Buffer<S> {
     pub fn begin(&mut self, class: u8, length: u32, fresh: bool) -> Result<Open, BufError>
         requires { 1 ≤ length }
         // Refused for the first reason, and then nothing is changed; else begun.
-        ensures refusal { (h : History) → Agrees self.old h → error_of result ≡ refusal h length fresh }
+        ensures refusal { (trusted : Bool) (h : History) → Agrees trusted self.old h → error_of result ≡ refusal h length fresh }
         ensures refused { OnErr result (register_of self.new ≡ register_of self.old) }
         ensures begun { OnOk result (Follows (with_begin class length fresh) self.old self.new) }
         // The open write is this one, of which nothing is written.
@@ -73,15 +74,16 @@ impl<S: BlockStore> Buffer<S> {
         requires left { blocks_written self.old < size_of (length_of write.now) }
         requires length { length text.now ≡ length_of write.now }
         // One more block of the text is written, and it is known whether it was the last.
-        ensures written { OnOk result ((h : History) → Continues text.now h → Agrees self.old h
-            → Agrees self.new (with_block text.now h)) }
+        ensures written { OnOk result ((trusted : Bool) (h : History)
+            → Continues text.now h → Agrees trusted self.old h
+            → Agrees trusted self.new (with_block text.now h)) }
         ensures count { OnOk result (blocks_written self.new ≡ blocks_written self.old + 1) }
         ensures last { IfOk result (λ last.
             last ≡ (blocks_written self.new == size_of (length_of write.now))) }
         ensures whole { OnOk result (is_broken self.new ≡ false) }
         // Or the device failed.
         ensures broken { OnErr result (Follows with_failure self.old self.new) }
-        ensures fault { IfErr result (λ e. (h : History) → Agrees self.old h
+        ensures fault { IfErr result (λ e. (trusted : Bool) (h : History) → Agrees trusted self.old h
             → IsDeviceFault h.buffer FaultKind.Write (length_of write.now) e) }
         ensures failed { OnErr result (S.failures (store_of self.old) < S.failures (store_of self.new)) }
         ensures later { S.failures (store_of self.old) ≤ S.failures (store_of self.new) }
@@ -90,6 +92,7 @@ impl<S: BlockStore> Buffer<S> {
         ensures blocks { length (S.blocks (store_of self.new)) ≡ length (S.blocks (store_of self.old)) }
     {
         let stamp = self.register.next_stamp(write);
+        prove!(stamp.first < self.register.line.blocks);
         let image = block_image(&stamp, chunk_of(text, stamp.index));
         if self.store.write(stamp.first + stamp.index, &image).is_err() {
             self.register.mark_broken();
@@ -104,7 +107,7 @@ impl<S: BlockStore> Buffer<S> {
         requires open { Owns self.old write }
         requires whole { is_broken self.old ≡ false }
         requires written { blocks_written self.old ≡ size_of (length_of write) }
-        ensures token { (h : History) → Agrees self.old h → Some (token_view result) ≡ open_token h }
+        ensures token { (trusted : Bool) (h : History) → Agrees trusted self.old h → Some (token_view result) ≡ open_token h }
         ensures finished { Follows with_finish self.old self.new }
         ensures store { store_of self.new ≡ store_of self.old }
     {
@@ -128,18 +131,18 @@ impl<S: BlockStore> Buffer<S> {
         chunk: &mut [u8; 480],
     ) -> Result<Found, BufError>
         // What is found is what the history says.
-        ensures found { (h : History) → Agrees self.old h → S.honest (store_of self.old)
+        ensures found { (h : History) → Agrees true self.old h
             → IfOk result (λ found. Shows found chunk.new (answer h (token_view token.now) k)) }
         // What the numbers decide doesn't rest on the store, and no device is called for it, nor
         // where no finished article begins.
-        ensures numbers { (h : History) → Agrees self.old h
+        ensures numbers { (trusted : Bool) (h : History) → Agrees trusted self.old h
             → IsDecided result chunk.new (by_numbers h.buffer (front_of h) (token_view token.now) k) }
-        ensures other { (h : History) → Agrees self.old h
+        ensures other { (trusted : Bool) (h : History) → Agrees trusted self.old h
             → IfOk result (λ found. IsOther found (by_numbers h.buffer (front_of h) (token_view token.now) k)) }
-        ensures unread { (h : History) → Agrees self.old h
+        ensures unread { (trusted : Bool) (h : History) → Agrees trusted self.old h
             → IsUnread h (token_view token.now) k → IsOk result × (store_of self.new ≡ store_of self.old) }
         // The device failed, or not.
-        ensures fault { IfErr result (λ e. (h : History) → Agrees self.old h
+        ensures fault { IfErr result (λ e. (trusted : Bool) (h : History) → Agrees trusted self.old h
             → IsDeviceFault h.buffer FaultKind.Read token.now.length e) }
         ensures failed { OnErr result (S.failures (store_of self.old) < S.failures (store_of self.new)) }
         ensures later { S.failures (store_of self.old) ≤ S.failures (store_of self.new) }
@@ -167,14 +170,14 @@ impl<S: BlockStore> Buffer<S> {
 
     /// The front's place on the endless line of the buffer's blocks.
     pub fn front(&self) -> u64
-        ensures { (h : History) → Agrees self.now h → result ≡ front_of h }
+        ensures { (trusted : Bool) (h : History) → Agrees trusted self.now h → result ≡ front_of h }
     {
         self.register.line.front()
     }
 
     /// The cycle that the newest article is in; the first one where there is none.
     pub fn cycle(&self) -> u32
-        ensures { (h : History) → Agrees self.now h → result ≡ cycle_of h }
+        ensures { (trusted : Bool) (h : History) → Agrees trusted self.now h → result ≡ cycle_of h }
     {
         self.register.line.cycle
     }

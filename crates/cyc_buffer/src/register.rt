@@ -200,9 +200,12 @@ impl Register {
     }
 
     /// The stamp of the next block of the open write.
+    #[tactic(auto, using(crate::proofs::OpenLemmas::open_end))]
     pub(crate) fn next_stamp(&self, write: &Open) -> Stamp
-        requires { IsTheOpen write.now self.now.progress }
-        ensures { result ≡ stamp_of write.now.token (written_of self.now.progress) }
+        requires open { IsTheOpen write.now self.now.progress }
+        requires left { written_of self.now.progress < size_of write.now.token.length }
+        ensures stamp { result ≡ stamp_of write.now.token (written_of self.now.progress) }
+        ensures within { write.now.token.first + written_of self.now.progress < self.now.line.blocks }
     {
         let index = match self.progress {
             Some(progress) => progress.written,

@@ -6,7 +6,8 @@ use Rattle.cyc_buffer.proofs.buffer.Buffer.begin.Goals as goal
 pub returns-clause-begun : goal.returns-clause-begun
 returns-clause-begun g c =
     let old = c.args.self.now.register in
-    on_ok_weaker c.begin.result (λ begun h agrees. record {
+    on_ok_weaker c.begin.result (λ begun trusted h agrees. record {
       keeps = begun h agrees.keeps;
-      holds = λ honest. holds_begin _ old c.begin.new.self h c.args.class c.args.length c.args.fresh agrees.keeps (begun h agrees.keeps) (agrees.holds honest);
+      honest = agrees.honest;
+      holds = λ is. holds_begin _ old c.begin.new.self h c.args.class c.args.length c.args.fresh agrees.keeps (begun h agrees.keeps) (agrees.holds is);
     }) c.begin.ensures.begun
