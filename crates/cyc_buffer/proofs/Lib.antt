@@ -7,3 +7,4 @@ mod Finishing
 mod OpenLemmas
 mod Contents
 mod Writes
+mod Reading

@@ -25,16 +25,17 @@ pub(crate) struct Line {
 }
 
 impl Line {
-    ghost use Rattle.std.specs.Prelude.{◌≡◌, ◌≤◌, ◌<◌, ◌+◌, IfSome, IfNone};
+    ghost use Rattle.std.specs.Prelude.{◌≡◌, ◌≤◌, ◌<◌, ◌+◌, ◌^◌, IfSome, IfNone};
     ghost use Rattle.news_terms.specs.Places.{on_line, last_cycle};
     ghost use Rattle.cyc_buffer.specs.History.{place_after};
     ghost use Rattle.cyc_buffer.specs.Register.{line_head, place_view};
 
     /// The place after the newest article.
     pub(crate) fn front(&self) -> u64
-        ensures { result ≡ on_line self.now.blocks self.now.cycle self.now.used }
+        ensures place { result ≡ on_line self.now.blocks self.now.cycle self.now.used }
+        ensures fits { (self.now.cycle < 2 ^ 32) × (self.now.blocks < 2 ^ 32) }
     {
-        self.place_of(self.cycle, self.used)
+        u64::from(self.cycle) * u64::from(self.blocks) + u64::from(self.used)
     }
 
     /// The place of a block of a cycle.

@@ -1,4 +1,4 @@
-ghost use Rattle.std.specs.Prelude.{◌≡◌, ◌≢◌, ◌≤◌, ◌<◌, ◌*◌, ◌+◌, ◌↔◌, ℕ, length, false, true, IfOk};
+ghost use Rattle.std.specs.Prelude.{◌≡◌, ◌≤◌, ◌*◌, length};
 ghost use Rattle.news_terms.specs.Places.{size_of};
 ghost use Rattle.cyc_buffer.specs.Progress.{start_of, end_of};
 
@@ -63,8 +63,8 @@ pub(crate) enum Look {
 }
 
 impl Register {
-    ghost use Rattle.std.specs.Prelude.{◌≡◌, ◌≢◌, ◌≤◌, ◌<◌, ◌*◌, ◌+◌, ◌==◌, ℕ, length, false, true};
-    ghost use Rattle.std.specs.Prelude.{None, Some, IfOk, OnOk, OnErr};
+    ghost use Rattle.std.specs.Prelude.{◌≡◌, ◌≤◌, ◌<◌, ◌+◌, ◌^◌, ◌==◌, ℕ, false};
+    ghost use Rattle.std.specs.Prelude.{None, IfOk, OnOk, OnErr};
     ghost use Rattle.news_terms.specs.Places.{size_of, on_line};
     ghost use Rattle.cyc_token.specs.Token.{token_view};
     ghost use Rattle.cyc_buffer.specs.Answers.{refusal, error_of, fault_of, front_view};
@@ -281,8 +281,10 @@ impl Register {
     pub(crate) fn look(&self, token: &Token, k: u32) -> Look
         ensures look { result ≡ look_of self.now token.now k }
         ensures within { (block : ℕ) → result ≡ Look.Block block → block < self.now.line.blocks }
+        ensures fits { (self.now.line.cycle < 2 ^ 32) × (self.now.line.blocks < 2 ^ 32) }
     {
         let line = &self.line;
+        let front = line.front();
         let size = size_of(token.length);
         if token.buffer != line.number || token.length == 0 || k >= size {
             return Look::Unknown;
@@ -291,10 +293,10 @@ impl Register {
             return Look::Unknown;
         }
         let place = line.place_of(token.cycle, token.first);
-        if place >= line.front() {
+        if place >= front {
             return Look::Unknown;
         }
-        if place + u64::from(line.blocks) < line.front() {
+        if place + u64::from(line.blocks) < front {
             return Look::Gone;
         }
         let block = token.first + k;
