@@ -1,23 +1,21 @@
 -- What a begin does to a register that agrees with a history.
-use Rattle.std.proofs.Common.{◌≡◌, ◌≢◌, ◌∙◌, ℕ, zero, suc, ◌+◌, ◌-◌, ◌*◌, ◌^◌, ◌↔◌, ◌<◌, ◌≤◌, ◌⊎◌, inl, inr, ◌==◌, ◌&&◌, not, nat_lt, nat_le, Bool, true, false, refl, sym, ap, subst, arith, cond, List, [], ◌∷◌, length, Option, None, Some}
-use Rattle.std.specs.List.{AllByRecursion}
+use Rattle.std.proofs.Common.{◌≡◌, ◌∙◌, ℕ, ◌+◌, ◌^◌, ◌↔◌, ◌<◌, ◌≤◌, Bool, true, false, refl, sym, ap, subst, arith, cond, ◌∷◌, length, Option, None, Some}
 use Rattle.std.proofs.Math.Nat.{add-zero}
-use Rattle.std.proofs.lemmas.Bool.{cond-true, cond-false, cases_Bool, false≢true}
+use Rattle.std.proofs.lemmas.Bool.{cond-false, false≢true}
 use Rattle.news_terms.specs.Places.{Buffer, Head, size_of}
-use Rattle.cyc_buffer.specs.History.{Article, Begin, place_after, head_of, head_past, is_at, finished_at}
-use Rattle.cyc_buffer.specs.Register.{IsSized, HasItsSize, IsOfSize, IsStart, IsKept, IsUnpassed, Writes, Keeps, buffer_of, line_head, is_passed, mark_passed}
+use Rattle.cyc_buffer.specs.History.{Article, Begin, place_after, head_of, head_past, finished_at}
+use Rattle.cyc_buffer.specs.Register.{IsStart, IsKept, IsUnpassed, Writes, Keeps, buffer_of, line_head, is_passed, mark_passed}
 use Rattle.cyc_buffer.specs.History.{History, with_begin}
 use Rattle.cyc_buffer.specs.Marks.{is_marked}
 use Rattle.cyc_buffer.specs.Progress.{started}
-use Rattle.cyc_buffer.specs.declared.line.Line.{Line}
 use Rattle.cyc_buffer.specs.declared.register.Register.{Register}
 use Rattle.cyc_token.specs.Token.{token_view}
 use Rattle.news_terms.specs.Token as tokens
 use Rattle.cyc_buffer.specs.declared.register.Progress.{Progress}
 use Rattle.cyc_token.specs.declared.Token.{Token}
-use Rattle.cyc_buffer.proofs.Places.{IsPlaced, IsHeld, IsPast, placed, passes, held_before, held_after, chosen}
+use Rattle.cyc_buffer.proofs.Places.{IsHeld, passes}
 use Rattle.cyc_buffer.proofs.Keeping.{as_cycles, place_shifted, block_before, block_after, line_is}
-use Rattle.cyc_buffer.proofs.Finished.{Lies, IsBefore, lies, was_finished, stays_finished}
+use Rattle.cyc_buffer.proofs.Finished.{lies, was_finished}
 
 -- a mark that a begin leaves was there, and its block isn't passed
 left_marked : (new old p : Bool) → new ≡ cond p false old → new ≡ true → (p ≡ false) × (old ≡ true)

@@ -1,23 +1,22 @@
 -- What the blocks of a buffer hold after each step.
-use Rattle.std.proofs.Common.{◌≡◌, ◌≢◌, ◌∙◌, ℕ, ◌+◌, ◌-◌, ◌*◌, ◌<◌, ◌≤◌, ◌⊎◌, inl, inr, min, Bool, true, false, refl, sym, ap, subst, arith, cond, List, [], ◌∷◌, length, take, drop, Option, None, Some}
-use Rattle.std.specs.List.{AllByRecursion}
-use Rattle.news_terms.specs.BlockImage.{Block, block_of, block_image, chunk, chunk_size}
-use Rattle.news_terms.specs.Places.{Buffer, Head, size_of}
+use Rattle.std.proofs.Common.{◌≡◌, ◌∙◌, ℕ, ◌+◌, inl, inr, Bool, false, refl, sym, ap, subst, arith, List, [], ◌∷◌, length, Option, None, Some}
+use Rattle.news_terms.specs.BlockImage.{Block, block_of, block_image, chunk}
+use Rattle.news_terms.specs.Places.{Head, size_of}
 use Rattle.news_terms.specs.Token as tokens
-use Rattle.cyc_block.specs.Store.{block_at, ChangesOnly}
+use Rattle.cyc_block.specs.Store.{block_at}
 use Rattle.cyc_token.specs.Token.{token_view}
 use Rattle.cyc_buffer.specs.Agreement.{Holds, HoldsOpen, open_block}
-use Rattle.cyc_buffer.specs.History.{Article, Begin, Writing, History, place_after, head_of, finished_at, with_begin, with_finish, token_at}
+use Rattle.cyc_buffer.specs.History.{Article, Begin, Writing, History, finished_at, with_begin, with_finish}
 use Rattle.cyc_buffer.specs.Progress.{IsTheOpen, written_of}
-use Rattle.cyc_buffer.specs.Register.{IsUnpassed, IsWriting, Writes, Keeps, Stays, IsStart, IsKept, line_head, buffer_of}
+use Rattle.cyc_buffer.specs.Register.{IsUnpassed, Writes, Keeps}
 use Rattle.cyc_buffer.specs.declared.line.Line.{Line}
 use Rattle.cyc_buffer.specs.declared.register.Open.{Open}
 use Rattle.cyc_buffer.specs.declared.register.Progress.{Progress}
 use Rattle.cyc_buffer.specs.declared.register.Register.{Register}
 use Rattle.cyc_buffer.proofs.Places.{IsHeld}
 use Rattle.cyc_buffer.proofs.Finished.{at_parts}
-use Rattle.cyc_buffer.proofs.Keeping.{as_cycles, block_before, line_is}
-use Rattle.cyc_buffer.proofs.Finishing.{newest, written, done, place, finished_now, old_history, new_history, whole_text, history_of}
+use Rattle.cyc_buffer.proofs.Keeping.{block_before, line_is}
+use Rattle.cyc_buffer.proofs.Finishing.{newest, place, finished_now, old_history, whole_text, history_of}
 
 -- a block is unpassed, where the head is here
 abbrev IsHeldAt : Head → (cycle block : ℕ) → Type 0

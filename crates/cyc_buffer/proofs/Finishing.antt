@@ -1,12 +1,10 @@
 -- What a finish does to a register that agrees with a history.
-use Rattle.std.proofs.Common.{◌≡◌, ◌≢◌, ◌∙◌, ℕ, zero, suc, ◌+◌, ◌-◌, ◌*◌, ◌^◌, ◌↔◌, ◌<◌, ◌≤◌, ◌⊎◌, inl, inr, ◌==◌, ◌&&◌, nat_le, nat_lt, min, Bool, true, false, refl, sym, ap, subst, arith, cond, List, [], ◌∷◌, length, Option, None, Some}
-use Rattle.std.specs.List.{AllByRecursion}
-use Rattle.std.proofs.Math.Nat.{add-zero}
-use Rattle.std.proofs.lemmas.Bool.{cond-true, cond-false, cases_Bool, false≢true, and_parts, and_from, leb-true, ltb-true, le-leb, lt-ltb}
+use Rattle.std.proofs.Common.{◌≡◌, ◌∙◌, ℕ, ◌+◌, ◌-◌, ◌*◌, ◌^◌, ◌↔◌, ◌<◌, ◌≤◌, ◌⊎◌, inl, inr, nat_le, nat_lt, min, Bool, true, false, refl, sym, ap, subst, arith, cond, List, ◌∷◌, length, Option, None, Some}
+use Rattle.std.proofs.lemmas.Bool.{cond-true, cond-false, cases_Bool, and_parts, and_from, leb-true, ltb-true, le-leb, lt-ltb}
 use Rattle.news_terms.specs.BlockImage.{chunk_size}
 use Rattle.news_terms.specs.Places.{Buffer, Head, size_of}
 use Rattle.cyc_buffer.specs.History.{Article, Begin, Writing, History, place_after, head_of, is_at, finished_at, with_finish, token_at}
-use Rattle.cyc_buffer.specs.Register.{IsSized, IsOfSize, IsStart, IsKept, IsUnpassed, IsWriting, Writes, Keeps, buffer_of}
+use Rattle.cyc_buffer.specs.Register.{IsStart, IsKept, IsUnpassed, Writes, Keeps, buffer_of}
 use Rattle.cyc_buffer.specs.Marks.{is_marked, is_among, marked_after}
 use Rattle.cyc_buffer.specs.Progress.{IsTheOpen, written_of}
 use Rattle.cyc_buffer.specs.declared.line.Line.{Line}

@@ -1,19 +1,13 @@
 -- What a begin does to the marks of a register that agrees with a history.
-use Rattle.std.proofs.Common.{◌≡◌, ◌≢◌, ◌∙◌, ℕ, zero, suc, ◌+◌, ◌-◌, ◌*◌, ◌<◌, ◌≤◌, ◌⊎◌, inl, inr, ◌==◌, ◌&&◌, not, nat_lt, nat_le, Bool, true, false, refl, sym, ap, subst, arith, cond, List, [], ◌∷◌, length, Option, None, Some}
+use Rattle.std.proofs.Common.{◌≡◌, ◌∙◌, ℕ, ◌+◌, ◌<◌, inl, inr, ◌&&◌, nat_lt, nat_le, Bool, true, false, refl, ap, arith, cond, List, ◌∷◌, length, None, Some}
 use Rattle.std.specs.List.{AllByRecursion}
-use Rattle.std.proofs.lemmas.Bool.{cond-true, cond-false, cases_Bool}
 use Rattle.news_terms.specs.Places.{Buffer, Head, size_of}
-use Rattle.cyc_buffer.specs.History.{Article, Begin, place_after, head_of, head_past, is_at, finished_at}
-use Rattle.cyc_buffer.specs.Register.{IsSized, HasItsSize, IsOfSize, IsStart, IsKept, IsUnpassed, Keeps, buffer_of, line_head, is_passed, mark_passed}
-use Rattle.cyc_buffer.specs.History.{History, with_begin}
-use Rattle.cyc_buffer.specs.Marks.{is_marked}
-use Rattle.cyc_buffer.specs.Progress.{started}
-use Rattle.cyc_buffer.specs.declared.line.Line.{Line}
+use Rattle.cyc_buffer.specs.History.{Article, Begin, place_after, head_of, finished_at}
+use Rattle.cyc_buffer.specs.Register.{IsSized, Keeps, line_head}
+use Rattle.cyc_buffer.specs.History.{History}
 use Rattle.cyc_buffer.specs.declared.register.Register.{Register}
-use Rattle.cyc_token.specs.Token.{token_view}
-use Rattle.cyc_token.specs.declared.Token.{Token}
-use Rattle.cyc_buffer.proofs.Places.{IsPlaced, IsHeld, IsPast, placed, passes, held_before, held_after, chosen}
-use Rattle.cyc_buffer.proofs.Finished.{Lies, IsBefore, lies, was_finished, stays_finished}
+use Rattle.cyc_buffer.proofs.Places.{IsPlaced, IsHeld, IsPast, placed, passes, held_before, held_after}
+use Rattle.cyc_buffer.proofs.Finished.{Lies, lies, was_finished, stays_finished}
 
 -- the block of this index of a finished article, which isn't passed
 pub record Block (buffer : Buffer) (begins : List Begin) (cycle used : ℕ) (block : ℕ) : Type 0 where

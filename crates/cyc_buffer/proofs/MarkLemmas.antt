@@ -1,12 +1,12 @@
 -- Bits of words, and the marks that they are.
-use Rattle.std.proofs.Common.{◌≡◌, ◌≢◌, ◌∙◌, ℕ, zero, suc, ◌+◌, ◌-◌, ◌*◌, ◌/◌, ◌%◌, ◌^◌, ◌<◌, ◌≤◌, ◌⊎◌, inl, inr, nat_lt, nat_le, ◌==◌, ◌&&◌, ◌||◌, not, min, max, Bool, true, false, List, get_or, set, length, replicate, refl, sym, ap, arith, cond, bit_and, bit_or, w64}
+use Rattle.std.proofs.Common.{◌≡◌, ◌≢◌, ◌∙◌, ℕ, zero, suc, ◌+◌, ◌-◌, ◌*◌, ◌/◌, ◌%◌, ◌^◌, ◌<◌, inl, inr, nat_lt, ◌==◌, ◌&&◌, ◌||◌, not, min, max, Bool, true, false, List, get_or, set, length, replicate, refl, sym, ap, arith, cond, bit_and, bit_or, w64}
 use Rattle.std.specs.Int.{bit_at, bit_not}
 use Rattle.std.proofs.lemmas.Bool.{cases_lt, cases_eq, lt-ltb, le-ltb, le-leb, lt-leb}
 use Rattle.std.proofs.lemmas.List.{get_or-set_same, get_or-set_other, get_or-replicate, length-replicate}
 use Rattle.std.proofs.lemmas.Nat.Bits.{bit_at_ones, bit_at_ones_above, bit_at_and, bit_at_or, bit_at_not, bit_at-lt, bit_at-zero}
 use Rattle.std.proofs.Math.ListN.{get_or-eq_default}
 use Rattle.std.proofs.Math.Nat.{div-add-mod}
-use Rattle.cyc_buffer.specs.Marks.{is_marked, is_among, is_below, has_mask, marked_after}
+use Rattle.cyc_buffer.specs.Marks.{is_marked, is_among, marked_after}
 
 -- the lowest bits of a run of ones
 pub bit_below : (count i : ℕ) → (bit_at (2 ^ count - 1) i == 1) ≡ nat_lt i count

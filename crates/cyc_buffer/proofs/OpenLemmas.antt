@@ -1,5 +1,5 @@
 -- What is known of the open write of a register.
-use Rattle.std.proofs.Common.{◌≡◌, ℕ, ◌+◌, ◌<◌, Option, None, Some, ap, sym, refl}
+use Rattle.std.proofs.Common.{◌≡◌, ◌+◌, Option, None, Some, ap}
 use Rattle.news_terms.specs.Places.{size_of}
 use Rattle.cyc_token.specs.declared.Token.{Token}
 use Rattle.cyc_buffer.specs.Progress.{IsTheOpen, end_of, start_of}

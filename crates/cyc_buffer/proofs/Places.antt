@@ -1,8 +1,8 @@
 -- Where begins go, and what the front passes by one.
-use Rattle.std.proofs.Common.{◌≡◌, ◌≢◌, ◌∙◌, ℕ, zero, suc, ◌+◌, ◌-◌, ◌*◌, ◌<◌, ◌≤◌, ◌⊎◌, inl, inr, nat_lt, nat_le, ◌==◌, ◌&&◌, ◌||◌, not, Bool, true, false, refl, sym, ap, arith, cond}
-use Rattle.std.proofs.lemmas.Bool.{cases_lt, cases_eq, cases_Bool, cond_both, lt-ltb, le-ltb, le-leb, lt-leb, leb-true, leb-false, ltb-true, ltb-false, eqb-true, eqb-false, eq-eqb, ne_eqb, and_parts, and_cases, and_left, and_right, or_parts, or_from, not-false, not_from_true}
-use Rattle.news_terms.specs.Places.{Head, place_in_runs, on_line}
-use Rattle.cyc_buffer.specs.History.{place_after, head_past}
+use Rattle.std.proofs.Common.{◌≡◌, ℕ, ◌+◌, ◌<◌, ◌≤◌, ◌⊎◌, inl, inr, nat_lt, nat_le, ◌==◌, ◌&&◌, ◌||◌, not, Bool, true, false, refl, arith, cond}
+use Rattle.std.proofs.lemmas.Bool.{cases_lt, cond_both, le-ltb, lt-leb, leb-true, leb-false, ltb-false, eqb-true, eq-eqb, and_cases, and_left, and_right, or_parts, or_from, not-false, not_from_true}
+use Rattle.news_terms.specs.Places.{Head, place_in_runs}
+use Rattle.cyc_buffer.specs.History.{place_after}
 use Rattle.cyc_buffer.specs.Marks.{is_among}
 
 -- a begin goes right behind the head, or to the front of the next run

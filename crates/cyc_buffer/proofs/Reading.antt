@@ -1,9 +1,9 @@
 -- What a read finds.
-use Rattle.std.proofs.Common.{◌≡◌, ◌≢◌, ◌∙◌, ℕ, suc, ◌+◌, ◌-◌, ◌*◌, ◌^◌, ◌<◌, ◌≤◌, ◌↔◌, ◌⊎◌, inl, inr, min, nat_lt, nat_le, ◌==◌, ◌&&◌, ◌||◌, not, Bool, true, false, refl, sym, ap, subst, arith, cond, List, [], ◌∷◌, length, take, drop, Option, None, Some, is_some}
+use Rattle.std.proofs.Common.{◌≡◌, ◌∙◌, ℕ, suc, ◌+◌, ◌*◌, ◌^◌, ◌<◌, ◌≤◌, ◌⊎◌, inl, inr, nat_lt, nat_le, ◌==◌, ◌&&◌, ◌||◌, not, Bool, true, false, refl, sym, ap, subst, arith, cond, List, length, take, Option, None, Some, is_some}
 use Rattle.std.proofs.Math.Nat.{mul-le-mul_right}
-use Rattle.std.proofs.lemmas.Bool.{cases_Bool, cases_order, and_parts, and_from, or_parts, not-false, eqb-true, eqb-false, eq-eqb, ltb-false, leb-false, false≢true, cond-true, cond-false}
+use Rattle.std.proofs.lemmas.Bool.{cases_order, and_parts, and_from, or_parts, eqb-true, eq-eqb, ltb-false, leb-false, false≢true, cond-true}
 use Rattle.news_terms.specs.BlockImage.{Block, IsBlock, block_of, block_image, chunk, chunk_size}
-use Rattle.news_terms.specs.Places.{Buffer, Head, size_of, on_line}
+use Rattle.news_terms.specs.Places.{Buffer, size_of, on_line}
 use Rattle.news_terms.specs.Token as tokens
 use Rattle.cyc_block.specs.Image.{stamped}
 use Rattle.cyc_block.specs.Store.{block_at}
@@ -11,19 +11,17 @@ use Rattle.cyc_token.specs.Token.{token_view}
 use Rattle.cyc_token.specs.declared.Token.{Token}
 use Rattle.cyc_buffer.specs.Agreement.{Holds}
 use Rattle.cyc_buffer.specs.Answers.{Answer, Chunk, Gone, Unknown, is_beyond, by_numbers, by_text, or_by_text, answer, front_view, Shows, IsOther, IsUnread}
-use Rattle.cyc_buffer.specs.History.{Article, Begin, History, front_of, head_of, finished_at, text_under, text_of}
+use Rattle.cyc_buffer.specs.History.{Article, History, front_of, head_of, finished_at, text_under, text_of}
 use Rattle.cyc_buffer.specs.Look.{look_by, look_of, has_marks, numbers_of}
 use Rattle.cyc_buffer.specs.Marks.{is_marked}
 use Rattle.cyc_buffer.specs.Progress.{stamp_of}
-use Rattle.cyc_buffer.specs.Register.{IsUnpassed, Keeps, IsStart, IsKept, buffer_of}
+use Rattle.cyc_buffer.specs.Register.{IsUnpassed, Keeps, buffer_of}
 use Rattle.cyc_buffer.specs.declared.answers.Found.TheVariants as found
 use Rattle.cyc_buffer.specs.declared.answers.Front.{Front}
-use Rattle.cyc_buffer.specs.declared.line.Line.{Line}
-use Rattle.cyc_buffer.specs.declared.register.Look.{Look}
 use Rattle.cyc_buffer.specs.declared.register.Look.TheVariants as look
 use Rattle.cyc_buffer.specs.declared.register.Register.{Register}
 use Rattle.cyc_buffer.proofs.Places.{chosen, one_cycle}
-use Rattle.cyc_buffer.proofs.Finished.{Lies, lies}
+use Rattle.cyc_buffer.proofs.Finished.{lies}
 use Rattle.cyc_buffer.proofs.Writes.{chunk_length}
 
 -- a block of these parts

@@ -1,5 +1,5 @@
 -- What a write of the next block does.
-use Rattle.std.proofs.Common.{◌≡◌, ◌≢◌, ◌∙◌, ℕ, ◌+◌, ◌-◌, ◌*◌, ◌<◌, ◌≤◌, ◌↔◌, ◌⊎◌, inl, inr, min, Bool, true, false, refl, sym, ap, subst, arith, cond, List, [], ◌∷◌, length, take, drop, set, Result, Ok, Err, is_err, OnOk, Option, None, Some}
+use Rattle.std.proofs.Common.{◌≡◌, ◌≢◌, ◌∙◌, ℕ, ◌+◌, ◌-◌, ◌*◌, ◌<◌, ◌≤◌, ◌⊎◌, inl, inr, min, Bool, true, false, refl, sym, ap, subst, arith, List, [], ◌∷◌, length, take, drop, set, Result, Ok, Err, is_err, OnOk, Option, None, Some}
 use Rattle.std.specs.List.{AllByRecursion}
 use Rattle.std.proofs.lemmas.Bool.{cases_lt, true≢false}
 use Rattle.std.proofs.lemmas.List.{take-take, take_all, drop-take, length-take, length-drop, get_or-set_same}
@@ -12,18 +12,18 @@ use Rattle.cyc_block.specs.declared.image.Stamp.{Stamp}
 use Rattle.cyc_token.specs.Token.{token_view}
 use Rattle.cyc_token.specs.declared.Token.{Token}
 use Rattle.cyc_buffer.specs.Agreement.{Holds, HoldsOpen, open_block, ContinuesIn}
-use Rattle.cyc_buffer.specs.History.{Article, Begin, Writing, History, place_after, head_of, finished_at, token_at, with_next_block, as_broken, changed}
+use Rattle.cyc_buffer.specs.History.{Article, Begin, Writing, History, head_of, finished_at, token_at, with_next_block, as_broken, changed}
 use Rattle.cyc_buffer.specs.Marks.{is_marked}
 use Rattle.cyc_buffer.specs.Progress.{IsTheOpen, written_of, counted, failed, stamp_of}
-use Rattle.cyc_buffer.specs.Register.{IsSized, IsUnpassed, IsWriting, Writes, Keeps, Stays, IsStart, IsKept, buffer_of}
+use Rattle.cyc_buffer.specs.Register.{IsSized, IsUnpassed, IsWriting, Writes, Keeps, Stays, buffer_of}
 use Rattle.cyc_buffer.specs.declared.line.Line.{Line}
 use Rattle.cyc_buffer.specs.declared.marks.Marks.{Marks}
 use Rattle.cyc_buffer.specs.declared.register.Open.{Open}
 use Rattle.cyc_buffer.specs.declared.register.Progress.{Progress}
 use Rattle.cyc_buffer.specs.declared.register.Register.{Register}
-use Rattle.cyc_buffer.proofs.Places.{IsPlaced, placed}
-use Rattle.cyc_buffer.proofs.Finished.{Lies, IsBefore, lies, was_finished}
-use Rattle.cyc_buffer.proofs.Finishing.{newest, place, history_of, old_history}
+use Rattle.cyc_buffer.proofs.Places.{placed}
+use Rattle.cyc_buffer.proofs.Finished.{lies, was_finished}
+use Rattle.cyc_buffer.proofs.Finishing.{newest, place, history_of}
 
 -- a block of these parts
 abbrev block_with : (cycle first k octets class : ℕ) → List ℕ → Block

@@ -3,11 +3,10 @@
 use Rattle.std.specs.Prelude.{◌≡◌, ℕ, ◌+◌, ◌<◌, Bool, true, List, length, take, Option, None, Some}
 use Rattle.cyc_block.specs.Store.{block_at}
 use Rattle.cyc_block.specs.declared.store.BlockStore.{Ghosts}
-use Rattle.cyc_buffer.specs.History.{Article, Begin, Writing, History, finished_at}
+use Rattle.cyc_buffer.specs.History.{Article, Writing, History, finished_at}
 use Rattle.cyc_buffer.specs.Progress.{IsTheOpen, written_of, has_failed}
 use Rattle.cyc_buffer.specs.Register.{Keeps, IsUnpassed}
 use Rattle.cyc_buffer.specs.declared.buffer.Buffer.{Buffer}
-use Rattle.cyc_buffer.specs.declared.line.Line.{Line}
 use Rattle.cyc_buffer.specs.declared.register.Open.{Open}
 use Rattle.cyc_buffer.specs.declared.register.Progress.{Progress}
 use Rattle.cyc_buffer.specs.declared.register.Register.{Register}

@@ -1,5 +1,5 @@
 -- What a buffer answers (docs/PROTOCOL.md, Writing and Reading).
-use Rattle.std.specs.Prelude.{◌≡◌, ◌⊎◌, ℕ, ◌+◌, ◌<◌, ◌≤◌, nat_lt, nat_le, ◌==◌, ◌||◌, not, Bool, true, List, take, length, Option, None, Some, is_some, Result, Ok, Err, if◌then◌else◌}
+use Rattle.std.specs.Prelude.{◌≡◌, ◌⊎◌, ℕ, ◌+◌, ◌≤◌, nat_lt, nat_le, ◌==◌, ◌||◌, not, Bool, true, List, take, length, Option, None, Some, is_some, Result, Ok, Err, if◌then◌else◌}
 use Rattle.news_terms.specs.BlockImage.{chunk, chunk_size}
 use Rattle.news_terms.specs.Places.{Buffer, size_of, on_line, last_cycle}
 use Rattle.news_terms.specs.Token.{Token}

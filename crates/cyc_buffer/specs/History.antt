@@ -1,8 +1,8 @@
 -- What a cyclic buffer was asked to keep: what was begun in it, and what became of each begin
 -- (docs/PROTOCOL.md, Store).
-use Rattle.std.specs.Prelude.{ℕ, ◌+◌, ◌*◌, ◌<◌, nat_lt, ◌==◌, ◌&&◌, Bool, true, false, List, [], ◌∷◌, length, take, Option, None, Some, is_some, if◌then◌else◌}
+use Rattle.std.specs.Prelude.{ℕ, ◌+◌, ◌*◌, nat_lt, ◌==◌, ◌&&◌, Bool, true, false, List, [], ◌∷◌, length, take, Option, None, Some, if◌then◌else◌}
 use Rattle.news_terms.specs.BlockImage.{chunk_size}
-use Rattle.news_terms.specs.Places.{Buffer, Head, first_head, place_in_runs, size_of, on_line, last_cycle}
+use Rattle.news_terms.specs.Places.{Buffer, Head, first_head, place_in_runs, size_of, on_line}
 use Rattle.news_terms.specs.Token.{Token}
 
 -- an article that was finished: its class and its text

@@ -1,5 +1,5 @@
 -- An abandoned write keeps the buffer's agreement with a history.
-use Rattle.std.proofs.Common.{◌≡◌, ◌+◌, sym, subst, Option, None}
+use Rattle.std.proofs.Common.{◌+◌, sym, subst, Option, None}
 use Rattle.cyc_buffer.specs.History.{without_write}
 use Rattle.cyc_buffer.specs.Register.{Writes, IsUnpassed}
 use Rattle.cyc_buffer.specs.declared.line.Line.{Line}

@@ -1,5 +1,5 @@
 -- What a read finds is what the history says.
-use Rattle.std.proofs.Common.{◌≡◌, ◌∙◌, sym, ap, subst, refl, true, List, ℕ}
+use Rattle.std.proofs.Common.{◌≡◌, ◌∙◌, sym, ap, subst, refl}
 use Rattle.news_terms.specs.BlockImage.{block_image}
 use Rattle.cyc_block.specs.Store.{block_at}
 use Rattle.cyc_buffer.specs.Answers.{Shows}

@@ -1,9 +1,6 @@
 -- A write of the next block, and what its failure leaves.
-use Rattle.std.proofs.Common.{◌≡◌, ◌∙◌, ◌+◌, ◌*◌, ◌<◌, ℕ, true, length, arith, ap, subst, sym, refl}
-use Rattle.std.proofs.lemmas.Bool.{false≢true}
-use Rattle.news_terms.specs.BlockImage.{chunk, block_image}
-use Rattle.cyc_block.specs.Image.{stamped}
-use Rattle.cyc_block.specs.Store.{ChangesOnly, block_at}
+use Rattle.std.proofs.Common.{◌≡◌, ◌∙◌, ◌+◌, true, length, arith, ap, subst, sym, refl}
+use Rattle.cyc_block.specs.Store.{ChangesOnly}
 use Rattle.cyc_block.specs.declared.image.Stamp.{Stamp}
 use Rattle.cyc_buffer.proofs.Writes.{chunk_length, fails_by, next_by, image_there, without_error}
 use Rattle.cyc_buffer.proofs.buffer.Buffer.write_next.Goals as goal

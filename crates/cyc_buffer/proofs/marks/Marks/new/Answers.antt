@@ -1,6 +1,5 @@
-use Rattle.std.proofs.Common.{◌≡◌, ◌∙◌, ◌<◌, ℕ, ◌+◌, ◌*◌, ◌==◌, ◌/◌, ◌%◌, Bool, List, arith, sym, ap, cond, get_or, length, replicate, rules}
+use Rattle.std.proofs.Common.{◌∙◌, ℕ, List, arith, ap, length}
 use Rattle.std.proofs.lemmas.List.{length-replicate}
-use Rattle.std.specs.Int.{bit_at}
 use Rattle.cyc_buffer.specs.Marks.{is_marked}
 use Rattle.cyc_buffer.proofs.MarkLemmas.{none_marked}
 use Rattle.cyc_buffer.proofs.marks.Marks.new.Goals as goal

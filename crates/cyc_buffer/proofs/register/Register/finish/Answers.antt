@@ -1,5 +1,5 @@
 -- A finish keeps the register's agreement with a history.
-use Rattle.std.proofs.Common.{◌≡◌, ◌∙◌, ◌+◌, ℕ, true, arith, refl, ap}
+use Rattle.std.proofs.Common.{◌∙◌, ◌+◌, true, refl, ap}
 use Rattle.cyc_buffer.specs.Marks.{is_marked, marked_after}
 use Rattle.cyc_buffer.proofs.Finishing.{keeps_finish_of}
 use Rattle.cyc_buffer.proofs.register.Register.finish.Goals as goal
