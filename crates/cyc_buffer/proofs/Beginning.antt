@@ -49,7 +49,6 @@ module _ (old new : Register) (h : History) (class octets : ℕ) (fresh : Bool) 
     (progress : new.progress ≡ started token)
     (token_is : token_view token ≡ token_of class old.line.number at.run at.used octets)
     (keeps : Keeps old h) where
-
   abbrev next : Begin
   next = record { size = size_of octets; fresh = fresh; finished = None }
 
@@ -84,7 +83,7 @@ module _ (old new : Register) (h : History) (class octets : ℕ) (fresh : Bool) 
       × (is_passed old.line at (size_of octets) (first + index) ≡ false)
   was_here since first index article finished inside unpassed =
       let b = block_before h.buffer h.begins next since first index article keeps.sizes refl finished inside
-          (subst (λ (o : Head). IsHeldAt o since (first + index)) head_is unpassed) in
+      (subst (λ (o : Head). IsHeldAt o since (first + index)) head_is unpassed) in
       (b.0, subst (λ (o : Head). IsHeldAt o since (first + index)) (sym (line_is old h keeps)) b.1, passed_is (first + index) ∙ b.2)
 
   -- a block of an article that wasn't passed, and isn't by the begin
@@ -94,7 +93,7 @@ module _ (old new : Register) (h : History) (class octets : ℕ) (fresh : Bool) 
       → (finished_at h.buffer (next ∷ h.begins) since first ≡ Some article) × IsUnpassed new.line since (first + index)
   stays_here since first index article finished inside unpassed p =
       let b = block_after h.buffer h.begins next since first index article keeps.sizes finished inside
-          (subst (λ (o : Head). IsHeldAt o since (first + index)) (line_is old h keeps) unpassed) (sym (passed_is (first + index)) ∙ p) in
+      (subst (λ (o : Head). IsHeldAt o since (first + index)) (line_is old h keeps) unpassed) (sym (passed_is (first + index)) ∙ p) in
       (b.0, subst (λ (o : Head). IsHeldAt o since (first + index)) (sym head_is) b.1)
 
   -- the article of a place has some blocks
@@ -105,39 +104,57 @@ module _ (old new : Register) (h : History) (class octets : ℕ) (fresh : Bool) 
   keeps_starts : (block : ℕ) → block < new.line.blocks
       → (is_marked new.starts.words.items block ≡ true) ↔ IsStart new.line (with_begin class octets fresh h) block
   keeps_starts block within = (
-      (λ t.
+    (λ t.
         let m = left_marked (is_marked new.starts.words.items block) (is_marked old.starts.words.items block) (is_passed old.line at (size_of octets) block) (starts block) t in
         let s = (keeps.starts block (omega (arith, within, ap (λ (b : Buffer). b.blocks) buffer))).0 m.1 in
         let b = stays_here s.cycle block 0 s.article s.finished (has_some s.cycle block s.article s.finished)
-            (subst (IsUnpassed old.line s.cycle) (sym (add-zero block)) s.unpassed) (ap (is_passed old.line at (size_of octets)) (add-zero block) ∙ m.0) in
+        (subst (IsUnpassed old.line s.cycle) (sym (add-zero block)) s.unpassed) (ap (is_passed old.line at (size_of octets)) (add-zero block) ∙ m.0) in
         record { cycle = s.cycle; article = s.article; finished = b.0; unpassed = subst (IsUnpassed new.line s.cycle) (add-zero block) b.1 }),
-      (λ s.
+    (λ s.
         let was = was_finished h.buffer h.begins next s.cycle block s.article refl s.finished in
         let b = was_here s.cycle block 0 s.article s.finished (has_some s.cycle block s.article was)
-            (subst (IsUnpassed new.line s.cycle) (sym (add-zero block)) s.unpassed) in
+        (subst (IsUnpassed new.line s.cycle) (sym (add-zero block)) s.unpassed) in
         stays_marked (is_marked new.starts.words.items block) (is_marked old.starts.words.items block) (is_passed old.line at (size_of octets) block)
         (starts block) (ap (is_passed old.line at (size_of octets)) (sym (add-zero block)) ∙ b.2)
         ((keeps.starts block (omega (arith, within, ap (λ (b : Buffer). b.blocks) buffer))).1
-        (record { cycle = s.cycle; article = s.article; finished = b.0; unpassed = subst (IsUnpassed old.line s.cycle) (add-zero block) b.1 }))))
+        (record { cycle = s.cycle; article = s.article; finished = b.0; unpassed = subst (IsUnpassed old.line s.cycle) (add-zero block) b.1 }))),
+  )
 
   keeps_kept : (block : ℕ) → block < new.line.blocks
       → (is_marked new.kept.words.items block ≡ true) ↔ IsKept new.line (with_begin class octets fresh h) block
   keeps_kept block within = (
-      (λ t.
+    (λ t.
         let m = left_marked (is_marked new.kept.words.items block) (is_marked old.kept.words.items block) (is_passed old.line at (size_of octets) block) (kept block) t in
         let s = (keeps.kept block (omega (arith, within, ap (λ (b : Buffer). b.blocks) buffer))).0 m.1 in
         let b = stays_here s.cycle s.first s.index s.article s.finished s.inside
-            (subst (IsUnpassed old.line s.cycle) (sym s.here) s.unpassed) (ap (is_passed old.line at (size_of octets)) s.here ∙ m.0) in
-        record { cycle = s.cycle; first = s.first; index = s.index; article = s.article; finished = b.0; inside = s.inside; here = s.here;
-          unpassed = subst (IsUnpassed new.line s.cycle) s.here b.1 }),
-      (λ s.
+        (subst (IsUnpassed old.line s.cycle) (sym s.here) s.unpassed) (ap (is_passed old.line at (size_of octets)) s.here ∙ m.0) in
+        record {
+          cycle = s.cycle;
+          first = s.first;
+          index = s.index;
+          article = s.article;
+          finished = b.0;
+          inside = s.inside;
+          here = s.here;
+          unpassed = subst (IsUnpassed new.line s.cycle) s.here b.1;
+        }),
+    (λ s.
         let b = was_here s.cycle s.first s.index s.article s.finished s.inside
-            (subst (IsUnpassed new.line s.cycle) (sym s.here) s.unpassed) in
+        (subst (IsUnpassed new.line s.cycle) (sym s.here) s.unpassed) in
         stays_marked (is_marked new.kept.words.items block) (is_marked old.kept.words.items block) (is_passed old.line at (size_of octets) block)
         (kept block) (ap (is_passed old.line at (size_of octets)) (sym s.here) ∙ b.2)
         ((keeps.kept block (omega (arith, within, ap (λ (b : Buffer). b.blocks) buffer))).1
-        (record { cycle = s.cycle; first = s.first; index = s.index; article = s.article; finished = b.0; inside = s.inside; here = s.here;
-          unpassed = subst (IsUnpassed old.line s.cycle) s.here b.1 }))))
+        (record {
+          cycle = s.cycle;
+          first = s.first;
+          index = s.index;
+          article = s.article;
+          finished = b.0;
+          inside = s.inside;
+          here = s.here;
+          unpassed = subst (IsUnpassed old.line s.cycle) s.here b.1;
+        }))),
+  )
 
   -- the open write is the one that was begun
   first_writing : Writes (with_begin class octets fresh h) (started token) (with_begin class octets fresh h).writing

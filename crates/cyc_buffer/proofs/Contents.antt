@@ -36,7 +36,7 @@ holds_begin blocks old new h class octets fresh keeps after holds =
     record {
       articles = λ cycle first k article finished inside unpassed.
           let b = block_before h.buffer h.begins next cycle first k article keeps.sizes refl finished inside
-              (subst (λ (o : Head). IsHeldAt o cycle (first + k)) (line_is new (with_begin class octets fresh h) after) unpassed) in
+          (subst (λ (o : Head). IsHeldAt o cycle (first + k)) (line_is new (with_begin class octets fresh h) after) unpassed) in
           holds.articles cycle first k article b.0 inside (subst (λ (o : Head). IsHeldAt o cycle (first + k)) (sym (line_is old h keeps)) b.1);
       open_one = none_held blocks new.progress (record { class = class; octets = octets; text = []; blocks = 0; broken = false }) refl;
     }
@@ -60,15 +60,14 @@ article_block p w cycle first k same_cycle same_first whole =
 
 module _ (blocks : List (List ℕ)) (old new : Register) (h : History) (write : Open) (keeps : Keeps old h)
     (line : new.line ≡ old.line) (holds : Holds blocks old h) where
-
   finish_holds_by : (p : Option Progress) (o : Option Writing) → h.writing ≡ o → old.progress ≡ p → Writes h p o → IsTheOpen write p
       → written_of p ≡ size_of write.token.length → HoldsOpen blocks p o → Holds blocks new (with_finish h)
   finish_holds_by None o is_o is_p writes the_open all open_held = absurd the_open
   finish_holds_by (Some p) None is_o is_p writes the_open all open_held = absurd writes
   finish_holds_by (Some p) (Some w) is_o is_p writes the_open all open_held =
       let h_is : h ≡ old_history h.buffer writes.earlier writes.fresh w =
-          ap (λ (b : List Begin). history_of h.buffer b h.writing) writes.newest
-          ∙ ap (history_of h.buffer (newest h.buffer writes.earlier writes.fresh w ∷ writes.earlier)) is_o in
+      ap (λ (b : List Begin). history_of h.buffer b h.writing) writes.newest
+      ∙ ap (history_of h.buffer (newest h.buffer writes.earlier writes.fresh w ∷ writes.earlier)) is_o in
       let octets : write.token.length ≡ w.octets = ap (λ (t : tokens.Token). t.length) (ap token_view (sym the_open) ∙ writes.token) in
       let full : w.blocks ≡ size_of w.octets = sym writes.written ∙ all ∙ ap size_of octets in
       let whole = whole_text w writes.text full in
@@ -76,16 +75,16 @@ module _ (blocks : List (List ℕ)) (old new : Register) (h : History) (write : 
       subst (Holds blocks new) (sym (ap with_finish h_is)) (record {
         articles = λ cycle first k article finished inside unpassed.
             elim (finished_now h.buffer writes.earlier writes.fresh w cycle first article finished) [
-              inl q ↦
-                let parts = at_parts h.buffer at cycle first q.0 in
-                let same_first = ap (λ (t : tokens.Token). t.first) writes.token ∙ parts.1 in
-                ap (λ n. block_at blocks (n + k)) (sym same_first)
-                ∙ open_held k (omega (arith, inside, ap (λ (a : Article). size_of (length a.text)) q.1, ap size_of whole, full))
-                ∙ ap block_image (article_block p w cycle first k (ap (λ (t : tokens.Token). t.cycle) writes.token ∙ parts.0) same_first whole)
-                ∙ ap (λ (a : Article). block_image (block_of cycle first a.class a.text k)) q.1
-            | inr q ↦ holds.articles cycle first k article
-                (ap (λ (b : List Begin). finished_at h.buffer b cycle first) writes.newest ∙ q) inside
-                (subst (λ (l : Line). IsUnpassed l cycle (first + k)) line unpassed)
+              | inl q ↦
+                  let parts = at_parts h.buffer at cycle first q.0 in
+                  let same_first = ap (λ (t : tokens.Token). t.first) writes.token ∙ parts.1 in
+                  ap (λ n. block_at blocks (n + k)) (sym same_first)
+                  ∙ open_held k (omega (arith, inside, ap (λ (a : Article). size_of (length a.text)) q.1, ap size_of whole, full))
+                  ∙ ap block_image (article_block p w cycle first k (ap (λ (t : tokens.Token). t.cycle) writes.token ∙ parts.0) same_first whole)
+                  ∙ ap (λ (a : Article). block_image (block_of cycle first a.class a.text k)) q.1
+              | inr q ↦ holds.articles cycle first k article
+                  (ap (λ (b : List Begin). finished_at h.buffer b cycle first) writes.newest ∙ q) inside
+                  (subst (λ (l : Line). IsUnpassed l cycle (first + k)) line unpassed)
             ];
         open_one = no_open blocks new.progress;
       })

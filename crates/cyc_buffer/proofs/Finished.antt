@@ -84,24 +84,24 @@ pub lies : (buffer : Buffer) (begins : List Begin) (cycle first : ℕ) (article 
 lies buffer [] cycle first article sized e = absurd (none_is_none e)
 lies buffer (b ∷ earlier) cycle first article sized e =
     elim (chosen (is_at buffer (place_of buffer earlier b) cycle first) b.finished (finished_at buffer earlier cycle first) (Some article) e) [
-      inl p ↦ lies_newest buffer earlier b cycle first article sized.0 (of_size b.size b.finished article sized.0.finished p.1) p.0
-    | inr p ↦ lies_earlier buffer earlier b cycle first article (lies buffer earlier cycle first article sized.1 p.1)
+      | inl p ↦ lies_newest buffer earlier b cycle first article sized.0 (of_size b.size b.finished article sized.0.finished p.1) p.0
+      | inr p ↦ lies_earlier buffer earlier b cycle first article (lies buffer earlier cycle first article sized.1 p.1)
     ]
 
 -- the place of the next begin is no finished article's
-not_at_next : (buffer : Buffer) (begins : List Begin) (b : Begin) (cycle first : ℕ) (article : Article)
+pub not_at_next : (buffer : Buffer) (begins : List Begin) (b : Begin) (cycle first : ℕ) (article : Article)
     → Lies buffer begins cycle first article → is_at buffer (place_of buffer begins b) cycle first ≡ false
 not_at_next buffer begins b cycle first article l =
     false_from_ne_true (is_at buffer (place_of buffer begins b) cycle first) (λ e.
     let at = at_parts buffer (place_of buffer begins b) cycle first e in
     elim (placed buffer.blocks (head_of buffer.blocks begins) b.fresh b.size) [
-      inl p ↦ elim l.before [
-        inl q ↦ omega (arith, at.0, at.1, p.0, q)
-      | inr q ↦ omega (arith, at.0, at.1, p.0, p.1, q.0, q.1, l.some)
+      | inl p ↦ elim l.before [
+        | inl q ↦ omega (arith, at.0, at.1, p.0, q)
+        | inr q ↦ omega (arith, at.0, at.1, p.0, p.1, q.0, q.1, l.some)
       ]
-    | inr p ↦ elim l.before [
-        inl q ↦ omega (arith, at.0, p.0, q)
-      | inr q ↦ omega (arith, at.0, p.0, q.0)
+      | inr p ↦ elim l.before [
+        | inl q ↦ omega (arith, at.0, p.0, q)
+        | inr q ↦ omega (arith, at.0, p.0, q.0)
       ]
     ])
 
@@ -111,8 +111,8 @@ pub was_finished : (buffer : Buffer) (begins : List Begin) (b : Begin) (cycle fi
     → finished_at buffer begins cycle first ≡ Some article
 was_finished buffer begins b cycle first article none e =
     elim (chosen (is_at buffer (place_of buffer begins b) cycle first) b.finished (finished_at buffer begins cycle first) (Some article) e) [
-      inl p ↦ absurd (none_is_none (sym none ∙ p.1))
-    | inr p ↦ p.1
+      | inl p ↦ absurd (none_is_none (sym none ∙ p.1))
+      | inr p ↦ p.1
     ]
 
 -- and takes none away

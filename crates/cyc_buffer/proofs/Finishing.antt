@@ -62,8 +62,8 @@ module _ (buffer : Buffer) (earlier : List Begin) (fresh : Bool) (w : Writing) w
       ⊎ (finished_at buffer (newest ∷ earlier) cycle first ≡ Some article)
   finished_now cycle first article e =
       elim (chosen (is_at buffer place cycle first) (Some written) (finished_at buffer earlier cycle first) (Some article) e) [
-        inl p ↦ inl (p.0, same_some p.1)
-      | inr p ↦ inr (cond-false (is_at buffer place cycle first) None (finished_at buffer earlier cycle first) p.0 ∙ p.1)
+        | inl p ↦ inl (p.0, same_some p.1)
+        | inr p ↦ inr (cond-false (is_at buffer place cycle first) None (finished_at buffer earlier cycle first) p.0 ∙ p.1)
       ]
 
   -- what was finished before is so after
@@ -71,8 +71,8 @@ module _ (buffer : Buffer) (earlier : List Begin) (fresh : Bool) (w : Writing) w
       → finished_at buffer (done ∷ earlier) cycle first ≡ Some article
   finished_still cycle first article e =
       elim (chosen (is_at buffer place cycle first) None (finished_at buffer earlier cycle first) (Some article) e) [
-        inl p ↦ absurd (none_is_none p.1)
-      | inr p ↦ cond-false (is_at buffer place cycle first) (Some written) (finished_at buffer earlier cycle first) p.0 ∙ p.1
+        | inl p ↦ absurd (none_is_none p.1)
+        | inr p ↦ cond-false (is_at buffer place cycle first) (Some written) (finished_at buffer earlier cycle first) p.0 ∙ p.1
       ]
 
   -- and the newest is
@@ -91,11 +91,10 @@ module _ (old new : Register) (buffer : Buffer) (earlier : List Begin) (fresh : 
     (some : 1 ≤ w.octets) (class_fits : w.class < 2 ^ 8) (octets_fit : w.octets < 2 ^ 32) (whole : length w.text ≡ w.octets)
     (line : new.line ≡ old.line)
     (starts : (j : ℕ) → is_marked new.starts.words.items j ≡ marked_after (place buffer earlier fresh w).used
-        ((place buffer earlier fresh w).used + 1) true j (is_marked old.starts.words.items j))
+    ((place buffer earlier fresh w).used + 1) true j (is_marked old.starts.words.items j))
     (kept : (j : ℕ) → is_marked new.kept.words.items j ≡ marked_after (place buffer earlier fresh w).used
-        ((place buffer earlier fresh w).used + size_of w.octets) true j (is_marked old.kept.words.items j))
+    ((place buffer earlier fresh w).used + size_of w.octets) true j (is_marked old.kept.words.items j))
     (progress : new.progress ≡ None) where
-
   abbrev at : Head
   at = place buffer earlier fresh w
 
@@ -114,77 +113,79 @@ module _ (old new : Register) (buffer : Buffer) (earlier : List Begin) (fresh : 
 
   keeps_starts : (block : ℕ) → block < new.line.blocks → (is_marked new.starts.words.items block ≡ true) ↔ IsStart new.line now block
   keeps_starts block within = (
-      (λ t. elim (cases_Bool (is_among at.used (at.used + 1) block)) [
-          inl e ↦
-            let here = among_parts at.used (at.used + 1) block e in
-            let same : at.used ≡ block = omega (arith, here.0, here.1) in
-            record {
-              cycle = buffer.first_cycle + at.run;
-              article = written buffer earlier fresh w;
-              finished = subst (λ j. finished_at buffer (done buffer earlier fresh w ∷ earlier) (buffer.first_cycle + at.run) j ≡ Some (written buffer earlier fresh w)) same (finished_newest buffer earlier fresh w);
-              unpassed = unpassed_now block (omega (arith, same, has_size));
-            }
-        | inr e ↦
-            let was = (keeps.starts block (omega (arith, within, ap (λ (l : Line). l.blocks) line))).0
-                (sym (cond-false (is_among at.used (at.used + 1) block) true (is_marked old.starts.words.items block) e) ∙ sym (starts block) ∙ t) in
-            record {
-              cycle = was.cycle;
-              article = was.article;
-              finished = finished_still buffer earlier fresh w was.cycle block was.article was.finished;
-              unpassed = subst (λ (l : Line). IsUnpassed l was.cycle block) (sym line) was.unpassed;
-            }
-        ]),
-      (λ s. elim (finished_now buffer earlier fresh w s.cycle block s.article s.finished) [
-          inl p ↦
-            let same = (at_parts buffer at s.cycle block p.0).1 in
-            starts block ∙ cond-true (is_among at.used (at.used + 1) block) true (is_marked old.starts.words.items block)
-            (among at.used (at.used + 1) block (omega (arith, same)) (omega (arith, same)))
-        | inr p ↦
-            let was = (keeps.starts block (omega (arith, within, ap (λ (l : Line). l.blocks) line))).1
-                (record { cycle = s.cycle; article = s.article; finished = p; unpassed = subst (λ (l : Line). IsUnpassed l s.cycle block) line s.unpassed }) in
-            starts block ∙ ap (cond (is_among at.used (at.used + 1) block) true) was ∙ set_stays (is_among at.used (at.used + 1) block)
-        ]))
+    (λ t. elim (cases_Bool (is_among at.used (at.used + 1) block)) [
+      | inl e ↦
+          let here = among_parts at.used (at.used + 1) block e in
+          let same : at.used ≡ block = omega (arith, here.0, here.1) in
+          record {
+            cycle = buffer.first_cycle + at.run;
+            article = written buffer earlier fresh w;
+            finished = subst (λ j. finished_at buffer (done buffer earlier fresh w ∷ earlier) (buffer.first_cycle + at.run) j ≡ Some (written buffer earlier fresh w)) same (finished_newest buffer earlier fresh w);
+            unpassed = unpassed_now block (omega (arith, same, has_size));
+          }
+      | inr e ↦
+          let was = (keeps.starts block (omega (arith, within, ap (λ (l : Line). l.blocks) line))).0
+          (sym (cond-false (is_among at.used (at.used + 1) block) true (is_marked old.starts.words.items block) e) ∙ sym (starts block) ∙ t) in
+          record {
+            cycle = was.cycle;
+            article = was.article;
+            finished = finished_still buffer earlier fresh w was.cycle block was.article was.finished;
+            unpassed = subst (λ (l : Line). IsUnpassed l was.cycle block) (sym line) was.unpassed;
+          }
+    ]),
+    (λ s. elim (finished_now buffer earlier fresh w s.cycle block s.article s.finished) [
+      | inl p ↦
+          let same = (at_parts buffer at s.cycle block p.0).1 in
+          starts block ∙ cond-true (is_among at.used (at.used + 1) block) true (is_marked old.starts.words.items block)
+          (among at.used (at.used + 1) block (omega (arith, same)) (omega (arith, same)))
+      | inr p ↦
+          let was = (keeps.starts block (omega (arith, within, ap (λ (l : Line). l.blocks) line))).1
+          (record { cycle = s.cycle; article = s.article; finished = p; unpassed = subst (λ (l : Line). IsUnpassed l s.cycle block) line s.unpassed }) in
+          starts block ∙ ap (cond (is_among at.used (at.used + 1) block) true) was ∙ set_stays (is_among at.used (at.used + 1) block)
+    ]),
+  )
 
   keeps_kept : (block : ℕ) → block < new.line.blocks → (is_marked new.kept.words.items block ≡ true) ↔ IsKept new.line now block
   keeps_kept block within = (
-      (λ t. elim (cases_Bool (is_among at.used (at.used + size_of w.octets) block)) [
-          inl e ↦
-            let here = among_parts at.used (at.used + size_of w.octets) block e in
-            record {
-              cycle = buffer.first_cycle + at.run;
-              first = at.used;
-              index = block - at.used;
-              article = written buffer earlier fresh w;
-              finished = finished_newest buffer earlier fresh w;
-              inside = omega (arith, here.0, here.1, size_is);
-              here = omega (arith, here.0);
-              unpassed = unpassed_now block here.1;
-            }
-        | inr e ↦
-            let was = (keeps.kept block (omega (arith, within, ap (λ (l : Line). l.blocks) line))).0
-                (sym (cond-false (is_among at.used (at.used + size_of w.octets) block) true (is_marked old.kept.words.items block) e) ∙ sym (kept block) ∙ t) in
-            record {
-              cycle = was.cycle;
-              first = was.first;
-              index = was.index;
-              article = was.article;
-              finished = finished_still buffer earlier fresh w was.cycle was.first was.article was.finished;
-              inside = was.inside;
-              here = was.here;
-              unpassed = subst (λ (l : Line). IsUnpassed l was.cycle block) (sym line) was.unpassed;
-            }
-        ]),
-      (λ s. elim (finished_now buffer earlier fresh w s.cycle s.first s.article s.finished) [
-          inl p ↦
-            let same = (at_parts buffer at s.cycle s.first p.0).1 in
-            let size : size_of (length s.article.text) ≡ size_of w.octets = ap (λ (a : Article). size_of (length a.text)) (sym p.1) ∙ size_is in
-            kept block ∙ cond-true (is_among at.used (at.used + size_of w.octets) block) true (is_marked old.kept.words.items block)
-            (among at.used (at.used + size_of w.octets) block (omega (arith, same, s.here)) (omega (arith, same, s.here, s.inside, size)))
-        | inr p ↦
-            let was = (keeps.kept block (omega (arith, within, ap (λ (l : Line). l.blocks) line))).1
-                (record { cycle = s.cycle; first = s.first; index = s.index; article = s.article; finished = p; inside = s.inside; here = s.here; unpassed = subst (λ (l : Line). IsUnpassed l s.cycle block) line s.unpassed }) in
-            kept block ∙ ap (cond (is_among at.used (at.used + size_of w.octets) block) true) was ∙ set_stays (is_among at.used (at.used + size_of w.octets) block)
-        ]))
+    (λ t. elim (cases_Bool (is_among at.used (at.used + size_of w.octets) block)) [
+      | inl e ↦
+          let here = among_parts at.used (at.used + size_of w.octets) block e in
+          record {
+            cycle = buffer.first_cycle + at.run;
+            first = at.used;
+            index = block - at.used;
+            article = written buffer earlier fresh w;
+            finished = finished_newest buffer earlier fresh w;
+            inside = omega (arith, here.0, here.1, size_is);
+            here = omega (arith, here.0);
+            unpassed = unpassed_now block here.1;
+          }
+      | inr e ↦
+          let was = (keeps.kept block (omega (arith, within, ap (λ (l : Line). l.blocks) line))).0
+          (sym (cond-false (is_among at.used (at.used + size_of w.octets) block) true (is_marked old.kept.words.items block) e) ∙ sym (kept block) ∙ t) in
+          record {
+            cycle = was.cycle;
+            first = was.first;
+            index = was.index;
+            article = was.article;
+            finished = finished_still buffer earlier fresh w was.cycle was.first was.article was.finished;
+            inside = was.inside;
+            here = was.here;
+            unpassed = subst (λ (l : Line). IsUnpassed l was.cycle block) (sym line) was.unpassed;
+          }
+    ]),
+    (λ s. elim (finished_now buffer earlier fresh w s.cycle s.first s.article s.finished) [
+      | inl p ↦
+          let same = (at_parts buffer at s.cycle s.first p.0).1 in
+          let size : size_of (length s.article.text) ≡ size_of w.octets = ap (λ (a : Article). size_of (length a.text)) (sym p.1) ∙ size_is in
+          kept block ∙ cond-true (is_among at.used (at.used + size_of w.octets) block) true (is_marked old.kept.words.items block)
+          (among at.used (at.used + size_of w.octets) block (omega (arith, same, s.here)) (omega (arith, same, s.here, s.inside, size)))
+      | inr p ↦
+          let was = (keeps.kept block (omega (arith, within, ap (λ (l : Line). l.blocks) line))).1
+          (record { cycle = s.cycle; first = s.first; index = s.index; article = s.article; finished = p; inside = s.inside; here = s.here; unpassed = subst (λ (l : Line). IsUnpassed l s.cycle block) line s.unpassed }) in
+          kept block ∙ ap (cond (is_among at.used (at.used + size_of w.octets) block) true) was ∙ set_stays (is_among at.used (at.used + size_of w.octets) block)
+    ]),
+  )
 
   pub keeps_finish : Keeps new now
   keeps_finish = record {
@@ -203,7 +204,6 @@ module _ (old new : Register) (h : History) (write : Open) (keeps : Keeps old h)
     (starts : (j : ℕ) → is_marked new.starts.words.items j ≡ marked_after write.token.first (write.token.first + 1) true j (is_marked old.starts.words.items j))
     (kept : (j : ℕ) → is_marked new.kept.words.items j ≡ marked_after write.token.first (write.token.first + size_of write.token.length) true j (is_marked old.kept.words.items j))
     (progress : new.progress ≡ None) where
-
   -- the progress and the open write, as they are
   finish_by : (p : Option Progress) (o : Option Writing) → h.writing ≡ o → Writes h p o → IsTheOpen write p
       → written_of p ≡ size_of write.token.length → Keeps new (with_finish h)
@@ -211,10 +211,10 @@ module _ (old new : Register) (h : History) (write : Open) (keeps : Keeps old h)
   finish_by (Some p) None is writes the_open all = absurd writes
   finish_by (Some p) (Some w) is writes the_open all =
       let h_is : h ≡ old_history h.buffer writes.earlier writes.fresh w =
-          ap (λ (b : List Begin). history_of h.buffer b h.writing) writes.newest
-          ∙ ap (history_of h.buffer (newest h.buffer writes.earlier writes.fresh w ∷ writes.earlier)) is in
+      ap (λ (b : List Begin). history_of h.buffer b h.writing) writes.newest
+      ∙ ap (history_of h.buffer (newest h.buffer writes.earlier writes.fresh w ∷ writes.earlier)) is in
       let token : token_view write.token ≡ token_at h.buffer (place h.buffer writes.earlier writes.fresh w) w.class w.octets =
-          ap token_view (sym the_open) ∙ writes.token in
+      ap token_view (sym the_open) ∙ writes.token in
       let first = ap (λ (t : tokens.Token). t.first) token in
       let octets = ap (λ (t : tokens.Token). t.length) token in
       subst (Keeps new) (sym (ap with_finish h_is))

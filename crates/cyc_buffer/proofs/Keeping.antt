@@ -29,23 +29,23 @@ not_past : (buffer : Buffer) (begins : List Begin) (cycle first index : ℕ) (ar
     → Lies buffer begins cycle first article → index < size_of (length article.text)
     → IsPast (buffer.first_cycle + (head_of buffer.blocks begins).run) (head_of buffer.blocks begins).used cycle (first + index) → ⊥
 not_past buffer begins cycle first index article l h past = elim l.before [
-    inl p ↦ elim past [
-      inl q ↦ omega (arith, p, q)
+  | inl p ↦ elim past [
+    | inl q ↦ omega (arith, p, q)
     | inr q ↦ omega (arith, p, q.0)
-    ]
-  | inr p ↦ elim past [
-      inl q ↦ omega (arith, p.0, q)
-    | inr q ↦ omega (arith, p.1, q.1, h)
-    ]
   ]
+  | inr p ↦ elim past [
+    | inl q ↦ omega (arith, p.0, q)
+    | inr q ↦ omega (arith, p.1, q.1, h)
+  ]
+]
 
 -- a begin's place, in cycles
 placed_cycles : (buffer : Buffer) (head : Head) (fresh : Bool) (size : ℕ)
     → IsPlaced buffer.blocks (as_cycles buffer head) size (as_cycles buffer (place_after buffer.blocks head fresh size))
 placed_cycles buffer head fresh size = elim (placed buffer.blocks head fresh size) [
-    inl p ↦ inl (omega (arith, p.0), p.1, p.2)
+  | inl p ↦ inl (omega (arith, p.0), p.1, p.2)
   | inr p ↦ inr (omega (arith, p.0), p.1)
-  ]
+]
 
 -- a head
 abbrev head_at : ℕ → ℕ → Head
@@ -70,19 +70,19 @@ pub block_before : (buffer : Buffer) (begins : List Begin) (b : Begin) (since fi
     → AllByRecursion (IsSized buffer.blocks) begins → b.finished ≡ None
     → finished_at buffer (b ∷ begins) since first ≡ Some article → index < size_of (length article.text)
     → (let head = as_cycles buffer (head_of buffer.blocks begins) in
-       let at = as_cycles buffer (place_after buffer.blocks (head_of buffer.blocks begins) b.fresh b.size) in
-       IsHeld at.run (at.used + b.size) since (first + index)
-       → (finished_at buffer begins since first ≡ Some article)
-       × IsHeld head.run head.used since (first + index)
-       × (passes buffer.blocks head.run head.used at.run at.used b.size (first + index) ≡ false))
+    let at = as_cycles buffer (place_after buffer.blocks (head_of buffer.blocks begins) b.fresh b.size) in
+    IsHeld at.run (at.used + b.size) since (first + index)
+    → (finished_at buffer begins since first ≡ Some article)
+    × IsHeld head.run head.used since (first + index)
+    × (passes buffer.blocks head.run head.used at.run at.used b.size (first + index) ≡ false))
 block_before buffer begins b since first index article sized none finished inside held =
     let was = was_finished buffer begins b since first article none finished in
     let l = lies buffer begins since first article sized was in
     elim (held_before buffer.blocks (as_cycles buffer (head_of buffer.blocks begins))
-      (as_cycles buffer (place_after buffer.blocks (head_of buffer.blocks begins) b.fresh b.size)) b.size since (first + index)
-      (placed_cycles buffer (head_of buffer.blocks begins) b.fresh b.size) (omega (arith, l.within, inside)) held) [
-      inl p ↦ (was, p.0, p.1)
-    | inr past ↦ absurd (not_past buffer begins since first index article l inside past)
+    (as_cycles buffer (place_after buffer.blocks (head_of buffer.blocks begins) b.fresh b.size)) b.size since (first + index)
+    (placed_cycles buffer (head_of buffer.blocks begins) b.fresh b.size) (omega (arith, l.within, inside)) held) [
+      | inl p ↦ (was, p.0, p.1)
+      | inr past ↦ absurd (not_past buffer begins since first index article l inside past)
     ]
 
 -- a block of an article that wasn't passed, and isn't by a begin, is not passed after it
@@ -90,19 +90,19 @@ pub block_after : (buffer : Buffer) (begins : List Begin) (b : Begin) (since fir
     → AllByRecursion (IsSized buffer.blocks) begins
     → finished_at buffer begins since first ≡ Some article → index < size_of (length article.text)
     → (let head = as_cycles buffer (head_of buffer.blocks begins) in
-       let at = as_cycles buffer (place_after buffer.blocks (head_of buffer.blocks begins) b.fresh b.size) in
-       IsHeld head.run head.used since (first + index)
-       → passes buffer.blocks head.run head.used at.run at.used b.size (first + index) ≡ false
-       → (finished_at buffer (b ∷ begins) since first ≡ Some article)
-       × IsHeld at.run (at.used + b.size) since (first + index))
+    let at = as_cycles buffer (place_after buffer.blocks (head_of buffer.blocks begins) b.fresh b.size) in
+    IsHeld head.run head.used since (first + index)
+    → passes buffer.blocks head.run head.used at.run at.used b.size (first + index) ≡ false
+    → (finished_at buffer (b ∷ begins) since first ≡ Some article)
+    × IsHeld at.run (at.used + b.size) since (first + index))
 block_after buffer begins b since first index article sized finished inside held unpassed =
-    let l = lies buffer begins since first article sized finished in
-    (stays_finished buffer begins b since first article sized finished,
-    held_after buffer.blocks (as_cycles buffer (head_of buffer.blocks begins))
-    (as_cycles buffer (place_after buffer.blocks (head_of buffer.blocks begins) b.fresh b.size)) b.size since (first + index)
-    (placed_cycles buffer (head_of buffer.blocks begins) b.fresh b.size) (omega (arith, l.within, inside)) held unpassed)
+    let l = lies buffer begins since first article sized finished in (
+      stays_finished buffer begins b since first article sized finished,
+      held_after buffer.blocks (as_cycles buffer (head_of buffer.blocks begins))
+          (as_cycles buffer (place_after buffer.blocks (head_of buffer.blocks begins) b.fresh b.size)) b.size since (first + index)
+          (placed_cycles buffer (head_of buffer.blocks begins) b.fresh b.size) (omega (arith, l.within, inside)) held unpassed,
+    )
 
 -- the head that a register agrees with, as its line has it
 pub line_is : (r : Register) (h : History) → Keeps r h → line_head r.line ≡ as_cycles h.buffer (head_of h.buffer.blocks h.begins)
 line_is r h keeps = ap (λ n. head_at n r.line.used) keeps.cycle ∙ ap (head_at (h.buffer.first_cycle + (head_of h.buffer.blocks h.begins).run)) keeps.used
-

@@ -11,9 +11,9 @@ use Rattle.cyc_buffer.specs.Marks.{is_marked, is_among, marked_after}
 -- the lowest bits of a run of ones
 pub bit_below : (count i : ℕ) → (bit_at (2 ^ count - 1) i == 1) ≡ nat_lt i count
 bit_below count i = elim (cases_lt i count) [
-    inl h ↦ rw (bit_at_ones count i h, lt-ltb i count h) refl
+  | inl h ↦ rw (bit_at_ones count i h, lt-ltb i count h) refl
   | inr h ↦ rw (bit_at_ones_above count i h, le-ltb i count h) refl
-  ]
+]
 
 -- a bit of one word that another word clears
 pub bit_cleared : (a b : ℕ) → a < 2 → b < 2 → (min a (1 - b) == 1) ≡ ((a == 1) && not (b == 1))
@@ -50,12 +50,12 @@ set_at a b i = rw (bit_at_or a b i) (bit_set (bit_at a i) (bit_at b i) (bit_at-l
 pub among_shifted : (start from to i : ℕ)
     → (nat_lt i (to - start) && not (nat_lt i (from - start))) ≡ is_among from to (start + i)
 among_shifted start from to i = elim (cases_lt i (from - start)) [
-    inl h ↦ rw (lt-ltb i (from - start) h, lt-leb from (start + i) (omega (arith, h))) (both_false (nat_lt i (to - start)))
+  | inl h ↦ rw (lt-ltb i (from - start) h, lt-leb from (start + i) (omega (arith, h))) (both_false (nat_lt i (to - start)))
   | inr h ↦ elim (cases_lt i (to - start)) [
-      inl k ↦ rw (le-ltb i (from - start) h, lt-ltb i (to - start) k, le-leb from (start + i) (omega (arith, h)), lt-ltb (start + i) to (omega (arith, k))) refl
+    | inl k ↦ rw (le-ltb i (from - start) h, lt-ltb i (to - start) k, le-leb from (start + i) (omega (arith, h)), lt-ltb (start + i) to (omega (arith, k))) refl
     | inr k ↦ rw (le-ltb i (from - start) h, le-ltb i (to - start) k, le-leb from (start + i) (omega (arith, h)), le-ltb (start + i) to (omega (arith, k))) refl
-    ]
   ]
+]
   where
     both_false : (b : Bool) → (b && false) ≡ false
     both_false true = refl
@@ -94,31 +94,31 @@ pub marks_of_word : (words : List ℕ) (old : ℕ → Bool) (word value from to 
     → (j : ℕ) → is_marked (set words word value) j
     ≡ cond (nat_lt j (64 * (word + 1))) (marked_after from to b j (old j)) (old j)
 marks_of_word words old word value from to b h marks bits j = elim (cases_eq (j / 64) word) [
-    inl e ↦
+  | inl e ↦
       let low : j % 64 < 64 = omega arith in
       let here : word * 64 + j % 64 ≡ j = omega (arith, e, div-add-mod j 64) in
       let before : bit_at (get_or words word 0) (j % 64) == 1 ≡ old j =
-          ap (λ k. bit_at (get_or words k 0) (j % 64) == 1) (sym e) ∙ marks j
-          ∙ ap (λ t. cond t (marked_after from to b j (old j)) (old j)) (le-ltb j (64 * word) (omega (arith, here))) in
+      ap (λ k. bit_at (get_or words k 0) (j % 64) == 1) (sym e) ∙ marks j
+      ∙ ap (λ t. cond t (marked_after from to b j (old j)) (old j)) (le-ltb j (64 * word) (omega (arith, here))) in
       same_word words word value j h e ∙ bits (j % 64) low
       ∙ ap (λ k. cond (is_among from to k) b (bit_at (get_or words word 0) (j % 64) == 1)) here
       ∙ ap (cond (is_among from to j) b) before
       ∙ sym (ap (λ t. cond t (marked_after from to b j (old j)) (old j)) (lt-ltb j (64 * (word + 1)) (omega (arith, here, low))))
   | inr n ↦
       let same : nat_lt j (64 * word) ≡ nat_lt j (64 * (word + 1)) = elim (cases_lt j (64 * word)) [
-          inl k ↦ lt-ltb j (64 * word) k ∙ sym (lt-ltb j (64 * (word + 1)) (omega (arith, k)))
+        | inl k ↦ lt-ltb j (64 * word) k ∙ sym (lt-ltb j (64 * (word + 1)) (omega (arith, k)))
         | inr k ↦ le-ltb j (64 * word) k ∙ sym (le-ltb j (64 * (word + 1)) (omega (arith, k, n, div-add-mod j 64)))
-        ] in
+      ] in
       other_word words word value j n ∙ marks j
       ∙ ap (λ t. cond t (marked_after from to b j (old j)) (old j)) same
-  ]
+]
 
 -- words of zeros mark no block
 pub none_marked : (n j : ℕ) → is_marked (replicate n 0) j ≡ false
 none_marked n j = elim (cases_lt (j / 64) n) [
-    inl h ↦ ap (λ w. bit_at w (j % 64) == 1) (get_or-replicate n (j / 64) 0 0 h) ∙ zero_bit
+  | inl h ↦ ap (λ w. bit_at w (j % 64) == 1) (get_or-replicate n (j / 64) 0 0 h) ∙ zero_bit
   | inr h ↦ ap (λ w. bit_at w (j % 64) == 1) (get_or-eq_default (replicate n 0) 0 (omega (arith, h, length-replicate {A = ℕ} n 0))) ∙ zero_bit
-  ]
+]
   where
     zero_bit : (bit_at 0 (j % 64) == 1) ≡ false
     zero_bit = ap (λ b. b == 1) (bit_at-zero (j % 64))

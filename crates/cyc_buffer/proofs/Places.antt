@@ -23,9 +23,9 @@ placed blocks head fresh size =
 pub placed_within : (blocks : ℕ) (head : Head) (fresh : Bool) (size : ℕ) → size ≤ blocks
     → (place_after blocks head fresh size).used + size ≤ blocks
 placed_within blocks head fresh size h = elim (placed blocks head fresh size) [
-    inl p ↦ omega (arith, p.1, p.2)
+  | inl p ↦ omega (arith, p.1, p.2)
   | inr p ↦ omega (arith, p.1, h)
-  ]
+]
 
 -- what an equation with a choice says
 pub chosen : {X : Type 0} → (b : Bool) (x y z : X) → cond b x y ≡ z → ((b ≡ true) × (x ≡ z)) ⊎ ((b ≡ false) × (y ≡ z))
@@ -38,9 +38,9 @@ IsBeside from to j = (j < from) ⊎ (to ≤ j)
 
 pub beside : (from to j : ℕ) → is_among from to j ≡ false → IsBeside from to j
 beside from to j e = elim (and_cases (nat_le from j) (nat_lt j to) e) [
-    inl p ↦ inl (leb-false from j p)
+  | inl p ↦ inl (leb-false from j p)
   | inr p ↦ inr (ltb-false j to p)
-  ]
+]
 
 pub not_among : (from to j : ℕ) → IsBeside from to j → is_among from to j ≡ false
 not_among from to j (inl h) = and_left (nat_le from j) (nat_lt j to) (lt-leb from j h)
@@ -65,22 +65,31 @@ pub held_before : (blocks : ℕ) (head at : Head) (size c j : ℕ) → IsPlaced 
     → (IsHeld head.run head.used c j × (passes blocks head.run head.used at.run at.used size j ≡ false))
     ⊎ IsPast head.run head.used c j
 held_before blocks head at size c j (inl p) h (inl q) = elim (cases_lt j head.used) [
-    inl k ↦ inl (inl (omega (arith, p.0, q.0), k), or_from (is_among at.used (at.used + size) j) (not (at.run == head.run) && is_among head.used blocks j)
-      (not_among at.used (at.used + size) j (inl (omega (arith, p.1, k))))
-      (and_left (not (at.run == head.run)) (is_among head.used blocks j) (not_from_true (at.run == head.run) (eq-eqb at.run head.run p.0))))
+  | inl k ↦ inl (
+    inl (omega (arith, p.0, q.0), k),
+    or_from (is_among at.used (at.used + size) j) (not (at.run == head.run) && is_among head.used blocks j)
+        (not_among at.used (at.used + size) j (inl (omega (arith, p.1, k))))
+        (and_left (not (at.run == head.run)) (is_among head.used blocks j) (not_from_true (at.run == head.run) (eq-eqb at.run head.run p.0))),
+  )
   | inr k ↦ inr (inr (omega (arith, p.0, q.0), k))
-  ]
+]
 held_before blocks head at size c j (inl p) h (inr q) =
-    inl (inr (omega (arith, p.0, q.0), omega (arith, p.1, q.1)), or_from (is_among at.used (at.used + size) j) (not (at.run == head.run) && is_among head.used blocks j)
-    (not_among at.used (at.used + size) j (inr q.1))
-    (and_left (not (at.run == head.run)) (is_among head.used blocks j) (not_from_true (at.run == head.run) (eq-eqb at.run head.run p.0))))
+    inl (
+      inr (omega (arith, p.0, q.0), omega (arith, p.1, q.1)),
+      or_from (is_among at.used (at.used + size) j) (not (at.run == head.run) && is_among head.used blocks j)
+          (not_among at.used (at.used + size) j (inr q.1))
+          (and_left (not (at.run == head.run)) (is_among head.used blocks j) (not_from_true (at.run == head.run) (eq-eqb at.run head.run p.0))),
+    )
 held_before blocks head at size c j (inr p) h (inl q) = inr (inl (omega (arith, p.0, q.0)))
 held_before blocks head at size c j (inr p) h (inr q) = elim (cases_lt j head.used) [
-    inl k ↦ inl (inl (omega (arith, p.0, q.0), k), or_from (is_among at.used (at.used + size) j) (not (at.run == head.run) && is_among head.used blocks j)
-      (not_among at.used (at.used + size) j (inr q.1))
-      (and_right (not (at.run == head.run)) (is_among head.used blocks j) (not_among head.used blocks j (inl k))))
+  | inl k ↦ inl (
+    inl (omega (arith, p.0, q.0), k),
+    or_from (is_among at.used (at.used + size) j) (not (at.run == head.run) && is_among head.used blocks j)
+        (not_among at.used (at.used + size) j (inr q.1))
+        (and_right (not (at.run == head.run)) (is_among head.used blocks j) (not_among head.used blocks j (inl k))),
+  )
   | inr k ↦ inr (inr (omega (arith, p.0, q.0), k))
-  ]
+]
 
 -- what was not passed before, and is not passed by the begin, is not passed
 pub held_after : (blocks : ℕ) (head at : Head) (size c j : ℕ) → IsPlaced blocks head size at → j < blocks
@@ -89,20 +98,20 @@ pub held_after : (blocks : ℕ) (head at : Head) (size c j : ℕ) → IsPlaced b
 held_after blocks head at size c j (inl p) h (inl q) e = inl (omega (arith, p.0, q.0), omega (arith, p.1, q.1))
 held_after blocks head at size c j (inl p) h (inr q) e =
     elim (beside at.used (at.used + size) j (or_parts (is_among at.used (at.used + size) j) (not (at.run == head.run) && is_among head.used blocks j) e).0) [
-      inl k ↦ absurd (omega (arith, p.1, q.1, k))
-    | inr k ↦ inr (omega (arith, p.0, q.0), k)
+      | inl k ↦ absurd (omega (arith, p.1, q.1, k))
+      | inr k ↦ inr (omega (arith, p.0, q.0), k)
     ]
 held_after blocks head at size c j (inr p) h (inl q) e =
     elim (beside at.used (at.used + size) j (or_parts (is_among at.used (at.used + size) j) (not (at.run == head.run) && is_among head.used blocks j) e).0) [
-      inl k ↦ absurd (omega (arith, p.1, k))
-    | inr k ↦ inr (omega (arith, p.0, q.0), k)
+      | inl k ↦ absurd (omega (arith, p.1, k))
+      | inr k ↦ inr (omega (arith, p.0, q.0), k)
     ]
 held_after blocks head at size c j (inr p) h (inr q) e =
     elim (and_cases (not (at.run == head.run)) (is_among head.used blocks j) (or_parts (is_among at.used (at.used + size) j) (not (at.run == head.run) && is_among head.used blocks j) e).1) [
-      inl k ↦ absurd (omega (arith, p.0, eqb-true at.run head.run (not-false (at.run == head.run) k)))
-    | inr k ↦ elim (beside head.used blocks j k) [
-        inl m ↦ absurd (omega (arith, q.1, m))
-      | inr m ↦ absurd (omega (arith, h, m))
+      | inl k ↦ absurd (omega (arith, p.0, eqb-true at.run head.run (not-false (at.run == head.run) k)))
+      | inr k ↦ elim (beside head.used blocks j k) [
+        | inl m ↦ absurd (omega (arith, q.1, m))
+        | inr m ↦ absurd (omega (arith, h, m))
       ]
     ]
 

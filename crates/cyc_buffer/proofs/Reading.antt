@@ -56,27 +56,27 @@ pub undecided : (buffer : Buffer) (front : ℕ) (token : tokens.Token) (k : ℕ)
     → Undecided buffer front token k
 undecided buffer front token k e =
     elim (chosen (is_beyond buffer front token k) (Some Unknown)
-      (cond (nat_lt (on_line buffer.blocks token.cycle token.first + buffer.blocks) front) (Some (Gone (front_view buffer front))) None) None e) [
-      inl p ↦ absurd (some_is_some p.1)
-    | inr p ↦ elim (chosen (nat_lt (on_line buffer.blocks token.cycle token.first + buffer.blocks) front) (Some (Gone (front_view buffer front))) None None p.1) [
-        inl q ↦ absurd (some_is_some q.1)
-      | inr q ↦
-          let other = not (token.buffer == buffer.number) in
-          let empty = token.length == 0 in
-          let long = nat_lt buffer.blocks (token.first + size_of token.length) in
-          let outside = nat_le (size_of token.length) k in
-          let ahead = nat_le front (on_line buffer.blocks token.cycle token.first) in
-          let a = or_parts (other || empty || long || outside) ahead p.0 in
-          let b = or_parts (other || empty || long) outside a.0 in
-          let c = or_parts (other || empty) long b.0 in
-          let d = or_parts other empty c.0 in
-          record {
-            number = eqb-true token.buffer buffer.number (not_false (token.buffer == buffer.number) d.0);
-            within = ltb-false buffer.blocks (token.first + size_of token.length) c.1;
-            inside = leb-false (size_of token.length) k b.1;
-            begun = leb-false front (on_line buffer.blocks token.cycle token.first) a.1;
-            live = ltb-false (on_line buffer.blocks token.cycle token.first + buffer.blocks) front q.0;
-          }
+    (cond (nat_lt (on_line buffer.blocks token.cycle token.first + buffer.blocks) front) (Some (Gone (front_view buffer front))) None) None e) [
+      | inl p ↦ absurd (some_is_some p.1)
+      | inr p ↦ elim (chosen (nat_lt (on_line buffer.blocks token.cycle token.first + buffer.blocks) front) (Some (Gone (front_view buffer front))) None None p.1) [
+        | inl q ↦ absurd (some_is_some q.1)
+        | inr q ↦
+            let other = not (token.buffer == buffer.number) in
+            let empty = token.length == 0 in
+            let long = nat_lt buffer.blocks (token.first + size_of token.length) in
+            let outside = nat_le (size_of token.length) k in
+            let ahead = nat_le front (on_line buffer.blocks token.cycle token.first) in
+            let a = or_parts (other || empty || long || outside) ahead p.0 in
+            let b = or_parts (other || empty || long) outside a.0 in
+            let c = or_parts (other || empty) long b.0 in
+            let d = or_parts other empty c.0 in
+            record {
+              number = eqb-true token.buffer buffer.number (not_false (token.buffer == buffer.number) d.0);
+              within = ltb-false buffer.blocks (token.first + size_of token.length) c.1;
+              inside = leb-false (size_of token.length) k b.1;
+              begun = leb-false front (on_line buffer.blocks token.cycle token.first) a.1;
+              live = ltb-false (on_line buffer.blocks token.cycle token.first + buffer.blocks) front q.0;
+            }
       ]
     ]
 
@@ -92,18 +92,18 @@ pub live_place : (blocks c used cycle first : ℕ) → first < blocks → used �
     → on_line blocks cycle first < on_line blocks c used → on_line blocks c used ≤ on_line blocks cycle first + blocks
     → ((cycle ≡ c) × (first < used)) ⊎ ((cycle + 1 ≡ c) × (used ≤ first))
 live_place blocks c used cycle first small room begun live = elim (cases_order cycle c) [
-    inl e ↦ inl (e, omega (arith, begun, ap (λ n. n * blocks) e))
+  | inl e ↦ inl (e, omega (arith, begun, ap (λ n. n * blocks) e))
   | inr o ↦ elim o [
-      inl h ↦ elim (cases_order (cycle + 1) c) [
-        inl e ↦ inr (e, omega (arith, live, further cycle c blocks h))
+    | inl h ↦ elim (cases_order (cycle + 1) c) [
+      | inl e ↦ inr (e, omega (arith, live, further cycle c blocks h))
       | inr p ↦ elim p [
-          inl q ↦ absurd (omega (arith, live, small, twice cycle c blocks q))
+        | inl q ↦ absurd (omega (arith, live, small, twice cycle c blocks q))
         | inr q ↦ absurd (omega (arith, h, q))
-        ]
       ]
-    | inr h ↦ absurd (omega (arith, begun, room, further c cycle blocks h))
     ]
+    | inr h ↦ absurd (omega (arith, begun, room, further c cycle blocks h))
   ]
+]
 
 -- what a text under a token is of
 pub record IsUnder (h : History) (token : tokens.Token) (text : List ℕ) : Type 0 where
@@ -124,17 +124,17 @@ under_by : (h : History) (token : tokens.Token) (text : List ℕ) (o : Option Ar
 under_by h token text None is e = absurd (none_is_none e)
 under_by h token text (Some a) is e =
     elim (chosen ((a.class == token.class) && (length a.text == token.length)) (Some a.text) None (Some text) e) [
-      inl p ↦
-        let both = and_parts (a.class == token.class) (length a.text == token.length) p.0 in
-        record { article = a; finished = is; class = eqb-true a.class token.class both.0; octets = eqb-true (length a.text) token.length both.1; same = same_some p.1 }
-    | inr p ↦ absurd (none_is_none p.1)
+      | inl p ↦
+          let both = and_parts (a.class == token.class) (length a.text == token.length) p.0 in
+          record { article = a; finished = is; class = eqb-true a.class token.class both.0; octets = eqb-true (length a.text) token.length both.1; same = same_some p.1 }
+      | inr p ↦ absurd (none_is_none p.1)
     ]
 
 pub under : (h : History) (token : tokens.Token) (text : List ℕ) → text_under h token ≡ Some text → IsUnder h token text
 under h token text e =
     elim (chosen (token.buffer == h.buffer.number) (text_of token.class token.length (finished_at h.buffer h.begins token.cycle token.first)) None (Some text) e) [
-      inl p ↦ under_by h token text (finished_at h.buffer h.begins token.cycle token.first) refl p.1
-    | inr p ↦ absurd (none_is_none p.1)
+      | inl p ↦ under_by h token text (finished_at h.buffer h.begins token.cycle token.first) refl p.1
+      | inr p ↦ absurd (none_is_none p.1)
     ]
 
 -- an article that agrees with the token in all is the one under it
@@ -150,7 +150,6 @@ is_under h token a number finished class octets =
 -- What is known where the numbers don't decide.
 module _ (r : Register) (h : History) (token : Token) (k : ℕ) (keeps : Keeps r h) (room : r.line.used ≤ r.line.blocks)
     (numbers : numbers_of r token k ≡ None) where
-
   open_numbers : Undecided (buffer_of r.line) (on_line r.line.blocks r.line.cycle r.line.used) (token_view token) k
   open_numbers = undecided (buffer_of r.line) (on_line r.line.blocks r.line.cycle r.line.used) (token_view token) k numbers
 
@@ -165,11 +164,11 @@ module _ (r : Register) (h : History) (token : Token) (k : ℕ) (keeps : Keeps r
   unpassed_block a finished inside =
       let l = lies h.buffer h.begins token.cycle token.first a keeps.sizes finished in
       elim unpassed [
-        inl u ↦ elim l.before [
-          inl q ↦ absurd (omega (arith, u.0, keeps.cycle, q))
-        | inr q ↦ inl (u.0, omega (arith, q.1, keeps.used, inside))
+        | inl u ↦ elim l.before [
+          | inl q ↦ absurd (omega (arith, u.0, keeps.cycle, q))
+          | inr q ↦ inl (u.0, omega (arith, q.1, keeps.used, inside))
         ]
-      | inr u ↦ inr (u.0, omega (arith, u.1))
+        | inr u ↦ inr (u.0, omega (arith, u.1))
       ]
 
   block_within : token.first + k < r.line.blocks
@@ -182,8 +181,16 @@ module _ (r : Register) (h : History) (token : Token) (k : ℕ) (keeps : Keeps r
       let inside : k < size_of (length u.article.text) = omega (arith, open_numbers.inside, ap size_of u.octets) in
       and_from (is_marked r.starts.words.items token.first) (is_marked r.kept.words.items (token.first + k))
       ((keeps.starts token.first (omega (arith, block_within))).1 (record { cycle = token.cycle; article = u.article; finished = u.finished; unpassed = unpassed }))
-      ((keeps.kept (token.first + k) block_within).1 (record { cycle = token.cycle; first = token.first; index = k; article = u.article; finished = u.finished;
-        inside = inside; here = refl; unpassed = unpassed_block u.article u.finished inside }))
+      ((keeps.kept (token.first + k) block_within).1 (record {
+        cycle = token.cycle;
+        first = token.first;
+        index = k;
+        article = u.article;
+        finished = u.finished;
+        inside = inside;
+        here = refl;
+        unpassed = unpassed_block u.article u.finished inside;
+      }))
 
   -- where the block is marked, a finished article begins at the token's place
   pub begins_there : has_marks r token k ≡ true → finished_at h.buffer h.begins token.cycle token.first ≡ None → ⊥
@@ -215,16 +222,17 @@ look_block (Some Unknown) m block b e = absurd cc
 pub no_chunk : (buffer : Buffer) (front : ℕ) (token : tokens.Token) (k : ℕ) (octets : List ℕ) → by_numbers buffer front token k ≡ Some (Chunk octets) → ⊥
 no_chunk buffer front token k octets e =
     elim (chosen (is_beyond buffer front token k) (Some Unknown)
-      (cond (nat_lt (on_line buffer.blocks token.cycle token.first + buffer.blocks) front) (Some (Gone (front_view buffer front))) None) (Some (Chunk octets)) e) [
-      inl p ↦ unknown_chunk p.1
-    | inr p ↦ elim (chosen (nat_lt (on_line buffer.blocks token.cycle token.first + buffer.blocks) front) (Some (Gone (front_view buffer front))) None (Some (Chunk octets)) p.1) [
-        inl q ↦ gone_chunk q.1
-      | inr q ↦ none_is_none q.1
+    (cond (nat_lt (on_line buffer.blocks token.cycle token.first + buffer.blocks) front) (Some (Gone (front_view buffer front))) None) (Some (Chunk octets)) e) [
+      | inl p ↦ unknown_chunk p.1
+      | inr p ↦ elim (chosen (nat_lt (on_line buffer.blocks token.cycle token.first + buffer.blocks) front) (Some (Gone (front_view buffer front))) None (Some (Chunk octets)) p.1) [
+        | inl q ↦ gone_chunk q.1
+        | inr q ↦ none_is_none q.1
       ]
     ]
   where
     unknown_chunk : {octets : List ℕ} → Some Unknown ≡ Some (Chunk octets) → ⊥
     unknown_chunk e = cc
+
     gone_chunk : {front : Front} {octets : List ℕ} → Some (Gone front) ≡ Some (Chunk octets) → ⊥
     gone_chunk e = cc
 
@@ -265,7 +273,6 @@ other_chunk n (Some a) h = tt
 module _ (r : Register) (h : History) (token : Token) (k : ℕ) (keeps : Keeps r h) (room : r.line.used ≤ r.line.blocks)
     (blocks : List (List ℕ)) (holds : Holds blocks r h) (cycle_fits : r.line.cycle < 2 ^ 32) (blocks_fit : r.line.blocks < 2 ^ 32)
     (numbers : numbers_of r token k ≡ None) (marks : has_marks r token k ≡ true) where
-
   -- a block that stands there
   pub record There (holds_chunk : Block → Type 0) : Type 0 where
     pub block : Block

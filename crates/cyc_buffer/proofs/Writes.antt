@@ -40,16 +40,18 @@ keeps_stays old new h o stays writes keeps = record {
   sizes = keeps.sizes;
   starts = λ block within.
       let was = keeps.starts block (omega (arith, within, ap (λ (l : Line). l.blocks) stays.line)) in (
-      (λ t. let s = was.0 (ap (λ (m : Marks). is_marked m.words.items block) (sym stays.starts) ∙ t) in
-        record { cycle = s.cycle; article = s.article; finished = s.finished; unpassed = subst (λ (l : Line). IsUnpassed l s.cycle block) (sym stays.line) s.unpassed }),
-      (λ s. ap (λ (m : Marks). is_marked m.words.items block) stays.starts ∙ was.1
-        (record { cycle = s.cycle; article = s.article; finished = s.finished; unpassed = subst (λ (l : Line). IsUnpassed l s.cycle block) stays.line s.unpassed })));
+        (λ t. let s = was.0 (ap (λ (m : Marks). is_marked m.words.items block) (sym stays.starts) ∙ t) in
+            record { cycle = s.cycle; article = s.article; finished = s.finished; unpassed = subst (λ (l : Line). IsUnpassed l s.cycle block) (sym stays.line) s.unpassed }),
+        (λ s. ap (λ (m : Marks). is_marked m.words.items block) stays.starts ∙ was.1
+            (record { cycle = s.cycle; article = s.article; finished = s.finished; unpassed = subst (λ (l : Line). IsUnpassed l s.cycle block) stays.line s.unpassed })),
+      );
   kept = λ block within.
       let was = keeps.kept block (omega (arith, within, ap (λ (l : Line). l.blocks) stays.line)) in (
-      (λ t. let s = was.0 (ap (λ (m : Marks). is_marked m.words.items block) (sym stays.kept) ∙ t) in
-        record { cycle = s.cycle; first = s.first; index = s.index; article = s.article; finished = s.finished; inside = s.inside; here = s.here; unpassed = subst (λ (l : Line). IsUnpassed l s.cycle block) (sym stays.line) s.unpassed }),
-      (λ s. ap (λ (m : Marks). is_marked m.words.items block) stays.kept ∙ was.1
-        (record { cycle = s.cycle; first = s.first; index = s.index; article = s.article; finished = s.finished; inside = s.inside; here = s.here; unpassed = subst (λ (l : Line). IsUnpassed l s.cycle block) stays.line s.unpassed })));
+        (λ t. let s = was.0 (ap (λ (m : Marks). is_marked m.words.items block) (sym stays.kept) ∙ t) in
+            record { cycle = s.cycle; first = s.first; index = s.index; article = s.article; finished = s.finished; inside = s.inside; here = s.here; unpassed = subst (λ (l : Line). IsUnpassed l s.cycle block) (sym stays.line) s.unpassed }),
+        (λ s. ap (λ (m : Marks). is_marked m.words.items block) stays.kept ∙ was.1
+            (record { cycle = s.cycle; first = s.first; index = s.index; article = s.article; finished = s.finished; inside = s.inside; here = s.here; unpassed = subst (λ (l : Line). IsUnpassed l s.cycle block) stays.line s.unpassed })),
+      );
   writing = writes;
 }
 
@@ -74,15 +76,15 @@ pub elsewhere : (buffer : Buffer) (earlier : List Begin) (fresh : Bool) (w : Wri
 elsewhere buffer earlier fresh w line cycle first k b article sized same_cycle same_used finished inside unpassed h e =
     let l = lies buffer earlier cycle first article sized (was_finished buffer earlier (newest buffer earlier fresh w) cycle first article refl finished) in
     elim unpassed [
-      inr u ↦ omega (arith, u.1, same_used, h, e)
-    | inl u ↦ elim (placed buffer.blocks (head_of buffer.blocks earlier) fresh (size_of w.octets)) [
-        inl p ↦ elim l.before [
-          inl q ↦ omega (arith, u.0, same_cycle, p.0, q)
-        | inr q ↦ omega (arith, p.1, q.1, inside, e)
+      | inr u ↦ omega (arith, u.1, same_used, h, e)
+      | inl u ↦ elim (placed buffer.blocks (head_of buffer.blocks earlier) fresh (size_of w.octets)) [
+        | inl p ↦ elim l.before [
+          | inl q ↦ omega (arith, u.0, same_cycle, p.0, q)
+          | inr q ↦ omega (arith, p.1, q.1, inside, e)
         ]
-      | inr p ↦ elim l.before [
-          inl q ↦ omega (arith, u.0, same_cycle, p.0, q)
-        | inr q ↦ omega (arith, u.0, same_cycle, p.0, q.0)
+        | inr p ↦ elim l.before [
+          | inl q ↦ omega (arith, u.0, same_cycle, p.0, q)
+          | inr q ↦ omega (arith, u.0, same_cycle, p.0, q.0)
         ]
       ]
     ]
@@ -92,9 +94,9 @@ chunk_written : (w : Writing) (text : List ℕ) (k : ℕ) → length w.text ≡ 
     → length text ≡ w.octets → ContinuesIn text (Some w) → k < w.blocks → chunk k w.text ≡ chunk k text
 chunk_written w text k written octets continues h =
     let reach : (chunk_size * k + chunk_size ≤ length w.text) ⊎ (length text ≤ length w.text) = elim (cases_lt (chunk_size * w.blocks) w.octets) [
-        inl u ↦ inl (omega (arith, written, u, h))
+      | inl u ↦ inl (omega (arith, written, u, h))
       | inr u ↦ inr (omega (arith, written, u, octets))
-      ] in
+    ] in
     ap (chunk k) (sym continues) ∙ chunk_of_front k (length w.text) text reach
 
 -- a chunk of the text is one of its front after one more block
@@ -105,7 +107,6 @@ chunk_next w text k h = sym (chunk_of_front k (chunk_size * (w.blocks + 1)) text
 module _ (old new : Register) (h : History) (write : Open) (p : Progress) (w : Writing)
     (keeps : Keeps old h) (stays : Stays old new) (writes : IsWriting h p w)
     (the_open : p.token ≡ write.token) (left : p.written < size_of write.token.length) where
-
   abbrev at : Head
   at = place h.buffer writes.earlier writes.fresh w
 
@@ -127,8 +128,17 @@ module _ (old new : Register) (h : History) (write : Open) (p : Progress) (w : W
   -- the write failed
   fails_writing : IsWriting (history_of h.buffer h.begins (Some (as_broken w))) (record p { broken = true }) (as_broken w)
   fails_writing = record {
-    fresh = writes.fresh; earlier = writes.earlier; newest = writes.newest; token = writes.token; some = writes.some;
-    class = writes.class; octets = writes.octets; written = writes.written; broken = refl; within = writes.within; text = writes.text;
+    fresh = writes.fresh;
+    earlier = writes.earlier;
+    newest = writes.newest;
+    token = writes.token;
+    some = writes.some;
+    class = writes.class;
+    octets = writes.octets;
+    written = writes.written;
+    broken = refl;
+    within = writes.within;
+    text = writes.text;
   }
 
   fails_keeps : new.progress ≡ failed (Some p) → Keeps new (history_of h.buffer h.begins (Some (as_broken w)))
@@ -139,8 +149,15 @@ module _ (old new : Register) (h : History) (write : Open) (p : Progress) (w : W
   module _ (text : List ℕ) (octets : length text ≡ write.token.length) (continues : ContinuesIn text (Some w)) where
     next_writing : IsWriting (history_of h.buffer h.begins (Some (with_next_block text w))) (record p { written = p.written + 1 }) (with_next_block text w)
     next_writing = record {
-      fresh = writes.fresh; earlier = writes.earlier; newest = writes.newest; token = writes.token; some = writes.some;
-      class = writes.class; octets = writes.octets; written = omega (arith, writes.written); broken = writes.broken;
+      fresh = writes.fresh;
+      earlier = writes.earlier;
+      newest = writes.newest;
+      token = writes.token;
+      some = writes.some;
+      class = writes.class;
+      octets = writes.octets;
+      written = omega (arith, writes.written);
+      broken = writes.broken;
       within = omega (arith, left_is);
       text = length-take (chunk_size * (w.blocks + 1)) text ∙ ap (min (chunk_size * (w.blocks + 1))) (octets ∙ octets_is);
     }
@@ -165,7 +182,6 @@ module _ (old new : Register) (h : History) (write : Open) (p : Progress) (w : W
   -- what the blocks hold
   module _ (blocks after : List (List ℕ)) (holds : Holds blocks old h)
       (changes : ChangesOnly (write.token.first + p.written) blocks after) (held : HoldsOpen blocks (Some p) (Some w)) where
-
     -- the finished articles are held as before
     articles_held : (cycle first k : ℕ) (article : Article) → finished_at h.buffer h.begins cycle first ≡ Some article
         → k < size_of (length article.text) → IsUnpassed new.line cycle (first + k)
@@ -173,10 +189,10 @@ module _ (old new : Register) (h : History) (write : Open) (p : Progress) (w : W
     articles_held cycle first k article finished inside unpassed =
         let was = subst (λ (l : Line). IsUnpassed l cycle (first + k)) stays.line unpassed in
         let other = elsewhere h.buffer writes.earlier writes.fresh w old.line cycle first k w.blocks article
-            (subst (AllByRecursion (IsSized h.buffer.blocks)) writes.newest keeps.sizes).1
-            (keeps.cycle ∙ ap (λ (b : List Begin). h.buffer.first_cycle + (head_of h.buffer.blocks b).run) writes.newest)
-            (keeps.used ∙ ap (λ (b : List Begin). (head_of h.buffer.blocks b).used) writes.newest)
-            (ap (λ (b : List Begin). finished_at h.buffer b cycle first) (sym writes.newest) ∙ finished) inside was left_is in
+        (subst (AllByRecursion (IsSized h.buffer.blocks)) writes.newest keeps.sizes).1
+        (keeps.cycle ∙ ap (λ (b : List Begin). h.buffer.first_cycle + (head_of h.buffer.blocks b).run) writes.newest)
+        (keeps.used ∙ ap (λ (b : List Begin). (head_of h.buffer.blocks b).used) writes.newest)
+        (ap (λ (b : List Begin). finished_at h.buffer b cycle first) (sym writes.newest) ∙ finished) inside was left_is in
         changes (first + k) (λ e. other (omega (arith, e, first_is, writes.written))) ∙ holds.articles cycle first k article finished inside was
 
     -- and so are the blocks that were written of the open write
@@ -193,13 +209,13 @@ module _ (old new : Register) (h : History) (write : Open) (p : Progress) (w : W
       next_held : block_at after (write.token.first + p.written) ≡ block_image (stamped (stamp_of write.token p.written) (chunk p.written text))
           → HoldsOpen after (counted (Some p)) (Some (with_next_block text w))
       next_held image k h = elim (cases_lt k w.blocks) [
-          inl u ↦ open_held k u ∙ ap block_image (same_block text octets continues k u)
+        | inl u ↦ open_held k u ∙ ap block_image (same_block text octets continues k u)
         | inr u ↦
             let last : k ≡ w.blocks = omega (arith, h, u) in
             let here : p.token.first + k ≡ write.token.first + p.written = omega (arith, last, writes.written, ap (λ (t : Token). t.first) the_open) in
             ap (block_at after) here ∙ image ∙ ap block_image (new_block text octets continues)
             ∙ ap (λ n. block_image (open_block (record p { written = p.written + 1 }) (with_next_block text w) n)) (sym last)
-        ]
+      ]
 
       next_holds : new.progress ≡ counted (Some p)
           → block_at after (write.token.first + p.written) ≡ block_image (stamped (stamp_of write.token p.written) (chunk p.written text))
@@ -233,16 +249,16 @@ image_there blocks after stamp token k image payload text is within same imaged 
 -- What a write of one block leaves of a register and blocks that agree with a history.
 module _ (honest : Type 0) (blocks after : List (List ℕ)) (old new : Register) (h : History) (write : Open)
     (keeps : Keeps old h) (holds : honest → Holds blocks old h) (stays : Stays old new) where
-
   pub fails_by : (p : Option Progress) (o : Option Writing) → h.writing ≡ o → old.progress ≡ p → Writes h p o → IsTheOpen write p
       → written_of p < size_of write.token.length → new.progress ≡ failed p
       → (honest → ChangesOnly (write.token.first + written_of p) blocks after) → (honest → HoldsOpen blocks p o)
       → Keeps new (history_of h.buffer h.begins (changed as_broken o)) × (honest → Holds after new (history_of h.buffer h.begins (changed as_broken o)))
   fails_by None o is_o is_p writes the_open left progress changes held = absurd the_open
   fails_by (Some p) None is_o is_p writes the_open left progress changes held = absurd writes
-  fails_by (Some p) (Some w) is_o is_p writes the_open left progress changes held =
-      (fails_keeps old new h write p w keeps stays writes the_open left progress,
-      λ is. fails_holds old new h write p w keeps stays writes the_open left blocks after (holds is) (changes is) (held is) progress)
+  fails_by (Some p) (Some w) is_o is_p writes the_open left progress changes held = (
+    fails_keeps old new h write p w keeps stays writes the_open left progress,
+    λ is. fails_holds old new h write p w keeps stays writes the_open left blocks after (holds is) (changes is) (held is) progress,
+  )
 
   pub next_by : (text : List ℕ) → length text ≡ write.token.length → (p : Option Progress) (o : Option Writing) → h.writing ≡ o → old.progress ≡ p → Writes h p o → IsTheOpen write p
       → ContinuesIn text o → written_of p < size_of write.token.length → new.progress ≡ counted p
@@ -251,6 +267,7 @@ module _ (honest : Type 0) (blocks after : List (List ℕ)) (old new : Register)
       → Keeps new (history_of h.buffer h.begins (changed (with_next_block text) o)) × (honest → Holds after new (history_of h.buffer h.begins (changed (with_next_block text) o)))
   next_by text octets None o is_o is_p writes the_open continues left progress changes held image = absurd the_open
   next_by text octets (Some p) None is_o is_p writes the_open continues left progress changes held image = absurd writes
-  next_by text octets (Some p) (Some w) is_o is_p writes the_open continues left progress changes held image =
-      (next_keeps old new h write p w keeps stays writes the_open left text octets continues progress,
-      λ is. next_holds old new h write p w keeps stays writes the_open left blocks after (holds is) (changes is) (held is) text octets continues progress (image is))
+  next_by text octets (Some p) (Some w) is_o is_p writes the_open continues left progress changes held image = (
+    next_keeps old new h write p w keeps stays writes the_open left text octets continues progress,
+    λ is. next_holds old new h write p w keeps stays writes the_open left blocks after (holds is) (changes is) (held is) text octets continues progress (image is),
+  )

@@ -1,6 +1,6 @@
 -- What a cyclic buffer was asked to keep: what was begun in it, and what became of each begin
 -- (docs/PROTOCOL.md, Store).
-use Rattle.std.specs.Prelude.{ℕ, ◌+◌, ◌*◌, nat_lt, ◌==◌, ◌&&◌, Bool, true, false, List, [], ◌∷◌, length, take, Option, None, Some, if◌then◌else◌}
+use Rattle.std.specs.Prelude.{◌≡◌, ℕ, ◌+◌, ◌*◌, nat_lt, ◌==◌, ◌&&◌, Bool, true, false, List, [], ◌∷◌, ◌++◌, length, take, Option, None, Some, if◌then◌else◌}
 use Rattle.news_terms.specs.BlockImage.{chunk_size}
 use Rattle.news_terms.specs.Places.{Buffer, Head, first_head, place_in_runs, size_of, on_line}
 use Rattle.news_terms.specs.Token.{Token}
@@ -168,3 +168,12 @@ abbrev pub text_under : History → Token → Option (List ℕ)
 text_under h token =
     if token.buffer == h.buffer.number
     then text_of token.class token.length (finished_at h.buffer h.begins token.cycle token.first) else None
+
+-- the sizes of these begins, in the order in which they were begun
+abbrev pub sizes_of : List Begin → List ℕ
+sizes_of [] = []
+sizes_of (b ∷ earlier) = sizes_of earlier ++ b.size ∷ []
+
+-- the begin was not asked to be fresh
+pub record IsPlain (b : Begin) : Type 0 where
+  pub plain : b.fresh ≡ false

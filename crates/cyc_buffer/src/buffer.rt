@@ -40,7 +40,10 @@ impl<S: BlockStore> Buffer<S> {
         S: Drop,
         ensures new { IfOk result (λ buffer. (trusted : Bool) → (trusted ≡ true → S.honest store)
             → Agrees trusted buffer (new_history (record {
-            number = number; blocks = length (S.blocks store); first_cycle = first_cycle }))) }
+              number = number;
+              blocks = length (S.blocks store);
+              first_cycle = first_cycle;
+            }))) }
         ensures store { IfOk result (λ buffer. store_of buffer ≡ store) }
     {
         let blocks = store.count();

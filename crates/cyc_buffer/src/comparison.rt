@@ -1,3 +1,5 @@
+ghost use Rattle.std.specs.Prelude.{◌≤◌, ◌<◌};
+
 use crate::tests::{eight, text};
 use crate::*;
 use cyc_block::MemoryBlocks;
@@ -12,8 +14,13 @@ const ARTICLES: usize = 1500;
 const LAST: usize = 12;
 
 /// The next of a row of numbers without a visible rule, and what it gives below a bound.
-fn draw(state: &mut u64, bound: u64) -> u64 {
-    *state = state.wrapping_mul(6_364_136_223_846_793_005).wrapping_add(1_442_695_040_888_963_407);
+fn draw(state: &mut u64, bound: u64) -> u64
+    requires { 1 ≤ bound }
+    ensures { result < bound }
+{
+    *state = state
+        .wrapping_mul(6_364_136_223_846_793_005)
+        .wrapping_add(1_442_695_040_888_963_407);
     (*state >> 33) % bound
 }
 
@@ -23,28 +30,28 @@ struct Begun {
     token: Token,
     fresh: bool,
     finished: bool,
-    seed: usize,
+    seed: u8,
 }
 
 /// Where the articles of a list lie in a buffer of eight blocks: cycle and block of the last, and
 /// the front.
 fn walk(begun: &[Begun]) -> (u32, u32, u64) {
-    let (mut cycle, mut first, mut used) = (0, 0, 0);
+    let (mut cycle, mut first, mut used) = (0u32, 0u32, 0u32);
     for article in begun {
         let size = article.token.length.div_ceil(480);
-        let leaves = used + size > 8 || article.fresh;
+        let leaves = size.saturating_add(used) > 8 || article.fresh;
         if leaves && used > 0 {
-            cycle += 1;
+            cycle = cycle.saturating_add(1);
             used = 0;
         }
         first = used;
-        used += size;
+        used = size.saturating_add(used);
     }
     (cycle, first, 8 * u64::from(cycle) + u64::from(used))
 }
 
 /// What a list of articles says of a block of a token.
-fn listed(begun: &[Begun], front: u64, token: &Token, k: u32) -> Option<Option<usize>> {
+fn listed(begun: &[Begun], front: u64, token: &Token, k: u32) -> Option<Option<u8>> {
     let size = token.length.div_ceil(480);
     let place = 8 * u64::from(token.cycle) + u64::from(token.first);
     let numbered = token.buffer == 0 && token.length > 0 && k < size;
@@ -54,7 +61,9 @@ fn listed(begun: &[Begun], front: u64, token: &Token, k: u32) -> Option<Option<u
     if place + 8 < front {
         return None;
     }
-    let found = begun.iter().find(|article| article.finished && article.token == *token);
+    let found = begun
+        .iter()
+        .find(|article| article.finished && article.token == *token);
     Some(found.map(|article| article.seed))
 }
 
@@ -85,13 +94,31 @@ fn answers(
 /// A token, changed in one part or in none.
 fn varied(token: Token, state: &mut u64) -> Token {
     match draw(state, 24) {
-        0 => Token { class: token.class ^ 1, ..token },
+        0 => Token {
+            class: token.class ^ 1,
+            ..token
+        },
         1 => Token { buffer: 1, ..token },
-        2 => Token { cycle: token.cycle ^ 1, ..token },
-        3 => Token { first: token.first ^ 1, ..token },
-        4 => Token { length: token.length ^ 1, ..token },
-        5 => Token { length: token.length ^ 1024, ..token },
-        6 => Token { length: 480 * (8 - token.first % 8), ..token },
+        2 => Token {
+            cycle: token.cycle ^ 1,
+            ..token
+        },
+        3 => Token {
+            first: token.first ^ 1,
+            ..token
+        },
+        4 => Token {
+            length: token.length ^ 1,
+            ..token
+        },
+        5 => Token {
+            length: token.length ^ 1024,
+            ..token
+        },
+        6 => Token {
+            length: 480 * (8 - token.first % 8),
+            ..token
+        },
         _ => token,
     }
 }
@@ -159,13 +186,28 @@ fn article(
     let length = draw(state, 480 * 8) as u32 + 1;
     let class = draw(state, 2) as u8;
     let fresh = draw(state, 5) == 0;
-    let seed = begun.len();
+    let seed = draw(state, 256) as u8;
     let text = text(alloc, seed, length as usize)?;
-    let asked = Token { class, buffer: 0, cycle: 0, first: 0, length };
-    begun.push(Begun { token: asked, fresh, finished: false, seed })?;
+    let asked = Token {
+        class,
+        buffer: 0,
+        cycle: 0,
+        first: 0,
+        length,
+    };
+    begun.push(Begun {
+        token: asked,
+        fresh,
+        finished: false,
+        seed,
+    })?;
     let (cycle, first, front) = walk(begun.as_slice());
     if let Some(newest) = begun.last_mut() {
-        newest.token = Token { cycle, first, ..asked };
+        newest.token = Token {
+            cycle,
+            first,
+            ..asked
+        };
     }
     let Ok(open) = buffer.begin(class, length, fresh) else {
         return Ok(false);

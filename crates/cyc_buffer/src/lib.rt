@@ -7,6 +7,7 @@
 
 mod answers;
 mod buffer;
+pub mod laws;
 mod line;
 mod marks;
 mod register;

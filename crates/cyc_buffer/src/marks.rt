@@ -70,5 +70,9 @@ fn mask(start: u32, from: u32, to: u32) -> u64
 fn below(count: u32) -> u64
     ensures { (i : ℕ) → i < 64 → is_below result count i }
 {
-    if count < WORD_BLOCKS { (1 << count) - 1 } else { u64::MAX }
+    if count < WORD_BLOCKS {
+        (1 << count) - 1
+    } else {
+        u64::MAX
+    }
 }

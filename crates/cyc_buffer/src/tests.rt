@@ -1,3 +1,5 @@
+ghost use Rattle.std.specs.Prelude.{◌≡◌, ◌≤◌, ◌<◌, ◌^◌, length, IfOk};
+
 use super::*;
 use cyc_block::{BlockStore, FailAt, MemoryBlocks};
 use cyc_token::Token;
@@ -24,10 +26,13 @@ pub(crate) enum Put {
 }
 
 /// A text of so many octets, another for each seed.
-pub(crate) fn text(alloc: Global, seed: usize, length: usize) -> Result<Vec<u8>, AllocError> {
-    let mut text = Vec::with_capacity(alloc, length)?;
-    for place in 0..length {
-        text.push(((place + place / 480 + seed) % 251) as u8)?;
+pub(crate) fn text(alloc: Global, seed: u8, octets: usize) -> Result<Vec<u8>, AllocError>
+    requires { octets < 2 ^ 32 }
+    ensures { IfOk result (λ text. length text.items ≡ octets) }
+{
+    let mut text = Vec::with_capacity(alloc, octets)?;
+    for place in 0..octets {
+        text.push(((place + place / 480) % 251) as u8 ^ seed)?;
     }
     Ok(text)
 }
@@ -38,7 +43,15 @@ pub(crate) fn eight(alloc: Global, first_cycle: u32) -> Result<Buffer<MemoryBloc
 }
 
 /// Stores an article whole.
-pub(crate) fn store<S: BlockStore>(buffer: &mut Buffer<S>, class: u8, text: &[u8], fresh: bool) -> Put {
+pub(crate) fn store<S: BlockStore>(
+    buffer: &mut Buffer<S>,
+    class: u8,
+    text: &[u8],
+    fresh: bool,
+) -> Put
+    requires some { 1 ≤ length text.now }
+    requires short { length text.now < 2 ^ 32 }
+{
     let open = match buffer.begin(class, text.len() as u32, fresh) {
         Ok(open) => open,
         Err(error) => return Put::Refused(error),
@@ -75,7 +88,7 @@ enum Whole {
 fn fetch<S: BlockStore>(buffer: &mut Buffer<S>, token: &Token, text: &[u8]) -> Whole {
     let mut chunk = [0; 480];
     for (block, expected) in text.chunks(480).enumerate() {
-        match buffer.read_block(token, block as u32, &mut chunk) {
+        match buffer.read_block(token, u32::try_from(block).unwrap_or(0), &mut chunk) {
             Ok(Found::Chunk(octets)) => {
                 if &chunk[..octets] != expected {
                     return Whole::Other;
@@ -134,14 +147,23 @@ fn knows_no_other_token(rt: HostRuntime) -> Result<(), Fail> {
     let same = fetch(&mut buffer, &token, &text);
     assert_eq!(rt; same, Whole::Same);
     let others = [
-        Token { length: 1441, ..token },
-        Token { length: 1439, ..token },
+        Token {
+            length: 1441,
+            ..token
+        },
+        Token {
+            length: 1439,
+            ..token
+        },
         Token { class: 2, ..token },
         Token { buffer: 1, ..token },
         Token { cycle: 1, ..token },
         Token { first: 1, ..token },
         Token { length: 0, ..token },
-        Token { length: 3841, ..token },
+        Token {
+            length: 3841,
+            ..token
+        },
         Token { first: 6, ..token },
     ];
     for other in others {
@@ -202,7 +224,9 @@ fn wears_out(rt: HostRuntime) -> Result<(), Fail> {
 }
 
 /// Why an article of so many octets is refused.
-fn refusal(buffer: &mut Buffer<MemoryBlocks>, length: u32) -> Option<BufError> {
+fn refusal(buffer: &mut Buffer<MemoryBlocks>, length: u32) -> Option<BufError>
+    requires { 1 ≤ length }
+{
     match buffer.begin(1, length, false) {
         Ok(open) => {
             buffer.abandon(open);
@@ -246,7 +270,13 @@ fn begins_afresh(rt: HostRuntime) -> Result<(), Fail> {
     let mut buffer = eight(rt.alloc(), 7)?;
     let text = text(rt.alloc(), 1, 960)?;
     // Nothing was begun yet: a fresh article begins where any other does.
-    let places = [(true, 7, 0), (false, 7, 2), (true, 8, 0), (true, 9, 0), (false, 9, 2)];
+    let places = [
+        (true, 7, 0),
+        (false, 7, 2),
+        (true, 8, 0),
+        (true, 9, 0),
+        (false, 9, 2),
+    ];
     for (fresh, cycle, first) in places {
         let Put::Stored(token) = store(&mut buffer, 1, &text, fresh) else {
             panic!(rt; "an article was not stored");

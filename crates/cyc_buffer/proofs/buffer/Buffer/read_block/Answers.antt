@@ -31,8 +31,8 @@ returns-in-Some-clause-found g c h agrees =
     let block = look_block (numbers_of r token k) (has_marks r token k) _ c.in-Block.block (sym c.in-Block.is ∙ c.look.ensures.look) in
     let t = there r h token k agrees.keeps r.line.within _ (agrees.holds refl) c.look.ensures.fits.0 c.look.ensures.fits.1 block.0 block.1 in
     let image : c.read.new.octets ≡ block_image t.block =
-        without_error c.read.result (sym c.is_err.ensures.value ∙ c.if-is_err.false) (c.read.ensures.octets (agrees.honest refl))
-        ∙ ap (block_at (g.S.BlockStore.blocks c.args.self.now.store)) block.2 ∙ t.held in
+    without_error c.read.result (sym c.is_err.ensures.value ∙ c.if-is_err.false) (c.read.ensures.octets (agrees.honest refl))
+    ∙ ap (block_at (g.S.BlockStore.blocks c.args.self.now.store)) block.2 ∙ t.held in
     let same = c.in-Some.ensures.other t.block t.is_block image in
     let taken = c.in-Some.ensures.same t.block t.is_block image same in
     shows_chunk c.in-Some.octets c.take_chunk.new.chunk t.block.payload _ (t.says same) taken.0 taken.1
@@ -53,11 +53,11 @@ returns-in-None-clause-found g c h agrees =
     let block = look_block (numbers_of r token k) (has_marks r token k) _ c.in-Block.block (sym c.in-Block.is ∙ c.look.ensures.look) in
     subst (Shows found.Unknown c.take_chunk.new.chunk)
     (sym (answer_none r h token k agrees.keeps r.line.within _ (agrees.holds refl) c.look.ensures.fits.0 c.look.ensures.fits.1 block.0 block.1 (λ text e.
-        let t = there_under r h token k agrees.keeps r.line.within _ (agrees.holds refl) c.look.ensures.fits.0 c.look.ensures.fits.1 block.0 block.1 text e in
-        let image : c.read.new.octets ≡ block_image t.block =
-            without_error c.read.result (sym c.is_err.ensures.value ∙ c.if-is_err.false) (c.read.ensures.octets (agrees.honest refl))
-            ∙ ap (block_at (g.S.BlockStore.blocks c.args.self.now.store)) block.2 ∙ t.held in
-        c.in-None.ensures.same t.block t.is_block image t.says))) tt
+    let t = there_under r h token k agrees.keeps r.line.within _ (agrees.holds refl) c.look.ensures.fits.0 c.look.ensures.fits.1 block.0 block.1 text e in
+    let image : c.read.new.octets ≡ block_image t.block =
+    without_error c.read.result (sym c.is_err.ensures.value ∙ c.if-is_err.false) (c.read.ensures.octets (agrees.honest refl))
+    ∙ ap (block_at (g.S.BlockStore.blocks c.args.self.now.store)) block.2 ∙ t.held in
+    c.in-None.ensures.same t.block t.is_block image t.says))) tt
 
 pub returns-in-None-clause-unread : goal.returns-in-None-clause-unread
 returns-in-None-clause-unread g c trusted h agrees unread =
