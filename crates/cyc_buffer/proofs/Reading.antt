@@ -2,7 +2,7 @@
 use Rattle.std.proofs.Common.{◌≡◌, ◌∙◌, ℕ, suc, ◌+◌, ◌*◌, ◌^◌, ◌<◌, ◌≤◌, ◌⊎◌, inl, inr, nat_lt, nat_le, ◌==◌, ◌&&◌, ◌||◌, not, Bool, true, false, refl, sym, ap, subst, arith, cond, List, length, take, Option, None, Some, is_some}
 use Rattle.std.proofs.Math.Nat.{mul-le-mul_right}
 use Rattle.std.proofs.lemmas.Bool.{cases_order, and_parts, and_from, or_parts, eqb-true, eq-eqb, ltb-false, leb-false, false≢true, cond-true}
-use Rattle.news_terms.specs.BlockImage.{Block, IsBlock, block_of, block_image, chunk, chunk_size}
+use Rattle.news_terms.specs.BlockImage.{Block, IsBlock, block_of, block_image, chunk}
 use Rattle.news_terms.specs.Places.{Buffer, size_of, on_line}
 use Rattle.news_terms.specs.Token as tokens
 use Rattle.cyc_block.specs.Image.{stamped}
@@ -10,7 +10,7 @@ use Rattle.cyc_block.specs.Store.{block_at}
 use Rattle.cyc_token.specs.Token.{token_view}
 use Rattle.cyc_token.specs.declared.Token.{Token}
 use Rattle.cyc_buffer.specs.Agreement.{Holds}
-use Rattle.cyc_buffer.specs.Answers.{Answer, Chunk, Gone, Unknown, is_beyond, by_numbers, by_text, or_by_text, answer, front_view, Shows, IsOther, IsUnread}
+use Rattle.cyc_buffer.specs.Answers.{Answer, Chunk, Gone, Unknown, is_beyond, by_numbers, by_text, or_by_text, answer, front_view, Shows, IsUnread}
 use Rattle.cyc_buffer.specs.History.{Article, History, front_of, head_of, finished_at, text_under, text_of}
 use Rattle.cyc_buffer.specs.Look.{look_by, look_of, has_marks, numbers_of}
 use Rattle.cyc_buffer.specs.Marks.{is_marked}
@@ -263,11 +263,6 @@ is_block cycle first k a cycle_fits place_fits class octets inside = record {
   some = omega (arith, chunk_length k a.text, inside);
   at_most = omega (arith, chunk_length k a.text);
 }
-
--- what is found as no chunk, or as one of no more octets than a block has
-pub other_chunk : (n : ℕ) (o : Option Answer) → n ≤ chunk_size → IsOther (found.Chunk n) o
-other_chunk n None h = h
-other_chunk n (Some a) h = tt
 
 -- What is found in a block that was read.
 module _ (r : Register) (h : History) (token : Token) (k : ℕ) (keeps : Keeps r h) (room : r.line.used ≤ r.line.blocks)

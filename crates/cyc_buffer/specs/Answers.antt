@@ -97,10 +97,16 @@ IsDecided result slice None = Unit {0}
 IsDecided (Ok found) slice (Some answer) = Shows found slice answer
 IsDecided (Err e) slice (Some answer) = ⊥
 
+-- a chunk has no more octets than a block holds
+abbrev pub HasRoom : Found → Type 0
+HasRoom (found.Chunk n) = n ≤ chunk_size
+HasRoom (found.Gone front) = Unit {0}
+HasRoom found.Unknown = Unit {0}
+
 -- where the numbers don't decide, the article isn't said to be gone
 abbrev pub IsOther : Found → Option Answer → Type 0
 IsOther (found.Chunk n) (Some answer) = Unit {0}
-IsOther (found.Chunk n) None = n ≤ chunk_size
+IsOther (found.Chunk n) None = Unit {0}
 IsOther (found.Gone front) (Some answer) = Unit {0}
 IsOther (found.Gone front) None = ⊥
 IsOther found.Unknown (Some answer) = Unit {0}

@@ -25,7 +25,7 @@ impl<S: BlockStore> Buffer<S> {
     ghost use Rattle.cyc_buffer.specs.Agreement.{Agrees, Follows, Owns, store_of, register_of};
     ghost use Rattle.cyc_buffer.specs.Agreement.{blocks_written, is_broken, length_of, Continues};
     ghost use Rattle.cyc_buffer.specs.Answers.{refusal, error_of, IsDeviceFault, Shows, answer, by_numbers};
-    ghost use Rattle.cyc_buffer.specs.Answers.{IsUnread, IsOther, IsDecided};
+    ghost use Rattle.cyc_buffer.specs.Answers.{IsUnread, IsOther, IsDecided, HasRoom};
     ghost use Rattle.cyc_buffer.specs.History.{History, new_history, with_begin, with_finish, open_token};
     ghost use Rattle.cyc_buffer.specs.History.{without_write, with_failure, with_block, front_of, cycle_of};
 
@@ -144,6 +144,7 @@ impl<S: BlockStore> Buffer<S> {
             → IfOk result (λ found. IsOther found (by_numbers h.buffer (front_of h) (token_view token.now) k)) }
         ensures unread { (trusted : Bool) (h : History) → Agrees trusted self.old h
             → IsUnread h (token_view token.now) k → IsOk result × (store_of self.new ≡ store_of self.old) }
+        ensures room { IfOk result (λ found. HasRoom found) }
         // The device failed, or not.
         ensures fault { IfErr result (λ e. (trusted : Bool) (h : History) → Agrees trusted self.old h
             → IsDeviceFault h.buffer FaultKind.Read token.now.length e) }

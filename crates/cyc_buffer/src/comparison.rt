@@ -47,7 +47,7 @@ fn walk(begun: &[Begun]) -> (u32, u32, u64) {
         first = used;
         used = size.saturating_add(used);
     }
-    (cycle, first, 8 * u64::from(cycle) + u64::from(used))
+    (cycle, first, u64::from(cycle).saturating_mul(8).saturating_add(u64::from(used)))
 }
 
 /// What a list of articles says of a block of a token.

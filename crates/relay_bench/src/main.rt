@@ -1,7 +1,8 @@
-//! Benchmarks: how fast a stream is cut. They promise nothing and are no tests; with no words the program
+//! Benchmarks: how fast a stream is cut, and how fast blocks are written and read. They promise nothing and are no tests; with no words the program
 //! does nothing.
 #![tactic(auto)]
 
+mod buffers;
 mod cutting;
 
 use std::process::ExitCode;
@@ -27,8 +28,12 @@ fn run(rt: &HostRuntime) -> io::Result<ExitCode> {
             cutting::measure(rt)?;
             Ok(ExitCode::SUCCESS)
         }
+        Some(word) if word.as_str() == "buffers" => {
+            buffers::measure(rt)?;
+            Ok(ExitCode::SUCCESS)
+        }
         Some(_) => {
-            eprintln!(rt; "relay_bench: cutting is the one benchmark that there is")?;
+            eprintln!(rt; "relay_bench: the benchmarks are buffers and cutting")?;
             Ok(ExitCode::FAILURE)
         }
     }

@@ -1,7 +1,7 @@
 -- The sizes of begins that are not fresh, cut into runs.
-use Rattle.std.proofs.Common.{◌≡◌, ◌∙◌, ℕ, Bool, false, ◌&&◌, nat_lt, List, [], ◌∷◌, ◌++◌, ap, sym, cond, refl}
+use Rattle.std.proofs.Common.{◌≡◌, ◌∙◌, ℕ, Bool, List, [], ◌∷◌, ◌++◌, ap, sym, refl}
 use Rattle.std.specs.List.{AllByRecursion, fold}
-use Rattle.news_terms.specs.Places.{Head, head_after, after_size, first_head, place_in_runs}
+use Rattle.news_terms.specs.Places.{Head, head_after, after_size, first_head}
 use Rattle.cyc_buffer.specs.History.{Begin, IsPlain, head_of, head_past, place_after, sizes_of}
 use Rattle.cyc_buffer.proofs.laws.plain_runs.Goals as goal
 

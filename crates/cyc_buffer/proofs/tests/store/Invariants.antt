@@ -8,5 +8,5 @@ invariant-loop-block g l = record {
   ours : Owns l.buffer l.«open»;
   whole : is_broken l.buffer ≡ false;
   written : blocks_written l.buffer ≡ l.block;
-  octets : length_of l.«open» ≡ length l.fn.text.now;
+  octets : length_of l.«open» ≡ length l.fn.text;
 }
