@@ -1,4 +1,5 @@
-ghost use Rattle.std.specs.Prelude.{◌≤◌, ◌<◌};
+ghost use Rattle.std.specs.Prelude.{◌≡◌, ◌≤◌, ◌<◌, false, length};
+ghost use Rattle.cyc_buffer.specs.Agreement.{Owns, is_broken, blocks_written, length_of, register_of};
 
 use crate::tests::{eight, text};
 use crate::*;
@@ -47,7 +48,13 @@ fn walk(begun: &[Begun]) -> (u32, u32, u64) {
         first = used;
         used = size.saturating_add(used);
     }
-    (cycle, first, u64::from(cycle).saturating_mul(8).saturating_add(u64::from(used)))
+    (
+        cycle,
+        first,
+        u64::from(cycle)
+            .saturating_mul(8)
+            .saturating_add(u64::from(used)),
+    )
 }
 
 /// What a list of articles says of a block of a token.
@@ -74,7 +81,9 @@ fn answers(
     begun: &[Begun],
     token: &Token,
     k: u32,
-) -> Result<bool, AllocError> {
+) -> Result<bool, AllocError>
+    ensures { register_of buffer.new ≡ register_of buffer.old }
+{
     let (_, _, front) = walk(begun);
     let mut chunk = [0; 480];
     let found = buffer.read_block(token, k, &mut chunk);
@@ -130,7 +139,9 @@ fn last_answer(
     buffer: &mut Buffer<MemoryBlocks>,
     begun: &[Begun],
     state: &mut u64,
-) -> Result<bool, AllocError> {
+) -> Result<bool, AllocError>
+    ensures { register_of buffer.new ≡ register_of buffer.old }
+{
     for article in begun.iter().rev().take(LAST) {
         let token = varied(article.token, state);
         let k = draw(state, 9) as u32;
@@ -147,10 +158,15 @@ fn write_out(
     alloc: Global,
     buffer: &mut Buffer<MemoryBlocks>,
     begun: &mut Vec<Begun>,
-    open: Open,
+    write: Open,
     text: &[u8],
     state: &mut u64,
-) -> Result<bool, AllocError> {
+) -> Result<bool, AllocError>
+    requires open { Owns buffer.old write }
+    requires whole { is_broken buffer.old ≡ false }
+    requires none_written { blocks_written buffer.old ≡ 0 }
+    requires octets { length text.now ≡ length_of write }
+{
     let blocks = text.len().div_ceil(480);
     let written = match draw(state, 4) {
         0 => draw(state, 8) as usize % (blocks + 1),
@@ -158,17 +174,20 @@ fn write_out(
     };
     let mut same = true;
     for k in 0..written {
-        match buffer.write_next(&open, text) {
+        match buffer.write_next(&write, text) {
             Ok(last) => same = same && last == (k + 1 == blocks),
-            Err(_) => same = false,
+            Err(_) => {
+                buffer.abandon(write);
+                return Ok(false);
+            }
         }
     }
     let reads = last_answer(alloc, buffer, begun.as_slice(), state);
     if written < blocks || draw(state, 5) == 0 {
-        buffer.abandon(open);
+        buffer.abandon(write);
         return Ok(same && reads?);
     }
-    let token = buffer.finish(open);
+    let token = buffer.finish(write);
     if let Some(newest) = begun.last_mut() {
         same = same && newest.token == token;
         newest.finished = true;

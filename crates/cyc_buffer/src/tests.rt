@@ -177,9 +177,12 @@ fn knows_no_other_token(rt: HostRuntime) -> Result<(), Fail> {
 }
 
 /// Whether an article of so many octets takes so many blocks of eight and is read back whole.
-fn takes(alloc: Global, length: usize, blocks: u64) -> Result<bool, AllocError> {
+fn takes(alloc: Global, octets: u32, blocks: u64) -> Result<bool, AllocError> {
+    if octets == 0 {
+        return Ok(false);
+    }
     let mut buffer = eight(alloc, 0)?;
-    let text = text(alloc, 5, length)?;
+    let text = text(alloc, 5, octets as usize)?;
     let Put::Stored(token) = store(&mut buffer, 1, &text, false) else {
         return Ok(false);
     };
@@ -223,19 +226,6 @@ fn wears_out(rt: HostRuntime) -> Result<(), Fail> {
     Ok(())
 }
 
-/// Why an article of so many octets is refused.
-fn refusal(buffer: &mut Buffer<MemoryBlocks>, length: u32) -> Option<BufError>
-    requires { 1 ≤ length }
-{
-    match buffer.begin(1, length, false) {
-        Ok(open) => {
-            buffer.abandon(open);
-            None
-        }
-        Err(error) => Some(error),
-    }
-}
-
 #[test]
 fn is_busy_while_a_write_is_open(rt: HostRuntime) -> Result<(), Fail> {
     let mut buffer = eight(rt.alloc(), 0)?;
@@ -245,18 +235,33 @@ fn is_busy_while_a_write_is_open(rt: HostRuntime) -> Result<(), Fail> {
     };
     let length = open.length();
     assert_eq!(rt; length, 960);
-    let second = refusal(&mut buffer, 960);
-    assert!(rt; matches!(second, Some(BufError::Busy)));
-    let large = refusal(&mut buffer, 3841);
-    assert!(rt; matches!(large, Some(BufError::TooBig)));
+    match buffer.begin(1, 960, false) {
+        Err(error) => {
+            assert!(rt; matches!(error, BufError::Busy));
+        }
+        Ok(other) => {
+            buffer.abandon(other);
+            panic!(rt; "a second write was begun");
+        }
+    }
+    match buffer.begin(1, 3841, false) {
+        Err(error) => {
+            assert!(rt; matches!(error, BufError::TooBig));
+        }
+        Ok(other) => {
+            buffer.abandon(other);
+            panic!(rt; "an article of nine blocks was begun");
+        }
+    }
     let front = buffer.front();
     assert_eq!(rt; front, 2);
     let token = Token {
         length: 960,
         ..FIRST
     };
-    let unfinished = fetch(&mut buffer, &token, &text);
-    assert_eq!(rt; unfinished, Whole::Unknown);
+    let mut chunk = [0; 480];
+    let unfinished = buffer.read_block(&token, 0, &mut chunk);
+    assert!(rt; matches!(unfinished, Ok(Found::Unknown)));
     buffer.abandon(open);
     let abandoned = fetch(&mut buffer, &token, &text);
     assert_eq!(rt; abandoned, Whole::Unknown);
