@@ -45,7 +45,11 @@ pub fn measure(rt: &HostRuntime) -> io::Result<()> {
     }
     println!(rt; "| Done | Blocks | Seconds | Blocks a second | Share of copying |")?;
     println!(rt; "|---|---:|---:|---:|---:|")?;
-    for (name, seconds) in [("written", least[0]), ("read", least[1]), ("copied", least[2])] {
+    for (name, seconds) in [
+        ("written", least[0]),
+        ("read", least[1]),
+        ("copied", least[2]),
+    ] {
         let rate = f64::from(ARTICLES) * f64::from(SIZE) / seconds;
         let share = least[2] / seconds;
         println!(rt; "| {name} | {BLOCKS} | {seconds:.4} | {rate:.0} | {share:.3} |")?;
@@ -64,11 +68,7 @@ fn text_of(alloc: Global) -> io::Result<Vec<u8>> {
 }
 
 /// Writes the articles, and gives their tokens.
-fn write(
-    alloc: Global,
-    buffer: &mut Buffer<MemoryBlocks>,
-    text: &[u8],
-) -> io::Result<Vec<Token>> {
+fn write(alloc: Global, buffer: &mut Buffer<MemoryBlocks>, text: &[u8]) -> io::Result<Vec<Token>> {
     let mut tokens = Vec::new(alloc);
     for article in 0..ARTICLES {
         let _article = article;
