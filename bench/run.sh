@@ -1,5 +1,5 @@
 #!/usr/bin/env bash
-# Builds the benchmarks and runs one of them: bench/run.sh cutting
+# Builds the benchmarks and runs one of them: bench/run.sh cutting, or bench/run.sh buffers
 set -euo pipefail
 cd "$(dirname "${BASH_SOURCE[0]}")/../crates/relay_bench"
 rt run -- "${1:-cutting}"
