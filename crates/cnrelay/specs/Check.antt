@@ -6,6 +6,7 @@ use Rattle.relay_conf.specs.Faults.{ConfGives, code_of, name_of}
 use Rattle.relay_conf.specs.Lines.{lines_of}
 use Rattle.relay_conf.specs.RelayViews.{RelayGives}
 use Rattle.relay_conf.specs.Settings.{buffers_view}
+use Rattle.relay_conf.specs.StorageViews.{StorageGives}
 use Rattle.relay_conf.specs.declared.config.Config.{Config}
 use Rattle.relay_conf.specs.declared.config.TheConstants.{K1_CYCBUFF, K1_STORAGE, K1_RELAY}
 use Rattle.relay_conf.specs.declared.cycbuff.Buffers.{Buffers}
@@ -77,7 +78,7 @@ CycbuffReads result lines = ConfGives buffers_view result (cycbuff_of lines)
 
 -- what the reader of storage.conf gives of lines, over these buffers
 abbrev pub StorageReads : Buffers → Result (List Method) ConfError → (lines : List (List ℕ)) → Type 0
-StorageReads buffers result lines = Unit {0}
+StorageReads buffers result lines = StorageGives result (buffers_view buffers).groups lines
 
 -- the configuration is what the three files of a folder say
 pub record IsIn (folder : List ℕ) (config : Config) : Type 0 where

@@ -3,6 +3,7 @@
 #![tactic(auto)]
 
 mod articles;
+mod buffers;
 mod cutting;
 mod paths;
 mod patterns;
@@ -35,12 +36,13 @@ fn run(rt: &HostRuntime) -> io::Result<ExitCode> {
 fn measure(rt: &HostRuntime, word: &str) -> io::Result<ExitCode> {
     match word {
         "articles" => articles::measure(rt)?,
+        "buffers" => buffers::measure(rt)?,
         "cutting" => cutting::measure(rt)?,
         "paths" => paths::measure(rt)?,
         "patterns" => patterns::measure(rt)?,
         "settings" => settings::measure(rt)?,
         _ => {
-            eprintln!(rt; "relay_bench: the benchmarks are articles, cutting, paths, patterns and settings")?;
+            eprintln!(rt; "relay_bench: the benchmarks are articles, buffers, cutting, paths, patterns and settings")?;
             return Ok(ExitCode::FAILURE);
         }
     }

@@ -1,0 +1,10 @@
+mod MarkLemmas
+mod Places
+mod Finished
+mod Keeping
+mod Beginning
+mod Finishing
+mod OpenLemmas
+mod Contents
+mod Writes
+mod Reading

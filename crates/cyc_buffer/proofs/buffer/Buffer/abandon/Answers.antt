@@ -1,0 +1,23 @@
+-- An abandoned write keeps the buffer's agreement with a history.
+use Rattle.std.proofs.Common.{◌+◌, sym, subst, Option, None}
+use Rattle.cyc_buffer.specs.History.{without_write}
+use Rattle.cyc_buffer.specs.Register.{Writes, IsUnpassed}
+use Rattle.cyc_buffer.specs.declared.line.Line.{Line}
+use Rattle.cyc_buffer.specs.declared.register.Progress.{Progress}
+use Rattle.cyc_buffer.proofs.Contents.{no_open}
+use Rattle.cyc_buffer.proofs.Writes.{keeps_stays}
+use Rattle.cyc_buffer.proofs.buffer.Buffer.abandon.Goals as goal
+
+pub returns-clause-abandoned : goal.returns-clause-abandoned
+returns-clause-abandoned g c trusted h agrees =
+    let new = c.abandon.new.self in
+    record {
+      keeps = keeps_stays c.args.self.now.register new h None c.abandon.ensures.rest
+          (subst (λ (p : Option Progress). Writes (without_write h) p None) (sym c.abandon.ensures.progress) tt) agrees.keeps;
+      honest = agrees.honest;
+      holds = λ is. record {
+        articles = λ cycle first k article finished inside unpassed. (agrees.holds is).articles cycle first k article finished inside
+            (subst (λ (l : Line). IsUnpassed l cycle (first + k)) c.abandon.ensures.rest.line unpassed);
+        open_one = no_open _ new.progress;
+      };
+    }

@@ -1,0 +1,13 @@
+-- A begin that is not refused keeps the buffer's agreement with a history.
+use Rattle.std.proofs.lemmas.Result.{on_ok_weaker}
+use Rattle.cyc_buffer.proofs.Contents.{holds_begin}
+use Rattle.cyc_buffer.proofs.buffer.Buffer.begin.Goals as goal
+
+pub returns-clause-begun : goal.returns-clause-begun
+returns-clause-begun g c =
+    let old = c.args.self.now.register in
+    on_ok_weaker c.begin.result (λ begun trusted h agrees. record {
+      keeps = begun h agrees.keeps;
+      honest = agrees.honest;
+      holds = λ is. holds_begin _ old c.begin.new.self h c.args.class c.args.length c.args.fresh agrees.keeps (begun h agrees.keeps) (agrees.holds is);
+    }) c.begin.ensures.begun

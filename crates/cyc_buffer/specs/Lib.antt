@@ -1,0 +1,7 @@
+pub mod Agreement
+pub mod Answers
+pub mod History
+pub mod Look
+pub mod Marks
+pub mod Progress
+pub mod Register

@@ -1,0 +1,22 @@
+//! Cyclic buffers over a store of blocks (docs/PROTOCOL.md, Store).
+//!
+//! A buffer takes articles one after the other, each in blocks of its own, and begins again at its
+//! first block when it is full. What was finished under a token is given back by it until the
+//! buffer's front has passed it; from then on it is gone.
+#![tactic(auto)]
+
+mod answers;
+mod buffer;
+pub mod laws;
+mod line;
+mod marks;
+mod register;
+
+pub use answers::{BufError, Fault, FaultKind, Found, Front};
+pub use buffer::Buffer;
+pub use register::Open;
+
+#[cfg(test)]
+mod comparison;
+#[cfg(test)]
+mod tests;

@@ -1,0 +1,78 @@
+ghost use Rattle.std.specs.Prelude.{◌≡◌, ◌≤◌, ◌<◌, ◌*◌, ◌+◌, ℕ, length, false, IfOk};
+ghost use Rattle.cyc_buffer.specs.Marks.{is_marked, marked_after, is_below, is_changed, has_mask};
+
+use std::alloc::{AllocError, Global};
+
+/// How many blocks a word has marks of.
+const WORD_BLOCKS: u32 = 64;
+
+/// A mark for each block of a buffer, set or not.
+#[derive(Debug, Drop)]
+pub(crate) struct Marks {
+    pub(crate) words: Vec<u64>,
+}
+
+impl Marks {
+    /// Marks of so many blocks, none of them set.
+    pub(crate) fn new(alloc: Global, blocks: u32) -> Result<Marks, AllocError>
+        ensures none { IfOk result (λ marks. (j : ℕ) → is_marked marks.words.items j ≡ false) }
+        ensures room { IfOk result (λ marks. blocks ≤ 64 * length marks.words.items) }
+    {
+        let count = blocks.div_ceil(WORD_BLOCKS);
+        let mut words = Vec::with_capacity(alloc, count as usize)?;
+        for _word in 0..count {
+            words.push(0)?;
+        }
+        Ok(Marks { words })
+    }
+
+    /// Whether the block is marked.
+    pub(crate) fn has(&self, block: u32) -> bool
+        requires { block < 64 * length self.now.words.items }
+        ensures { result ≡ is_marked self.now.words.items block }
+    {
+        let word = self.words[(block / WORD_BLOCKS) as usize];
+        word >> (block % WORD_BLOCKS) & 1 == 1
+    }
+
+    /// Sets or clears the marks of the blocks from one up to another, a word at a time.
+    pub(crate) fn change(&mut self, from: u32, to: u32, value: bool)
+        requires { to ≤ 64 * length self.old.words.items }
+        ensures changed { (j : ℕ) → is_marked self.new.words.items j
+            ≡ marked_after from to value j (is_marked self.old.words.items j) }
+        ensures room { length self.new.words.items ≡ length self.old.words.items }
+    {
+        for word in from / WORD_BLOCKS..to.div_ceil(WORD_BLOCKS) {
+            let mask = mask(word * WORD_BLOCKS, from, to);
+            let old = self.words[word as usize];
+            self.words[word as usize] = change_bits(old, mask, value);
+        }
+    }
+}
+
+/// The word with its bits that the mask has set or cleared.
+fn change_bits(word: u64, mask: u64, value: bool) -> u64
+    ensures { (i : ℕ) → i < 64 → is_changed result word mask value i }
+{
+    if value { word | mask } else { word & !mask }
+}
+
+/// The bits of the word whose first block is given, set for the blocks from one up to another.
+fn mask(start: u32, from: u32, to: u32) -> u64
+    ensures { (i : ℕ) → i < 64 → has_mask result start from to i }
+{
+    let low = from.saturating_sub(start);
+    let high = to.saturating_sub(start);
+    below(high) & !below(low)
+}
+
+/// The lowest bits set, so many; all 64 where it is more.
+fn below(count: u32) -> u64
+    ensures { (i : ℕ) → i < 64 → is_below result count i }
+{
+    if count < WORD_BLOCKS {
+        (1 << count) - 1
+    } else {
+        u64::MAX
+    }
+}
