@@ -1,7 +1,7 @@
 -- Commands that are built word by word.
 use Rattle.std.proofs.Common.{◌≡◌, ◌∙◌, ap, ap₂, false, Bool, Option, Some}
 use Rattle.std.specs.Prelude.{◌||◌}
-use Rattle.clap.specs.Words.{AddsArg, AddsSubcommand, App, Rule, app_of, rule_of, with_rule, with_subcommand}
+use Rattle.clap.specs.Words.{AddsArg, AddsSubcommand, App, Rule, rule_of, with_rule, with_subcommand}
 use Rattle.clap.specs.declared.builder.Arg.{Arg}
 use Rattle.clap.specs.declared.builder.Command.{Command}
 use Rattle.clap.specs.declared.builder.ValueParser.{ValueParser}

@@ -1,5 +1,6 @@
 -- What is told of a configuration (docs/PROTOCOL.md, Program; docs/FORMATS.md, Configuration).
 use Rattle.std.specs.Prelude.{◌≡◌, ◌⊎◌, ℕ, List, ◌++◌, length, codes, decimal, Option, Result, Ok, Err}
+use Rattle.std.specs.Global.{Vec}
 use Rattle.std.specs.Io.KnownBytes.{Appends, Keeps}
 use Rattle.relay_conf.specs.Cycbuff.{cycbuff_of}
 use Rattle.relay_conf.specs.Faults.{ConfGives, code_of, name_of}
@@ -12,8 +13,6 @@ use Rattle.relay_conf.specs.declared.config.TheConstants.{K1_CYCBUFF, K1_STORAGE
 use Rattle.relay_conf.specs.declared.cycbuff.Buffers.{Buffers}
 use Rattle.relay_conf.specs.declared.faults.ConfError.{ConfError}
 use Rattle.relay_conf.specs.declared.faults.ConfError.TheVariants as errors
-use Rattle.relay_conf.specs.declared.faults.LineFault.{LineFault}
-use Rattle.relay_conf.specs.declared.relay.Relay.{Relay}
 use Rattle.relay_conf.specs.declared.storage.Method.{Method}
 use Rattle.cnrelay.specs.declared.check.CheckError.{CheckError}
 use Rattle.cnrelay.specs.declared.check.CheckError.TheVariants.{Memory, Unreadable, Faulty, Unwritten}
@@ -77,7 +76,7 @@ abbrev pub CycbuffReads : Result Buffers ConfError → (lines : List (List ℕ))
 CycbuffReads result lines = ConfGives buffers_view result (cycbuff_of lines)
 
 -- what the reader of storage.conf gives of lines, over these buffers
-abbrev pub StorageReads : Buffers → Result (List Method) ConfError → (lines : List (List ℕ)) → Type 0
+abbrev pub StorageReads : Buffers → Result (Vec Method) ConfError → (lines : List (List ℕ)) → Type 0
 StorageReads buffers result lines = StorageGives result (buffers_view buffers).groups lines
 
 -- the configuration is what the three files of a folder say
@@ -91,8 +90,9 @@ pub data HasError (folder : List ℕ) (error : CheckError) : Type 0 where
   in_cycbuff : Fails folder files.Cycbuff CycbuffReads error → HasError folder error
   in_storage : (buffers : Buffers) → Says folder files.Cycbuff CycbuffReads buffers
       → Fails folder files.Storage (StorageReads buffers) error → HasError folder error
-  in_relay : (config : Config) → Says folder files.Cycbuff CycbuffReads config.buffers
-      → Says folder files.Storage (StorageReads config.buffers) config.methods
+  in_relay : (buffers : Buffers) (methods : Vec Method)
+      → Says folder files.Cycbuff CycbuffReads buffers
+      → Says folder files.Storage (StorageReads buffers) methods
       → Fails folder files.Relay RelayGives error → HasError folder error
 
 -- the answer is the configuration in a folder, or its error

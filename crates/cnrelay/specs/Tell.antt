@@ -1,5 +1,5 @@
 -- What is told of the text of a token (docs/PROTOCOL.md, Program; docs/FORMATS.md, Tokens).
-use Rattle.std.specs.Prelude.{◌≡◌, ℕ, List, ◌++◌, codes, decimal, Option, None, Some, Result, Ok, Err}
+use Rattle.std.specs.Prelude.{◌≡◌, ℕ, List, ◌++◌, codes, decimal, Option, Result, Ok, Err}
 use Rattle.std.specs.Io.KnownBytes.{Appends, Keeps}
 use Rattle.news_terms.specs.Token.{Token, IsToken, token_text}
 use Rattle.cyc_token.specs.Faults.{HasOtherLength, LacksMarks, HasOtherDigit, HasLowerCase}

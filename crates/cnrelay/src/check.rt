@@ -117,10 +117,12 @@ pub fn check<R: Files, W: Write>(
 ) -> Result<(), CheckError>
     ensures { CheckGives result folder.now (W.contents writer.old) (W.contents writer.new) }
 {
-    let config = load(rt, alloc, folder)?;
-    match print_counts(writer, &config) {
-        Ok(()) => Ok(()),
-        Err(_) => Err(CheckError::Unwritten),
+    match load(rt, alloc, folder) {
+        Ok(config) => match print_counts(writer, &config) {
+            Ok(()) => Ok(()),
+            Err(_) => Err(CheckError::Unwritten),
+        },
+        Err(error) => Err(error),
     }
 }
 
@@ -128,14 +130,22 @@ pub fn check<R: Files, W: Write>(
 fn load<R: Files>(rt: &R, alloc: Global, folder: &str) -> Result<Config, CheckError>
     ensures { LoadGives folder.now result }
 {
-    let buffers = load_cycbuff(rt, alloc, folder)?;
-    let methods = load_storage(rt, alloc, folder, &buffers)?;
-    let relay = load_relay(rt, alloc, folder)?;
-    Ok(Config {
-        buffers,
-        methods,
-        relay,
-    })
+    let buffers = match load_cycbuff(rt, alloc, folder) {
+        Ok(buffers) => buffers,
+        Err(error) => return Err(error),
+    };
+    let methods = match load_storage(rt, alloc, folder, &buffers) {
+        Ok(methods) => methods,
+        Err(error) => return Err(error),
+    };
+    match load_relay(rt, alloc, folder) {
+        Ok(relay) => Ok(Config {
+            buffers,
+            methods,
+            relay,
+        }),
+        Err(error) => Err(error),
+    }
 }
 
 /// Reads a folder's cycbuff.conf.

@@ -1,7 +1,7 @@
-use Rattle.std.proofs.Common.{rules, ◌≡◌, ◌∙◌, ap, codes}
+use Rattle.std.proofs.Common.{rules, ◌∙◌, ap, codes}
 use Rattle.clap.specs.Words.{new_app, rule_of}
 use Rattle.clap.specs.declared.builder.Arg.{Arg}
-use Rattle.cnrelay.specs.CommandLine.{Reads, needed}
+use Rattle.cnrelay.specs.CommandLine.{Reads}
 use Rattle.cnrelay.proofs.CommandLines.{with_word}
 use Rattle.cnrelay.proofs.command_line.check.Goals as goal
 

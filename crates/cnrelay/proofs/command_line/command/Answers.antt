@@ -1,4 +1,4 @@
-use Rattle.std.proofs.Common.{rules, ◌≡◌, codes}
+use Rattle.std.proofs.Common.{rules, codes}
 use Rattle.clap.specs.Words.{new_app}
 use Rattle.cnrelay.specs.CommandLine.{Reads}
 use Rattle.cnrelay.proofs.CommandLines.{with_command}

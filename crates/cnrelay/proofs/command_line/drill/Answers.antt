@@ -1,4 +1,4 @@
-use Rattle.std.proofs.Common.{rules, ◌≡◌, ◌∙◌, ap, codes}
+use Rattle.std.proofs.Common.{rules, ◌∙◌, ap, codes}
 use Rattle.clap.specs.Words.{new_app, rule_of}
 use Rattle.clap.specs.declared.builder.Arg.{Arg}
 use Rattle.cnrelay.specs.CommandLine.{Reads}

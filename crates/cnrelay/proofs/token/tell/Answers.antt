@@ -1,4 +1,3 @@
-use Rattle.std.proofs.Common.{◌≡◌}
 use Rattle.cyc_token.specs.Token.{token_view}
 use Rattle.cnrelay.proofs.token.tell.Goals as goal
 
