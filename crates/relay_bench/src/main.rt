@@ -42,7 +42,9 @@ fn measure(rt: &HostRuntime, word: &str) -> io::Result<ExitCode> {
         "patterns" => patterns::measure(rt)?,
         "settings" => settings::measure(rt)?,
         _ => {
-            eprintln!(rt; "relay_bench: the benchmarks are articles, buffers, cutting, paths, patterns and settings")?;
+            eprintln!(rt;
+                "relay_bench: the benchmarks are articles, buffers, cutting, paths, patterns and settings"
+            )?;
             return Ok(ExitCode::FAILURE);
         }
     }
