@@ -8,5 +8,7 @@ pub mod Numbered
 pub mod Numerals
 pub mod Parts
 pub mod Readings
+pub mod SkippedCycbuff
+pub mod SkippedLines
 pub mod StorageReadings
 pub mod StorageWords
