@@ -10,5 +10,6 @@ pub mod Parts
 pub mod Readings
 pub mod SkippedCycbuff
 pub mod SkippedLines
+pub mod SkippedRelay
 pub mod StorageReadings
 pub mod StorageWords

@@ -4,6 +4,8 @@ ghost use Rattle.std.specs.List.{list_all};
 ghost use Rattle.news_terms.specs.Article.{line_feed, line_end, without_outer_white};
 ghost use Rattle.relay_conf.specs.Cycbuff.{CycbuffSettings, cycbuff_of};
 ghost use Rattle.relay_conf.specs.Lines.{lines_of, joined_by, is_line, is_skipped};
+ghost use Rattle.relay_conf.specs.Relay.{RelaySettings};
+ghost use Rattle.relay_conf.specs.RelayViews.{HasSettings};
 
 /// Lines joined by LF are the lines of that text.
 pub fn lines_joined_by_line_feeds()
@@ -22,4 +24,11 @@ pub fn comments_change_nothing_in_cycbuff_conf()
     ensures { (before after : List (List ℕ)) (line : List ℕ) (settings : CycbuffSettings)
         → IsTrue (is_skipped (without_outer_white line))
         → (cycbuff_of (before ++ line ∷ after) ≡ Ok settings) ↔ (cycbuff_of (before ++ after) ≡ Ok settings) }
+{}
+
+/// A comment or an empty line changes nothing of what relay.conf says.
+pub fn comments_change_nothing_in_relay_conf()
+    ensures { (before after : List (List ℕ)) (line : List ℕ) (settings : RelaySettings)
+        → IsTrue (is_skipped (without_outer_white line))
+        → HasSettings (before ++ line ∷ after) settings ↔ HasSettings (before ++ after) settings }
 {}
