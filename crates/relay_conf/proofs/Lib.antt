@@ -11,5 +11,6 @@ pub mod Readings
 pub mod SkippedCycbuff
 pub mod SkippedLines
 pub mod SkippedRelay
+pub mod SkippedStorage
 pub mod StorageReadings
 pub mod StorageWords
