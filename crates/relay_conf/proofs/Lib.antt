@@ -8,5 +8,9 @@ pub mod Numbered
 pub mod Numerals
 pub mod Parts
 pub mod Readings
+pub mod SkippedCycbuff
+pub mod SkippedLines
+pub mod SkippedRelay
+pub mod SkippedStorage
 pub mod StorageReadings
 pub mod StorageWords
