@@ -41,7 +41,7 @@ fn worked_choice(
     rt: &HostRuntime,
     exactmatch: bool,
     groups: [&[u8]; 2],
-) -> Result<Option<(u8, u16)>, Fail> {
+) -> Result<Option<(u8, usize)>, Fail> {
     let method = entry(rt, 1, WORKED, EVERY_SIZE, exactmatch)?;
     Ok(choose(&[method], &groups, 164))
 }
