@@ -1,5 +1,5 @@
 //! Expressions over newsgroup names (uwildmat(3) of INN; docs/FORMATS.md, Patterns): which names a
-//! peer, a storage class or an expiry rule speaks of.
+//! feed or a storage class speaks of.
 #![tactic(auto)]
 
 mod expression;
