@@ -18,11 +18,11 @@ not_written file (errors.Faulty at) e = e
 -- No file fails as the writer does.
 no_file_fails_so : {T : Type 0} (folder : List ℕ) (file : ConfFile) (reads : Result T ConfError → List (List ℕ) → Type 0) → Fails folder file reads Unwritten → ⊥
 no_file_fails_so folder file reads fails = elim fails [
-  | inl memory ↦ cc
-  | inr other ↦ elim other [
-    | inl unreadable ↦ cc
-    | inr read ↦ not_written file read.1 read.4
+  | inl unread ↦ elim unread [
+    | inl memory ↦ cc
+    | inr unreadable ↦ cc (unreadable.0)
   ]
+  | inr read ↦ not_written file read.1 read.4
 ]
 
 -- An error of a configuration is not the writer's.

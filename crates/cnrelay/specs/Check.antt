@@ -1,5 +1,5 @@
 -- What is told of a configuration (docs/PROTOCOL.md, Program; docs/FORMATS.md, Configuration).
-use Rattle.std.specs.Prelude.{◌≡◌, ◌⊎◌, ℕ, List, ◌++◌, length, codes, decimal, Option, Result, Ok, Err}
+use Rattle.std.specs.Prelude.{◌≡◌, ◌≢◌, ◌⊎◌, ℕ, List, ◌++◌, length, codes, decimal, Option, Result, Ok, Err}
 use Rattle.std.specs.Global.{Vec}
 use Rattle.std.specs.Io.KnownBytes.{Appends, Keeps}
 use Rattle.relay_conf.specs.Cycbuff.{cycbuff_of}
@@ -42,6 +42,11 @@ k1_text files.Relay = K1_RELAY.now
 abbrev pub IsTextOf : (folder : List ℕ) → ConfFile → (text : List ℕ) → Type 0
 IsTextOf folder file text = folder ≡ codes "K1" → text ≡ k1_text file
 
+-- the error says that memory ran out, or that the file can't be read, which the built-in ones always
+-- can
+abbrev pub IsUnread : (folder : List ℕ) → ConfFile → CheckError → Type 0
+IsUnread folder file error = (error ≡ Memory) ⊎ ((error ≡ Unreadable file) × (folder ≢ codes "K1"))
+
 -- the error says that the reading of this text gave this fault, or that memory ran out
 abbrev pub IsErrorIn : ConfFile → ConfError → CheckError → Type 0
 IsErrorIn file errors.Memory error = error ≡ Memory
@@ -61,7 +66,7 @@ Says folder file reads settings =
 abbrev pub Fails : {T : Type 0} → (folder : List ℕ) → ConfFile
     → (reads : Result T ConfError → (lines : List (List ℕ)) → Type 0) → CheckError → Type 0
 Fails folder file reads error =
-    (error ≡ Memory) ⊎ (error ≡ Unreadable file)
+    IsUnread folder file error
     ⊎ ((text : List ℕ) × (fault : ConfError) × IsTextOf folder file text
     × reads (Err fault) (lines_of text) × IsErrorIn file fault error)
 

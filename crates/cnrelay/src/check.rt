@@ -3,7 +3,7 @@
 ghost use Rattle.std.specs.Prelude.{◌≡◌, ◌⊎◌, codes, IfOk, IfErr, OnOk};
 ghost use Rattle.std.specs.Io.KnownBytes.{Appends};
 ghost use Rattle.relay_conf.specs.RelayViews.{RelayGives};
-ghost use Rattle.cnrelay.specs.Check.{CheckGives, CycbuffReads, FileGives, IsErrorIn, IsTextOf, LoadGives, StorageReads};
+ghost use Rattle.cnrelay.specs.Check.{CheckGives, CycbuffReads, FileGives, IsErrorIn, IsTextOf, IsUnread, LoadGives, StorageReads};
 ghost use Rattle.cnrelay.specs.Check.{check_status, counted, counted_as, file_name, k1_text};
 ghost use Rattle.cnrelay.specs.declared.check.CheckError.TheVariants.{Memory, Unreadable};
 ghost use Rattle.cnrelay.specs.declared.check.ConfFile.TheVariants as files;
@@ -194,7 +194,7 @@ fn text_of<R: Files>(
     file: ConfFile,
 ) -> Result<Vec<u8>, CheckError>
     ensures text { IfOk result (λ text. IsTextOf folder.now file text.items) }
-    ensures error { IfErr result (λ error. (error ≡ Memory) ⊎ (error ≡ Unreadable file)) }
+    ensures error { IfErr result (IsUnread folder.now file) }
 {
     if folder == "K1" {
         let text = Vec::from_slice(alloc, k1_text(file))?;
