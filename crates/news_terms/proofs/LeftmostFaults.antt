@@ -2,7 +2,7 @@
 use Rattle.std.proofs.Common.{◌≡◌, ◌≢◌, ℕ, ◌+◌, ◌<◌, ◌≤◌, true, false, not, List, [], ◌∷◌, ◌++◌, length}
 use Rattle.std.proofs.Common.{take, drop, Option, Some, None, codes, refl, sym, ap, subst, ◌∙◌, inl, inr}
 use Rattle.std.proofs.Common.{append_assoc, arith}
-use Rattle.std.specs.Prelude.{◌&&◌, ◌==◌, nat_eq, if◌then◌else◌, IsTrue, IsFalse, flat_map, unwrap_or}
+use Rattle.std.specs.Prelude.{◌==◌, nat_eq, if◌then◌else◌, IsTrue, IsFalse, flat_map, unwrap_or}
 use Rattle.std.specs.List.{list_all, before_first, position_or_len, starts_with}
 use Rattle.std.specs.Char.{is_ascii}
 use Rattle.std.specs.Str.{byte}

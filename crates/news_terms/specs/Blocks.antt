@@ -11,8 +11,9 @@ abbrev pub AreOpenLines : List (List ℕ) → Type 0
 AreOpenLines [] = Unit {0}
 AreOpenLines (line ∷ lines) = IsLine line × (bytes_eq line dot ≡ false) × AreOpenLines lines
 
--- The stream begins with a block of these lines, and the rest follows it: whole lines of which none is
--- a lone dot, then the lone dot. So of the prefixes of whole lines that end with it this is the shortest.
+-- The stream begins with a block of these lines, and the rest follows it: whole lines of which none
+-- is a lone dot, then the lone dot. So of the prefixes of whole lines that end with it this is the
+-- shortest.
 pub record CutsBlock (stream : List ℕ) (lines : List (List ℕ)) (rest : List ℕ) : Type 0 where
   pub whole : stream ≡ spelled lines ++ 46 ∷ 13 ∷ 10 ∷ rest
   pub unclosed : AreOpenLines lines
@@ -26,7 +27,8 @@ block_within (suc n) stream =
     else option_map (λ (q : List (List ℕ) × List ℕ). (p.0 ∷ q.0, q.1)) (block_within n p.1))
     (first_line stream)
 
--- the lines of the first block of a stream and what follows it, or None where no lone dot closes one
+-- the lines of the first block of a stream and what follows it,
+-- or None where no lone dot closes one
 abbrev pub first_block : List ℕ → Option (List (List ℕ) × List ℕ)
 first_block stream = block_within (length stream) stream
 

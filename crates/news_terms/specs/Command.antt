@@ -185,7 +185,8 @@ command_with XTAKE after = xtake_with after
 command_with XFETCH after = xfetch_with after
 
 -- by the keyword, where it is one of those that are known
-abbrev pub command_by : (Keyword → Bool) → Option Keyword → List (List ℕ) → Result Command CommandFault
+abbrev pub command_by : (Keyword → Bool) → Option Keyword → List (List ℕ)
+    → Result Command CommandFault
 command_by known None after = Err Unknown
 command_by known (Some keyword) after =
     if known keyword then command_with keyword after else Err Unknown

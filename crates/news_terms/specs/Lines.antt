@@ -1,5 +1,5 @@
--- Lines: what a stream of octets is cut into (RFC 3977 section 3.1; docs/FORMATS.md, Blocks of text).
--- All of it speaks of the octets joined: the pieces that they came in don't occur.
+-- Lines: what a stream of octets is cut into (RFC 3977 section 3.1; docs/FORMATS.md, Blocks of
+-- text). All of it speaks of the octets joined: the pieces that they came in don't occur.
 use Rattle.std.specs.Prelude.{◌≡◌, ℕ, ◌+◌, ◌≤◌, nat_le, ◌==◌, ◌&&◌, List, [], ◌∷◌, ◌++◌, length, flat_map, option_map, Option, None, Some, if◌then◌else◌}
 
 -- carriage return and line feed, which end each line
@@ -10,7 +10,8 @@ crlf = 13 ∷ 10 ∷ []
 -- stands before a CRLF it is the shortest (RFC 3977 section 3.1).
 pub record CutsLine (stream line rest : List ℕ) : Type 0 where
   pub whole : stream ≡ line ++ 13 ∷ 10 ∷ rest
-  pub shortest : (front after : List ℕ) → stream ≡ front ++ 13 ∷ 10 ∷ after → length line ≤ length front
+  pub shortest : (front after : List ℕ) → stream ≡ front ++ 13 ∷ 10 ∷ after
+      → length line ≤ length front
 
 -- the first line of a stream and what follows it, or None where it has no CRLF
 abbrev pub first_line : List ℕ → Option (List ℕ × List ℕ)
@@ -38,7 +39,8 @@ abbrev pub next_line_by : Option (List ℕ × List ℕ) → ℕ → NextLine
 next_line_by (Some p) octets = if nat_le (length p.0 + 2) line_limit then Cut p.0 p.1 else TooLong
 next_line_by None octets = if nat_le line_limit octets then TooLong else Incomplete
 
--- the first line where the limit holds it, a fault where it doesn't, nothing yet where neither is sure
+-- the first line where the limit holds it, a fault where it doesn't,
+-- nothing yet where neither is sure
 abbrev pub next_line : List ℕ → NextLine
 next_line stream = next_line_by (first_line stream) (length stream)
 

@@ -14,7 +14,8 @@ pub record IsSize (octets n : ℕ) : Type 0 where
 abbrev pub size_of : ℕ → ℕ
 size_of octets = (octets + 479) / payload
 
--- how far a list of sizes has come: the run that it is in, counted from 0, and the blocks used of it
+-- how far a list of sizes has come: the run that it is in, counted from 0,
+-- and the blocks used of it
 pub record Head : Type 0 where
   pub run : ℕ
   pub used : ℕ
@@ -102,7 +103,8 @@ sequential buffers begun size =
     let at = place_in_runs room (head_after room begun) size in
     sequential_at m at (slice_get buffers (at.run % m))
 
--- the place of the next article of a group, after these sizes were begun; None where it has no buffer
+-- the place of the next article of a group, after these sizes were begun;
+-- None where it has no buffer
 abbrev pub place_by : Mode → List Buffer → List ℕ → ℕ → Option Place
 place_by Interleave buffers begun size =
     interleaved buffers begun size (slice_get buffers (length begun % length buffers))
@@ -134,7 +136,8 @@ with_extent (Some place) size later = record { place = place; size = size } ∷ 
 abbrev pub extents_after : Group → List ℕ → List ℕ → List Extent
 extents_after group before [] = []
 extents_after group before (size ∷ sizes) =
-    with_extent (next_place group before size) size (extents_after group (before ++ size ∷ []) sizes)
+    with_extent (next_place group before size) size
+    (extents_after group (before ++ size ∷ []) sizes)
 
 -- the articles that a group began by these sizes, in order
 abbrev pub extents : Group → List ℕ → List Extent
@@ -146,8 +149,8 @@ front_past buffer front e =
     if e.place.buffer.number == buffer.number
     then on_line buffer.blocks e.place.cycle e.place.first + e.size else front
 
--- the front of a buffer after these articles, in order: place plus size of the last one begun in it,
--- or the front of its first cycle where none was
+-- the front of a buffer after these articles, in order: place plus size of the last one begun in
+-- it, or the front of its first cycle where none was
 abbrev pub front_after : Buffer → List Extent → ℕ
 front_after buffer begun =
     fold (front_past buffer) (on_line buffer.blocks buffer.first_cycle 0) begun

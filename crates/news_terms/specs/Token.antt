@@ -40,7 +40,8 @@ octet_digits n = upper_digit (n / 16) ∷ upper_digit (n % 16) ∷ []
 -- the octets of a token's parts, high first: class, buffer, cycle, first block and length
 abbrev pub token_octets : Token → List ℕ
 token_octets t =
-    t.class ∷ t.buffer ∷ to_be_bytes w32 t.cycle ++ to_be_bytes w32 t.first ++ to_be_bytes w32 t.length
+    t.class ∷ t.buffer ∷ to_be_bytes w32 t.cycle ++ to_be_bytes w32 t.first
+    ++ to_be_bytes w32 t.length
 
 -- the text of a token: `@`, 28 digits, `@`
 abbrev pub token_text : Token → List ℕ

@@ -20,7 +20,8 @@ pub fn offer_examples()
     ensures check { command_of (codes "CHECK <a@x>") ≡ Ok (commands.Check (codes "<a@x>")) }
     ensures no_id { command_of (codes "CHECK a@x") ≡ Err commands.Syntax }
     ensures two_ids { command_of (codes "CHECK <a@x> <b@x>") ≡ Err commands.Syntax }
-    ensures takethis { command_of (codes "takethis <a@x>") ≡ Ok (commands.TakeThis (Some (codes "<a@x>"))) }
+    ensures takethis { command_of (codes "takethis <a@x>")
+        ≡ Ok (commands.TakeThis (Some (codes "<a@x>"))) }
     ensures nonsense { command_of (codes "TAKETHIS nonsense") ≡ Ok (commands.TakeThis None) }
     ensures many { command_of (codes "TAKETHIS <a@x> <b@x>") ≡ Ok (commands.TakeThis None) }
     ensures ihave { command_of (codes "IHAVE <a@x>") ≡ Ok (commands.Ihave (codes "<a@x>")) }
@@ -28,7 +29,8 @@ pub fn offer_examples()
 
 /// Fetches.
 pub fn fetch_examples()
-    ensures stat { command_of (codes "STAT <a@x>") ≡ Ok (commands.Fetch commands.Presence (codes "<a@x>")) }
+    ensures stat { command_of (codes "STAT <a@x>")
+        ≡ Ok (commands.Fetch commands.Presence (codes "<a@x>")) }
     ensures current { command_of (codes "STAT") ≡ Ok commands.NeedsGroup }
     ensures by_number { command_of (codes "STAT 5") ≡ Ok commands.NeedsGroup }
     ensures seventeen { command_of (codes "STAT " ++ replicate 17 53) ≡ Err commands.Syntax }

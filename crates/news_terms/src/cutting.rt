@@ -48,10 +48,12 @@ pub fn stuffing_law()
 
 /// A line ends at the first CRLF; a bare LF or CR ends none.
 pub fn line_examples()
-    ensures first { first_line (codes "QUIT" ++ crlf ++ codes "x") ≡ Some (codes "QUIT", codes "x") }
+    ensures first { first_line (codes "QUIT" ++ crlf ++ codes "x")
+        ≡ Some (codes "QUIT", codes "x") }
     ensures no_end { first_line (codes "QUIT") ≡ None }
     ensures empty { first_line crlf ≡ Some ([], []) }
-    ensures bare_line_feed { first_line (97 ∷ 10 ∷ 98 ∷ 13 ∷ 10 ∷ []) ≡ Some (97 ∷ 10 ∷ 98 ∷ [], []) }
+    ensures bare_line_feed { first_line (97 ∷ 10 ∷ 98 ∷ 13 ∷ 10 ∷ [])
+        ≡ Some (97 ∷ 10 ∷ 98 ∷ [], []) }
     ensures two_returns { first_line (13 ∷ 13 ∷ 10 ∷ []) ≡ Some (13 ∷ [], []) }
     ensures whole { next_line (codes "STAT" ++ crlf) ≡ lines.Cut (codes "STAT") [] }
     ensures part { next_line (codes "STAT" ++ 13 ∷ []) ≡ lines.Incomplete }
@@ -69,18 +71,22 @@ pub fn long_lines()
 pub fn dots()
     ensures sent { stuffed (codes "." ++ crlf ++ codes "..x" ++ crlf ++ codes "." ++ crlf)
         ≡ codes ".." ++ crlf ++ codes "...x" ++ crlf ++ codes ".." ++ crlf ++ codes "." ++ crlf }
-    ensures received { next_block 100 (codes ".." ++ crlf ++ codes "...x" ++ crlf ++ codes ".." ++ crlf
+    ensures received { next_block 100
+        (codes ".." ++ crlf ++ codes "...x" ++ crlf ++ codes ".." ++ crlf
         ++ codes "." ++ crlf ++ codes "STAT")
-        ≡ blocks.Whole (codes "." ++ crlf ++ codes "..x" ++ crlf ++ codes "." ++ crlf) (codes "STAT") }
+        ≡ blocks.Whole (codes "." ++ crlf ++ codes "..x" ++ crlf ++ codes "." ++ crlf)
+        (codes "STAT") }
     ensures empty_text { stuffed [] ≡ codes "." ++ crlf }
     ensures empty_block { next_block 100 (codes "." ++ crlf) ≡ blocks.Whole [] [] }
-    ensures invented_dot { next_block 100 (codes ".x" ++ crlf ++ codes "." ++ crlf) ≡ blocks.Whole (codes "x" ++ crlf) [] }
+    ensures invented_dot { next_block 100 (codes ".x" ++ crlf ++ codes "." ++ crlf)
+        ≡ blocks.Whole (codes "x" ++ crlf) [] }
     ensures unended { stuffed (codes "a") ≡ codes "a" ++ crlf ++ codes "." ++ crlf }
 {}
 
 /// The limit is of the text without its dots: met it is whole, passed by one octet it is oversize.
 pub fn block_limit()
-    ensures met { next_block 3 (codes "..x" ++ crlf ++ codes "." ++ crlf ++ codes "y") ≡ blocks.Oversize (codes "y") }
+    ensures met { next_block 3 (codes "..x" ++ crlf ++ codes "." ++ crlf ++ codes "y")
+        ≡ blocks.Oversize (codes "y") }
     ensures within { next_block 4 (codes "..x" ++ crlf ++ codes "." ++ crlf ++ codes "y")
         ≡ blocks.Whole (codes ".x" ++ crlf) (codes "y") }
     ensures unfinished { next_block 4 (codes "..x" ++ crlf ++ codes ".") ≡ blocks.Unfinished }

@@ -16,8 +16,8 @@ pub fn id_examples()
     ensures space { id_fault (codes "<a b>") ≡ Some ids.Octet }
 {}
 
-/// A text has no fault exactly where it is a message-id, and else the first fault in that order: the
-/// length, then the brackets, then the octets (RFC 3977 section 3.6).
+/// A text has no fault exactly where it is a message-id, and else the first fault in that order:
+/// the length, then the brackets, then the octets (RFC 3977 section 3.6).
 pub fn fault_laws()
     ensures accepted { (text : List ℕ) → (id_fault text ≡ None) ↔ IsMessageId text }
     ensures length { (text : List ℕ) → (id_fault text ≡ Some ids.Length)

@@ -1,9 +1,10 @@
 //! The definitions of a Netnews relay's texts and numbers: lines, blocks, message-ids, commands,
-//! replies, articles, Path, dates, patterns, storage classes, tokens, places, block images, rings and the
-//! overview. Contracts of the other crates cite them; nothing but reading, the laws and the worked
-//! examples here checks them, so each has one sentence above it, in specs/.
+//! replies, articles, Path, dates, patterns, storage classes, tokens, places, block images, rings
+//! and the overview. Contracts of the other crates cite them; nothing but reading, the laws and the
+//! worked examples here checks them, so each has one sentence above it, in specs/.
 //!
-//! There is no code: the functions are laws and worked examples, each the contract of an empty body.
+//! There is no code: the functions are laws and worked examples,
+//! each the contract of an empty body.
 #![tactic(auto)]
 
 pub mod articles;

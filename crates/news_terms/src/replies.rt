@@ -7,19 +7,24 @@ ghost use Rattle.news_terms.specs.Token.{token_text};
 
 /// The tokens of three articles of 1,440 octets in a buffer of eight blocks, and of one of 164.
 pub fn token_examples()
-    ensures first { token_text (record { class = 1; buffer = 0; cycle = 0; first = 0; length = 1440 })
+    ensures first { token_text
+        (record { class = 1; buffer = 0; cycle = 0; first = 0; length = 1440 })
         ≡ codes "@01000000000000000000000005A0@" }
-    ensures second { token_text (record { class = 1; buffer = 0; cycle = 0; first = 3; length = 1440 })
+    ensures second { token_text
+        (record { class = 1; buffer = 0; cycle = 0; first = 3; length = 1440 })
         ≡ codes "@01000000000000000003000005A0@" }
-    ensures third { token_text (record { class = 1; buffer = 0; cycle = 1; first = 0; length = 1440 })
+    ensures third { token_text
+        (record { class = 1; buffer = 0; cycle = 1; first = 0; length = 1440 })
         ≡ codes "@01000000000100000000000005A0@" }
-    ensures small { token_text (record { class = 1; buffer = 0; cycle = 0; first = 0; length = 164 })
+    ensures small { token_text
+        (record { class = 1; buffer = 0; cycle = 0; first = 0; length = 164 })
         ≡ codes "@01000000000000000000000000A4@" }
 {}
 
 /// What the first script is answered.
 pub fn reply_examples()
-    ensures greeting { reply_text replies.Greeting ≡ codes "201 cnrelay ready, posting prohibited" ++ crlf }
+    ensures greeting { reply_text replies.Greeting
+        ≡ codes "201 cnrelay ready, posting prohibited" ++ crlf }
     ensures send { reply_text (replies.SendIt (codes "<a@x>")) ≡ codes "238 <a@x>" ++ crlf }
     ensures kept { reply_text (replies.Kept (codes "<a@x>")) ≡ codes "239 <a@x>" ++ crlf }
     ensures exists { reply_text (replies.Exists (codes "<a@x>")) ≡ codes "223 0 <a@x>" ++ crlf }

@@ -48,7 +48,8 @@ judged_does x s session now transfer id (Err reason) =
 
 -- a block that was read, its text or None where it was oversize: the open offer of its id ends, and
 -- it is judged; where the command named no message-id, that is the fault
-abbrev pub block_does : Terms → World → ℕ → Session → ℕ → Transfer → Option (List ℕ) → Option (List ℕ) → Next
+abbrev pub block_does : Terms → World → ℕ → Session → ℕ → Transfer → Option (List ℕ)
+    → Option (List ℕ) → Next
 block_does w x s session now transfer None text = says x s (in_phase session Ready) SyntaxError
 block_does w x s session now transfer (Some id) text =
     judged_does x s (with_offers session (without_offer session.offers id)) now transfer id

@@ -1,5 +1,5 @@
--- What is known of one message-id, and what each step does to it. Each desk's method is one of these
--- (docs/PROTOCOL.md, Claims).
+-- What is known of one message-id, and what each step does to it. Each desk's method is one of
+-- these (docs/PROTOCOL.md, Claims).
 use Rattle.std.specs.Prelude.{ℕ, Bool, false, ◌==◌, ◌||◌, List, Option, None, Some, if◌then◌else◌}
 use Rattle.news_terms.specs.Token.{Token}
 use Rattle.relay_model.specs.Today.{takes_over}
@@ -72,8 +72,8 @@ pub data TakeAnswer : Type 0 where
   -- it is stored already, or was refused
   Had : TakeAnswer
 
--- an accepted article of this session: it is stored where the id is unknown or offered to the session
--- (or to another, where offers are taken over)
+-- an accepted article of this session: it is stored where the id is unknown or offered to the
+-- session (or to another, where offers are taken over)
 abbrev pub take_answer : ℕ → Claim → TakeAnswer
 take_answer s Unknown = Mine
 take_answer s (Offered other) = if other == s || takes_over then Mine else Held

@@ -61,7 +61,8 @@ refusal w σ (Open s peer) =
     else (if nat_lt peer w.peers then None else Some NoPeer)
 refusal w σ (Bytes s piece) = if is_there is_reading (σ.session s) then None else Some NoSession
 refusal w σ (Turn s now) =
-    if is_there is_running (σ.session s) then (if nat_le now last_moment then None else Some BadMoment)
+    if is_there is_running (σ.session s)
+    then (if nat_le now last_moment then None else Some BadMoment)
     else Some NoSession
 refusal w σ (Write g now) =
     if nat_lt g (length w.groups) then (if nat_le now last_moment then None else Some BadMoment)
@@ -99,8 +100,8 @@ Does w x (Break s) output x' =
 -- what an event may be answered, and the world after it
 pub data Step (w : Terms) (x : World) (event : Event) (output : Output) (x' : World) : Type 0 where
   -- it is refused by the first fault
-  IsRefused : (fault : Fault) → refusal w x.state event ≡ Some fault → output ≡ Refuses fault → x' ≡ x
-      → Step w x event output x'
+  IsRefused : (fault : Fault) → refusal w x.state event ≡ Some fault → output ≡ Refuses fault
+      → x' ≡ x → Step w x event output x'
   -- memory was refused
   WantsMemory : output ≡ Refuses Memory → x' ≡ x → Step w x event output x'
   -- it is done

@@ -10,12 +10,16 @@ goes_on x s session = record { output = Quiet; world = with_session x s session 
 
 -- the session goes on as this, and is sent a reply
 abbrev pub says : World → ℕ → Session → Reply → Next
-says x s session reply = record { output = Sent s (reply_text reply); world = with_session x s session }
+says x s session reply =
+    record { output = Sent s (reply_text reply); world = with_session x s session }
 
 -- the session is sent a last reply, and leaves
 abbrev pub ends : World → ℕ → Session → Reply → Next
 ends x s session reply =
-    record { output = Ended s (reply_text reply); world = with_session x s (in_phase session Leaving) }
+    record {
+      output = Ended s (reply_text reply);
+      world = with_session x s (in_phase session Leaving);
+    }
 
 -- nothing happens
 abbrev pub rests : World → Next

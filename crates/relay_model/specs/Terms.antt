@@ -1,4 +1,5 @@
--- What the relay is set up with (docs/FORMATS.md, Configuration; docs/PROTOCOL.md, Judging, Limits).
+-- What the relay is set up with (docs/FORMATS.md, Configuration;
+-- docs/PROTOCOL.md, Judging, Limits).
 use Rattle.std.specs.Prelude.{ℕ, List, Option, Result}
 use Rattle.news_terms.specs.Places.{Buffer, Group}
 use Rattle.relay_model.specs.Claims.{Accepted}

@@ -25,7 +25,8 @@ ready_does w x s session TooLong = ends x s session LineTooLong
 ready_does w x s session Incomplete = rests x
 
 -- a session that owes a block reads it; it rests where none is whole
-abbrev pub owing_does : Terms → World → ℕ → Session → ℕ → Transfer → Option (List ℕ) → NextBlock → Next
+abbrev pub owing_does : Terms → World → ℕ → Session → ℕ → Transfer → Option (List ℕ)
+    → NextBlock → Next
 owing_does w x s session now transfer id (Whole text rest) =
     block_does w x s (with_unread session rest) now transfer id (Some text)
 owing_does w x s session now transfer id (Oversize rest) =
@@ -70,7 +71,8 @@ slot_does x s session transfer id (Some outcome) true =
     answer_does (untold x s) s session transfer id outcome
 
 -- a session that waits first pushes the job in its hand
-abbrev pub waiting_does : World → ℕ → Session → Transfer → List ℕ → Option Outcome → Option Job → Next
+abbrev pub waiting_does : World → ℕ → Session → Transfer → List ℕ → Option Outcome
+    → Option Job → Next
 waiting_does x s session transfer id outcome (Some job) = push_does x s job
 waiting_does x s session transfer id outcome None =
     slot_does x s session transfer id outcome (x.work.is_told s)

@@ -10,7 +10,8 @@ abbrev pub accepted_text : List ℕ → Accepted
 accepted_text text = record { class = 1; group = 0; permitted = []; text = text }
 
 -- the verdict where the smallest buffer of the group has so many blocks
-abbrev pub verdict_today : ℕ → (peer : ℕ) (id : List ℕ) (now : ℕ) → Option (List ℕ) → Result Accepted Reason
+abbrev pub verdict_today : ℕ → (peer : ℕ) (id : List ℕ) (now : ℕ) → Option (List ℕ)
+    → Result Accepted Reason
 verdict_today blocks peer id now None = Err Size
 verdict_today blocks peer id now (Some text) =
     if length text == 0 then Err Grammar

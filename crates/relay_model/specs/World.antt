@@ -84,7 +84,8 @@ pub record Next : Type 0 where
 
 -- the world with this claim on the id
 abbrev pub with_claim : World → List ℕ → Claim → World
-with_claim x id claim = record x { state = record x.state { claim = put_id x.state.claim id claim } }
+with_claim x id claim =
+    record x { state = record x.state { claim = put_id x.state.claim id claim } }
 
 -- the world with this session under the number
 abbrev pub with_session : World → ℕ → Session → World

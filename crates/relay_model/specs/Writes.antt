@@ -14,7 +14,8 @@ with_claim_on σ id claim = record σ { claim = put_id σ.claim id claim }
 -- where the article goes, after those that its group began
 abbrev pub place_for : Terms → State → Accepted → Option Place
 place_for w σ article =
-    option_and_then (λ group. next_place group (σ.begun article.group) (size_of (length article.text)))
+    option_and_then
+    (λ group. next_place group (σ.begun article.group) (size_of (length article.text)))
     (slice_get w.groups article.group)
 
 -- the token of an article at a place
@@ -32,12 +33,13 @@ token_at article place =
 abbrev pub begun_at : State → List ℕ → ℕ → Accepted → Place → State
 begun_at σ id s article place =
     record σ {
-      begun = put_at σ.begun article.group (σ.begun article.group ++ size_of (length article.text) ∷ []);
+      begun = put_at σ.begun article.group
+          (σ.begun article.group ++ size_of (length article.text) ∷ []);
       claim = put_id σ.claim id (Storing s article (Begun (token_at article place)));
     }
 
--- Begin: a text that waits has its place, where a token has room for the cycle. From here on all that
--- the new front passes is gone.
+-- Begin: a text that waits has its place, where a token has room for the cycle. From here on all
+-- that the new front passes is gone.
 pub record Begins (w : Terms) (σ : State) (g : ℕ) (id : List ℕ) (σ' : State) : Type 0 where
   pub session : ℕ
   pub article : Accepted
@@ -112,8 +114,8 @@ accepted_as σ id s article token now =
       session = told σ s id IsKept;
     }
 
--- Accept: a text that is whole is stored from this moment on, each permitted feed gains its token, and
--- the outcome is known, all in one step.
+-- Accept: a text that is whole is stored from this moment on, each permitted feed gains its token,
+-- and the outcome is known, all in one step.
 pub record Accepts (σ : State) (g : ℕ) (id : List ℕ) (s now : ℕ) (σ' : State) : Type 0 where
   pub article : Accepted
   pub token : Token
@@ -141,13 +143,14 @@ pub record HasFailedToStore (σ : State) (g : ℕ) (id : List ℕ) (s : ℕ) : T
   pub failed : σ.claim id ≡ Storing s article Failed
   pub of_group : article.group ≡ g
 
--- Abandon, after a failure: the id becomes unknown, the outcome is that it failed; the size that was
--- begun stays.
+-- Abandon, after a failure: the id becomes unknown, the outcome is that it failed; the size that
+-- was begun stays.
 pub record AbandonsFailed (σ : State) (g : ℕ) (id : List ℕ) (s : ℕ) (σ' : State) : Type 0 where
   pub failed : HasFailedToStore σ g id s
   pub after : σ' ≡ given_up σ id s
 
 -- Abandon, before a begin that is worn.
-pub record AbandonsWorn (w : Terms) (σ : State) (g : ℕ) (id : List ℕ) (s : ℕ) (σ' : State) : Type 0 where
+pub record AbandonsWorn (w : Terms) (σ : State) (g : ℕ) (id : List ℕ) (s : ℕ) (σ' : State)
+    : Type 0 where
   pub worn : IsWorn w σ g id s
   pub after : σ' ≡ given_up σ id s
