@@ -18,7 +18,8 @@ pub record IsCivilTimeOf (now : ℕ) (t : CivilTime) : Type 0 where
 abbrev pub IsStampOf : (now : ℕ) → List ℕ → Type 0
 IsStampOf now digits = (t : CivilTime) × IsCivilTimeOf now t × (digits ≡ fourteen_digits t)
 
--- what the calendar and the clock show, of a year that is not negative. No public contract cites it.
+-- what the calendar and the clock show, of a year that is not negative.
+-- No public contract cites it.
 abbrev pub civil_time : DateTime → CivilTime
 civil_time d = record {
   year = unsigned_abs d.date.year;

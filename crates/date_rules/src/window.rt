@@ -34,8 +34,8 @@ impl From<AllocError> for DateError {
     }
 }
 
-/// Whether the date that an article is judged by lies in the window of `cutoff` seconds before `now`
-/// and a day after it; `now` in seconds since the first of 1970 (RFC 5537, section 3.6).
+/// Whether the date that an article is judged by lies in the window of `cutoff` seconds before
+/// `now` and a day after it; `now` in seconds since the first of 1970 (RFC 5537, section 3.6).
 pub fn judge(alloc: Global, article: &Article<'_>, now: u64, cutoff: u64) -> Result<(), DateError>
     ensures { JudgedAs now cutoff
         (second_of (terms.judged_date (article_view article.now).fields)) result }

@@ -1,6 +1,6 @@
-//! The Path of an article (RFC 5536, section 3.1.5; RFC 5537, sections 3.2 and 3.6; docs/FORMATS.md,
-//! Path): the identities in it, whether the article has been here, and the article with its Path
-//! updated by a relaying agent.
+//! The Path of an article (RFC 5536, section 3.1.5; RFC 5537, sections 3.2 and 3.6;
+//! docs/FORMATS.md, Path): the identities in it, whether the article has been here, and the article
+//! with its Path updated by a relaying agent.
 #![tactic(auto)]
 
 mod pieces;

@@ -101,8 +101,8 @@ fn octets_of(alloc: Global, piece: &[u8]) -> Result<Vec<u8>, AllocError>
 }
 
 /// Whether the own identity is among the identities of a Path's content, without regard to ASCII
-/// case: the article has been here (RFC 5537, section 3.6). As tail-entry, or behind a piece that says
-/// `.POSTED`, it is none of them.
+/// case: the article has been here (RFC 5537, section 3.6). As tail-entry, or behind a piece that
+/// says `.POSTED`, it is none of them.
 pub fn loops(path: &[u8], own: &[u8]) -> Result<bool, PathError>
     ensures bad { (result ≡ Err PathError.BadPath) ↔ HasBadPath path.now }
     ensures found { IfOk result (λ found. found ≡ terms.has_identity own.now path.now) }

@@ -38,8 +38,8 @@ pub fn updated(
     Ok(text)
 }
 
-/// The update of an article by agents is an article again, with the updated fields (RFC 5537, section
-/// 3.6).
+/// The update of an article by agents is an article again,
+/// with the updated fields (RFC 5537, section 3.6).
 pub fn update_parses()
     ensures { (own expected text update : List ℕ) → IsTrue (is_agent own)
         → IsTrue (is_agent expected)

@@ -1,5 +1,5 @@
-//! A piece of a Path against a word. The white space that folds a Path is passed over where it stands,
-//! so that nothing is copied to leave it out.
+//! A piece of a Path against a word. The white space that folds a Path is passed over where it
+//! stands, so that nothing is copied to leave it out.
 ghost use Rattle.std.specs.Prelude.{◌≡◌, ◌&&◌, nat_eq, bytes_eq};
 ghost use Rattle.std.specs.List.{list_all, starts_with};
 ghost use Rattle.std.specs.Char.{is_ascii_graphic};

@@ -35,7 +35,8 @@ BetweenGives between (Ok item) =
     (item_text (item_view item) ≡ byte "[" ∷ (between ++ byte "]" ∷ []))
     × IsTrue (is_item (item_view item))
 BetweenGives between (Err error) =
-    IsFault (λ fault. (rest : List ℕ) → BeginsFaulty (byte "[" ∷ (between ++ byte "]" ∷ rest)) fault)
+    IsFault
+    (λ fault. (rest : List ℕ) → BeginsFaulty (byte "[" ∷ (between ++ byte "]" ∷ rest)) fault)
     error
 
 -- a part of a pattern stands at the front of a text, and the rest follows it

@@ -90,8 +90,8 @@ impl Expr {
         }
     }
 
-    /// What the expression says of a newsgroup name. It takes no memory, and for each pattern at most
-    /// as many steps as the octets of the pattern times those of the name.
+    /// What the expression says of a newsgroup name. It takes no memory, and for each pattern at
+    /// most as many steps as the octets of the pattern times those of the name.
     pub fn judge(&self, name: &[u8]) -> Verdict
         ensures { verdict_view result ≡ terms.verdict self.now name.now }
     {

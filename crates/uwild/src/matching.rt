@@ -31,8 +31,8 @@ pub(crate) fn matches(items: &[Item], name: &[u8]) -> bool
     ensures { result ≡ terms.matches (map item_view items.now) name.now }
 {
     let mut at = Rest { items, name };
-    // What was left where the last star was tried. An earlier star needn't be tried again: with more
-    // octets it would only leave fewer to the last one.
+    // What was left where the last star was tried. An earlier star needn't be tried again: with
+    // more octets it would only leave fewer to the last one.
     let mut star = None;
     loop {
         match next_step(at) {
