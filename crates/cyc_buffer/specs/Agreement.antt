@@ -1,5 +1,5 @@
--- When a buffer agrees with a history: what its register says and, where its store is honest, what the
--- blocks hold.
+-- When a buffer agrees with a history: what its register says and, where its store is honest, what
+-- the blocks hold.
 use Rattle.std.specs.Prelude.{◌≡◌, ℕ, ◌+◌, ◌<◌, Bool, true, List, length, take, Option, None, Some}
 use Rattle.cyc_block.specs.Store.{block_at}
 use Rattle.cyc_block.specs.declared.store.BlockStore.{Ghosts}
@@ -48,15 +48,17 @@ pub record Holds (blocks : List (List ℕ)) (r : Register) (h : History) : Type 
       ≡ block_image (block_of cycle first article.class article.text k)
   pub open_one : HoldsOpen blocks r.progress h.writing
 
--- The buffer agrees with the history; where its store is trusted, the store is honest, and its blocks
--- hold what they should.
-pub record Agrees {S : Type 0} {g : Ghosts S} (trusted : Bool) (buffer : Buffer S g) (h : History) : Type 0 where
+-- The buffer agrees with the history; where its store is trusted, the store is honest, and its
+-- blocks hold what they should.
+pub record Agrees {S : Type 0} {g : Ghosts S} (trusted : Bool) (buffer : Buffer S g) (h : History)
+    : Type 0 where
   pub keeps : Keeps buffer.register h
   pub honest : trusted ≡ true → g.honest buffer.store
   pub holds : trusted ≡ true → Holds (g.blocks buffer.store) buffer.register h
 
 -- each history that the old buffer agrees with is followed by one that the new buffer agrees with
-abbrev pub Follows : {S : Type 0} {g : Ghosts S} → (History → History) → Buffer S g → Buffer S g → Type 0
+abbrev pub Follows : {S : Type 0} {g : Ghosts S} → (History → History)
+    → Buffer S g → Buffer S g → Type 0
 Follows step old new =
     (trusted : Bool) (h : History) → Agrees trusted old h → Agrees trusted new (step h)
 

@@ -18,8 +18,8 @@ use Rattle.cyc_buffer.specs.History.{History, front_of, next_cycle, text_under, 
 abbrev pub fault_of : Buffer → FaultKind → (octets : ℕ) → Fault
 fault_of buffer kind octets = record { kind = kind; buffer = buffer.number; length = octets }
 
--- the first reason to refuse a begin, if there is one: the article has more blocks than the buffer, it
--- would be in a cycle that a token has no room for, or a write is open
+-- the first reason to refuse a begin, if there is one: the article has more blocks than the buffer,
+-- it would be in a cycle that a token has no room for, or a write is open
 abbrev pub refusal : History → (octets : ℕ) → (fresh : Bool) → Option BufError
 refusal h octets fresh =
     if nat_lt h.buffer.blocks (size_of octets) then Some TooBig
@@ -62,7 +62,8 @@ front_view buffer front = record { buffer = buffer.number; blocks = buffer.block
 abbrev pub by_numbers : Buffer → (front : ℕ) → Token → (k : ℕ) → Option Answer
 by_numbers buffer front token k =
     if is_beyond buffer front token k then Some Unknown
-    else (if nat_lt (on_line buffer.blocks token.cycle token.first + buffer.blocks) front then Some (Gone (front_view buffer front))
+    else (if nat_lt (on_line buffer.blocks token.cycle token.first + buffer.blocks) front
+    then Some (Gone (front_view buffer front))
     else None)
 
 -- the answer by the text that was finished under the token
@@ -77,7 +78,8 @@ or_by_text (Some answer) other = answer
 
 -- the answer to a read of block k of the article under a token
 abbrev pub answer : History → Token → (k : ℕ) → Answer
-answer h token k = or_by_text (by_numbers h.buffer (front_of h) token k) (by_text k (text_under h token))
+answer h token k =
+    or_by_text (by_numbers h.buffer (front_of h) token k) (by_text k (text_under h token))
 
 -- what was found, and the octets at the front of the slice where it is a chunk, are the answer
 abbrev pub Shows : Found → List ℕ → Answer → Type 0

@@ -26,7 +26,8 @@ pub record Writing : Type 0 where
   pub blocks : ℕ
   pub broken : Bool
 
--- a buffer, all that was begun in it, the newest first, and the open write, which is the newest begin's
+-- a buffer, all that was begun in it, the newest first, and the open write,
+-- which is the newest begin's
 pub record History : Type 0 where
   pub buffer : Buffer
   pub begins : List Begin
@@ -50,7 +51,8 @@ head_past at size = record { run = at.run; used = at.used + size }
 -- the head after these begins, the newest first
 abbrev pub head_of : (blocks : ℕ) → List Begin → Head
 head_of blocks [] = first_head
-head_of blocks (b ∷ earlier) = head_past (place_after blocks (head_of blocks earlier) b.fresh b.size) b.size
+head_of blocks (b ∷ earlier) =
+    head_past (place_after blocks (head_of blocks earlier) b.fresh b.size) b.size
 
 -- the front: the place on the line after the newest begin, or the front of the first cycle where
 -- nothing was begun (docs/PROTOCOL.md, Fronts and liveness)
@@ -154,7 +156,8 @@ is_at buffer at cycle first = (buffer.first_cycle + at.run == cycle) && (at.used
 abbrev pub finished_at : Buffer → List Begin → (cycle first : ℕ) → Option Article
 finished_at buffer [] cycle first = None
 finished_at buffer (b ∷ earlier) cycle first =
-    if is_at buffer (place_after buffer.blocks (head_of buffer.blocks earlier) b.fresh b.size) cycle first
+    if is_at buffer (place_after buffer.blocks (head_of buffer.blocks earlier) b.fresh b.size)
+    cycle first
     then b.finished else finished_at buffer earlier cycle first
 
 -- the text of an article of this class and length
@@ -167,7 +170,8 @@ text_of class octets (Some article) =
 abbrev pub text_under : History → Token → Option (List ℕ)
 text_under h token =
     if token.buffer == h.buffer.number
-    then text_of token.class token.length (finished_at h.buffer h.begins token.cycle token.first) else None
+    then text_of token.class token.length (finished_at h.buffer h.begins token.cycle token.first)
+    else None
 
 -- the sizes of these begins, in the order in which they were begun
 abbrev pub sizes_of : List Begin → List ℕ

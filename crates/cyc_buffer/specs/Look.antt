@@ -17,7 +17,8 @@ look_by (Some (Chunk octets)) marked block = look.Unknown
 look_by (Some (Gone front)) marked block = look.Gone
 look_by (Some Unknown) marked block = look.Unknown
 
--- a finished article begins at the token's first block, and block k after it is one of a finished article
+-- a finished article begins at the token's first block,
+-- and block k after it is one of a finished article
 abbrev pub has_marks : Register → Token → (k : ℕ) → Bool
 has_marks r token k =
     is_marked r.starts.words.items token.first && is_marked r.kept.words.items (token.first + k)
@@ -25,7 +26,8 @@ has_marks r token k =
 -- the answer that the numbers of the register decide, if they do
 abbrev pub numbers_of : Register → Token → (k : ℕ) → Option Answer
 numbers_of r token k =
-    by_numbers (buffer_of r.line) (on_line r.line.blocks r.line.cycle r.line.used) (token_view token) k
+    by_numbers (buffer_of r.line) (on_line r.line.blocks r.line.cycle r.line.used)
+    (token_view token) k
 
 -- what is said of block k of the article under a token
 abbrev pub look_of : Register → Token → (k : ℕ) → Look

@@ -18,7 +18,8 @@ marked_after from to value j old = if is_among from to j then value else old
 abbrev pub is_below : ℕ → ℕ → ℕ → Type 0
 is_below word count i = (bit_at word i == 1) ≡ nat_lt i count
 
--- bit i of the word that begins at a block is set where the block is one of those from one up to another
+-- bit i of the word that begins at a block is set
+-- where the block is one of those from one up to another
 abbrev pub has_mask : ℕ → ℕ → ℕ → ℕ → ℕ → Type 0
 has_mask word start from to i = (bit_at word i == 1) ≡ is_among from to (start + i)
 

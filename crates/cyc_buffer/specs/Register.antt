@@ -13,7 +13,8 @@ use Rattle.news_terms.specs.Places.{Buffer, Head, size_of}
 
 -- the buffer that a line is of
 abbrev pub buffer_of : Line → Buffer
-buffer_of line = record { number = line.number; blocks = line.blocks; first_cycle = line.first_cycle }
+buffer_of line =
+    record { number = line.number; blocks = line.blocks; first_cycle = line.first_cycle }
 
 -- how far a line is used, as a head whose runs are cycles
 abbrev pub line_head : Line → Head
@@ -23,11 +24,12 @@ line_head line = record { run = line.cycle; used = line.used }
 abbrev pub place_view : Place → Head
 place_view place = record { run = place.cycle; used = place.first }
 
--- the front passes block j when an article of so many blocks is put here: it is one of the article's,
--- or of those left over at the end of the cycle before
+-- the front passes block j when an article of so many blocks is put here: it is one of the
+-- article's, or of those left over at the end of the cycle before
 abbrev pub is_passed : Line → Head → (size j : ℕ) → Bool
 is_passed line at size j =
-    is_among at.used (at.used + size) j || (not (at.run == line.cycle) && is_among line.used line.blocks j)
+    is_among at.used (at.used + size) j
+    || (not (at.run == line.cycle) && is_among line.used line.blocks j)
 
 -- the mark of block j after the front passed an article that was put here
 abbrev pub mark_passed : Line → Head → (size j : ℕ) → Bool → Bool
@@ -39,8 +41,8 @@ pub record Stays (old new : Register) : Type 0 where
   pub starts : new.starts ≡ old.starts
   pub kept : new.kept ≡ old.kept
 
--- the front has not passed this block since it was in this cycle: it is behind the head in the cycle
--- of the head, or before it in the cycle before
+-- the front has not passed this block since it was in this cycle: it is behind the head in the
+-- cycle of the head, or before it in the cycle before
 abbrev pub IsUnpassed : Line → (cycle block : ℕ) → Type 0
 IsUnpassed line cycle block =
     ((cycle ≡ line.cycle) × (block < line.used)) ⊎ ((cycle + 1 ≡ line.cycle) × (line.used ≤ block))
@@ -84,9 +86,11 @@ pub record IsSized (blocks : ℕ) (b : Begin) : Type 0 where
 pub record IsWriting (h : History) (p : Progress) (w : Writing) : Type 0 where
   pub fresh : Bool
   pub earlier : List Begin
-  pub newest : h.begins ≡ record { size = size_of w.octets; fresh = fresh; finished = None } ∷ earlier
+  pub newest : h.begins
+      ≡ record { size = size_of w.octets; fresh = fresh; finished = None } ∷ earlier
   pub token : token_view p.token ≡ token_at h.buffer
-      (place_after h.buffer.blocks (head_of h.buffer.blocks earlier) fresh (size_of w.octets)) w.class w.octets
+      (place_after h.buffer.blocks (head_of h.buffer.blocks earlier) fresh (size_of w.octets))
+      w.class w.octets
   pub some : 1 ≤ w.octets
   pub class : w.class < 2 ^ 8
   pub octets : w.octets < 2 ^ 32

@@ -43,8 +43,8 @@ pub enum FaultKind {
     Worn,
 }
 
-/// A fault of a buffer. A buffer alone makes one, of itself and of the call that failed; it can't be
-/// copied.
+/// A fault of a buffer. A buffer alone makes one, of itself and of the call that failed;
+/// it can't be copied.
 #[derive(Debug, Drop)]
 pub struct Fault {
     pub(crate) kind: FaultKind,

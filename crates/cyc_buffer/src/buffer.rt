@@ -29,7 +29,8 @@ impl<S: BlockStore> Buffer<S> {
     ghost use Rattle.cyc_buffer.specs.History.{History, new_history, with_begin, with_finish, open_token};
     ghost use Rattle.cyc_buffer.specs.History.{without_write, with_failure, with_block, front_of, cycle_of};
 
-    /// A buffer over all blocks of a store, in which nothing was begun yet. All memory is taken here.
+    /// A buffer over all blocks of a store, in which nothing was begun yet.
+    /// All memory is taken here.
     pub fn format(
         alloc: Global,
         store: S,
@@ -56,7 +57,8 @@ impl<S: BlockStore> Buffer<S> {
     pub fn begin(&mut self, class: u8, length: u32, fresh: bool) -> Result<Open, BufError>
         requires { 1 ≤ length }
         // Refused for the first reason, and then nothing is changed; else begun.
-        ensures refusal { (trusted : Bool) (h : History) → Agrees trusted self.old h → error_of result ≡ refusal h length fresh }
+        ensures refusal { (trusted : Bool) (h : History) → Agrees trusted self.old h
+            → error_of result ≡ refusal h length fresh }
         ensures refused { OnErr result (register_of self.new ≡ register_of self.old) }
         ensures begun { OnOk result (Follows (with_begin class length fresh) self.old self.new) }
         // The open write is this one, of which nothing is written.
@@ -69,8 +71,8 @@ impl<S: BlockStore> Buffer<S> {
         self.register.begin(class, length, fresh)
     }
 
-    /// Writes the next block of the open write's text; whether it was the last. After Device the write
-    /// can only be abandoned.
+    /// Writes the next block of the open write's text; whether it was the last. After Device the
+    /// write can only be abandoned.
     pub fn write_next(&mut self, write: &Open, text: &[u8]) -> Result<bool, BufError>
         requires open { Owns self.old write.now }
         requires whole { is_broken self.old ≡ false }
@@ -86,13 +88,16 @@ impl<S: BlockStore> Buffer<S> {
         ensures whole { OnOk result (is_broken self.new ≡ false) }
         // Or the device failed.
         ensures broken { OnErr result (Follows with_failure self.old self.new) }
-        ensures fault { IfErr result (λ e. (trusted : Bool) (h : History) → Agrees trusted self.old h
+        ensures fault { IfErr result (λ e. (trusted : Bool) (h : History)
+            → Agrees trusted self.old h
             → IsDeviceFault h.buffer FaultKind.Write (length_of write.now) e) }
-        ensures failed { OnErr result (S.failures (store_of self.old) < S.failures (store_of self.new)) }
+        ensures failed { OnErr result
+            (S.failures (store_of self.old) < S.failures (store_of self.new)) }
         ensures later { S.failures (store_of self.old) ≤ S.failures (store_of self.new) }
         ensures open { Owns self.new write.now }
         ensures honest { S.honest (store_of self.old) → S.honest (store_of self.new) }
-        ensures blocks { length (S.blocks (store_of self.new)) ≡ length (S.blocks (store_of self.old)) }
+        ensures blocks { length (S.blocks (store_of self.new))
+            ≡ length (S.blocks (store_of self.old)) }
     {
         let stamp = self.register.next_stamp(write);
         prove!(stamp.first < self.register.line.blocks);
@@ -105,12 +110,14 @@ impl<S: BlockStore> Buffer<S> {
         Ok(self.register.count_block(write))
     }
 
-    /// Finishes the open write, all of which is written: from now on its text is given by the token.
+    /// Finishes the open write, all of which is written:
+    /// from now on its text is given by the token.
     pub fn finish(&mut self, write: Open) -> Token
         requires open { Owns self.old write }
         requires whole { is_broken self.old ≡ false }
         requires written { blocks_written self.old ≡ size_of (length_of write) }
-        ensures token { (trusted : Bool) (h : History) → Agrees trusted self.old h → Some (token_view result) ≡ open_token h }
+        ensures token { (trusted : Bool) (h : History) → Agrees trusted self.old h
+            → Some (token_view result) ≡ open_token h }
         ensures finished { Follows with_finish self.old self.new }
         ensures store { store_of self.new ≡ store_of self.old }
     {
@@ -139,22 +146,28 @@ impl<S: BlockStore> Buffer<S> {
         // What the numbers decide doesn't rest on the store, and no device is called for it, nor
         // where no finished article begins.
         ensures numbers { (trusted : Bool) (h : History) → Agrees trusted self.old h
-            → IsDecided result chunk.new (by_numbers h.buffer (front_of h) (token_view token.now) k) }
+            → IsDecided result chunk.new
+            (by_numbers h.buffer (front_of h) (token_view token.now) k) }
         ensures other { (trusted : Bool) (h : History) → Agrees trusted self.old h
-            → IfOk result (λ found. IsOther found (by_numbers h.buffer (front_of h) (token_view token.now) k)) }
+            → IfOk result (λ found. IsOther found
+            (by_numbers h.buffer (front_of h) (token_view token.now) k)) }
         ensures unread { (trusted : Bool) (h : History) → Agrees trusted self.old h
-            → IsUnread h (token_view token.now) k → IsOk result × (store_of self.new ≡ store_of self.old) }
+            → IsUnread h (token_view token.now) k
+            → IsOk result × (store_of self.new ≡ store_of self.old) }
         ensures room { IfOk result (λ found. HasRoom found) }
         // The device failed, or not.
-        ensures fault { IfErr result (λ e. (trusted : Bool) (h : History) → Agrees trusted self.old h
+        ensures fault { IfErr result (λ e. (trusted : Bool) (h : History)
+            → Agrees trusted self.old h
             → IsDeviceFault h.buffer FaultKind.Read token.now.length e) }
-        ensures failed { OnErr result (S.failures (store_of self.old) < S.failures (store_of self.new)) }
+        ensures failed { OnErr result
+            (S.failures (store_of self.old) < S.failures (store_of self.new)) }
         ensures later { S.failures (store_of self.old) ≤ S.failures (store_of self.new) }
         // Reading changes no history.
         ensures same { Follows (λ h. h) self.old self.new }
         ensures register { register_of self.new ≡ register_of self.old }
         ensures honest { S.honest (store_of self.old) → S.honest (store_of self.new) }
-        ensures blocks { length (S.blocks (store_of self.new)) ≡ length (S.blocks (store_of self.old)) }
+        ensures blocks { length (S.blocks (store_of self.new))
+            ≡ length (S.blocks (store_of self.old)) }
     {
         let block = match self.register.look(token, k) {
             Look::Block(block) => block,
@@ -209,7 +222,8 @@ fn chunk_of(text: &[u8], k: u32) -> &[u8]
 fn take_chunk(image: &[u8; 512], token: &Token, k: u32, chunk: &mut [u8; 480]) -> Option<usize>
     ensures same { (b : Block) → IsBlock b → image.now ≡ image_of b
         → stamped (stamp_of token.now k) b.payload ≡ b
-        → IsSomeAnd result (λ octets. (octets ≡ length b.payload) × (take octets chunk.new ≡ b.payload)) }
+        → IsSomeAnd result (λ octets. (octets ≡ length b.payload)
+        × (take octets chunk.new ≡ b.payload)) }
     ensures other { (b : Block) → IsBlock b → image.now ≡ image_of b
         → IfSome result (λ octets. stamped (stamp_of token.now k) b.payload ≡ b) }
     ensures room { IfSome result (λ octets. octets ≤ 480) }

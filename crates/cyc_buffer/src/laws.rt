@@ -17,7 +17,8 @@ pub fn own_places()
     ensures own { (buffer : Buffer) (begins : List Begin) (fresh : Bool) (size cycle first : ℕ)
         (article : Article) → AllByRecursion (IsSized buffer.blocks) begins
         → finished_at buffer begins cycle first ≡ Some article
-        → is_at buffer (place_after buffer.blocks (head_of buffer.blocks begins) fresh size) cycle first
+        → is_at buffer (place_after buffer.blocks (head_of buffer.blocks begins) fresh size)
+        cycle first
         ≡ false }
     ensures within { (buffer : Buffer) (begins : List Begin) (cycle first : ℕ)
         (article : Article) → AllByRecursion (IsSized buffer.blocks) begins

@@ -84,7 +84,8 @@ impl Register {
         first_cycle: u32,
     ) -> Result<Register, AllocError>
         ensures keeps { IfOk result (λ register. Keeps register
-            (new_history (record { number = number; blocks = blocks; first_cycle = first_cycle }))) }
+            (new_history
+            (record { number = number; blocks = blocks; first_cycle = first_cycle }))) }
         ensures blocks { IfOk result (λ register. register.line.blocks ≡ blocks) }
         ensures progress { IfOk result (λ register. register.progress ≡ None) }
     {
@@ -128,7 +129,8 @@ impl Register {
     /// Begins an article.
     pub(crate) fn begin(&mut self, class: u8, length: u32, fresh: bool) -> Result<Open, BufError>
         requires { 1 ≤ length }
-        ensures refusal { (h : History) → Keeps self.old h → error_of result ≡ refusal h length fresh }
+        ensures refusal { (h : History) → Keeps self.old h
+            → error_of result ≡ refusal h length fresh }
         ensures refused { OnErr result (self.new ≡ self.old) }
         ensures begun { OnOk result ((h : History) → Keeps self.old h
             → Keeps self.new (with_begin class length fresh h)) }
@@ -205,7 +207,8 @@ impl Register {
         requires open { IsTheOpen write.now self.now.progress }
         requires left { written_of self.now.progress < size_of write.now.token.length }
         ensures stamp { result ≡ stamp_of write.now.token (written_of self.now.progress) }
-        ensures within { write.now.token.first + written_of self.now.progress < self.now.line.blocks }
+        ensures within { write.now.token.first + written_of self.now.progress
+            < self.now.line.blocks }
     {
         let index = match self.progress {
             Some(progress) => progress.written,
@@ -226,7 +229,8 @@ impl Register {
         requires left { written_of self.old.progress < size_of write.now.token.length }
         ensures progress { self.new.progress ≡ counted self.old.progress }
         ensures rest { Stays self.old self.new }
-        ensures last { result ≡ (written_of self.old.progress + 1 == size_of write.now.token.length) }
+        ensures last { result
+            ≡ (written_of self.old.progress + 1 == size_of write.now.token.length) }
     {
         let blocks = size_of(write.token.length);
         match &mut self.progress {

@@ -5,4 +5,10 @@ use Rattle.news_terms.specs.Token as terms
 -- the parts of a token, each under the name that the definition gives it
 abbrev pub token_view : Token → terms.Token
 token_view t =
-    record { class = t.class; buffer = t.buffer; cycle = t.cycle; first = t.first; length = t.length }
+    record {
+      class = t.class;
+      buffer = t.buffer;
+      cycle = t.cycle;
+      first = t.first;
+      length = t.length;
+    }
