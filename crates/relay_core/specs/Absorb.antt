@@ -29,17 +29,20 @@ look_reply true id = Exists id
 look_reply false id = NoArticle
 
 -- This text of this id was taken out, and the session is ready in place of what it was.
-abbrev pub TakesOut : Terms → Option (List ℕ × List ℕ) → List ℕ → List ℕ → Session → model.Session → Type 0
+abbrev pub TakesOut : Terms → Option (List ℕ × List ℕ) → List ℕ → List ℕ
+    → Session → model.Session → Type 0
 TakesOut w None id text session after = ⊥
 TakesOut w (Some taken) id text session after =
     (taken.0 ≡ id) × (taken.1 ≡ text) × IsShort text × (session.line ≡ None)
     × Stands w session (in_phase after model.Ready) None
 
 -- The session has the job of this text and this id in its hand, and waits for its outcome.
-pub record HandsOver (w : Terms) (number : ℕ) (id text : List ℕ) (session : Session) (after : model.Session) : Type 0 where
+pub record HandsOver (w : Terms) (number : ℕ) (id text : List ℕ) (session : Session)
+    (after : model.Session) : Type 0 where
   pub job : Job
   pub in_hand : session.phase ≡ phase.Handing job id
   pub of_session : job.session ≡ number
   pub same_id : job.id ≡ id
   pub same_text : job.text ≡ text
-  pub stands : Stands w session (in_phase after (model.Waits model.TakesThis id None)) (Some (record { group = 0; id = id }))
+  pub stands : Stands w session (in_phase after (model.Waits model.TakesThis id None))
+      (Some (record { group = 0; id = id }))

@@ -1,5 +1,5 @@
--- When the core agrees with a state of the relay: all that it keeps is that state's, the article that its
--- session stores is in exactly one place, and no other article is being stored.
+-- When the core agrees with a state of the relay: all that it keeps is that state's, the article
+-- that its session stores is in exactly one place, and no other article is being stored.
 use Rattle.std.specs.Prelude.{◌≡◌, ℕ, nat_eq, Bool, true, false, List, [], ◌∷◌, Option, None, Some, is_some}
 use Rattle.cyc_token.specs.Token.{token_view}
 use Rattle.cyc_token.specs.declared.Token.{Token}
@@ -44,17 +44,20 @@ abbrev pub OnlyStoring : (List ℕ → Claim) → Option (List ℕ) → Type 0
 OnlyStoring claim one = (id : List ℕ) → is_storing (claim id) ≡ true → one ≡ Some id
 
 -- the queue has these jobs, in the code, and these ids, in the definitions
-pub record QueueIs (queue : List Job) (ids : List (List ℕ)) (jobs : List Job) (same : List (List ℕ)) : Type 0 where
+pub record QueueIs (queue : List Job) (ids : List (List ℕ)) (jobs : List Job)
+    (same : List (List ℕ)) : Type 0 where
   pub here : queue ≡ jobs
   pub there : ids ≡ same
 
 -- the writer is this far, in the code and in the definitions
-pub record WriterIs (w : Writer) (v : world.Writer) (code : Writer) (same : world.Writer) : Type 0 where
+pub record WriterIs (w : Writer) (v : world.Writer) (code : Writer) (same : world.Writer)
+    : Type 0 where
   pub here : w ≡ code
   pub there : v ≡ same
 
 -- the slot of the session has this, in the code and in the definitions
-pub record SlotIs (slot : Option Outcome) (told : Bool) (code : Option Outcome) (same : Bool) : Type 0 where
+pub record SlotIs (slot : Option Outcome) (told : Bool) (code : Option Outcome) (same : Bool)
+    : Type 0 where
   pub here : slot ≡ code
   pub there : told ≡ same
 
@@ -65,14 +68,17 @@ pub record IsWaiting (claim : List ℕ → Claim) (n : ℕ) (job : Job) : Type 0
   pub short : IsShort job.text
 
 -- the session waits for the outcome of this id, in the code and in the definitions
-pub record Awaits (m : model.Session) (p : Phase) (id : List ℕ) (outcome : Option model.Outcome) : Type 0 where
+pub record Awaits (m : model.Session) (p : Phase) (id : List ℕ) (outcome : Option model.Outcome)
+    : Type 0 where
   pub here : p ≡ phase.Waiting id
   pub there : m.phase ≡ model.Waits model.TakesThis id outcome
 
--- Where the article that the session stores is: in exactly one of these places, and no other id is being
--- stored. `claim` is what is known of each id; `ids`, `v` and `told` are queue, writer and slot in the
--- definitions.
-pub data Place (claim : List ℕ → Claim) (ids : List (List ℕ)) (v : world.Writer) (told : Bool) (n : ℕ) (m : model.Session) (p : Phase) (queue : List Job) (w : Writer) (slot : Option Outcome) : Type 0 where
+-- Where the article that the session stores is: in exactly one of these places, and no other id is
+-- being stored. `claim` is what is known of each id; `ids`, `v` and `told` are queue, writer and
+-- slot in the definitions.
+pub data Place (claim : List ℕ → Claim) (ids : List (List ℕ)) (v : world.Writer) (told : Bool)
+    (n : ℕ) (m : model.Session) (p : Phase) (queue : List Job) (w : Writer) (slot : Option Outcome)
+    : Type 0 where
   -- the session stores none
   Nowhere : StoresNone p → QueueIs queue ids [] [] → WriterIs w v writer.Idle world.Idle
       → SlotIs slot told None false → OnlyStoring claim None
@@ -121,7 +127,9 @@ pub record Around (w : Terms) (system : System) (x : World) (m : model.Session) 
   pub newest : x.state.newest ≡ Some system.session.number
   pub session : x.state.session system.session.number ≡ Some m
   pub others : (s : ℕ) → nat_eq s system.session.number ≡ false → x.state.session s ≡ None
-  pub place : Place x.state.claim (x.work.queue 0) (x.work.writer 0) (x.work.is_told system.session.number) system.session.number m system.session.phase system.queue.items system.writer system.slot
+  pub place : Place x.state.claim (x.work.queue 0) (x.work.writer 0)
+      (x.work.is_told system.session.number) system.session.number m system.session.phase
+      system.queue.items system.writer system.slot
 
 -- No session was ever opened.
 pub record Unopened (w : Terms) (system : System) (x : World) : Type 0 where
@@ -164,7 +172,8 @@ IsTurn w x n m now d (outputs.Sent s octets) x' =
 IsTurn w x n m now d (outputs.Ended s octets) x' =
     record { output = world.Ended s octets; world = x' } ≡ done w x n m now d
 
--- The plan is carried out: of each state that the system agrees with but for what the plan has read.
+-- The plan is carried out: of each state that the system agrees with but for what the plan has
+-- read.
 abbrev pub CarriesOut : Plan → ℕ → System → Output → System → Type 0
 CarriesOut plan now old output new =
     (w : Terms) (x : World) (m : model.Session) → Around w old x m
@@ -201,7 +210,8 @@ IsWrite w x now (outputs.Ended s octets) x' = ⊥
 -- the writer of the one group has its turn
 abbrev pub Writes : ℕ → System → Output → System → Type 0
 Writes now old output new =
-    (w : Terms) (x : World) → Agrees w old x → (x' : World) × Agrees w new x' × IsWrite w x now output x'
+    (w : Terms) (x : World) → Agrees w old x
+    → (x' : World) × Agrees w new x' × IsWrite w x now output x'
 
 -- the writer has taken a job
 abbrev pub IsPopped : Writer → Type 0

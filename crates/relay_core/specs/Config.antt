@@ -16,7 +16,8 @@ terms_of config =
       verdict = verdict_today config.blocks;
     }
 
--- the built-in configuration: a buffer of eight blocks, two peers, articles of 1,000,000 octets at most
+-- the built-in configuration: a buffer of eight blocks, two peers,
+-- articles of 1,000,000 octets at most
 pub record IsK1 (config : Config) : Type 0 where
   pub max_article : config.max_article ≡ 1000000
   pub blocks : config.blocks ≡ 8

@@ -1,6 +1,6 @@
--- A session as a machine: what is due in a Turn is a function of the session, the job in its hand and
--- the moment; what a Turn does is that, done. So what a session says is a function of the octets read,
--- the moments and the answers of the shared steps.
+-- A session as a machine: what is due in a Turn is a function of the session, the job in its hand
+-- and the moment; what a Turn does is that, done. So what a session says is a function of the
+-- octets read, the moments and the answers of the shared steps.
 use Rattle.std.specs.Prelude.{ℕ, List, Option, None, Some, Result, Ok, Err}
 use Rattle.news_terms.specs.Blocks.{NextBlock, Whole, Oversize, Unfinished, next_block}
 use Rattle.news_terms.specs.Command.{Command, AskCapabilities, AskHelp, AskDate, Quit, ModeStream, ModeReader, Check, Ihave, TakeThis, Fetch, NeedsGroup, TakeQueue, FetchToken, WholeText, Header, BodyLines, OverviewLine, Presence, CommandFault, Syntax, command_among, is_served}
@@ -17,8 +17,8 @@ use Rattle.relay_model.specs.Terms.{Terms, Reason}
 use Rattle.relay_model.specs.Turns.{push_does, slot_does, release_does, with_unread}
 use Rattle.relay_model.specs.World.{World, Next, Job, in_phase}
 
--- what is due in a Turn: at most one shared step; `after` is the session once what was read counts as
--- read
+-- what is due in a Turn: at most one shared step;
+-- `after` is the session once what was read counts as read
 pub data Due : Type 0 where
   Rests : Due
   Says : (reply : Reply) (after : Session) → Due

@@ -1,5 +1,5 @@
--- What a session of the code stands for: the session of the definitions that it agrees with, and what its
--- plans are.
+-- What a session of the code stands for: the session of the definitions that it agrees with, and
+-- what its plans are.
 use Rattle.std.specs.Prelude.{◌≡◌, ℕ, ◌+◌, ◌≤◌, ◌<◌, ◌^◌, ◌==◌, ◌&&◌, not, nat_le, Bool, List, [], length, true, false, Option, None, Some, Result, Ok, Err, Vec, vec_len, vec_capacity}
 use Rattle.std.specs.declared.alloc.Global.{Global}
 use Rattle.news_terms.specs.Blocks.{next_block}
@@ -26,8 +26,8 @@ use Rattle.stream_cut.specs.declared.cutter.CutError.TheVariants as cut_error
 use Rattle.stream_cut.specs.declared.cutter.Block.{Block}
 use Rattle.stream_cut.specs.declared.cutter.Block.TheVariants as block
 
--- Of the octets that the session has unread these were cut as a line that isn't absorbed yet, if there
--- is one; the stream has the others.
+-- Of the octets that the session has unread these were cut as a line that isn't absorbed yet, if
+-- there is one; the stream has the others.
 abbrev pub HasLine : Option (Vec ℕ Global) → Stream → List ℕ → Type 0
 HasLine None stream unread = stream.unread ≡ unread
 HasLine (Some line) stream unread = next_line unread ≡ Cut line.items stream.unread
@@ -41,7 +41,8 @@ HasBlock (Some block.Oversize) stream unread =
     next_block stream.limit unread ≡ blocks.Oversize stream.unread
 
 -- nothing was cut that isn't absorbed yet
-pub record HasReadAll (stream : Stream) (line : Option (Vec ℕ Global)) (cut : Option Block) (unread : List ℕ) : Type 0 where
+pub record HasReadAll (stream : Stream) (line : Option (Vec ℕ Global)) (cut : Option Block)
+    (unread : List ℕ) : Type 0 where
   pub sound : stream.overlong ≡ false
   pub no_line : line ≡ None
   pub no_block : cut ≡ None
@@ -78,7 +79,8 @@ IsPhase phase.Leaving p hand = (p ≡ model.Leaving) × (hand ≡ None)
 IsPhase phase.Ended p hand = (p ≡ model.Ended) × (hand ≡ None)
 
 -- The session stands for this one of the definitions, with this job in its hand.
-pub record Stands (w : Terms) (session : Session) (m : model.Session) (hand : Option Job) : Type 0 where
+pub record Stands (w : Terms) (session : Session) (m : model.Session) (hand : Option Job)
+    : Type 0 where
   pub peer : m.peer ≡ session.peer
   pub limit : session.cutter.limit ≡ w.max_article
   pub offers : m.offers ≡ session.offers.items
@@ -108,7 +110,8 @@ arrived session m id = with_offers (past session m) (without_offer m.offers id)
 
 -- The session carries this text of this id, by its phase and the block that was cut: `after` is the
 -- session of the definitions once the text counts as arrived.
-abbrev pub Carries : Phase → Option Block → Session → model.Session → List ℕ → List ℕ → model.Session → Type 0
+abbrev pub Carries : Phase → Option Block → Session → model.Session → List ℕ → List ℕ
+    → model.Session → Type 0
 Carries (phase.Owes (Some owed)) (Some (block.Whole octets)) session m id text after =
     (owed ≡ id) × (octets.items ≡ text) × IsShort text × (after ≡ arrived session m id)
 Carries (phase.Owes (Some owed)) (Some block.Oversize) session m id text after = ⊥
@@ -122,7 +125,8 @@ Carries (phase.Waiting waited) cut session m id text after = ⊥
 Carries phase.Leaving cut session m id text after = ⊥
 Carries phase.Ended cut session m id text after = ⊥
 
--- The session stands for this one of the definitions but for the phase, and all that was cut is absorbed.
+-- The session stands for this one of the definitions but for the phase,
+-- and all that was cut is absorbed.
 pub record IsClear (w : Terms) (session : Session) (m : model.Session) : Type 0 where
   pub peer : m.peer ≡ session.peer
   pub limit : session.cutter.limit ≡ w.max_article
@@ -132,7 +136,8 @@ pub record IsClear (w : Terms) (session : Session) (m : model.Session) : Type 0 
   pub no_block : session.block ≡ None
   pub unread : session.cutter.unread ≡ m.unread
 
--- The session has the peer and the open offers of this one of the definitions, and will read no more.
+-- The session has the peer and the open offers of this one of the definitions,
+-- and will read no more.
 pub record IsLeft (w : Terms) (session : Session) (m : model.Session) : Type 0 where
   pub peer : m.peer ≡ session.peer
   pub limit : session.cutter.limit ≡ w.max_article
@@ -235,7 +240,8 @@ abbrev pub StandsAsBefore : Terms → Session → Session → Type 0
 StandsAsBefore w old new =
     (m : model.Session) (hand : Option Job) → Stands w old m hand → Stands w new m hand
 
--- what cutting a line gives: a line or none so far, whichever session it stood for; or a line too long
+-- what cutting a line gives: a line or none so far, whichever session it stood for;
+-- or a line too long
 abbrev pub CutsLine : Terms → Session → Result (Unit {0}) CutError → Session → Type 0
 CutsLine w old (Ok done) new =
     (m : model.Session) (hand : Option Job) → Stands w old m hand → old.phase ≡ phase.Ready
@@ -266,7 +272,8 @@ OwesBlock phase.Ended = ⊥
 
 -- the plan is to say that the syntax is wrong
 abbrev pub IsSyntaxFault : Plan → Type 0
-IsSyntaxFault planned = (said : Vec ℕ Global) × (planned ≡ plan.Say said) × (said.items ≡ reply_text SyntaxError)
+IsSyntaxFault planned =
+    (said : Vec ℕ Global) × (planned ≡ plan.Say said) × (said.items ≡ reply_text SyntaxError)
 
 -- nothing is planned
 abbrev pub IsRest : Plan → Type 0
@@ -304,7 +311,8 @@ FitsPhase p (plan.Wait room) = Unit {0}
 
 -- the plan has the memory that absorbing it takes
 abbrev pub HasMemory : Session → Plan → Type 0
-HasMemory session (plan.Offer id room) = IsRoom room × (vec_len session.offers + 1 ≤ vec_capacity session.offers)
+HasMemory session (plan.Offer id room) =
+    IsRoom room × (vec_len session.offers + 1 ≤ vec_capacity session.offers)
 HasMemory session (plan.Look id room) = IsRoom room
 HasMemory session (plan.Refuse id room) = IsRoom room
 HasMemory session (plan.Take id room) = IsRoom room

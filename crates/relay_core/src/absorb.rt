@@ -1,5 +1,5 @@
-//! What a session makes of the answers of the shared steps: its next phase, and its reply in the room
-//! that the plan made. None of it takes memory.
+//! What a session makes of the answers of the shared steps: its next phase, and its reply in the
+//! room that the plan made. None of it takes memory.
 ghost use Rattle.std.specs.Prelude.{◌≡◌, ◌+◌, ◌≤◌, ℕ, List, [], ◌∷◌, Bool, Option, Some, None, IfSome, IfNone, vec_len, vec_capacity};
 ghost use Rattle.id_history.specs.Answers.{offer_view};
 ghost use Rattle.news_terms.specs.Reply.{reply_text, Kept, NotStored, Rejected};
@@ -22,8 +22,9 @@ use stream_cut::Block;
 impl Session {
     /// What was cut counts as read, and the session is ready for the next command.
     pub(crate) fn absorb_said(&mut self)
-        ensures stands { (w : Terms) (m : model.Session) (hand : Option ModelJob) → Stands w self.old m hand
-            → IsSound self.old hand → Stands w self.new (in_phase (past self.old m) model.Ready) None }
+        ensures stands { (w : Terms) (m : model.Session) (hand : Option ModelJob)
+            → Stands w self.old m hand → IsSound self.old hand
+            → Stands w self.new (in_phase (past self.old m) model.Ready) None }
         ensures offers { self.new.offers ≡ self.old.offers }
         ensures number { self.new.number ≡ self.old.number }
     {
@@ -34,8 +35,8 @@ impl Session {
 
     /// A TAKETHIS was read: a block is owed.
     pub(crate) fn absorb_owe(&mut self, id: Option<MsgId>)
-        ensures stands { (w : Terms) (m : model.Session) (hand : Option ModelJob) → Stands w self.old m hand
-            → IsSound self.old hand
+        ensures stands { (w : Terms) (m : model.Session) (hand : Option ModelJob)
+            → Stands w self.old m hand → IsSound self.old hand
             → Stands w self.new (in_phase (past self.old m) (model.Owes model.TakesThis id)) None }
         ensures number { self.new.number ≡ self.old.number }
     {
@@ -58,10 +59,10 @@ impl Session {
         requires room { IsRoom room }
         requires space { vec_len self.old.offers + 1 ≤ vec_capacity self.old.offers }
         ensures reply { result.items ≡ reply_text (offer_reply (offer_view answer) id) }
-        ensures stands { (w : Terms) (m : model.Session) (hand : Option ModelJob) → Stands w self.old m hand
-            → IsSound self.old hand → Stands w self.new
-            (with_offers (in_phase (past self.old m) model.Ready) (offers_after (offer_view answer) m.offers id))
-            None }
+        ensures stands { (w : Terms) (m : model.Session) (hand : Option ModelJob)
+            → Stands w self.old m hand → IsSound self.old hand
+            → Stands w self.new (with_offers (in_phase (past self.old m) model.Ready)
+            (offers_after (offer_view answer) m.offers id)) None }
         ensures number { self.new.number ≡ self.old.number }
     {
         self.absorb_said();
@@ -86,8 +87,9 @@ impl Session {
     pub(crate) fn absorb_look(&mut self, id: MsgId, room: Vec<u8>, found: bool) -> Vec<u8>
         requires { IsRoom room }
         ensures reply { result.items ≡ reply_text (look_reply found id) }
-        ensures stands { (w : Terms) (m : model.Session) (hand : Option ModelJob) → Stands w self.old m hand
-            → IsSound self.old hand → Stands w self.new (in_phase (past self.old m) model.Ready) None }
+        ensures stands { (w : Terms) (m : model.Session) (hand : Option ModelJob)
+            → Stands w self.old m hand → IsSound self.old hand
+            → Stands w self.new (in_phase (past self.old m) model.Ready) None }
         ensures number { self.new.number ≡ self.old.number }
     {
         self.absorb_said();
@@ -102,8 +104,8 @@ impl Session {
     pub(crate) fn absorb_refuse(&mut self, id: MsgId, room: Vec<u8>) -> Vec<u8>
         requires { IsRoom room }
         ensures reply { result.items ≡ reply_text (Rejected id) }
-        ensures stands { (w : Terms) (m : model.Session) (hand : Option ModelJob) → Stands w self.old m hand
-            → IsSound self.old hand
+        ensures stands { (w : Terms) (m : model.Session) (hand : Option ModelJob)
+            → Stands w self.old m hand → IsSound self.old hand
             → Stands w self.new (in_phase (arrived self.old m id) model.Ready) None }
         ensures number { self.new.number ≡ self.old.number }
     {
@@ -112,10 +114,11 @@ impl Session {
         replied(room, &Reply::Rejected(&id))
     }
 
-    /// Takes the text that the session carries out of it, with its id. The session is ready then, and the
-    /// open offer of the id has ended.
+    /// Takes the text that the session carries out of it, with its id. The session is ready then,
+    /// and the open offer of the id has ended.
     fn take_out(&mut self) -> Option<(MsgId, Octets)>
-        ensures stands { (w : Terms) (m : model.Session) (hand : Option ModelJob) (id text : List ℕ) (after : model.Session)
+        ensures stands { (w : Terms) (m : model.Session) (hand : Option ModelJob)
+            (id text : List ℕ) (after : model.Session)
             → Stands w self.old m hand → IsSound self.old hand
             → Carries self.old.phase self.old.block self.old m id text after
             → TakesOut w result id text self.new after }
@@ -135,7 +138,8 @@ impl Session {
 
     /// The session is to store the article that it carries: it has the job in its hand.
     pub(crate) fn absorb_mine(&mut self, id: MsgId)
-        ensures stands { (w : Terms) (m : model.Session) (hand : Option ModelJob) (text : List ℕ) (after : model.Session)
+        ensures stands { (w : Terms) (m : model.Session) (hand : Option ModelJob)
+            (text : List ℕ) (after : model.Session)
             → Stands w self.old m hand → IsSound self.old hand
             → Carries self.old.phase self.old.block self.old m id text after
             → HandsOver w self.old.number id text self.new after }
@@ -156,7 +160,8 @@ impl Session {
 
     /// Another session stores an article of the id: this one holds its own.
     pub(crate) fn absorb_held(&mut self)
-        ensures stands { (w : Terms) (m : model.Session) (hand : Option ModelJob) (id text : List ℕ) (after : model.Session)
+        ensures stands { (w : Terms) (m : model.Session) (hand : Option ModelJob)
+            (id text : List ℕ) (after : model.Session)
             → Stands w self.old m hand → IsSound self.old hand
             → Carries self.old.phase self.old.block self.old m id text after
             → Stands w self.new (in_phase after (model.Holds id (accepted_text text))) None }
@@ -168,11 +173,13 @@ impl Session {
         }
     }
 
-    /// The article of the id was stored or refused before: the one that the session carries is dropped.
+    /// The article of the id was stored or refused before:
+    /// the one that the session carries is dropped.
     pub(crate) fn absorb_had(&mut self, id: MsgId, room: Vec<u8>) -> Vec<u8>
         requires { IsRoom room }
         ensures reply { result.items ≡ reply_text (Rejected id) }
-        ensures stands { (w : Terms) (m : model.Session) (hand : Option ModelJob) (text : List ℕ) (after : model.Session)
+        ensures stands { (w : Terms) (m : model.Session) (hand : Option ModelJob)
+            (text : List ℕ) (after : model.Session)
             → Stands w self.old m hand → IsSound self.old hand
             → Carries self.old.phase self.old.block self.old m id text after
             → Stands w self.new (in_phase after model.Ready) None }
@@ -185,9 +192,10 @@ impl Session {
     /// The article that the session waits for was kept.
     pub(crate) fn absorb_kept(&mut self, room: Vec<u8>) -> Vec<u8>
         requires { IsRoom room }
-        ensures kept { (w : Terms) (m : model.Session) (hand : Option ModelJob) (id : List ℕ) → Stands w self.old m hand
-            → self.old.phase ≡ Phase.Waiting id
-            → (result.items ≡ reply_text (Kept id)) × Stands w self.new (in_phase m model.Ready) None }
+        ensures kept { (w : Terms) (m : model.Session) (hand : Option ModelJob) (id : List ℕ)
+            → Stands w self.old m hand → self.old.phase ≡ Phase.Waiting id
+            → (result.items ≡ reply_text (Kept id))
+            × Stands w self.new (in_phase m model.Ready) None }
         ensures number { self.new.number ≡ self.old.number }
     {
         match mem::replace(&mut self.phase, Phase::Ready) {

@@ -3,7 +3,8 @@ ghost use Rattle.std.specs.Prelude.{◌≡◌, ◌<◌, ◌^◌, IfOk};
 
 use std::alloc::{AllocError, Global};
 
-/// What the relay is set up with. Until configuration is read there is one buffer, alone in one group.
+/// What the relay is set up with. Until configuration is read there is one buffer,
+/// alone in one group.
 #[derive(Debug, Drop)]
 pub struct Config {
     /// The octets of an article, at most.
@@ -18,8 +19,8 @@ pub struct Config {
 impl Config {
     ghost use Rattle.relay_core.specs.Config.{IsK1};
 
-    /// The built-in configuration K1 (docs/FORMATS.md, Configuration): a buffer of eight blocks, the
-    /// peers p1 and p2, articles of 1,000,000 octets at most.
+    /// The built-in configuration K1 (docs/FORMATS.md, Configuration): a buffer of eight blocks,
+    /// the peers p1 and p2, articles of 1,000,000 octets at most.
     pub fn k1(alloc: Global) -> Result<Config, AllocError>
         ensures { IfOk result IsK1 }
     {

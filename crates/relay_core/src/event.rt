@@ -1,8 +1,8 @@
 //! What happens to the core, and what it answers.
 use crate::octets::Octets;
 
-/// What happens to the core (docs/PROTOCOL.md, Events). Sessions, peers and groups are named by number,
-/// moments are seconds since 1970 in UTC.
+/// What happens to the core (docs/PROTOCOL.md, Events). Sessions, peers and groups are named by
+/// number, moments are seconds since 1970 in UTC.
 #[derive(Debug, Drop)]
 pub enum Event {
     /// This session opens, of this peer.

@@ -1,7 +1,8 @@
 //! The core of the relay: a state machine over events, from the octets that come to those that go.
 //!
-//! Its promise is the headline for what is served today: for every list of events, what `System::run`
-//! answers and the state it leaves are a run of the relay, by `Run` of `relay_model` and nothing else.
+//! Its promise is the headline for what is served today: for every list of events, what
+//! `System::run` answers and the state it leaves are a run of the relay, by `Run` of `relay_model`
+//! and nothing else.
 #![tactic(auto)]
 
 mod absorb;

@@ -1,6 +1,6 @@
-//! A session as a machine of its own: `plan` reads what is due and says which shared step that is, and
-//! the `absorb` methods take the step's answer and give the reply. Neither touches what is shared, and
-//! both depend on the unread octets, the moment and the answers alone.
+//! A session as a machine of its own: `plan` reads what is due and says which shared step that is,
+//! and the `absorb` methods take the step's answer and give the reply. Neither touches what is
+//! shared, and both depend on the unread octets, the moment and the answers alone.
 ghost use Rattle.std.specs.Prelude.{◌≡◌, ◌+◌, ◌≤◌, ◌++◌, ℕ, List, [], ◌∷◌, false, true, Option, Some, None, IfOk, IfSome, OnOk, OnErr, vec_len, vec_capacity};
 ghost use Rattle.news_terms.specs.Command.{command_among, is_served};
 ghost use Rattle.news_terms.specs.Reply.{reply_text};
@@ -49,8 +49,8 @@ pub(crate) struct Session {
     pub(crate) number: u64,
     pub(crate) peer: u32,
     pub(crate) cutter: Cutter,
-    /// A line that was cut, while what it asks hasn't been done: a step that was refused memory is tried
-    /// again with it.
+    /// A line that was cut, while what it asks hasn't been done: a step that was refused memory is
+    /// tried again with it.
     pub(crate) line: Option<Vec<u8>>,
     /// A block that was cut, likewise.
     pub(crate) block: Option<Block>,
@@ -143,7 +143,8 @@ pub(crate) fn open_offer(offers: &mut Vec<MsgId>, id: MsgId)
 fn plan_command(alloc: Global, line: &[u8], room: Vec<u8>) -> Result<Plan, AllocError>
     requires { IsRoom room }
     ensures { IfOk result
-        (λ plan. (m : model.Session) → IsLinePlan m plan (due_of_line m (command_among is_served line.now))) }
+        (λ plan. (m : model.Session)
+        → IsLinePlan m plan (due_of_line m (command_among is_served line.now))) }
 {
     match Command::parse(alloc, line) {
         Ok(Command::Check(id)) => Ok(Plan::Offer(id, room)),
@@ -157,7 +158,8 @@ fn plan_command(alloc: Global, line: &[u8], room: Vec<u8>) -> Result<Plan, Alloc
     }
 }
 
-/// Whether a text is accepted as an article: it isn't empty, and a buffer of so many blocks has room.
+/// Whether a text is accepted as an article: it isn't empty,
+/// and a buffer of so many blocks has room.
 fn is_accepted(blocks: u32, text: &[u8]) -> bool
     ensures { result ≡ is_acceptable blocks text.now }
 {
@@ -174,7 +176,8 @@ fn is_block_accepted(blocks: u32, block: &Block) -> bool
     }
 }
 
-/// What a block brings under the id that it was announced with: the step that is due, and the memory.
+/// What a block brings under the id that it was announced with: the step that is due,
+/// and the memory.
 fn plan_judged(
     alloc: Global,
     blocks: u32,
@@ -303,8 +306,8 @@ impl Session {
         }
     }
 
-    /// What is due in a Turn, with the memory for it. It reads at most one line or one block, and what
-    /// it read counts as read once the plan is absorbed.
+    /// What is due in a Turn, with the memory for it. It reads at most one line or one block, and
+    /// what it read counts as read once the plan is absorbed.
     pub(crate) fn plan(&mut self, alloc: Global, config: &Config) -> Result<Plan, AllocError>
         ensures plan { IfOk result (λ plan. Plans (terms_of config.now) self.old plan self.new) }
         ensures memory { IfOk result (HasMemory self.new) }

@@ -1,5 +1,5 @@
-//! The store: the sizes of all articles begun, and the texts that are whole. It is plain on purpose:
-//! what later stores do is compared with it.
+//! The store: the sizes of all articles begun, and the texts that are whole. It is plain on
+//! purpose: what later stores do is compared with it.
 ghost use Rattle.std.specs.Prelude.{◌≡◌, ◌+◌, ◌^◌, ◌<◌, ◌≤◌, ℕ, List, [], ◌∷◌, ◌++◌, length, map, option_copied, OnOk};
 ghost use Rattle.news_terms.specs.Places as terms;
 ghost use Rattle.cyc_token.specs.Token.{token_view};
@@ -22,7 +22,8 @@ pub(crate) struct Kept {
     pub(crate) text: Octets,
 }
 
-/// How far a list of sizes has come: the run that it is in, counted from 0, and the blocks used of it.
+/// How far a list of sizes has come: the run that it is in, counted from 0,
+/// and the blocks used of it.
 #[derive(Clone, Copy)]
 pub(crate) struct Head {
     pub(crate) run: u64,
@@ -51,8 +52,8 @@ fn narrow(number: usize) -> u32
     u32::try_from(number).unwrap_or(u32::MAX)
 }
 
-/// Where the next size goes: after the blocks used where it fits the rest of the run, else at the front
-/// of the next run.
+/// Where the next size goes: after the blocks used where it fits the rest of the run, else at the
+/// front of the next run.
 fn place_in_runs(blocks: u32, head: Head, size: u32) -> Head
     requires run { head.run + 1 < 2 ^ 64 }
     requires used { head.used < 2 ^ 32 }
@@ -142,7 +143,8 @@ impl Store {
     /// The token of an article of so many octets of class 1, or `None` where its begin is worn.
     pub(crate) fn token_for(&self, octets: usize) -> Option<Token>
         ensures { (w : Terms) (σ : State) (text : List ℕ) → IsOneBuffer w self.now.blocks
-            → KeepsState self.now σ → length text ≡ octets → octets < 2 ^ 31 → Places result w σ text }
+            → KeepsState self.now σ → length text ≡ octets → octets < 2 ^ 31
+            → Places result w σ text }
     {
         let head = head_after(self.blocks, &self.sizes);
         let at = place_in_runs(self.blocks, head, narrow(size_of(octets)));

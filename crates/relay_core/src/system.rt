@@ -45,8 +45,8 @@ pub struct System {
 }
 
 impl System {
-    /// A core that has met nothing yet. Its hasher is seeded anew, so that no stranger chooses ids that
-    /// collide.
+    /// A core that has met nothing yet. Its hasher is seeded anew,
+    /// so that no stranger chooses ids that collide.
     pub fn new(rt: &impl RandomSource, alloc: Global, config: Config) -> io::Result<System>
         ensures { IfOk result (λ system. Agrees (terms_of config) system empty_world) }
     {
@@ -137,8 +137,8 @@ impl System {
         }
     }
 
-    /// Carries the plan of a Turn out: it does the shared step, if there is one, and has the session
-    /// absorb its answer.
+    /// Carries the plan of a Turn out: it does the shared step, if there is one, and has the
+    /// session absorb its answer.
     fn carry_out(&mut self, plan: Plan, now: u64) -> Output
         requires memory { HasMemory self.old.session plan }
         requires fits { FitsPhase self.old.session.phase plan }
@@ -330,13 +330,14 @@ impl System {
         }
     }
 
-    /// Answers a list of events in order: one output for each. Its only error is want of memory, before
-    /// the first event.
+    /// Answers a list of events in order: one output for each. Its only error is want of memory,
+    /// before the first event.
     pub fn run(&mut self, events: &[Event]) -> Result<Vec<Output>, CoreError>
         ensures run { IfOk result (λ outputs. Meets
             (λ w x x'. run.Run w x (map event_view events.now) (map output_view outputs.items) x')
             self.old self.new) }
-        ensures memory { IfErr result (λ error. (error ≡ CoreError.Memory) × (self.new ≡ self.old)) }
+        ensures memory { IfErr result (λ error. (error ≡ CoreError.Memory)
+            × (self.new ≡ self.old)) }
     {
         let mut outputs = match Vec::with_capacity(self.alloc, events.len()) {
             Ok(outputs) => outputs,

@@ -1,4 +1,5 @@
-//! The writer's half of the core: its jobs from the queue to their outcomes (docs/PROTOCOL.md, Store).
+//! The writer's half of the core: its jobs from the queue to their outcomes
+//! (docs/PROTOCOL.md, Store).
 ghost use Rattle.std.specs.Prelude.{◌≡◌, ℕ};
 ghost use Rattle.relay_core.specs.Agreement.{Steps, Writes, StoresJob, IsPopped, IsFinished, IsAnswering};
 ghost use Rattle.relay_core.specs.Store.{HasRoomForOne};
@@ -39,8 +40,8 @@ impl System {
         Output::Quiet
     }
 
-    /// The begin and the whole write of the job that the writer has, or the `forget` where the begin is
-    /// worn.
+    /// The begin and the whole write of the job that the writer has, or the `forget` where the
+    /// begin is worn.
     fn store_whole(&mut self) -> Output
         requires { IsPopped self.old.writer }
         ensures { (now : ℕ) → Writes now self.old result self.new }
