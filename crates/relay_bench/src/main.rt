@@ -1,5 +1,5 @@
-//! Benchmarks: how fast the crates of texts, settings and store are. They promise nothing and are no
-//! tests; with no words the program does nothing.
+//! Benchmarks: how fast the crates of texts, settings and store are. They promise nothing and are
+//! no tests; with no words the program does nothing.
 #![tactic(auto)]
 
 mod articles;
@@ -43,7 +43,8 @@ fn measure(rt: &HostRuntime, word: &str) -> io::Result<ExitCode> {
         "settings" => settings::measure(rt)?,
         _ => {
             eprintln!(rt;
-                "relay_bench: the benchmarks are articles, buffers, cutting, paths, patterns and settings"
+                "relay_bench: the benchmarks are articles, buffers, cutting, paths, patterns \
+                 and settings"
             )?;
             return Ok(ExitCode::FAILURE);
         }
