@@ -290,7 +290,7 @@ impl Register {
         let line = &self.line;
         let front = line.front();
         let size = size_of(token.length);
-        if token.buffer != line.number || token.length == 0 || k >= size {
+        if token.buffer != line.number || k >= size {
             return Look::Unknown;
         }
         if token.first > line.blocks || size > line.blocks - token.first {
