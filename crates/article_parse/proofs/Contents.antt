@@ -1,20 +1,15 @@
--- Contents in one line, and texts without white space at their ends.
-use Rattle.std.proofs.Common.{◌≡◌, ℕ, ◌+◌, ◌-◌, ◌<◌, ◌≤◌, Bool, true, false, List, [], ◌∷◌, ◌++◌}
-use Rattle.std.proofs.Common.{length, take, drop, get_or, refl, sym, ap, ◌∙◌, arith, ⊎_elim}
-use Rattle.std.proofs.Common.{drop-cons, add-one, one-add, length-drop}
+-- Contents in one line, and when nothing is left of one without white space at its ends.
+use Rattle.std.proofs.Common.{◌≡◌, ℕ, ◌+◌, ◌-◌, ◌≤◌, Bool, true, false, List, [], ◌∷◌}
+use Rattle.std.proofs.Common.{length, take, drop, refl, sym, ap, ◌∙◌, arith, ⊎_elim}
+use Rattle.std.proofs.Common.{one-add, length-drop}
 use Rattle.std.specs.Prelude.{not, ◌&&◌, ◌||◌, filter, reverse}
 use Rattle.std.specs.List.{list_all}
 use Rattle.std.proofs.lemmas.Bool.{cases_Bool}
 use Rattle.std.proofs.lemmas.List.{reverse-append, length-reverse, take_rest, nil_from_length}
 use Rattle.std.proofs.lemmas.List.Folds.{list_all-append}
-use Rattle.std.proofs.Math.Seq.{take-suc}
 use Rattle.news_terms.specs.Article.{is_white, is_of_line_end, is_empty, without_leading_white}
 use Rattle.news_terms.specs.Article.{without_first_white, without_outer_white, unfolded, trimmed}
-use Rattle.article_parse.specs.Content.{without_trailing_white, first_kept}
-
--- the octet at a place, and those behind it
-pub at_place : (s : List ℕ) (i : ℕ) → i < length s → drop i s ≡ get_or s i 0 ∷ drop (i + 1) s
-at_place s i h = rw (add-one, drop-cons s i 0) refl
+use Rattle.article_parse.specs.Content.{first_kept}
 
 -- behind the last octet is nothing
 pub at_end : (s : List ℕ) (i : ℕ) → length s ≤ i → drop i s ≡ []
@@ -46,45 +41,6 @@ kept_unfolds (c ∷ s) = ⊎_elim
     (λ w. rw (keeps_other c s f w) (rw (f, w) refl))
     (cases_Bool (is_white c)))
     (cases_Bool (is_of_line_end c))
-
--- a white octet in front is left out
-pub leading_white : (c : ℕ) (s : List ℕ) → is_white c ≡ true
-    → without_leading_white (c ∷ s) ≡ without_leading_white s
-leading_white c s e = rw e refl
-
--- any other octet ends the white space
-pub leading_other : (c : ℕ) (s : List ℕ) → is_white c ≡ false
-    → without_leading_white (c ∷ s) ≡ c ∷ s
-leading_other c s e = rw e refl
-
--- a white octet at the end is left out
-pub trailing_white : (s : List ℕ) (c : ℕ) → is_white c ≡ true
-    → without_trailing_white (s ++ c ∷ []) ≡ without_trailing_white s
-trailing_white s c e =
-    ap (λ x. reverse (without_leading_white x)) (reverse-append s (c ∷ []))
-    ∙ ap reverse (leading_white c (reverse s) e)
-
--- any other octet ends the text
-pub trailing_other : (s : List ℕ) (c : ℕ) → is_white c ≡ false
-    → without_trailing_white (s ++ c ∷ []) ≡ s ++ c ∷ []
-trailing_other s c e =
-    ap (λ x. reverse (without_leading_white x)) (reverse-append s (c ∷ []))
-    ∙ ap reverse (leading_other c (reverse s) e)
-    ∙ ap reverse (sym (reverse-append s (c ∷ [])))
-    ∙ reverse_twice (s ++ c ∷ [])
-  where
-    reverse_twice : (s : List ℕ) → reverse (reverse s) ≡ s
-    reverse_twice [] = refl
-    reverse_twice (c ∷ s) =
-        ap reverse (reverse-append (c ∷ []) s) ∙ reverse-append (reverse s) (c ∷ [])
-        ∙ ap (λ x. c ∷ x) (reverse_twice s)
-
--- a text up to a place ends with the octet before that place
-pub ends_before : (s : List ℕ) (n : ℕ) → 0 < n → n ≤ length s
-    → take n s ≡ take (n - 1) s ++ get_or s (n - 1) 0 ∷ []
-ends_before s n some within =
-    let e : n ≡ (n - 1) + 1 = omega arith in
-    ap (λ k. take k s) e ∙ rw add-one (take-suc s (n - 1) 0 (omega arith))
 
 -- reversed, as many octets are white
 all_reversed : (p : ℕ → Bool) (s : List ℕ) → list_all p (reverse s) ≡ list_all p s

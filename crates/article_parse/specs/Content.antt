@@ -1,11 +1,7 @@
 -- Contents of fields, as far as they are cut. No public contract cites it.
-use Rattle.std.specs.Prelude.{ℕ, ◌+◌, List, [], ◌∷◌, reverse, if◌then◌else◌}
-use Rattle.news_terms.specs.Article.{Field, is_white, is_of_line_end, without_leading_white, unfolded}
+use Rattle.std.specs.Prelude.{ℕ, ◌+◌, List, [], ◌∷◌, if◌then◌else◌}
+use Rattle.news_terms.specs.Article.{Field, is_white, is_of_line_end, unfolded}
 use Rattle.news_terms.specs.Article.{content_or_empty, name_of, Newsgroups}
-
--- a text up to its last octet that is no SP or TAB
-abbrev pub without_trailing_white : List ℕ → List ℕ
-without_trailing_white text = reverse (without_leading_white (reverse text))
 
 -- how many octets stand before what an unfolded content keeps: line ends, and one SP or TAB
 abbrev pub first_kept : List ℕ → ℕ

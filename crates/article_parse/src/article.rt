@@ -9,11 +9,12 @@ ghost use Rattle.article_parse.specs.Header.{field_view};
 ghost use Rattle.article_parse.specs.Faults.{FaultGives, IsFaultOf, first_that, is_wrong};
 ghost use Rattle.article_parse.specs.Faults.{field_faults};
 
-use crate::content::{trim, unfolded};
+use crate::content::unfolded;
 use crate::faults::{ArtError, is_named, try_names};
 use crate::groups::{are_newsgroup_names, names_in};
 use crate::header::{Field, Header, HeaderFault, read_header};
 use crate::lines::{has_empty_line, has_nul, is_paired};
+use line_words::trim;
 use nntp_text::{IdError, MsgId};
 use std::alloc::{AllocError, Global};
 
@@ -40,8 +41,8 @@ struct Contents {
 impl<'a> Article<'a> {
     ghost use Rattle.article_parse.specs.Article.{IsReadFrom, article_view, body_place, id_view};
 
-    /// Reads a text as an article. The body is looked through for octet 0 and line ends, and nothing
-    /// of it is copied.
+    /// Reads a text as an article. The body is looked through for octet 0 and line ends, and
+    /// nothing of it is copied.
     pub fn parse(alloc: Global, text: &'a [u8]) -> Result<Article<'a>, ArtError>
         ensures read { IfOk result (IsReadFrom text.now) }
         ensures fault { IfErr result (IsFaultOf text.now) }
@@ -94,8 +95,8 @@ impl<'a> Article<'a> {
         content_of(&self.fields, name)
     }
 
-    /// The fields in their order, each with its name and the octets after its colon (RFC 5536, section
-    /// 2.2).
+    /// The fields in their order, each with its name and the octets after its colon (RFC 5536,
+    /// section 2.2).
     pub fn fields(&self) -> &[Field<'a>]
         ensures { map field_view result.now ≡ (article_view self.now).fields }
     {

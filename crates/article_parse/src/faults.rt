@@ -25,9 +25,10 @@ pub enum FieldName {
     InjectionDate,
 }
 
-/// Why a text is no article. They are tried in the order Nul, BareCrLf, NoBlankLine, BadHeader, then
-/// for Date, From, Message-ID, Newsgroups, Path, Subject, Injection-Date in turn Missing, Twice,
-/// EmptyField (Missing not for Injection-Date), then BadId, BadGroups (docs/FORMATS.md, Articles).
+/// Why a text is no article. They are tried in the order Nul, BareCrLf, NoBlankLine, BadHeader,
+/// then for Date, From, Message-ID, Newsgroups, Path, Subject, Injection-Date in turn Missing,
+/// Twice, EmptyField (Missing not for Injection-Date), then BadId, BadGroups (docs/FORMATS.md,
+/// Articles).
 #[derive(Clone, Copy, Debug, PartialEq, Eq)]
 pub enum ArtError {
     /// Memory ran out, which says nothing of the text.

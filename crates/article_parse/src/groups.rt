@@ -5,7 +5,7 @@ ghost use Rattle.std.specs.Str.{byte};
 ghost use Rattle.news_terms.specs.Article.{without_outer_white};
 ghost use Rattle.news_terms.specs.Article as terms;
 
-use crate::content::trim;
+use line_words::trim;
 use std::alloc::{AllocError, Global};
 
 /// The pieces of a line cut at commas, each without white space at its ends.

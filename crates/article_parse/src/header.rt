@@ -8,8 +8,8 @@ ghost use Rattle.news_terms.specs.Article as terms;
 ghost use Rattle.article_parse.specs.Header.{IsLineCut, IsWholeContent};
 ghost use Rattle.article_parse.specs.Reads.{FieldGives, HeaderGives};
 
-use crate::content::is_white;
 use crate::lines::line_end;
+use line_words::is_white;
 use memchr::memchr;
 use std::alloc::Global;
 

@@ -1,5 +1,5 @@
-//! The grammar of articles (RFC 5536, sections 2 and 3; docs/FORMATS.md, Articles): what the content
-//! of a field says, in one line and without white space at its ends.
+//! The grammar of articles (RFC 5536, sections 2 and 3; docs/FORMATS.md, Articles): what the
+//! content of a field says, in one line and without white space at its ends.
 #![tactic(auto)]
 
 mod article;
@@ -10,9 +10,10 @@ mod header;
 mod lines;
 
 pub use article::Article;
-pub use content::{is_blank, trim, unfolded};
+pub use content::{is_blank, unfolded};
 pub use faults::{ArtError, FieldName};
 pub use header::Field;
+pub use line_words::trim;
 
 #[cfg(test)]
 mod damage_tests;

@@ -1,9 +1,7 @@
 -- How a line is cut into its words: blanks are passed over, and a word ends before the next blank.
 use Rattle.std.proofs.Common.{◌≡◌, ◌≢◌, ℕ, ◌≤◌, Bool, true, false, cond, ltb, List, [], ◌∷◌, length, take, drop, Option, Some, None, refl, ap, ◌∙◌, arith, one-add}
-use Rattle.std.specs.Prelude.{not, ◌&&◌, ◌==◌, filter, unwrap_or}
-use Rattle.std.specs.List.{slice_split, position_or_len, list_all}
-use Rattle.std.specs.Char.{is_ascii_digit}
-use Rattle.std.specs.Str.{all_ascii_digits}
+use Rattle.std.specs.Prelude.{not, ◌==◌, filter, unwrap_or}
+use Rattle.std.specs.List.{slice_split, position_or_len}
 use Rattle.std.proofs.lemmas.List.Sums.{prefix_len-le-length}
 use Rattle.std.proofs.Math.Dec.{eqb-suc-zero}
 use Rattle.std.proofs.lemmas.Bool.{ltb-false}
@@ -112,8 +110,3 @@ pub some_word : (p : ℕ → Bool) (ws : List (List ℕ)) (rest : List ℕ) → 
     → ws ≡ take (position_or_len p rest) rest ∷ words_by p (drop (position_or_len p rest) rest)
 some_word p ws [] are some = absurd (some refl)
 some_word p ws (c ∷ rest) are some = are
-
--- The digits of a word, one by one.
-pub list_all-digits : (word : List ℕ) → list_all is_ascii_digit word ≡ all_ascii_digits word
-list_all-digits [] = refl
-list_all-digits (c ∷ word) = ap (λ b. is_ascii_digit c && b) (list_all-digits word)

@@ -1,5 +1,4 @@
 ghost use Rattle.std.specs.Prelude.{◌≡◌, IfOk};
-ghost use Rattle.std.specs.Str.{all_ascii_digits};
 ghost use Rattle.news_terms.specs.Command.{command_among, command_with, is_served, words, CHECK, TAKETHIS, STAT, QUIT};
 ghost use Rattle.news_terms.specs.Command as terms;
 ghost use Rattle.nntp_text.specs.Command.{CommandGives, KeywordGives, id_among};
@@ -7,6 +6,7 @@ ghost use Rattle.nntp_text.specs.declared.command.CmdError.TheVariants.{Memory};
 
 use crate::id::{IdError, MsgId};
 use crate::words::{Arguments, first_word, words_after};
+use line_words::has_only_digits;
 use std::alloc::{AllocError, Global};
 
 /// What a command line asks.
@@ -151,11 +151,4 @@ fn is_number(word: &[u8]) -> bool
     ensures { result ≡ terms.is_number word.now }
 {
     !word.is_empty() && word.len() <= 16 && has_only_digits(word)
-}
-
-/// Whether each octet is a decimal digit.
-fn has_only_digits(word: &[u8]) -> bool
-    ensures { result ≡ all_ascii_digits word.now }
-{
-    word.iter().all(|octet| octet.is_ascii_digit())
 }
