@@ -1,5 +1,5 @@
 -- cycbuff.conf line by line: the buffers, the names of groups and the groups so far.
-use Rattle.std.proofs.Common.{◌≡◌, ◌≢◌, ℕ, ◌+◌, ◌<◌, ◌≤◌, List, [], ◌∷◌, ◌++◌, length, take, drop, get_or, map, Option, Some, None, Result, Ok, Err, refl, ap, ◌∙◌, sym, subst, arith, vec_items, Vec, Global}
+use Rattle.std.proofs.Common.{◌≡◌, ◌≢◌, ℕ, ◌+◌, ◌<◌, ◌≤◌, List, [], ◌∷◌, ◌++◌, length, take, drop, get_or, map, Option, Some, None, Result, Ok, Err, refl, ap, ◌∙◌, sym, subst, arith}
 use Rattle.std.specs.Option.{option_to_list}
 use Rattle.std.specs.Borrow.{Bor}
 use Rattle.std.proofs.lemmas.List.{take_all}
@@ -11,11 +11,9 @@ use Rattle.relay_conf.specs.declared.faults.ConfError.{ConfError}
 use Rattle.relay_conf.specs.declared.faults.ConfError.TheVariants.{Memory, Faulty}
 use Rattle.relay_conf.specs.declared.faults.Refusal.{Refusal}
 use Rattle.relay_conf.specs.declared.cycbuff.BufferConf.{BufferConf}
-use Rattle.relay_conf.specs.declared.cycbuff.GroupConf.{GroupConf}
-use Rattle.relay_conf.specs.declared.cycbuff.Buffers.{Buffers}
 use Rattle.relay_conf.specs.Cycbuff.{CycbuffLine, CycbuffSettings, Group, cycbuff_line, early_fault, late_fault, line_fault, listed_fault, buffers_of, buffer_of, group_names, group_name_of, groups_of, group_of, no_group_fault, buffers_said, groups_said, cycbuff_said, cycbuff_of}
 use Rattle.relay_conf.specs.Faults.{first_fault, whole_fault, unless_fault, ConfGives, LineGives, error_at}
-use Rattle.relay_conf.specs.Settings.{buffers_view, group_view}
+use Rattle.relay_conf.specs.Settings.{buffers_view}
 use Rattle.relay_conf.proofs.FirstFaults.{fault_none, fault_end, filter_one, gives_refusal, map_one}
 
 -- what a line says, alone

@@ -1,12 +1,11 @@
 -- The lines of a text and the parts of a line, one after the other.
-use Rattle.std.proofs.Common.{◌≡◌, ℕ, Bool, true, false, List, [], ◌∷◌, length, Option, Some, None, Result, Ok, refl, ap, ◌∙◌, arith}
+use Rattle.std.proofs.Common.{◌≡◌, ℕ, false, List, [], ◌∷◌, length, Ok, refl}
 use Rattle.std.specs.Prelude.{◌==◌}
-use Rattle.std.specs.List.{slice_split}
 use Rattle.std.specs.Str.Lines.{strip_carriage_return}
 use Rattle.relay_conf.specs.Lines.{lines_in, lines_of}
-use Rattle.relay_conf.specs.Words.{parts, two_of, three_of}
+use Rattle.line_words.specs.Parts.{parts}
 use Rattle.relay_conf.specs.Cycbuff.{ignored_line, members_of, Skipped}
-use Rattle.relay_conf.proofs.Parts.{some_part}
+use Rattle.line_words.proofs.Cuts.{some_part}
 
 -- A line that LF ends stands before the lines of what follows.
 pub lines_more : (line rest : List ℕ) → lines_in (line ∷ parts 10 rest) ≡ strip_carriage_return line ∷ lines_of rest

@@ -1,15 +1,15 @@
 -- Lines joined by either line end are the lines of the text.
-use Rattle.std.proofs.Common.{◌≡◌, ℕ, ◌-◌, ◌+◌, Bool, true, false, List, [], ◌∷◌, ◌++◌, length, take, get_or, refl, ap, ◌∙◌, sym, arith, append_assoc}
-use Rattle.std.specs.Prelude.{◌==◌, ◌&&◌, not}
+use Rattle.std.proofs.Common.{◌≡◌, ℕ, ◌-◌, Bool, true, false, List, [], ◌∷◌, ◌++◌, length, get_or, refl, ap, ◌∙◌, sym, arith, append_assoc}
+use Rattle.std.specs.Prelude.{◌==◌, not}
 use Rattle.std.specs.List.{list_all}
 use Rattle.std.specs.Str.Lines.{strip_carriage_return}
 use Rattle.std.proofs.lemmas.List.{length-append}
 use Rattle.std.proofs.lemmas.List.Folds.{list_all-append}
 use Rattle.std.proofs.Math.Seq.{get_or-append_seam, take-append_seam}
 use Rattle.relay_conf.specs.Lines.{lines_in, lines_of, joined_by, is_line}
-use Rattle.relay_conf.specs.Words.{parts}
+use Rattle.line_words.specs.Parts.{parts}
 use Rattle.relay_conf.proofs.FileLines.{lines_more}
-use Rattle.relay_conf.proofs.Numerals.{and-parts}
+use Rattle.std.proofs.lemmas.Bool.{and_parts}
 
 -- no octet is LF
 abbrev is_plain : List ℕ → Bool
@@ -23,14 +23,14 @@ not_true false h = refl
 plain_one : (x : List ℕ) → is_plain x ≡ true → parts 10 x ≡ x ∷ []
 plain_one [] h = refl
 plain_one (c ∷ x) h =
-    let both = and-parts (not (c == 10)) (is_plain x) h in
+    let both = and_parts (not (c == 10)) (is_plain x) h in
     rw (not_true (c == 10) both.0, plain_one x both.1) refl
 
 -- Before an LF is the first part.
 plain_cut : (x rest : List ℕ) → is_plain x ≡ true → parts 10 (x ++ 10 ∷ rest) ≡ x ∷ parts 10 rest
 plain_cut [] rest h = refl
 plain_cut (c ∷ x) rest h =
-    let both = and-parts (not (c == 10)) (is_plain x) h in
+    let both = and_parts (not (c == 10)) (is_plain x) h in
     rw (not_true (c == 10) both.0, plain_cut x rest both.1) refl
 
 -- A line without CR at its end keeps what it has.
@@ -46,8 +46,8 @@ strip_cr x =
 -- the line and those behind it
 parts_of : (x : List ℕ) (more : List (List ℕ)) → list_all is_line (x ∷ more) ≡ true → (is_plain x ≡ true) × ((get_or x (length x - 1) 0 == 13) ≡ false) × (list_all is_line more ≡ true)
 parts_of x more h =
-    let both = and-parts (is_line x) (list_all is_line more) h in
-    let line = and-parts (is_plain x) (not (get_or x (length x - 1) 0 == 13)) both.0 in
+    let both = and_parts (is_line x) (list_all is_line more) h in
+    let line = and_parts (is_plain x) (not (get_or x (length x - 1) 0 == 13)) both.0 in
     (line.0, not_true (get_or x (length x - 1) 0 == 13) line.1, both.1)
 
 pub joined_by_lf : (first : List ℕ) (more : List (List ℕ)) → list_all is_line (first ∷ more) ≡ true → lines_of (joined_by (10 ∷ []) (first ∷ more)) ≡ first ∷ more

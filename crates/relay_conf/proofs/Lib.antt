@@ -5,8 +5,6 @@ pub mod JoinedLines
 pub mod LineWords
 pub mod NameTexts
 pub mod Numbered
-pub mod Numerals
-pub mod Parts
 pub mod Readings
 pub mod SkippedCycbuff
 pub mod SkippedLines

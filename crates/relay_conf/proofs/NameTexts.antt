@@ -1,6 +1,6 @@
 -- Names as text, and sets of them.
-use Rattle.std.proofs.Common.{◌≡◌, ℕ, ◌<◌, Bool, true, false, cond, List, [], ◌∷◌, ◌++◌, map, refl, sym, ap, ◌∙◌, arith, rules, tests, get_or, zero, suc}
-use Rattle.std.specs.Prelude.{◌&&◌, ◌||◌, not, bytes_eq}
+use Rattle.std.proofs.Common.{◌≡◌, ℕ, ◌<◌, Bool, true, false, cond, List, [], ◌∷◌, ◌++◌, refl, sym, ◌∙◌, arith, rules, tests, zero, suc}
+use Rattle.std.specs.Prelude.{◌||◌, bytes_eq}
 use Rattle.std.specs.List.{list_all, list_any}
 use Rattle.std.specs.Str.{IsAscii, IsUtf8}
 use Rattle.std.proofs.lemmas.Str.{IsUtf8-from_ascii}
@@ -8,7 +8,7 @@ use Rattle.std.proofs.lemmas.List.Folds.{list_any-append}
 use Rattle.std.proofs.lemmas.Slice.Eq.{bytes_eq-Decides}
 use Rattle.std.proofs.lemmas.Bool.Decides.{same_from_decides, Decides-like}
 use Rattle.relay_conf.specs.Words.{is_name, is_name_octet}
-use Rattle.relay_conf.proofs.Numerals.{and-parts}
+use Rattle.std.proofs.lemmas.Bool.{and_parts}
 
 -- An octet of a name is ASCII.
 name_octet : (c : ℕ) → is_name_octet c ≡ true → c < 128
@@ -17,12 +17,12 @@ name_octet c h = search (rules, tests)
 -- Octets of names are ASCII.
 name_octets : (word : List ℕ) → list_all is_name_octet word ≡ true → IsAscii word
 name_octets [] h i = omega arith
-name_octets (c ∷ word) h zero = name_octet c (and-parts (is_name_octet c) (list_all is_name_octet word) h).0
-name_octets (c ∷ word) h (suc i) = name_octets word (and-parts (is_name_octet c) (list_all is_name_octet word) h).1 i
+name_octets (c ∷ word) h zero = name_octet c (and_parts (is_name_octet c) (list_all is_name_octet word) h).0
+name_octets (c ∷ word) h (suc i) = name_octets word (and_parts (is_name_octet c) (list_all is_name_octet word) h).1 i
 
 -- A name is text.
 pub name_utf8 : (word : List ℕ) → is_name word ≡ true → IsUtf8 word
-name_utf8 word h = IsUtf8-from_ascii word (name_octets word (and-parts _ (list_all is_name_octet word) h).1)
+name_utf8 word h = IsUtf8-from_ascii word (name_octets word (and_parts _ (list_all is_name_octet word) h).1)
 
 -- A choice of true is an or.
 pub cond_or : (b c : Bool) → cond b true c ≡ b || c

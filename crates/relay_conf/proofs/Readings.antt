@@ -1,6 +1,6 @@
 -- Readings of relay.conf, line by line.
-use Rattle.std.proofs.Common.{◌≡◌, ◌≢◌, ℕ, ◌+◌, ◌<◌, ◌≤◌, Bool, true, false, List, [], ◌∷◌, ◌++◌, length, take, drop, get_or, map, Option, Some, None, Result, Ok, Err, refl, ap, ◌∙◌, sym, subst, arith, append_assoc, append-nil, zero-add, inl, inr}
-use Rattle.std.specs.Prelude.{nat_le, bytes_eq, if◌then◌else◌, filter_map, unwrap_or, ◌⊎◌, ◌||◌, not, IsErrAnd, OnOk}
+use Rattle.std.proofs.Common.{◌≡◌, ℕ, ◌+◌, ◌<◌, ◌≤◌, Bool, true, false, List, [], ◌∷◌, ◌++◌, length, take, drop, get_or, map, Option, Some, None, Result, Ok, Err, refl, ap, ◌∙◌, sym, subst, arith, append_assoc, append-nil, inl, inr}
+use Rattle.std.specs.Prelude.{nat_le, bytes_eq, filter_map, unwrap_or, not, IsErrAnd, OnOk}
 use Rattle.std.specs.List.{list_any}
 use Rattle.std.specs.Option.{option_to_list}
 use Rattle.std.specs.Borrow.{Bor}
@@ -8,7 +8,7 @@ use Rattle.std.proofs.lemmas.List.{take_all, take-append-drop, map-append, lengt
 use Rattle.std.proofs.lemmas.Bool.{leb-false}
 use Rattle.news_terms.specs.Pattern.{Marked}
 use Rattle.relay_conf.specs.declared.faults.Fault.{Fault}
-use Rattle.relay_conf.specs.declared.faults.Fault.TheVariants.{Number, Duplicate, UnknownName, Syntax}
+use Rattle.relay_conf.specs.declared.faults.Fault.TheVariants.{Number, Duplicate, UnknownName}
 use Rattle.relay_conf.specs.declared.faults.LineFault.{LineFault}
 use Rattle.relay_conf.specs.declared.faults.ConfError.{ConfError}
 use Rattle.relay_conf.specs.declared.faults.ConfError.TheVariants as errors
@@ -18,10 +18,11 @@ use Rattle.relay_conf.specs.declared.relay.Peer.{Peer}
 use Rattle.relay_conf.specs.declared.relay.Feed.{Feed}
 use Rattle.relay_conf.specs.declared.relay.NamedFeed.{NamedFeed}
 use Rattle.relay_conf.specs.Faults.{fault_or_later, first_fault, whole_fault, unless_fault, error_at, ConfGives, LineGives}
-use Rattle.relay_conf.specs.Relay.{RelayLine, RawLine, SaidLine, RawSays, LineSays, LinesSay, Stand, stand_of, Skipped, Own, MaxArticle, Cutoff, Remember, PeerLine, FeedLine, own_of, max_article_of, cutoff_of, remember_of, peer_of, feed_name_of, feed_of, once, peer_fault, feed_fault, line_fault, early_fault, late_fault, unknown_fault, is_peer, peer_number, no_own_fault, first_or, first_of, settings_of, relay_said, relay_line, RelaySettings}
+use Rattle.relay_conf.specs.Relay.{RelayLine, RawLine, SaidLine, RawSays, LineSays, LinesSay, Stand, stand_of, Skipped, Own, MaxArticle, Cutoff, Remember, PeerLine, FeedLine, own_of, max_article_of, cutoff_of, remember_of, peer_of, feed_name_of, feed_of, once, peer_fault, feed_fault, line_fault, early_fault, late_fault, is_peer, peer_number, no_own_fault, first_or, first_of, relay_said, relay_line, RelaySettings}
 use Rattle.relay_conf.specs.declared.relay.Relay.{Relay}
-use Rattle.relay_conf.specs.RelayViews.{relay_view, RelayGives, HasEarlyFault, HasWholeFault, HasSettings}
-use Rattle.relay_conf.specs.Draft.{DraftGives, ExpressionGives, FeedGives, known_number, Reading, stand_view, after_line, Passes, Refuses, StepGives, named_of, named_from, IsReadingOf, ReadsTo, first_unknown, numbered_feed, reading_settings, draft_said}
+use Rattle.relay_conf.specs.RelayViews.{relay_view, RelayGives, HasEarlyFault}
+use Rattle.relay_conf.specs.Draft.{DraftGives, FeedGives, known_number, Reading, stand_view, after_line, Passes, Refuses, StepGives, named_of, named_from, IsReadingOf, ReadsTo, first_unknown, numbered_feed, draft_said}
+use Rattle.relay_conf.specs.Expressions.{ExpressionGives}
 use Rattle.relay_conf.proofs.FirstFaults.{filter_one, map_one}
 
 -- The first fault of lines and one more, where the lines before it have none.

@@ -6,7 +6,7 @@ use Rattle.news_terms.specs.Article.{without_outer_white}
 use Rattle.relay_conf.specs.declared.faults.Fault.{Fault}
 use Rattle.relay_conf.specs.Cycbuff.{CycbuffLine, CycbuffSettings, Skipped, buffer_of, buffers_of, group_name_of, group_names, group_of, groups_of, cycbuff_line, cycbuff_of, cycbuff_said, early_fault, late_fault, listed_fault, no_group_fault}
 use Rattle.relay_conf.specs.Faults.{first_fault, whole_fault}
-use Rattle.relay_conf.specs.Lines.{is_skipped}
+use Rattle.line_words.specs.Comments.{is_skipped}
 use Rattle.relay_conf.proofs.SkippedLines.{is_quiet, settings_in, kept_same, quiet_same, unless_same, settings_to}
 
 -- The same is wrong behind lines of cycbuff.conf without one that is skipped.

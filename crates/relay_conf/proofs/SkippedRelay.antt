@@ -4,7 +4,7 @@ use Rattle.std.specs.Prelude.{◌↔◌, filter_map}
 use Rattle.news_terms.specs.Article.{without_outer_white}
 use Rattle.relay_conf.specs.declared.relay.Feed.{Feed}
 use Rattle.relay_conf.specs.Faults.{first_fault, whole_fault}
-use Rattle.relay_conf.specs.Lines.{is_skipped}
+use Rattle.line_words.specs.Comments.{is_skipped}
 use Rattle.relay_conf.specs.Relay.{SaidLine, Skipped, RawSays, LinesSay, Stand, stand_of, own_of, max_article_of, cutoff_of, remember_of, peer_of, feed_name_of, feed_of, line_fault, early_fault, late_fault, no_own_fault, first_or, first_of, settings_of, relay_said, relay_line, RelaySettings}
 use Rattle.relay_conf.specs.RelayViews.{HasSettings}
 use Rattle.relay_conf.proofs.SkippedLines.{is_quiet, settings_in, kept_same, quiet_same, unless_same, settings_to}

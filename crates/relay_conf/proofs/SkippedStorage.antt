@@ -7,9 +7,10 @@ use Rattle.news_terms.specs.Article.{without_outer_white}
 use Rattle.news_terms.specs.StorageClass.{Entry}
 use Rattle.relay_conf.specs.Cycbuff.{Group}
 use Rattle.relay_conf.specs.Faults.{first_fault, whole_fault}
-use Rattle.relay_conf.specs.Lines.{is_skipped}
+use Rattle.line_words.specs.Comments.{is_skipped}
 use Rattle.relay_conf.specs.Relay.{first_or}
-use Rattle.relay_conf.specs.StorageLines.{SaidLine, Skipped, RawSays, LinesSay, Stand, stand_behind, storage_line, mark_of, is_inside, up_to_mark, back_to_mark, entry_lines, class_of, newsgroups_of, group_of, size_of, exact_of, line_fault, early_fault, late_fault, open_fault, closed_by, entries_of, storage_said}
+use Rattle.relay_conf.specs.StorageLines.{SaidLine, Skipped, RawSays, storage_line}
+use Rattle.relay_conf.specs.StorageFile.{LinesSay, Stand, stand_behind, mark_of, is_inside, up_to_mark, back_to_mark, entry_lines, class_of, newsgroups_of, group_of, size_of, exact_of, line_fault, early_fault, late_fault, open_fault, closed_by, entries_of, storage_said}
 use Rattle.relay_conf.specs.StorageViews.{HasEntries}
 use Rattle.relay_conf.proofs.SkippedLines.{is_quiet, settings_in, kept_same, quiet_same, unless_same, settings_to}
 

@@ -16,12 +16,14 @@ use Rattle.relay_conf.specs.declared.faults.Refusal.TheVariants.{Memory, Faulty}
 use Rattle.relay_conf.specs.declared.storage.Method.{Method}
 use Rattle.relay_conf.specs.declared.storage_lines.Sizes.{Sizes}
 use Rattle.relay_conf.specs.Cycbuff.{Group}
-use Rattle.relay_conf.specs.Draft.{ExpressionGives}
+use Rattle.relay_conf.specs.Expressions.{ExpressionGives}
 use Rattle.relay_conf.specs.Faults.{fault_or_later, first_fault, whole_fault, unless_fault, error_at, ConfGives, LineGives}
 use Rattle.relay_conf.specs.Relay.{once, first_or}
 use Rattle.relay_conf.specs.Storage.{entry_view}
-use Rattle.relay_conf.specs.StorageLines.{StorageLine, RawLine, SaidLine, RawSays, LineSays, LinesSay, Stand, stand_of, stand_behind, Skipped, Opens, Closes, ClassLine, NewsgroupsLine, OptionsLine, SizeLine, ExactLine}
-use Rattle.relay_conf.specs.StorageLines.{mark_of, is_inside, up_to_mark, back_to_mark, entry_lines, class_of, newsgroups_of, group_of, size_of, exact_of, line_fault, early_fault, late_fault, named_fault, open_fault, closed_by, entries_of, storage_said, storage_line}
+use Rattle.relay_conf.specs.StorageLines.{StorageLine, RawLine, SaidLine, RawSays, Skipped, Opens, Closes, ClassLine, NewsgroupsLine, OptionsLine, SizeLine, ExactLine}
+use Rattle.relay_conf.specs.StorageFile.{LineSays, LinesSay, Stand, stand_of, stand_behind}
+use Rattle.relay_conf.specs.StorageFile.{mark_of, is_inside, up_to_mark, back_to_mark, entry_lines, class_of, newsgroups_of, group_of, size_of, exact_of, line_fault, early_fault, late_fault, named_fault, open_fault, closed_by, entries_of, storage_said}
+use Rattle.relay_conf.specs.StorageLines.{storage_line}
 use Rattle.relay_conf.specs.StorageViews.{HasEarlyFault, StorageGives}
 use Rattle.relay_conf.specs.StorageDraft.{Reading, late_or, after_line, Passes, Refuses, StepGives, NewsgroupsGive, IsReadingOf, ReadsTo, DraftGives, draft_said, no_lines}
 use Rattle.relay_conf.proofs.FirstFaults.{filter_one, map_one}

@@ -1,13 +1,13 @@
 -- How a line of storage.conf is cut, and where a group of a name stands.
-use Rattle.std.proofs.Common.{◌≡◌, ℕ, ◌+◌, Bool, true, false, cond, ltb, List, [], ◌∷◌, length, take, drop, map, Option, Some, None, Err, refl, ap, ◌∙◌, arith}
+use Rattle.std.proofs.Common.{◌≡◌, ℕ, ◌+◌, Bool, true, false, cond, ltb, List, ◌∷◌, length, take, drop, Option, Some, None, Err, refl, ap, ◌∙◌, arith}
 use Rattle.std.specs.Prelude.{not, ◌==◌, unwrap_or}
 use Rattle.std.specs.List.{position_or_len}
 use Rattle.std.proofs.lemmas.List.Sums.{prefix_len-le-length}
 use Rattle.std.proofs.lemmas.Bool.{ltb-false}
 use Rattle.relay_conf.specs.declared.faults.Fault.TheVariants.{Syntax}
 use Rattle.relay_conf.specs.StorageLines.{colon_at, key_and_value, sizes_of}
-use Rattle.relay_conf.specs.Words.{parts}
-use Rattle.relay_conf.proofs.Parts.{place_of, some_part}
+use Rattle.line_words.specs.Parts.{parts}
+use Rattle.line_words.proofs.Cuts.{place_of, some_part}
 
 -- Where no colon is found, a line has no key.
 pub no_key : (line : List ℕ) → place_of (λ c. c == 58) line ≡ None → key_and_value line ≡ None
@@ -39,12 +39,3 @@ place_or_length p xs r e = ap (λ (o : Option ℕ). unwrap_or o (length xs)) e �
     by_test : (b : Bool) → ltb (position_or_len p xs) (length xs) ≡ b → unwrap_or (cond b (Some (position_or_len p xs)) None) (length xs) ≡ position_or_len p xs
     by_test true t = refl
     by_test false t = omega (arith, ltb-false (position_or_len p xs) (length xs) t, prefix_len-le-length (λ x. not (p x)) xs)
-
--- The first place among what elements are mapped to.
-pub position-map : {X Y : Type 0} (p : Y → Bool) (f : X → Y) (xs : List X) → position_or_len p (map f xs) ≡ position_or_len (λ x. p (f x)) xs
-position-map p f [] = refl
-position-map p f (x ∷ xs) = by_test (p (f x)) refl (position-map p f xs)
-  where
-    by_test : (b : Bool) → p (f x) ≡ b → position_or_len p (map f xs) ≡ position_or_len (λ x. p (f x)) xs → position_or_len p (map f (x ∷ xs)) ≡ position_or_len (λ x. p (f x)) (x ∷ xs)
-    by_test true e after = rw e refl
-    by_test false e after = rw (e, after) refl

@@ -1,5 +1,5 @@
 -- cycbuff.conf: what its lines say, one by one and together.
-use Rattle.std.specs.Prelude.{◌≡◌, ℕ, ◌*◌, ◌==◌, ◌&&◌, ◌||◌, not, nat_le, nat_lt, Bool, true, false, List, [], ◌∷◌, ◌++◌, length, map, filter_map, codes, bytes_eq, Option, None, Some, Result, Ok, Err, if◌then◌else◌}
+use Rattle.std.specs.Prelude.{ℕ, ◌*◌, ◌==◌, ◌&&◌, ◌||◌, not, nat_le, nat_lt, Bool, false, List, [], ◌∷◌, ◌++◌, length, map, filter_map, codes, bytes_eq, Option, None, Some, Result, Ok, Err, if◌then◌else◌}
 use Rattle.std.specs.List.{list_all, list_any, position_or_len}
 use Rattle.std.specs.Str.{byte}
 use Rattle.news_terms.specs.Article.{is_empty, without_outer_white}
@@ -10,8 +10,10 @@ use Rattle.relay_conf.specs.declared.cycbuff.Mode.{Mode}
 use Rattle.relay_conf.specs.declared.cycbuff.Mode.TheVariants.{Interleave, Sequential}
 use Rattle.relay_conf.specs.declared.cycbuff.BufferConf.{BufferConf}
 use Rattle.relay_conf.specs.Faults.{first_fault, whole_fault, unless_fault}
-use Rattle.relay_conf.specs.Lines.{is_skipped}
-use Rattle.relay_conf.specs.Words.{parts, is_name, number_within}
+use Rattle.line_words.specs.Comments.{is_skipped}
+use Rattle.line_words.specs.Parts.{parts}
+use Rattle.relay_conf.specs.Words.{is_name}
+use Rattle.line_words.specs.Numbers.{number_within}
 
 -- what a line of cycbuff.conf says, faults apart (docs/FORMATS.md, Configuration)
 pub data CycbuffLine : Type 0 where
@@ -121,7 +123,8 @@ name_fault names name =
 
 -- what is wrong with a line behind these buffers and names of groups, looked for line by line
 -- (docs/FORMATS.md, Configuration)
-abbrev pub line_fault : List BufferConf → (names : List (List ℕ)) → Result CycbuffLine Fault → Option Fault
+abbrev pub line_fault : List BufferConf → (names : List (List ℕ)) → Result CycbuffLine Fault
+    → Option Fault
 line_fault buffers names (Err fault) = Some fault
 line_fault buffers names (Ok Skipped) = None
 line_fault buffers names (Ok (BufferLine name file blocks)) =
@@ -129,7 +132,8 @@ line_fault buffers names (Ok (BufferLine name file blocks)) =
 line_fault buffers names (Ok (GroupLine name members mode)) = name_fault names name
 
 -- the same behind the lines before it (docs/FORMATS.md, Configuration)
-abbrev pub early_fault : (before : List (Result CycbuffLine Fault)) → Result CycbuffLine Fault → Option Fault
+abbrev pub early_fault : (before : List (Result CycbuffLine Fault)) → Result CycbuffLine Fault
+    → Option Fault
 early_fault before line = line_fault (buffers_of before) (group_names before) line
 
 -- the number of the buffer of a name among these: how many stand before the first of that name
@@ -171,7 +175,8 @@ groups_of buffers said = filter_map (group_of buffers) said
 
 -- the buffer of a number is listed in one of the groups (docs/FORMATS.md, Configuration)
 abbrev pub is_listed : List Group → (number : ℕ) → Bool
-is_listed groups number = list_any (λ group. list_any (λ other. other == number) group.buffers) groups
+is_listed groups number =
+    list_any (λ group. list_any (λ other. other == number) group.buffers) groups
 
 -- one of the buffers is listed in one of the groups, or twice (docs/FORMATS.md, Configuration)
 abbrev pub is_shared : List Group → (before numbers : List ℕ) → Bool
@@ -198,7 +203,8 @@ listed_fault buffers groups (Ok (BufferLine name file blocks)) = None
 listed_fault buffers groups (Ok (GroupLine name members mode)) = list_fault buffers groups members
 
 -- the same behind the lines before it (docs/FORMATS.md, Configuration)
-abbrev pub late_fault : List BufferConf → (before : List (Result CycbuffLine Fault)) → Result CycbuffLine Fault → Option Fault
+abbrev pub late_fault : List BufferConf → (before : List (Result CycbuffLine Fault))
+    → Result CycbuffLine Fault → Option Fault
 late_fault buffers before line = listed_fault buffers (groups_of buffers before) line
 
 -- a file without any group (docs/FORMATS.md, Configuration)
@@ -231,7 +237,8 @@ buffers_said said =
 
 -- the groups that lines say over these buffers, or the first fault that is looked for after the
 -- last line
-abbrev pub groups_said : List BufferConf → List (Result CycbuffLine Fault) → Result (List Group) LineFault
+abbrev pub groups_said : List BufferConf → List (Result CycbuffLine Fault)
+    → Result (List Group) LineFault
 groups_said buffers said =
     unless_fault (first_fault (late_fault buffers) [] said) (Ok (groups_of buffers said))
 

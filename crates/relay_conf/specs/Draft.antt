@@ -1,11 +1,11 @@
 -- How far the lines of relay.conf are read. No public contract cites it.
-use Rattle.std.specs.Prelude.{◌≡◌, ℕ, ◌+◌, ◌≤◌, nat_lt, List, [], ◌∷◌, ◌++◌, length, map, bytes_eq, unwrap_or, Option, None, Some, Result, Ok, Err, if◌then◌else◌}
+use Rattle.std.specs.Prelude.{◌≡◌, ℕ, ◌+◌, ◌≤◌, List, [], ◌∷◌, ◌++◌, length, map, bytes_eq, unwrap_or, Option, None, Some, Result, Ok, Err, if◌then◌else◌}
 use Rattle.std.specs.List.{list_any}
 use Rattle.std.specs.Option.{option_to_list}
 use Rattle.std.specs.HashSet.{contains_text}
-use Rattle.news_terms.specs.Pattern.{Marked, ExpressionFault, IsExpressionText, HasLeftmostFault}
+use Rattle.news_terms.specs.Pattern.{Marked}
 use Rattle.relay_conf.specs.declared.faults.Fault.{Fault}
-use Rattle.relay_conf.specs.declared.faults.Fault.TheVariants.{UnknownName, Pattern}
+use Rattle.relay_conf.specs.declared.faults.Fault.TheVariants.{UnknownName}
 use Rattle.relay_conf.specs.declared.faults.LineFault.{LineFault}
 use Rattle.relay_conf.specs.declared.faults.ConfError.{ConfError}
 use Rattle.relay_conf.specs.declared.faults.ConfError.TheVariants as errors
@@ -42,7 +42,15 @@ draft_view d =
 
 -- the reading of no lines
 abbrev pub nothing : Reading
-nothing = record { own = None; max_article = None; cutoff = None; remember = None; peers = []; feeds = [] }
+nothing =
+    record {
+      own = None;
+      max_article = None;
+      cutoff = None;
+      remember = None;
+      peers = [];
+      feeds = [];
+    }
 
 -- the reading with other peers
 abbrev pub with_peers : Reading → List Peer → Reading
@@ -70,7 +78,10 @@ after_line number r (Remember seconds) = record r { remember = Some seconds }
 after_line number r (PeerLine name identity port) =
     record r { peers = r.peers ++ record { name = name; identity = identity; port = port } ∷ [] }
 after_line number r (FeedLine name ring expression) =
-    record r { feeds = r.feeds ++ record { line = number; name = name; ring = ring; expression = expression } ∷ [] }
+    record r {
+      feeds = r.feeds
+          ++ record { line = number; name = name; ring = ring; expression = expression } ∷ [];
+    }
 
 -- the line says this without fault, and this is the reading after it
 pub record Passes (number : ℕ) (r : Reading) (raw : RawLine) (after : Reading) : Type 0 where
@@ -86,24 +97,24 @@ pub record Refuses (r : Reading) (raw : RawLine) (fault : Fault) : Type 0 where
   pub found : line_fault (stand_view r) said ≡ Some fault
 
 -- the answer is what a line of this number says behind a reading, unless memory ran out
-abbrev pub StepGives : ℕ → Reading → RawLine → (after : Reading) → Result (Unit {0}) Refusal → Type 0
+abbrev pub StepGives : ℕ → Reading → RawLine → (after : Reading) → Result (Unit {0}) Refusal
+    → Type 0
 StepGives number r raw after (Ok done) = Passes number r raw after
 StepGives number r raw after (Err Memory) = Unit {0}
 StepGives number r raw after (Err (Faulty fault)) = Refuses r raw fault
 
 -- the same of a feed
-abbrev pub FeedGives : ℕ → (name : List ℕ) (ring : ℕ) (text : List ℕ) → Reading → (after : Reading) → Result (Unit {0}) Refusal → Type 0
-FeedGives number name ring text r after result = StepGives number r (Ok (FeedLine name ring text)) after result
-
--- the answer is the expression of a text, or that it has a fault, unless memory ran out
-abbrev pub ExpressionGives : (text : List ℕ) → Result (List Marked) Refusal → Type 0
-ExpressionGives text (Ok expression) = IsExpressionText text expression
-ExpressionGives text (Err Memory) = Unit {0}
-ExpressionGives text (Err (Faulty fault)) = (fault ≡ Pattern) × ((found : ExpressionFault) × HasLeftmostFault text found)
+abbrev pub FeedGives : ℕ → (name : List ℕ) (ring : ℕ) (text : List ℕ) → Reading
+    → (after : Reading) → Result (Unit {0}) Refusal → Type 0
+FeedGives number name ring text r after result =
+    StepGives number r (Ok (FeedLine name ring text)) after result
 
 -- the set has just the names of the feeds
 abbrev pub Lists : Draft → Type 0
-Lists d = (name : List ℕ) → contains_text d.feed_names.names name ≡ list_any (bytes_eq name) (map (λ feed. feed.name) d.feeds.items)
+Lists d =
+    (name : List ℕ)
+    → contains_text d.feed_names.names name
+    ≡ list_any (bytes_eq name) (map (λ feed. feed.name) d.feeds.items)
 
 -- the feed that a line of this number says, by the name of its peer
 abbrev pub named_of : ℕ → SaidLine → Option NamedFeed
@@ -120,7 +131,8 @@ named_of number (Ok (FeedLine name ring expression)) =
 -- the feeds that lines from this number on say
 abbrev pub named_from : ℕ → List SaidLine → List NamedFeed
 named_from number [] = []
-named_from number (line ∷ more) = option_to_list (named_of number line) ++ named_from (number + 1) more
+named_from number (line ∷ more) =
+    option_to_list (named_of number line) ++ named_from (number + 1) more
 
 -- a reading is that of these lines
 pub record IsReadingOf (said : List SaidLine) (r : Reading) : Type 0 where
@@ -160,7 +172,8 @@ numbered_feed peers feed =
 
 -- the feeds by the numbers of their peers, or the first that is of no peer
 abbrev pub named_said : List Peer → List NamedFeed → Result (List Feed) LineFault
-named_said peers named = unless_fault (first_unknown peers named) (Ok (map (numbered_feed peers) named))
+named_said peers named =
+    unless_fault (first_unknown peers named) (Ok (map (numbered_feed peers) named))
 
 -- the settings of a reading
 abbrev pub reading_settings : Reading → RelaySettings

@@ -31,7 +31,8 @@ name_of Shared = codes "Shared"
 name_of NoBuffers = codes "NoBuffers"
 
 -- a fault of this line, else the first of those behind it (docs/FORMATS.md, Configuration)
-abbrev pub fault_or_later : (line : ℕ) → Option Fault → (later : Option LineFault) → Option LineFault
+abbrev pub fault_or_later : (line : ℕ) → Option Fault → (later : Option LineFault)
+    → Option LineFault
 fault_or_later line None later = later
 fault_or_later line (Some fault) later = Some (record { line = line; fault = fault })
 

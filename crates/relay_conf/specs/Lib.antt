@@ -1,5 +1,6 @@
 pub mod Cycbuff
 pub mod Draft
+pub mod Expressions
 pub mod Faults
 pub mod Lines
 pub mod Relay
@@ -7,6 +8,7 @@ pub mod RelayViews
 pub mod Settings
 pub mod Storage
 pub mod StorageDraft
+pub mod StorageFile
 pub mod StorageLines
 pub mod StorageViews
 pub mod Words

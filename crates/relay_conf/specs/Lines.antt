@@ -1,11 +1,10 @@
 -- The lines of a configuration file.
-use Rattle.std.specs.Prelude.{ℕ, ◌==◌, Bool, true, List, [], ◌∷◌, Option, None, Some, reverse, ◌++◌, ◌&&◌, ◌-◌, not, slice_index, length}
+use Rattle.std.specs.Prelude.{ℕ, ◌==◌, Bool, List, [], ◌∷◌, Option, None, Some, ◌++◌, ◌&&◌, ◌-◌, not, slice_index, length}
 use Rattle.std.specs.List.{list_all}
-use Rattle.std.specs.Str.{byte}
 use Rattle.std.specs.Str.Lines.{strip_carriage_return}
 use Rattle.std.specs.Borrow.{Bor}
-use Rattle.news_terms.specs.Article.{line_feed, carriage_return, without_leading_white}
-use Rattle.relay_conf.specs.Words.{parts}
+use Rattle.news_terms.specs.Article.{line_feed, carriage_return}
+use Rattle.line_words.specs.Parts.{parts}
 
 -- the lines in the parts between LFs: one that LF ends is without the CR before it
 -- (docs/FORMATS.md, Configuration)
@@ -35,12 +34,3 @@ abbrev pub joined_by : (ending : List ℕ) → (lines : List (List ℕ)) → Lis
 joined_by ending [] = []
 joined_by ending (last ∷ []) = last
 joined_by ending (line ∷ next ∷ more) = line ++ ending ++ joined_by ending (next ∷ more)
-
--- an empty line or a comment says nothing (docs/FORMATS.md, Configuration)
-abbrev pub is_skipped : List ℕ → Bool
-is_skipped [] = true
-is_skipped (first ∷ rest) = first == byte "#"
-
--- a text up to its last octet that is no SP or TAB
-abbrev pub without_trailing_white : List ℕ → List ℕ
-without_trailing_white text = reverse (without_leading_white (reverse text))

@@ -1,5 +1,5 @@
 -- relay.conf: what its lines say, one by one and together.
-use Rattle.std.specs.Prelude.{◌≡◌, ℕ, ◌==◌, ◌&&◌, nat_le, nat_lt, Bool, true, false, List, [], ◌∷◌, ◌++◌, length, map, filter_map, codes, bytes_eq, Option, None, Some, Result, Ok, Err, if◌then◌else◌}
+use Rattle.std.specs.Prelude.{◌≡◌, ℕ, ◌&&◌, nat_le, nat_lt, Bool, List, [], ◌∷◌, length, map, filter_map, codes, bytes_eq, Option, None, Some, Result, Ok, Err, if◌then◌else◌}
 use Rattle.std.specs.List.{list_any, position_or_len}
 use Rattle.news_terms.specs.Article.{without_outer_white}
 use Rattle.news_terms.specs.Pattern.{Marked, ExpressionFault, IsExpressionText, HasLeftmostFault}
@@ -9,11 +9,13 @@ use Rattle.relay_conf.specs.declared.faults.LineFault.{LineFault}
 use Rattle.relay_conf.specs.declared.relay.Peer.{Peer}
 use Rattle.relay_conf.specs.declared.relay.Feed.{Feed}
 use Rattle.relay_conf.specs.Faults.{first_fault, whole_fault, unless_fault}
-use Rattle.relay_conf.specs.Lines.{is_skipped}
-use Rattle.relay_conf.specs.Words.{words, one_of, three_of, is_name, is_identity, number_within}
+use Rattle.line_words.specs.Comments.{is_skipped}
+use Rattle.relay_conf.specs.Words.{words, is_name, is_identity}
+use Rattle.line_words.specs.Parts.{one_of, three_of}
+use Rattle.line_words.specs.Numbers.{number_within}
 
--- what a line of relay.conf says, faults apart; a feed has its expression as E: first its text, then
--- what that is (docs/FORMATS.md, Configuration)
+-- what a line of relay.conf says, faults apart; a feed has its expression as E: first its text,
+-- then what that is (docs/FORMATS.md, Configuration)
 pub data RelayLine (E : Type 0) : Type 0 where
   -- a comment or an empty line
   Skipped : RelayLine E
@@ -89,9 +91,12 @@ abbrev pub relay_words : List (List ℕ) → RawLine
 relay_words [] = Err UnknownKey
 relay_words (word ∷ after) =
     if bytes_eq word (codes "own") then own_line (one_of after)
-    else if bytes_eq word (codes "maxart") then with_number MaxArticle (number_line 1 16777216 (one_of after))
-    else if bytes_eq word (codes "cutoff") then with_number Cutoff (number_line 0 4000000000 (one_of after))
-    else if bytes_eq word (codes "remember") then with_number Remember (number_line 0 4000000000 (one_of after))
+    else if bytes_eq word (codes "maxart")
+    then with_number MaxArticle (number_line 1 16777216 (one_of after))
+    else if bytes_eq word (codes "cutoff")
+    then with_number Cutoff (number_line 0 4000000000 (one_of after))
+    else if bytes_eq word (codes "remember")
+    then with_number Remember (number_line 0 4000000000 (one_of after))
     else if bytes_eq word (codes "peer") then peer_line (three_of after)
     else if bytes_eq word (codes "feed") then feed_line (three_of after)
     else Err UnknownKey
@@ -111,7 +116,8 @@ abbrev pub FeedSays : (name : List ℕ) (ring : ℕ) (text : List ℕ) → SaidL
 FeedSays name ring text (Err fault) =
     (fault ≡ Pattern) × ((found : ExpressionFault) × HasLeftmostFault text found)
 FeedSays name ring text (Ok line) =
-    (expression : List Marked) × IsExpressionText text expression × (line ≡ FeedLine name ring expression)
+    (expression : List Marked) × IsExpressionText text expression
+    × (line ≡ FeedLine name ring expression)
 
 -- what a line says once its expression is read (docs/FORMATS.md, Configuration)
 abbrev pub RawSays : RawLine → SaidLine → Type 0
@@ -187,7 +193,8 @@ peer_of (Ok (Own identity)) = None
 peer_of (Ok (MaxArticle octets)) = None
 peer_of (Ok (Cutoff seconds)) = None
 peer_of (Ok (Remember seconds)) = None
-peer_of (Ok (PeerLine name identity port)) = Some (record { name = name; identity = identity; port = port })
+peer_of (Ok (PeerLine name identity port)) =
+    Some (record { name = name; identity = identity; port = port })
 peer_of (Ok (FeedLine name ring expression)) = None
 
 -- the name of the peer whose feed a line says

@@ -1,8 +1,8 @@
 -- Lines of relay.conf that were read, as the definitions have them.
-use Rattle.std.specs.Prelude.{◌≡◌, ℕ, List, map, Option, None, Some, Result, Ok, Err, [], ◌++◌, ◌⊎◌, IsTrue}
+use Rattle.std.specs.Prelude.{◌≡◌, ℕ, List, Some, Result, Ok, Err, [], ◌++◌, ◌⊎◌, IsTrue}
 use Rattle.relay_conf.specs.declared.faults.Fault.{Fault}
-use Rattle.relay_conf.specs.declared.relay.Line.{Line}
-use Rattle.relay_conf.specs.declared.relay.Line.TheVariants as lines
+use Rattle.relay_conf.specs.declared.relay_lines.Line.{Line}
+use Rattle.relay_conf.specs.declared.relay_lines.Line.TheVariants as lines
 use Rattle.relay_conf.specs.declared.faults.LineFault.{LineFault}
 use Rattle.relay_conf.specs.declared.faults.ConfError.{ConfError}
 use Rattle.relay_conf.specs.declared.faults.ConfError.TheVariants.{Memory, Faulty}

@@ -1,5 +1,5 @@
 -- The settings that the readers answer, as the definitions have them.
-use Rattle.std.specs.Prelude.{◌≡◌, ℕ, List, map, Option, None, Some, option_map, Result, Ok, Err}
+use Rattle.std.specs.Prelude.{map, Result, Ok, Err}
 use Rattle.relay_conf.specs.declared.faults.Fault.{Fault}
 use Rattle.relay_conf.specs.declared.cycbuff.Buffers.{Buffers}
 use Rattle.relay_conf.specs.declared.cycbuff.GroupConf.{GroupConf}

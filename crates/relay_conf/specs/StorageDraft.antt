@@ -1,10 +1,10 @@
 -- How far the lines of storage.conf are read. No public contract cites it.
 use Rattle.std.specs.Prelude.{◌≡◌, ℕ, List, [], ◌∷◌, ◌++◌, map, Bool, true, false, Option, None, Some, Result, Ok, Err}
 use Rattle.std.specs.Option.{option_to_list}
-use Rattle.news_terms.specs.Pattern.{Marked, ExpressionFault, IsExpressionText, HasLeftmostFault}
+use Rattle.news_terms.specs.Pattern.{Marked}
 use Rattle.news_terms.specs.StorageClass as classes
 use Rattle.relay_conf.specs.declared.faults.Fault.{Fault}
-use Rattle.relay_conf.specs.declared.faults.Fault.TheVariants.{UnknownName, Pattern}
+use Rattle.relay_conf.specs.declared.faults.Fault.TheVariants.{UnknownName}
 use Rattle.relay_conf.specs.declared.faults.LineFault.{LineFault}
 use Rattle.relay_conf.specs.declared.faults.ConfError.{ConfError}
 use Rattle.relay_conf.specs.declared.faults.ConfError.TheVariants as errors
@@ -15,8 +15,9 @@ use Rattle.relay_conf.specs.declared.storage.Draft.{Draft}
 use Rattle.relay_conf.specs.Cycbuff.{Group}
 use Rattle.relay_conf.specs.Faults.{fault_or_later, first_fault, whole_fault, unless_fault}
 use Rattle.relay_conf.specs.Storage.{entry_view}
-use Rattle.relay_conf.specs.StorageLines.{StorageLine, RawLine, SaidLine, RawSays, LinesSay, Stand, stand_behind, Skipped, Opens, Closes, ClassLine, NewsgroupsLine, OptionsLine, SizeLine, ExactLine}
-use Rattle.relay_conf.specs.StorageLines.{is_inside, group_number, named_fault, line_fault, early_fault, late_fault, open_fault, entry_of, entries_of}
+use Rattle.relay_conf.specs.StorageLines.{StorageLine, RawLine, SaidLine, RawSays, Skipped, Opens, Closes, ClassLine, NewsgroupsLine, OptionsLine, SizeLine, ExactLine}
+use Rattle.relay_conf.specs.StorageFile.{LinesSay, Stand, stand_behind}
+use Rattle.relay_conf.specs.StorageFile.{is_inside, group_number, named_fault, line_fault, early_fault, late_fault, open_fault, entry_of, entries_of}
 use Rattle.relay_conf.specs.StorageViews.{HasEarlyFault}
 
 -- what lines so far say
@@ -65,8 +66,10 @@ abbrev pub unknown_at : ℕ → Option LineFault
 unknown_at number = Some (record { line = number; fault = UnknownName })
 
 -- the first fault that is looked for after the last line, with a line more
-abbrev pub late_after : List Group → ℕ → Option LineFault → StorageLine (List Marked) → Option LineFault
-late_after groups number late line = late_or late (fault_or_later number (named_fault groups (Ok line)) None)
+abbrev pub late_after : List Group → ℕ → Option LineFault → StorageLine (List Marked)
+    → Option LineFault
+late_after groups number late line =
+    late_or late (fault_or_later number (named_fault groups (Ok line)) None)
 
 -- the reading after `method NAME {`
 abbrev pub opened : ℕ → Reading → (method : List ℕ) → Reading
@@ -75,7 +78,8 @@ opened number r method =
 
 -- the reading after `}`
 abbrev pub closed : Reading → Reading
-closed r = record r { entries = r.entries ++ entry_of r.stand ∷ []; inside = false; stand = nothing }
+closed r =
+    record r { entries = r.entries ++ entry_of r.stand ∷ []; inside = false; stand = nothing }
 
 -- the reading after `options: NAME`
 abbrev pub grouped : List Group → ℕ → Reading → (name : List ℕ) → Reading
@@ -90,14 +94,19 @@ abbrev pub after_line : List Group → ℕ → Reading → StorageLine (List Mar
 after_line groups number r Skipped = r
 after_line groups number r (Opens method) = opened number r method
 after_line groups number r Closes = closed r
-after_line groups number r (ClassLine class) = record r { stand = record r.stand { classes = class ∷ [] } }
-after_line groups number r (NewsgroupsLine expression) = record r { stand = record r.stand { newsgroups = expression ∷ [] } }
+after_line groups number r (ClassLine class) =
+    record r { stand = record r.stand { classes = class ∷ [] } }
+after_line groups number r (NewsgroupsLine expression) =
+    record r { stand = record r.stand { newsgroups = expression ∷ [] } }
 after_line groups number r (OptionsLine name) = grouped groups number r name
-after_line groups number r (SizeLine sizes) = record r { stand = record r.stand { sizes = sizes ∷ [] } }
-after_line groups number r (ExactLine exact) = record r { stand = record r.stand { exacts = exact ∷ [] } }
+after_line groups number r (SizeLine sizes) =
+    record r { stand = record r.stand { sizes = sizes ∷ [] } }
+after_line groups number r (ExactLine exact) =
+    record r { stand = record r.stand { exacts = exact ∷ [] } }
 
 -- the line says this without fault, and this is the reading after it
-pub record Passes (groups : List Group) (number : ℕ) (r : Reading) (raw : RawLine) (after : Reading) : Type 0 where
+pub record Passes (groups : List Group) (number : ℕ) (r : Reading) (raw : RawLine)
+    (after : Reading) : Type 0 where
   pub line : StorageLine (List Marked)
   pub says : RawSays raw (Ok line)
   pub none : line_fault r.stand (Ok line) ≡ None
@@ -110,15 +119,18 @@ pub record Refuses (r : Reading) (raw : RawLine) (fault : Fault) : Type 0 where
   pub found : line_fault r.stand said ≡ Some fault
 
 -- the answer is what a line of this number says behind a reading, unless memory ran out
-abbrev pub StepGives : List Group → ℕ → Reading → RawLine → (after : Reading) → Result (Unit {0}) Refusal → Type 0
+abbrev pub StepGives : List Group → ℕ → Reading → RawLine → (after : Reading)
+    → Result (Unit {0}) Refusal → Type 0
 StepGives groups number r raw after (Ok done) = Passes groups number r raw after
 StepGives groups number r raw after (Err Memory) = Unit {0}
 StepGives groups number r raw after (Err (Faulty fault)) = Refuses r raw fault
 
 -- the same of an expression
-abbrev pub NewsgroupsGive : (text : List ℕ) → Reading → (after : Reading) → Result (Unit {0}) Refusal → Type 0
+abbrev pub NewsgroupsGive : (text : List ℕ) → Reading → (after : Reading)
+    → Result (Unit {0}) Refusal → Type 0
 NewsgroupsGive text r after result =
-    (groups : List Group) → (number : ℕ) → StepGives groups number r (Ok (NewsgroupsLine text)) after result
+    (groups : List Group) → (number : ℕ)
+    → StepGives groups number r (Ok (NewsgroupsLine text)) after result
 
 -- a reading is that of these lines
 pub record IsReadingOf (groups : List Group) (said : List SaidLine) (r : Reading) : Type 0 where

@@ -12,7 +12,8 @@ use Rattle.std.specs.Global.{Vec}
 use Rattle.relay_conf.specs.Cycbuff.{Group}
 use Rattle.relay_conf.specs.Faults.{first_fault}
 use Rattle.relay_conf.specs.Storage.{entry_view}
-use Rattle.relay_conf.specs.StorageLines.{StorageLine, RawLine, SaidLine, LinesSay, early_fault, storage_said}
+use Rattle.relay_conf.specs.StorageLines.{StorageLine, RawLine, SaidLine}
+use Rattle.relay_conf.specs.StorageFile.{LinesSay, early_fault, storage_said}
 use Rattle.relay_conf.specs.StorageLines.{Skipped, Opens, Closes, ClassLine, NewsgroupsLine, OptionsLine, SizeLine, ExactLine}
 
 -- a line of storage.conf as the definitions have it, its expression as text
@@ -32,7 +33,8 @@ raw_by (Ok line) = Ok (raw_view line)
 raw_by (Err fault) = Err fault
 
 -- the lines up to some line say this, and its fault is the first
-pub record HasEarlyFault (groups : List Group) (lines : List (List ℕ)) (fault : LineFault) : Type 0 where
+pub record HasEarlyFault (groups : List Group) (lines : List (List ℕ)) (fault : LineFault)
+    : Type 0 where
   pub read : List (List ℕ)
   pub rest : List (List ℕ)
   pub said : List SaidLine
@@ -41,19 +43,23 @@ pub record HasEarlyFault (groups : List Group) (lines : List (List ℕ)) (fault 
   pub first : first_fault (early_fault groups) [] said ≡ Some fault
 
 -- all lines say this, and its fault together is this one
-pub record HasWholeFault (groups : List Group) (lines : List (List ℕ)) (fault : LineFault) : Type 0 where
+pub record HasWholeFault (groups : List Group) (lines : List (List ℕ)) (fault : LineFault)
+    : Type 0 where
   pub said : List SaidLine
   pub says : LinesSay [] lines said
   pub first : storage_said groups said ≡ Err fault
 
 -- all lines say this, and together these entries
-pub record HasEntries (groups : List Group) (lines : List (List ℕ)) (entries : List classes.Entry) : Type 0 where
+pub record HasEntries (groups : List Group) (lines : List (List ℕ))
+    (entries : List classes.Entry) : Type 0 where
   pub said : List SaidLine
   pub says : LinesSay [] lines said
   pub gives : storage_said groups said ≡ Ok entries
 
 -- the answer is what the lines of storage.conf say over these groups, unless memory ran out
-abbrev pub StorageGives : Result (Vec Method) ConfError → List Group → (lines : List (List ℕ)) → Type 0
+abbrev pub StorageGives : Result (Vec Method) ConfError → List Group → (lines : List (List ℕ))
+    → Type 0
 StorageGives (Ok methods) groups lines = HasEntries groups lines (map entry_view methods.items)
 StorageGives (Err Memory) groups lines = Unit {0}
-StorageGives (Err (Faulty fault)) groups lines = HasEarlyFault groups lines fault ⊎ HasWholeFault groups lines fault
+StorageGives (Err (Faulty fault)) groups lines =
+    HasEarlyFault groups lines fault ⊎ HasWholeFault groups lines fault

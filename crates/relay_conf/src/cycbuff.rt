@@ -9,15 +9,15 @@ ghost use Rattle.relay_conf.specs.Cycbuff.{group_of, members_of, number_of};
 ghost use Rattle.relay_conf.specs.Cycbuff as terms;
 ghost use Rattle.relay_conf.specs.Faults.{ConfGives, LineGives};
 ghost use Rattle.relay_conf.specs.Lines.{lines_of};
-ghost use Rattle.relay_conf.specs.Settings.{buffers_view, group_view, said_by, cycbuff_view};
-ghost use Rattle.relay_conf.specs.Words.{parts, parts_after};
+ghost use Rattle.relay_conf.specs.Settings.{buffers_view, group_view, said_by};
+ghost use Rattle.line_words.specs.Parts.{parts, parts_after};
 ghost use Rattle.relay_conf.specs.Words as words;
 
 use crate::faults::{ConfError, Fault, LineFault, Refusal};
-use crate::lines::{is_skipped, lines_of, trim};
-use crate::numbers::number_within;
+use crate::lines::lines_of;
 use crate::octets::Octets;
-use crate::words::{cut, is_name, three_parts, two_parts};
+use crate::words::is_name;
+use line_words::{cut, is_skipped, number_within, three_parts, trim, two_parts};
 use std::alloc::{AllocError, Global};
 
 /// A buffer: its name, the path of its file, and its size in blocks of 512 octets.

@@ -4,13 +4,14 @@
 
 mod config;
 mod cycbuff;
+mod expressions;
 mod faults;
 pub mod laws;
 mod lines;
 mod names;
-mod numbers;
 mod octets;
 mod relay;
+mod relay_lines;
 mod storage;
 mod storage_lines;
 mod words;
@@ -22,5 +23,11 @@ pub use octets::Octets;
 pub use relay::{Feed, Peer, Relay, read_relay};
 pub use storage::{Method, read_storage};
 
+#[cfg(test)]
+mod cycbuff_tests;
+#[cfg(test)]
+mod relay_tests;
+#[cfg(test)]
+mod storage_tests;
 #[cfg(test)]
 mod tests;

@@ -1,24 +1,24 @@
 //! relay.conf: the relay itself, its peers and their feeds (docs/FORMATS.md, Configuration).
-ghost use Rattle.std.specs.Prelude.{◌≡◌, ◌≤◌, ◌∷◌, ◌++◌, [], length, map, bytes_eq, vec_items, IsTrue, IfOk, OnOk};
+ghost use Rattle.std.specs.Prelude.{◌≡◌, ◌≤◌, ◌∷◌, ◌++◌, [], length, map, bytes_eq, vec_items, IsTrue, OnOk};
 ghost use Rattle.std.specs.Option.{option_to_list};
 ghost use Rattle.std.specs.List.{list_any};
 ghost use Rattle.relay_conf.specs.Faults.{ConfGives, LineGives};
 ghost use Rattle.relay_conf.specs.Lines.{lines_of};
 ghost use Rattle.relay_conf.specs.Relay.{once, peer_fault};
-ghost use Rattle.relay_conf.specs.Draft.{DraftGives, StepGives, FeedGives, ExpressionGives, Lists, nothing};
+ghost use Rattle.relay_conf.specs.Draft.{DraftGives, StepGives, FeedGives, Lists, nothing};
 ghost use Rattle.relay_conf.specs.Draft.{draft_view, draft_said, named_said, known_number, with_peers};
 ghost use Rattle.relay_conf.specs.Relay as terms;
-ghost use Rattle.relay_conf.specs.RelayViews.{raw_by, relay_view, IsNamed, RelayGives};
-ghost use Rattle.relay_conf.specs.Words.{words, one_of, three_of, is_name};
+ghost use Rattle.relay_conf.specs.RelayViews.{relay_view, RelayGives};
+ghost use Rattle.relay_conf.specs.Words.{is_name};
 
+use crate::expressions::expression_of;
 use crate::faults::{ConfError, Fault, LineFault, Refusal};
-use crate::lines::{is_skipped, lines_of, trim};
+use crate::lines::lines_of;
 use crate::names::NameSet;
-use crate::numbers::number_within;
 use crate::octets::Octets;
-use crate::words::{first_word, is_identity, is_name, one_word, three_words};
+use crate::relay_lines::{Line, relay_line};
 use std::alloc::Global;
-use uwild::{Expr, WildError};
+use uwild::Expr;
 
 /// A peer: its name, its identity and its port, where 0 is not served.
 #[derive(Debug, Drop)]
@@ -274,17 +274,6 @@ fn finished(alloc: Global, draft: Draft) -> Result<Relay, ConfError>
     })
 }
 
-/// The expression that a text is.
-fn expression_of(alloc: Global, text: &[u8]) -> Result<Expr, Refusal>
-    ensures { ExpressionGives text.now result }
-{
-    match Expr::parse(alloc, text) {
-        Ok(expression) => Ok(expression),
-        Err(WildError::Memory) => Err(Refusal::Memory),
-        Err(_) => Err(Refusal::Faulty(Fault::Pattern)),
-    }
-}
-
 /// Whether a peer has this name.
 fn has_peer(peers: &[Peer], name: &[u8]) -> bool
     ensures { result ≡ list_any (bytes_eq name.now) (map (λ peer. peer.name) peers.now) }
@@ -327,111 +316,4 @@ fn numbered(alloc: Global, peers: &[Peer], named: Vec<NamedFeed>) -> Result<Vec<
         })?;
     }
     Ok(feeds)
-}
-
-/// What a line says, without fault.
-#[derive(Clone, Copy)]
-enum Line<'a> {
-    /// A comment or an empty line.
-    Skipped,
-    /// The own identity.
-    Own(&'a [u8]),
-    /// The octets of the largest article.
-    MaxArticle(u32),
-    /// The seconds past which an article is refused.
-    Cutoff(u64),
-    /// The seconds after which an id may be forgotten.
-    Remember(u64),
-    /// A peer: its name, its identity and its port.
-    Peer(&'a [u8], &'a [u8], u16),
-    /// A feed: the name of its peer, its ring and the text of its expression.
-    Feed(&'a [u8], u32, &'a [u8]),
-}
-
-/// Reads a line alone, but for the expression of a feed.
-fn relay_line(line: &[u8]) -> Result<Line<'_>, Fault>
-    ensures says { raw_by result ≡ terms.relay_line line.now }
-    ensures named { IfOk result IsNamed }
-{
-    let line = trim(line);
-    if is_skipped(line) {
-        return Ok(Line::Skipped);
-    }
-    let Some((word, rest)) = first_word(line) else {
-        return Err(Fault::UnknownKey);
-    };
-    if word == b"own".as_slice() {
-        own_line(rest)
-    } else if word == b"maxart".as_slice() {
-        Ok(Line::MaxArticle(number_line(1, 16_777_216, rest)? as u32))
-    } else if word == b"cutoff".as_slice() {
-        Ok(Line::Cutoff(number_line(0, 4_000_000_000, rest)?))
-    } else if word == b"remember".as_slice() {
-        Ok(Line::Remember(number_line(0, 4_000_000_000, rest)?))
-    } else if word == b"peer".as_slice() {
-        peer_line(rest)
-    } else if word == b"feed".as_slice() {
-        feed_line(rest)
-    } else {
-        Err(Fault::UnknownKey)
-    }
-}
-
-/// Reads what follows `own`.
-fn own_line(rest: &[u8]) -> Result<Line<'_>, Fault>
-    ensures named { IfOk result IsNamed }
-    ensures says { raw_by result ≡ terms.own_line (one_of (words rest.now)) }
-{
-    match one_word(rest) {
-        Some(identity) if is_identity(identity) => Ok(Line::Own(identity)),
-        _ => Err(Fault::Syntax),
-    }
-}
-
-/// Reads the one number of a line, in this range.
-fn number_line(least: u64, most: u64, rest: &[u8]) -> Result<u64, Fault>
-    ensures number { result ≡ terms.number_line least most (one_of (words rest.now)) }
-    ensures within { IfOk result (λ number. number ≤ most) }
-{
-    let Some(word) = one_word(rest) else {
-        return Err(Fault::Syntax);
-    };
-    match number_within(least, most, word) {
-        Some(number) => Ok(number),
-        None => Err(Fault::Number),
-    }
-}
-
-/// Reads what follows `peer`.
-fn peer_line(rest: &[u8]) -> Result<Line<'_>, Fault>
-    ensures named { IfOk result IsNamed }
-    ensures says { raw_by result ≡ terms.peer_line (three_of (words rest.now)) }
-{
-    let Some((name, identity, port)) = three_words(rest) else {
-        return Err(Fault::Syntax);
-    };
-    if !is_name(name) || !is_identity(identity) {
-        return Err(Fault::Syntax);
-    }
-    match number_within(0, 65_535, port) {
-        Some(port) => Ok(Line::Peer(name, identity, port as u16)),
-        None => Err(Fault::Number),
-    }
-}
-
-/// Reads what follows `feed`, but for the expression.
-fn feed_line(rest: &[u8]) -> Result<Line<'_>, Fault>
-    ensures says { raw_by result ≡ terms.feed_line (three_of (words rest.now)) }
-    ensures named { IfOk result IsNamed }
-{
-    let Some((name, ring, text)) = three_words(rest) else {
-        return Err(Fault::Syntax);
-    };
-    if !is_name(name) {
-        return Err(Fault::Syntax);
-    }
-    match number_within(1, 65_536, ring) {
-        Some(ring) => Ok(Line::Feed(name, ring as u32, text)),
-        None => Err(Fault::Number),
-    }
 }

@@ -1,7 +1,6 @@
 //! storage.conf: the classes of articles (docs/FORMATS.md, Configuration).
 ghost use Rattle.std.specs.Prelude.{◌≡◌, map, Option, None, Some, Ok, IfOk, OnOk};
 ghost use Rattle.std.specs.Option.{option_to_list};
-ghost use Rattle.relay_conf.specs.Draft.{ExpressionGives};
 ghost use Rattle.relay_conf.specs.Faults.{ConfGives, LineGives};
 ghost use Rattle.relay_conf.specs.Lines.{lines_of};
 ghost use Rattle.relay_conf.specs.Settings.{buffers_view, group_view};
@@ -11,16 +10,18 @@ ghost use Rattle.relay_conf.specs.StorageDraft.{DraftGives, StepGives, Newsgroup
 ghost use Rattle.relay_conf.specs.StorageDraft.{draft_view, draft_said, stand_view};
 ghost use Rattle.relay_conf.specs.StorageDraft.{nothing, no_lines, opened, closed, grouped};
 ghost use Rattle.relay_conf.specs.StorageDraft.{late_or, unknown_at};
-ghost use Rattle.relay_conf.specs.StorageLines as terms;
+ghost use Rattle.relay_conf.specs.StorageFile as terms;
+ghost use Rattle.relay_conf.specs.StorageLines.{storage_line, Closes};
 ghost use Rattle.relay_conf.specs.StorageViews.{StorageGives};
 
 use crate::cycbuff::{Buffers, GroupConf};
+use crate::expressions::expression_of;
 use crate::faults::{ConfError, Fault, LineFault, Refusal};
 use crate::lines::lines_of;
 use crate::storage_lines::{Line, Sizes, storage_line};
 use std::alloc::Global;
 use std::mem;
-use uwild::{Expr, WildError};
+use uwild::Expr;
 
 /// An entry of storage.conf: the articles that it takes, their class, and the number of the group
 /// of buffers that they go to. Sizes are in octets, both ends included; no upper limit is `None`.
@@ -181,7 +182,7 @@ impl Draft {
         line: &[u8],
     ) -> Result<(), Refusal>
         ensures { StepGives (map group_view groups.now) number (draft_view self.old)
-            (terms.storage_line self.old.is_inside line.now) (draft_view self.new) result }
+            (storage_line self.old.is_inside line.now) (draft_view self.new) result }
     {
         match storage_line(self.is_inside, line) {
             Ok(Line::Skipped) => Ok(()),
@@ -213,7 +214,7 @@ impl Draft {
     /// Closes the open entry.
     fn close_entry(&mut self) -> Result<(), Refusal>
         ensures fault { LineGives result
-            (terms.line_fault (stand_view self.old.entry) (Ok terms.Closes)) }
+            (terms.line_fault (stand_view self.old.entry) (Ok Closes)) }
         ensures entries { OnOk result (draft_view self.new ≡ closed (draft_view self.old)) }
     {
         let entry = mem::replace(&mut self.entry, OpenEntry::new());
@@ -266,7 +267,7 @@ impl Draft {
 
 /// The entry whose lines are read.
 fn method_of(entry: OpenEntry) -> Result<Method, Refusal>
-    ensures fault { LineGives result (terms.line_fault (stand_view entry) (Ok terms.Closes)) }
+    ensures fault { LineGives result (terms.line_fault (stand_view entry) (Ok Closes)) }
     ensures entry { IfOk result (λ method.
         entry_view method ≡ terms.entry_of (stand_view entry)) }
 {
@@ -289,17 +290,6 @@ fn method_of(entry: OpenEntry) -> Result<Method, Refusal>
         largest: sizes.largest,
         exactmatch: exactmatch.unwrap_or(false),
     })
-}
-
-/// The expression that a text is.
-fn expression_of(alloc: Global, text: &[u8]) -> Result<Expr, Refusal>
-    ensures { ExpressionGives text.now result }
-{
-    match Expr::parse(alloc, text) {
-        Ok(expression) => Ok(expression),
-        Err(WildError::Memory) => Err(Refusal::Memory),
-        Err(_) => Err(Refusal::Faulty(Fault::Pattern)),
-    }
 }
 
 /// The number of the group of a name: how many stand before the first of that name.

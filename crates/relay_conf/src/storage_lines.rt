@@ -1,13 +1,13 @@
 //! The lines of storage.conf, each read alone.
-ghost use Rattle.std.specs.Prelude.{◌≡◌, ◌∷◌, [], codes, option_map};
+ghost use Rattle.std.specs.Prelude.{◌≡◌, ◌∷◌, [], option_map};
 ghost use Rattle.relay_conf.specs.StorageLines as terms;
 ghost use Rattle.relay_conf.specs.StorageViews.{raw_by};
-ghost use Rattle.relay_conf.specs.Words.{words, parts, three_of};
+ghost use Rattle.relay_conf.specs.Words.{words};
+ghost use Rattle.line_words.specs.Parts.{parts};
 
 use crate::faults::Fault;
-use crate::lines::{is_skipped, trim};
-use crate::numbers::number_within;
-use crate::words::{cut, first_word, is_name, three_words};
+use crate::words::{first_word, is_name, three_words};
+use line_words::{cut, is_skipped, number_within, trim};
 
 /// The sizes that an entry takes, in octets; no upper limit is `None`.
 #[derive(Clone, Copy)]

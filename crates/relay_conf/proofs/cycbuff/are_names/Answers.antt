@@ -1,4 +1,4 @@
-use Rattle.std.proofs.Common.{rules, tests, eqb, ◌∙◌, sym, ap, ◌≡◌}
+use Rattle.std.proofs.Common.{rules, tests, eqb, ◌∙◌, sym, ap}
 use Rattle.std.specs.List.{list_all}
 use Rattle.std.proofs.lemmas.Iterator.Search.{all_from_yields_List}
 use Rattle.std.proofs.lemmas.Iterator.Splits.{YieldsList-from_slice_split}

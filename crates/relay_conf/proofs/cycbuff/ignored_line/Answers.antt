@@ -1,4 +1,4 @@
-use Rattle.std.proofs.Common.{◌≡◌, sym}
+use Rattle.std.proofs.Common.{sym}
 use Rattle.relay_conf.proofs.FileLines.{ignored_some}
 use Rattle.relay_conf.proofs.cycbuff.ignored_line.Goals as goal
 

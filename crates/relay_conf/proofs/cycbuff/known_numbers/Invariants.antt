@@ -1,6 +1,6 @@
-use Rattle.std.proofs.Common.{◌≡◌, ◌++◌, map, length}
+use Rattle.std.proofs.Common.{◌≡◌, length}
 use Rattle.relay_conf.specs.Cycbuff.{known_numbers}
-use Rattle.relay_conf.specs.Words.{parts, parts_after}
+use Rattle.line_words.specs.Parts.{parts, parts_after}
 use Rattle.relay_conf.proofs.Numbered.{with_front}
 use Rattle.relay_conf.proofs.cycbuff.known_numbers.Given as goal
 

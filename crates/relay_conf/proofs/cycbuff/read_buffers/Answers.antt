@@ -1,4 +1,4 @@
-use Rattle.std.proofs.Common.{◌≡◌, ◌∙◌, ap, sym, refl, Ok, vec_items, vec_len, Global, arith}
+use Rattle.std.proofs.Common.{◌∙◌, ap, sym, Ok, vec_items, vec_len, Global, arith}
 use Rattle.std.proofs.lemmas.Bool.{eqb-true, eqb-false}
 use Rattle.relay_conf.proofs.CycbuffLines.{buffers_refused, buffers_passed, names_decide, without_names, with_names}
 use Rattle.relay_conf.specs.declared.cycbuff.BufferConf.{BufferConf}

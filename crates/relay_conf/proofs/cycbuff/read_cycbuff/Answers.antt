@@ -1,8 +1,8 @@
-use Rattle.std.proofs.Common.{◌≡◌, ◌∙◌, sym, ap, map, subst, Vec, Global, vec_items, Err, List, Result}
+use Rattle.std.proofs.Common.{◌∙◌, sym, map, subst, Vec, Global, vec_items, Err, Result}
 use Rattle.relay_conf.specs.declared.faults.LineFault.{LineFault}
 use Rattle.relay_conf.specs.declared.cycbuff.BufferConf.{BufferConf}
 use Rattle.relay_conf.specs.declared.cycbuff.GroupConf.{GroupConf}
-use Rattle.relay_conf.specs.Cycbuff.{CycbuffSettings, buffers_said}
+use Rattle.relay_conf.specs.Cycbuff.{CycbuffSettings}
 use Rattle.relay_conf.specs.Faults.{ConfGives}
 use Rattle.relay_conf.specs.Settings.{buffers_view, group_view}
 use Rattle.relay_conf.proofs.FirstFaults.{handed_on}

@@ -1,6 +1,5 @@
-use Rattle.std.proofs.Common.{◌≡◌, sym, ◌∙◌, ap, ◌∷◌}
-use Rattle.relay_conf.specs.Lines.{lines_in}
-use Rattle.relay_conf.specs.Words.{parts}
+use Rattle.std.proofs.Common.{◌≡◌, ◌∷◌}
+use Rattle.line_words.specs.Parts.{parts}
 use Rattle.relay_conf.proofs.FileLines.{lines_more}
 use Rattle.relay_conf.proofs.lines.next_line.Goals as goal
 

@@ -1,8 +1,8 @@
-use Rattle.std.proofs.Common.{◌≡◌, ◌∙◌, ◌++◌, ◌∷◌, [], ℕ, sym, ap, map, subst, List, append_assoc, append-nil, Option, None, Some, Ok, Err, arith}
+use Rattle.std.proofs.Common.{◌≡◌, ◌∙◌, ◌++◌, ◌∷◌, [], ℕ, sym, ap, map, List, append_assoc, append-nil, Option, None, Some, Ok, arith}
 use Rattle.std.proofs.lemmas.List.{nil_from_length}
 use Rattle.std.specs.Vec.Iter.{into_iter_items}
 use Rattle.relay_conf.specs.Faults.{unless_fault}
-use Rattle.relay_conf.specs.Draft.{first_unknown, numbered_feed, known_number, named_said}
+use Rattle.relay_conf.specs.Draft.{first_unknown, numbered_feed, known_number}
 use Rattle.relay_conf.specs.declared.relay.NamedFeed.{NamedFeed}
 use Rattle.relay_conf.specs.declared.relay.Feed.{Feed}
 use Rattle.relay_conf.specs.declared.faults.LineFault.{LineFault}

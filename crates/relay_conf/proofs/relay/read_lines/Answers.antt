@@ -1,5 +1,4 @@
-use Rattle.std.proofs.Common.{◌≡◌, sym, subst}
-use Rattle.relay_conf.specs.Draft.{draft_view, Reading}
+use Rattle.relay_conf.specs.Draft.{draft_view}
 use Rattle.relay_conf.proofs.Readings.{lines_refused, lines_passed, lines_done}
 use Rattle.relay_conf.proofs.relay.read_lines.Goals as goal
 

@@ -1,4 +1,4 @@
-use Rattle.std.proofs.Common.{◌≡◌, List, ℕ, subst, Err, map}
+use Rattle.std.proofs.Common.{List, ℕ, subst, Err, map}
 use Rattle.std.specs.Borrow.{Bor}
 use Rattle.relay_conf.specs.Lines.{lines_of}
 use Rattle.relay_conf.specs.Draft.{ReadsTo, DraftGives, draft_view}

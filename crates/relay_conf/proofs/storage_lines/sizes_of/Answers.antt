@@ -1,5 +1,5 @@
 use Rattle.std.proofs.Common.{◌≡◌, ◌∙◌, ◌∷◌, sym, ap, List, ℕ}
-use Rattle.relay_conf.specs.Words.{parts}
+use Rattle.line_words.specs.Parts.{parts}
 use Rattle.relay_conf.specs.StorageLines as terms
 use Rattle.relay_conf.proofs.StorageWords.{two_commas}
 use Rattle.relay_conf.proofs.storage_lines.sizes_of.Goals as goal

@@ -3,7 +3,7 @@ use Rattle.std.specs.Prelude.{bytes_eq, ◌||◌}
 use Rattle.std.specs.List.{list_any}
 use Rattle.std.specs.HashSet.{contains_text}
 use Rattle.std.proofs.lemmas.List.{map-append}
-use Rattle.relay_conf.specs.Draft.{draft_view, Reading}
+use Rattle.relay_conf.specs.Draft.{draft_view}
 use Rattle.relay_conf.specs.Relay.{FeedLine}
 use Rattle.relay_conf.specs.declared.relay.NamedFeed.{NamedFeed}
 use Rattle.relay_conf.proofs.NameTexts.{any_more}

@@ -1,4 +1,4 @@
-use Rattle.std.proofs.Common.{◌≡◌, refl, subst, ◌∙◌, sym, Ok, Err}
+use Rattle.std.proofs.Common.{refl, subst, Ok, Err}
 use Rattle.relay_conf.specs.Draft.{draft_view, Reading}
 use Rattle.relay_conf.specs.Relay.{RawLine, RawSays, Skipped, Own, MaxArticle, Cutoff, Remember, PeerLine}
 use Rattle.relay_conf.proofs.Readings.{step_by}
