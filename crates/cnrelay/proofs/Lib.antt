@@ -1,8 +1,6 @@
 pub mod Checks
 pub mod CommandLines
 pub mod Drills
-pub mod Numerals
-pub mod Parts
 pub mod Pieces
 pub mod Plays
 pub mod Prints

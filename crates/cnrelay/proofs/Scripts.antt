@@ -1,6 +1,7 @@
 -- Reading a script line by line: what was read so far stands before what is left.
 use Rattle.std.proofs.Common.{◌≡◌, ℕ, ◌+◌, true, false, List, [], ◌∷◌, ◌++◌, Some, Result, Ok, Err, refl, ap, append_assoc}
-use Rattle.cnrelay.specs.Script.{Line, is_skipped, line_before, line_of, script_from}
+use Rattle.cnrelay.specs.Script.{Line, line_before, line_of, script_from}
+use Rattle.line_words.specs.Comments.{is_skipped}
 
 -- what is read of a script whose first lines are these
 abbrev pub after_lines : List Line → Result (List Line) ℕ → Result (List Line) ℕ

@@ -42,8 +42,8 @@ k1_text files.Relay = K1_RELAY.now
 abbrev pub IsTextOf : (folder : List ℕ) → ConfFile → (text : List ℕ) → Type 0
 IsTextOf folder file text = folder ≡ codes "K1" → text ≡ k1_text file
 
--- the error says that memory ran out, or that the file can't be read, which the built-in ones always
--- can
+-- the error says that memory ran out, or that the file can't be read, which the built-in ones
+-- always can
 abbrev pub IsUnread : (folder : List ℕ) → ConfFile → CheckError → Type 0
 IsUnread folder file error = (error ≡ Memory) ⊎ ((error ≡ Unreadable file) × (folder ≢ codes "K1"))
 
@@ -122,7 +122,8 @@ counted config =
 
 -- the answer is that the configuration in the folder was told, or its error, and then nothing was
 -- written; or it has none and the writer failed
-abbrev pub CheckGives : Result (Unit {0}) CheckError → (folder : List ℕ) → Option (List ℕ) → Option (List ℕ) → Type 0
+abbrev pub CheckGives : Result (Unit {0}) CheckError → (folder : List ℕ) → Option (List ℕ)
+    → Option (List ℕ) → Type 0
 CheckGives (Ok done) folder before after =
     (config : Config) × IsIn folder config × Appends before after (counted config)
 CheckGives (Err Memory) folder before after = Keeps before after

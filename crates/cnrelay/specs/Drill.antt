@@ -24,7 +24,8 @@ pub record Ran (config : Config) (script : List ℕ) (before after : Option (Lis
   pub written : Appends before after text
 
 -- what the answer says of the script and of what the writer held before and holds after
-abbrev pub DrillGives : Config → Result (Unit {0}) DrillError → Option (List ℕ) → Option (List ℕ) → Option (List ℕ) → Type 0
+abbrev pub DrillGives : Config → Result (Unit {0}) DrillError → Option (List ℕ)
+    → Option (List ℕ) → Option (List ℕ) → Type 0
 DrillGives config (Ok done) script before after =
     IfSome script (λ text. Ran config text before after)
 DrillGives config (Err Memory) script before after = Unit {0}

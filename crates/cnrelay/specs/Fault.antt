@@ -36,7 +36,8 @@ LineGives (Err e) says = Unit {0}
 
 -- the answer is the lines that the script says, or the number of its first bad line, unless memory
 -- ran out
-abbrev pub ScriptGives : {L : Type 0} → (L → List Line) → Result L DrillError → Result (List script.Line) ℕ → Type 0
+abbrev pub ScriptGives : {L : Type 0} → (L → List Line) → Result L DrillError
+    → Result (List script.Line) ℕ → Type 0
 ScriptGives items (Ok lines) says = says ≡ Ok (map line_view (items lines))
 ScriptGives items (Err faults.Memory) says = Unit {0}
 ScriptGives items (Err (faults.Line number)) says = says ≡ Err number

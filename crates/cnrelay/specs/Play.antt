@@ -1,5 +1,5 @@
--- What running a script may print, by the steps of the relay (docs/FORMATS.md, Drill scripts). Each act
--- leads from a world, by what it prints, to a world.
+-- What running a script may print, by the steps of the relay (docs/FORMATS.md, Drill scripts). Each
+-- act leads from a world, by what it prints, to a world.
 use Rattle.std.specs.Prelude.{◌≡◌, ℕ, zero, suc, Bool, true, false, ◌++◌, List, [], ◌∷◌, length, take, drop, min, Option, None, Some, if◌then◌else◌}
 use Rattle.std.specs.Bool.{MatchBool}
 use Rattle.relay_model.specs.Run.{Event, Open, Bytes, Turn, Write, Step, is_there, is_running}
@@ -39,8 +39,8 @@ pieces_in (suc turns) size [] = []
 pieces_in (suc turns) size (c ∷ cs) =
     take size (c ∷ cs) ∷ pieces_in turns size (drop size (c ∷ cs))
 
--- how a drill stands: the sessions that it opened, in rising order, and the octets of a piece, where
--- octets are split
+-- how a drill stands: the sessions that it opened, in rising order, and the octets of a piece,
+-- where octets are split
 pub record Stand : Type 0 where
   pub sessions : List ℕ
   pub piece : Option ℕ
@@ -85,8 +85,8 @@ RoundsEach w moment sessions groups (suc count) =
     Then (Then (TurnsEach w moment sessions) (WritesEach w moment groups))
     (RoundsEach w moment sessions groups count)
 
--- a peer or a group as an event names it: numbers past the last that an event has stand for that one,
--- and there is no such peer or group
+-- a peer or a group as an event names it: numbers past the last that an event has stand for that
+-- one, and there is no such peer or group
 abbrev pub narrowed : ℕ → ℕ
 narrowed number = min number 4294967295
 
@@ -103,7 +103,8 @@ sessions_after sessions session output =
     if is_refused output then sessions else sessions ++ session ∷ []
 
 -- a session is opened, and it is one of those that are open unless that is refused
-pub record OpensOne (w : Terms) (session peer : ℕ) (stand stand' : Stand) (x : World) (text : List ℕ) (x' : World) : Type 0 where
+pub record OpensOne (w : Terms) (session peer : ℕ) (stand stand' : Stand) (x : World)
+    (text : List ℕ) (x' : World) : Type 0 where
   pub output : Output
   pub step : Step w x (Open session (narrowed peer)) output x'
   pub says : text ≡ printed output

@@ -11,7 +11,8 @@ use Rattle.cnrelay.specs.Play.{Act}
 use Rattle.cnrelay.specs.Play as play
 
 -- The act is done: the core agrees with the world after it, and the writer gained what it prints.
-pub record Did (w : Terms) (act : Act) (x : World) (system : System) (before after : Option (List ℕ)) : Type 0 where
+pub record Did (w : Terms) (act : Act) (x : World) (system : System)
+    (before after : Option (List ℕ)) : Type 0 where
   pub world : World
   pub text : List ℕ
   pub agrees : Agrees w system world
@@ -24,7 +25,8 @@ Plays act old new before after =
     (w : Terms) (x : World) → Agrees w old x → Did w (act w) x new before after
 
 -- What is left to be done completes the whole act.
-pub record Underway (w : Terms) (left whole : Act) (x : World) (system : System) (before after : Option (List ℕ)) : Type 0 where
+pub record Underway (w : Terms) (left whole : Act) (x : World) (system : System)
+    (before after : Option (List ℕ)) : Type 0 where
   pub world : World
   pub text : List ℕ
   pub agrees : Agrees w system world
@@ -32,11 +34,15 @@ pub record Underway (w : Terms) (left whole : Act) (x : World) (system : System)
   pub completes : (more : List ℕ) (x' : World) → left world more x' → whole x (text ++ more) x'
 
 -- from whatever world the core agreed with, what is left completes the whole
-abbrev pub Completes : (left whole : Terms → Act) → System → System → Option (List ℕ) → Option (List ℕ) → Type 0
+abbrev pub Completes : (left whole : Terms → Act) → System → System → Option (List ℕ)
+    → Option (List ℕ) → Type 0
 Completes left whole old new before after =
     (w : Terms) (x : World) → Agrees w old x → Underway w (left w) (whole w) x new before after
 
 -- how a drill stands, in the definitions
 abbrev pub stand_view : Stand → play.Stand
 stand_view stand =
-    record { sessions = stand.sessions.items; piece = option_map (λ (size : PieceSize). size.octets) stand.piece }
+    record {
+      sessions = stand.sessions.items;
+      piece = option_map (λ (size : PieceSize). size.octets) stand.piece;
+    }

@@ -1,9 +1,11 @@
 -- Drill scripts: what the lines say (docs/FORMATS.md, Drill scripts).
-use Rattle.std.specs.Prelude.{ℕ, ◌+◌, ◌==◌, ◌++◌, Bool, true, List, [], ◌∷◌, bytes_eq, codes, Option, None, Some, Result, Ok, Err, if◌then◌else◌}
+use Rattle.std.specs.Prelude.{ℕ, ◌+◌, ◌++◌, List, [], ◌∷◌, bytes_eq, codes, Option, None, Some, Result, Ok, Err, if◌then◌else◌}
 use Rattle.std.specs.Option.{option_map, option_and_then}
 use Rattle.std.specs.List.{join_with_byte}
 use Rattle.news_terms.specs.Lines.{crlf}
-use Rattle.cnrelay.specs.Words.{parts, words, one_of, two_of, number, number_within, octets_of, peer_of}
+use Rattle.line_words.specs.Parts.{parts, one_of, two_of}
+use Rattle.line_words.specs.Comments.{is_skipped}
+use Rattle.cnrelay.specs.Words.{words, number, number_within, octets_of, peer_of}
 
 -- what a line asks
 pub data Line : Type 0 where
@@ -96,11 +98,6 @@ line_of_words peers (word ∷ after) = option_and_then (line_with peers after) (
 -- what a line says; None is a bad line
 abbrev pub line_of : List (List ℕ) → List ℕ → Option Line
 line_of peers line = line_of_words peers (words line)
-
--- empty lines and comments say nothing
-abbrev pub is_skipped : List ℕ → Bool
-is_skipped [] = true
-is_skipped (first ∷ rest) = first == 35
 
 -- a line before those that follow; a bad line is named before any that follows
 abbrev pub line_before : ℕ → Option Line → Result (List Line) ℕ → Result (List Line) ℕ

@@ -46,10 +46,12 @@ pub record Told (text : List ℕ) (before after : Option (List ℕ)) : Type 0 wh
 
 -- the answer is that the parts were written, or the first fault of the text, and then nothing was
 -- written; or the text is a token's and the writer failed
-abbrev pub TellGives : Result (Unit {0}) TokenFault → List ℕ → Option (List ℕ) → Option (List ℕ) → Type 0
+abbrev pub TellGives : Result (Unit {0}) TokenFault → List ℕ → Option (List ℕ)
+    → Option (List ℕ) → Type 0
 TellGives (Ok done) text before after = Told text before after
 TellGives (Err Length) text before after = HasOtherLength text × Keeps before after
 TellGives (Err Marks) text before after = LacksMarks text × Keeps before after
 TellGives (Err Digit) text before after = HasOtherDigit text × Keeps before after
 TellGives (Err LowerCase) text before after = HasLowerCase text × Keeps before after
-TellGives (Err Unwritten) text before after = (token : Token) × IsToken token × (text ≡ token_text token)
+TellGives (Err Unwritten) text before after =
+    (token : Token) × IsToken token × (text ≡ token_text token)

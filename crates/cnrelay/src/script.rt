@@ -2,14 +2,15 @@
 ghost use Rattle.std.specs.Prelude.{◌≡◌, ◌++◌, [], map, option_map, string_bytes, vec_items, IfOk};
 ghost use Rattle.std.specs.List.{join_with_byte};
 ghost use Rattle.news_terms.specs.Lines.{crlf};
-ghost use Rattle.cnrelay.specs.Words.{parts_after};
+ghost use Rattle.line_words.specs.Parts.{parts_after};
 ghost use Rattle.cnrelay.specs.Script.{line_with, send_line, script_of, OPEN, RAW, SPLIT, TURN, WRITE, ROUNDS};
 ghost use Rattle.cnrelay.specs.Script as terms;
 ghost use Rattle.cnrelay.specs.Fault.{LineGives, ScriptGives, keyword_view, line_view};
 
 use crate::fault::DrillError;
 use crate::line::{Line, PieceSize};
-use crate::words::{cut, number, number_within, octets_of, one_word, peer_of, two_words};
+use crate::words::{number, number_within, octets_of, peer_of};
+use line_words::{cut, is_skipped, one_part, two_parts};
 use std::alloc::{AllocError, Global};
 
 /// Reads a whole script, for peers of these names.
@@ -31,16 +32,6 @@ pub fn read_script(alloc: Global, peers: &[String], text: &[u8]) -> Result<Vec<L
         }
     }
     Ok(lines)
-}
-
-/// Whether the line is empty or a comment.
-fn is_skipped(line: &[u8]) -> bool
-    ensures { result ≡ terms.is_skipped line.now }
-{
-    match line.first() {
-        Some(first) => *first == b'#',
-        None => true,
-    }
 }
 
 /// The first words of lines.
@@ -99,7 +90,7 @@ fn open(peers: &[String], rest: Option<&[u8]>) -> Option<Line>
     ensures { option_map line_view result
         ≡ line_with (map string_bytes peers.now) (parts_after 32 rest.entry) OPEN }
 {
-    let (session, peer) = two_words(rest)?;
+    let (session, peer) = two_parts(rest, b' ')?;
     Some(Line::Open(number(session)?, peer_of(peers, peer)?))
 }
 
@@ -141,7 +132,7 @@ fn ended_line(alloc: Global, line: &[u8]) -> Result<Vec<u8>, AllocError>
 fn raw(alloc: Global, rest: Option<&[u8]>) -> Result<Option<Line>, AllocError>
     ensures { LineGives result (line_with [] (parts_after 32 rest.entry) RAW) }
 {
-    let Some((session, digits)) = two_words(rest) else {
+    let Some((session, digits)) = two_parts(rest, b' ') else {
         return Ok(None);
     };
     let Some(session) = number(session) else {
@@ -157,7 +148,7 @@ fn raw(alloc: Global, rest: Option<&[u8]>) -> Result<Option<Line>, AllocError>
 fn split(rest: Option<&[u8]>) -> Option<Line>
     ensures { option_map line_view result ≡ line_with [] (parts_after 32 rest.entry) SPLIT }
 {
-    let octets = number_within(1, 4_096, one_word(rest)?)? as usize;
+    let octets = number_within(1, 4_096, one_part(rest, b' ')?)? as usize;
     Some(Line::Split(PieceSize { octets }))
 }
 
@@ -165,7 +156,7 @@ fn split(rest: Option<&[u8]>) -> Option<Line>
 fn turn(rest: Option<&[u8]>) -> Option<Line>
     ensures { option_map line_view result ≡ line_with [] (parts_after 32 rest.entry) TURN }
 {
-    let (session, moment) = two_words(rest)?;
+    let (session, moment) = two_parts(rest, b' ')?;
     Some(Line::Turn(number(session)?, number(moment)?))
 }
 
@@ -173,7 +164,7 @@ fn turn(rest: Option<&[u8]>) -> Option<Line>
 fn write(rest: Option<&[u8]>) -> Option<Line>
     ensures { option_map line_view result ≡ line_with [] (parts_after 32 rest.entry) WRITE }
 {
-    let (group, moment) = two_words(rest)?;
+    let (group, moment) = two_parts(rest, b' ')?;
     Some(Line::Write(number(group)?, number(moment)?))
 }
 
@@ -181,6 +172,6 @@ fn write(rest: Option<&[u8]>) -> Option<Line>
 fn rounds(rest: Option<&[u8]>) -> Option<Line>
     ensures { option_map line_view result ≡ line_with [] (parts_after 32 rest.entry) ROUNDS }
 {
-    let (count, moment) = two_words(rest)?;
+    let (count, moment) = two_parts(rest, b' ')?;
     Some(Line::Rounds(number_within(1, 100_000, count)?, number(moment)?))
 }

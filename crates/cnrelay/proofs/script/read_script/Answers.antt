@@ -1,5 +1,5 @@
 use Rattle.std.proofs.Common.{arith}
-use Rattle.cnrelay.proofs.Parts.{few_parts, next_part}
+use Rattle.line_words.proofs.Cuts.{few_parts, next_part}
 use Rattle.cnrelay.proofs.script.read_script.Goals as goal
 
 pub overflow_add-number : goal.overflow_add-number

@@ -1,5 +1,5 @@
 use Rattle.std.proofs.Common.{◌≡◌, ◌+◌, length, map, string_bytes}
-use Rattle.cnrelay.specs.Words.{parts, parts_after}
+use Rattle.line_words.specs.Parts.{parts, parts_after}
 use Rattle.cnrelay.specs.Script.{script_of, script_from}
 use Rattle.cnrelay.specs.Fault.{line_view}
 use Rattle.cnrelay.proofs.Scripts.{after_lines}

@@ -2,7 +2,7 @@ use Rattle.std.proofs.Common.{rules, tests, ◌∙◌, string_bytes, Global}
 use Rattle.std.specs.Str.{bytes_eq}
 use Rattle.std.proofs.lemmas.Iterator.{YieldsList-from_slice}
 use Rattle.std.proofs.lemmas.Iterator.Search.{position_from_yields_List}
-use Rattle.cnrelay.proofs.Parts.{place_map}
+use Rattle.line_words.proofs.Cuts.{place_map}
 use Rattle.cnrelay.proofs.words.peer_of.Goals as goal
 
 pub returns : goal.returns

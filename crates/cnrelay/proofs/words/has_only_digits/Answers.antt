@@ -1,9 +1,0 @@
-use Rattle.std.proofs.Common.{rules, tests, ◌∙◌}
-use Rattle.std.specs.Char.{is_ascii_digit}
-use Rattle.std.proofs.lemmas.Iterator.{YieldsList-from_slice}
-use Rattle.std.proofs.lemmas.Iterator.Search.{all_from_yields_List}
-use Rattle.cnrelay.proofs.Numerals.{list_all-digits}
-use Rattle.cnrelay.proofs.words.has_only_digits.Goals as goal
-
-pub returns : goal.returns
-returns c = all_from_yields_List is_ascii_digit _ _ c.all.result c.all.ensures.ran (YieldsList-from_slice c.args.word.now c.iter.ensures.rest) (λ x b q k. search (rules, tests)) ∙ list_all-digits c.args.word.now
