@@ -1,3 +1,4 @@
+pub mod BuiltIn
 pub mod CycbuffLines
 pub mod FileLines
 pub mod FirstFaults
@@ -5,6 +6,9 @@ pub mod JoinedLines
 pub mod LineWords
 pub mod NameTexts
 pub mod Numbered
+pub mod OneReading
+pub mod OneRelay
+pub mod OneStorage
 pub mod Readings
 pub mod SkippedCycbuff
 pub mod SkippedLines

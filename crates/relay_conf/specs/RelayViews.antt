@@ -70,8 +70,12 @@ pub record HasSettings (lines : List (List ℕ)) (settings : RelaySettings) : Ty
   pub says : LinesSay lines said
   pub gives : relay_said said ≡ Ok settings
 
+-- the lines have this fault: the first that is looked for line by line, or that of them together
+abbrev pub HasFault : (lines : List (List ℕ)) → LineFault → Type 0
+HasFault lines fault = HasEarlyFault lines fault ⊎ HasWholeFault lines fault
+
 -- the answer is what the lines of relay.conf say, unless memory ran out
 abbrev pub RelayGives : Result Relay ConfError → (lines : List (List ℕ)) → Type 0
 RelayGives (Ok relay) lines = HasSettings lines (relay_view relay)
 RelayGives (Err Memory) lines = Unit {0}
-RelayGives (Err (Faulty fault)) lines = HasEarlyFault lines fault ⊎ HasWholeFault lines fault
+RelayGives (Err (Faulty fault)) lines = HasFault lines fault

@@ -56,10 +56,13 @@ pub record HasEntries (groups : List Group) (lines : List (List ℕ))
   pub says : LinesSay [] lines said
   pub gives : storage_said groups said ≡ Ok entries
 
+-- the lines have this fault: the first that is looked for line by line, or that of them together
+abbrev pub HasFault : (groups : List Group) (lines : List (List ℕ)) → LineFault → Type 0
+HasFault groups lines fault = HasEarlyFault groups lines fault ⊎ HasWholeFault groups lines fault
+
 -- the answer is what the lines of storage.conf say over these groups, unless memory ran out
 abbrev pub StorageGives : Result (Vec Method) ConfError → List Group → (lines : List (List ℕ))
     → Type 0
 StorageGives (Ok methods) groups lines = HasEntries groups lines (map entry_view methods.items)
 StorageGives (Err Memory) groups lines = Unit {0}
-StorageGives (Err (Faulty fault)) groups lines =
-    HasEarlyFault groups lines fault ⊎ HasWholeFault groups lines fault
+StorageGives (Err (Faulty fault)) groups lines = HasFault groups lines fault

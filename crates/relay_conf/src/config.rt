@@ -1,5 +1,5 @@
 //! The whole configuration.
-ghost use Rattle.std.specs.Prelude.{◌≡◌, map, IfOk};
+ghost use Rattle.std.specs.Prelude.{◌≡◌, map, IfOk, IfErr};
 ghost use Rattle.relay_conf.specs.Cycbuff.{cycbuff_of};
 ghost use Rattle.relay_conf.specs.Lines.{lines_of};
 ghost use Rattle.relay_conf.specs.RelayViews.{HasSettings, relay_view};
@@ -31,8 +31,36 @@ pub const K1_STORAGE: &[u8] = b"method cnfs {\nclass: 1\nnewsgroups: *\noptions:
 pub const K1_RELAY: &[u8] =
     b"own relay.example\npeer p1 one.example 0\npeer p2 two.example 0\nfeed p2 2 *\n";
 
+/// The buffers and groups of K1.
+fn k1_buffers(alloc: Global) -> Result<Buffers, ConfError>
+    ensures gives { IfOk result (λ buffers.
+        cycbuff_of (lines_of K1_CYCBUFF.now) ≡ Ok (buffers_view buffers)) }
+    ensures memory { IfErr result (λ error. error ≡ ConfError.Memory) }
+{
+    read_cycbuff(alloc, K1_CYCBUFF)
+}
+
+/// The entries of K1, over its groups.
+fn k1_methods(alloc: Global, buffers: &Buffers) -> Result<Vec<Method>, ConfError>
+    requires { cycbuff_of (lines_of K1_CYCBUFF.now) ≡ Ok (buffers_view buffers.now) }
+    ensures gives { IfOk result (λ methods. HasEntries (buffers_view buffers.now).groups
+        (lines_of K1_STORAGE.now) (map entry_view methods.items)) }
+    ensures memory { IfErr result (λ error. error ≡ ConfError.Memory) }
+{
+    read_storage(alloc, K1_STORAGE, buffers)
+}
+
+/// What relay.conf says in K1.
+fn k1_relay(alloc: Global) -> Result<Relay, ConfError>
+    ensures gives { IfOk result (λ relay.
+        HasSettings (lines_of K1_RELAY.now) (relay_view relay)) }
+    ensures memory { IfErr result (λ error. error ≡ ConfError.Memory) }
+{
+    read_relay(alloc, K1_RELAY)
+}
+
 impl Config {
-    /// The configuration K1, which is built in.
+    /// The configuration K1, which is built in. Its texts have no fault: what fails is memory.
     pub fn k1(alloc: Global) -> Result<Config, ConfError>
         ensures cycbuff { IfOk result (λ config.
             cycbuff_of (lines_of K1_CYCBUFF.now) ≡ Ok (buffers_view config.buffers)) }
@@ -40,10 +68,11 @@ impl Config {
             (lines_of K1_STORAGE.now) (map entry_view config.methods.items)) }
         ensures relay { IfOk result (λ config.
             HasSettings (lines_of K1_RELAY.now) (relay_view config.relay)) }
+        ensures memory { IfErr result (λ error. error ≡ ConfError.Memory) }
     {
-        let buffers = read_cycbuff(alloc, K1_CYCBUFF)?;
-        let methods = read_storage(alloc, K1_STORAGE, &buffers)?;
-        let relay = read_relay(alloc, K1_RELAY)?;
+        let buffers = k1_buffers(alloc)?;
+        let methods = k1_methods(alloc, &buffers)?;
+        let relay = k1_relay(alloc)?;
         Ok(Config {
             buffers,
             methods,

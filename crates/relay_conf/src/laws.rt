@@ -7,8 +7,9 @@ ghost use Rattle.relay_conf.specs.Cycbuff.{Group, CycbuffSettings, cycbuff_of};
 ghost use Rattle.relay_conf.specs.Lines.{lines_of, joined_by, is_line};
 ghost use Rattle.line_words.specs.Comments.{is_skipped};
 ghost use Rattle.relay_conf.specs.Relay.{RelaySettings};
-ghost use Rattle.relay_conf.specs.RelayViews.{HasSettings};
-ghost use Rattle.relay_conf.specs.StorageViews.{HasEntries};
+ghost use Rattle.relay_conf.specs.RelayViews as relay;
+ghost use Rattle.relay_conf.specs.StorageViews as storage;
+ghost use Rattle.relay_conf.specs.declared.faults.LineFault.{LineFault};
 
 /// Lines joined by LF are the lines of that text.
 pub fn lines_joined_by_line_feeds()
@@ -34,7 +35,8 @@ pub fn comments_change_nothing_in_cycbuff_conf()
 pub fn comments_change_nothing_in_relay_conf()
     ensures { (before after : List (List ℕ)) (line : List ℕ) (settings : RelaySettings)
         → IsTrue (is_skipped (without_outer_white line))
-        → HasSettings (before ++ line ∷ after) settings ↔ HasSettings (before ++ after) settings }
+        → relay.HasSettings (before ++ line ∷ after) settings
+        ↔ relay.HasSettings (before ++ after) settings }
 {}
 
 /// A comment or an empty line changes nothing of what storage.conf says.
@@ -42,6 +44,27 @@ pub fn comments_change_nothing_in_storage_conf()
     ensures { (groups : List Group) (before after : List (List ℕ)) (line : List ℕ)
         (entries : List Entry)
         → IsTrue (is_skipped (without_outer_white line))
-        → HasEntries groups (before ++ line ∷ after) entries
-        ↔ HasEntries groups (before ++ after) entries }
+        → storage.HasEntries groups (before ++ line ∷ after) entries
+        ↔ storage.HasEntries groups (before ++ after) entries }
+{}
+
+/// The lines of relay.conf say one thing: its settings, or its fault.
+pub fn one_reading_of_relay_conf()
+    ensures settings { (lines : List (List ℕ)) (a b : RelaySettings) → relay.HasSettings lines a
+        → relay.HasSettings lines b → a ≡ b }
+    ensures either { (lines : List (List ℕ)) (settings : RelaySettings) (fault : LineFault)
+        → relay.HasSettings lines settings → ¬ relay.HasFault lines fault }
+    ensures fault { (lines : List (List ℕ)) (a b : LineFault) → relay.HasFault lines a
+        → relay.HasFault lines b → a ≡ b }
+{}
+
+/// The lines of storage.conf, over some groups, say one thing: its entries, or its fault.
+pub fn one_reading_of_storage_conf()
+    ensures entries { (groups : List Group) (lines : List (List ℕ)) (a b : List Entry)
+        → storage.HasEntries groups lines a → storage.HasEntries groups lines b → a ≡ b }
+    ensures either { (groups : List Group) (lines : List (List ℕ)) (entries : List Entry)
+        (fault : LineFault) → storage.HasEntries groups lines entries
+        → ¬ storage.HasFault groups lines fault }
+    ensures fault { (groups : List Group) (lines : List (List ℕ)) (a b : LineFault)
+        → storage.HasFault groups lines a → storage.HasFault groups lines b → a ≡ b }
 {}

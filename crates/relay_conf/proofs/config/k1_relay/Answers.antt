@@ -1,0 +1,5 @@
+use Rattle.relay_conf.proofs.BuiltIn.{relay_fails_by_memory}
+use Rattle.relay_conf.proofs.config.k1_relay.Goals as goal
+
+pub returns-clause-memory : goal.returns-clause-memory
+returns-clause-memory c = relay_fails_by_memory c.read_relay.result c.read_relay.ensures
