@@ -1,5 +1,5 @@
 //! The grammar of articles (RFC 5536, sections 2 and 3; docs/FORMATS.md, Articles): what the
-//! content of a field says, in one line and without white space at its ends.
+//! content of a field says.
 #![tactic(auto)]
 
 mod article;
@@ -13,7 +13,6 @@ pub use article::Article;
 pub use content::{is_blank, unfolded};
 pub use faults::{ArtError, FieldName};
 pub use header::Field;
-pub use line_words::trim;
 
 #[cfg(test)]
 mod damage_tests;

@@ -9,8 +9,9 @@ ghost use Rattle.news_terms.specs.Article.{is_white};
 ghost use Rattle.news_terms.specs.Dates as terms;
 ghost use Rattle.date_rules.specs.Seconds.{second_of, second_in, second_read};
 
-use article_parse::{trim, unfolded};
+use article_parse::unfolded;
 use jiff::fmt::rfc2822::DateTimeParser;
+use line_words::trim;
 use std::alloc::{AllocError, Global};
 
 /// The nanoseconds of a second.
