@@ -1,9 +1,9 @@
 -- What a drill answers, once its script was read.
 use Rattle.std.proofs.Common.{◌≡◌, ℕ, List, [], ◌∷◌, Option, Some, None, Result, Ok, Err}
 use Rattle.std.specs.Prelude.{IfSome}
-use Rattle.relay_core.specs.Config.{terms_of}
-use Rattle.relay_core.specs.declared.config.Config.{Config}
-use Rattle.relay_model.specs.World.{empty_world}
+use Rattle.first_core.specs.Config.{terms_of}
+use Rattle.first_core.specs.declared.config.Config.{Config}
+use Rattle.first_model.specs.World.{empty_world}
 use Rattle.cnrelay.specs.Drill.{DrillGives, lines_of_script}
 use Rattle.cnrelay.specs.Fault.{PlayGives}
 use Rattle.cnrelay.specs.Play.{LinesDo, first_stand}
@@ -12,7 +12,7 @@ use Rattle.cnrelay.specs.Script.{Line}
 use Rattle.cnrelay.specs.declared.fault.DrillError.{DrillError}
 use Rattle.cnrelay.specs.declared.fault.DrillError.TheVariants.{Memory, Unreadable, Unwritten}
 use Rattle.cnrelay.specs.declared.fault.DrillError.TheVariants as faults
-use Rattle.relay_core.specs.declared.system.System.{System}
+use Rattle.first_core.specs.declared.system.System.{System}
 
 -- Where the lines were read and then played, the answer of that is the drill's.
 pub drill_gives : (config : Config) (system : System) (result : Result (Unit {0}) DrillError) (script : Option (List ℕ)) (read : List ℕ) (lines : List Line) (before after : Option (List ℕ)) → IfSome script (λ all. read ≡ all) → lines_of_script config read ≡ Ok lines → PlayGives result (Did (terms_of config) (LinesDo (terms_of config) (0 ∷ []) lines first_stand) empty_world system before after) → DrillGives config result script before after

@@ -1,11 +1,11 @@
 -- How an act is done step by step: what is left completes the whole, until nothing is left.
 use Rattle.std.proofs.Common.{◌≡◌, ℕ, Bool, true, false, List, [], ◌∷◌, ◌++◌, Option, refl, sym, ap, ◌∙◌, subst, append_assoc, append-nil}
 use Rattle.std.specs.Prelude.{not}
-use Rattle.relay_core.specs.Agreement.{Agrees}
-use Rattle.relay_core.specs.declared.system.System.{System}
-use Rattle.relay_model.specs.Run.{Turn, is_there, is_running}
-use Rattle.relay_model.specs.Terms.{Terms}
-use Rattle.relay_model.specs.World.{World, Output}
+use Rattle.first_core.specs.Agreement.{Agrees}
+use Rattle.first_core.specs.declared.system.System.{System}
+use Rattle.first_model.specs.Run.{Turn, is_there, is_running}
+use Rattle.first_model.specs.Terms.{Terms}
+use Rattle.first_model.specs.World.{World, Output}
 use Rattle.cnrelay.specs.Play.{Act, Nothing, One, Then, TurnsOne, Stand, is_refused, sessions_after}
 use Rattle.cnrelay.specs.Progress.{Did, Underway}
 use Rattle.cnrelay.proofs.Prints.{appends_both, appends_none}

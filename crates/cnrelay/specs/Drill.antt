@@ -1,9 +1,9 @@
 -- What a drill writes (docs/PROTOCOL.md, The call `drill`).
 use Rattle.std.specs.Prelude.{◌≡◌, ℕ, List, [], ◌∷◌, map, string_bytes, Option, Result, Ok, Err, IfSome}
 use Rattle.std.specs.Io.KnownBytes.{Appends, Keeps}
-use Rattle.relay_core.specs.Config.{terms_of}
-use Rattle.relay_core.specs.declared.config.Config.{Config}
-use Rattle.relay_model.specs.World.{World, empty_world}
+use Rattle.first_core.specs.Config.{terms_of}
+use Rattle.first_core.specs.declared.config.Config.{Config}
+use Rattle.first_model.specs.World.{World, empty_world}
 use Rattle.cnrelay.specs.Play.{LinesDo, first_stand}
 use Rattle.cnrelay.specs.Script.{Line, script_of}
 use Rattle.cnrelay.specs.declared.fault.DrillError.{DrillError}

@@ -2,9 +2,9 @@
 -- act leads from a world, by what it prints, to a world.
 use Rattle.std.specs.Prelude.{◌≡◌, ℕ, zero, suc, Bool, true, false, ◌++◌, List, [], ◌∷◌, length, take, drop, min, Option, None, Some, if◌then◌else◌}
 use Rattle.std.specs.Bool.{MatchBool}
-use Rattle.relay_model.specs.Run.{Event, Open, Bytes, Turn, Write, Step, is_there, is_running}
-use Rattle.relay_model.specs.Terms.{Terms}
-use Rattle.relay_model.specs.World.{World, Output, Quiet, Sent, Ended, Refuses}
+use Rattle.first_model.specs.Run.{Event, Open, Bytes, Turn, Write, Step, is_there, is_running}
+use Rattle.first_model.specs.Terms.{Terms}
+use Rattle.first_model.specs.World.{World, Output, Quiet, Sent, Ended, Refuses}
 use Rattle.cnrelay.specs.Print.{printed}
 use Rattle.cnrelay.specs.Script.{Line, Opens, Brings, Splits, Turns, Writes, Rounds}
 

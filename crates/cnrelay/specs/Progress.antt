@@ -2,10 +2,10 @@
 use Rattle.std.specs.Prelude.{ℕ, List, ◌++◌, Option, option_map}
 use Rattle.cnrelay.specs.declared.line.PieceSize.{PieceSize}
 use Rattle.std.specs.Io.KnownBytes.{Appends}
-use Rattle.relay_core.specs.Agreement.{Agrees}
-use Rattle.relay_core.specs.declared.system.System.{System}
-use Rattle.relay_model.specs.Terms.{Terms}
-use Rattle.relay_model.specs.World.{World}
+use Rattle.first_core.specs.Agreement.{Agrees}
+use Rattle.first_core.specs.declared.system.System.{System}
+use Rattle.first_model.specs.Terms.{Terms}
+use Rattle.first_model.specs.World.{World}
 use Rattle.cnrelay.specs.declared.play.Stand.{Stand}
 use Rattle.cnrelay.specs.Play.{Act}
 use Rattle.cnrelay.specs.Play as play

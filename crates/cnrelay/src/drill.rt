@@ -6,7 +6,7 @@ ghost use Rattle.cnrelay.specs.Fault.{ReadGives};
 use crate::fault::DrillError;
 use crate::play::play;
 use crate::script::read_script;
-use relay_core::{Config, System};
+use first_core::{Config, System};
 use std::alloc::Global;
 use std::io::{ErrorKind, Read, Write};
 use std::random::RandomSource;

@@ -3,7 +3,7 @@ use crate::command_line::read_words;
 use crate::drill::drill;
 use crate::fault::DrillError;
 use crate::tests::drilled;
-use relay_core::Config;
+use first_core::Config;
 use std::io;
 use std::io::{ErrorKind, Read, Write};
 use std::test::Fail;

@@ -32,7 +32,7 @@ use clap::error::ErrorKind;
 use command_line::{Job, read_words};
 use drill::drill;
 use fault::DrillError;
-use relay_core::Config;
+use first_core::Config;
 use std::io::LineWriter;
 use std::process::ExitCode;
 use std::{env, io};

@@ -6,12 +6,12 @@ ghost use Rattle.cnrelay.specs.Play as terms;
 ghost use Rattle.cnrelay.specs.Fault.{PlayGives, line_view};
 ghost use Rattle.cnrelay.specs.Print.{printed};
 ghost use Rattle.cnrelay.specs.Progress.{Plays, stand_view};
-ghost use Rattle.relay_core.specs.Views.{event_view, output_view};
+ghost use Rattle.first_core.specs.Views.{event_view, output_view};
 
 use crate::fault::DrillError;
 use crate::line::{Line, PieceSize};
 use crate::print::print;
-use relay_core::{Event, Octets, Output, System};
+use first_core::{Event, Octets, Output, System};
 use std::alloc::Global;
 use std::io::Write;
 

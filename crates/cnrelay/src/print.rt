@@ -1,12 +1,12 @@
 //! What an output prints (docs/FORMATS.md, Drill scripts: What is printed).
 ghost use Rattle.std.specs.Prelude.{◌≡◌, ◌<◌, ◌∷◌, length, OnOk};
 ghost use Rattle.std.specs.Io.KnownBytes.{Appends};
-ghost use Rattle.relay_core.specs.Views.{fault_view, output_view};
+ghost use Rattle.first_core.specs.Views.{fault_view, output_view};
 ghost use Rattle.cnrelay.specs.Print as terms;
 ghost use Rattle.cnrelay.specs.Print.{lines_of, printed, session_line, session_lines};
 
 use memchr::memmem;
-use relay_core::{CoreError, Output};
+use first_core::{CoreError, Output};
 use std::io;
 use std::io::Write;
 

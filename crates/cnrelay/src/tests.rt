@@ -1,6 +1,6 @@
 //! What drills print, by the worked examples of docs/FORMATS.md and docs/PROTOCOL.md.
 use crate::drill::drill;
-use relay_core::Config;
+use first_core::Config;
 use std::test::Fail;
 
 /// What a script prints.

@@ -1,9 +1,9 @@
 ghost use Rattle.std.specs.Prelude.{◌≡◌, ◌≢◌, Some, is_some, option_map};
 ghost use Rattle.std.specs.Prelude.{IsOk, IfOk, IfSome, OnOk, OnErr};
 ghost use Rattle.cyc_token.specs.Token.{token_view};
-ghost use Rattle.relay_model.specs.Claims.{Accepted, Unknown, offer_answer, after_offer};
-ghost use Rattle.relay_model.specs.Claims.{take_answer, after_take, after_refuse, after_release};
-ghost use Rattle.relay_model.specs.Claims.{after_forget, is_storing_for, after_settle, look_answer};
+ghost use Rattle.first_model.specs.Claims.{Accepted, Unknown, offer_answer, after_offer};
+ghost use Rattle.first_model.specs.Claims.{take_answer, after_take, after_refuse, after_release};
+ghost use Rattle.first_model.specs.Claims.{after_forget, is_storing_for, after_settle, look_answer};
 
 use cyc_token::Token;
 use nntp_text::MsgId;

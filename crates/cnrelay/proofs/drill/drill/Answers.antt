@@ -1,6 +1,6 @@
 use Rattle.std.proofs.Common.{◌≡◌, List, [], ◌∷◌, map, Ok, subst}
-use Rattle.relay_core.specs.Config.{terms_of}
-use Rattle.relay_model.specs.World.{empty_world}
+use Rattle.first_core.specs.Config.{terms_of}
+use Rattle.first_model.specs.World.{empty_world}
 use Rattle.cnrelay.specs.declared.line.Line.{Line}
 use Rattle.cnrelay.specs.Drill.{lines_of_script}
 use Rattle.cnrelay.specs.Fault.{PlayGives, line_view}

@@ -1,7 +1,7 @@
 use Rattle.std.proofs.Common.{◌≡◌, ℕ, ◌<◌, List, [], length, subst, arith, rules, ◌∙◌}
-use Rattle.relay_core.specs.Agreement.{Agrees}
-use Rattle.relay_model.specs.Run.{Bytes}
-use Rattle.relay_model.specs.World.{World}
+use Rattle.first_core.specs.Agreement.{Agrees}
+use Rattle.first_model.specs.Run.{Bytes}
+use Rattle.first_model.specs.World.{World}
 use Rattle.cnrelay.specs.Play.{One, BringsEach, pieces_in}
 use Rattle.cnrelay.specs.Progress.{Did, Underway}
 use Rattle.cnrelay.proofs.Pieces.{next_pieces, no_octets}

@@ -1,5 +1,5 @@
 use Rattle.std.proofs.Common.{refl, sym}
-use Rattle.relay_core.specs.Views.{output_view}
+use Rattle.first_core.specs.Views.{output_view}
 use Rattle.cnrelay.specs.Print.{printed}
 use Rattle.cnrelay.specs.Progress.{stand_view}
 use Rattle.cnrelay.proofs.Plays.{stands_refused, stands_opened}

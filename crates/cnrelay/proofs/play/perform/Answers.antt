@@ -1,5 +1,5 @@
 use Rattle.std.proofs.Common.{refl}
-use Rattle.relay_core.specs.Views.{output_view}
+use Rattle.first_core.specs.Views.{output_view}
 use Rattle.cnrelay.specs.Print.{printed}
 use Rattle.cnrelay.proofs.play.perform.Goals as goal
 

@@ -1,5 +1,5 @@
 use Rattle.std.proofs.Common.{[], ◌∷◌, refl, length, Some, ap, subst, sym}
-use Rattle.relay_model.specs.Run.{Turn, Write}
+use Rattle.first_model.specs.Run.{Turn, Write}
 use Rattle.cnrelay.specs.Fault.{line_view}
 use Rattle.cnrelay.specs.Script.{Line, Splits}
 use Rattle.cnrelay.specs.Play.{Stand, Nothing, One, LineDoes, OpensOne, RoundsEach, BringsEach, pieces_in}

@@ -1,5 +1,5 @@
 use Rattle.std.proofs.Common.{[], ◌∷◌}
-use Rattle.relay_model.specs.Run.{Write}
+use Rattle.first_model.specs.Run.{Write}
 use Rattle.cnrelay.specs.Play.{One, TurnsEach, WritesEach}
 use Rattle.cnrelay.proofs.Plays.{did_both, did_last}
 use Rattle.cnrelay.proofs.play.round.Goals as goal

@@ -1,5 +1,5 @@
 use Rattle.std.proofs.Common.{sym, ◌∙◌, rules}
-use Rattle.relay_model.specs.Run.{Turn, is_there, is_running}
+use Rattle.first_model.specs.Run.{Turn, is_there, is_running}
 use Rattle.cnrelay.specs.Play.{Nothing, One, TurnsOne}
 use Rattle.cnrelay.proofs.Plays.{did_as, did_nothing, turns_one, turns_none, not_false, not_true}
 use Rattle.cnrelay.proofs.play.turn_one.Goals as goal
