@@ -1,9 +1,8 @@
 -- The texts of the built-in configuration have no fault.
-use Rattle.std.proofs.Common.{◌≡◌, ℕ, List, [], ◌∷◌, Some, Result, Ok, Err, refl, sym, subst, lit<}
+use Rattle.std.proofs.Common.{◌≡◌, ℕ, List, [], ◌∷◌, Result, Ok, Err, refl, lit<}
 use Rattle.std.specs.Prelude.{codes, IfErr}
 use Rattle.std.specs.Global.{Vec}
 use Rattle.news_terms.specs.Pattern.{Marked, Match, Star, IsExpressionText}
-use Rattle.news_terms.specs.StorageClass.{Entry}
 use Rattle.relay_conf.specs.declared.cycbuff.Mode.TheVariants.{Interleave}
 use Rattle.relay_conf.specs.declared.faults.ConfError.{ConfError}
 use Rattle.relay_conf.specs.declared.faults.ConfError.TheVariants.{Memory, Faulty}

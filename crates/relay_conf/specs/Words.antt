@@ -23,13 +23,13 @@ abbrev pub is_name : List ℕ → Bool
 is_name word =
     not (is_empty word) && nat_le (length word) 16 && list_all is_name_octet word
 
--- the first octet is a dot (docs/FORMATS.md, Configuration)
-abbrev pub begins_with_dot : List ℕ → Bool
-begins_with_dot [] = false
-begins_with_dot (c ∷ rest) = c == byte "."
+-- the first octet is this one (docs/FORMATS.md, Configuration)
+abbrev pub begins_with : (octet : ℕ) → List ℕ → Bool
+begins_with octet [] = false
+begins_with octet (first ∷ rest) = first == octet
 
 -- an identity: 1 to 64 octets of names, the first no dot (docs/FORMATS.md, Configuration)
 abbrev pub is_identity : List ℕ → Bool
 is_identity word =
     not (is_empty word) && nat_le (length word) 64 && list_all is_name_octet word
-    && not (begins_with_dot word)
+    && not (begins_with (byte ".") word)

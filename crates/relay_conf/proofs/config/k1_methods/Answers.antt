@@ -1,5 +1,5 @@
-use Rattle.std.proofs.Common.{◌≡◌, List, Ok, subst}
-use Rattle.relay_conf.specs.Cycbuff.{CycbuffSettings, Group}
+use Rattle.std.proofs.Common.{◌≡◌, List, subst}
+use Rattle.relay_conf.specs.Cycbuff.{Group}
 use Rattle.relay_conf.specs.Settings.{buffers_view}
 use Rattle.relay_conf.specs.StorageViews.{StorageGives}
 use Rattle.relay_conf.proofs.BuiltIn.{built_in_groups, storage_lines, storage_fails_by_memory, same_groups}
