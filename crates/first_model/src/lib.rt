@@ -7,6 +7,5 @@
 //! specs/Pace.antt and specs/Verdict.antt.
 //!
 //! Laws over all runs are in `first_laws`. They don't make the definitions right: only reading them
-//! against docs/PROTOCOL.md, as docs/DEFINITIONS.md does sentence by sentence, and the worked
-//! examples that the core runs check that.
+//! against docs/PROTOCOL.md, and the worked examples that the core runs, check that.
 #![tactic(auto)]
