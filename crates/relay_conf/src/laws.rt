@@ -1,14 +1,16 @@
-//! Laws of the lines of a file: nothing of the code stands on them.
+//! Laws of what the files say: nothing of the code stands on them.
 ghost use Rattle.std.specs.Prelude.{◌≡◌, ◌↔◌, ℕ, List, [], ◌∷◌, ◌++◌, Ok, IsTrue};
 ghost use Rattle.std.specs.List.{list_all};
 ghost use Rattle.news_terms.specs.Article.{line_feed, line_end, without_outer_white};
 ghost use Rattle.news_terms.specs.StorageClass.{Entry};
 ghost use Rattle.relay_conf.specs.Cycbuff.{Group, CycbuffSettings, cycbuff_of};
+ghost use Rattle.relay_conf.specs.K1.{k1_buffers, k1_entries, k1_relay};
 ghost use Rattle.relay_conf.specs.Lines.{lines_of, joined_by, is_line};
 ghost use Rattle.line_words.specs.Comments.{is_skipped};
 ghost use Rattle.relay_conf.specs.Relay.{RelaySettings};
 ghost use Rattle.relay_conf.specs.RelayViews as relay;
 ghost use Rattle.relay_conf.specs.StorageViews as storage;
+ghost use Rattle.relay_conf.specs.declared.config.TheConstants.{K1_CYCBUFF, K1_STORAGE, K1_RELAY};
 ghost use Rattle.relay_conf.specs.declared.faults.LineFault.{LineFault};
 
 /// Lines joined by LF are the lines of that text.
@@ -67,4 +69,11 @@ pub fn one_reading_of_storage_conf()
         → ¬ storage.HasFault groups lines fault }
     ensures fault { (groups : List Group) (lines : List (List ℕ)) (a b : LineFault)
         → storage.HasFault groups lines a → storage.HasFault groups lines b → a ≡ b }
+{}
+
+/// The built-in texts say what K1 is.
+pub fn texts_of_k1()
+    ensures cycbuff { cycbuff_of (lines_of K1_CYCBUFF.now) ≡ Ok k1_buffers }
+    ensures storage { storage.HasEntries k1_buffers.groups (lines_of K1_STORAGE.now) k1_entries }
+    ensures relay { relay.HasSettings (lines_of K1_RELAY.now) k1_relay }
 {}
