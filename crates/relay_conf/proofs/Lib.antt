@@ -9,6 +9,7 @@ pub mod Numbered
 pub mod OneReading
 pub mod OneRelay
 pub mod OneStorage
+pub mod PathIdentities
 pub mod Readings
 pub mod SkippedCycbuff
 pub mod SkippedLines

@@ -1,6 +1,6 @@
 -- storage.conf: what its lines say, each alone.
-use Rattle.std.specs.Prelude.{◌≡◌, ℕ, ◌+◌, ◌^◌, ◌-◌, ◌==◌, ◌&&◌, ◌||◌, nat_lt, Bool, true, false, List, [], ◌∷◌, length, take, drop, codes, bytes_eq, Option, None, Some, Result, Ok, Err, if◌then◌else◌}
-use Rattle.std.specs.List.{list_any, position_or_len}
+use Rattle.std.specs.Prelude.{◌≡◌, ℕ, ◌+◌, ◌^◌, ◌-◌, ◌==◌, ◌&&◌, ◌||◌, nat_eq, nat_lt, Bool, true, false, List, [], ◌∷◌, length, take, drop, codes, bytes_eq, Option, None, Some, Result, Ok, Err, if◌then◌else◌}
+use Rattle.std.specs.List.{list_any, position_or_len, starts_with}
 use Rattle.std.specs.Str.{byte, str_eq_ignore_ascii_case}
 use Rattle.news_terms.specs.Article.{is_empty, without_outer_white}
 use Rattle.news_terms.specs.Pattern.{Marked, ExpressionFault, IsExpressionText, HasLeftmostFault}
@@ -10,7 +10,7 @@ use Rattle.relay_conf.specs.declared.storage_lines.Place.{Place}
 use Rattle.relay_conf.specs.declared.storage_lines.Place.TheVariants.{Outside, InEntry, InOther}
 use Rattle.relay_conf.specs.declared.storage_lines.Sizes.{Sizes}
 use Rattle.line_words.specs.Comments.{is_skipped}
-use Rattle.relay_conf.specs.Words.{words, is_name, begins_with}
+use Rattle.relay_conf.specs.Words.{words, is_name}
 use Rattle.line_words.specs.Parts.{parts, three_of}
 use Rattle.line_words.specs.Numbers.{number_within}
 
@@ -168,7 +168,7 @@ setting_line key value =
 -- Configuration)
 abbrev pub unquoted_line : (key value : List ℕ) → RawLine
 unquoted_line key value =
-    if is_key key && begins_with (byte "\"") value then Err Syntax else setting_line key value
+    if is_key key && starts_with nat_eq value (codes "\"") then Err Syntax else setting_line key value
 
 -- what a line says by its key and value, where it has a colon (docs/FORMATS.md, Configuration)
 abbrev pub keyed_line : (line : List ℕ) → Option (List ℕ × List ℕ) → RawLine

@@ -1,6 +1,6 @@
 -- Words of configuration files: what stands between spaces, names and identities.
-use Rattle.std.specs.Prelude.{ℕ, ◌==◌, ◌&&◌, ◌||◌, not, nat_le, filter, Bool, false, List, [], ◌∷◌, length}
-use Rattle.std.specs.List.{slice_split, list_all}
+use Rattle.std.specs.Prelude.{ℕ, ◌==◌, ◌&&◌, ◌||◌, not, nat_eq, nat_le, filter, Bool, List, length, codes}
+use Rattle.std.specs.List.{slice_split, list_all, starts_with}
 use Rattle.std.specs.Char.{is_ascii_alphanumeric}
 use Rattle.std.specs.Str.{byte}
 use Rattle.news_terms.specs.Article.{is_empty, space}
@@ -23,13 +23,8 @@ abbrev pub is_name : List ℕ → Bool
 is_name word =
     not (is_empty word) && nat_le (length word) 16 && list_all is_name_octet word
 
--- the first octet is this one (docs/FORMATS.md, Configuration)
-abbrev pub begins_with : (octet : ℕ) → List ℕ → Bool
-begins_with octet [] = false
-begins_with octet (first ∷ rest) = first == octet
-
 -- an identity: 1 to 64 octets of names, the first no dot (docs/FORMATS.md, Configuration)
 abbrev pub is_identity : List ℕ → Bool
 is_identity word =
     not (is_empty word) && nat_le (length word) 64 && list_all is_name_octet word
-    && not (begins_with (byte ".") word)
+    && not (starts_with nat_eq word (codes "."))

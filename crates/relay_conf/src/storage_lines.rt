@@ -6,7 +6,7 @@ ghost use Rattle.relay_conf.specs.Words.{words};
 ghost use Rattle.line_words.specs.Parts.{parts};
 
 use crate::faults::Fault;
-use crate::words::{begins_with, first_word, is_name, three_words};
+use crate::words::{first_word, is_name, three_words};
 use line_words::{cut, is_skipped, number_within, trim};
 
 /// The sizes that an entry takes, in octets; no upper limit is `None`.
@@ -146,7 +146,7 @@ fn is_key(word: &[u8]) -> bool
 fn unquoted_line<'a>(key: &[u8], value: &'a [u8]) -> Result<Line<'a>, Fault>
     ensures { raw_by result ≡ terms.unquoted_line key.now value.now }
 {
-    if is_key(key) && begins_with(value, b'"') {
+    if is_key(key) && value.starts_with(b"\"") {
         return Err(Fault::Syntax);
     }
     setting_line(key, value)

@@ -84,15 +84,5 @@ pub(crate) fn three_words(line: &[u8]) -> Option<(&[u8], &[u8], &[u8])>
 pub(crate) fn is_identity(word: &[u8]) -> bool
     ensures { result ≡ terms.is_identity word.now }
 {
-    !word.is_empty() && word.len() <= 64 && has_name_octets(word) && !begins_with(word, b'.')
-}
-
-/// Whether the first octet is this one.
-pub(crate) fn begins_with(text: &[u8], octet: u8) -> bool
-    ensures { result ≡ terms.begins_with octet text.now }
-{
-    match text.first() {
-        Some(first) => *first == octet,
-        None => false,
-    }
+    !word.is_empty() && word.len() <= 64 && has_name_octets(word) && !word.starts_with(b".")
 }
