@@ -1,5 +1,6 @@
 -- Where articles lie in cyclic buffers (the principle of INN's CNFS; docs/PROTOCOL.md, Store).
-use Rattle.std.specs.Prelude.{ℕ, ◌+◌, ◌-◌, ◌*◌, ◌/◌, ◌%◌, ◌≤◌, ◌<◌, ◌==◌, nat_le, List, [], ◌∷◌, ◌++◌}
+use Rattle.std.specs.Prelude.{ℕ, ◌+◌, ◌-◌, ◌*◌, ◌/◌, ◌%◌, ◌≤◌, ◌<◌, ◌==◌, nat_le, List, [], ◌∷◌}
+use Rattle.std.specs.Prelude.{◌++◌}
 use Rattle.std.specs.Prelude.{length, fold, slice_get, Option, None, Some, if◌then◌else◌}
 
 -- the octets of a block on the device (docs/FORMATS.md, Blocks on the device)
