@@ -3,7 +3,6 @@ pub mod CycbuffLines
 pub mod FileLines
 pub mod FirstFaults
 pub mod JoinedLines
-pub mod LineWords
 pub mod NameTexts
 pub mod Numbered
 pub mod OneReading

@@ -11,7 +11,8 @@ use Rattle.std.proofs.lemmas.Option.{unwrap_or-slice_get}
 use Rattle.std.specs.List.{list_all}
 use Rattle.std.specs.Prelude.{find, IsTrue, is_some, not}
 use Rattle.std.specs.Char.{is_ascii_graphic}
-use Rattle.news_terms.specs.Article.{Article, IsArticleText, article_text, field_text, line_end}
+use Rattle.news_terms.specs.Article.{Article, IsArticleText, article_text, field_text}
+use Rattle.news_terms.specs.Lines.{crlf}
 use Rattle.news_terms.specs.Article.{message_id, newsgroups}
 use Rattle.news_terms.specs.Dates.{date_fault}
 use Rattle.news_terms.specs.Fronts.{FitsGroup}
@@ -45,8 +46,8 @@ found_one P p (y ∷ xs) x all e = by (p y) e (found_one P p xs x (All-tail P y 
 -- an article's text has an octet at least
 some_octets : (a : Article) → 1 ≤ size_of (length (article_text a))
 some_octets a =
-    let whole = length-append (flat_map field_text a.fields ++ line_end) a.body in
-    let front = length-append (flat_map field_text a.fields) line_end in
+    let whole = length-append (flat_map field_text a.fields ++ crlf) a.body in
+    let front = length-append (flat_map field_text a.fields) crlf in
     by (length (article_text a)) (omega (arith, whole, front))
   where
     by : (n : ℕ) → 1 ≤ n → 1 ≤ (n + 479) / 480
