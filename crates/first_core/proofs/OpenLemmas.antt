@@ -30,11 +30,12 @@ use Rattle.first_core.specs.declared.session.Plan.{Plan}
 use Rattle.first_core.specs.declared.session.Plan.TheVariants as plan
 use Rattle.first_core.specs.declared.session.Session.{Session}
 use Rattle.first_core.specs.declared.system.System.{System}
-use Rattle.first_model.specs.Claims.{Claim}
+use Rattle.relay_model.specs.Claims.{Claim}
 use Rattle.first_model.specs.Run as run
 use Rattle.first_model.specs.Run.{Event, Step, IsRefused, WantsMemory, IsDone, is_there, is_reading, is_running, refusal, opened, new_session}
 use Rattle.first_model.specs.State as model
-use Rattle.first_model.specs.State.{State, put_at}
+use Rattle.first_model.specs.State.{State}
+use Rattle.relay_model.specs.State.{put_at}
 use Rattle.first_model.specs.Terms.{Terms, last_moment}
 use Rattle.first_model.specs.Turns.{with_unread}
 use Rattle.first_model.specs.World as world

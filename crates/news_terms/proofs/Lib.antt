@@ -2,6 +2,7 @@ pub mod ArticleFaults
 pub mod ArticleReadings
 pub mod BlockLemmas
 pub mod Choices
+pub mod CivilTimes
 pub mod EmptyLines
 pub mod ExpressionFaults
 pub mod ExpressionReadings

@@ -3,12 +3,12 @@ pub mod CycbuffLines
 pub mod FileLines
 pub mod FirstFaults
 pub mod JoinedLines
-pub mod LineWords
 pub mod NameTexts
 pub mod Numbered
 pub mod OneReading
 pub mod OneRelay
 pub mod OneStorage
+pub mod PathIdentities
 pub mod Readings
 pub mod SkippedCycbuff
 pub mod SkippedLines

@@ -1,11 +1,10 @@
 -- relay.conf says one thing.
 use Rattle.std.proofs.Common.{◌≡◌, ℕ, List, [], ◌∷◌, ◌++◌, Ok, Err, refl, ap, ◌∙◌, sym, subst, inl, inr}
-use Rattle.news_terms.specs.Pattern.{Marked, IsExpressionText}
 use Rattle.news_terms.proofs.ExpressionReadings.{one_expression}
 use Rattle.news_terms.proofs.ExpressionFaults.{expression_without_fault}
 use Rattle.relay_conf.specs.declared.faults.LineFault.{LineFault}
 use Rattle.relay_conf.specs.Faults.{first_fault}
-use Rattle.relay_conf.specs.Relay.{RelayLine, RawLine, SaidLine, Skipped, Own, MaxArticle, Cutoff, Remember, PeerLine, FeedLine, FeedSays, RawSays, LineSays, LinesSay, early_fault, relay_said, relay_line, RelaySettings}
+use Rattle.relay_conf.specs.Relay.{RawLine, SaidLine, Skipped, Own, MaxArticle, Cutoff, Remember, PeerLine, FeedLine, FeedSays, RawSays, LineSays, LinesSay, early_fault, relay_said, relay_line, RelaySettings}
 use Rattle.relay_conf.specs.RelayViews.{HasEarlyFault, HasWholeFault, HasFault, HasSettings}
 use Rattle.relay_conf.proofs.OneReading.{fault_stays, fault_said, one_ok, ok_or_err, one_err, GoesOn, longer, shorter, goes_on, one_first_fault}
 

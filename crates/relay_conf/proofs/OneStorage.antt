@@ -1,14 +1,13 @@
 -- storage.conf says one thing.
 use Rattle.std.proofs.Common.{◌≡◌, ℕ, List, [], ◌∷◌, ◌++◌, Ok, Err, refl, ap, ◌∙◌, sym, subst, inl, inr}
-use Rattle.news_terms.specs.Pattern.{Marked, IsExpressionText}
 use Rattle.news_terms.proofs.ExpressionReadings.{one_expression}
 use Rattle.news_terms.proofs.ExpressionFaults.{expression_without_fault}
 use Rattle.relay_conf.specs.declared.faults.LineFault.{LineFault}
 use Rattle.relay_conf.specs.Faults.{first_fault}
 use Rattle.news_terms.specs.StorageClass.{Entry}
 use Rattle.relay_conf.specs.Cycbuff.{Group}
-use Rattle.relay_conf.specs.StorageLines.{StorageLine, RawLine, SaidLine, Skipped, Opens, Closes, ClassLine, NewsgroupsLine, OptionsLine, SizeLine, ExactLine, NewsgroupsSay, RawSays, storage_line}
-use Rattle.relay_conf.specs.StorageFile.{LineSays, LinesSay, is_inside, early_fault, storage_said}
+use Rattle.relay_conf.specs.StorageLines.{RawLine, SaidLine, Skipped, Opens, Closes, Ends, ClassLine, NewsgroupsLine, OptionsLine, SizeLine, ExactLine, NewsgroupsSay, RawSays, storage_line}
+use Rattle.relay_conf.specs.StorageFile.{LineSays, LinesSay, place_behind, early_fault, storage_said}
 use Rattle.relay_conf.specs.StorageViews.{HasEarlyFault, HasWholeFault, HasFault, HasEntries}
 use Rattle.relay_conf.proofs.OneReading.{fault_stays, fault_said, one_ok, ok_or_err, one_err, GoesOn, longer, shorter, goes_on, one_first_fault}
 
@@ -25,6 +24,7 @@ raw_once (Err fault) a b h k = h ∙ sym k
 raw_once (Ok Skipped) a b h k = h ∙ sym k
 raw_once (Ok (Opens method)) a b h k = h ∙ sym k
 raw_once (Ok Closes) a b h k = h ∙ sym k
+raw_once (Ok Ends) a b h k = h ∙ sym k
 raw_once (Ok (ClassLine class)) a b h k = h ∙ sym k
 raw_once (Ok (NewsgroupsLine text)) a b h k = newsgroups_once text a b h k
 raw_once (Ok (OptionsLine group)) a b h k = h ∙ sym k
@@ -43,7 +43,7 @@ says_on before (line ∷ one) (next ∷ other) rest left (s ∷ a) (t ∷ b) e h
     let same : line ≡ next = cc in
     let after : one ++ rest ≡ other ++ left = cc in
     let first : LineSays before line t = subst (λ (l : List ℕ). LineSays before l t) (sym same) k.0 in
-    let said = raw_once (storage_line (is_inside before) line) s t h.0 first in
+    let said = raw_once (storage_line (place_behind before) line) s t h.0 first in
     goes_on s t a b said
     (says_on (before ++ s ∷ []) one other rest left a b after h.1 (subst (λ (u : SaidLine). LinesSay (before ++ u ∷ []) other b) (sym said) k.1))
 
@@ -54,7 +54,7 @@ says_front before [] rest (s ∷ a) b h k = absurd h
 says_front before (line ∷ one) rest [] b h k = absurd h
 says_front before (line ∷ one) rest (s ∷ a) [] h k = absurd k
 says_front before (line ∷ one) rest (s ∷ a) (t ∷ b) h k =
-    let said = raw_once (storage_line (is_inside before) line) s t h.0 k.0 in
+    let said = raw_once (storage_line (place_behind before) line) s t h.0 k.0 in
     let after = says_front (before ++ s ∷ []) one rest a b h.1 (subst (λ (u : SaidLine). LinesSay (before ++ u ∷ []) (one ++ rest) b) (sym said) k.1) in
     (after.0, ap (λ (u : SaidLine). u ∷ b) (sym said) ∙ ap (λ (more : List SaidLine). s ∷ more) after.1)
 
@@ -66,7 +66,7 @@ said_once before [] (s ∷ a) b h k = absurd h
 said_once before (line ∷ lines) [] b h k = absurd h
 said_once before (line ∷ lines) (s ∷ a) [] h k = absurd k
 said_once before (line ∷ lines) (s ∷ a) (t ∷ b) h k =
-    let said = raw_once (storage_line (is_inside before) line) s t h.0 k.0 in
+    let said = raw_once (storage_line (place_behind before) line) s t h.0 k.0 in
     rw (said, said_once (before ++ s ∷ []) lines a b h.1 (subst (λ (u : SaidLine). LinesSay (before ++ u ∷ []) lines b) (sym said) k.1)) refl
 
 -- A first fault of some lines is that of all of them.

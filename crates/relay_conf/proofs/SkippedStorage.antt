@@ -1,16 +1,19 @@
 -- Comments and empty lines of storage.conf.
-use Rattle.std.proofs.Common.{◌≡◌, ℕ, Bool, true, false, List, [], ◌∷◌, ◌++◌, reverse, Option, Some, None, Ok, refl, ap, ◌∙◌, sym, subst, append_assoc, append-nil}
+use Rattle.std.proofs.Common.{◌≡◌, ℕ, true, List, [], ◌∷◌, ◌++◌, reverse, Option, Some, None, Ok, refl, ap, ◌∙◌, sym, subst, append_assoc, append-nil}
 use Rattle.std.specs.Prelude.{◌↔◌, filter_map}
+use Rattle.std.proofs.lemmas.Bool.{eqb-true}
 use Rattle.std.proofs.lemmas.List.{reverse-append}
 use Rattle.std.proofs.lemmas.List.Elements.{filter_map-append}
 use Rattle.news_terms.specs.Article.{without_outer_white}
 use Rattle.news_terms.specs.StorageClass.{Entry}
+use Rattle.relay_conf.specs.declared.storage_lines.Place.{Place}
+use Rattle.relay_conf.specs.declared.storage_lines.Place.TheVariants.{Outside, InEntry, InOther}
 use Rattle.relay_conf.specs.Cycbuff.{Group}
 use Rattle.relay_conf.specs.Faults.{first_fault, whole_fault}
 use Rattle.line_words.specs.Comments.{is_skipped}
 use Rattle.relay_conf.specs.Relay.{first_or}
-use Rattle.relay_conf.specs.StorageLines.{SaidLine, Skipped, RawSays, storage_line}
-use Rattle.relay_conf.specs.StorageFile.{LinesSay, Stand, stand_behind, mark_of, is_inside, up_to_mark, back_to_mark, entry_lines, class_of, newsgroups_of, group_of, size_of, exact_of, line_fault, early_fault, late_fault, open_fault, closed_by, entries_of, storage_said}
+use Rattle.relay_conf.specs.StorageLines.{SaidLine, Skipped, RawSays, other_line, storage_line}
+use Rattle.relay_conf.specs.StorageFile.{LinesSay, Stand, stand_behind, mark_of, place_behind, up_to_mark, back_to_mark, entry_lines, class_of, newsgroups_of, group_of, size_of, exact_of, line_fault, early_fault, late_fault, open_fault, closed_by, entries_of, storage_said}
 use Rattle.relay_conf.specs.StorageViews.{HasEntries}
 use Rattle.relay_conf.proofs.SkippedLines.{is_quiet, settings_in, kept_same, quiet_same, unless_same, settings_to}
 
@@ -21,12 +24,12 @@ back_with before after =
     ∙ ap (λ (back : List SaidLine). back ++ reverse before) (reverse-append (Ok Skipped ∷ []) after)
     ∙ append_assoc (reverse after) (Ok Skipped ∷ []) (reverse before)
 
--- An entry is open behind lines without one that is skipped where it is with it.
-inside_same : (before after : List SaidLine) → is_inside (before ++ Ok Skipped ∷ after) ≡ is_inside (before ++ after)
-inside_same before after =
-    ap (λ (back : List SaidLine). first_or false (filter_map mark_of back)) (back_with before after)
-    ∙ ap (first_or false) (kept_same mark_of (reverse after) (Ok Skipped) (reverse before) refl)
-    ∙ ap (λ (back : List SaidLine). first_or false (filter_map mark_of back)) (sym (reverse-append before after))
+-- A line stands behind lines without one that is skipped where it does with it.
+place_same : (before after : List SaidLine) → place_behind (before ++ Ok Skipped ∷ after) ≡ place_behind (before ++ after)
+place_same before after =
+    ap (λ (back : List SaidLine). first_or Outside (filter_map mark_of back)) (back_with before after)
+    ∙ ap (first_or Outside) (kept_same mark_of (reverse after) (Ok Skipped) (reverse before) refl)
+    ∙ ap (λ (back : List SaidLine). first_or Outside (filter_map mark_of back)) (sym (reverse-append before after))
 
 -- What is kept of one line more, last first.
 kept_last : {B : Type 0} (f : SaidLine → Option B) (line : SaidLine) (back : List SaidLine) → filter_map f (reverse (line ∷ back)) ≡ filter_map f (reverse back) ++ filter_map f (line ∷ [])
@@ -42,14 +45,14 @@ back_same {B} f e [] earlier =
     ∙ append-nil (filter_map f (reverse (back_to_mark earlier)))
 back_same {B} f e (line ∷ later) earlier = by_mark (mark_of line) (back_same f e later earlier)
   where
-    by_mark : (o : Option Bool)
+    by_mark : (o : Option Place)
         → filter_map f (reverse (back_to_mark (later ++ Ok Skipped ∷ earlier))) ≡ filter_map f (reverse (back_to_mark (later ++ earlier)))
         → filter_map f (reverse (up_to_mark o line (back_to_mark (later ++ Ok Skipped ∷ earlier)))) ≡ filter_map f (reverse (up_to_mark o line (back_to_mark (later ++ earlier))))
     by_mark None same =
         kept_last f line (back_to_mark (later ++ Ok Skipped ∷ earlier))
         ∙ ap (λ (kept : List B). kept ++ filter_map f (line ∷ [])) same
         ∙ sym (kept_last f line (back_to_mark (later ++ earlier)))
-    by_mark (Some opened) same = refl
+    by_mark (Some place) same = refl
 
 -- What is kept of the lines of the entry is kept without one that is skipped.
 entry_same : {B : Type 0} (f : SaidLine → Option B) → f (Ok Skipped) ≡ None → (before after : List SaidLine)
@@ -97,41 +100,49 @@ storage_same groups before after =
     let all = before ++ Ok Skipped ∷ after in
     unless_same (first_fault (early_fault groups) [] all) (first_fault (early_fault groups) [] (before ++ after)) _ _
     (quiet_same (early_fault groups) (Ok Skipped) (λ b. refl) (λ b c line. ap (λ (stand : Stand). line_fault stand line) (stand_same groups b c)) [] before after)
-    (unless_same (whole_fault (open_fault (is_inside all))) (whole_fault (open_fault (is_inside (before ++ after)))) _ _
-    (ap (λ (inside : Bool). is_quiet (whole_fault (open_fault inside))) (inside_same before after))
+    (unless_same (whole_fault (open_fault (place_behind all))) (whole_fault (open_fault (place_behind (before ++ after)))) _ _
+    (ap (λ (place : Place). is_quiet (whole_fault (open_fault place))) (place_same before after))
     (unless_same (first_fault (late_fault groups) [] all) (first_fault (late_fault groups) [] (before ++ after)) _ _
     (quiet_same (late_fault groups) (Ok Skipped) (λ b. refl) (λ b c line. refl) [] before after)
     (ap (λ (entries : List Entry). Some entries) (entries_same groups [] before after))))
 
--- A comment or an empty line is skipped, inside an entry and outside.
-storage_skipped : (line : List ℕ) (inside : Bool) → is_skipped (without_outer_white line) ≡ true → storage_line inside line ≡ Ok Skipped
-storage_skipped line true e = rw e refl
-storage_skipped line false e = rw e refl
+-- A comment or an empty line ends no entry of another method.
+other_skipped : (trimmed : List ℕ) → is_skipped trimmed ≡ true → other_line {E = List ℕ} trimmed ≡ Skipped
+other_skipped [] e = refl
+other_skipped (first ∷ rest) e =
+    let same : first ≡ 35 = eqb-true first 35 e in
+    rw same refl
 
--- Lines say the same behind lines behind which the same entries are open.
+-- A comment or an empty line is skipped wherever it stands.
+storage_skipped : (line : List ℕ) (place : Place) → is_skipped (without_outer_white line) ≡ true → storage_line place line ≡ Ok Skipped
+storage_skipped line Outside e = rw e refl
+storage_skipped line InEntry e = rw e refl
+storage_skipped line InOther e = ap Ok (other_skipped (without_outer_white line) e)
+
+-- Lines say the same behind lines behind which they stand alike.
 say_behind : (one other : List SaidLine) (lines : List (List ℕ)) (said : List SaidLine)
-    → ((more : List SaidLine) → is_inside (one ++ more) ≡ is_inside (other ++ more))
+    → ((more : List SaidLine) → place_behind (one ++ more) ≡ place_behind (other ++ more))
     → LinesSay one lines said → LinesSay other lines said
 say_behind one other [] [] same h = tt
 say_behind one other [] (says ∷ said) same h = absurd h
 say_behind one other (line ∷ lines) [] same h = absurd h
 say_behind one other (line ∷ lines) (says ∷ said) same h =
-    let here : is_inside one ≡ is_inside other = ap is_inside (sym (append-nil one)) ∙ same [] ∙ ap is_inside (append-nil other) in (
-      subst (λ (inside : Bool). RawSays (storage_line inside line) says) here h.0,
+    let here : place_behind one ≡ place_behind other = ap place_behind (sym (append-nil one)) ∙ same [] ∙ ap place_behind (append-nil other) in (
+      subst (λ (place : Place). RawSays (storage_line place line) says) here h.0,
       say_behind (one ++ says ∷ []) (other ++ says ∷ []) lines said
-          (λ more. ap is_inside (append_assoc one (says ∷ []) more) ∙ same (says ∷ more) ∙ ap is_inside (sym (append_assoc other (says ∷ []) more))) h.1,
+          (λ more. ap place_behind (append_assoc one (says ∷ []) more) ∙ same (says ∷ more) ∙ ap place_behind (sym (append_assoc other (says ∷ []) more))) h.1,
     )
 
--- An entry is open behind a line that is skipped where it was before it.
-passes_same : (passed more : List SaidLine) → is_inside ((passed ++ Ok Skipped ∷ []) ++ more) ≡ is_inside (passed ++ more)
-passes_same passed more = ap is_inside (append_assoc passed (Ok Skipped ∷ []) more) ∙ inside_same passed more
+-- A line stands behind one that is skipped where it stood before it.
+passes_same : (passed more : List SaidLine) → place_behind ((passed ++ Ok Skipped ∷ []) ++ more) ≡ place_behind (passed ++ more)
+passes_same passed more = ap place_behind (append_assoc passed (Ok Skipped ∷ []) more) ∙ place_same passed more
 
 -- What lines say without one that is skipped.
 say_less : (passed : List SaidLine) (before : List (List ℕ)) (line : List ℕ) (after : List (List ℕ)) (said : List SaidLine) → is_skipped (without_outer_white line) ≡ true → LinesSay passed (before ++ line ∷ after) said
     → (one : List SaidLine) × (two : List SaidLine) × (said ≡ one ++ Ok Skipped ∷ two) × LinesSay passed (before ++ after) (one ++ two)
 say_less passed [] line after [] e h = absurd h
 say_less passed [] line after (says ∷ said) e h =
-    let skip : says ≡ Ok Skipped = subst (λ (raw : _). RawSays raw says) (storage_skipped line (is_inside passed) e) h.0 in
+    let skip : says ≡ Ok Skipped = subst (λ (raw : _). RawSays raw says) (storage_skipped line (place_behind passed) e) h.0 in
     let rest : LinesSay (passed ++ Ok Skipped ∷ []) after said = subst (λ (s : SaidLine). LinesSay (passed ++ s ∷ []) after said) skip h.1 in
     ([], said, ap (λ (s : SaidLine). s ∷ said) skip, say_behind (passed ++ Ok Skipped ∷ []) passed after said (passes_same passed) rest)
 say_less passed (first ∷ before) line after [] e h = absurd h
@@ -143,7 +154,7 @@ say_less passed (first ∷ before) line after (says ∷ said) e h =
 say_with : (passed : List SaidLine) (before : List (List ℕ)) (line : List ℕ) (after : List (List ℕ)) (said : List SaidLine) → is_skipped (without_outer_white line) ≡ true → LinesSay passed (before ++ after) said
     → (one : List SaidLine) × (two : List SaidLine) × (said ≡ one ++ two) × LinesSay passed (before ++ line ∷ after) (one ++ Ok Skipped ∷ two)
 say_with passed [] line after said e h =
-    ([], said, refl, (subst (λ (raw : _). RawSays raw (Ok Skipped)) (sym (storage_skipped line (is_inside passed) e)) refl, say_behind passed (passed ++ Ok Skipped ∷ []) after said (λ more. sym (passes_same passed more)) h))
+    ([], said, refl, (subst (λ (raw : _). RawSays raw (Ok Skipped)) (sym (storage_skipped line (place_behind passed) e)) refl, say_behind passed (passed ++ Ok Skipped ∷ []) after said (λ more. sym (passes_same passed more)) h))
 say_with passed (first ∷ before) line after [] e h = absurd h
 say_with passed (first ∷ before) line after (says ∷ said) e h =
     let rest = say_with (passed ++ says ∷ []) before line after said e h.1 in

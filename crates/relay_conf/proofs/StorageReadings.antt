@@ -1,5 +1,5 @@
 -- Readings of storage.conf, line by line.
-use Rattle.std.proofs.Common.{◌≡◌, ℕ, ◌+◌, ◌<◌, ◌≤◌, Bool, true, false, List, [], ◌∷◌, ◌++◌, length, take, drop, get_or, map, reverse, Option, Some, None, Result, Ok, Err, refl, ap, ◌∙◌, sym, subst, arith, append_assoc, append-nil, inl, inr}
+use Rattle.std.proofs.Common.{◌≡◌, ℕ, ◌+◌, ◌<◌, ◌≤◌, Bool, List, [], ◌∷◌, ◌++◌, length, take, drop, get_or, map, reverse, Option, Some, None, Result, Ok, Err, refl, ap, ◌∙◌, sym, subst, arith, append_assoc, append-nil, inl, inr}
 use Rattle.std.specs.Prelude.{filter_map, unwrap_or, IsErrAnd, OnOk}
 use Rattle.std.specs.Option.{option_to_list}
 use Rattle.std.specs.Borrow.{Bor}
@@ -14,15 +14,17 @@ use Rattle.relay_conf.specs.declared.faults.ConfError.TheVariants as errors
 use Rattle.relay_conf.specs.declared.faults.Refusal.{Refusal}
 use Rattle.relay_conf.specs.declared.faults.Refusal.TheVariants.{Memory, Faulty}
 use Rattle.relay_conf.specs.declared.storage.Method.{Method}
+use Rattle.relay_conf.specs.declared.storage_lines.Place.{Place}
+use Rattle.relay_conf.specs.declared.storage_lines.Place.TheVariants.{Outside}
 use Rattle.relay_conf.specs.declared.storage_lines.Sizes.{Sizes}
 use Rattle.relay_conf.specs.Cycbuff.{Group}
 use Rattle.relay_conf.specs.Expressions.{ExpressionGives}
 use Rattle.relay_conf.specs.Faults.{fault_or_later, first_fault, whole_fault, unless_fault, error_at, ConfGives, LineGives}
 use Rattle.relay_conf.specs.Relay.{once, first_or}
 use Rattle.relay_conf.specs.Storage.{entry_view}
-use Rattle.relay_conf.specs.StorageLines.{StorageLine, RawLine, SaidLine, RawSays, Skipped, Opens, Closes, ClassLine, NewsgroupsLine, OptionsLine, SizeLine, ExactLine}
+use Rattle.relay_conf.specs.StorageLines.{StorageLine, RawLine, SaidLine, RawSays, Skipped, Opens, Closes, Ends, ClassLine, NewsgroupsLine, OptionsLine, SizeLine, ExactLine}
 use Rattle.relay_conf.specs.StorageFile.{LineSays, LinesSay, Stand, stand_of, stand_behind}
-use Rattle.relay_conf.specs.StorageFile.{mark_of, is_inside, up_to_mark, back_to_mark, entry_lines, class_of, newsgroups_of, group_of, size_of, exact_of, line_fault, early_fault, late_fault, named_fault, open_fault, closed_by, entries_of, storage_said}
+use Rattle.relay_conf.specs.StorageFile.{mark_of, place_in, place_behind, up_to_mark, back_to_mark, entry_lines, class_of, newsgroups_of, group_of, size_of, exact_of, line_fault, early_fault, late_fault, named_fault, open_fault, closed_by, entries_of, storage_said}
 use Rattle.relay_conf.specs.StorageLines.{storage_line}
 use Rattle.relay_conf.specs.StorageViews.{HasEarlyFault, StorageGives}
 use Rattle.relay_conf.specs.StorageDraft.{Reading, late_or, after_line, Passes, Refuses, StepGives, NewsgroupsGive, IsReadingOf, ReadsTo, DraftGives, draft_said, no_lines}
@@ -68,26 +70,32 @@ say_length before [] (s ∷ said) h = absurd h
 say_length before (l ∷ lines) [] h = absurd h
 say_length before (l ∷ lines) (s ∷ said) h = let e = say_length (before ++ s ∷ []) lines said h.1 in omega (arith, e)
 
--- Whether an entry is open behind one line more.
-pub inside_more : (said : List SaidLine) (line : SaidLine) → is_inside (said ++ line ∷ []) ≡ unwrap_or (mark_of line) (is_inside said)
-inside_more said line = ap (λ (back : List SaidLine). first_or false (filter_map mark_of back)) (reverse-append said (line ∷ [])) ∙ by_mark (mark_of line) refl
+-- Where a line stands behind one line more.
+pub place_more : (said : List SaidLine) (line : SaidLine)
+    → place_behind (said ++ line ∷ []) ≡ unwrap_or (mark_of line) (place_behind said)
+place_more said line =
+    ap (λ (back : List SaidLine). first_or Outside (filter_map mark_of back))
+    (reverse-append said (line ∷ []))
+    ∙ by_mark (mark_of line) refl
   where
-    by_mark : (o : Option Bool) → mark_of line ≡ o → first_or false (filter_map mark_of (line ∷ reverse said)) ≡ unwrap_or (mark_of line) (is_inside said)
+    by_mark : (o : Option Place) → mark_of line ≡ o
+        → first_or Outside (filter_map mark_of (line ∷ reverse said))
+        ≡ unwrap_or (mark_of line) (place_behind said)
     by_mark None e = rw e refl
-    by_mark (Some b) e = rw e refl
+    by_mark (Some place) e = rw e refl
 
 -- The lines of the entry behind one that opens or closes none.
 pub lines_same : (said : List SaidLine) (line : SaidLine) → mark_of line ≡ None → entry_lines (said ++ line ∷ []) ≡ entry_lines said ++ line ∷ []
 lines_same said line e =
     ap (λ (back : List SaidLine). reverse (back_to_mark back)) (reverse-append said (line ∷ []))
-    ∙ ap (λ (o : Option Bool). reverse (up_to_mark o line (back_to_mark (reverse said)))) e
+    ∙ ap (λ (o : Option Place). reverse (up_to_mark o line (back_to_mark (reverse said)))) e
     ∙ reverse-append (line ∷ []) (back_to_mark (reverse said))
 
 -- Behind one that opens or closes an entry there are none.
-pub lines_marked : (said : List SaidLine) (line : SaidLine) (b : Bool) → mark_of line ≡ Some b → entry_lines (said ++ line ∷ []) ≡ []
-lines_marked said line b e =
+pub lines_marked : (said : List SaidLine) (line : SaidLine) (place : Place) → mark_of line ≡ Some place → entry_lines (said ++ line ∷ []) ≡ []
+lines_marked said line place e =
     ap (λ (back : List SaidLine). reverse (back_to_mark back)) (reverse-append said (line ∷ []))
-    ∙ ap (λ (o : Option Bool). reverse (up_to_mark o line (back_to_mark (reverse said)))) e
+    ∙ ap (λ (o : Option Place). reverse (up_to_mark o line (back_to_mark (reverse said)))) e
 
 -- what stands with one line more
 abbrev pub join : List Group → Stand → SaidLine → Stand
@@ -115,6 +123,7 @@ pub stand_joined : (groups : List Group) (number : ℕ) (r : Reading) (line : St
 stand_joined groups number r Skipped h m = simp append-nil
 stand_joined groups number r (Opens method) h m = cc
 stand_joined groups number r Closes h m = cc
+stand_joined groups number r Ends h m = cc
 stand_joined groups number r (ClassLine class) h m = simp append-nil (ap (λ (xs : List ℕ). record r.stand { classes = xs }) (once_first r.stand.classes class h))
 stand_joined groups number r (NewsgroupsLine expression) h m = simp append-nil (ap (λ (xs : List (List Marked)). record r.stand { newsgroups = xs }) (once_first r.stand.newsgroups expression h))
 stand_joined groups number r (OptionsLine name) h m = simp append-nil (ap (λ (xs : List ℕ). record r.stand { numbers = xs }) (once_first r.stand.numbers _ h))
@@ -134,30 +143,33 @@ stand_same groups number r said line h m e =
 pub stand_after : (groups : List Group) (number : ℕ) (r : Reading) (said : List SaidLine) (line : StorageLine (List Marked)) → line_fault r.stand (Ok line) ≡ None
     → r.stand ≡ stand_behind groups said → (after_line groups number r line).stand ≡ stand_behind groups (said ++ Ok line ∷ [])
 stand_after groups number r said Skipped h e = stand_same groups number r said Skipped h refl e
-stand_after groups number r said (Opens method) h e = ap (stand_of groups) (sym (lines_marked said (Ok (Opens method)) true refl))
-stand_after groups number r said Closes h e = ap (stand_of groups) (sym (lines_marked said (Ok Closes) false refl))
+stand_after groups number r said (Opens method) h e = ap (stand_of groups) (sym (lines_marked said (Ok (Opens method)) (place_in method) refl))
+stand_after groups number r said Closes h e = ap (stand_of groups) (sym (lines_marked said (Ok Closes) Outside refl))
+stand_after groups number r said Ends h e = ap (stand_of groups) (sym (lines_marked said (Ok Ends) Outside refl))
 stand_after groups number r said (ClassLine class) h e = stand_same groups number r said (ClassLine class) h refl e
 stand_after groups number r said (NewsgroupsLine expression) h e = stand_same groups number r said (NewsgroupsLine expression) h refl e
 stand_after groups number r said (OptionsLine name) h e = stand_same groups number r said (OptionsLine name) h refl e
 stand_after groups number r said (SizeLine sizes) h e = stand_same groups number r said (SizeLine sizes) h refl e
 stand_after groups number r said (ExactLine exact) h e = stand_same groups number r said (ExactLine exact) h refl e
 
--- Whether an entry is open after a line.
-pub inside_after : (groups : List Group) (number : ℕ) (r : Reading) (line : StorageLine (List Marked)) → (after_line groups number r line).inside ≡ unwrap_or (mark_of (Ok line)) r.inside
-inside_after groups number r Skipped = refl
-inside_after groups number r (Opens method) = refl
-inside_after groups number r Closes = refl
-inside_after groups number r (ClassLine class) = refl
-inside_after groups number r (NewsgroupsLine expression) = refl
-inside_after groups number r (OptionsLine name) = refl
-inside_after groups number r (SizeLine sizes) = refl
-inside_after groups number r (ExactLine exact) = refl
+-- Where a line stands after a line.
+pub place_after : (groups : List Group) (number : ℕ) (r : Reading) (line : StorageLine (List Marked)) → (after_line groups number r line).place ≡ unwrap_or (mark_of (Ok line)) r.place
+place_after groups number r Skipped = refl
+place_after groups number r (Opens method) = refl
+place_after groups number r Closes = refl
+place_after groups number r Ends = refl
+place_after groups number r (ClassLine class) = refl
+place_after groups number r (NewsgroupsLine expression) = refl
+place_after groups number r (OptionsLine name) = refl
+place_after groups number r (SizeLine sizes) = refl
+place_after groups number r (ExactLine exact) = refl
 
 -- The entries after a line.
 pub entries_after : (groups : List Group) (number : ℕ) (r : Reading) (line : StorageLine (List Marked)) → (after_line groups number r line).entries ≡ r.entries ++ closed_by r.stand (Ok line)
 entries_after groups number r Skipped = sym (append-nil r.entries)
 entries_after groups number r (Opens method) = sym (append-nil r.entries)
 entries_after groups number r Closes = refl
+entries_after groups number r Ends = sym (append-nil r.entries)
 entries_after groups number r (ClassLine class) = sym (append-nil r.entries)
 entries_after groups number r (NewsgroupsLine expression) = sym (append-nil r.entries)
 entries_after groups number r (OptionsLine name) = sym (append-nil r.entries)
@@ -187,6 +199,7 @@ pub late_with : (groups : List Group) (number : ℕ) (r : Reading) (line : Stora
 late_with groups number r Skipped = late_none r.late
 late_with groups number r (Opens method) = refl
 late_with groups number r Closes = late_none r.late
+late_with groups number r Ends = late_none r.late
 late_with groups number r (ClassLine class) = late_none r.late
 late_with groups number r (NewsgroupsLine expression) = late_none r.late
 late_with groups number r (OptionsLine name) = refl
@@ -201,9 +214,9 @@ reading_more groups r said line h reading = record {
       ∙ ap (λ (es : List Entry). es ++ closed_by r.stand (Ok line)) reading.entries
       ∙ ap (λ (st : Stand). entries_of groups [] said ++ closed_by st (Ok line)) reading.stand
       ∙ sym (entries_more groups [] said (Ok line));
-  inside = inside_after groups (length said + 1) r line
-      ∙ ap (unwrap_or (mark_of (Ok line))) reading.inside
-      ∙ sym (inside_more said (Ok line));
+  place = place_after groups (length said + 1) r line
+      ∙ ap (unwrap_or (mark_of (Ok line))) reading.place
+      ∙ sym (place_more said (Ok line));
   stand = stand_after groups (length said + 1) r said line h reading.stand;
   late = late_with groups (length said + 1) r line
       ∙ ap (λ (late : Option LineFault). late_or late (fault_or_later (length said + 1) (named_fault groups (Ok line)) None)) reading.late
@@ -212,19 +225,19 @@ reading_more groups r said line h reading = record {
 
 -- A line that is passed joins the reading.
 pub reads_more : (groups : List Group) (lines : List (List ℕ)) (line : List ℕ) (r after : Reading) → ReadsTo groups lines r
-    → Passes groups (length lines + 1) r (storage_line r.inside line) after → ReadsTo groups (lines ++ line ∷ []) after
+    → Passes groups (length lines + 1) r (storage_line r.place line) after → ReadsTo groups (lines ++ line ∷ []) after
 reads_more groups lines line r after to passes =
     let n = say_length [] lines to.said to.says in
     record {
       said = to.said ++ Ok passes.line ∷ [];
-      says = say_more [] lines to.said line (Ok passes.line) to.says (subst (λ (b : Bool). RawSays (storage_line b line) (Ok passes.line)) to.reading.inside passes.says);
+      says = say_more [] lines to.said line (Ok passes.line) to.says (subst (λ (p : Place). RawSays (storage_line p line) (Ok passes.line)) to.reading.place passes.says);
       none = fault_last (early_fault groups) to.said (Ok passes.line) None to.none (ap (λ (st : Stand). line_fault st (Ok passes.line)) (sym to.reading.stand) ∙ passes.none);
       reading = subst (IsReadingOf groups (to.said ++ Ok passes.line ∷ [])) (ap (λ (k : ℕ). after_line groups (k + 1) r passes.line) n ∙ sym passes.reading)
           (reading_more groups r to.said passes.line passes.none to.reading);
     }
 
 -- A line that is refused ends the reading.
-pub reads_fault : (groups : List Group) (lines rest : List (List ℕ)) (line : List ℕ) (r : Reading) (fault : Fault) → ReadsTo groups lines r → Refuses r (storage_line r.inside line) fault
+pub reads_fault : (groups : List Group) (lines rest : List (List ℕ)) (line : List ℕ) (r : Reading) (fault : Fault) → ReadsTo groups lines r → Refuses r (storage_line r.place line) fault
     → HasEarlyFault groups ((lines ++ line ∷ []) ++ rest) (record { line = length lines + 1; fault = fault })
 reads_fault groups lines rest line r fault to refuses =
     let n = say_length [] lines to.said to.says in
@@ -233,7 +246,7 @@ reads_fault groups lines rest line r fault to refuses =
       rest = rest;
       said = to.said ++ refuses.said ∷ [];
       split = refl;
-      says = say_more [] lines to.said line refuses.said to.says (subst (λ (b : Bool). RawSays (storage_line b line) refuses.said) to.reading.inside refuses.says);
+      says = say_more [] lines to.said line refuses.said to.says (subst (λ (p : Place). RawSays (storage_line p line) refuses.said) to.reading.place refuses.says);
       first = fault_last (early_fault groups) to.said refuses.said (Some fault) to.none (ap (λ (st : Stand). line_fault st refuses.said) (sym to.reading.stand) ∙ refuses.found)
           ∙ ap (λ (k : ℕ). Some (record { line = k + 1; fault = fault })) n;
     }
@@ -260,7 +273,7 @@ news_err text r after (Err e) refusal is gives =
 -- The refusal of a line is the answer.
 pub lines_refused : (groups : List Group) (lines : List (Bor (List ℕ))) (i : ℕ) (d : Bor (List ℕ)) (r after : Reading) (refusal : Refusal) → i < length lines
     → ReadsTo groups (map (λ line. line.now) (take i lines)) r
-    → StepGives groups (i + 1) r (storage_line r.inside (get_or lines i d).now) after (Err refusal)
+    → StepGives groups (i + 1) r (storage_line r.place (get_or lines i d).now) after (Err refusal)
     → DraftGives groups (map (λ line. line.now) lines) (Err (error_at (i + 1) refusal))
 lines_refused groups lines i d r after Memory h to gives = tt
 lines_refused groups lines i d r after (Faulty fault) h to gives =
@@ -275,14 +288,14 @@ lines_refused groups lines i d r after (Faulty fault) h to gives =
 
 -- A line without fault is passed.
 pub lines_passed : (groups : List Group) (lines : List (Bor (List ℕ))) (i : ℕ) (d : Bor (List ℕ)) (r after : Reading) → i < length lines
-    → ReadsTo groups (map (λ line. line.now) (take i lines)) r → Passes groups (i + 1) r (storage_line r.inside (get_or lines i d).now) after
+    → ReadsTo groups (map (λ line. line.now) (take i lines)) r → Passes groups (i + 1) r (storage_line r.place (get_or lines i d).now) after
     → ReadsTo groups (map (λ line. line.now) (take (i + 1) lines)) after
 lines_passed groups lines i d r after h to passes =
     let now : Bor (List ℕ) → List ℕ = λ line. line.now in
     let n : length (map now (take i lines)) ≡ i = length-map (take i lines) now ∙ length-take-le i lines (omega (arith, h)) in
     subst (λ (all : List (List ℕ)). ReadsTo groups all after) (sym (map_one now lines i d h))
     (reads_more groups (map now (take i lines)) (get_or lines i d).now r after to
-    (subst (λ (k : ℕ). Passes groups (k + 1) r (storage_line r.inside (get_or lines i d).now) after) (sym n) passes))
+    (subst (λ (k : ℕ). Passes groups (k + 1) r (storage_line r.place (get_or lines i d).now) after) (sym n) passes))
 
 -- All lines are read at the end.
 pub lines_done : (groups : List Group) (lines : List (Bor (List ℕ))) (i : ℕ) (r : Reading) → length lines ≤ i → ReadsTo groups (map (λ line. line.now) (take i lines)) r → ReadsTo groups (map (λ line. line.now) lines) r
@@ -293,10 +306,10 @@ pub reading_says : (groups : List Group) (said : List SaidLine) (r : Reading) �
 reading_says groups said r none reading =
     let late = first_fault (late_fault groups) [] said in
     let entries = entries_of groups [] said in
-    ap (λ (early : Option LineFault). unless_fault early (unless_fault (whole_fault (open_fault (is_inside said))) (unless_fault late (Ok entries)))) none
-    ∙ ap (λ (b : Bool). unless_fault (whole_fault (open_fault b)) (unless_fault late (Ok entries))) (sym reading.inside)
-    ∙ ap (λ (o : Option LineFault). unless_fault (whole_fault (open_fault r.inside)) (unless_fault o (Ok entries))) (sym reading.late)
-    ∙ ap (λ (es : List Entry). unless_fault (whole_fault (open_fault r.inside)) (unless_fault r.late (Ok es))) (sym reading.entries)
+    ap (λ (early : Option LineFault). unless_fault early (unless_fault (whole_fault (open_fault (place_behind said))) (unless_fault late (Ok entries)))) none
+    ∙ ap (λ (p : Place). unless_fault (whole_fault (open_fault p)) (unless_fault late (Ok entries))) (sym reading.place)
+    ∙ ap (λ (o : Option LineFault). unless_fault (whole_fault (open_fault r.place)) (unless_fault o (Ok entries))) (sym reading.late)
+    ∙ ap (λ (es : List Entry). unless_fault (whole_fault (open_fault r.place)) (unless_fault r.late (Ok es))) (sym reading.entries)
 
 -- The answer of the reading is that of the lines.
 pub reading_gives : (groups : List Group) (lines : List (List ℕ)) (r : Reading) (result : Result (Vec Method) ConfError) → ReadsTo groups lines r
@@ -320,5 +333,5 @@ no_reading groups r e = subst (ReadsTo groups []) (sym e) (record {
   said = [];
   says = tt;
   none = refl;
-  reading = record { entries = refl; inside = refl; stand = refl; late = refl };
+  reading = record { entries = refl; place = refl; stand = refl; late = refl };
 })

@@ -35,6 +35,10 @@ mode_of word =
     else if bytes_eq word (codes "SEQUENTIAL") then Some Sequential
     else None
 
+-- the path of a file: one octet or more, none of them NUL (docs/FORMATS.md, Configuration)
+abbrev pub is_file : List ℕ → Bool
+is_file file = not (is_empty file) && not (list_any (λ c. c == 0) file)
+
 -- a buffer of two blocks of 512 octets for each kilobyte, or Number where its size is none
 -- (docs/FORMATS.md, Configuration)
 abbrev pub buffer_sized : (name file : List ℕ) → Option ℕ → Result CycbuffLine Fault
@@ -47,7 +51,7 @@ buffer_line [] = Err Syntax
 buffer_line (name ∷ []) = Err Syntax
 buffer_line (name ∷ file ∷ []) = Err Syntax
 buffer_line (name ∷ file ∷ size ∷ []) =
-    if is_name name && not (is_empty file)
+    if is_name name && is_file file
     then buffer_sized name file (number_within 1 2097152 size)
     else Err Syntax
 buffer_line (name ∷ file ∷ size ∷ other ∷ more) = Err Syntax

@@ -2,6 +2,7 @@ pub mod Cycbuff
 pub mod Draft
 pub mod Expressions
 pub mod Faults
+pub mod K1
 pub mod Lines
 pub mod Relay
 pub mod RelayViews

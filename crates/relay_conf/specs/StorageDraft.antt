@@ -1,5 +1,5 @@
 -- How far the lines of storage.conf are read. No public contract cites it.
-use Rattle.std.specs.Prelude.{◌≡◌, ℕ, List, [], ◌∷◌, ◌++◌, map, Bool, true, false, Option, None, Some, Result, Ok, Err}
+use Rattle.std.specs.Prelude.{◌≡◌, ℕ, List, [], ◌∷◌, ◌++◌, map, Option, None, Some, Result, Ok, Err}
 use Rattle.std.specs.Option.{option_to_list}
 use Rattle.news_terms.specs.Pattern.{Marked}
 use Rattle.news_terms.specs.StorageClass as classes
@@ -10,20 +10,22 @@ use Rattle.relay_conf.specs.declared.faults.ConfError.{ConfError}
 use Rattle.relay_conf.specs.declared.faults.ConfError.TheVariants as errors
 use Rattle.relay_conf.specs.declared.faults.Refusal.{Refusal}
 use Rattle.relay_conf.specs.declared.faults.Refusal.TheVariants.{Memory, Faulty}
+use Rattle.relay_conf.specs.declared.storage_lines.Place.{Place}
+use Rattle.relay_conf.specs.declared.storage_lines.Place.TheVariants.{Outside}
 use Rattle.relay_conf.specs.declared.storage.OpenEntry.{OpenEntry}
 use Rattle.relay_conf.specs.declared.storage.Draft.{Draft}
 use Rattle.relay_conf.specs.Cycbuff.{Group}
 use Rattle.relay_conf.specs.Faults.{fault_or_later, first_fault, whole_fault, unless_fault}
 use Rattle.relay_conf.specs.Storage.{entry_view}
-use Rattle.relay_conf.specs.StorageLines.{StorageLine, RawLine, SaidLine, RawSays, Skipped, Opens, Closes, ClassLine, NewsgroupsLine, OptionsLine, SizeLine, ExactLine}
+use Rattle.relay_conf.specs.StorageLines.{StorageLine, RawLine, SaidLine, RawSays, Skipped, Opens, Closes, Ends, ClassLine, NewsgroupsLine, OptionsLine, SizeLine, ExactLine}
 use Rattle.relay_conf.specs.StorageFile.{LinesSay, Stand, stand_behind}
-use Rattle.relay_conf.specs.StorageFile.{is_inside, group_number, named_fault, line_fault, early_fault, late_fault, open_fault, entry_of, entries_of}
+use Rattle.relay_conf.specs.StorageFile.{place_in, place_behind, group_number, named_fault, line_fault, early_fault, late_fault, open_fault, entry_of, entries_of}
 use Rattle.relay_conf.specs.StorageViews.{HasEarlyFault}
 
 -- what lines so far say
 pub record Reading : Type 0 where
   pub entries : List classes.Entry
-  pub inside : Bool
+  pub place : Place
   pub stand : Stand
   pub late : Option LineFault
 
@@ -43,7 +45,7 @@ abbrev pub draft_view : Draft → Reading
 draft_view d =
     record {
       entries = map entry_view d.methods.items;
-      inside = d.is_inside;
+      place = d.place;
       stand = stand_view d.entry;
       late = d.late;
     }
@@ -54,7 +56,7 @@ nothing = record { classes = []; newsgroups = []; numbers = []; sizes = []; exac
 
 -- the reading of no lines
 abbrev pub no_lines : Reading
-no_lines = record { entries = []; inside = false; stand = nothing; late = None }
+no_lines = record { entries = []; place = Outside; stand = nothing; late = None }
 
 -- the first of two faults
 abbrev pub late_or : (first second : Option LineFault) → Option LineFault
@@ -74,12 +76,20 @@ late_after groups number late line =
 -- the reading after `method NAME {`
 abbrev pub opened : ℕ → Reading → (method : List ℕ) → Reading
 opened number r method =
-    record r { inside = true; stand = nothing; late = late_after [] number r.late (Opens method) }
+    record r {
+      place = place_in method;
+      stand = nothing;
+      late = late_after [] number r.late (Opens method);
+    }
 
--- the reading after `}`
+-- the reading after `}` of an entry of cnfs
 abbrev pub closed : Reading → Reading
 closed r =
-    record r { entries = r.entries ++ entry_of r.stand ∷ []; inside = false; stand = nothing }
+    record r { entries = r.entries ++ entry_of r.stand ∷ []; place = Outside; stand = nothing }
+
+-- the reading after `}` of an entry of another method
+abbrev pub ended : Reading → Reading
+ended r = record r { place = Outside; stand = nothing }
 
 -- the reading after `options: NAME`
 abbrev pub grouped : List Group → ℕ → Reading → (name : List ℕ) → Reading
@@ -94,6 +104,7 @@ abbrev pub after_line : List Group → ℕ → Reading → StorageLine (List Mar
 after_line groups number r Skipped = r
 after_line groups number r (Opens method) = opened number r method
 after_line groups number r Closes = closed r
+after_line groups number r Ends = ended r
 after_line groups number r (ClassLine class) =
     record r { stand = record r.stand { classes = class ∷ [] } }
 after_line groups number r (NewsgroupsLine expression) =
@@ -135,7 +146,7 @@ NewsgroupsGive text r after result =
 -- a reading is that of these lines
 pub record IsReadingOf (groups : List Group) (said : List SaidLine) (r : Reading) : Type 0 where
   pub entries : r.entries ≡ entries_of groups [] said
-  pub inside : r.inside ≡ is_inside said
+  pub place : r.place ≡ place_behind said
   pub stand : r.stand ≡ stand_behind groups said
   pub late : r.late ≡ first_fault (late_fault groups) [] said
 
@@ -155,4 +166,4 @@ DraftGives groups lines (Err (errors.Faulty fault)) = HasEarlyFault groups lines
 
 -- what a reading without early fault says
 abbrev pub draft_said : Reading → Result (List classes.Entry) LineFault
-draft_said r = unless_fault (whole_fault (open_fault r.inside)) (unless_fault r.late (Ok r.entries))
+draft_said r = unless_fault (whole_fault (open_fault r.place)) (unless_fault r.late (Ok r.entries))

@@ -1,39 +1,46 @@
 -- storage.conf: what its lines say together.
-use Rattle.std.specs.Prelude.{ℕ, nat_lt, Bool, true, false, List, [], ◌∷◌, ◌++◌, length, filter_map, reverse, codes, bytes_eq, Option, None, Some, Result, Ok, Err, if◌then◌else◌}
+use Rattle.std.specs.Prelude.{ℕ, nat_lt, Bool, false, List, [], ◌∷◌, ◌++◌, length, filter_map, reverse, codes, bytes_eq, Option, None, Some, Result, Ok, Err, if◌then◌else◌}
 use Rattle.std.specs.List.{position_or_len}
 use Rattle.news_terms.specs.Pattern.{Marked}
 use Rattle.news_terms.specs.StorageClass.{Entry}
 use Rattle.relay_conf.specs.declared.faults.Fault.{Fault}
 use Rattle.relay_conf.specs.declared.faults.Fault.TheVariants.{Syntax, UnknownName}
 use Rattle.relay_conf.specs.declared.faults.LineFault.{LineFault}
+use Rattle.relay_conf.specs.declared.storage_lines.Place.{Place}
+use Rattle.relay_conf.specs.declared.storage_lines.Place.TheVariants.{Outside, InEntry, InOther}
 use Rattle.relay_conf.specs.declared.storage_lines.Sizes.{Sizes}
 use Rattle.relay_conf.specs.Cycbuff.{Group}
 use Rattle.relay_conf.specs.Faults.{first_fault, whole_fault, unless_fault}
 use Rattle.relay_conf.specs.Relay.{once, first_or}
-use Rattle.relay_conf.specs.StorageLines.{SaidLine, RawSays, storage_line, Skipped, Opens, Closes, ClassLine, NewsgroupsLine, OptionsLine, SizeLine, ExactLine}
+use Rattle.relay_conf.specs.StorageLines.{SaidLine, RawSays, storage_line, Skipped, Opens, Closes, Ends, ClassLine, NewsgroupsLine, OptionsLine, SizeLine, ExactLine}
 
--- whether an entry is open behind the line, where the line opens or closes one (docs/FORMATS.md,
+-- where the lines behind `method NAME {` stand (docs/FORMATS.md, Configuration)
+abbrev pub place_in : (method : List ℕ) → Place
+place_in method = if bytes_eq method (codes "cnfs") then InEntry else InOther
+
+-- where what follows the line stands, where the line opens or closes an entry (docs/FORMATS.md,
 -- Configuration)
-abbrev pub mark_of : SaidLine → Option Bool
+abbrev pub mark_of : SaidLine → Option Place
 mark_of (Err fault) = None
 mark_of (Ok Skipped) = None
-mark_of (Ok (Opens method)) = Some true
-mark_of (Ok Closes) = Some false
+mark_of (Ok (Opens method)) = Some (place_in method)
+mark_of (Ok Closes) = Some Outside
+mark_of (Ok Ends) = Some Outside
 mark_of (Ok (ClassLine class)) = None
 mark_of (Ok (NewsgroupsLine expression)) = None
 mark_of (Ok (OptionsLine group)) = None
 mark_of (Ok (SizeLine sizes)) = None
 mark_of (Ok (ExactLine exact)) = None
 
--- a line behind these stands inside an entry: the last of them that opens or closes one opens it
+-- where a line behind these stands: the last of them that opens or closes an entry says it
 -- (docs/FORMATS.md, Configuration)
-abbrev pub is_inside : (before : List SaidLine) → Bool
-is_inside before = first_or false (filter_map mark_of (reverse before))
+abbrev pub place_behind : (before : List SaidLine) → Place
+place_behind before = first_or Outside (filter_map mark_of (reverse before))
 
 -- a line and those before it, last first, unless it opens or closes an entry
-abbrev pub up_to_mark : Option Bool → (line : SaidLine) → (earlier : List SaidLine) → List SaidLine
+abbrev pub up_to_mark : Option Place → (line : SaidLine) → (earlier : List SaidLine) → List SaidLine
 up_to_mark None line earlier = line ∷ earlier
-up_to_mark (Some opened) line earlier = []
+up_to_mark (Some place) line earlier = []
 
 -- these lines, last first, up to the first that opens or closes an entry
 abbrev pub back_to_mark : List SaidLine → List SaidLine
@@ -51,6 +58,7 @@ class_of (Err fault) = None
 class_of (Ok Skipped) = None
 class_of (Ok (Opens method)) = None
 class_of (Ok Closes) = None
+class_of (Ok Ends) = None
 class_of (Ok (ClassLine class)) = Some class
 class_of (Ok (NewsgroupsLine expression)) = None
 class_of (Ok (OptionsLine group)) = None
@@ -63,6 +71,7 @@ newsgroups_of (Err fault) = None
 newsgroups_of (Ok Skipped) = None
 newsgroups_of (Ok (Opens method)) = None
 newsgroups_of (Ok Closes) = None
+newsgroups_of (Ok Ends) = None
 newsgroups_of (Ok (ClassLine class)) = None
 newsgroups_of (Ok (NewsgroupsLine expression)) = Some expression
 newsgroups_of (Ok (OptionsLine group)) = None
@@ -84,6 +93,7 @@ group_of groups (Err fault) = None
 group_of groups (Ok Skipped) = None
 group_of groups (Ok (Opens method)) = None
 group_of groups (Ok Closes) = None
+group_of groups (Ok Ends) = None
 group_of groups (Ok (ClassLine class)) = None
 group_of groups (Ok (NewsgroupsLine expression)) = None
 group_of groups (Ok (OptionsLine group)) = Some (group_number groups group)
@@ -96,6 +106,7 @@ size_of (Err fault) = None
 size_of (Ok Skipped) = None
 size_of (Ok (Opens method)) = None
 size_of (Ok Closes) = None
+size_of (Ok Ends) = None
 size_of (Ok (ClassLine class)) = None
 size_of (Ok (NewsgroupsLine expression)) = None
 size_of (Ok (OptionsLine group)) = None
@@ -108,6 +119,7 @@ exact_of (Err fault) = None
 exact_of (Ok Skipped) = None
 exact_of (Ok (Opens method)) = None
 exact_of (Ok Closes) = None
+exact_of (Ok Ends) = None
 exact_of (Ok (ClassLine class)) = None
 exact_of (Ok (NewsgroupsLine expression)) = None
 exact_of (Ok (OptionsLine group)) = None
@@ -150,6 +162,7 @@ line_fault stand (Ok Skipped) = None
 line_fault stand (Ok (Opens method)) = None
 line_fault stand (Ok Closes) =
     needed stand.classes (needed stand.newsgroups (needed stand.numbers None))
+line_fault stand (Ok Ends) = None
 line_fault stand (Ok (ClassLine class)) = once stand.classes
 line_fault stand (Ok (NewsgroupsLine expression)) = once stand.newsgroups
 line_fault stand (Ok (OptionsLine group)) = once stand.numbers
@@ -161,9 +174,10 @@ abbrev pub early_fault : List Group → (before : List SaidLine) → SaidLine �
 early_fault groups before line = line_fault (stand_behind groups before) line
 
 -- an entry without its `}` (docs/FORMATS.md, Configuration)
-abbrev pub open_fault : (is_inside : Bool) → Option Fault
-open_fault true = Some Syntax
-open_fault false = None
+abbrev pub open_fault : Place → Option Fault
+open_fault Outside = None
+open_fault InEntry = Some Syntax
+open_fault InOther = Some Syntax
 
 -- what is wrong with a line, looked for after the last line: another method than cnfs, a name of no
 -- group (docs/FORMATS.md, Configuration)
@@ -173,6 +187,7 @@ named_fault groups (Ok Skipped) = None
 named_fault groups (Ok (Opens method)) =
     if bytes_eq method (codes "cnfs") then None else Some UnknownName
 named_fault groups (Ok Closes) = None
+named_fault groups (Ok Ends) = None
 named_fault groups (Ok (ClassLine class)) = None
 named_fault groups (Ok (NewsgroupsLine expression)) = None
 named_fault groups (Ok (OptionsLine group)) =
@@ -207,13 +222,15 @@ closed_by stand (Err fault) = []
 closed_by stand (Ok Skipped) = []
 closed_by stand (Ok (Opens method)) = []
 closed_by stand (Ok Closes) = entry_of stand ∷ []
+closed_by stand (Ok Ends) = []
 closed_by stand (Ok (ClassLine class)) = []
 closed_by stand (Ok (NewsgroupsLine expression)) = []
 closed_by stand (Ok (OptionsLine group)) = []
 closed_by stand (Ok (SizeLine sizes)) = []
 closed_by stand (Ok (ExactLine exact)) = []
 
--- the entries that lines close behind others, one for each `}` (docs/FORMATS.md, Configuration)
+-- the entries that lines close behind others, one for each `}` of an entry of cnfs
+-- (docs/FORMATS.md, Configuration)
 abbrev pub entries_of : List Group → (before said : List SaidLine) → List Entry
 entries_of groups before [] = []
 entries_of groups before (line ∷ more) =
@@ -224,13 +241,13 @@ entries_of groups before (line ∷ more) =
 abbrev pub storage_said : List Group → List SaidLine → Result (List Entry) LineFault
 storage_said groups said =
     unless_fault (first_fault (early_fault groups) [] said)
-    (unless_fault (whole_fault (open_fault (is_inside said)))
+    (unless_fault (whole_fault (open_fault (place_behind said)))
     (unless_fault (first_fault (late_fault groups) [] said)
     (Ok (entries_of groups [] said))))
 
 -- what a line of storage.conf says behind these (docs/FORMATS.md, Configuration)
 abbrev pub LineSays : (before : List SaidLine) → (line : List ℕ) → SaidLine → Type 0
-LineSays before line said = RawSays (storage_line (is_inside before) line) said
+LineSays before line said = RawSays (storage_line (place_behind before) line) said
 
 -- lines say this behind others, one by one
 abbrev pub LinesSay : (before : List SaidLine) → (lines : List (List ℕ)) → List SaidLine → Type 0

@@ -1,11 +1,13 @@
 -- storage.conf: what its lines say, each alone.
-use Rattle.std.specs.Prelude.{◌≡◌, ℕ, ◌+◌, ◌^◌, ◌-◌, ◌==◌, ◌&&◌, ◌||◌, nat_lt, Bool, true, false, List, [], ◌∷◌, length, take, drop, codes, bytes_eq, Option, None, Some, Result, Ok, Err, if◌then◌else◌}
-use Rattle.std.specs.List.{list_any, position_or_len}
+use Rattle.std.specs.Prelude.{◌≡◌, ℕ, ◌+◌, ◌^◌, ◌-◌, ◌==◌, ◌&&◌, ◌||◌, nat_eq, nat_lt, Bool, true, false, List, [], ◌∷◌, length, take, drop, codes, bytes_eq, Option, None, Some, Result, Ok, Err, if◌then◌else◌}
+use Rattle.std.specs.List.{list_any, position_or_len, starts_with}
 use Rattle.std.specs.Str.{byte, str_eq_ignore_ascii_case}
 use Rattle.news_terms.specs.Article.{is_empty, without_outer_white}
 use Rattle.news_terms.specs.Pattern.{Marked, ExpressionFault, IsExpressionText, HasLeftmostFault}
 use Rattle.relay_conf.specs.declared.faults.Fault.{Fault}
 use Rattle.relay_conf.specs.declared.faults.Fault.TheVariants.{Syntax, UnknownKey, Number, Pattern}
+use Rattle.relay_conf.specs.declared.storage_lines.Place.{Place}
+use Rattle.relay_conf.specs.declared.storage_lines.Place.TheVariants.{Outside, InEntry, InOther}
 use Rattle.relay_conf.specs.declared.storage_lines.Sizes.{Sizes}
 use Rattle.line_words.specs.Comments.{is_skipped}
 use Rattle.relay_conf.specs.Words.{words, is_name}
@@ -15,12 +17,14 @@ use Rattle.line_words.specs.Numbers.{number_within}
 -- what a line of storage.conf says, faults apart; `newsgroups` has its expression as E: first its
 -- text, then what that is (docs/FORMATS.md, Configuration)
 pub data StorageLine (E : Type 0) : Type 0 where
-  -- a comment or an empty line
+  -- a comment, an empty line, or a line of another method's entry
   Skipped : StorageLine E
   -- `method NAME {`
   Opens : (method : List ℕ) → StorageLine E
-  -- `}`
+  -- `}` of an entry of cnfs
   Closes : StorageLine E
+  -- `}` of an entry of another method
+  Ends : StorageLine E
   -- `class: N`
   ClassLine : (class : ℕ) → StorageLine E
   -- `newsgroups: EXPR`
@@ -55,7 +59,7 @@ method_line (Some three) =
 abbrev pub outside_line : (trimmed : List ℕ) → RawLine
 outside_line line = if is_skipped line then Ok Skipped else method_line (three_of (words line))
 
--- A LINE INSIDE AN ENTRY
+-- A LINE INSIDE AN ENTRY OF CNFS
 
 -- how many octets stand before the first colon (docs/FORMATS.md, Configuration)
 abbrev pub colon_at : List ℕ → ℕ
@@ -69,13 +73,17 @@ key_and_value line =
     then Some (take (colon_at line) line, drop (colon_at line + 1) line)
     else None
 
+-- a key of an entry (docs/FORMATS.md, Configuration)
+abbrev pub is_key : List ℕ → Bool
+is_key word =
+    bytes_eq word (codes "class") || bytes_eq word (codes "newsgroups")
+    || bytes_eq word (codes "options") || bytes_eq word (codes "size")
+    || bytes_eq word (codes "exactmatch")
+
 -- a word that the file knows at the front of a line (docs/FORMATS.md, Configuration)
 abbrev pub is_known_word : List ℕ → Bool
 is_known_word word =
-    bytes_eq word (codes "class") || bytes_eq word (codes "newsgroups")
-    || bytes_eq word (codes "options") || bytes_eq word (codes "size")
-    || bytes_eq word (codes "exactmatch") || bytes_eq word (codes "method")
-    || bytes_eq word (codes "}")
+    is_key word || bytes_eq word (codes "method") || bytes_eq word (codes "}")
 
 -- the fault of a line without colon, by its words: Syntax where the file knows the first
 -- (docs/FORMATS.md, Configuration)
@@ -156,12 +164,18 @@ setting_line key value =
     else if bytes_eq key (codes "exactmatch") then exact_line value
     else Err UnknownKey
 
+-- the same, where a value that begins with `"` is Syntax: quotes are not known (docs/FORMATS.md,
+-- Configuration)
+abbrev pub unquoted_line : (key value : List ℕ) → RawLine
+unquoted_line key value =
+    if is_key key && starts_with nat_eq value (codes "\"") then Err Syntax else setting_line key value
+
 -- what a line says by its key and value, where it has a colon (docs/FORMATS.md, Configuration)
 abbrev pub keyed_line : (line : List ℕ) → Option (List ℕ × List ℕ) → RawLine
 keyed_line line None = Err (bare_fault (words line))
-keyed_line line (Some two) = setting_line two.0 (without_outer_white two.1)
+keyed_line line (Some two) = unquoted_line two.0 (without_outer_white two.1)
 
--- what a line inside an entry says, without white space at its ends (docs/FORMATS.md,
+-- what a line inside an entry of cnfs says, without white space at its ends (docs/FORMATS.md,
 -- Configuration)
 abbrev pub inside_line : (trimmed : List ℕ) → RawLine
 inside_line line =
@@ -169,11 +183,21 @@ inside_line line =
     else if bytes_eq line (codes "}") then Ok Closes
     else keyed_line line (key_and_value line)
 
--- what a line of storage.conf says, or its fault alone, its expression as text (docs/FORMATS.md,
--- Configuration)
-abbrev pub storage_line : (is_inside : Bool) → (line : List ℕ) → RawLine
-storage_line true line = inside_line (without_outer_white line)
-storage_line false line = outside_line (without_outer_white line)
+-- A LINE INSIDE AN ENTRY OF ANOTHER METHOD
+
+-- what such a line says, without white space at its ends: the line is that method's and isn't
+-- read, but that `}` ends the entry (docs/FORMATS.md, Configuration)
+abbrev pub other_line : {E : Type 0} → (trimmed : List ℕ) → StorageLine E
+other_line line = if bytes_eq line (codes "}") then Ends else Skipped
+
+-- A LINE OF THE FILE
+
+-- what a line of storage.conf says where it stands, or its fault alone, its expression as text
+-- (docs/FORMATS.md, Configuration)
+abbrev pub storage_line : Place → (line : List ℕ) → RawLine
+storage_line Outside line = outside_line (without_outer_white line)
+storage_line InEntry line = inside_line (without_outer_white line)
+storage_line InOther line = Ok (other_line (without_outer_white line))
 
 -- the line says the expression that its text is, or Pattern where that has a fault
 -- (docs/FORMATS.md, Configuration)
@@ -190,6 +214,7 @@ RawSays (Err fault) said = said ≡ Err fault
 RawSays (Ok Skipped) said = said ≡ Ok Skipped
 RawSays (Ok (Opens method)) said = said ≡ Ok (Opens method)
 RawSays (Ok Closes) said = said ≡ Ok Closes
+RawSays (Ok Ends) said = said ≡ Ok Ends
 RawSays (Ok (ClassLine class)) said = said ≡ Ok (ClassLine class)
 RawSays (Ok (NewsgroupsLine text)) said = NewsgroupsSay text said
 RawSays (Ok (OptionsLine group)) said = said ≡ Ok (OptionsLine group)

@@ -14,13 +14,14 @@ use Rattle.relay_conf.specs.Faults.{first_fault}
 use Rattle.relay_conf.specs.Storage.{entry_view}
 use Rattle.relay_conf.specs.StorageLines.{StorageLine, RawLine, SaidLine}
 use Rattle.relay_conf.specs.StorageFile.{LinesSay, early_fault, storage_said}
-use Rattle.relay_conf.specs.StorageLines.{Skipped, Opens, Closes, ClassLine, NewsgroupsLine, OptionsLine, SizeLine, ExactLine}
+use Rattle.relay_conf.specs.StorageLines.{Skipped, Opens, Closes, Ends, ClassLine, NewsgroupsLine, OptionsLine, SizeLine, ExactLine}
 
 -- a line of storage.conf as the definitions have it, its expression as text
 abbrev pub raw_view : Line → StorageLine (List ℕ)
 raw_view lines.Skipped = Skipped
 raw_view (lines.Opens method) = Opens method.now
 raw_view lines.Closes = Closes
+raw_view lines.Ends = Ends
 raw_view (lines.Class class) = ClassLine class
 raw_view (lines.Newsgroups text) = NewsgroupsLine text.now
 raw_view (lines.Options group) = OptionsLine group.now

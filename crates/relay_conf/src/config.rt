@@ -1,11 +1,9 @@
 //! The whole configuration.
 ghost use Rattle.std.specs.Prelude.{◌≡◌, map, IfOk, IfErr};
-ghost use Rattle.relay_conf.specs.Cycbuff.{cycbuff_of};
-ghost use Rattle.relay_conf.specs.Lines.{lines_of};
-ghost use Rattle.relay_conf.specs.RelayViews.{HasSettings, relay_view};
+ghost use Rattle.relay_conf.specs.K1 as terms;
+ghost use Rattle.relay_conf.specs.RelayViews.{relay_view};
 ghost use Rattle.relay_conf.specs.Settings.{buffers_view};
 ghost use Rattle.relay_conf.specs.Storage.{entry_view};
-ghost use Rattle.relay_conf.specs.StorageViews.{HasEntries};
 
 use crate::cycbuff::{Buffers, read_cycbuff};
 use crate::faults::ConfError;
@@ -33,8 +31,7 @@ pub const K1_RELAY: &[u8] =
 
 /// The buffers and groups of K1.
 fn k1_buffers(alloc: Global) -> Result<Buffers, ConfError>
-    ensures gives { IfOk result (λ buffers.
-        cycbuff_of (lines_of K1_CYCBUFF.now) ≡ Ok (buffers_view buffers)) }
+    ensures gives { IfOk result (λ buffers. buffers_view buffers ≡ terms.k1_buffers) }
     ensures memory { IfErr result (λ error. error ≡ ConfError.Memory) }
 {
     read_cycbuff(alloc, K1_CYCBUFF)
@@ -42,9 +39,8 @@ fn k1_buffers(alloc: Global) -> Result<Buffers, ConfError>
 
 /// The entries of K1, over its groups.
 fn k1_methods(alloc: Global, buffers: &Buffers) -> Result<Vec<Method>, ConfError>
-    requires { cycbuff_of (lines_of K1_CYCBUFF.now) ≡ Ok (buffers_view buffers.now) }
-    ensures gives { IfOk result (λ methods. HasEntries (buffers_view buffers.now).groups
-        (lines_of K1_STORAGE.now) (map entry_view methods.items)) }
+    requires { buffers_view buffers.now ≡ terms.k1_buffers }
+    ensures gives { IfOk result (λ methods. map entry_view methods.items ≡ terms.k1_entries) }
     ensures memory { IfErr result (λ error. error ≡ ConfError.Memory) }
 {
     read_storage(alloc, K1_STORAGE, buffers)
@@ -52,22 +48,18 @@ fn k1_methods(alloc: Global, buffers: &Buffers) -> Result<Vec<Method>, ConfError
 
 /// What relay.conf says in K1.
 fn k1_relay(alloc: Global) -> Result<Relay, ConfError>
-    ensures gives { IfOk result (λ relay.
-        HasSettings (lines_of K1_RELAY.now) (relay_view relay)) }
+    ensures gives { IfOk result (λ relay. relay_view relay ≡ terms.k1_relay) }
     ensures memory { IfErr result (λ error. error ≡ ConfError.Memory) }
 {
     read_relay(alloc, K1_RELAY)
 }
 
 impl Config {
+    ghost use Rattle.relay_conf.specs.K1.{IsK1};
+
     /// The configuration K1, which is built in. Its texts have no fault: what fails is memory.
     pub fn k1(alloc: Global) -> Result<Config, ConfError>
-        ensures cycbuff { IfOk result (λ config.
-            cycbuff_of (lines_of K1_CYCBUFF.now) ≡ Ok (buffers_view config.buffers)) }
-        ensures storage { IfOk result (λ config. HasEntries (buffers_view config.buffers).groups
-            (lines_of K1_STORAGE.now) (map entry_view config.methods.items)) }
-        ensures relay { IfOk result (λ config.
-            HasSettings (lines_of K1_RELAY.now) (relay_view config.relay)) }
+        ensures gives { IfOk result IsK1 }
         ensures memory { IfErr result (λ error. error ≡ ConfError.Memory) }
     {
         let buffers = k1_buffers(alloc)?;

@@ -317,13 +317,20 @@ fn buffer_line<'a>(rest: Option<&'a [u8]>) -> Result<Line<'a>, Fault>
     let Some((name, file, size)) = three_parts(rest, b':') else {
         return Err(Fault::Syntax);
     };
-    if !is_name(name) || file.is_empty() {
+    if !is_name(name) || !is_file(file) {
         return Err(Fault::Syntax);
     }
     match number_within(1, 2_097_152, size) {
         Some(kilobytes) => Ok(Line::Buffer(name, file, 2 * kilobytes as u32)),
         None => Err(Fault::Number),
     }
+}
+
+/// Whether a text may be the path of a file: one octet or more, none of them NUL.
+fn is_file(file: &[u8]) -> bool
+    ensures { result ≡ terms.is_file file.now }
+{
+    !file.is_empty() && !file.contains(&0)
 }
 
 /// Reads what follows `metacycbuff`.

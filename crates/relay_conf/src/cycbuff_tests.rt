@@ -56,6 +56,8 @@ fn syntax_of_cycbuff(rt: HostRuntime) {
     assert_eq!(rt; many_parts, at_one);
     let no_file = cycbuff(&rt, b"cycbuff:A::4\nmetacycbuff:G:A");
     assert_eq!(rt; no_file, at_one);
+    let nul = cycbuff(&rt, b"cycbuff:A:a\0:4\nmetacycbuff:G:A");
+    assert_eq!(rt; nul, at_one);
     let bad_name = cycbuff(&rt, b"cycbuff:A/:a:4\nmetacycbuff:G:A");
     assert_eq!(rt; bad_name, at_one);
     let long_name = cycbuff(&rt, b"cycbuff:12345678901234567:a:4\n");

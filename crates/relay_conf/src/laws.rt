@@ -1,14 +1,20 @@
-//! Laws of the lines of a file: nothing of the code stands on them.
-ghost use Rattle.std.specs.Prelude.{◌≡◌, ◌↔◌, ℕ, List, [], ◌∷◌, ◌++◌, Ok, IsTrue};
+//! Laws of what the files say: nothing of the code stands on them.
+ghost use Rattle.std.specs.Prelude.{◌≡◌, ◌↔◌, ℕ, List, [], ◌∷◌, ◌++◌, Ok, IsTrue, All};
 ghost use Rattle.std.specs.List.{list_all};
-ghost use Rattle.news_terms.specs.Article.{line_feed, line_end, without_outer_white};
+ghost use Rattle.news_terms.specs.Article.{line_feed, without_outer_white};
+ghost use Rattle.news_terms.specs.Lines.{crlf};
+ghost use Rattle.news_terms.specs.Path.{is_agent, path_identities};
 ghost use Rattle.news_terms.specs.StorageClass.{Entry};
+ghost use Rattle.std.specs.Str.{byte};
 ghost use Rattle.relay_conf.specs.Cycbuff.{Group, CycbuffSettings, cycbuff_of};
+ghost use Rattle.relay_conf.specs.K1.{k1_buffers, k1_entries, k1_relay};
 ghost use Rattle.relay_conf.specs.Lines.{lines_of, joined_by, is_line};
 ghost use Rattle.line_words.specs.Comments.{is_skipped};
 ghost use Rattle.relay_conf.specs.Relay.{RelaySettings};
 ghost use Rattle.relay_conf.specs.RelayViews as relay;
 ghost use Rattle.relay_conf.specs.StorageViews as storage;
+ghost use Rattle.relay_conf.specs.Words.{is_identity};
+ghost use Rattle.relay_conf.specs.declared.config.TheConstants.{K1_CYCBUFF, K1_STORAGE, K1_RELAY};
 ghost use Rattle.relay_conf.specs.declared.faults.LineFault.{LineFault};
 
 /// Lines joined by LF are the lines of that text.
@@ -20,7 +26,7 @@ pub fn lines_joined_by_line_feeds()
 /// Lines joined by CRLF are the lines of that text: so LF or CRLF makes no difference.
 pub fn lines_joined_by_line_ends()
     ensures { (first : List ℕ) (more : List (List ℕ)) → IsTrue (list_all is_line (first ∷ more))
-        → lines_of (joined_by line_end (first ∷ more)) ≡ first ∷ more }
+        → lines_of (joined_by crlf (first ∷ more)) ≡ first ∷ more }
 {}
 
 /// A comment or an empty line changes nothing of what cycbuff.conf says.
@@ -67,4 +73,27 @@ pub fn one_reading_of_storage_conf()
         → ¬ storage.HasFault groups lines fault }
     ensures fault { (groups : List Group) (lines : List (List ℕ)) (a b : LineFault)
         → storage.HasFault groups lines a → storage.HasFault groups lines b → a ≡ b }
+{}
+
+/// The built-in texts say what K1 is.
+pub fn texts_of_k1()
+    ensures cycbuff { cycbuff_of (lines_of K1_CYCBUFF.now) ≡ Ok k1_buffers }
+    ensures storage { storage.HasEntries k1_buffers.groups (lines_of K1_STORAGE.now) k1_entries }
+    ensures relay { relay.HasSettings (lines_of K1_RELAY.now) k1_relay }
+{}
+
+/// The identities of relay.conf are such as an agent may put into a Path: not empty, without a dot
+/// in front, printable, without `!`.
+pub fn identities_are_of_agents()
+    ensures own { (lines : List (List ℕ)) (settings : RelaySettings)
+        → relay.HasSettings lines settings → IsTrue (is_agent settings.own) }
+    ensures peers { (lines : List (List ℕ)) (settings : RelaySettings)
+        → relay.HasSettings lines settings
+        → All (λ peer. IsTrue (is_agent peer.identity)) settings.peers }
+{}
+
+/// So an identity is one of each Path that has it as its first piece.
+pub fn identities_stand_in_paths()
+    ensures { (identity more : List ℕ) → IsTrue (is_identity identity)
+        → path_identities (identity ++ byte "!" ∷ more) ≡ identity ∷ path_identities more }
 {}

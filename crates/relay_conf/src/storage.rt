@@ -8,7 +8,7 @@ ghost use Rattle.relay_conf.specs.Storage.{entry_view};
 ghost use Rattle.relay_conf.specs.Relay.{once};
 ghost use Rattle.relay_conf.specs.StorageDraft.{DraftGives, StepGives, NewsgroupsGive};
 ghost use Rattle.relay_conf.specs.StorageDraft.{draft_view, draft_said, stand_view};
-ghost use Rattle.relay_conf.specs.StorageDraft.{nothing, no_lines, opened, closed, grouped};
+ghost use Rattle.relay_conf.specs.StorageDraft.{nothing, no_lines, opened, closed, ended, grouped};
 ghost use Rattle.relay_conf.specs.StorageDraft.{late_or, unknown_at};
 ghost use Rattle.relay_conf.specs.StorageFile as terms;
 ghost use Rattle.relay_conf.specs.StorageLines.{storage_line, Closes};
@@ -18,7 +18,7 @@ use crate::cycbuff::{Buffers, GroupConf};
 use crate::expressions::expression_of;
 use crate::faults::{ConfError, Fault, LineFault, Refusal};
 use crate::lines::lines_of;
-use crate::storage_lines::{Line, Sizes, storage_line};
+use crate::storage_lines::{Line, Place, Sizes, storage_line};
 use std::alloc::Global;
 use std::mem;
 use uwild::Expr;
@@ -67,8 +67,8 @@ fn read_lines(alloc: Global, groups: &[GroupConf], lines: &[&[u8]]) -> Result<Dr
 #[derive(Drop)]
 struct Draft {
     methods: Vec<Method>,
-    /// Whether an entry is open.
-    is_inside: bool,
+    /// Where the next line stands.
+    place: Place,
     /// What is said of the open entry.
     entry: OpenEntry,
     /// The first fault that is looked for after the last line.
@@ -167,7 +167,7 @@ impl Draft {
     {
         Draft {
             methods: Vec::new(alloc),
-            is_inside: false,
+            place: Place::Outside,
             entry: OpenEntry::new(),
             late: None,
         }
@@ -182,12 +182,13 @@ impl Draft {
         line: &[u8],
     ) -> Result<(), Refusal>
         ensures { StepGives (map group_view groups.now) number (draft_view self.old)
-            (storage_line self.old.is_inside line.now) (draft_view self.new) result }
+            (storage_line self.old.place line.now) (draft_view self.new) result }
     {
-        match storage_line(self.is_inside, line) {
+        match storage_line(self.place, line) {
             Ok(Line::Skipped) => Ok(()),
             Ok(Line::Opens(method)) => self.open_entry(number, method),
             Ok(Line::Closes) => self.close_entry(),
+            Ok(Line::Ends) => self.end_entry(),
             Ok(Line::Class(class)) => self.entry.add_class(class),
             Ok(Line::Newsgroups(text)) => self.add_newsgroups(alloc, text),
             Ok(Line::Options(name)) => self.add_options(groups, number, name),
@@ -203,15 +204,16 @@ impl Draft {
             ≡ opened number (draft_view self.old) method.now) }
         ensures taken { LineGives result None }
     {
+        self.place = Place::InEntry;
         if method != b"cnfs".as_slice() {
+            self.place = Place::InOther;
             self.note(number);
         }
-        self.is_inside = true;
         self.entry = OpenEntry::new();
         Ok(())
     }
 
-    /// Closes the open entry.
+    /// Closes the open entry of cnfs.
     fn close_entry(&mut self) -> Result<(), Refusal>
         ensures fault { LineGives result
             (terms.line_fault (stand_view self.old.entry) (Ok Closes)) }
@@ -219,7 +221,17 @@ impl Draft {
     {
         let entry = mem::replace(&mut self.entry, OpenEntry::new());
         self.methods.push(method_of(entry)?)?;
-        self.is_inside = false;
+        self.place = Place::Outside;
+        Ok(())
+    }
+
+    /// Ends the open entry of another method.
+    fn end_entry(&mut self) -> Result<(), Refusal>
+        ensures ended { OnOk result (draft_view self.new ≡ ended (draft_view self.old)) }
+        ensures taken { LineGives result None }
+    {
+        self.entry = OpenEntry::new();
+        self.place = Place::Outside;
         Ok(())
     }
 
@@ -309,11 +321,11 @@ fn finished(draft: Draft) -> Result<Vec<Method>, ConfError>
 {
     let Draft {
         methods,
-        is_inside,
+        place,
         entry: _,
         late,
     } = draft;
-    if is_inside {
+    if !matches!(place, Place::Outside) {
         return Err(ConfError::Faulty(LineFault {
             line: 0,
             fault: Fault::Syntax,

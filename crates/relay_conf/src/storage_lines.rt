@@ -1,7 +1,7 @@
 //! The lines of storage.conf, each read alone.
 ghost use Rattle.std.specs.Prelude.{◌≡◌, ◌∷◌, [], option_map};
 ghost use Rattle.relay_conf.specs.StorageLines as terms;
-ghost use Rattle.relay_conf.specs.StorageViews.{raw_by};
+ghost use Rattle.relay_conf.specs.StorageViews.{raw_by, raw_view};
 ghost use Rattle.relay_conf.specs.Words.{words};
 ghost use Rattle.line_words.specs.Parts.{parts};
 
@@ -16,15 +16,28 @@ pub(crate) struct Sizes {
     pub(crate) largest: Option<u64>,
 }
 
+/// Where a line of the file stands.
+#[derive(Clone, Copy)]
+pub(crate) enum Place {
+    /// Outside an entry.
+    Outside,
+    /// In an entry of cnfs.
+    InEntry,
+    /// In an entry of another method, whose lines are that method's.
+    InOther,
+}
+
 /// What a line says, without fault.
 #[derive(Clone, Copy)]
 pub(crate) enum Line<'a> {
-    /// A comment or an empty line.
+    /// A comment, an empty line, or a line that is another method's.
     Skipped,
     /// The beginning of an entry, with its method.
     Opens(&'a [u8]),
-    /// The end of an entry.
+    /// The end of an entry of cnfs.
     Closes,
+    /// The end of an entry of another method.
+    Ends,
     /// The class.
     Class(u8),
     /// The text of the expression.
@@ -37,16 +50,26 @@ pub(crate) enum Line<'a> {
     ExactMatch(bool),
 }
 
-/// Reads a line alone, but for its expression; what it says rests on whether it stands inside an
-/// entry.
-pub(crate) fn storage_line(is_inside: bool, line: &[u8]) -> Result<Line<'_>, Fault>
-    ensures { raw_by result ≡ terms.storage_line is_inside line.now }
+/// Reads a line alone, but for its expression; what it says rests on where it stands.
+pub(crate) fn storage_line(place: Place, line: &[u8]) -> Result<Line<'_>, Fault>
+    ensures { raw_by result ≡ terms.storage_line place line.now }
 {
     let line = trim(line);
-    if is_inside {
-        inside_line(line)
+    match place {
+        Place::Outside => outside_line(line),
+        Place::InEntry => inside_line(line),
+        Place::InOther => Ok(other_line(line)),
+    }
+}
+
+/// Reads a line inside an entry of another method: all but its end says nothing.
+fn other_line<'a>(line: &[u8]) -> Line<'a>
+    ensures { raw_view result ≡ terms.other_line line.now }
+{
+    if line == b"}".as_slice() {
+        Line::Ends
     } else {
-        outside_line(line)
+        Line::Skipped
     }
 }
 
@@ -67,7 +90,7 @@ fn outside_line(line: &[u8]) -> Result<Line<'_>, Fault>
     }
 }
 
-/// Reads a line inside an entry.
+/// Reads a line inside an entry of cnfs.
 fn inside_line(line: &[u8]) -> Result<Line<'_>, Fault>
     ensures { raw_by result ≡ terms.inside_line line.now }
 {
@@ -78,7 +101,7 @@ fn inside_line(line: &[u8]) -> Result<Line<'_>, Fault>
         return Ok(Line::Closes);
     }
     match key_and_value(line) {
-        Some((key, value)) => setting_line(key, trim(value)),
+        Some((key, value)) => unquoted_line(key, trim(value)),
         None => Err(bare_fault(line)),
     }
 }
@@ -105,13 +128,28 @@ fn bare_fault(line: &[u8]) -> Fault
 fn is_known_word(word: &[u8]) -> bool
     ensures { result ≡ terms.is_known_word word.now }
 {
+    is_key(word) || word == b"method".as_slice() || word == b"}".as_slice()
+}
+
+/// Whether the word is a key of an entry.
+fn is_key(word: &[u8]) -> bool
+    ensures { result ≡ terms.is_key word.now }
+{
     word == b"class".as_slice()
         || word == b"newsgroups".as_slice()
         || word == b"options".as_slice()
         || word == b"size".as_slice()
         || word == b"exactmatch".as_slice()
-        || word == b"method".as_slice()
-        || word == b"}".as_slice()
+}
+
+/// Reads a key and its value, which may not be quoted.
+fn unquoted_line<'a>(key: &[u8], value: &'a [u8]) -> Result<Line<'a>, Fault>
+    ensures { raw_by result ≡ terms.unquoted_line key.now value.now }
+{
+    if is_key(key) && value.starts_with(b"\"") {
+        return Err(Fault::Syntax);
+    }
+    setting_line(key, value)
 }
 
 /// Reads a key and its value.

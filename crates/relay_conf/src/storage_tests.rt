@@ -54,6 +54,12 @@ fn values_of_storage(rt: HostRuntime) {
     assert_eq!(rt; empty, Answer::Faulty(2, Fault::Syntax));
     let class = storage(&rt, b"method cnfs {\nclass: 256\n}\n");
     assert_eq!(rt; class, Answer::Faulty(2, Fault::Number));
+    let quoted = storage(&rt, b"method cnfs {\nnewsgroups: \"*\"\n}\n");
+    assert_eq!(rt; quoted, Answer::Faulty(2, Fault::Syntax));
+    let quoted_class = storage(&rt, b"method cnfs {\nclass:\"1\n}\n");
+    assert_eq!(rt; quoted_class, Answer::Faulty(2, Fault::Syntax));
+    let quoted_other = storage(&rt, b"method cnfs {\nexpires: \"1\"\n}\n");
+    assert_eq!(rt; quoted_other, Answer::Faulty(2, Fault::UnknownKey));
     let pattern = storage(&rt, b"method cnfs {\nnewsgroups: [ab\n}\n");
     assert_eq!(rt; pattern, Answer::Faulty(2, Fault::Pattern));
     let options = storage(&rt, b"method cnfs {\noptions: a/b\n}\n");
@@ -84,8 +90,15 @@ fn late_faults_of_storage(rt: HostRuntime) {
         b"method cnfa {\nclass: 1\nnewsgroups: *\noptions: G\n}\n",
     );
     assert_eq!(rt; method, Answer::Faulty(1, Fault::UnknownName));
-    let early = storage(&rt, b"method cnfa {\nclass: x\n}\n");
-    assert_eq!(rt; early, Answer::Faulty(2, Fault::Number));
+    let unread = storage(&rt, b"method cnfa {\nclass: x\n}\n");
+    assert_eq!(rt; unread, Answer::Faulty(1, Fault::UnknownName));
+    let ended = storage(
+        &rt,
+        b"method cnfa {\n# }\nmethod cnfs {\nx\n }\nmethod cnfs {\nclass: 1\nclass: 1\n",
+    );
+    assert_eq!(rt; ended, Answer::Faulty(8, Fault::Duplicate));
+    let other_open = storage(&rt, b"method cnfa {\nclass: 1\n");
+    assert_eq!(rt; other_open, Answer::Faulty(0, Fault::Syntax));
     let group = storage(
         &rt,
         b"method cnfs {\nclass: 1\nnewsgroups: *\noptions: H\n}\n",

@@ -1,12 +1,13 @@
-use Rattle.std.proofs.Common.{◌≡◌, List, Ok, subst}
-use Rattle.relay_conf.specs.Cycbuff.{CycbuffSettings, Group}
 use Rattle.relay_conf.specs.Settings.{buffers_view}
-use Rattle.relay_conf.specs.StorageViews.{StorageGives}
-use Rattle.relay_conf.proofs.BuiltIn.{built_in_groups, storage_lines, storage_fails_by_memory, same_groups}
+use Rattle.relay_conf.proofs.BuiltIn.{entries_are_k1, entries_fail_by_memory}
 use Rattle.relay_conf.proofs.config.k1_methods.Goals as goal
+
+pub returns-clause-gives : goal.returns-clause-gives
+returns-clause-gives c =
+    entries_are_k1 c.read_storage.result (buffers_view c.args.buffers.now) c.requires
+    c.read_storage.ensures
 
 pub returns-clause-memory : goal.returns-clause-memory
 returns-clause-memory c =
-    let groups : (buffers_view c.args.buffers.now).groups ≡ built_in_groups = same_groups (buffers_view c.args.buffers.now) c.requires in
-    storage_fails_by_memory c.read_storage.result
-    (subst (λ (groups : List Group). StorageGives c.read_storage.result groups storage_lines) groups c.read_storage.ensures)
+    entries_fail_by_memory c.read_storage.result (buffers_view c.args.buffers.now) c.requires
+    c.read_storage.ensures

@@ -2,7 +2,7 @@ use Rattle.std.proofs.Common.{refl, subst, map, Ok, Err}
 use Rattle.relay_conf.specs.Settings.{group_view}
 use Rattle.relay_conf.specs.declared.storage.OpenEntry.{OpenEntry}
 use Rattle.relay_conf.specs.StorageDraft.{draft_view, Reading, StepGives}
-use Rattle.relay_conf.specs.StorageLines.{RawLine, RawSays, Skipped, Opens, Closes, ClassLine, OptionsLine, SizeLine, ExactLine}
+use Rattle.relay_conf.specs.StorageLines.{RawLine, RawSays, Skipped, Opens, Closes, Ends, ClassLine, OptionsLine, SizeLine, ExactLine}
 use Rattle.relay_conf.proofs.StorageReadings.{step_by}
 use Rattle.relay_conf.proofs.storage.Draft.add_line.Goals as goal
 
@@ -25,6 +25,14 @@ returns-in-Ok-Closes c =
     step_by (λ (r : Reading). r) (map group_view c.args.groups.now) c.args.number (draft_view c.args.self.now) (draft_view c.close_entry.new.self) _ _ Closes c.close_entry.result
     (subst (λ (raw : RawLine). RawSays raw (Ok Closes)) (rw c.in-Ok-Closes.field-0-is at c.in-Ok-Closes.ensures) refl)
     c.close_entry.ensures.fault c.close_entry.ensures.entries refl
+
+pub returns-in-Ok-Ends : goal.returns-in-Ok-Ends
+returns-in-Ok-Ends c =
+    step_by (λ (r : Reading). r) (map group_view c.args.groups.now) c.args.number
+    (draft_view c.args.self.now) (draft_view c.end_entry.new.self) _ _ Ends c.end_entry.result
+    (subst (λ (raw : RawLine). RawSays raw (Ok Ends))
+    (rw c.in-Ok-Ends.field-0-is at c.in-Ok-Ends.ensures) refl)
+    c.end_entry.ensures.taken c.end_entry.ensures.ended refl
 
 pub returns-in-Ok-Class : goal.returns-in-Ok-Class
 returns-in-Ok-Class c =

@@ -1,0 +1,5 @@
+pub mod Drills
+pub mod Pieces
+pub mod Plays
+pub mod Prints
+pub mod Scripts
