@@ -5,7 +5,7 @@ use Rattle.std.proofs.lemmas.Bool.Decides.{nat_tests}
 use Rattle.std.specs.Prelude.{nat_eq, nat_le, nat_lt, is_some, vec_len, if◌then◌else◌}
 use Rattle.std.specs.declared.alloc.Global.{Global}
 use Rattle.news_terms.specs.Reply.{Greeting, reply_text}
-use Rattle.stream_cut.proofs.NextLemmas.{next_line-append, whole-append, oversize-append}
+use Rattle.news_terms.proofs.NextLemmas.{next_line-append, whole-append, oversize-append}
 use Rattle.stream_cut.specs.Stream.{Stream}
 use Rattle.stream_cut.specs.Stream as stream
 use Rattle.stream_cut.specs.declared.cutter.Block.{Block}

@@ -16,6 +16,7 @@ pub mod LeftmostFaults
 pub mod LineLemmas
 pub mod LinePairs
 pub mod Matching
+pub mod NextLemmas
 pub mod PathUpdates
 pub mod RestLemmas
 pub mod RunPlaces
