@@ -3,7 +3,8 @@
 ghost use Rattle.std.specs.Prelude.{◌≡◌, ◌⊎◌, codes, IfOk, IfErr, OnOk};
 ghost use Rattle.std.specs.Io.KnownBytes.{Appends};
 ghost use Rattle.relay_conf.specs.RelayViews.{RelayGives};
-ghost use Rattle.cnrelay.specs.Check.{CheckGives, CycbuffReads, FileGives, IsErrorIn, IsTextOf, IsUnread, LoadGives, StorageReads};
+ghost use Rattle.cnrelay.specs.Check.{CheckGives, CycbuffReads, FileGives, IsErrorIn, IsTextOf};
+ghost use Rattle.cnrelay.specs.Check.{IsUnread, LoadGives, StorageReads};
 ghost use Rattle.cnrelay.specs.Check.{check_status, counted, counted_as, file_name, k1_text};
 ghost use Rattle.cnrelay.specs.declared.check.CheckError.TheVariants.{Memory, Unreadable};
 ghost use Rattle.cnrelay.specs.declared.check.ConfFile.TheVariants as files;

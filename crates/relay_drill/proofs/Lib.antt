@@ -3,3 +3,5 @@ pub mod Pieces
 pub mod Plays
 pub mod Prints
 pub mod Scripts
+pub mod Stops
+pub mod Writes

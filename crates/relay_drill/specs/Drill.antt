@@ -1,10 +1,11 @@
 -- What a drill writes (docs/PROTOCOL.md, The call `drill`).
-use Rattle.std.specs.Prelude.{◌≡◌, ℕ, List, [], ◌∷◌, map, string_bytes, Option, Result, Ok, Err, IfSome}
+use Rattle.std.specs.Prelude.{◌≡◌, ℕ, List, [], ◌∷◌, map, string_bytes, Option, Result, Ok, Err}
+use Rattle.std.specs.Prelude.{IfSome}
 use Rattle.std.specs.Io.KnownBytes.{Appends, Keeps}
 use Rattle.first_core.specs.Config.{terms_of}
 use Rattle.first_core.specs.declared.config.Config.{Config}
 use Rattle.first_model.specs.World.{World, empty_world}
-use Rattle.relay_drill.specs.Play.{LinesDo, first_stand}
+use Rattle.relay_drill.specs.Play.{LinesDo, Stopped, first_stand}
 use Rattle.relay_drill.specs.Script.{Line, script_of}
 use Rattle.relay_drill.specs.declared.fault.DrillError.{DrillError}
 use Rattle.relay_drill.specs.declared.fault.DrillError.TheVariants.{Memory, Unreadable, Unwritten}
@@ -23,14 +24,27 @@ pub record Ran (config : Config) (script : List ℕ) (before after : Option (Lis
   pub played : LinesDo (terms_of config) (0 ∷ []) lines first_stand empty_world text world
   pub written : Appends before after text
 
+-- what was written is a front of what these lines print, if they go on in one way or another, from
+-- a relay that nothing came to
+abbrev pub LinesStop : Config → List Line → Option (List ℕ) → Option (List ℕ) → Type 0
+LinesStop config lines before after =
+    Stopped (LinesDo (terms_of config) (0 ∷ []) lines first_stand) empty_world before after
+
+-- the same of a script that says these lines; of one with a bad line nothing was written
+abbrev pub ScriptStops : Config → Result (List Line) ℕ → Option (List ℕ) → Option (List ℕ) → Type 0
+ScriptStops config (Ok lines) before after = LinesStop config lines before after
+ScriptStops config (Err number) before after = Keeps before after
+
 -- what the answer says of the script and of what the writer held before and holds after
 abbrev pub DrillGives : Config → Result (Unit {0}) DrillError → Option (List ℕ)
     → Option (List ℕ) → Option (List ℕ) → Type 0
 DrillGives config (Ok done) script before after =
     IfSome script (λ text. Ran config text before after)
-DrillGives config (Err Memory) script before after = Unit {0}
+DrillGives config (Err Memory) script before after =
+    IfSome script (λ text. ScriptStops config (lines_of_script config text) before after)
 DrillGives config (Err (faults.Line number)) script before after =
     IfSome script (λ text. lines_of_script config text ≡ Err number) × Keeps before after
 DrillGives config (Err Unreadable) script before after = Keeps before after
 DrillGives config (Err Unwritten) script before after =
-    IfSome script (λ text. (lines : List Line) × (lines_of_script config text ≡ Ok lines))
+    IfSome script (λ text. (lines : List Line) × (lines_of_script config text ≡ Ok lines)
+    × LinesStop config lines before after)

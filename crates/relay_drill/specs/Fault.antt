@@ -6,7 +6,8 @@ use Rattle.relay_drill.specs.declared.fault.DrillError.TheVariants as faults
 use Rattle.relay_drill.specs.declared.script.Keyword.{Keyword}
 use Rattle.relay_drill.specs.declared.script.Keyword.TheVariants as keywords
 use Rattle.relay_drill.specs.declared.line.Line.{Line}
-use Rattle.relay_drill.specs.declared.line.Line.TheVariants.{Open, Bring, Split, Turn, Write, Rounds}
+use Rattle.relay_drill.specs.declared.line.Line.TheVariants.{Open, Bring, Split, Turn, Write}
+use Rattle.relay_drill.specs.declared.line.Line.TheVariants.{Rounds}
 use Rattle.relay_drill.specs.Script as script
 
 -- a keyword as the format has it
@@ -44,13 +45,13 @@ ScriptGives items (Err (faults.Line number)) says = says ≡ Err number
 ScriptGives items (Err faults.Unreadable) says = ⊥
 ScriptGives items (Err faults.Unwritten) says = ⊥
 
--- the answer says that the fact holds; without it memory ran out or the writer failed
-abbrev pub PlayGives : Result (Unit {0}) DrillError → Type 0 → Type 0
-PlayGives (Ok done) fact = fact
-PlayGives (Err faults.Memory) fact = Unit {0}
-PlayGives (Err faults.Unwritten) fact = Unit {0}
-PlayGives (Err (faults.Line number)) fact = ⊥
-PlayGives (Err faults.Unreadable) fact = ⊥
+-- the answer says that all is done; where memory ran out or the writer failed, it was broken off
+abbrev pub PlayGives : Result (Unit {0}) DrillError → (done stopped : Type 0) → Type 0
+PlayGives (Ok fine) done stopped = done
+PlayGives (Err faults.Memory) done stopped = stopped
+PlayGives (Err faults.Unwritten) done stopped = stopped
+PlayGives (Err (faults.Line number)) done stopped = ⊥
+PlayGives (Err faults.Unreadable) done stopped = ⊥
 
 -- the answer is all that the reader has left, where that is known; without it memory ran out or the
 -- reader failed

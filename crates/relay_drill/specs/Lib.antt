@@ -6,3 +6,4 @@ pub mod Progress
 pub mod Script
 pub mod Status
 pub mod Words
+pub mod Written

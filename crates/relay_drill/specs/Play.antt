@@ -1,12 +1,14 @@
 -- What running a script may print, by the steps of the relay (docs/FORMATS.md, Drill scripts). Each
 -- act leads from a world, by what it prints, to a world.
-use Rattle.std.specs.Prelude.{◌≡◌, ℕ, zero, suc, Bool, true, false, ◌++◌, List, [], ◌∷◌, length, take, drop, min, Option, None, Some, if◌then◌else◌}
+use Rattle.std.specs.Prelude.{◌≡◌, ℕ, zero, suc, Bool, true, false, ◌++◌, List, [], ◌∷◌, length}
+use Rattle.std.specs.Prelude.{take, drop, min, Option, None, Some, if◌then◌else◌}
 use Rattle.std.specs.Bool.{MatchBool}
 use Rattle.first_model.specs.Run.{Event, Open, Bytes, Turn, Write, Step, is_there, is_running}
 use Rattle.first_model.specs.Terms.{Terms}
 use Rattle.first_model.specs.World.{World, Output, Quiet, Sent, Ended, Refuses}
 use Rattle.relay_drill.specs.Print.{printed}
 use Rattle.relay_drill.specs.Script.{Line, Opens, Brings, Splits, Turns, Writes, Rounds}
+use Rattle.relay_drill.specs.Written.{GainsFront}
 
 -- what may be done: from a world, by the text that is printed, to a world
 abbrev pub Act : Type 1
@@ -32,6 +34,14 @@ pub record Then (first second : Act) (x : World) (text : List ℕ) (x' : World) 
   pub goes_on : second mid after x'
   pub says : text ≡ before ++ after
 
+-- An act was broken off, from this world: what was written is a front of what the act prints, if it
+-- goes on in one way or another.
+pub record Stopped (act : Act) (x : World) (before after : Option (List ℕ)) : Type 0 where
+  pub text : List ℕ
+  pub world : World
+  pub acted : act x text world
+  pub written : GainsFront text before after
+
 -- the pieces of so many octets, the last of what is left; n turns are enough for n octets
 abbrev pub pieces_in : ℕ → ℕ → List ℕ → List (List ℕ)
 pieces_in zero size octets = []
@@ -44,6 +54,10 @@ pieces_in (suc turns) size (c ∷ cs) =
 pub record Stand : Type 0 where
   pub sessions : List ℕ
   pub piece : Option ℕ
+
+-- what leads to how a drill stands is done, however it then stands
+abbrev pub Somehow : (Stand → Act) → Act
+Somehow act x text x' = (stand : Stand) × act stand x text x'
 
 -- nothing is open, and nothing is split
 abbrev pub first_stand : Stand

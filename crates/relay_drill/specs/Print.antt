@@ -1,7 +1,9 @@
 -- What an output prints (docs/FORMATS.md, Drill scripts: What is printed).
-use Rattle.std.specs.Prelude.{ℕ, ◌==◌, ◌&&◌, List, [], ◌∷◌, ◌++◌, flat_map, codes, decimal, if◌then◌else◌}
+use Rattle.std.specs.Prelude.{ℕ, ◌==◌, ◌&&◌, List, [], ◌∷◌, ◌++◌, flat_map, codes, decimal}
+use Rattle.std.specs.Prelude.{if◌then◌else◌}
 use Rattle.std.specs.List.{onto_first}
-use Rattle.first_model.specs.World.{Output, Quiet, Sent, Ended, Refuses, Fault, Memory, NoSession, SessionTaken, NoGroup, NoPeer, BadMoment}
+use Rattle.first_model.specs.World.{Output, Quiet, Sent, Ended, Refuses, Fault, Memory, NoSession}
+use Rattle.first_model.specs.World.{SessionTaken, NoGroup, NoPeer, BadMoment}
 
 -- the lines of octets, without their CRLFs
 abbrev pub lines_of : List ℕ → List (List ℕ)

@@ -1,5 +1,6 @@
 -- The words of a script's line (docs/FORMATS.md, Drill scripts).
-use Rattle.std.specs.Prelude.{ℕ, ◌==◌, nat_le, nat_lt, List, length, bytes_eq, Option, None, Some, if◌then◌else◌}
+use Rattle.std.specs.Prelude.{ℕ, ◌==◌, nat_le, nat_lt, List, length, bytes_eq, Option, None, Some}
+use Rattle.std.specs.Prelude.{if◌then◌else◌}
 use Rattle.std.specs.List.{position_or_len}
 use Rattle.hex.specs.Hex.{decode_of}
 use Rattle.line_words.specs.Numbers as numbers

@@ -1,8 +1,9 @@
 //! Why a drill ends before its script does.
 ghost use Rattle.std.specs.Prelude.{◌≡◌};
 ghost use Rattle.relay_drill.specs.Status.{status_of};
-ghost use Rattle.relay_drill.specs.declared.fault.DrillError.TheVariants.{Memory};
+ghost use Rattle.relay_drill.specs.declared.fault.DrillError.TheVariants as faults;
 
+use crate::written::Unwritten;
 use std::alloc::{AllocError, AllocFailed};
 use thiserror::Error;
 
@@ -37,8 +38,16 @@ impl DrillError {
     }
 }
 
+impl From<Unwritten> for DrillError {
+    ghost from_gives = { λ _ e. e ≡ faults.Unwritten };
+
+    fn from(_error: Unwritten) -> DrillError {
+        DrillError::Unwritten
+    }
+}
+
 impl From<AllocError> for DrillError {
-    ghost from_gives = { λ _ e. e ≡ Memory };
+    ghost from_gives = { λ _ e. e ≡ faults.Memory };
 
     fn from(_error: AllocError) -> DrillError {
         DrillError::Memory
@@ -46,7 +55,7 @@ impl From<AllocError> for DrillError {
 }
 
 impl<T: Drop> From<AllocFailed<T>> for DrillError {
-    ghost from_gives = { λ _ e. e ≡ Memory };
+    ghost from_gives = { λ _ e. e ≡ faults.Memory };
 
     fn from(_error: AllocFailed<T>) -> DrillError {
         DrillError::Memory

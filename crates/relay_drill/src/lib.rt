@@ -12,6 +12,8 @@ mod print;
 mod script;
 mod whole;
 mod words;
+mod written;
 
 pub use fault::DrillError;
 pub use whole::{drill, read_all};
+pub use written::{Unwritten, put, put_all};

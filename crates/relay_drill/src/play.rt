@@ -1,11 +1,10 @@
 //! Running the lines of a script on the core, and printing what it answers.
 ghost use Rattle.std.specs.Prelude.{◌≡◌, ◌<◌, ◌∷◌, [], length, map, min};
-ghost use Rattle.std.specs.Io.KnownBytes.{Appends};
-ghost use Rattle.relay_drill.specs.Play.{One, Then, OpensOne, BringsEach, TurnsOne, TurnsEach, WritesEach, RoundsEach, LineDoes, LinesDo, pieces_in};
+ghost use Rattle.relay_drill.specs.Play.{One, Then, OpensOne, BringsEach, TurnsOne, TurnsEach};
+ghost use Rattle.relay_drill.specs.Play.{WritesEach, RoundsEach, LineDoes, LinesDo, pieces_in};
 ghost use Rattle.relay_drill.specs.Play as terms;
-ghost use Rattle.relay_drill.specs.Fault.{PlayGives, line_view};
-ghost use Rattle.relay_drill.specs.Print.{printed};
-ghost use Rattle.relay_drill.specs.Progress.{Plays, stand_view};
+ghost use Rattle.relay_drill.specs.Fault.{line_view};
+ghost use Rattle.relay_drill.specs.Progress.{Performs, PerformsTo, stand_view};
 ghost use Rattle.first_core.specs.Views.{event_view, output_view};
 
 use crate::fault::DrillError;
@@ -31,9 +30,9 @@ pub fn play<W: Write>(
     lines: &[Line],
     writer: &mut W,
 ) -> Result<(), DrillError>
-    ensures { PlayGives result (Plays
+    ensures { Performs result
         (λ w. LinesDo w (0 ∷ []) (map line_view lines.now) terms.first_stand)
-        system.old system.new (W.contents writer.old) (W.contents writer.new)) }
+        system.old system.new (W.contents writer.old) (W.contents writer.new) }
 {
     let mut stand = Stand {
         sessions: Vec::new(alloc),
@@ -53,25 +52,27 @@ fn play_line<W: Write>(
     line: &Line,
     writer: &mut W,
 ) -> Result<(), DrillError>
-    ensures { PlayGives result (Plays
-        (λ w. LineDoes w (0 ∷ []) (line_view line.now)
-        (stand_view stand.old) (stand_view stand.new))
-        system.old system.new (W.contents writer.old) (W.contents writer.new)) }
+    ensures { PerformsTo result
+        (λ w. LineDoes w (0 ∷ []) (line_view line.now) (stand_view stand.old))
+        (stand_view stand.new)
+        system.old system.new (W.contents writer.old) (W.contents writer.new) }
 {
     match line {
-        Line::Open(session, peer) => open(system, stand, *session, *peer, writer)?,
+        Line::Open(session, peer) => open(system, stand, *session, *peer, writer),
         Line::Bring(session, octets) => {
             let size = piece_size(stand, octets);
-            bring(alloc, system, *session, octets, size, writer)?;
+            bring(alloc, system, *session, octets, size, writer)
         }
-        Line::Split(size) => stand.piece = Some(*size),
-        Line::Turn(session, moment) => perform(system, &Event::Turn(*session, *moment), writer)?,
+        Line::Split(size) => {
+            stand.piece = Some(*size);
+            Ok(())
+        }
+        Line::Turn(session, moment) => perform(system, &Event::Turn(*session, *moment), writer),
         Line::Write(group, moment) => {
-            perform(system, &Event::Write(narrowed(*group), *moment), writer)?;
+            perform(system, &Event::Write(narrowed(*group), *moment), writer)
         }
-        Line::Rounds(count, moment) => rounds(system, &stand.sessions, *count, *moment, writer)?,
+        Line::Rounds(count, moment) => rounds(system, &stand.sessions, *count, *moment, writer),
     }
-    Ok(())
 }
 
 /// How many octets a piece of these has: all of them, unless octets are split.
@@ -94,12 +95,12 @@ fn open<W: Write>(
     peer: usize,
     writer: &mut W,
 ) -> Result<(), DrillError>
-    ensures { PlayGives result (Plays
-        (λ w. OpensOne w session peer (stand_view stand.old) (stand_view stand.new))
-        system.old system.new (W.contents writer.old) (W.contents writer.new)) }
+    ensures { PerformsTo result
+        (λ w. OpensOne w session peer (stand_view stand.old)) (stand_view stand.new)
+        system.old system.new (W.contents writer.old) (W.contents writer.new) }
 {
     let output = system.step(&Event::Open(session, narrowed(peer as u64)));
-    tell(writer, &output)?;
+    print(writer, &output)?;
     if is_refused(&output) {
         return Ok(());
     }
@@ -124,9 +125,9 @@ fn bring<W: Write>(
     writer: &mut W,
 ) -> Result<(), DrillError>
     requires { 0 < length octets.now → 0 < size }
-    ensures { PlayGives result (Plays
+    ensures { Performs result
         (λ w. BringsEach w session (pieces_in (length octets.now) size octets.now))
-        system.old system.new (W.contents writer.old) (W.contents writer.new)) }
+        system.old system.new (W.contents writer.old) (W.contents writer.new) }
 {
     let mut rest = octets;
     while !rest.is_empty() {
@@ -146,8 +147,8 @@ fn rounds<W: Write>(
     moment: u64,
     writer: &mut W,
 ) -> Result<(), DrillError>
-    ensures { PlayGives result (Plays (λ w. RoundsEach w moment sessions.now (0 ∷ []) count)
-        system.old system.new (W.contents writer.old) (W.contents writer.new)) }
+    ensures { Performs result (λ w. RoundsEach w moment sessions.now (0 ∷ []) count)
+        system.old system.new (W.contents writer.old) (W.contents writer.new) }
 {
     for passed in 0..count {
         let _passed = passed;
@@ -163,13 +164,12 @@ fn round<W: Write>(
     moment: u64,
     writer: &mut W,
 ) -> Result<(), DrillError>
-    ensures { PlayGives result (Plays
+    ensures { Performs result
         (λ w. Then (TurnsEach w moment sessions.now) (WritesEach w moment (0 ∷ [])))
-        system.old system.new (W.contents writer.old) (W.contents writer.new)) }
+        system.old system.new (W.contents writer.old) (W.contents writer.new) }
 {
     turn_each(system, sessions, moment, writer)?;
-    perform(system, &Event::Write(0, moment), writer)?;
-    Ok(())
+    perform(system, &Event::Write(0, moment), writer)
 }
 
 /// Each of the sessions has its turn, where it is not closed.
@@ -179,8 +179,8 @@ fn turn_each<W: Write>(
     moment: u64,
     writer: &mut W,
 ) -> Result<(), DrillError>
-    ensures { PlayGives result (Plays (λ w. TurnsEach w moment sessions.now)
-        system.old system.new (W.contents writer.old) (W.contents writer.new)) }
+    ensures { Performs result (λ w. TurnsEach w moment sessions.now)
+        system.old system.new (W.contents writer.old) (W.contents writer.new) }
 {
     for session in sessions {
         turn_one(system, *session, moment, writer)?;
@@ -195,34 +195,23 @@ fn turn_one<W: Write>(
     moment: u64,
     writer: &mut W,
 ) -> Result<(), DrillError>
-    ensures { PlayGives result (Plays (λ w. TurnsOne w moment session)
-        system.old system.new (W.contents writer.old) (W.contents writer.new)) }
+    ensures { Performs result (λ w. TurnsOne w moment session)
+        system.old system.new (W.contents writer.old) (W.contents writer.new) }
 {
-    if !system.is_closed(session) {
-        perform(system, &Event::Turn(session, moment), writer)?;
+    if system.is_closed(session) {
+        return Ok(());
     }
-    Ok(())
+    perform(system, &Event::Turn(session, moment), writer)
 }
 
 /// Does one event, and prints what it is answered.
 fn perform<W: Write>(system: &mut System, event: &Event, writer: &mut W) -> Result<(), DrillError>
-    ensures { PlayGives result (Plays (λ w. One w (event_view event.now))
-        system.old system.new (W.contents writer.old) (W.contents writer.new)) }
+    ensures { Performs result (λ w. One w (event_view event.now))
+        system.old system.new (W.contents writer.old) (W.contents writer.new) }
 {
     let output = system.step(event);
-    tell(writer, &output)?;
+    print(writer, &output)?;
     Ok(())
-}
-
-/// Prints what an event is answered.
-fn tell<W: Write>(writer: &mut W, output: &Output) -> Result<(), DrillError>
-    ensures { PlayGives result (Appends (W.contents writer.old) (W.contents writer.new)
-        (printed (output_view output.now))) }
-{
-    match print(writer, output) {
-        Ok(()) => Ok(()),
-        Err(_) => Err(DrillError::Unwritten),
-    }
 }
 
 /// The number as an event names a peer or a group: there is none of the last such number.

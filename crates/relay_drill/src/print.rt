@@ -1,19 +1,20 @@
 //! What an output prints (docs/FORMATS.md, Drill scripts: What is printed).
-ghost use Rattle.std.specs.Prelude.{◌≡◌, ◌<◌, ◌∷◌, length, OnOk};
-ghost use Rattle.std.specs.Io.KnownBytes.{Appends};
+ghost use Rattle.std.specs.Prelude.{◌≡◌, ◌<◌, ◌∷◌, length};
 ghost use Rattle.first_core.specs.Views.{fault_view, output_view};
 ghost use Rattle.relay_drill.specs.Print as terms;
 ghost use Rattle.relay_drill.specs.Print.{lines_of, printed, session_line, session_lines};
+ghost use Rattle.relay_drill.specs.Written.{Writes};
 
+use crate::written::{Unwritten, put_all};
 use first_core::{CoreError, Output};
+use itoa::Buffer;
 use memchr::memmem;
-use std::io;
 use std::io::Write;
 
 /// Prints an output.
-pub fn print<W: Write>(writer: &mut W, output: &Output) -> io::Result<()>
-    ensures { OnOk result (Appends (W.contents writer.old) (W.contents writer.new)
-        (printed (output_view output.now))) }
+pub fn print<W: Write>(writer: &mut W, output: &Output) -> Result<(), Unwritten>
+    ensures { Writes result (printed (output_view output.now))
+        (W.contents writer.old) (W.contents writer.new) }
 {
     match output {
         Output::Quiet => Ok(()),
@@ -22,11 +23,7 @@ pub fn print<W: Write>(writer: &mut W, output: &Output) -> io::Result<()>
             print_lines(writer, *session, octets.as_slice())?;
             print_line(writer, *session, b"closed")
         }
-        Output::Refused(error) => {
-            writer.write_all(b"refused ")?;
-            writer.write_all(fault_text(*error))?;
-            writer.write_all(b"\n")
-        }
+        Output::Refused(error) => put_all(writer, &[b"refused ", fault_text(*error), b"\n"]),
     }
 }
 
@@ -45,9 +42,9 @@ fn fault_text(error: CoreError) -> &'static [u8]
 }
 
 /// Prints the lines that a session is sent, each after the session's number.
-fn print_lines<W: Write>(writer: &mut W, session: u64, octets: &[u8]) -> io::Result<()>
-    ensures { OnOk result (Appends (W.contents writer.old) (W.contents writer.new)
-        (session_lines session octets.now)) }
+fn print_lines<W: Write>(writer: &mut W, session: u64, octets: &[u8]) -> Result<(), Unwritten>
+    ensures { Writes result (session_lines session octets.now)
+        (W.contents writer.old) (W.contents writer.new) }
 {
     let mut rest = octets;
     while !rest.is_empty() {
@@ -59,13 +56,13 @@ fn print_lines<W: Write>(writer: &mut W, session: u64, octets: &[u8]) -> io::Res
 }
 
 /// Prints a line that a session is sent.
-fn print_line<W: Write>(writer: &mut W, session: u64, line: &[u8]) -> io::Result<()>
-    ensures { OnOk result (Appends (W.contents writer.old) (W.contents writer.new)
-        (session_line session line.now)) }
+fn print_line<W: Write>(writer: &mut W, session: u64, line: &[u8]) -> Result<(), Unwritten>
+    ensures { Writes result (session_line session line.now)
+        (W.contents writer.old) (W.contents writer.new) }
 {
-    write!(writer, "{session} ")?;
-    writer.write_all(line)?;
-    writer.write_all(b"\n")
+    let mut digits = Buffer::new();
+    let number = digits.format(session).as_bytes();
+    put_all(writer, &[number, b" ", line, b"\n"])
 }
 
 /// The first line, without its CRLF, and what follows it.

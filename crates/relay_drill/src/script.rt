@@ -3,7 +3,8 @@ ghost use Rattle.std.specs.Prelude.{◌≡◌, ◌++◌, [], map, option_map, st
 ghost use Rattle.std.specs.List.{join_with_byte};
 ghost use Rattle.news_terms.specs.Lines.{crlf};
 ghost use Rattle.line_words.specs.Parts.{parts_after};
-ghost use Rattle.relay_drill.specs.Script.{line_with, send_line, script_of, OPEN, RAW, SPLIT, TURN, WRITE, ROUNDS};
+ghost use Rattle.relay_drill.specs.Script.{line_with, send_line, script_of, OPEN, RAW, SPLIT, TURN};
+ghost use Rattle.relay_drill.specs.Script.{WRITE, ROUNDS};
 ghost use Rattle.relay_drill.specs.Script as terms;
 ghost use Rattle.relay_drill.specs.Fault.{LineGives, ScriptGives, keyword_view, line_view};
 

@@ -6,6 +6,7 @@ use Rattle.relay_drill.proofs.play.play.Given as goal
 
 abbrev pub invariant-loop-line : goal.invariant-loop-line
 invariant-loop-line g l =
-    Completes (λ w. LinesDo w (0 ∷ []) (map line_view (drop l.line-index l.lines)) (stand_view l.stand))
+    Completes (λ w. LinesDo w (0 ∷ []) (map line_view (drop l.line-index l.lines))
+    (stand_view l.stand))
     (λ w. LinesDo w (0 ∷ []) (map line_view l.lines) first_stand)
     l.fn.system l.system (g.W.Write.contents l.fn.writer) (g.W.Write.contents l.writer)

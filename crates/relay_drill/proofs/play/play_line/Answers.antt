@@ -1,53 +1,73 @@
-use Rattle.std.proofs.Common.{[], ◌∷◌, refl, length, Some, ap, subst, sym}
+use Rattle.std.proofs.Common.{[], ◌∷◌, refl, length, Some}
 use Rattle.first_model.specs.Run.{Turn, Write}
-use Rattle.relay_drill.specs.Fault.{line_view}
-use Rattle.relay_drill.specs.Script.{Line, Splits}
-use Rattle.relay_drill.specs.Play.{Stand, Nothing, One, LineDoes, OpensOne, RoundsEach, BringsEach, pieces_in}
-use Rattle.relay_drill.specs.Progress.{Did, stand_view}
+use Rattle.relay_drill.specs.Script.{Splits}
+use Rattle.relay_drill.specs.Play.{Stand, Nothing, One, LineDoes, RoundsEach, BringsEach}
+use Rattle.relay_drill.specs.Play.{pieces_in}
+use Rattle.relay_drill.specs.Progress.{stand_view}
 use Rattle.relay_drill.proofs.Plays.{did_as, did_nothing}
+use Rattle.relay_drill.proofs.Stops.{gives_from, stopped_as}
 use Rattle.relay_drill.proofs.play.play_line.Goals as goal
 
-pub returns-in_ok-open-in-Open : goal.returns-in_ok-open-in-Open
-returns-in_ok-open-in-Open g c = λ w x agrees.
-    let P : Line → Type 0 = λ line. Did w (LineDoes w (0 ∷ []) line (stand_view c.args.stand.now) (stand_view c.open.new.stand)) x c.open.new.system (g.W.Write.contents c.args.writer.now) (g.W.Write.contents c.open.new.writer) in
-    subst P (sym (ap line_view c.in-Open.is))
-    (did_as w (OpensOne w c.in-Open.session c.in-Open.peer (stand_view c.args.stand.now) (stand_view c.open.new.stand)) _ x _ _ _ (c.in_ok-open-in-Open.ensures w x agrees) (λ text x' opened. opened))
+pub returns-in-Open : goal.returns-in-Open
+returns-in-Open g c = rw c.in-Open.is c.open.ensures
 
-pub returns-in_ok-bring-in-Bring : goal.returns-in_ok-bring-in-Bring
-returns-in_ok-bring-in-Bring g c = λ w x agrees.
-    let stand = stand_view c.args.stand.now in
+pub returns-in-Bring : goal.returns-in-Bring
+returns-in-Bring g c =
+    let s = stand_view c.args.stand.now in
+    let n = c.in-Bring.session in
     let octets = c.in-Bring.octets.items in
-    let P : Line → Type 0 = λ line. Did w (LineDoes w (0 ∷ []) line stand stand) x c.bring.new.system (g.W.Write.contents c.args.writer.now) (g.W.Write.contents c.bring.new.writer) in
-    subst P (sym (ap line_view c.in-Bring.is))
-    (did_as w (BringsEach w c.in-Bring.session (pieces_in (length octets) c.piece_size-size.result octets)) _ x _ _ _ (rw c.deref-in-Bring.ensures.value at (c.in_ok-bring-in-Bring.ensures w x agrees))
-    (λ text x' each. let pieces = rw c.deref.ensures.value at c.piece_size-size.ensures.pieces in (refl, rw pieces each)))
+    let pieces = rw c.deref.ensures.value at c.piece_size-size.ensures.pieces in
+    let bring = rw c.deref-in-Bring.ensures.value at c.bring.ensures in
+    rw c.in-Bring.is (gives_from c.bring.result _ _ _ _
+    (λ plays w x agrees. did_as w
+    (BringsEach w n (pieces_in (length octets) c.piece_size-size.result octets)) _ x _ _ _
+    (plays w x agrees) (λ text x' each. (refl, rw pieces each)))
+    (λ stops w x agrees. stopped_as
+    (BringsEach w n (pieces_in (length octets) c.piece_size-size.result octets)) _ x _ _
+    (stops w x agrees) (λ text x' each. (s, (refl, rw pieces each))))
+    bring)
 
 pub returns-in-Split : goal.returns-in-Split
 returns-in-Split g c = λ w x agrees.
-    let stand = stand_view c.args.stand.now in
-    let after : Stand = record stand { piece = Some c.in-Split.size.octets } in
-    let P : Line → Type 0 = λ line. Did w (LineDoes w (0 ∷ []) line (stand_view c.args.stand.now) (record (stand_view c.args.stand.now) { piece = Some c.in-Split.size.octets })) x c.args.system.now (g.W.Write.contents c.args.writer.now) (g.W.Write.contents c.args.writer.now) in
-    subst P (sym (ap line_view c.in-Split.is))
-    (did_as w Nothing (LineDoes w (0 ∷ []) (Splits c.in-Split.size.octets) stand after) x _ _ _ (did_nothing w x _ _ agrees) (λ text x' nothing. (refl, nothing)))
+    let s = stand_view c.args.stand.now in
+    let after : Stand = record s { piece = Some c.in-Split.size.octets } in
+    rw c.in-Split.is (did_as w Nothing
+    (LineDoes w (0 ∷ []) (Splits c.in-Split.size.octets) s after) x _ _ _
+    (did_nothing w x _ _ agrees) (λ text x' nothing. (refl, nothing)))
 
-pub returns-in_ok-perform-in-Turn : goal.returns-in_ok-perform-in-Turn
-returns-in_ok-perform-in-Turn g c = λ w x agrees.
-    let stand = stand_view c.args.stand.now in
-    let P : Line → Type 0 = λ line. Did w (LineDoes w (0 ∷ []) line stand stand) x c.perform.new.system (g.W.Write.contents c.args.writer.now) (g.W.Write.contents c.perform.new.writer) in
-    subst P (sym (ap line_view c.in-Turn.is))
-    (did_as w (One w (Turn c.in-Turn.session c.in-Turn.moment)) _ x _ _ _ (c.in_ok-perform-in-Turn.ensures w x agrees) (λ text x' one. (refl, one)))
+pub returns-in-Turn : goal.returns-in-Turn
+returns-in-Turn g c =
+    let s = stand_view c.args.stand.now in
+    let n = c.in-Turn.session in
+    let m = c.in-Turn.moment in
+    rw c.in-Turn.is (gives_from c.perform.result _ _ _ _
+    (λ plays w x agrees. did_as w (One w (Turn n m)) _ x _ _ _ (plays w x agrees)
+    (λ text x' one. (refl, one)))
+    (λ stops w x agrees. stopped_as (One w (Turn n m)) _ x _ _ (stops w x agrees)
+    (λ text x' one. (s, (refl, one))))
+    c.perform.ensures)
 
-pub returns-in_ok-perform-in-Write : goal.returns-in_ok-perform-in-Write
-returns-in_ok-perform-in-Write g c = λ w x agrees.
-    let stand = stand_view c.args.stand.now in
-    let P : Line → Type 0 = λ line. Did w (LineDoes w (0 ∷ []) line stand stand) x c.perform-in-Write.new.system (g.W.Write.contents c.args.writer.now) (g.W.Write.contents c.perform-in-Write.new.writer) in
-    subst P (sym (ap line_view c.in-Write.is))
-    (did_as w (One w (Write c.narrowed.result c.in-Write.moment)) _ x _ _ _ (c.in_ok-perform-in-Write.ensures w x agrees) (λ text x' one. (refl, rw (← c.narrowed.ensures) one)))
+pub returns-in-Write : goal.returns-in-Write
+returns-in-Write g c =
+    let s = stand_view c.args.stand.now in
+    let n = c.narrowed.result in
+    let m = c.in-Write.moment in
+    rw c.in-Write.is (gives_from c.perform-in-Write.result _ _ _ _
+    (λ plays w x agrees. did_as w (One w (Write n m)) _ x _ _ _ (plays w x agrees)
+    (λ text x' one. (refl, rw (← c.narrowed.ensures) one)))
+    (λ stops w x agrees. stopped_as (One w (Write n m)) _ x _ _ (stops w x agrees)
+    (λ text x' one. (s, (refl, rw (← c.narrowed.ensures) one))))
+    c.perform-in-Write.ensures)
 
-pub returns-in_ok-rounds-in-Rounds : goal.returns-in_ok-rounds-in-Rounds
-returns-in_ok-rounds-in-Rounds g c = λ w x agrees.
-    let stand = stand_view c.args.stand.now in
-    let P : Line → Type 0 = λ line. Did w (LineDoes w (0 ∷ []) line stand stand) x c.rounds.new.system (g.W.Write.contents c.args.writer.now) (g.W.Write.contents c.rounds.new.writer) in
-    subst P (sym (ap line_view c.in-Rounds.is))
-    (did_as w (RoundsEach w c.in-Rounds.moment stand.sessions (0 ∷ []) c.in-Rounds.count) _ x _ _ _
-    (rw c.deref-in-Rounds.ensures.value at (c.in_ok-rounds-in-Rounds.ensures w x agrees)) (λ text x' each. (refl, each)))
+pub returns-in-Rounds : goal.returns-in-Rounds
+returns-in-Rounds g c =
+    let s = stand_view c.args.stand.now in
+    let n = c.in-Rounds.count in
+    let m = c.in-Rounds.moment in
+    let rounds = rw c.deref-in-Rounds.ensures.value at c.rounds.ensures in
+    rw c.in-Rounds.is (gives_from c.rounds.result _ _ _ _
+    (λ plays w x agrees. did_as w (RoundsEach w m s.sessions (0 ∷ []) n) _ x _ _ _
+    (plays w x agrees) (λ text x' each. (refl, each)))
+    (λ stops w x agrees. stopped_as (RoundsEach w m s.sessions (0 ∷ []) n) _ x _ _
+    (stops w x agrees) (λ text x' each. (s, (refl, each))))
+    rounds)

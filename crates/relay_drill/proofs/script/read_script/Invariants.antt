@@ -8,7 +8,8 @@ use Rattle.relay_drill.proofs.script.read_script.Given as goal
 abbrev pub invariant-loop-unread : goal.invariant-loop-unread
 invariant-loop-unread l = record {
   so_far : script_of (map string_bytes l.peers) l.text
-      ≡ after_lines (map line_view l.lines.items) (script_from (map string_bytes l.peers) (l.number + 1) (parts_after 10 l.unread));
+      ≡ after_lines (map line_view l.lines.items)
+      (script_from (map string_bytes l.peers) (l.number + 1) (parts_after 10 l.unread));
   counted : l.number + length (parts_after 10 l.unread) ≡ length (parts 10 l.text);
 }
 
