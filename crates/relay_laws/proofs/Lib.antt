@@ -1,0 +1,9 @@
+pub mod ClaimMoves
+pub mod Counted
+pub mod Gained
+pub mod Judgements
+pub mod Moves
+pub mod Permitted
+pub mod Runs
+pub mod StoredOnce
+pub mod WritesLeft
