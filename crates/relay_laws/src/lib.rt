@@ -5,4 +5,5 @@
 
 pub mod claims;
 pub mod rules;
+pub mod stores;
 pub mod writes;
