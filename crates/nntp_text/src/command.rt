@@ -1,5 +1,6 @@
 ghost use Rattle.std.specs.Prelude.{◌≡◌, IfOk};
-ghost use Rattle.news_terms.specs.Command.{command_among, command_with, is_served, words, CHECK, TAKETHIS, STAT, QUIT};
+ghost use Rattle.news_terms.specs.Command.{command_among, command_with, is_served, words, CHECK};
+ghost use Rattle.news_terms.specs.Command.{TAKETHIS, STAT, QUIT};
 ghost use Rattle.news_terms.specs.Command as terms;
 ghost use Rattle.nntp_text.specs.Command.{CommandGives, KeywordGives, id_among};
 ghost use Rattle.nntp_text.specs.declared.command.CmdError.TheVariants.{Memory};
