@@ -9,7 +9,8 @@ use Rattle.jiff_core.specs.Calendar.{IsCivilDate}
 use Rattle.jiff_core.specs.Date.{epoch_day}
 use Rattle.jiff_core.specs.DateTime.{civil_nanos}
 use Rattle.jiff_core.proofs.SignedLemmas.{signed_arith, unsigned_abs-parts, one_part}
-use Rattle.jiff_core.proofs.CalendarLemmas.{day_count-epoch, days_from_civil-day_count, day_count-lt_year}
+use Rattle.jiff_core.proofs.CalendarLemmas.{day_count-epoch, days_from_civil-day_count}
+use Rattle.jiff_core.proofs.CalendarLemmas.{day_count-lt_year}
 use Rattle.jiff_core.proofs.DateLemmas.{civil, epoch_day_injective}
 use Rattle.jiff_core.proofs.DateTimeLemmas.{civil_nanos-parts, time_nanos_bound}
 use Rattle.news_terms.specs.Dates.{CivilTime, fourteen_digits}

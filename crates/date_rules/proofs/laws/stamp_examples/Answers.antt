@@ -34,17 +34,20 @@ returns-clause-first c =
 pub returns-clause-new_year : goal.returns-clause-new_year
 unfolding days_from_civil day_count days_of_years days_of_months
 returns-clause-new_year c =
-    shown 1609459200 (record { year = 2021; month = 1; day = 1; hour = 0; minute = 0; second = 0 }) _
+    shown 1609459200
+    (record { year = 2021; month = 1; day = 1; hour = 0; minute = 0; second = 0 }) _
     (search rules) (search rules) refl refl
 
 pub returns-clause-leap_day : goal.returns-clause-leap_day
 unfolding days_from_civil day_count days_of_years days_of_months
 returns-clause-leap_day c =
-    shown 1709164800 (record { year = 2024; month = 2; day = 29; hour = 0; minute = 0; second = 0 }) _
+    shown 1709164800
+    (record { year = 2024; month = 2; day = 29; hour = 0; minute = 0; second = 0 }) _
     (search rules) (search rules) refl refl
 
 pub returns-clause-last : goal.returns-clause-last
 unfolding days_from_civil day_count days_of_years days_of_months
 returns-clause-last c =
-    shown 253370764799 (record { year = 9998; month = 12; day = 31; hour = 23; minute = 59; second = 59 }) _
+    shown 253370764799
+    (record { year = 9998; month = 12; day = 31; hour = 23; minute = 59; second = 59 }) _
     (search rules) (search rules) refl refl
