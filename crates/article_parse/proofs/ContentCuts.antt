@@ -3,9 +3,11 @@ use Rattle.std.proofs.Common.{◌≡◌, ◌≢◌, ℕ, zero, suc, ◌+◌, ◌
 use Rattle.std.proofs.Common.{[], ◌∷◌, ◌++◌, length, take, drop, refl, sym, ap, ◌∙◌, arith}
 use Rattle.std.proofs.Common.{take-append-drop, length-drop, ⊎_elim}
 use Rattle.std.specs.Prelude.{not, ◌&&◌, ◌||◌, ◌==◌}
-use Rattle.std.proofs.lemmas.Bool.{ne_eqb, and_parts, and_from, or_left, or_right, cases_lt, both_ways}
+use Rattle.std.proofs.lemmas.Bool.{ne_eqb, and_parts, and_from, or_left, or_right, cases_lt}
+use Rattle.std.proofs.lemmas.Bool.{both_ways}
 use Rattle.std.proofs.lemmas.List.{drop-drop, drop-take, take-take}
-use Rattle.news_terms.specs.Article.{is_paired, is_folded, has_empty_line, continues_field, is_white}
+use Rattle.news_terms.specs.Article.{is_paired, is_folded, has_empty_line, continues_field}
+use Rattle.news_terms.specs.Article.{is_white}
 use Rattle.news_terms.specs.Article.{begins_field, is_set_off}
 use Rattle.article_parse.specs.Header.{is_plain, goes_on, IsLineCut, IsContent}
 use Rattle.article_parse.proofs.HeaderCuts.{plain_parts, plain_no_blank, blank_of, goes_of}
@@ -106,7 +108,8 @@ content_goes s first end k h cont line =
       paired = ap is_paired (sym left) ∙ line.paired;
       empty = h.empty ∙ blank_of rest k line some ∙ ap has_empty_line left;
       good = h.good ∙ goes_of rest k line some
-          ∙ ap (λ b. b && goes_on (drop (k + 2) rest)) (or_right (begins_field (take k rest)) _ front)
+          ∙ ap (λ b. b && goes_on (drop (k + 2) rest))
+          (or_right (begins_field (take k rest)) _ front)
           ∙ ap goes_on left;
     }
 

@@ -1,46 +1,63 @@
 -- Contents in one line, and when nothing is left of one without white space at its ends.
-use Rattle.std.proofs.Common.{◌≡◌, ℕ, ◌+◌, ◌-◌, ◌≤◌, Bool, true, false, List, [], ◌∷◌}
-use Rattle.std.proofs.Common.{length, take, drop, refl, sym, ap, ◌∙◌, arith, ⊎_elim}
-use Rattle.std.proofs.Common.{one-add, length-drop}
-use Rattle.std.specs.Prelude.{not, ◌&&◌, ◌||◌, filter, reverse}
-use Rattle.std.specs.List.{list_all}
-use Rattle.std.proofs.lemmas.Bool.{cases_Bool}
-use Rattle.std.proofs.lemmas.List.{reverse-append, length-reverse, take_rest, nil_from_length}
+use Rattle.std.proofs.Common.{◌≡◌, ℕ, ◌+◌, ◌≤◌, ◌<◌, Bool, true, false, List, [], ◌∷◌}
+use Rattle.std.proofs.Common.{length, drop, get_or, refl, sym, ap, ◌∙◌, arith, ⊎_elim}
+use Rattle.std.proofs.Common.{length-drop, add-one, inl, inr}
+use Rattle.std.specs.Prelude.{◌&&◌, nat_eq, reverse}
+use Rattle.std.specs.List.{list_all, starts_with}
+use Rattle.std.proofs.Math.Seq.{drop-cons}
+use Rattle.std.proofs.lemmas.Bool.{cases_Bool, cases_eq, both_ways, ne_eqb}
+use Rattle.std.proofs.lemmas.List.{reverse-append, length-reverse, drop-drop, nil_from_length}
 use Rattle.std.proofs.lemmas.List.Folds.{list_all-append}
-use Rattle.news_terms.specs.Article.{is_white, is_of_line_end, is_empty, without_leading_white}
+use Rattle.news_terms.specs.Lines.{crlf}
+use Rattle.news_terms.specs.Article.{is_white, is_empty, without_leading_white, without_crlf}
 use Rattle.news_terms.specs.Article.{without_first_white, without_outer_white, unfolded, trimmed}
-use Rattle.article_parse.specs.Content.{first_kept}
+use Rattle.article_parse.proofs.Pairs.{crlf_cut}
 
 -- behind the last octet is nothing
 pub at_end : (s : List ℕ) (i : ℕ) → length s ≤ i → drop i s ≡ []
 at_end s i h = nil_from_length (drop i s) (omega (arith, h, length-drop i s))
 
--- a line end in front is passed
-pub keeps_on : (c : ℕ) (s : List ℕ) → is_of_line_end c ≡ true
-    → first_kept (c ∷ s) ≡ 1 + first_kept s
-keeps_on c s e = rw e refl
+-- a pair in front is left out
+crlf_left_out : (s : List ℕ) → starts_with nat_eq s crlf ≡ true
+    → without_crlf s ≡ without_crlf (drop 2 s)
+crlf_left_out s h = ap without_crlf (crlf_cut s h)
 
--- a first white octet is passed
-pub keeps_white : (c : ℕ) (s : List ℕ) → is_of_line_end c ≡ false → is_white c ≡ true
-    → first_kept (c ∷ s) ≡ 1
-keeps_white c s e w = rw (e, w) refl
+-- any other octet in front is kept
+octet_kept : (c : ℕ) (s : List ℕ) → starts_with nat_eq (c ∷ s) crlf ≡ false
+    → without_crlf (c ∷ s) ≡ c ∷ without_crlf s
+octet_kept c [] h = refl
+octet_kept c (d ∷ s) h =
+    elim (cases_eq c 13) [
+      | inl e ↦ elim (cases_eq d 10) [
+        | inl f ↦ absurd (both_ways _ h (rw (e, f) refl))
+        | inr n ↦ rw (e, ne_eqb d 10 n) refl
+      ]
+      | inr n ↦ rw (ne_eqb c 13 n) refl
+    ]
 
--- any other octet is kept
-pub keeps_other : (c : ℕ) (s : List ℕ) → is_of_line_end c ≡ false → is_white c ≡ false
-    → first_kept (c ∷ s) ≡ 0
-keeps_other c s e w = rw (e, w) refl
+-- the same of what is sliced off at a place
+pub pair_passed_by : (s tail : List ℕ) (at : ℕ) → tail ≡ drop at s
+    → starts_with nat_eq tail crlf ≡ true
+    → without_crlf (drop at s) ≡ without_crlf (drop (at + 2) s)
+pair_passed_by s tail at e h =
+    ap without_crlf (sym e) ∙ crlf_left_out tail h
+    ∙ ap (λ (x : List ℕ). without_crlf (drop 2 x)) e ∙ ap without_crlf (drop-drop 2 at s)
 
--- what is kept, without its line ends, is the content in one line
-pub kept_unfolds : (s : List ℕ)
-    → filter (λ c. not (is_of_line_end c)) (drop (first_kept s) s) ≡ unfolded s
-kept_unfolds [] = refl
-kept_unfolds (c ∷ s) = ⊎_elim
-    (λ t. rw (keeps_on c s t, one-add, t) (kept_unfolds s))
-    (λ f. ⊎_elim
-    (λ w. rw (keeps_white c s f w) (rw (f, w) refl))
-    (λ w. rw (keeps_other c s f w) (rw (f, w) refl))
-    (cases_Bool (is_white c)))
-    (cases_Bool (is_of_line_end c))
+-- a pair has room
+pub pair_fits : (s tail : List ℕ) (at : ℕ) → tail ≡ drop at s → at ≤ length s
+    → starts_with nat_eq tail crlf ≡ true → at + 2 ≤ length s
+pair_fits s tail at e within h =
+    omega (arith, ap length (crlf_cut tail h), ap length e, length-drop at s, within)
+
+-- and so of an octet that is kept
+pub octet_kept_at : (s tail : List ℕ) (at : ℕ) → tail ≡ drop at s → at < length s
+    → starts_with nat_eq tail crlf ≡ false
+    → without_crlf (drop at s) ≡ get_or s at 0 ∷ without_crlf (drop (at + 1) s)
+octet_kept_at s tail at e within h =
+    let cons : drop at s ≡ get_or s at 0 ∷ drop (at + 1) s =
+    drop-cons s at 0 within ∙ ap (λ n. get_or s at 0 ∷ drop n s) (sym (add-one at)) in
+    let begins = ap (λ x. starts_with nat_eq x crlf) (sym (e ∙ cons)) ∙ h in
+    ap without_crlf cons ∙ octet_kept (get_or s at 0) (drop (at + 1) s) begins
 
 -- reversed, as many octets are white
 all_reversed : (p : ℕ → Bool) (s : List ℕ) → list_all p (reverse s) ≡ list_all p s
@@ -99,34 +116,6 @@ first_all (c ∷ s) = ⊎_elim
     (λ f. rw f (rw f refl))
     (cases_Bool (is_white c))
 
--- an octet of white space or a line end
-abbrev pub is_folding : ℕ → Bool
-is_folding c = is_white c || is_of_line_end c
-
--- without line ends all is white exactly where all is white or of a line end
-joined_all : (s : List ℕ)
-    → list_all is_white (filter (λ c. not (is_of_line_end c)) s) ≡ list_all is_folding s
-joined_all [] = refl
-joined_all (c ∷ s) = ⊎_elim
-    (λ t. rw t (joined_all s ∙ sym (first_holds (is_white c) (list_all is_folding s))))
-    (λ f. rw f (ap (λ b. is_white c && b) (joined_all s) ∙ ap (λ b. b && list_all is_folding s) (sym (or_false (is_white c)))))
-    (cases_Bool (is_of_line_end c))
-  where
-    first_holds : (a b : Bool) → ((a || true) && b) ≡ b
-    first_holds true b = refl
-    first_holds false b = refl
-
-    or_false : (a : Bool) → (a || false) ≡ a
-    or_false true = refl
-    or_false false = refl
-
--- a trimmed content is empty exactly where each octet is white or of a line end
-pub blank_content : (s : List ℕ) → list_all is_folding s ≡ is_empty (trimmed s)
-blank_content s =
-    sym (outer_empty (unfolded s) ∙ first_all (filter (λ c. not (is_of_line_end c)) s)
-    ∙ joined_all s)
-
--- the same of what is sliced off
-pub kept_rest : (s : List ℕ) (n : ℕ) → n ≡ first_kept s
-    → filter (λ c. not (is_of_line_end c)) (take (length s - n) (drop n s)) ≡ unfolded s
-kept_rest s n e = rw (take_rest, e) (kept_unfolds s)
+-- a trimmed content is empty exactly where all that its pairs leave is white
+pub blank_content : (s : List ℕ) → list_all is_white (without_crlf s) ≡ is_empty (trimmed s)
+blank_content s = sym (outer_empty (unfolded s) ∙ first_all (without_crlf s))

@@ -1,6 +1,7 @@
 -- A field at the front of a text: its line, its content, and what follows it.
 use Rattle.std.proofs.Common.{◌≡◌, ℕ, zero, suc, ◌+◌, ◌-◌, ◌<◌, ◌≤◌, true, false, List}
-use Rattle.std.proofs.Common.{[], ◌∷◌, ◌++◌, length, take, drop, get_or, sym, ap, subst, ◌∙◌, arith, ⊎_elim}
+use Rattle.std.proofs.Common.{[], ◌∷◌, ◌++◌, length, take, drop, get_or, sym, ap, subst, ◌∙◌, arith}
+use Rattle.std.proofs.Common.{⊎_elim}
 use Rattle.std.proofs.Common.{take-append-drop, length-drop, append_assoc}
 use Rattle.std.specs.Prelude.{◌&&◌}
 use Rattle.std.specs.List.{list_any, position_or_len}
@@ -58,8 +59,11 @@ begins_parts line n e h =
     && list_any is_colon line)
     (is_set_off (drop (position_or_len is_colon line + 1) line)) h in
     let q = and_parts (is_field_name (take (position_or_len is_colon line) line))
-    (list_any is_colon line) p.0 in
-    (ap (λ m. is_field_name (take m line)) e ∙ q.0, ap (λ m. is_set_off (drop (m + 1) line)) e ∙ p.1)
+    (list_any is_colon line) p.0 in (
+      ap (λ m. is_field_name (take m line)) e ∙ q.0,
+      ap (λ m. is_set_off (drop (m + 1) line)) e
+          ∙ p.1,
+    )
 
 -- the colon of such a line stands in the text
 colon_in : (s : List ℕ) (first n : ℕ) → n ≡ position_or_len is_colon (take first s) → n < first
@@ -96,7 +100,8 @@ pub field_whole : (s : List ℕ) (first n end : ℕ) → IsLineCut s first → 0
     → n ≡ position_or_len is_colon (take first s) → n ≤ length (take first s)
     → begins_field (take first s) ≡ true
     → IsWholeContent (drop (n + 1) s) (first - (n + 1)) end
-    → IsFieldAt s (record { name = take n s; content = take end (drop (n + 1) s) }) (n + 1 + end + 2)
+    → IsFieldAt s (record { name = take n s; content = take end (drop (n + 1) s) })
+    (n + 1 + end + 2)
 field_whole s first n end h some e le begins whole =
     let long = line_length s first h in
     let within = colon_within (take first s) n e le begins in

@@ -3,7 +3,8 @@ use Rattle.std.proofs.Common.{◌≡◌, ℕ, ◌≤◌, Bool, true, false, List
 use Rattle.std.proofs.Common.{refl, sym, ap, subst, ◌∙◌, arith, ⊎_elim, Option, None, Some}
 use Rattle.std.specs.Prelude.{not, ◌==◌, nat_le, IsFalse, is_some}
 use Rattle.std.specs.List.{AllByRecursion, list_any}
-use Rattle.std.proofs.lemmas.Bool.{cases_Bool, cond-true, cond-false, eqb-true, eqb-false, both_ways}
+use Rattle.std.proofs.lemmas.Bool.{cases_Bool, cond-true, cond-false, eqb-true, eqb-false}
+use Rattle.std.proofs.lemmas.Bool.{both_ways}
 use Rattle.std.proofs.lemmas.Bool.{leb-true, leb-false, le-leb}
 use Rattle.std.proofs.lemmas.List.{nil_from_length}
 use Rattle.std.proofs.lemmas.Option.{same_Some}
@@ -39,7 +40,8 @@ first_of_them : (test : Fault → Bool) (faults : List Fault) (fault : Fault)
 first_of_them test [] fault e = cc
 first_of_them test (f ∷ more) fault e = ⊎_elim
     (λ t.
-    let same : f ≡ fault = same_Some f fault (sym (cond-true (test f) (Some f) (first_that test more) t) ∙ e) in
+    let same : f ≡ fault =
+    same_Some f fault (sym (cond-true (test f) (Some f) (first_that test more) t) ∙ e) in
     record {
       earlier = [];
       later = more;

@@ -4,7 +4,8 @@ use Rattle.std.proofs.Common.{take, drop, refl, sym, ap, ◌∙◌, arith, ⊎_e
 use Rattle.std.proofs.Common.{take-append-drop, length-take}
 use Rattle.std.specs.Prelude.{not, ◌&&◌, ◌||◌, ◌==◌, IsTrue, filter}
 use Rattle.std.specs.List.{list_all, slice_split, onto_first, take_while}
-use Rattle.std.proofs.lemmas.Bool.{cases_Bool, cond-true, cond-false, ne_eqb, eqb-true, and_parts, eqb-false}
+use Rattle.std.proofs.lemmas.Bool.{cases_Bool, cond-true, cond-false, ne_eqb, eqb-true, and_parts}
+use Rattle.std.proofs.lemmas.Bool.{eqb-false}
 use Rattle.std.proofs.lemmas.List.Sums.{take_while-cons}
 use Rattle.news_terms.specs.Article.{is_of_line_end, is_paired, is_empty, occurs}
 use Rattle.news_terms.specs.Lines.{crlf}
@@ -125,10 +126,12 @@ pub goes_as_header : (s : List ℕ) → IsTrue (is_paired s) → continues_field
 goes_as_header [] paired ended = refl
 goes_as_header (c ∷ s) paired ended = ⊎_elim
     (λ cr. at_end c s (eqb-true c 13 cr))
-    (λ other. within c s (eqb-false c 13 other) (no_line_feed 0 c s (λ e. omega (arith, e)) paired) ended)
+    (λ other. within c s (eqb-false c 13 other)
+    (no_line_feed 0 c s (λ e. omega (arith, e)) paired) ended)
     (cases_Bool (c == 13))
   where
-    at_end : (c : ℕ) (s : List ℕ) → c ≡ 13 → goes_on (c ∷ s) ≡ are_header_lines (header_lines (c ∷ s))
+    at_end : (c : ℕ) (s : List ℕ) → c ≡ 13
+        → goes_on (c ∷ s) ≡ are_header_lines (header_lines (c ∷ s))
     at_end c s e = rw e refl
 
     or_false : (a : Bool) → (a || false) ≡ a

@@ -1,7 +1,8 @@
 -- Line ends in pairs, and the first line of a text.
 use Rattle.std.proofs.Common.{◌≡◌, ◌≢◌, ℕ, zero, suc, ◌+◌, ◌<◌, ◌≤◌, Bool, true, false, List}
 use Rattle.std.proofs.Common.{[], ◌∷◌, ◌++◌, length, take, drop, get_or, refl, sym, ap, ◌∙◌, arith}
-use Rattle.std.proofs.Common.{⊎_elim, Option, Some, None, take-append-drop, length-drop, get_or-drop}
+use Rattle.std.proofs.Common.{⊎_elim, Option, Some, None, take-append-drop, length-drop}
+use Rattle.std.proofs.Common.{get_or-drop}
 use Rattle.std.specs.Prelude.{not, ◌&&◌, ◌==◌, nat_eq, IsTrue, MatchOption, is_some, unwrap_or}
 use Rattle.std.specs.List.{list_any, starts_with, position_or_len}
 use Rattle.std.specs.Bool.{beq}
@@ -53,7 +54,8 @@ paired_skip before (c ∷ s) (suc n) no_cr within none =
     let c_no_cr : c ≢ 13 = c_is.0 in
     let c_no_lf : c ≢ 10 = c_is.1 in
     rw (ne_eqb before 13 no_cr, ne_eqb c 10 c_no_lf)
-    (paired_skip c s n c_no_cr (omega (arith, within)) (λ k below. none (suc k) (omega (arith, below))))
+    (paired_skip c s n c_no_cr (omega (arith, within))
+    (λ k below. none (suc k) (omega (arith, below))))
 
 -- CRLF in front is passed
 pub paired_crlf : (s : List ℕ) → is_paired (13 ∷ 10 ∷ s) ≡ is_paired s
@@ -117,7 +119,8 @@ pub pair_at : (s : List ℕ) (k : ℕ)
     → is_paired s ≡ is_paired (drop k s)
 pair_at s k h =
     let high = h.high in
-    paired_skip 0 s k (λ e. omega (arith, e)) (omega (arith, high)) (none_before is_of_line_end s k h)
+    paired_skip 0 s k (λ e. omega (arith, e)) (omega (arith, high))
+    (none_before is_of_line_end s k h)
 
 -- a CRLF at the first place is passed
 pub pair_passed : (s : List ℕ) (k : ℕ)
@@ -137,12 +140,14 @@ pub pair_alone : (s : List ℕ) (k : ℕ)
 pair_alone s k h at f =
     let high = h.high in
     pair_at s k h
-    ∙ paired_alone (drop k s) (omega (arith, high, length-drop k s)) (ap is_of_line_end (front_of s k) ∙ at) f
+    ∙ paired_alone (drop k s) (omega (arith, high, length-drop k s))
+    (ap is_of_line_end (front_of s k) ∙ at) f
 
 -- where no such place is, nothing is alone
 pub no_pair : (s : List ℕ) → Nowhere (Passes (is_byte2 13 10) s) 0 (length s) → is_paired s ≡ true
 no_pair s h =
-    paired_skip 0 s (length s) (λ e. omega (arith, e)) (omega arith) (none_at_all is_of_line_end s h)
+    paired_skip 0 s (length s) (λ e. omega (arith, e)) (omega arith)
+    (none_at_all is_of_line_end s h)
     ∙ ap is_paired (nil_from_length (drop (length s) s) (omega (arith, length-drop (length s) s)))
 
 -- the first line of a text whose line ends are pairs
@@ -199,7 +204,8 @@ place_none : (p : ℕ → Bool) (s : List ℕ) → NonePasses p s (length s)
 place_none p [] none = refl
 place_none p (c ∷ s) none =
     rw (none 0 (omega arith))
-    (ap (λ n. 1 + n) (place_none p s (λ k below. none (suc k) (omega (arith, below)))) ∙ omega arith)
+    (ap (λ n. 1 + n) (place_none p s (λ k below. none (suc k) (omega (arith, below))))
+    ∙ omega arith)
 
 -- the first place is where a test passes first
 place_at : (p : ℕ → Bool) (s : List ℕ) (n : ℕ) → n < length s → NonePasses p s n → Passes p s n
@@ -237,7 +243,8 @@ no_place p (c ∷ s) e = ⊎_elim
 pub at_first : (p : ℕ → Bool) (s : List ℕ) → position_or_len p s < length s
     → p (get_or s (position_or_len p s) 0) ≡ true
 at_first p s h =
-    ⊎_elim (λ t. t) (λ f. absurd (both_ways _ (prefix_len_stops (λ c. not (p c)) s 0 h) (rw f refl)))
+    ⊎_elim (λ t. t)
+    (λ f. absurd (both_ways _ (prefix_len_stops (λ c. not (p c)) s 0 h) (rw f refl)))
     (cases_Bool (p (get_or s (position_or_len p s) 0)))
 
 -- then a test passes

@@ -1,13 +1,12 @@
 -- Contents of fields, as far as they are cut. No public contract cites it.
-use Rattle.std.specs.Prelude.{ℕ, ◌+◌, List, [], ◌∷◌, if◌then◌else◌}
-use Rattle.news_terms.specs.Article.{Field, is_white, is_of_line_end, unfolded}
+use Rattle.std.specs.Prelude.{ℕ, Bool, false, List, [], ◌∷◌}
+use Rattle.news_terms.specs.Article.{Field, is_white, unfolded}
 use Rattle.news_terms.specs.Article.{content_or_empty, name_of, Newsgroups}
 
--- how many octets stand before what an unfolded content keeps: line ends, and one SP or TAB
-abbrev pub first_kept : List ℕ → ℕ
-first_kept [] = 0
-first_kept (c ∷ rest) =
-    if is_of_line_end c then 1 + first_kept rest else (if is_white c then 1 else 0)
+-- the first octet is an SP or a TAB
+abbrev pub begins_white : List ℕ → Bool
+begins_white [] = false
+begins_white (c ∷ _) = is_white c
 
 -- the content of the first Newsgroups in one line
 abbrev pub unfolded_newsgroups : List Field → List ℕ

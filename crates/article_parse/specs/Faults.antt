@@ -3,7 +3,8 @@ use Rattle.std.specs.Prelude.{◌≡◌, ℕ, ◌==◌, nat_le, Bool, false, not
 use Rattle.std.specs.Prelude.{Option, None, Some, is_some, Result, Ok, Err, if◌then◌else◌}
 use Rattle.std.specs.List.{list_all, list_any}
 use Rattle.news_terms.specs.MessageId.{id_fault}
-use Rattle.news_terms.specs.Article.{Field, Fault, contents_of, name_of, is_empty, trimmed, message_id}
+use Rattle.news_terms.specs.Article.{Field, Fault, contents_of, name_of, is_empty, trimmed}
+use Rattle.news_terms.specs.Article.{message_id}
 use Rattle.news_terms.specs.Article.{is_newsgroup_name, newsgroups, mandatory_fields, IsFirstFault}
 use Rattle.news_terms.specs.Article as terms
 use Rattle.article_parse.specs.declared.faults.FieldName.{FieldName}

@@ -1,5 +1,6 @@
 -- What reading a header gives. No public contract cites it.
-use Rattle.std.specs.Prelude.{◌≡◌, ◌≤◌, false, List, ℕ, ◌++◌, length, drop, map, flat_map, Result, Ok, Err}
+use Rattle.std.specs.Prelude.{◌≡◌, ◌≤◌, false, List, ℕ, ◌++◌, length, drop, map, flat_map, Result}
+use Rattle.std.specs.Prelude.{Ok, Err}
 use Rattle.std.specs.List.{AllByRecursion}
 use Rattle.news_terms.specs.Article.{IsField, field_text, has_empty_line}
 use Rattle.news_terms.specs.Lines.{crlf}
@@ -8,7 +9,8 @@ use Rattle.news_terms.specs.Article as terms
 use Rattle.article_parse.specs.declared.header.FieldCut.{FieldCut}
 use Rattle.article_parse.specs.declared.header.Header.{Header}
 use Rattle.article_parse.specs.declared.header.HeaderFault.{HeaderFault}
-use Rattle.article_parse.specs.declared.header.HeaderFault.TheVariants.{Memory, NoBlankLine, BadHeader}
+use Rattle.article_parse.specs.declared.header.HeaderFault.TheVariants.{Memory, NoBlankLine}
+use Rattle.article_parse.specs.declared.header.HeaderFault.TheVariants.{BadHeader}
 use Rattle.article_parse.specs.Header.{field_view, IsFieldAt}
 
 -- fields, an empty line behind them, and the place where the body begins

@@ -1,61 +1,65 @@
 //! The content of a field in one line, and whether it has anything.
-ghost use Rattle.std.specs.Prelude.{◌≡◌, ◌≤◌, not, filter, length, IfOk};
+ghost use Rattle.std.specs.Prelude.{◌≡◌, IfOk};
 ghost use Rattle.news_terms.specs.Article.{is_empty, trimmed};
 ghost use Rattle.news_terms.specs.Article as terms;
-ghost use Rattle.article_parse.specs.Content.{first_kept};
+ghost use Rattle.article_parse.specs.Content.{begins_white};
 
 use line_words::is_white;
 use std::alloc::{AllocError, Global};
 
-/// A content in one line: without its line ends, then without a first SP or TAB (RFC 5322, section
-/// 2.2.3; docs/FORMATS.md, Articles).
+/// A content in one line: without its CRLF pairs, then without a first SP or TAB (RFC 5322, section
+/// 2.2.3; docs/FORMATS.md, Articles). A CR or LF alone, which no article has, stays.
 pub fn unfolded(alloc: Global, content: &[u8]) -> Result<Vec<u8>, AllocError>
     ensures { IfOk result (λ line. line.items ≡ terms.unfolded content.now) }
 {
-    let line = without_line_ends(alloc, &content[first_kept(content)..])?;
+    let mut line = without_crlf(alloc, content)?;
+    if begins_white(&line) {
+        line.remove(0);
+    }
     Ok(line)
 }
 
-/// The octets that are no part of a line end.
-fn without_line_ends(alloc: Global, octets: &[u8]) -> Result<Vec<u8>, AllocError>
-    ensures { IfOk result (λ line. line.items
-        ≡ filter (λ c. not (terms.is_of_line_end c)) octets.now) }
+/// A text without its CRLF pairs.
+fn without_crlf(alloc: Global, text: &[u8]) -> Result<Vec<u8>, AllocError>
+    ensures { IfOk result (λ kept. kept.items ≡ terms.without_crlf text.now) }
 {
-    octets
-        .iter()
-        .filter(|octet| !is_of_line_end(**octet))
-        .copied()
-        .collect(alloc)
-}
-
-/// How many octets stand before what `unfolded` keeps: line ends, and one SP or TAB.
-fn first_kept(content: &[u8]) -> usize
-    ensures value { result ≡ first_kept content.now }
-    ensures within { result ≤ length content.now }
-{
+    let mut kept = Vec::with_capacity(alloc, text.len())?;
     let mut at = 0;
-    while at < content.len() && is_of_line_end(content[at]) {
-        at += 1;
+    while at < text.len() {
+        if text[at..].starts_with(b"\r\n") {
+            at += 2;
+        } else {
+            kept.push(text[at])?;
+            at += 1;
+        }
     }
-    if at < content.len() && is_white(content[at]) {
-        at += 1;
-    }
-    at
+    Ok(kept)
 }
 
-/// Whether a content has nothing but white space and line ends: trimmed, it is empty
+/// Whether the first octet is SP or TAB.
+fn begins_white(text: &[u8]) -> bool
+    ensures { result ≡ begins_white text.now }
+{
+    match text.first() {
+        Some(first) => is_white(*first),
+        None => false,
+    }
+}
+
+/// Whether a content has nothing but white space and CRLF pairs: trimmed, it is empty
 /// (docs/FORMATS.md, Articles).
 pub fn is_blank(content: &[u8]) -> bool
     ensures { result ≡ is_empty (trimmed content.now) }
 {
-    content
-        .iter()
-        .all(|octet| is_white(*octet) || is_of_line_end(*octet))
-}
-
-/// Whether the octet is CR or LF.
-fn is_of_line_end(octet: u8) -> bool
-    ensures { result ≡ terms.is_of_line_end octet }
-{
-    octet == b'\r' || octet == b'\n'
+    let mut at = 0;
+    while at < content.len() {
+        if content[at..].starts_with(b"\r\n") {
+            at += 2;
+        } else if is_white(content[at]) {
+            at += 1;
+        } else {
+            return false;
+        }
+    }
+    true
 }

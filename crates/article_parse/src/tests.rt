@@ -13,12 +13,14 @@ x\r\n";
 
 #[test]
 fn contents_in_one_line(rt: HostRuntime) -> Result<(), Fail> {
-    let cases: [(&[u8], &[u8]); 5] = [
+    let cases: [(&[u8], &[u8]); 7] = [
         (b"\r\n one.example!x", b"one.example!x"),
         (b"  a ", b" a "),
         (b" a\r\n\tb", b"a\tb"),
+        (b" a\r\n\tb\r\n c", b"a\tb c"),
         (b"\r\n", b""),
         (b"a", b"a"),
+        (b" a\nb\rc\r", b"a\nb\rc\r"),
     ];
     for (content, line) in cases {
         let unfolded = unfolded(rt.alloc(), content).map_err(|_| "memory")?;
@@ -29,9 +31,16 @@ fn contents_in_one_line(rt: HostRuntime) -> Result<(), Fail> {
 
 #[test]
 fn blank_contents(rt: HostRuntime) -> Result<(), Fail> {
-    assert!(rt; is_blank(b" \r\n\t"));
-    assert!(rt; is_blank(b""));
-    assert!(rt; !is_blank(b"\r\n x"));
+    let cases: [(&[u8], bool); 4] = [
+        (b" \r\n\t", true),
+        (b"", true),
+        (b"\r\n x", false),
+        (b" \r", false),
+    ];
+    for (content, asked) in cases {
+        let blank = is_blank(content);
+        assert_eq!(rt; blank, asked);
+    }
     Ok(())
 }
 

@@ -17,7 +17,8 @@ use Rattle.news_terms.specs.Lines.{crlf}
 use Rattle.news_terms.specs.Article.{line_feed, is_white, is_of_line_end, is_empty}
 use Rattle.news_terms.specs.Article.{is_paired_after, has_nul, IsField, IsArticleText}
 use Rattle.news_terms.specs.Article.{StandsRightly, is_newsgroup_name, newsgroups_in, trimmed}
-use Rattle.news_terms.specs.Article.{without_leading_white, without_outer_white}
+use Rattle.news_terms.specs.Article.{without_leading_white, without_outer_white, without_crlf}
+use Rattle.news_terms.proofs.UnfoldedLines.{kept_first}
 use Rattle.news_terms.specs.Path.{is_agent, is_identity}
 use Rattle.news_terms.specs.Path.{path_prefix, without_leading_folding, updated_content}
 use Rattle.news_terms.specs.Path.{updated_field, updated_article}
@@ -207,7 +208,8 @@ filled_agent (c ∷ own) more h =
     let octet = agent_octet c
     (and_parts (is_ascii_graphic c && not (c == byte "!")) (all_agent own) all).0 in
     let parts = or_parts (is_white c) (is_of_line_end c) octet.1 in
-    rw parts.1 (filled_trim c (filter (λ x. not (is_of_line_end x)) (own ++ more)) parts.0)
+    rw (kept_first c (own ++ more) parts.1)
+    (filled_trim c (without_crlf (own ++ more)) parts.0)
 
 -- the new Path is not empty
 filled_path : (own expected content : List ℕ) → IsTrue (is_agent own)

@@ -100,10 +100,18 @@ abbrev pub without_first_white : List ℕ → List ℕ
 without_first_white [] = []
 without_first_white (c ∷ rest) = if is_white c then rest else c ∷ rest
 
--- a content in one line: without its line ends, then without a first SP or TAB (RFC 5322, section
+-- a text without its CRLF pairs (docs/FORMATS.md, Articles)
+abbrev pub without_crlf : List ℕ → List ℕ
+without_crlf [] = []
+without_crlf (c ∷ []) = c ∷ []
+without_crlf (c ∷ next ∷ rest) =
+    if c == carriage_return && next == line_feed then without_crlf rest
+    else c ∷ without_crlf (next ∷ rest)
+
+-- a content in one line: without its CRLF pairs, then without a first SP or TAB (RFC 5322, section
 -- 2.2.3; docs/FORMATS.md, Articles)
 abbrev pub unfolded : List ℕ → List ℕ
-unfolded content = without_first_white (filter (λ c. not (is_of_line_end c)) content)
+unfolded content = without_first_white (without_crlf content)
 
 -- the unfolded content without white space at its ends (docs/FORMATS.md, Articles)
 abbrev pub trimmed : List ℕ → List ℕ

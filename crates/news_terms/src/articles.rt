@@ -1,7 +1,8 @@
 //! Articles: laws and worked examples.
 
 ghost use Rattle.std.specs.Prelude.{◌≡◌, ◌++◌, ◌∷◌, [], ◌↔◌, ℕ, List, true, false, codes, length};
-ghost use Rattle.std.specs.Prelude.{take, remove, Some, IsTrue, slice_index};
+ghost use Rattle.std.specs.Prelude.{take, remove, Some, IsTrue, IsFalse, slice_index};
+ghost use Rattle.std.specs.List.{list_any, AllByRecursion};
 ghost use Rattle.std.specs.Str.{byte};
 ghost use Rattle.news_terms.specs.Article.{Article, Fault, Nul, BareCrLf, NoBlankLine};
 ghost use Rattle.news_terms.specs.Article.{BadHeader, Missing, Twice, Path, Subject, IsLaidOut};
@@ -10,7 +11,7 @@ ghost use Rattle.news_terms.specs.Article.{article_text, worked_article, begins_
 ghost use Rattle.news_terms.specs.Article.{carriage_return, line_feed, are_header_lines};
 ghost use Rattle.news_terms.specs.Article.{first_content, has_empty_line, header_lines, is_folded};
 ghost use Rattle.news_terms.specs.Article.{is_newsgroup_name, is_paired, message_id, newsgroups};
-ghost use Rattle.news_terms.specs.Article.{newsgroups_in, trimmed, unfolded};
+ghost use Rattle.news_terms.specs.Article.{newsgroups_in, trimmed, unfolded, is_of_line_end};
 
 /// A text is laid out as one article at most.
 pub fn one_reading()
@@ -34,6 +35,12 @@ pub fn text_tests()
     ensures laid_out_line { (text : List ℕ) (a : Article) → IsLaidOut text a → HasEmptyLine text }
     ensures laid_out_header { (text : List ℕ) (a : Article) → IsLaidOut text a
         → ¬ HasBadHeader text }
+{}
+
+/// Of a content of an article no CR and no LF is left once it is unfolded: they stand in pairs alone.
+pub fn unfolded_is_one_line()
+    ensures { (text : List ℕ) (a : Article) → IsLaidOut text a
+        → AllByRecursion (λ f. IsFalse (list_any is_of_line_end (unfolded f.content))) a.fields }
 {}
 
 /// The worked article A(a, 1) is one, also with an optional field that is empty.
@@ -83,6 +90,9 @@ pub fn line_examples()
 pub fn content_examples()
     ensures unfolds { unfolded (codes "\r\n one.example!x") ≡ codes "one.example!x" }
     ensures keeps_second_space { unfolded (codes "  a ") ≡ codes " a " }
+    ensures unfolds_twice { unfolded (codes " a\r\n\tb\r\n c") ≡ codes "a\tb c" }
+    ensures keeps_bare_ends { unfolded (codes " a\nb\rc\r") ≡ codes "a\nb\rc\r" }
+    ensures keeps_outer_pair { unfolded (codes "\r\r\n\n") ≡ codes "\r\n" }
     ensures trims { trimmed (codes " \t a b\t ") ≡ codes "a b" }
     ensures cuts { newsgroups_in (codes " comp.x ,\r\n\talt.a")
         ≡ codes "comp.x" ∷ codes "alt.a" ∷ [] }

@@ -1,5 +1,6 @@
 -- How many octets an update has, as far as a number can say.
-use Rattle.std.proofs.Common.{◌≡◌, ℕ, ◌+◌, ◌-◌, ◌^◌, ◌≤◌, ◌++◌, List, length, map, drop, min, arith, ap}
+use Rattle.std.proofs.Common.{◌≡◌, ℕ, ◌+◌, ◌-◌, ◌^◌, ◌≤◌, ◌++◌, List, length, map, drop, min, arith}
+use Rattle.std.proofs.Common.{ap}
 use Rattle.std.specs.Prelude.{flat_map}
 use Rattle.std.proofs.lemmas.List.{length-append, drop_all}
 use Rattle.news_terms.specs.Article.{Article, field_text, article_text}

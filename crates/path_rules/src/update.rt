@@ -1,7 +1,8 @@
 //! The article with its Path updated by a relaying agent.
 ghost use Rattle.std.specs.Prelude.{◌≡◌, ◌↔◌, ◌++◌, ◌∷◌, ◌-◌, ◌^◌, min, length, List, ℕ, IsTrue};
 ghost use Rattle.std.specs.Prelude.{Err, IfOk, OnOk};
-ghost use Rattle.news_terms.specs.Article.{article_text, content_or_empty, field_text, name_of, space};
+ghost use Rattle.news_terms.specs.Article.{article_text, content_or_empty, field_text, name_of};
+ghost use Rattle.news_terms.specs.Article.{space};
 ghost use Rattle.news_terms.specs.Article.{Path, IsArticleText};
 ghost use Rattle.std.specs.Str.{str_eq_ignore_ascii_case};
 ghost use Rattle.news_terms.specs.Path.{HasBadPath, updated_article, updated_field};

@@ -2,7 +2,8 @@ use Rattle.std.proofs.Common.{◌+◌, ◌-◌, sym, subst, List, ℕ, arith, ta
 use Rattle.std.proofs.lemmas.List.{take_rest}
 use Rattle.article_parse.specs.Header.{IsLineCut}
 use Rattle.article_parse.proofs.HeaderCuts.{line_length}
-use Rattle.article_parse.proofs.FieldCuts.{no_field, line_behind, colon_within, field_lost, field_sliced}
+use Rattle.article_parse.proofs.FieldCuts.{no_field, line_behind, colon_within, field_lost}
+use Rattle.article_parse.proofs.FieldCuts.{field_sliced}
 use Rattle.article_parse.proofs.header.next_field.Goals as goal
 
 pub returns-then-not-begins_field : goal.returns-then-not-begins_field
@@ -41,6 +42,7 @@ pub returns : goal.returns
 returns c =
     let s = c.args.text.now in
     let n = c.colon_place-colon.result in
-    field_sliced s _ c.args.first n c.in-Some.end (take_rest s (n + 1)) c.requires.cut c.requires.some
+    field_sliced s _ c.args.first n c.in-Some.end
+    (take_rest s (n + 1)) c.requires.cut c.requires.some
     c.colon_place-colon.ensures.value c.colon_place-colon.ensures.within
     (sym c.if-not-begins_field.ensures) c.in-Some.ensures

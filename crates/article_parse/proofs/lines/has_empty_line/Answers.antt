@@ -29,4 +29,5 @@ returns c =
     let s = c.args.text.now in
     let at = c.loop-end.at in
     sym (c.loop-end.invariant.passed
-    ∙ ap has_empty_line (sym (take_rest s c.loop-end.at)) ∙ plain_no_blank (take (length s - at) (drop at s)) c.in_default.ensures)
+    ∙ ap has_empty_line (sym (take_rest s c.loop-end.at))
+    ∙ plain_no_blank (take (length s - at) (drop at s)) c.in_default.ensures)

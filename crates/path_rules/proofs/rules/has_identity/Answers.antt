@@ -1,7 +1,10 @@
 use Rattle.std.proofs.Common.{sym, ◌∙◌}
 use Rattle.path_rules.proofs.PathCuts.{has-posted, has-found, has-other, has-dropped, has-last}
 use Rattle.path_rules.proofs.rules.has_identity.Goals as goal
-use Rattle.path_rules.proofs.rules.has_identity.Goals.{else-is_identity-via-then-is_identity+else-is_same, else-is_identity-via-else-is_identity}
+use Rattle.path_rules.proofs.rules.has_identity.Goals.{
+  else-is_identity-via-then-is_identity+else-is_same,
+}
+use Rattle.path_rules.proofs.rules.has_identity.Goals.{else-is_identity-via-else-is_identity}
 
 pub returns-then-is_posted : goal.returns-then-is_posted
 returns-then-is_posted c =

@@ -2,7 +2,10 @@ use Rattle.std.proofs.Common.{sym, ◌∙◌, ap, ◌++◌, ◌∷◌, []}
 use Rattle.path_rules.proofs.PathCuts.{identities-posted, identities-last, step-kept, step-dropped}
 use Rattle.path_rules.proofs.PathCuts.{step-none}
 use Rattle.path_rules.proofs.rules.listed_identities.Goals as goal
-use Rattle.path_rules.proofs.rules.listed_identities.Goals.{then-is_identity+in_ok-identity_of+in_ok-push, else-is_identity}
+use Rattle.path_rules.proofs.rules.listed_identities.Goals.{
+  then-is_identity+in_ok-identity_of+in_ok-push,
+}
+use Rattle.path_rules.proofs.rules.listed_identities.Goals.{else-is_identity}
 use Rattle.path_rules.proofs.rules.listed_identities.Goals.{in-Some+then-is_posted, in_default}
 
 pub loop-cut-preserved : goal.loop-cut-preserved

@@ -10,5 +10,6 @@ returns c = λ own expected text update own_agent expected_agent is_update. (
   is_update.read,
   subst (λ x. IsArticleText x (updated_article own expected is_update.received))
       (sym is_update.written)
-      (updated_is_article own expected text is_update.received own_agent expected_agent is_update.read),
+      (updated_is_article own expected text is_update.received own_agent expected_agent
+      is_update.read),
 )

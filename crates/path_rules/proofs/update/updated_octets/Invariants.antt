@@ -6,6 +6,7 @@ use Rattle.path_rules.proofs.update.updated_octets.Given as goal
 abbrev pub invariant-loop-field : goal.invariant-loop-field
 invariant-loop-field l = record {
   within : l.octets ≤ 2 ^ 64 - 1;
-  summed : min (l.octets + octets_of l.own l.expected (drop l.field-index l.field-items)) (2 ^ 64 - 1)
+  summed : min (l.octets + octets_of l.own l.expected (drop l.field-index l.field-items))
+      (2 ^ 64 - 1)
       ≡ min (l.initial.octets + octets_of l.own l.expected l.field-items) (2 ^ 64 - 1);
 }

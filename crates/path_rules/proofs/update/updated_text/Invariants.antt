@@ -9,5 +9,6 @@ use Rattle.path_rules.proofs.update.updated_text.Given as goal
 abbrev pub invariant-loop-field : goal.invariant-loop-field
 invariant-loop-field l =
     l.text.items
-    ++ flat_map field_text (map (updated_field l.own l.expected) (map field_view (drop l.field-index l.field-items)))
+    ++ flat_map field_text
+    (map (updated_field l.own l.expected) (map field_view (drop l.field-index l.field-items)))
     ≡ flat_map field_text (map (updated_field l.own l.expected) (map field_view l.field-items))
