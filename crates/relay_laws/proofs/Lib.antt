@@ -9,7 +9,11 @@ pub mod GroupFronts
 pub mod Judgements
 pub mod Moves
 pub mod NamedBuffers
+pub mod OfferDues
+pub mod OfferSteps
+pub mod OfferTurns
 pub mod OneText
+pub mod OpenOffers
 pub mod Permitted
 pub mod RisingFronts
 pub mod Runs
