@@ -1,8 +1,10 @@
 pub mod AcceptedOnce
+pub mod Accepting
 pub mod BelowFronts
 pub mod ClaimMoves
 pub mod Counted
 pub mod Counts
+pub mod FoundLive
 pub mod Gained
 pub mod Gone
 pub mod GroupFronts

@@ -1,44 +1,29 @@
 -- What a Turn does to claims and to the open offers of its session.
-use Rattle.std.proofs.Common.{◌≡◌, ◌∙◌, ℕ, nat_lt, nat_le, ◌==◌, ◌&&◌, ◌+◌, ◌-◌, Bool, true, false, List}
-use Rattle.std.proofs.Common.{[], ◌∷◌, length, Option, None, Some, ◌⊎◌, inl, inr, if◌then◌else◌, refl}
-use Rattle.std.proofs.Common.{sym, ap, subst, true≢false}
-use Rattle.std.proofs.lemmas.Bool.{cases_eq}
-use Rattle.std.proofs.lemmas.Option.{same_Some, none-some}
-use Rattle.std.specs.Prelude.{slice_get, option_map}
-use Rattle.news_terms.specs.Places.{Buffer}
+use Rattle.std.proofs.Common.{◌≡◌, ◌∙◌, ℕ, nat_lt, Bool, true, false}
+use Rattle.std.proofs.Common.{List}
+use Rattle.std.proofs.Common.{◌∷◌, length, Option, None, Some, ◌⊎◌, inl, inr}
+use Rattle.std.proofs.Common.{refl}
+use Rattle.std.proofs.Common.{sym, ap}
 use Rattle.news_terms.specs.Token.{Token}
 use Rattle.relay_model.specs.Asks.{Ask, Rests, GoesOn, Says, Leaves, Offers, Looks, Reads}
 use Rattle.relay_model.specs.Asks.{TakesQueue, Refuses, Takes, Pushes, LooksInSlot, Releases, Ends}
 use Rattle.relay_model.specs.Asks.{without_offer}
-use Rattle.relay_model.specs.Claims.{Accepted, Claim, Unknown, Offered, Storing, Stored, Refused}
+use Rattle.relay_model.specs.Claims.{Accepted, Claim}
 use Rattle.relay_model.specs.Claims.{OfferAnswer, Wanted, Later, Seen, TakeAnswer, Mine, Held, Had}
-use Rattle.relay_model.specs.Claims.{Passed, is_passed, after_expire, after_restart}
 use Rattle.relay_model.specs.Claims.{offer_answer, after_offer, after_take, after_refuse}
 use Rattle.relay_model.specs.Claims.{after_release}
 use Rattle.relay_model.specs.Fetches.{Fetched}
 use Rattle.relay_model.specs.Hears.{Heard, Hears, ReadHeard, goes_on, offer_heard, look_heard}
-use Rattle.relay_model.specs.Hears.{take_heard, slot_heard, outcome_heard, push_heard}
-use Rattle.relay_model.specs.Invariants.{IsWell}
-use Rattle.relay_model.specs.Run.{Event, Open, Bytes, Turn, Write, Break, Expire, Restart, Step, Does}
-use Rattle.relay_model.specs.Run.{IsRefused, WantsMemory, IsDone, Turns, Restarts, IsBusy, HasNoRoom}
-use Rattle.relay_model.specs.Run.{HasNot, refusal, opened, new_session, expired, reads_front}
-use Rattle.relay_model.specs.Run.{forgotten, forgetting, restarted, is_taken, shard_of}
-use Rattle.relay_model.specs.Run as run
-use Rattle.relay_model.specs.Shares.{Answer, ToOffer, Shares, Reading, IsFound, HasNotRead, Pushing}
-use Rattle.relay_model.specs.State.{State, Session, Job, Transfer, TakesThis, Has, Asked, put_id}
-use Rattle.relay_model.specs.State.{put_at}
+use Rattle.relay_model.specs.Hears.{take_heard, slot_heard, push_heard}
+use Rattle.relay_model.specs.Run.{Turns}
+use Rattle.relay_model.specs.Shares.{Answer, Shares, Reading, IsFound, HasNotRead, Pushing}
+use Rattle.relay_model.specs.State.{Session, Job, Transfer, TakesThis, Has, Asked, put_id}
 use Rattle.relay_model.specs.Terms.{Terms, queue_limit}
-use Rattle.relay_model.specs.World.{World, Output, Outcome, IsKept, HasFailed, Expirer, Forgetting}
-use Rattle.relay_model.specs.World.{with_session}
-use Rattle.relay_model.specs.World as world
-use Rattle.relay_facts.specs.Sound.{IsSound}
-use Rattle.relay_facts.proofs.Puts.{put_id_both, put_at_both, put_at_here, put_at_there, same_id}
-use Rattle.relay_laws.specs.Laws.{Always, OffersAreOpen, IsOpenOffer}
+use Rattle.relay_model.specs.World.{World, Output, Outcome, IsKept, HasFailed}
 use Rattle.relay_laws.proofs.OfferDues.{DueOffers, due_offers}
 use Rattle.relay_laws.proofs.OfferSteps.{Touches, IsOffered, offers_answered, others_stay}
 use Rattle.relay_laws.proofs.OfferSteps.{offered_after}
 use Rattle.relay_laws.proofs.OfferSteps as steps
-use Rattle.relay_laws.proofs.Runs.{always_keeps}
 
 -- what a Turn does to claims, and to the open offers of its session
 pub data TurnOffers (x y : World) (s : ℕ) (before after : List (List ℕ)) : Type 0 where

@@ -1,22 +1,23 @@
 -- Offers are open: a message-id that is offered to a session is one of its open offers.
 use Rattle.std.proofs.Common.{◌≡◌, ◌∙◌, ℕ, nat_le, ◌==◌, ◌&&◌, ◌+◌, ◌-◌, nat_lt, Bool, true, false}
-use Rattle.std.proofs.Common.{List, [], ◌∷◌, length, Option, None, Some, ◌⊎◌, inl, inr}
-use Rattle.std.proofs.Common.{if◌then◌else◌, refl, sym, ap, subst, true≢false}
+use Rattle.std.proofs.Common.{List, length, Option, None, Some, ◌⊎◌, inl, inr}
+use Rattle.std.proofs.Common.{if◌then◌else◌, refl, sym, ap, subst}
 use Rattle.std.proofs.lemmas.Bool.{cases_eq}
 use Rattle.std.proofs.lemmas.Option.{same_Some, none-some}
-use Rattle.std.specs.Prelude.{slice_get, bytes_eq, option_map}
+use Rattle.std.specs.Prelude.{slice_get}
 use Rattle.news_terms.specs.Places.{Buffer}
-use Rattle.news_terms.specs.Token.{Token}
 use Rattle.relay_model.specs.Asks.{is_open}
 use Rattle.relay_model.specs.Claims.{Claim, Unknown, Offered, Storing, Stored, Refused, Passed}
 use Rattle.relay_model.specs.Claims.{is_passed, after_expire, after_restart}
 use Rattle.relay_model.specs.Invariants.{IsWell}
-use Rattle.relay_model.specs.Run.{Event, Open, Bytes, Turn, Write, Break, Expire, Restart, Step, Does}
-use Rattle.relay_model.specs.Run.{IsRefused, WantsMemory, IsDone, Turns, Restarts, IsBusy, HasNoRoom}
+use Rattle.relay_model.specs.Run.{Event, Open, Bytes, Turn, Write, Break, Expire, Restart, Step}
+use Rattle.relay_model.specs.Run.{Does}
+use Rattle.relay_model.specs.Run.{IsRefused, WantsMemory, IsDone, Turns, Restarts, IsBusy}
+use Rattle.relay_model.specs.Run.{HasNoRoom}
 use Rattle.relay_model.specs.Run.{HasNot, refusal, opened, new_session, expired, reads_front}
 use Rattle.relay_model.specs.Run.{forgotten, forgetting, restarted, is_taken, shard_of}
 use Rattle.relay_model.specs.Run as run
-use Rattle.relay_model.specs.State.{State, Session, Job, put_id, put_at}
+use Rattle.relay_model.specs.State.{State, Session, put_id, put_at}
 use Rattle.relay_model.specs.Terms.{Terms}
 use Rattle.relay_model.specs.World.{World, Output, Expirer, Forgetting, with_session, empty_world}
 use Rattle.relay_model.specs.World as world
@@ -26,7 +27,7 @@ use Rattle.relay_model.specs.Writers.{TellsFailed}
 use Rattle.relay_facts.specs.Sound.{IsSound}
 use Rattle.relay_facts.proofs.Puts.{put_id_both, put_at_here, put_at_there, same_id}
 use Rattle.relay_laws.specs.Laws.{Always, OffersAreOpen, IsOpenOffer}
-use Rattle.relay_laws.proofs.OfferSteps.{Touches, IsOffered, others_stay, offered_after}
+use Rattle.relay_laws.proofs.OfferSteps.{IsOffered, others_stay, offered_after}
 use Rattle.relay_laws.proofs.OfferTurns.{TurnOffers, turn_offers, shared_sessions}
 use Rattle.relay_laws.proofs.OfferTurns as turns
 use Rattle.relay_laws.proofs.Runs.{always_keeps}
