@@ -3,7 +3,8 @@ use Rattle.std.proofs.Common.{◌≡◌, ◌+◌, ◌<◌, ◌≤◌, ℕ, List,
 use Rattle.std.proofs.Common.{ap, arith}
 use Rattle.relay_model.specs.State.{Job}
 use Rattle.relay_model.specs.Terms.{Terms}
-use Rattle.relay_model.specs.World.{World, Writer, Idle, Popped, Writing, Finished, Settled, Forgotten}
+use Rattle.relay_model.specs.World.{World, Writer, Idle, Popped, Writing, Finished, Settled}
+use Rattle.relay_model.specs.World.{Forgotten}
 use Rattle.relay_model.specs.World as world
 use Rattle.relay_model.specs.Writers.{Writes, job_size}
 use Rattle.relay_laws.specs.Counts.{WritesInTurn, writes_left}
@@ -11,7 +12,8 @@ use Rattle.relay_laws.proofs.WritesLeft.{write_goes, one_less}
 
 -- no Write is left of an idle writer
 busy_by : (v : Writer) → 1 ≤ writes_left v → v ≡ Idle → ⊥
-busy_by v some idle = let none : writes_left v ≡ 0 = ap writes_left idle in omega (arith, some, none)
+busy_by v some idle = let none : writes_left v ≡ 0 =
+    ap writes_left idle in omega (arith, some, none)
 
 -- a writer of which none is left is idle
 idle_by : (v : Writer) → writes_left v ≡ 0 → v ≡ Idle

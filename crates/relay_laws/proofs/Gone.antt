@@ -8,7 +8,6 @@ use Rattle.news_terms.specs.Token.{Token}
 use Rattle.relay_model.specs.Fetches.{Fetched, Gone, NotKnown, article_of, text_under, buffer_of}
 use Rattle.relay_model.specs.Fetches.{front_of, decided_at, decided_in}
 use Rattle.relay_model.specs.Invariants.{IsWell}
-use Rattle.relay_model.specs.State.{State}
 use Rattle.relay_model.specs.Terms.{Terms}
 use Rattle.relay_model.specs.World.{World}
 use Rattle.relay_facts.specs.Sound.{IsSound}

@@ -8,12 +8,15 @@ use Rattle.relay_model.specs.Asks.{Ask, Rests, GoesOn, Says, Leaves, Offers, Loo
 use Rattle.relay_model.specs.Asks.{TakesQueue, Refuses, Takes, Pushes, LooksInSlot, Releases, Ends}
 use Rattle.relay_model.specs.Claims.{after_offer, after_take, after_refuse, after_release, Passed}
 use Rattle.relay_model.specs.Claims.{Claim}
-use Rattle.relay_model.specs.Run.{Event, Open, Bytes, Turn, Write, Break, Expire, Restart, Step, Does}
-use Rattle.relay_model.specs.Run.{IsRefused, WantsMemory, IsDone, Turns, Restarts, IsBusy, HasNoRoom}
+use Rattle.relay_model.specs.Run.{Event, Open, Bytes, Turn, Write, Break, Expire, Restart, Step}
+use Rattle.relay_model.specs.Run.{Does}
+use Rattle.relay_model.specs.Run.{IsRefused, WantsMemory, IsDone, Turns, Restarts, IsBusy}
+use Rattle.relay_model.specs.Run.{HasNoRoom}
 use Rattle.relay_model.specs.Run.{HasNot, Run, refusal, opened, expired, reads_front, forgotten}
 use Rattle.relay_model.specs.Run.{restarted}
 use Rattle.relay_model.specs.Run as run
-use Rattle.relay_model.specs.Shares.{Answer, Shares, Reading, IsFound, HasNotRead, Pushing, queue_taken}
+use Rattle.relay_model.specs.Shares.{Answer, Shares, Reading, IsFound, HasNotRead, Pushing}
+use Rattle.relay_model.specs.Shares.{queue_taken}
 use Rattle.relay_model.specs.Shares.{ring_of, after_take_of, pushed, untold}
 use Rattle.relay_model.specs.State.{State, Session, Job, Feed}
 use Rattle.relay_model.specs.Terms.{Terms, queue_limit}
@@ -66,7 +69,8 @@ claim_changes x id claim goes = record {
 }
 
 -- a feed's queue is taken
-queue_same : (x : World) (ring feed most : ℕ) → SameStore x.state (queue_taken x ring feed most).state
+queue_same : (x : World) (ring feed most : ℕ)
+    → SameStore x.state (queue_taken x ring feed most).state
 queue_same x ring feed most = record {
   claims = λ id. Stays refl;
   begun = λ g. refl;

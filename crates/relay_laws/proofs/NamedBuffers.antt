@@ -1,7 +1,7 @@
 -- The buffer that a number names, under sound terms.
 use Rattle.std.proofs.Common.{◌≡◌, ◌∙◌, ℕ, zero, suc, ◌==◌, Bool, true, false, List, [], ◌∷◌, find}
-use Rattle.std.proofs.Common.{slice_get, cond, None, Some, refl, sym, ap, subst, arith, eqb-true}
-use Rattle.std.proofs.Common.{eq-eqb, true≢false}
+use Rattle.std.proofs.Common.{slice_get, cond, Some, refl, sym, ap, arith, eqb-true}
+use Rattle.std.proofs.Common.{eq-eqb}
 use Rattle.std.proofs.lemmas.Option.{none-some, same_Some}
 use Rattle.news_terms.specs.Places.{Buffer}
 use Rattle.relay_model.specs.Terms.{Terms}

@@ -1,18 +1,18 @@
 -- One text a token: each article that is begun lies at the front of its buffer or past it, so no
 -- two lie at one place.
 use Rattle.std.proofs.Common.{◌≡◌, ◌∙◌, ℕ, ◌+◌, ◌≤◌, Bool, true, false, List, [], ◌∷◌, ◌++◌, All}
-use Rattle.std.proofs.Common.{count_by, cond, bytes_eq, Some, refl, sym, ap, subst, zero-le}
+use Rattle.std.proofs.Common.{count_by, cond, bytes_eq, refl, sym, ap, subst, zero-le}
 use Rattle.std.proofs.Common.{le_of_eq, le_trans, add-zero, true≢false, ◌⊎◌, inl, inr}
 use Rattle.std.proofs.lemmas.List.Elements.{All-push, All-nil, All-weaker}
 use Rattle.std.proofs.lemmas.List.Sums.{sum_by_push}
-use Rattle.news_terms.specs.Places.{Place}
 use Rattle.news_terms.specs.Token.{Token, same_token}
-use Rattle.relay_model.specs.Claims.{Accepted, Claim, Unknown, Storing, Stored, Begun, Failed, Whole}
+use Rattle.relay_model.specs.Claims.{Accepted, Claim, Unknown, Storing, Stored, Begun, Failed}
+use Rattle.relay_model.specs.Claims.{Whole}
 use Rattle.relay_model.specs.Invariants.{IsSized}
 use Rattle.relay_model.specs.State.{State, Job, Kept, put_id}
 use Rattle.relay_model.specs.Terms.{Terms}
-use Rattle.relay_model.specs.World.{World, empty_world}
-use Rattle.relay_model.specs.Writers.{Begins, Stores, job_size, token_at}
+use Rattle.relay_model.specs.World.{empty_world}
+use Rattle.relay_model.specs.Writers.{Begins, Stores, token_at}
 use Rattle.relay_facts.specs.Sound.{IsSound}
 use Rattle.relay_facts.proofs.Puts.{put_id_both, same_id, is_itself}
 use Rattle.relay_laws.specs.Laws.{Always, is_at, OneTextAPlace, OneTextAToken}
@@ -134,7 +134,13 @@ begun_kept w sound σ τ job token begins sized each = record {
         let new = new_below w sound σ job begins.place facts in
         subst (IsBelow w τ) (sym begins.named)
         (subst (λ ρ. IsBelow w ρ (token_at job begins.place)) (sym begins.after)
-        (record { buffer = new.buffer; named = new.named; below = new.below }))
+        (record {
+          buffer = new.buffer;
+          named = new.named;
+          some = new.some;
+          inside = new.inside;
+          below = new.below;
+        }))
 
     apart : (had : Token) → IsBelow w σ had → Same_place had token → ⊥
     apart had is same =

@@ -1,5 +1,5 @@
 -- No step lowers the front of a buffer.
-use Rattle.std.proofs.Common.{◌≡◌, ◌∙◌, ℕ, ◌+◌, ◌≤◌, ◌==◌, List, [], ◌∷◌, ◌++◌, All, length, find}
+use Rattle.std.proofs.Common.{◌≡◌, ◌∙◌, ℕ, ◌+◌, ◌≤◌, ◌==◌, [], ◌∷◌, ◌++◌, find}
 use Rattle.std.proofs.Common.{slice_get, option_and_then, Some, ◌⊎◌, inl, inr, refl, sym, ap, subst}
 use Rattle.std.proofs.Common.{le_of_eq, le_trans, le-add_right}
 use Rattle.std.proofs.lemmas.Bool.{cases_eq}

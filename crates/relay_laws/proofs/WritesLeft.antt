@@ -2,7 +2,8 @@
 use Rattle.std.proofs.Common.{◌≡◌, ◌∙◌, ◌+◌, ◌<◌, ℕ, true, false, Some, None}
 use Rattle.std.proofs.Common.{refl, sym, ap, subst, arith, true≢false}
 use Rattle.relay_model.specs.Terms.{Terms}
-use Rattle.relay_model.specs.World.{World, Writer, Idle, Popped, Writing, Finished, Settled, Forgotten}
+use Rattle.relay_model.specs.World.{World, Writer, Idle, Popped, Writing, Finished, Settled}
+use Rattle.relay_model.specs.World.{Forgotten}
 use Rattle.relay_model.specs.World as world
 use Rattle.relay_model.specs.Writers.{Writes, NoJob, Pops, HasBegun, FindsWorn, WritesBlock}
 use Rattle.relay_model.specs.Writers.{FailsToWrite, HasStored, Settles, Closes, Forgets, TellsKept}

@@ -13,7 +13,7 @@ use Rattle.relay_model.specs.Run.{Event, Run, Step}
 use Rattle.relay_model.specs.State.{State, Session, Kept}
 use Rattle.relay_model.specs.Terms.{Terms}
 use Rattle.relay_model.specs.World.{World, Output, empty_world}
-use Rattle.relay_laws.specs.Rules.{IsLiveToken}
+use Rattle.relay_laws.specs.Rules.{IsGoneToken}
 
 -- after every list of events from this world on, whatever they were answered, the world is such
 abbrev pub AlwaysFrom : Terms → World → (World → Type 0) → Type 0
@@ -109,8 +109,8 @@ IsInOnePlace x =
     (id : List ℕ) (s : ℕ) (article : Accepted) (stage : Stage)
     → x.state.claim id ≡ Storing s article stage → places_of x id s article.group ≡ 1
 
--- each text that is whole is found under its token as long as its place is live
-abbrev pub FindsLive : Terms → World → Type 0
-FindsLive w x =
-    All (λ (kept : Kept). IsLiveToken w x.state kept.token
+-- each text that is whole is found under its token, until the front of its buffer has passed it
+abbrev pub FindsUntilGone : Terms → World → Type 0
+FindsUntilGone w x =
+    All (λ (kept : Kept). ¬ IsGoneToken w x.state kept.token
     → fetched w x.state kept.token ≡ fetches.Article kept.text) x.state.kept

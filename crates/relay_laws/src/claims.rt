@@ -5,8 +5,8 @@ ghost use Rattle.relay_model.specs.Run.{Event};
 ghost use Rattle.relay_model.specs.Terms.{Terms};
 ghost use Rattle.relay_model.specs.World.{World, Output, empty_world};
 ghost use Rattle.relay_facts.specs.Sound.{IsSound};
-ghost use Rattle.relay_laws.specs.Laws.{Always, GainsPermitted, IsInOnePlace, RunRemembering};
-ghost use Rattle.relay_laws.specs.Laws.{texts_of};
+ghost use Rattle.relay_laws.specs.Laws.{Always, GainsPermitted, IsInOnePlace, OffersAreOpen};
+ghost use Rattle.relay_laws.specs.Laws.{RunRemembering, texts_of};
 
 /// In a run that doesn't forget it, a message-id has at most one text.
 pub fn stored_once()
@@ -23,4 +23,9 @@ pub fn gains_permitted()
 /// Each message-id that is being stored is in exactly one place.
 pub fn in_one_place()
     ensures { (w : Terms) → IsSound w → Always w IsInOnePlace }
+{}
+
+/// A message-id that is offered to a session is one of its open offers.
+pub fn offers_are_open()
+    ensures { (w : Terms) → IsSound w → Always w OffersAreOpen }
 {}

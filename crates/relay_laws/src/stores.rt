@@ -5,7 +5,8 @@ ghost use Rattle.relay_model.specs.Terms.{Terms};
 ghost use Rattle.relay_model.specs.World.{World};
 ghost use Rattle.relay_facts.specs.Sound.{IsSound};
 ghost use Rattle.relay_laws.specs.Laws.{Always, AlwaysFrom, FindsGone};
-ghost use Rattle.relay_laws.specs.Laws.{AcceptsStored, GainsOnce, OneTextAPlace, OneTextAToken};
+ghost use Rattle.relay_laws.specs.Laws.{AcceptsStored, GainsOnce, FindsUntilGone};
+ghost use Rattle.relay_laws.specs.Laws.{OneTextAPlace, OneTextAToken};
 ghost use Rattle.relay_laws.specs.Rules.{IsGoneToken};
 
 /// A token that is gone stays gone, from every world on that a run may lead to: no front falls.
@@ -26,4 +27,10 @@ pub fn one_text_a_token()
 pub fn gained_once()
     ensures feeds { (w : Terms) → IsSound w → Always w GainsOnce }
     ensures accepted { (w : Terms) → IsSound w → Always w AcceptsStored }
+{}
+
+/// Each text that is whole is found under its token until the front of its buffer has passed it:
+/// the whole article, or it is gone.
+pub fn found_until_gone()
+    ensures { (w : Terms) → IsSound w → Always w (FindsUntilGone w) }
 {}

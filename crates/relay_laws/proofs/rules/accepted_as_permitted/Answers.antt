@@ -13,7 +13,8 @@ use Rattle.relay_laws.proofs.Permitted.{HasAt, numbered, has_number}
 use Rattle.relay_laws.proofs.rules.accepted_as_permitted.Goals as goal
 
 -- a number of those that are permitted is that of a feed that is
-to_feed : (w : Terms) (from : ℕ) (a : Article) (feed : ℕ) → HasAt (is_permitted w from a) w.feeds 0 feed
+to_feed : (w : Terms) (from : ℕ) (a : Article) (feed : ℕ)
+    → HasAt (is_permitted w from a) w.feeds 0 feed
     → IsSomeAnd (slice_get w.feeds feed) (λ one. is_permitted w from a one ≡ true)
 to_feed w from a feed has =
     let at : has.index ≡ feed = sym (zero-add has.index) ∙ has.number in
