@@ -37,7 +37,8 @@ pub fn text_tests()
         → ¬ HasBadHeader text }
 {}
 
-/// Of a content of an article no CR and no LF is left once it is unfolded: they stand in pairs alone.
+/// Of a content of an article no CR and no LF is left once it is unfolded, as they stand in pairs
+/// alone.
 pub fn unfolded_is_one_line()
     ensures { (text : List ℕ) (a : Article) → IsLaidOut text a
         → AllByRecursion (λ f. IsFalse (list_any is_of_line_end (unfolded f.content))) a.fields }
