@@ -14,7 +14,8 @@ pub returns-then-is_empty : goal.returns-then-is_empty
 returns-then-is_empty c =
     let line = c.args.line.now in
     let n = c.spaces_before.result in
-    no_words is_space (words line) (take (length line - n) (drop n line)) (rest_of line n c.spaces_before.ensures.value)
+    no_words is_space (words line) (take (length line - n) (drop n line))
+    (rest_of line n c.spaces_before.ensures.value)
     (eqb-true (length (take (length line - n) (drop n line))) 0 (sym c.if-is_empty.ensures))
 
 pub returns : goal.returns

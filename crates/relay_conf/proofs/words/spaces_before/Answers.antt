@@ -8,10 +8,12 @@ use Rattle.relay_conf.proofs.words.spaces_before.Goals as goal
 
 pub returns-clause-value : goal.returns-clause-value
 returns-clause-value c =
-    let found = position_from_yields_List (λ x. not (is_space x)) _ _ c.position.result c.position.ensures.ran
+    let found = position_from_yields_List (λ x. not (is_space x)) _ _ c.position.result
+    c.position.ensures.ran
     (YieldsList-from_slice c.args.line.now c.iter.ensures.rest)
     (λ x b q k. search (rules, tests)) in
-    c.unwrap_or.ensures ∙ first_or_length (λ x. not (is_space x)) c.args.line.now c.position.result found
+    c.unwrap_or.ensures ∙ first_or_length (λ x. not (is_space x)) c.args.line.now c.position.result
+    found
 
 pub returns-clause-within : goal.returns-clause-within
 returns-clause-within c =
