@@ -7,7 +7,8 @@ use Rattle.std.specs.List.{list_any, position_or_len}
 use Rattle.std.specs.Str.{byte}
 use Rattle.std.proofs.lemmas.Bool.{and_parts, cases_lt, both_ways, eqb-true}
 use Rattle.std.proofs.lemmas.List.{drop-drop, drop-take, take-take, get_or-take, drop_more}
-use Rattle.news_terms.specs.Article.{field_text, line_end}
+use Rattle.news_terms.specs.Article.{field_text}
+use Rattle.news_terms.specs.Lines.{crlf}
 use Rattle.news_terms.specs.Article.{begins_field, is_field_name, is_set_off, has_empty_line}
 use Rattle.news_terms.specs.Article.{are_header_lines, header_lines, is_paired}
 use Rattle.article_parse.specs.Header.{is_plain, goes_on, IsLineCut, IsWholeContent}
@@ -83,9 +84,9 @@ spelled_parts s n end colon ends =
     let first = take end content in
     let behind : content ≡ first ++ 13 ∷ 10 ∷ rest =
     sym (take-append-drop end content) ∙ ap (λ x. first ++ x) ends in
-    let grouped : ((name ++ byte ":" ∷ first) ++ line_end) ++ rest
+    let grouped : ((name ++ byte ":" ∷ first) ++ crlf) ++ rest
     ≡ name ++ byte ":" ∷ (first ++ 13 ∷ 10 ∷ rest) =
-    append_assoc (name ++ byte ":" ∷ first) line_end rest
+    append_assoc (name ++ byte ":" ∷ first) crlf rest
     ∙ append_assoc name (byte ":" ∷ first) (13 ∷ 10 ∷ rest) in
     sym (take-append-drop n s) ∙ ap (λ x. name ++ x) colon
     ∙ ap (λ x. name ++ byte ":" ∷ x) behind ∙ sym grouped

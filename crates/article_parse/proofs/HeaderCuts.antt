@@ -6,7 +6,8 @@ use Rattle.std.specs.Prelude.{not, ◌&&◌, ◌||◌, ◌==◌, IsTrue, filter}
 use Rattle.std.specs.List.{list_all, slice_split, onto_first, take_while}
 use Rattle.std.proofs.lemmas.Bool.{cases_Bool, cond-true, cond-false, ne_eqb, eqb-true, and_parts, eqb-false}
 use Rattle.std.proofs.lemmas.List.Sums.{take_while-cons}
-use Rattle.news_terms.specs.Article.{is_of_line_end, is_paired, is_empty, line_end, occurs}
+use Rattle.news_terms.specs.Article.{is_of_line_end, is_paired, is_empty, occurs}
+use Rattle.news_terms.specs.Lines.{crlf}
 use Rattle.news_terms.specs.Article.{has_empty_line, text_lines, header_lines, are_header_lines}
 use Rattle.news_terms.specs.Article.{begins_field, continues_field, is_white}
 use Rattle.std.proofs.lemmas.List.{drop-drop}
@@ -28,7 +29,7 @@ plain_parts c s h =
 
 -- the empty line and the CRLF before it
 abbrev blank : List ℕ
-blank = line_end ++ line_end
+blank = crlf ++ crlf
 
 -- it begins at no plain octet
 blank_skips : (s more : List ℕ) → is_plain s ≡ true → occurs blank (s ++ more) ≡ occurs blank more

@@ -1,7 +1,8 @@
 -- What reading a header gives. No public contract cites it.
 use Rattle.std.specs.Prelude.{◌≡◌, ◌≤◌, false, List, ℕ, ◌++◌, length, drop, map, flat_map, Result, Ok, Err}
 use Rattle.std.specs.List.{AllByRecursion}
-use Rattle.news_terms.specs.Article.{IsField, field_text, line_end, has_empty_line}
+use Rattle.news_terms.specs.Article.{IsField, field_text, has_empty_line}
+use Rattle.news_terms.specs.Lines.{crlf}
 use Rattle.news_terms.specs.Article.{are_header_lines, header_lines}
 use Rattle.news_terms.specs.Article as terms
 use Rattle.article_parse.specs.declared.header.FieldCut.{FieldCut}
@@ -13,7 +14,7 @@ use Rattle.article_parse.specs.Header.{field_view, IsFieldAt}
 -- fields, an empty line behind them, and the place where the body begins
 pub record IsHeader (text : List ℕ) (fields : List terms.Field) (body_at : ℕ) : Type 0 where
   pub within : body_at ≤ length text
-  pub spelled : text ≡ flat_map field_text fields ++ line_end ++ drop body_at text
+  pub spelled : text ≡ flat_map field_text fields ++ crlf ++ drop body_at text
   pub each_field : AllByRecursion IsField fields
 
 -- the answer is the field at the front, or what is wrong with the text

@@ -1,7 +1,2 @@
 pub mod Checks
 pub mod CommandLines
-pub mod Drills
-pub mod Pieces
-pub mod Plays
-pub mod Prints
-pub mod Scripts

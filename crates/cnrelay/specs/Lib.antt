@@ -1,11 +1,3 @@
 pub mod Check
 pub mod CommandLine
-pub mod Drill
-pub mod Fault
-pub mod Play
-pub mod Print
-pub mod Progress
-pub mod Script
-pub mod Status
 pub mod Tell
-pub mod Words

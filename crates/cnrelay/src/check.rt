@@ -3,17 +3,17 @@
 ghost use Rattle.std.specs.Prelude.{◌≡◌, ◌⊎◌, codes, IfOk, IfErr, OnOk};
 ghost use Rattle.std.specs.Io.KnownBytes.{Appends};
 ghost use Rattle.relay_conf.specs.RelayViews.{RelayGives};
-ghost use Rattle.cnrelay.specs.Check.{CheckGives, CycbuffReads, FileGives, IsErrorIn, IsTextOf, IsUnread, LoadGives, StorageReads};
+ghost use Rattle.cnrelay.specs.Check.{CheckGives, CycbuffReads, FileGives, IsErrorIn, IsTextOf};
+ghost use Rattle.cnrelay.specs.Check.{IsUnread, LoadGives, StorageReads};
 ghost use Rattle.cnrelay.specs.Check.{check_status, counted, counted_as, file_name, k1_text};
 ghost use Rattle.cnrelay.specs.declared.check.CheckError.TheVariants.{Memory, Unreadable};
 ghost use Rattle.cnrelay.specs.declared.check.ConfFile.TheVariants as files;
 
-use crate::drill::read_all;
-use crate::fault::DrillError;
 use relay_conf::{
     Buffers, ConfError, Config, K1_CYCBUFF, K1_RELAY, K1_STORAGE, Method, Relay, read_cycbuff,
     read_relay, read_storage,
 };
+use relay_drill::{DrillError, read_all};
 use std::alloc::{AllocError, Global};
 use std::fmt::{Display, Formatter};
 use std::fs::Files;

@@ -2,7 +2,9 @@
 ghost use Rattle.std.specs.Prelude.{◌≡◌, false, map, string_bytes, Some, IfOk};
 ghost use Rattle.clap.specs.Words.{found_of, rows_of, rule_of, subcommand_rows_of};
 ghost use Rattle.clap.specs.declared.builder.ValueParser.{ValueParser};
-ghost use Rattle.cnrelay.specs.CommandLine.{Reads, IsAskedBy, asked, asked_by, program_words, word_given, check_words, drill_words, token_words, needed};
+ghost use Rattle.cnrelay.specs.CommandLine.{Reads, IsAskedBy, asked, asked_by, program_words};
+ghost use Rattle.cnrelay.specs.CommandLine.{word_given, check_words, drill_words, token_words};
+ghost use Rattle.cnrelay.specs.CommandLine.{needed};
 
 use clap::{Arg, ArgAction, ArgMatches, Command, Error};
 use std::alloc::{AllocError, Global};

@@ -1,9 +1,8 @@
 //! Bad scripts, readers and writers that fail, and words that are no command line.
 use crate::command_line::read_words;
-use crate::drill::drill;
-use crate::fault::DrillError;
 use crate::tests::drilled;
 use first_core::Config;
+use relay_drill::{DrillError, drill};
 use std::io;
 use std::io::{ErrorKind, Read, Write};
 use std::test::Fail;

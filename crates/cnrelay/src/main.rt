@@ -10,29 +10,21 @@ mod check;
 #[cfg(test)]
 mod check_tests;
 mod command_line;
-mod drill;
 #[cfg(test)]
 mod example_tests;
-mod fault;
 #[cfg(test)]
 mod fault_tests;
-mod line;
-mod play;
-mod print;
-mod script;
 #[cfg(test)]
 mod tests;
 mod token;
 #[cfg(test)]
 mod token_tests;
-mod words;
 
 use check::check;
 use clap::error::ErrorKind;
 use command_line::{Job, read_words};
-use drill::drill;
-use fault::DrillError;
 use first_core::Config;
+use relay_drill::{DrillError, drill};
 use std::io::LineWriter;
 use std::process::ExitCode;
 use std::{env, io};

@@ -1,6 +1,6 @@
 //! What drills print, by the worked examples of docs/FORMATS.md and docs/PROTOCOL.md.
-use crate::drill::drill;
 use first_core::Config;
+use relay_drill::drill;
 use std::test::Fail;
 
 /// What a script prints.

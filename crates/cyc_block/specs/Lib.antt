@@ -1,3 +1,4 @@
 pub mod Failing
 pub mod Image
 pub mod Store
+pub mod Tally

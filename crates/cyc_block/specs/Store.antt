@@ -1,5 +1,6 @@
 -- What the blocks of a store hold (docs/FORMATS.md, Blocks on the device).
 use Rattle.std.specs.Prelude.{◌≡◌, ◌≢◌, ℕ, List, [], slice_index_or, replicate}
+use Rattle.cyc_block.specs.declared.TheConstants.{BLOCK_OCTETS}
 
 -- the octets of block k; none where there is no such block
 abbrev pub block_at : List (List ℕ) → ℕ → List ℕ
@@ -11,4 +12,4 @@ ChangesOnly k old new = (j : ℕ) → j ≢ k → block_at new j ≡ block_at ol
 
 -- so many blocks of zeros
 abbrev pub empty_blocks : ℕ → List (List ℕ)
-empty_blocks n = replicate n (replicate 512 0)
+empty_blocks n = replicate n (replicate BLOCK_OCTETS 0)

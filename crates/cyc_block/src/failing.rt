@@ -1,9 +1,9 @@
-ghost use Rattle.std.specs.Prelude.{◌≡◌, ◌≢◌, ◌<◌, ◌≤◌, ◌+◌, ◌-◌, ◌↔◌, length, slice_set};
+ghost use Rattle.std.specs.Prelude.{◌≡◌, ◌≢◌, ◌<◌, ◌+◌, ◌-◌, ◌↔◌, length, slice_set};
 ghost use Rattle.std.specs.Prelude.{IsErr, OnErr, OnOk};
 ghost use Rattle.cyc_block.specs.Failing.{calls_left, spent, store_below};
 ghost use Rattle.cyc_block.specs.Store.{block_at, ChangesOnly};
 
-use crate::{BlockStore, DeviceFailed};
+use crate::{BLOCK_OCTETS, BlockStore, DeviceFailed};
 
 /// A store whose call number k fails once; reads and writes are counted together, from 1. The call
 /// that fails does nothing else.
@@ -29,6 +29,9 @@ impl<S: BlockStore> FailAt<S> {
 impl<S: BlockStore> BlockStore for FailAt<S> {
     ghost blocks = { λ failing. S.blocks failing.store };
 
+    // A call that it fails on purpose is one that the store below isn't asked for.
+    ghost calls = { λ failing. S.calls failing.store + spent failing };
+
     ghost failures = { λ failing. S.failures failing.store + spent failing };
 
     ghost honest = { λ failing. S.honest failing.store };
@@ -37,7 +40,7 @@ impl<S: BlockStore> BlockStore for FailAt<S> {
         self.store.count()
     }
 
-    fn read(&mut self, k: u32, octets: &mut [u8; 512]) -> Result<(), DeviceFailed>
+    fn read(&mut self, k: u32, octets: &mut [u8; BLOCK_OCTETS]) -> Result<(), DeviceFailed>
         requires { k < length (S.blocks (store_below self.old)) }
         ensures octets { S.honest (store_below self.old)
             → OnOk result (octets.new ≡ block_at (S.blocks (store_below self.old)) k) }
@@ -46,14 +49,19 @@ impl<S: BlockStore> BlockStore for FailAt<S> {
         ensures honest { S.honest (store_below self.old) → S.honest (store_below self.new) }
         ensures count { length (S.blocks (store_below self.new))
             ≡ length (S.blocks (store_below self.old)) }
-        ensures later { S.failures (store_below self.old) + spent self.old
-            ≤ S.failures (store_below self.new) + spent self.new }
+        ensures calls { S.calls (store_below self.new) + spent self.new
+            ≡ S.calls (store_below self.old) + spent self.old + 1 }
         ensures failed { OnErr result (S.failures (store_below self.old) + spent self.old
             < S.failures (store_below self.new) + spent self.new) }
-        // Call number k fails, and no other but by the store below.
-        ensures calls { calls_left self.new ≡ calls_left self.old - 1 }
+        ensures no_failure { OnOk result (S.failures (store_below self.new) + spent self.new
+            ≡ S.failures (store_below self.old) + spent self.old) }
+        // Call number k fails and does nothing; every other is passed on, once, and fails only
+        // where the store below does.
+        ensures left { calls_left self.new ≡ calls_left self.old - 1 }
         ensures due { calls_left self.old ≡ 1
             → IsErr result × (store_below self.new ≡ store_below self.old) }
+        ensures passed_on { calls_left self.old ≢ 1
+            → S.calls (store_below self.new) ≡ S.calls (store_below self.old) + 1 }
         ensures not_due { calls_left self.old ≢ 1 → OnErr result
             (S.failures (store_below self.old) < S.failures (store_below self.new)) }
     {
@@ -61,7 +69,7 @@ impl<S: BlockStore> BlockStore for FailAt<S> {
         self.store.read(k, octets)
     }
 
-    fn write(&mut self, k: u32, octets: &[u8; 512]) -> Result<(), DeviceFailed>
+    fn write(&mut self, k: u32, octets: &[u8; BLOCK_OCTETS]) -> Result<(), DeviceFailed>
         requires { k < length (S.blocks (store_below self.old)) }
         ensures written { S.honest (store_below self.old)
             → OnOk result (S.blocks (store_below self.new)
@@ -71,14 +79,19 @@ impl<S: BlockStore> BlockStore for FailAt<S> {
         ensures honest { S.honest (store_below self.old) → S.honest (store_below self.new) }
         ensures count { length (S.blocks (store_below self.new))
             ≡ length (S.blocks (store_below self.old)) }
-        ensures later { S.failures (store_below self.old) + spent self.old
-            ≤ S.failures (store_below self.new) + spent self.new }
+        ensures calls { S.calls (store_below self.new) + spent self.new
+            ≡ S.calls (store_below self.old) + spent self.old + 1 }
         ensures failed { OnErr result (S.failures (store_below self.old) + spent self.old
             < S.failures (store_below self.new) + spent self.new) }
-        // Call number k fails, and no other but by the store below.
-        ensures calls { calls_left self.new ≡ calls_left self.old - 1 }
+        ensures no_failure { OnOk result (S.failures (store_below self.new) + spent self.new
+            ≡ S.failures (store_below self.old) + spent self.old) }
+        // Call number k fails and does nothing; every other is passed on, once, and fails only
+        // where the store below does.
+        ensures left { calls_left self.new ≡ calls_left self.old - 1 }
         ensures due { calls_left self.old ≡ 1
             → IsErr result × (store_below self.new ≡ store_below self.old) }
+        ensures passed_on { calls_left self.old ≢ 1
+            → S.calls (store_below self.new) ≡ S.calls (store_below self.old) + 1 }
         ensures not_due { calls_left self.old ≢ 1 → OnErr result
             (S.failures (store_below self.old) < S.failures (store_below self.new)) }
     {

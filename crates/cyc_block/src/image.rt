@@ -1,5 +1,6 @@
 ghost use Rattle.std.specs.Prelude.{◌≡◌, ◌≤◌, List, ℕ, length, IfSome, IsSomeAnd};
 ghost use Rattle.news_terms.specs.BlockImage.{Block, IsBlock, block_image as image_of, block_head};
+ghost use Rattle.news_terms.specs.BlockImage.{chunk_size};
 ghost use Rattle.cyc_block.specs.Image.{stamped};
 
 use crate::{BLOCK_OCTETS, CHUNK_OCTETS};
@@ -27,14 +28,14 @@ pub struct Stamp {
 pub struct Image<'a> {
     /// What the block says of itself.
     pub stamp: Stamp,
-    /// The octets of the article that it holds, 1 to 480 of them.
+    /// The octets of the article that it holds, 1 to `CHUNK_OCTETS` of them.
     pub payload: &'a [u8],
 }
 
 /// The octets of the block with this stamp that holds this payload.
-pub fn block_image(stamp: &Stamp, payload: &[u8]) -> [u8; 512]
+pub fn block_image(stamp: &Stamp, payload: &[u8]) -> [u8; BLOCK_OCTETS]
     requires some { 1 ≤ length payload.now }
-    requires room { length payload.now ≤ 480 }
+    requires room { length payload.now ≤ chunk_size }
     ensures { result ≡ image_of (stamped stamp.now payload.now) }
 {
     let used = payload.len();
@@ -45,7 +46,7 @@ pub fn block_image(stamp: &Stamp, payload: &[u8]) -> [u8; 512]
 }
 
 /// Reads the octets of a block; none where they are no image of a block.
-pub fn read_image(image: &[u8; 512]) -> Option<Image<'_>>
+pub fn read_image(image: &[u8; BLOCK_OCTETS]) -> Option<Image<'_>>
     ensures image { IfSome result (λ read.
         IsBlock (stamped read.stamp read.payload.now)
         × (image.now ≡ image_of (stamped read.stamp read.payload.now))) }
@@ -66,7 +67,7 @@ pub fn read_image(image: &[u8; 512]) -> Option<Image<'_>>
 }
 
 /// The stamp that the octets of a block say.
-fn read_stamp(image: &[u8; 512]) -> Stamp
+fn read_stamp(image: &[u8; BLOCK_OCTETS]) -> Stamp
     ensures { (b : Block) → IsBlock b → image.now ≡ image_of b → stamped result b.payload ≡ b }
 {
     Stamp {
@@ -79,7 +80,7 @@ fn read_stamp(image: &[u8; 512]) -> Stamp
 }
 
 /// The octets before the payload of a block with this stamp that holds so many octets.
-fn head(stamp: &Stamp, used: u16) -> [u8; 32]
+fn head(stamp: &Stamp, used: u16) -> [u8; HEAD_OCTETS]
     ensures { (payload : List ℕ) → length payload ≡ used
         → result ≡ block_head (stamped stamp.now payload) }
 {

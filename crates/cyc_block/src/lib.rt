@@ -9,6 +9,7 @@ mod failing;
 mod image;
 mod memory;
 mod store;
+mod tally;
 
 pub use failing::FailAt;
 pub use image::{Image, Stamp, block_image, read_image};
@@ -18,7 +19,7 @@ pub use store::{BlockStore, DeviceFailed};
 /// The octets of a block.
 pub const BLOCK_OCTETS: usize = 512;
 
-/// The octets of a text that one block holds, after the 32 octets of its head.
+/// The octets of a text that one block holds, behind those of its head.
 pub const CHUNK_OCTETS: usize = 480;
 
 #[cfg(test)]

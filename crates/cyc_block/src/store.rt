@@ -1,5 +1,7 @@
-ghost use Rattle.std.specs.Prelude.{◌≡◌, ◌<◌, ◌≤◌, ℕ, List, length, slice_set, OnOk, OnErr};
+ghost use Rattle.std.specs.Prelude.{◌≡◌, ◌<◌, ◌+◌, ℕ, List, length, slice_set, OnOk, OnErr};
 ghost use Rattle.cyc_block.specs.Store.{block_at, ChangesOnly};
+
+use crate::BLOCK_OCTETS;
 
 /// The device failed: a read or a write was not done as asked.
 #[derive(Clone, Copy, Debug, PartialEq, Eq)]
@@ -9,6 +11,9 @@ pub struct DeviceFailed;
 pub trait BlockStore {
     /// What the blocks hold, in order.
     ghost blocks: { Self → List (List ℕ) };
+
+    /// How often the device was called, a count without end: each read and each write is one call.
+    ghost calls: { Self → ℕ };
 
     /// How often the device has failed, a count without end.
     ghost failures: { Self → ℕ };
@@ -22,23 +27,27 @@ pub trait BlockStore {
         ensures { result ≡ length (blocks self.now) };
 
     /// Reads block k. A failed read leaves any octets in the slice and changes nothing else.
-    fn read(&mut self, k: u32, octets: &mut [u8; 512]) -> Result<(), DeviceFailed>
+    fn read(&mut self, k: u32, octets: &mut [u8; BLOCK_OCTETS]) -> Result<(), DeviceFailed>
         requires { k < length (blocks self.old) }
         ensures octets { honest self.old → OnOk result (octets.new ≡ block_at (blocks self.old) k) }
         ensures same { honest self.old → blocks self.new ≡ blocks self.old }
         ensures honest { honest self.old → honest self.new }
         ensures count { length (blocks self.new) ≡ length (blocks self.old) }
-        ensures later { failures self.old ≤ failures self.new }
-        ensures failed { OnErr result (failures self.old < failures self.new) };
+        // It is one call, and the device failed where an error is answered, and only there.
+        ensures calls { calls self.new ≡ calls self.old + 1 }
+        ensures failed { OnErr result (failures self.old < failures self.new) }
+        ensures no_failure { OnOk result (failures self.new ≡ failures self.old) };
 
     /// Writes block k. A failed write leaves any octets in block k and changes no other block.
-    fn write(&mut self, k: u32, octets: &[u8; 512]) -> Result<(), DeviceFailed>
+    fn write(&mut self, k: u32, octets: &[u8; BLOCK_OCTETS]) -> Result<(), DeviceFailed>
         requires { k < length (blocks self.old) }
         ensures written { honest self.old
             → OnOk result (blocks self.new ≡ slice_set (blocks self.old) k octets.now) }
         ensures others { honest self.old → ChangesOnly k (blocks self.old) (blocks self.new) }
         ensures honest { honest self.old → honest self.new }
         ensures count { length (blocks self.new) ≡ length (blocks self.old) }
-        ensures later { failures self.old ≤ failures self.new }
-        ensures failed { OnErr result (failures self.old < failures self.new) };
+        // It is one call, and the device failed where an error is answered, and only there.
+        ensures calls { calls self.new ≡ calls self.old + 1 }
+        ensures failed { OnErr result (failures self.old < failures self.new) }
+        ensures no_failure { OnOk result (failures self.new ≡ failures self.old) };
 }

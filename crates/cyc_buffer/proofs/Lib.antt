@@ -7,4 +7,5 @@ mod Finishing
 mod OpenLemmas
 mod Contents
 mod Writes
+mod Numbers
 mod Reading

@@ -1,9 +1,14 @@
 -- Bits of words, and the marks that they are.
-use Rattle.std.proofs.Common.{◌≡◌, ◌≢◌, ◌∙◌, ℕ, zero, suc, ◌+◌, ◌-◌, ◌*◌, ◌/◌, ◌%◌, ◌^◌, ◌<◌, inl, inr, nat_lt, ◌==◌, ◌&&◌, ◌||◌, not, min, max, Bool, true, false, List, get_or, set, length, replicate, refl, sym, ap, arith, cond, bit_and, bit_or, w64}
+use Rattle.std.proofs.Common.{◌≡◌, ◌≢◌, ◌∙◌, ℕ, zero, suc, ◌+◌, ◌-◌, ◌*◌, ◌/◌, ◌%◌, ◌^◌, ◌<◌, inl}
+use Rattle.std.proofs.Common.{inr, nat_lt, ◌==◌, ◌&&◌, ◌||◌, not, min, max, Bool, true, false, List}
+use Rattle.std.proofs.Common.{get_or, set, length, replicate, refl, sym, ap, arith, cond, bit_and}
+use Rattle.std.proofs.Common.{bit_or, w64}
 use Rattle.std.specs.Int.{bit_at, bit_not}
 use Rattle.std.proofs.lemmas.Bool.{cases_lt, cases_eq, lt-ltb, le-ltb, le-leb, lt-leb}
-use Rattle.std.proofs.lemmas.List.{get_or-set_same, get_or-set_other, get_or-replicate, length-replicate}
-use Rattle.std.proofs.lemmas.Nat.Bits.{bit_at_ones, bit_at_ones_above, bit_at_and, bit_at_or, bit_at_not, bit_at-lt, bit_at-zero}
+use Rattle.std.proofs.lemmas.List.{get_or-set_same, get_or-set_other, get_or-replicate}
+use Rattle.std.proofs.lemmas.List.{length-replicate}
+use Rattle.std.proofs.lemmas.Nat.Bits.{bit_at_ones, bit_at_ones_above, bit_at_and, bit_at_or}
+use Rattle.std.proofs.lemmas.Nat.Bits.{bit_at_not, bit_at-lt, bit_at-zero}
 use Rattle.std.proofs.Math.ListN.{get_or-eq_default}
 use Rattle.std.proofs.Math.Nat.{div-add-mod}
 use Rattle.cyc_buffer.specs.Marks.{is_marked, is_among, marked_after}
@@ -44,16 +49,28 @@ clear_at a b i fits h =
 
 -- bit i of one word that another one sets
 pub set_at : (a b i : ℕ) → (bit_at (bit_or a b) i == 1) ≡ ((bit_at a i == 1) || (bit_at b i == 1))
-set_at a b i = rw (bit_at_or a b i) (bit_set (bit_at a i) (bit_at b i) (bit_at-lt a i) (bit_at-lt b i))
+set_at a b i = rw (bit_at_or a b i)
+    (bit_set (bit_at a i) (bit_at b i) (bit_at-lt a i) (bit_at-lt b i))
 
 -- the blocks from one up to another, counted from the first block of a word
 pub among_shifted : (start from to i : ℕ)
     → (nat_lt i (to - start) && not (nat_lt i (from - start))) ≡ is_among from to (start + i)
 among_shifted start from to i = elim (cases_lt i (from - start)) [
-  | inl h ↦ rw (lt-ltb i (from - start) h, lt-leb from (start + i) (omega (arith, h))) (both_false (nat_lt i (to - start)))
+  | inl h ↦ rw (lt-ltb i (from - start) h, lt-leb from (start + i) (omega (arith, h)))
+      (both_false (nat_lt i (to - start)))
   | inr h ↦ elim (cases_lt i (to - start)) [
-    | inl k ↦ rw (le-ltb i (from - start) h, lt-ltb i (to - start) k, le-leb from (start + i) (omega (arith, h)), lt-ltb (start + i) to (omega (arith, k))) refl
-    | inr k ↦ rw (le-ltb i (from - start) h, le-ltb i (to - start) k, le-leb from (start + i) (omega (arith, h)), le-ltb (start + i) to (omega (arith, k))) refl
+    | inl k ↦ rw (
+      le-ltb i (from - start) h,
+      lt-ltb i (to - start) k,
+      le-leb from (start + i) (omega (arith, h)),
+      lt-ltb (start + i) to (omega (arith, k)),
+    ) refl
+    | inr k ↦ rw (
+      le-ltb i (from - start) h,
+      le-ltb i (to - start) k,
+      le-leb from (start + i) (omega (arith, h)),
+      le-ltb (start + i) to (omega (arith, k)),
+    ) refl
   ]
 ]
   where
@@ -85,12 +102,16 @@ same_word words word value j h e =
 -- the mark of a block of another word
 other_word : (words : List ℕ) (word value j : ℕ) → j / 64 ≢ word
     → is_marked (set words word value) j ≡ is_marked words j
-other_word words word value j n = ap (λ w. bit_at w (j % 64) == 1) (get_or-set_other words word (j / 64) value 0 n)
+other_word words word value j n = ap (λ w. bit_at w (j % 64) == 1)
+    (get_or-set_other words word (j / 64) value 0 n)
 
 -- the marks after one word more is changed
-pub marks_of_word : (words : List ℕ) (old : ℕ → Bool) (word value from to : ℕ) (b : Bool) → word < length words
-    → ((j : ℕ) → is_marked words j ≡ cond (nat_lt j (64 * word)) (marked_after from to b j (old j)) (old j))
-    → ((i : ℕ) → i < 64 → (bit_at value i == 1) ≡ cond (is_among from to (word * 64 + i)) b (bit_at (get_or words word 0) i == 1))
+pub marks_of_word : (words : List ℕ) (old : ℕ → Bool) (word value from to : ℕ) (b : Bool)
+    → word < length words
+    → ((j : ℕ) → is_marked words j ≡ cond (nat_lt j (64 * word)) (marked_after from to b j (old j))
+    (old j))
+    → ((i : ℕ) → i < 64 → (bit_at value i == 1)
+    ≡ cond (is_among from to (word * 64 + i)) b (bit_at (get_or words word 0) i == 1))
     → (j : ℕ) → is_marked (set words word value) j
     ≡ cond (nat_lt j (64 * (word + 1))) (marked_after from to b j (old j)) (old j)
 marks_of_word words old word value from to b h marks bits j = elim (cases_eq (j / 64) word) [
@@ -99,15 +120,18 @@ marks_of_word words old word value from to b h marks bits j = elim (cases_eq (j 
       let here : word * 64 + j % 64 ≡ j = omega (arith, e, div-add-mod j 64) in
       let before : bit_at (get_or words word 0) (j % 64) == 1 ≡ old j =
       ap (λ k. bit_at (get_or words k 0) (j % 64) == 1) (sym e) ∙ marks j
-      ∙ ap (λ t. cond t (marked_after from to b j (old j)) (old j)) (le-ltb j (64 * word) (omega (arith, here))) in
+      ∙ ap (λ t. cond t (marked_after from to b j (old j)) (old j))
+      (le-ltb j (64 * word) (omega (arith, here))) in
       same_word words word value j h e ∙ bits (j % 64) low
       ∙ ap (λ k. cond (is_among from to k) b (bit_at (get_or words word 0) (j % 64) == 1)) here
       ∙ ap (cond (is_among from to j) b) before
-      ∙ sym (ap (λ t. cond t (marked_after from to b j (old j)) (old j)) (lt-ltb j (64 * (word + 1)) (omega (arith, here, low))))
+      ∙ sym (ap (λ t. cond t (marked_after from to b j (old j)) (old j))
+      (lt-ltb j (64 * (word + 1)) (omega (arith, here, low))))
   | inr n ↦
       let same : nat_lt j (64 * word) ≡ nat_lt j (64 * (word + 1)) = elim (cases_lt j (64 * word)) [
         | inl k ↦ lt-ltb j (64 * word) k ∙ sym (lt-ltb j (64 * (word + 1)) (omega (arith, k)))
-        | inr k ↦ le-ltb j (64 * word) k ∙ sym (le-ltb j (64 * (word + 1)) (omega (arith, k, n, div-add-mod j 64)))
+        | inr k ↦ le-ltb j (64 * word) k
+            ∙ sym (le-ltb j (64 * (word + 1)) (omega (arith, k, n, div-add-mod j 64)))
       ] in
       other_word words word value j n ∙ marks j
       ∙ ap (λ t. cond t (marked_after from to b j (old j)) (old j)) same
@@ -117,7 +141,9 @@ marks_of_word words old word value from to b h marks bits j = elim (cases_eq (j 
 pub none_marked : (n j : ℕ) → is_marked (replicate n 0) j ≡ false
 none_marked n j = elim (cases_lt (j / 64) n) [
   | inl h ↦ ap (λ w. bit_at w (j % 64) == 1) (get_or-replicate n (j / 64) 0 0 h) ∙ zero_bit
-  | inr h ↦ ap (λ w. bit_at w (j % 64) == 1) (get_or-eq_default (replicate n 0) 0 (omega (arith, h, length-replicate {A = ℕ} n 0))) ∙ zero_bit
+  | inr h ↦ ap (λ w. bit_at w (j % 64) == 1)
+      (get_or-eq_default (replicate n 0) 0 (omega (arith, h, length-replicate {A = ℕ} n 0)))
+      ∙ zero_bit
 ]
   where
     zero_bit : (bit_at 0 (j % 64) == 1) ≡ false

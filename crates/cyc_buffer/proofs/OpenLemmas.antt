@@ -13,6 +13,10 @@ open_end write None h = absurd h
 open_end write (Some p) h = ap (λ (t : Token). t.first + size_of t.length) h
 
 -- and begins there too
-pub open_start : (write : Open) (p : Option Progress) → IsTheOpen write p → start_of p ≡ write.token.first + 1
+pub open_start : (write : Open) (p : Option Progress) → IsTheOpen write p
+    → start_of p ≡ write.token.first + 1
 open_start write None h = absurd h
 open_start write (Some p) h = ap (λ (t : Token). t.first + 1) h
+
+-- where the article of the open write lies
+pub ruleset open_place = (open_end, open_start)

@@ -1,6 +1,9 @@
 -- Where begins go, and what the front passes by one.
-use Rattle.std.proofs.Common.{◌≡◌, ℕ, ◌+◌, ◌<◌, ◌≤◌, ◌⊎◌, inl, inr, nat_lt, nat_le, ◌==◌, ◌&&◌, ◌||◌, not, Bool, true, false, refl, arith, cond}
-use Rattle.std.proofs.lemmas.Bool.{cases_lt, cond_both, le-ltb, lt-leb, leb-true, leb-false, ltb-false, eqb-true, eq-eqb, and_cases, and_left, and_right, or_parts, or_from, not-false, not_from_true}
+use Rattle.std.proofs.Common.{◌≡◌, ℕ, ◌+◌, ◌<◌, ◌≤◌, ◌⊎◌, inl, inr, nat_lt, nat_le, ◌==◌, ◌&&◌}
+use Rattle.std.proofs.Common.{◌||◌, not, Bool, true, false, refl, arith, cond}
+use Rattle.std.proofs.lemmas.Bool.{cases_lt, cond_both, le-ltb, lt-leb, leb-true, leb-false}
+use Rattle.std.proofs.lemmas.Bool.{ltb-false, eqb-true, eq-eqb, and_cases, and_left, and_right}
+use Rattle.std.proofs.lemmas.Bool.{or_parts, or_from, not-false, not_from_true}
 use Rattle.news_terms.specs.Places.{Head, place_in_runs}
 use Rattle.cyc_buffer.specs.History.{place_after}
 use Rattle.cyc_buffer.specs.Marks.{is_among}
@@ -15,9 +18,14 @@ pub placed : (blocks : ℕ) (head : Head) (fresh : Bool) (size : ℕ)
     → IsPlaced blocks head size (place_after blocks head fresh size)
 placed blocks head fresh size =
     cond_both (fresh && nat_lt 0 head.used) (record { run = head.run + 1; used = 0 })
-    (place_in_runs (λ (run : ℕ). blocks) head size) (IsPlaced blocks head size) (λ e. inr (refl, refl))
-    (λ e. cond_both (nat_le (head.used + size) blocks) head (record { run = head.run + 1; used = 0 })
-    (IsPlaced blocks head size) (λ k. inl (refl, refl, leb-true (head.used + size) blocks k)) (λ k. inr (refl, refl)))
+    (place_in_runs (λ (run : ℕ). blocks) head size) (IsPlaced blocks head size)
+    (λ e. inr (refl, refl))
+    (λ e. cond_both (nat_le (head.used + size) blocks) head (record {
+      run = head.run + 1;
+      used = 0;
+    })
+    (IsPlaced blocks head size) (λ k. inl (refl, refl, leb-true (head.used + size) blocks k))
+    (λ k. inr (refl, refl)))
 
 -- an article that begins there ends in the buffer
 pub placed_within : (blocks : ℕ) (head : Head) (fresh : Bool) (size : ℕ) → size ≤ blocks
@@ -28,7 +36,8 @@ placed_within blocks head fresh size h = elim (placed blocks head fresh size) [
 ]
 
 -- what an equation with a choice says
-pub chosen : {X : Type 0} → (b : Bool) (x y z : X) → cond b x y ≡ z → ((b ≡ true) × (x ≡ z)) ⊎ ((b ≡ false) × (y ≡ z))
+pub chosen : {X : Type 0} → (b : Bool) (x y z : X) → cond b x y ≡ z
+    → ((b ≡ true) × (x ≡ z)) ⊎ ((b ≡ false) × (y ≡ z))
 chosen true x y z e = inl (refl, e)
 chosen false x y z e = inr (refl, e)
 
@@ -60,55 +69,72 @@ passes blocks cycle used run first size j =
     is_among first (first + size) j || (not (run == cycle) && is_among used blocks j)
 
 -- what was not passed by a begin, and isn't at the old head or behind it, was not passed before
-pub held_before : (blocks : ℕ) (head at : Head) (size c j : ℕ) → IsPlaced blocks head size at → j < blocks
+pub held_before : (blocks : ℕ) (head at : Head) (size c j : ℕ) → IsPlaced blocks head size at
+    → j < blocks
     → IsHeld at.run (at.used + size) c j
-    → (IsHeld head.run head.used c j × (passes blocks head.run head.used at.run at.used size j ≡ false))
+    → (IsHeld head.run head.used c j
+    × (passes blocks head.run head.used at.run at.used size j ≡ false))
     ⊎ IsPast head.run head.used c j
 held_before blocks head at size c j (inl p) h (inl q) = elim (cases_lt j head.used) [
   | inl k ↦ inl (
     inl (omega (arith, p.0, q.0), k),
-    or_from (is_among at.used (at.used + size) j) (not (at.run == head.run) && is_among head.used blocks j)
+    or_from (is_among at.used (at.used + size) j)
+        (not (at.run == head.run) && is_among head.used blocks j)
         (not_among at.used (at.used + size) j (inl (omega (arith, p.1, k))))
-        (and_left (not (at.run == head.run)) (is_among head.used blocks j) (not_from_true (at.run == head.run) (eq-eqb at.run head.run p.0))),
+        (and_left (not (at.run == head.run)) (is_among head.used blocks j)
+        (not_from_true (at.run == head.run) (eq-eqb at.run head.run p.0))),
   )
   | inr k ↦ inr (inr (omega (arith, p.0, q.0), k))
 ]
 held_before blocks head at size c j (inl p) h (inr q) =
     inl (
       inr (omega (arith, p.0, q.0), omega (arith, p.1, q.1)),
-      or_from (is_among at.used (at.used + size) j) (not (at.run == head.run) && is_among head.used blocks j)
+      or_from (is_among at.used (at.used + size) j)
+          (not (at.run == head.run) && is_among head.used blocks j)
           (not_among at.used (at.used + size) j (inr q.1))
-          (and_left (not (at.run == head.run)) (is_among head.used blocks j) (not_from_true (at.run == head.run) (eq-eqb at.run head.run p.0))),
+          (and_left (not (at.run == head.run)) (is_among head.used blocks j)
+          (not_from_true (at.run == head.run) (eq-eqb at.run head.run p.0))),
     )
 held_before blocks head at size c j (inr p) h (inl q) = inr (inl (omega (arith, p.0, q.0)))
 held_before blocks head at size c j (inr p) h (inr q) = elim (cases_lt j head.used) [
   | inl k ↦ inl (
     inl (omega (arith, p.0, q.0), k),
-    or_from (is_among at.used (at.used + size) j) (not (at.run == head.run) && is_among head.used blocks j)
+    or_from (is_among at.used (at.used + size) j)
+        (not (at.run == head.run) && is_among head.used blocks j)
         (not_among at.used (at.used + size) j (inr q.1))
-        (and_right (not (at.run == head.run)) (is_among head.used blocks j) (not_among head.used blocks j (inl k))),
+        (and_right (not (at.run == head.run)) (is_among head.used blocks j)
+        (not_among head.used blocks j (inl k))),
   )
   | inr k ↦ inr (inr (omega (arith, p.0, q.0), k))
 ]
 
 -- what was not passed before, and is not passed by the begin, is not passed
-pub held_after : (blocks : ℕ) (head at : Head) (size c j : ℕ) → IsPlaced blocks head size at → j < blocks
+pub held_after : (blocks : ℕ) (head at : Head) (size c j : ℕ) → IsPlaced blocks head size at
+    → j < blocks
     → IsHeld head.run head.used c j → passes blocks head.run head.used at.run at.used size j ≡ false
     → IsHeld at.run (at.used + size) c j
-held_after blocks head at size c j (inl p) h (inl q) e = inl (omega (arith, p.0, q.0), omega (arith, p.1, q.1))
+held_after blocks head at size c j (inl p) h (inl q) e =
+    inl (omega (arith, p.0, q.0), omega (arith, p.1, q.1))
 held_after blocks head at size c j (inl p) h (inr q) e =
-    elim (beside at.used (at.used + size) j (or_parts (is_among at.used (at.used + size) j) (not (at.run == head.run) && is_among head.used blocks j) e).0) [
+    elim (beside at.used (at.used + size) j
+    (or_parts (is_among at.used (at.used + size) j)
+    (not (at.run == head.run) && is_among head.used blocks j) e).0) [
       | inl k ↦ absurd (omega (arith, p.1, q.1, k))
       | inr k ↦ inr (omega (arith, p.0, q.0), k)
     ]
 held_after blocks head at size c j (inr p) h (inl q) e =
-    elim (beside at.used (at.used + size) j (or_parts (is_among at.used (at.used + size) j) (not (at.run == head.run) && is_among head.used blocks j) e).0) [
+    elim (beside at.used (at.used + size) j
+    (or_parts (is_among at.used (at.used + size) j)
+    (not (at.run == head.run) && is_among head.used blocks j) e).0) [
       | inl k ↦ absurd (omega (arith, p.1, k))
       | inr k ↦ inr (omega (arith, p.0, q.0), k)
     ]
 held_after blocks head at size c j (inr p) h (inr q) e =
-    elim (and_cases (not (at.run == head.run)) (is_among head.used blocks j) (or_parts (is_among at.used (at.used + size) j) (not (at.run == head.run) && is_among head.used blocks j) e).1) [
-      | inl k ↦ absurd (omega (arith, p.0, eqb-true at.run head.run (not-false (at.run == head.run) k)))
+    elim (and_cases (not (at.run == head.run)) (is_among head.used blocks j)
+    (or_parts (is_among at.used (at.used + size) j)
+    (not (at.run == head.run) && is_among head.used blocks j) e).1) [
+      | inl k ↦
+          absurd (omega (arith, p.0, eqb-true at.run head.run (not-false (at.run == head.run) k)))
       | inr k ↦ elim (beside head.used blocks j k) [
         | inl m ↦ absurd (omega (arith, q.1, m))
         | inr m ↦ absurd (omega (arith, h, m))
@@ -116,7 +142,8 @@ held_after blocks head at size c j (inr p) h (inr q) e =
     ]
 
 -- a block is unpassed since one cycle at most
-pub one_cycle : (cycle used c d block : ℕ) → IsHeld cycle used c block → IsHeld cycle used d block → c ≡ d
+pub one_cycle : (cycle used c d block : ℕ) → IsHeld cycle used c block → IsHeld cycle used d block
+    → c ≡ d
 one_cycle cycle used c d block (inl p) (inl q) = omega (arith, p.0, q.0)
 one_cycle cycle used c d block (inl p) (inr q) = absurd (omega (arith, p.1, q.1))
 one_cycle cycle used c d block (inr p) (inl q) = absurd (omega (arith, p.1, q.1))

@@ -1,7 +1,10 @@
 -- What a buffer answers (docs/PROTOCOL.md, Writing and Reading).
-use Rattle.std.specs.Prelude.{◌≡◌, ◌⊎◌, ℕ, ◌+◌, ◌≤◌, nat_lt, nat_le, ◌==◌, ◌||◌, not, Bool, true, List, take, length, Option, None, Some, is_some, Result, Ok, Err, if◌then◌else◌}
+use Rattle.std.specs.Prelude.{◌≡◌, ◌⊎◌, ℕ, ◌+◌, ◌≤◌, ◌<◌, nat_lt, nat_le, ◌==◌, ◌||◌, not, Bool}
+use Rattle.std.specs.Prelude.{true}
+use Rattle.std.specs.Prelude.{List, take, length, Option, None, Some, is_some, Result, Ok, Err}
+use Rattle.std.specs.Prelude.{if◌then◌else◌}
 use Rattle.news_terms.specs.BlockImage.{chunk, chunk_size}
-use Rattle.news_terms.specs.Places.{Buffer, size_of, on_line, last_cycle}
+use Rattle.news_terms.specs.Places.{Buffer, IsLive, size_of, on_line, last_cycle}
 use Rattle.news_terms.specs.Token.{Token}
 use Rattle.cyc_buffer.specs.declared.answers.BufError.{BufError}
 use Rattle.cyc_buffer.specs.declared.answers.BufError.TheVariants.{TooBig, Busy, Device}
@@ -12,7 +15,8 @@ use Rattle.cyc_buffer.specs.declared.answers.FaultKind.TheVariants as kinds
 use Rattle.cyc_buffer.specs.declared.answers.Found.{Found}
 use Rattle.cyc_buffer.specs.declared.answers.Found.TheVariants as found
 use Rattle.cyc_buffer.specs.declared.answers.Front.{Front}
-use Rattle.cyc_buffer.specs.History.{History, front_of, next_cycle, text_under, finished_at}
+use Rattle.cyc_buffer.specs.History.{Article, History, front_of, next_cycle, text_under}
+use Rattle.cyc_buffer.specs.History.{finished_at}
 
 -- a fault of a buffer, at a call that spoke of an article of so many octets
 abbrev pub fault_of : Buffer → FaultKind → (octets : ℕ) → Fault
@@ -114,8 +118,29 @@ IsOther (found.Gone front) None = ⊥
 IsOther found.Unknown (Some answer) = Unit {0}
 IsOther found.Unknown None = Unit {0}
 
--- the numbers decide the answer, or no finished article begins at the token's place
+-- the block is one of a finished article's, and the front hasn't passed it
+pub record IsLiveBlock (h : History) (block : ℕ) : Type 0 where
+  pub cycle : ℕ
+  pub first : ℕ
+  pub index : ℕ
+  pub article : Article
+  pub finished : finished_at h.buffer h.begins cycle first ≡ Some article
+  pub inside : index < size_of (length article.text)
+  pub here : first + index ≡ block
+  pub live : IsLive h.buffer.blocks (front_of h) (on_line h.buffer.blocks cycle block)
+
+-- the numbers decide the answer, or no finished article begins at the token's place,
+-- or the block that is asked for is no finished article's
 abbrev pub IsUnread : History → Token → (k : ℕ) → Type 0
 IsUnread h token k =
     (is_some (by_numbers h.buffer (front_of h) token k) ≡ true)
     ⊎ (finished_at h.buffer h.begins token.cycle token.first ≡ None)
+    ⊎ (IsLiveBlock h (token.first + k) → ⊥)
+
+-- the numbers don't decide the answer, a finished article begins at the token's place,
+-- and the block that is asked for is a finished article's
+pub record IsRead (h : History) (token : Token) (k : ℕ) : Type 0 where
+  pub article : Article
+  pub undecided : by_numbers h.buffer (front_of h) token k ≡ None
+  pub begins : finished_at h.buffer h.begins token.cycle token.first ≡ Some article
+  pub block : IsLiveBlock h (token.first + k)

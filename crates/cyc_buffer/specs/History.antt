@@ -1,6 +1,7 @@
 -- What a cyclic buffer was asked to keep: what was begun in it, and what became of each begin
 -- (docs/PROTOCOL.md, Store).
-use Rattle.std.specs.Prelude.{◌≡◌, ℕ, ◌+◌, ◌*◌, nat_lt, ◌==◌, ◌&&◌, Bool, true, false, List, [], ◌∷◌, ◌++◌, length, take, Option, None, Some, if◌then◌else◌}
+use Rattle.std.specs.Prelude.{◌≡◌, ℕ, ◌+◌, ◌*◌, nat_lt, ◌==◌, ◌&&◌, Bool, true, false, List, []}
+use Rattle.std.specs.Prelude.{◌∷◌, ◌++◌, length, take, Option, None, Some, if◌then◌else◌}
 use Rattle.news_terms.specs.BlockImage.{chunk_size}
 use Rattle.news_terms.specs.Places.{Buffer, Head, first_head, place_in_runs, size_of, on_line}
 use Rattle.news_terms.specs.Token.{Token}

@@ -1,8 +1,11 @@
 -- What the register of a buffer says, and when it agrees with a history.
-use Rattle.std.specs.Prelude.{◌≡◌, ℕ, ◌==◌, ◌&&◌, ◌||◌, not, if◌then◌else◌, ◌+◌, ◌*◌, ◌^◌, ◌<◌, ◌≤◌, ◌⊎◌, ◌↔◌, min, Bool, true, false, List, ◌∷◌, length, Option, None, Some}
+use Rattle.std.specs.Prelude.{◌≡◌, ℕ, ◌==◌, ◌&&◌, ◌||◌, not, if◌then◌else◌, ◌+◌, ◌*◌, ◌^◌, ◌<◌, ◌≤◌}
+use Rattle.std.specs.Prelude.{◌⊎◌, ◌↔◌, min, Bool, true, false, List, ◌∷◌, length, Option, None}
+use Rattle.std.specs.Prelude.{Some}
 use Rattle.std.specs.List.{AllByRecursion}
 use Rattle.cyc_token.specs.Token.{token_view}
-use Rattle.cyc_buffer.specs.History.{Article, Begin, Writing, History, place_after, head_of, finished_at, token_at}
+use Rattle.cyc_buffer.specs.History.{Article, Begin, Writing, History, place_after, head_of}
+use Rattle.cyc_buffer.specs.History.{finished_at, token_at}
 use Rattle.cyc_buffer.specs.Marks.{is_marked, is_among}
 use Rattle.cyc_buffer.specs.declared.line.Line.{Line}
 use Rattle.cyc_buffer.specs.declared.line.Place.{Place}

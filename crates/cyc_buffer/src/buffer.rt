@@ -1,5 +1,6 @@
 ghost use Rattle.std.specs.Prelude.{◌≡◌, ◌≤◌, ◌<◌, ◌*◌, ℕ, length, take, IfSome, IsSomeAnd};
-ghost use Rattle.news_terms.specs.BlockImage.{Block, IsBlock, chunk, block_image as image_of};
+ghost use Rattle.news_terms.specs.BlockImage.{Block, IsBlock, chunk, chunk_size};
+ghost use Rattle.news_terms.specs.BlockImage.{block_image as image_of};
 ghost use Rattle.cyc_block.specs.Image.{stamped};
 ghost use Rattle.cyc_buffer.specs.Progress.{stamp_of};
 
@@ -18,16 +19,19 @@ pub struct Buffer<S: BlockStore> {
 }
 
 impl<S: BlockStore> Buffer<S> {
-    ghost use Rattle.std.specs.Prelude.{◌≡◌, ◌≤◌, ◌<◌, ◌+◌, ◌==◌, length, Bool, false, true};
+    ghost use Rattle.std.specs.Prelude.{◌≡◌, ◌≤◌, ◌<◌, ◌+◌, ◌⊎◌, ◌==◌, length, Bool, false, true};
     ghost use Rattle.std.specs.Prelude.{None, Some, IfOk, OnOk, OnErr, IfErr, IfSome, IsOk};
     ghost use Rattle.news_terms.specs.Places.{size_of};
     ghost use Rattle.cyc_token.specs.Token.{token_view};
     ghost use Rattle.cyc_buffer.specs.Agreement.{Agrees, Follows, Owns, store_of, register_of};
     ghost use Rattle.cyc_buffer.specs.Agreement.{blocks_written, is_broken, length_of, Continues};
-    ghost use Rattle.cyc_buffer.specs.Answers.{refusal, error_of, IsDeviceFault, Shows, answer, by_numbers};
-    ghost use Rattle.cyc_buffer.specs.Answers.{IsUnread, IsOther, IsDecided, HasRoom};
-    ghost use Rattle.cyc_buffer.specs.History.{History, new_history, with_begin, with_finish, open_token};
-    ghost use Rattle.cyc_buffer.specs.History.{without_write, with_failure, with_block, front_of, cycle_of};
+    ghost use Rattle.cyc_buffer.specs.Answers.{refusal, error_of, IsDeviceFault, Shows, answer};
+    ghost use Rattle.cyc_buffer.specs.Answers.{by_numbers, IsUnread, IsRead, IsOther, IsDecided};
+    ghost use Rattle.cyc_buffer.specs.Answers.{HasRoom};
+    ghost use Rattle.cyc_buffer.specs.History.{History, new_history, with_begin, with_finish};
+    ghost use Rattle.cyc_buffer.specs.History.{open_token};
+    ghost use Rattle.cyc_buffer.specs.History.{without_write, with_failure, with_block, front_of};
+    ghost use Rattle.cyc_buffer.specs.History.{cycle_of};
 
     /// A buffer over all blocks of a store, in which nothing was begun yet.
     /// All memory is taken here.
@@ -45,6 +49,7 @@ impl<S: BlockStore> Buffer<S> {
               blocks = length (S.blocks store);
               first_cycle = first_cycle;
             }))) }
+        // The device isn't called.
         ensures store { IfOk result (λ buffer. store_of buffer ≡ store) }
     {
         let blocks = store.count();
@@ -66,6 +71,7 @@ impl<S: BlockStore> Buffer<S> {
         ensures length { IfOk result (λ write. length_of write ≡ length) }
         ensures none_written { OnOk result (blocks_written self.new ≡ 0) }
         ensures whole { OnOk result (is_broken self.new ≡ false) }
+        // The device isn't called.
         ensures store { store_of self.new ≡ store_of self.old }
     {
         self.register.begin(class, length, fresh)
@@ -93,7 +99,10 @@ impl<S: BlockStore> Buffer<S> {
             → IsDeviceFault h.buffer FaultKind.Write (length_of write.now) e) }
         ensures failed { OnErr result
             (S.failures (store_of self.old) < S.failures (store_of self.new)) }
-        ensures later { S.failures (store_of self.old) ≤ S.failures (store_of self.new) }
+        ensures no_failure { OnOk result
+            (S.failures (store_of self.new) ≡ S.failures (store_of self.old)) }
+        // The device is called once, whether it fails or not.
+        ensures calls { S.calls (store_of self.new) ≡ S.calls (store_of self.old) + 1 }
         ensures open { Owns self.new write.now }
         ensures honest { S.honest (store_of self.old) → S.honest (store_of self.new) }
         ensures blocks { length (S.blocks (store_of self.new))
@@ -119,6 +128,7 @@ impl<S: BlockStore> Buffer<S> {
         ensures token { (trusted : Bool) (h : History) → Agrees trusted self.old h
             → Some (token_view result) ≡ open_token h }
         ensures finished { Follows with_finish self.old self.new }
+        // The device isn't called.
         ensures store { store_of self.new ≡ store_of self.old }
     {
         self.register.finish(write)
@@ -128,6 +138,7 @@ impl<S: BlockStore> Buffer<S> {
     pub fn abandon(&mut self, write: Open)
         requires { Owns self.old write }
         ensures abandoned { Follows without_write self.old self.new }
+        // The device isn't called.
         ensures store { store_of self.new ≡ store_of self.old }
     {
         self.register.abandon(write);
@@ -138,30 +149,37 @@ impl<S: BlockStore> Buffer<S> {
         &mut self,
         token: &Token,
         k: u32,
-        chunk: &mut [u8; 480],
+        chunk: &mut [u8; CHUNK_OCTETS],
     ) -> Result<Found, BufError>
         // What is found is what the history says.
         ensures found { (h : History) → Agrees true self.old h
             → IfOk result (λ found. Shows found chunk.new (answer h (token_view token.now) k)) }
-        // What the numbers decide doesn't rest on the store, and no device is called for it, nor
-        // where no finished article begins.
+        // What the numbers decide doesn't rest on the store.
         ensures numbers { (trusted : Bool) (h : History) → Agrees trusted self.old h
             → IsDecided result chunk.new
             (by_numbers h.buffer (front_of h) (token_view token.now) k) }
         ensures other { (trusted : Bool) (h : History) → Agrees trusted self.old h
             → IfOk result (λ found. IsOther found
             (by_numbers h.buffer (front_of h) (token_view token.now) k)) }
+        ensures room { IfOk result (λ found. HasRoom found) }
+        // The device is called once or not at all: not where the numbers or the marks decide, and
+        // else once, whether it fails or not.
+        ensures calls { (store_of self.new ≡ store_of self.old)
+            ⊎ (S.calls (store_of self.new) ≡ S.calls (store_of self.old) + 1) }
         ensures unread { (trusted : Bool) (h : History) → Agrees trusted self.old h
             → IsUnread h (token_view token.now) k
             → IsOk result × (store_of self.new ≡ store_of self.old) }
-        ensures room { IfOk result (λ found. HasRoom found) }
-        // The device failed, or not.
+        ensures read { (trusted : Bool) (h : History) → Agrees trusted self.old h
+            → IsRead h (token_view token.now) k
+            → S.calls (store_of self.new) ≡ S.calls (store_of self.old) + 1 }
+        // It failed, or not.
         ensures fault { IfErr result (λ e. (trusted : Bool) (h : History)
             → Agrees trusted self.old h
             → IsDeviceFault h.buffer FaultKind.Read token.now.length e) }
         ensures failed { OnErr result
             (S.failures (store_of self.old) < S.failures (store_of self.new)) }
-        ensures later { S.failures (store_of self.old) ≤ S.failures (store_of self.new) }
+        ensures no_failure { OnOk result
+            (S.failures (store_of self.new) ≡ S.failures (store_of self.old)) }
         // Reading changes no history.
         ensures same { Follows (λ h. h) self.old self.new }
         ensures register { register_of self.new ≡ register_of self.old }
@@ -209,7 +227,7 @@ impl<S: BlockStore> Buffer<S> {
 
 /// The k-th chunk of a text, which has one.
 fn chunk_of(text: &[u8], k: u32) -> &[u8]
-    requires { 480 * k < length text.now }
+    requires { chunk_size * k < length text.now }
     ensures { result.now ≡ chunk k text.now }
 {
     let from = CHUNK_OCTETS * k as usize;
@@ -219,14 +237,19 @@ fn chunk_of(text: &[u8], k: u32) -> &[u8]
 
 /// Takes the chunk that a block holds, and says how many octets it has; none where the block is no
 /// image, or its stamp isn't that of block k of the token's article.
-fn take_chunk(image: &[u8; 512], token: &Token, k: u32, chunk: &mut [u8; 480]) -> Option<usize>
+fn take_chunk(
+    image: &[u8; BLOCK_OCTETS],
+    token: &Token,
+    k: u32,
+    chunk: &mut [u8; CHUNK_OCTETS],
+) -> Option<usize>
     ensures same { (b : Block) → IsBlock b → image.now ≡ image_of b
         → stamped (stamp_of token.now k) b.payload ≡ b
         → IsSomeAnd result (λ octets. (octets ≡ length b.payload)
         × (take octets chunk.new ≡ b.payload)) }
     ensures other { (b : Block) → IsBlock b → image.now ≡ image_of b
         → IfSome result (λ octets. stamped (stamp_of token.now k) b.payload ≡ b) }
-    ensures room { IfSome result (λ octets. octets ≤ 480) }
+    ensures room { IfSome result (λ octets. octets ≤ chunk_size) }
 {
     let read = read_image(image)?;
     let wanted = Stamp {

@@ -1,5 +1,6 @@
 ghost use Rattle.std.specs.Prelude.{◌≡◌, ◌≤◌, ◌<◌, false, length};
-ghost use Rattle.cyc_buffer.specs.Agreement.{Owns, is_broken, blocks_written, length_of, register_of};
+ghost use Rattle.cyc_buffer.specs.Agreement.{Owns, is_broken, blocks_written, length_of};
+ghost use Rattle.cyc_buffer.specs.Agreement.{register_of};
 
 use crate::tests::{eight, text};
 use crate::*;

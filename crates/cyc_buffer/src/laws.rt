@@ -2,7 +2,8 @@
 ghost use Rattle.std.specs.Prelude.{◌≡◌, ◌≤◌, ◌+◌, ℕ, Bool, false, List, length, Some};
 ghost use Rattle.std.specs.List.{AllByRecursion};
 ghost use Rattle.news_terms.specs.Places.{Buffer, head_after, size_of};
-ghost use Rattle.cyc_buffer.specs.History.{Article, Begin, head_of, finished_at, is_at, place_after, sizes_of};
+ghost use Rattle.cyc_buffer.specs.History.{Article, Begin, head_of, finished_at, is_at};
+ghost use Rattle.cyc_buffer.specs.History.{place_after, sizes_of};
 ghost use Rattle.cyc_buffer.specs.History.{IsPlain};
 ghost use Rattle.cyc_buffer.specs.Register.{IsSized};
 

@@ -1,8 +1,10 @@
 ghost use Rattle.std.specs.Prelude.{◌≡◌, ◌≤◌, ◌+◌};
 ghost use Rattle.news_terms.specs.Places.{size_of};
 
-/// The octets of a text that one block holds.
-const CHUNK_OCTETS: u32 = 480;
+use cyc_block::CHUNK_OCTETS;
+
+/// The octets of a text that one block holds, as articles' lengths are counted.
+const CHUNK_LENGTH: u32 = CHUNK_OCTETS as u32;
 
 /// Where an article begins in its buffer.
 #[derive(Clone, Copy, Debug)]
@@ -70,5 +72,5 @@ impl Line {
 pub(crate) fn size_of(length: u32) -> u32
     ensures { result ≡ size_of length }
 {
-    length.div_ceil(CHUNK_OCTETS)
+    length.div_ceil(CHUNK_LENGTH)
 }

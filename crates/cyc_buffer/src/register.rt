@@ -72,9 +72,11 @@ impl Register {
     ghost use Rattle.cyc_buffer.specs.History.{History, new_history, with_begin, with_finish};
     ghost use Rattle.cyc_buffer.specs.History.{head_past};
     ghost use Rattle.cyc_buffer.specs.Marks.{is_marked, marked_after};
-    ghost use Rattle.cyc_buffer.specs.Progress.{IsTheOpen, written_of, has_failed, started, counted, failed};
+    ghost use Rattle.cyc_buffer.specs.Progress.{IsTheOpen, written_of, has_failed, started};
+    ghost use Rattle.cyc_buffer.specs.Progress.{counted, failed};
     ghost use Rattle.cyc_buffer.specs.Progress.{stamp_of};
-    ghost use Rattle.cyc_buffer.specs.Register.{Keeps, buffer_of, mark_passed, line_head, place_view, Stays};
+    ghost use Rattle.cyc_buffer.specs.Register.{Keeps, buffer_of, mark_passed, line_head};
+    ghost use Rattle.cyc_buffer.specs.Register.{place_view, Stays};
 
     /// The register of a buffer in which nothing was begun.
     pub(crate) fn new(
@@ -254,7 +256,7 @@ impl Register {
     }
 
     /// Finishes the open write.
-    #[tactic(auto, using(crate::proofs::OpenLemmas::open_end, crate::proofs::OpenLemmas::open_start))]
+    #[tactic(auto, using(crate::proofs::OpenLemmas::open_place))]
     pub(crate) fn finish(&mut self, write: Open) -> Token
         requires open { IsTheOpen write self.old.progress }
         requires written { written_of self.old.progress ≡ size_of write.token.length }

@@ -1,5 +1,5 @@
 -- Dates and times of day of moments from the first of 1970 on.
-use Rattle.std.proofs.Common.{◌≡◌, ℕ, refl, sym, subst, arith}
+use Rattle.std.proofs.Common.{◌≡◌, ℕ, sym, subst, arith}
 use Rattle.std.proofs.Common.{ℤ, pos, ◌*ℤ◌, ◌≤ℤ◌}
 use Rattle.std.specs.Prelude.{unsigned_abs}
 use Rattle.std.proofs.lemmas.Int.{by_lt_z}
@@ -9,11 +9,12 @@ use Rattle.jiff_core.specs.Calendar.{IsCivilDate}
 use Rattle.jiff_core.specs.Date.{epoch_day}
 use Rattle.jiff_core.specs.DateTime.{civil_nanos}
 use Rattle.jiff_core.proofs.SignedLemmas.{signed_arith, unsigned_abs-parts, one_part}
-use Rattle.jiff_core.proofs.CalendarLemmas.{day_count-epoch, days_from_civil-day_count, day_count-lt_year}
-use Rattle.jiff_core.proofs.DateLemmas.{civil, epoch_day_injective}
+use Rattle.jiff_core.proofs.CalendarLemmas.{day_count-epoch, days_from_civil-day_count}
+use Rattle.jiff_core.proofs.CalendarLemmas.{day_count-lt_year}
+use Rattle.jiff_core.proofs.DateLemmas.{civil}
 use Rattle.jiff_core.proofs.DateTimeLemmas.{civil_nanos-parts, time_nanos_bound}
-use Rattle.news_terms.specs.Dates.{CivilTime, fourteen_digits}
-use Rattle.date_rules.specs.Stamps.{IsCivilTimeOf, civil_time}
+use Rattle.news_terms.specs.Stamps.{IsCivilTimeOf}
+use Rattle.date_rules.specs.Stamps.{civil_time}
 
 -- a date that is not before the first of 1970 is of no year before it
 pub year_from_1970 : (d : Date) → pos 0 ≤ℤ epoch_day d → pos 1970 ≤ℤ d.year
@@ -47,38 +48,3 @@ civil_time_of now d e =
       is_second = d.time.second_in;
       is_now = rw year (omega (arith, signed_arith, parts, e));
     }
-
--- the date of a moment
-date_of : (now : ℕ) (t : CivilTime) → IsCivilTimeOf now t → Date
-date_of now t h = record {
-  year = pos t.year;
-  month = t.month;
-  day = t.day;
-  year_in = h.is_date.0;
-  month_in = h.is_date.1;
-  day_in = h.is_date.2;
-}
-
--- two dates and times of day of one moment have the same digits
-pub same_digits : (now : ℕ) (a b : CivilTime) → IsCivilTimeOf now a → IsCivilTimeOf now b
-    → fourteen_digits a ≡ fourteen_digits b
-unfolding date_of
-same_digits now a b g h =
-    let a_now = g.is_now in
-    let b_now = h.is_now in
-    let a_hour = g.is_hour in
-    let a_minute = g.is_minute in
-    let a_second = g.is_second in
-    let b_hour = h.is_hour in
-    let b_minute = h.is_minute in
-    let b_second = h.is_second in
-    let days : epoch_day (date_of now a g) ≡ epoch_day (date_of now b h) =
-    omega (arith, signed_arith, a_now, b_now) in
-    let date = epoch_day_injective (date_of now a g) (date_of now b h) days in
-    let year : a.year ≡ b.year = omega (arith, signed_arith, date.0) in
-    let month : a.month ≡ b.month = date.1 in
-    let day : a.day ≡ b.day = date.2 in
-    let hour : a.hour ≡ b.hour = omega (arith, signed_arith, a_now, b_now, days) in
-    let minute : a.minute ≡ b.minute = omega (arith, signed_arith, a_now, b_now, days) in
-    let second : a.second ≡ b.second = omega (arith, signed_arith, a_now, b_now, days) in
-    rw (year, month, day, hour, minute, second) refl

@@ -3,7 +3,6 @@
 //! moment that a relay tells as fourteen digits (RFC 3977, section 7.1).
 #![tactic(auto)]
 
-pub mod laws;
 mod reading;
 mod stamps;
 mod window;

@@ -1,8 +1,9 @@
 //! The moment that a relay tells as fourteen digits.
 ghost use Rattle.std.specs.Prelude.{◌≡◌, ◌<◌, ◌≤◌, pos, ◌*ℤ◌};
 ghost use Rattle.news_terms.specs.Dates as terms;
+ghost use Rattle.news_terms.specs.Stamps.{IsStamp};
 ghost use Rattle.jiff_core.specs.DateTime.{civil_nanos};
-ghost use Rattle.date_rules.specs.Stamps.{IsStampOf, civil_time};
+ghost use Rattle.date_rules.specs.Stamps.{civil_time};
 
 use jiff_core::civil::DateTime;
 
@@ -14,7 +15,7 @@ const NANOSECONDS: i128 = 1_000_000_000;
 /// It takes no memory.
 pub fn stamp(now: u64) -> [u8; 14]
     requires { now ≤ 253_370_764_799 }
-    ensures { IsStampOf now result }
+    ensures { IsStamp now result }
 {
     digits(datetime(now))
 }

@@ -5,7 +5,7 @@ use Rattle.news_terms.specs.Command.{Command, AskCapabilities, AskHelp, AskDate,
 use Rattle.news_terms.specs.Command as commands
 use Rattle.news_terms.specs.Lines.{NextLine, Cut, TooLong, Incomplete, next_line}
 use Rattle.first_model.specs.Arrivals.{judged_does, block_does}
-use Rattle.first_model.specs.Claims.{Accepted}
+use Rattle.relay_model.specs.Claims.{Accepted}
 use Rattle.first_model.specs.Lines.{command_does, line_does}
 use Rattle.first_model.specs.State.{Session, Phase, Ready, Owes, Holds, Waits, Fetches, Leaving, Ended, Transfer, Outcome}
 use Rattle.first_model.specs.Terms.{Terms, Reason}

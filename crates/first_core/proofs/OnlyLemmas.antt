@@ -2,10 +2,9 @@
 use Rattle.std.proofs.Common.{◌≡◌, ℕ, Bool, true, false, cond, eqb, ◌||◌, List, Option, None, Some, refl, sym, ap, ◌∙◌}
 use Rattle.std.specs.Prelude.{bytes_eq}
 use Rattle.std.proofs.lemmas.Slice.Eq.{bytes_eq-Decides}
-use Rattle.first_core.specs.Agreement.{OnlyStoring, is_storing}
-use Rattle.first_model.specs.Claims.{Accepted, Claim, Unknown, Offered, Storing, Stored, Refused, Waiting, TakeAnswer, Mine, Held, Had, after_offer, after_refuse, after_release, take_answer, after_take}
-use Rattle.first_model.specs.State.{put_id}
-use Rattle.first_model.specs.Today.{takes_over}
+use Rattle.first_core.specs.Agreement.{OnlyStoring}
+use Rattle.relay_model.specs.Claims.{Accepted, Claim, Unknown, Offered, Storing, Stored, Refused, Waiting, TakeAnswer, Mine, Held, Had, after_offer, after_refuse, after_release, take_answer, after_take, is_storing}
+use Rattle.relay_model.specs.State.{put_id}
 
 -- where nothing is being stored, no id is
 pub only_none : (claim : List ℕ → Claim) → ((id : List ℕ) → is_storing (claim id) ≡ false) → OnlyStoring claim None
@@ -83,18 +82,11 @@ release_stores n (Storing other article stage) storing = storing
 release_stores n (Stored token moment) storing = storing
 release_stores n (Refused moment) storing = storing
 
--- by whether the offered id is the session's to store
-offered_stores : (n : ℕ) (article : Accepted) (other : ℕ) (free : Bool) (answer : TakeAnswer)
-    → answer ≡ cond free Mine Held → (answer ≡ Mine → ⊥)
-    → is_storing (cond free (Storing n article Waiting) (Offered other)) ≡ true → false ≡ true
-offered_stores n article other true answer is apart storing = absurd (apart is)
-offered_stores n article other false answer is apart storing = storing
-
 -- an article that the session isn't to store makes no claim storing
 pub take_stores : (n : ℕ) (article : Accepted) (c : Claim) (answer : TakeAnswer)
     → answer ≡ take_answer n c → (answer ≡ Mine → ⊥) → is_storing (after_take n article c) ≡ true → is_storing c ≡ true
 take_stores n article Unknown answer is apart storing = absurd (apart is)
-take_stores n article (Offered other) answer is apart storing = offered_stores n article other (eqb other n || takes_over) answer is apart storing
+take_stores n article (Offered other) answer is apart storing = absurd (apart is)
 take_stores n article (Storing other had stage) answer is apart storing = storing
 take_stores n article (Stored token moment) answer is apart storing = storing
 take_stores n article (Refused moment) answer is apart storing = storing

@@ -5,7 +5,7 @@ use Rattle.std.proofs.lemmas.Bool.Decides.{nat_tests}
 use Rattle.std.specs.Prelude.{nat_eq, nat_le, nat_lt, is_some, vec_len, if◌then◌else◌}
 use Rattle.std.specs.declared.alloc.Global.{Global}
 use Rattle.news_terms.specs.Reply.{Greeting, reply_text}
-use Rattle.stream_cut.proofs.NextLemmas.{next_line-append, whole-append, oversize-append}
+use Rattle.news_terms.proofs.NextLemmas.{next_line-append, whole-append, oversize-append}
 use Rattle.stream_cut.specs.Stream.{Stream}
 use Rattle.stream_cut.specs.Stream as stream
 use Rattle.stream_cut.specs.declared.cutter.Block.{Block}
@@ -30,11 +30,12 @@ use Rattle.first_core.specs.declared.session.Plan.{Plan}
 use Rattle.first_core.specs.declared.session.Plan.TheVariants as plan
 use Rattle.first_core.specs.declared.session.Session.{Session}
 use Rattle.first_core.specs.declared.system.System.{System}
-use Rattle.first_model.specs.Claims.{Claim}
+use Rattle.relay_model.specs.Claims.{Claim}
 use Rattle.first_model.specs.Run as run
 use Rattle.first_model.specs.Run.{Event, Step, IsRefused, WantsMemory, IsDone, is_there, is_reading, is_running, refusal, opened, new_session}
 use Rattle.first_model.specs.State as model
-use Rattle.first_model.specs.State.{State, put_at}
+use Rattle.first_model.specs.State.{State}
+use Rattle.relay_model.specs.State.{put_at}
 use Rattle.first_model.specs.Terms.{Terms, last_moment}
 use Rattle.first_model.specs.Turns.{with_unread}
 use Rattle.first_model.specs.World as world

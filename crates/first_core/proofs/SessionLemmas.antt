@@ -18,7 +18,7 @@ use Rattle.first_core.specs.declared.session.Phase.TheVariants as phase
 use Rattle.first_core.specs.declared.session.Plan.{Plan}
 use Rattle.first_core.specs.declared.session.Plan.TheVariants as plan
 use Rattle.first_core.specs.declared.session.Session.{Session}
-use Rattle.first_model.specs.Claims.{Accepted}
+use Rattle.relay_model.specs.Claims.{Accepted}
 use Rattle.first_model.specs.Lines.{with_offers}
 use Rattle.first_model.specs.State as model
 use Rattle.first_model.specs.Terms.{Terms, Reason, Size, Grammar, TooLarge}

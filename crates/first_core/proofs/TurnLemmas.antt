@@ -23,8 +23,7 @@ use Rattle.first_core.specs.declared.session.Phase.{Phase}
 use Rattle.first_core.specs.declared.session.Phase.TheVariants as phase
 use Rattle.first_core.specs.declared.session.Session.{Session}
 use Rattle.first_core.specs.declared.system.System.{System}
-use Rattle.first_model.specs.Claims.{Accepted, Claim, Unknown, Offered, Storing, Stored, Refused, Waiting, OfferAnswer, Wanted, Later, Seen, TakeAnswer, Mine, Held, offer_answer, after_offer, after_refuse, look_answer, take_answer, after_take}
-use Rattle.first_model.specs.Today.{takes_over}
+use Rattle.relay_model.specs.Claims.{Accepted, Claim, Unknown, Offered, Storing, Stored, Refused, Waiting, OfferAnswer, Wanted, Later, Seen, TakeAnswer, Mine, Held, offer_answer, after_offer, after_refuse, look_answer, take_answer, after_take}
 use Rattle.first_model.specs.Arrivals.{taken_does, with_job}
 use Rattle.first_model.specs.Verdict.{accepted_text}
 use Rattle.stream_cut.specs.declared.cutter.Block.{Block}
@@ -34,7 +33,7 @@ use Rattle.first_model.specs.Fetches.{Fetched, Gone, NotKnown, Article, fetched}
 use Rattle.first_model.specs.Lines.{check_answered, look_does, fetch_replied, with_offers}
 use Rattle.first_model.specs.Says.{says}
 use Rattle.first_model.specs.State as model
-use Rattle.first_model.specs.State.{put_id, put_at}
+use Rattle.relay_model.specs.State.{put_id, put_at}
 use Rattle.first_model.specs.Terms.{Terms, Reason}
 use Rattle.first_model.specs.World.{World, Next, Sent, Quiet, Ended, with_session, with_claim, in_phase}
 use Rattle.first_model.specs.World as world
@@ -246,11 +245,7 @@ one_buffer w system x core = record {
 
 taken_storing : (n : ℕ) (article : Accepted) (claim : Claim) → take_answer n claim ≡ Mine → after_take n article claim ≡ Storing n article Waiting
 taken_storing n article Unknown is = refl
-taken_storing n article (Offered other) is = taken_by n article other (eqb other n || takes_over) is
-  where
-    taken_by : (n : ℕ) (article : Accepted) (other : ℕ) (free : Bool) → cond free Mine Held ≡ Mine → cond free (Storing n article Waiting) (Offered other) ≡ Storing n article Waiting
-    taken_by n article other true is = refl
-    taken_by n article other false is = cc
+taken_storing n article (Offered other) is = refl
 taken_storing n article (Storing other had stage) is = cc
 taken_storing n article (Stored token moment) is = cc
 taken_storing n article (Refused moment) is = cc

@@ -11,7 +11,7 @@ use Rattle.id_history.specs.Shard.{Keeps, ChangesClaim}
 use Rattle.id_history.specs.declared.claims.Shard.{Shard}
 use Rattle.news_terms.specs.Places as places
 use Rattle.news_terms.specs.Token as tokens
-use Rattle.first_core.specs.Agreement.{Agrees, AgreesBy, Around, Awaits, Core, IsWaiting, IsWrite, Meets, Place, Nowhere, InHand, InQueue, AtWriter, IsWhole, IsSettled, InSlot, OnlyStoring, QueueIs, SlotIs, Steps, Unopened, WriterIs, is_storing}
+use Rattle.first_core.specs.Agreement.{Agrees, AgreesBy, Around, Awaits, Core, IsWaiting, IsWrite, Meets, Place, Nowhere, InHand, InQueue, AtWriter, IsWhole, IsSettled, InSlot, OnlyStoring, QueueIs, SlotIs, Steps, Unopened, WriterIs}
 use Rattle.first_core.specs.Agreement as agreement
 use Rattle.first_core.proofs.OnlyLemmas.{only_gone, only_put}
 use Rattle.first_core.specs.Session.{Stands, IsPhase, IsShort}
@@ -30,11 +30,11 @@ use Rattle.first_core.specs.declared.session.Phase.{Phase}
 use Rattle.first_core.specs.declared.session.Phase.TheVariants as phase
 use Rattle.first_core.specs.declared.session.Session.{Session}
 use Rattle.first_core.specs.declared.system.System.{System}
-use Rattle.first_model.specs.Claims.{Accepted, Claim, Unknown, Storing, Stored, Waiting, Begun, Whole, after_settle, after_forget, is_storing_for}
+use Rattle.relay_model.specs.Claims.{Accepted, Claim, Unknown, Storing, Stored, Waiting, Begun, Whole, after_settle, after_forget, is_storing, is_storing_for}
 use Rattle.first_model.specs.Pace as pace
 use Rattle.first_model.specs.Run.{Step, IsRefused, WantsMemory, IsDone, refusal}
 use Rattle.first_model.specs.Run as run
-use Rattle.first_model.specs.State.{put_at, put_id}
+use Rattle.relay_model.specs.State.{put_at, put_id}
 use Rattle.first_model.specs.State as model
 use Rattle.first_model.specs.Terms.{Terms, last_moment}
 use Rattle.first_model.specs.Verdict.{accepted_text}

@@ -5,7 +5,7 @@ use Rattle.first_core.specs.Session.{Stands, IsShort}
 use Rattle.first_core.specs.declared.job.Job.{Job}
 use Rattle.first_core.specs.declared.session.Phase.TheVariants as phase
 use Rattle.first_core.specs.declared.session.Session.{Session}
-use Rattle.first_model.specs.Claims.{OfferAnswer, Wanted, Later, Seen}
+use Rattle.relay_model.specs.Claims.{OfferAnswer, Wanted, Later, Seen}
 use Rattle.first_model.specs.Lines.{with_offer, without_offer}
 use Rattle.first_model.specs.State as model
 use Rattle.first_model.specs.Terms.{Terms}

@@ -20,7 +20,7 @@ use Rattle.first_core.specs.declared.session.Phase.{Phase}
 use Rattle.first_core.specs.declared.session.Phase.TheVariants as phase
 use Rattle.first_core.specs.declared.session.Plan.{Plan}
 use Rattle.first_core.specs.declared.system.System.{System}
-use Rattle.first_model.specs.Claims.{Claim, Unknown, Offered, Storing, Stored, Refused, Waiting, Whole, look_answer}
+use Rattle.relay_model.specs.Claims.{Claim, Unknown, Storing, Stored, Waiting, Whole, is_storing, look_answer}
 use Rattle.first_model.specs.Fetches.{fetched}
 use Rattle.news_terms.specs.Token as tokens
 use Rattle.first_model.specs.Pace as pace
@@ -30,14 +30,6 @@ use Rattle.first_model.specs.Terms.{Terms}
 use Rattle.first_model.specs.Verdict.{accepted_text}
 use Rattle.first_model.specs.World.{World, Next}
 use Rattle.first_model.specs.World as world
-
--- an id is being stored
-abbrev pub is_storing : Claim → Bool
-is_storing Unknown = false
-is_storing (Offered session) = false
-is_storing (Storing session article stage) = true
-is_storing (Stored token moment) = false
-is_storing (Refused moment) = false
 
 -- an id that is being stored is this one
 abbrev pub OnlyStoring : (List ℕ → Claim) → Option (List ℕ) → Type 0

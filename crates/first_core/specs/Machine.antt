@@ -9,7 +9,7 @@ use Rattle.news_terms.specs.Lines.{NextLine, Cut, TooLong, Incomplete, next_line
 use Rattle.news_terms.specs.Reply.{Reply, Bye, NoGroup, UnknownCommand, SyntaxError, LineTooLong}
 use Rattle.news_terms.specs.Token.{Token}
 use Rattle.first_model.specs.Arrivals.{judged_does, take_does}
-use Rattle.first_model.specs.Claims.{Accepted, look_answer}
+use Rattle.relay_model.specs.Claims.{Accepted, look_answer}
 use Rattle.first_model.specs.Lines.{check_does, look_does, fetch_does, with_offers, without_offer}
 use Rattle.first_model.specs.Says.{goes_on, says, ends, rests}
 use Rattle.first_model.specs.State.{Session, Phase, Ready, Owes, Holds, Waits, Fetches, Leaving, Ended, Transfer, TakesThis, Asked, Whether, Outcome}

@@ -5,7 +5,7 @@ use Rattle.std.proofs.lemmas.List.Elements.{All-weaker}
 use Rattle.std.proofs.lemmas.Option.{same_Some}
 use Rattle.news_terms.specs.Places.{Buffer, Place, on_line, size_of}
 use Rattle.news_terms.specs.Token.{Token}
-use Rattle.first_model.specs.Claims.{Accepted}
+use Rattle.relay_model.specs.Claims.{Accepted}
 use Rattle.first_model.specs.Fetches.{front_of}
 use Rattle.first_model.specs.State.{State, Kept}
 use Rattle.first_model.specs.Terms.{Terms}

@@ -1,9 +1,8 @@
 -- A session's step leaves a claim, or leads from one early claim to another.
-use Rattle.std.proofs.Common.{◌≡◌, ℕ, ◌==◌, ◌||◌, Bool, true, false, List, if◌then◌else◌, ◌⊎◌, inl, inr, refl, subst, sym}
-use Rattle.first_model.specs.Claims.{Accepted, Claim, Unknown, Offered, Storing, Stored, Refused, Waiting, Begun, Failed, Whole, after_offer, after_take, after_refuse, after_release}
+use Rattle.std.proofs.Common.{◌≡◌, ℕ, ◌==◌, Bool, true, false, List, if◌then◌else◌, ◌⊎◌, inl, inr, refl, subst, sym}
+use Rattle.relay_model.specs.Claims.{Accepted, Claim, Unknown, Offered, Storing, Stored, Refused, Waiting, Begun, Failed, Whole, after_offer, after_take, after_refuse, after_release}
 use Rattle.first_model.specs.State.{Session}
 use Rattle.first_model.specs.Terms.{Terms}
-use Rattle.first_model.specs.Today.{takes_over}
 use Rattle.first_laws.specs.Effects.{Touches, Offers, Refuses, Takes, TakesHeld, Releases}
 
 -- nothing is begun for the message-id
@@ -40,12 +39,7 @@ offer_early s (Refused moment) = inl refl
 take_early : (s : ℕ) (article : Accepted) (claim : Claim)
     → Stays_or_early claim (after_take s article claim)
 take_early s article Unknown = inr (refl, refl)
-take_early s article (Offered other) =
-    inr (
-      refl,
-      either_early (other == s || takes_over) (Storing s article Waiting) (Offered other)
-          refl refl,
-    )
+take_early s article (Offered other) = inr (refl, refl)
 take_early s article (Storing other stored stage) = inl refl
 take_early s article (Stored token moment) = inl refl
 take_early s article (Refused moment) = inl refl

@@ -5,7 +5,7 @@ use Rattle.news_terms.specs.PlaceExamples.{eight}
 use Rattle.news_terms.specs.Places.{Place}
 use Rattle.news_terms.specs.Reply.{Greeting, Kept, reply_text}
 use Rattle.news_terms.specs.Token.{Token}
-use Rattle.first_model.specs.Claims.{Accepted}
+use Rattle.relay_model.specs.Claims.{Accepted}
 use Rattle.first_model.specs.Pace.{Writes, Pops, StoresWhole, Settles, Answers, popped, writer_at, answered}
 use Rattle.first_model.specs.Run.{Step, IsDone, Turn, Write, refusal, opened, new_session}
 use Rattle.first_model.specs.State.{State, Session}

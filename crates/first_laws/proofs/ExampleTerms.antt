@@ -6,7 +6,7 @@ use Rattle.std.proofs.lemmas.Option.{same_Some, none-some}
 use Rattle.news_terms.specs.Fronts.{FitsGroup}
 use Rattle.news_terms.specs.PlaceExamples.{eight, one_of_eight}
 use Rattle.news_terms.specs.Places.{Buffer, Group, size_of}
-use Rattle.first_model.specs.Claims.{Accepted}
+use Rattle.relay_model.specs.Claims.{Accepted}
 use Rattle.first_model.specs.Terms.{Grammar, TooLarge}
 use Rattle.first_model.specs.Verdict.{accepted_text, verdict_today}
 use Rattle.first_laws.specs.Example.{eight_blocks, some_token, twice_full}

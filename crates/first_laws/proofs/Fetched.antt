@@ -4,7 +4,7 @@ use Rattle.std.proofs.lemmas.Bool.{leb-false, ltb-false}
 use Rattle.std.proofs.lemmas.Option.{same_Some}
 use Rattle.news_terms.specs.Places.{Buffer, on_line, size_of}
 use Rattle.news_terms.specs.Token.{Token, same_token}
-use Rattle.first_model.specs.Fetches.{Fetched, Gone, NotKnown, Article, text_of, whole_under, fetched_at, fetched_in, fetched, buffer_of, front_of}
+use Rattle.first_model.specs.Fetches.{Fetched, Gone, NotKnown, Article, text_of, whole_under, fetched_in, fetched, buffer_of, front_of}
 use Rattle.first_model.specs.State.{State, Kept}
 use Rattle.first_model.specs.Terms.{Terms}
 use Rattle.first_laws.specs.Rules.{IsKeptUnder}

@@ -5,8 +5,9 @@ use Rattle.std.proofs.lemmas.List.Elements.{All-push, All-nil}
 use Rattle.std.proofs.lemmas.Option.{same_Some, none-some}
 use Rattle.news_terms.specs.Fronts.{FitsGroup}
 use Rattle.news_terms.specs.Places.{Group, size_of}
-use Rattle.first_model.specs.Claims.{Accepted, Claim, Unknown, Storing, Stored, Stage, Waiting, Begun, Failed}
-use Rattle.first_model.specs.State.{State, Session, Phase, Ready, Owes, Holds, Waits, Fetches, Leaving, Ended, Outcome, IsKept, HasFailed, put_id, put_at}
+use Rattle.relay_model.specs.Claims.{Accepted, Claim, Unknown, Storing, Stored, Stage, Waiting, Begun, Failed}
+use Rattle.first_model.specs.State.{State, Session, Phase, Ready, Owes, Holds, Waits, Fetches, Leaving, Ended, Outcome, IsKept, HasFailed}
+use Rattle.relay_model.specs.State.{put_id, put_at}
 use Rattle.first_model.specs.Terms.{Terms}
 use Rattle.first_model.specs.World.{empty_world}
 use Rattle.first_model.specs.Writes.{told, session_told, phase_told}

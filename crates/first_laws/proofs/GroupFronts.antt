@@ -8,7 +8,8 @@ use Rattle.news_terms.specs.Places.{Buffer, Group, Place, next_place, with_exten
 use Rattle.news_terms.proofs.Extents.{extents_after_push}
 use Rattle.news_terms.proofs.FrontLaws.{next_among}
 use Rattle.first_model.specs.Fetches.{extents_from, front_of}
-use Rattle.first_model.specs.State.{State, put_at}
+use Rattle.first_model.specs.State.{State}
+use Rattle.relay_model.specs.State.{put_at}
 use Rattle.first_model.specs.Terms.{Terms}
 use Rattle.first_laws.specs.Sound.{IsBufferAt, IsSound}
 use Rattle.first_laws.proofs.Puts.{put_at_here, put_at_there}

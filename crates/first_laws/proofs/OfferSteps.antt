@@ -1,12 +1,11 @@
 -- What a session's step does to its open offers, and to what is offered to it.
 use Rattle.std.proofs.Common.{◌≡◌, ◌∙◌, ℕ, Bool, true, false, not, List, [], ◌∷◌, ◌++◌, ◌==◌, ◌||◌, bytes_eq, ◌⊎◌, inl, inr, if◌then◌else◌, refl, sym, ap, subst, eqb-true}
-use Rattle.std.proofs.lemmas.Bool.{cond_both, cases_Bool, cond-true, or_left, or_right, or_parts, eqb-false, false≢true, not_from_false, false_from_ne_true}
+use Rattle.std.proofs.lemmas.Bool.{cond_both, cases_Bool, cond-true, or_left, or_right, eqb-false, false≢true, not_from_false, false_from_ne_true}
 use Rattle.std.proofs.lemmas.List.Folds.{list_any-append}
-use Rattle.first_model.specs.Claims.{Accepted, Claim, Unknown, Offered, Storing, Stored, Refused, Waiting, after_offer, after_take, after_refuse, after_release, offer_answer, OfferAnswer, Wanted, Later, Seen}
+use Rattle.relay_model.specs.Claims.{Accepted, Claim, Unknown, Offered, Storing, Stored, Refused, after_offer, after_take, after_refuse, after_release, offer_answer, OfferAnswer, Wanted, Later, Seen}
 use Rattle.first_model.specs.Lines.{is_open, with_offer, without_offer}
 use Rattle.first_model.specs.State.{Session}
 use Rattle.first_model.specs.Terms.{Terms}
-use Rattle.first_model.specs.Today.{takes_over}
 use Rattle.first_laws.specs.Effects.{Touches, Offers, Refuses, Takes, TakesHeld, Releases, offers_answered}
 use Rattle.first_laws.proofs.Puts.{same_id, is_itself}
 
@@ -153,9 +152,7 @@ pub take_offered : (s t : ℕ) (article : Accepted) (claim : Claim)
     → after_take s article claim ≡ Offered t
     → Was_offered s t claim
 take_offered s t article Unknown e = absurd (cc)
-take_offered s t article (Offered other) e =
-    stays_offered (other == s || takes_over) s t other (Storing s article Waiting) (λ same. cc)
-    (λ tested. (or_parts (other == s) takes_over tested).0) e
+take_offered s t article (Offered other) e = absurd (cc)
 take_offered s t article (Storing other stored stage) e = absurd (cc)
 take_offered s t article (Stored token moment) e = absurd (cc)
 take_offered s t article (Refused moment) e = absurd (cc)

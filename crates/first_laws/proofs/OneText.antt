@@ -6,8 +6,9 @@ use Rattle.std.proofs.lemmas.List.Elements.{All-push, All-nil, All-weaker}
 use Rattle.std.proofs.lemmas.List.Sums.{sum_by_push}
 use Rattle.news_terms.specs.Places.{Place}
 use Rattle.news_terms.specs.Token.{Token, same_token}
-use Rattle.first_model.specs.Claims.{Accepted, Claim, Unknown, Storing, Stored, Waiting, Begun, Failed, Whole}
-use Rattle.first_model.specs.State.{State, Session, Kept, put_id}
+use Rattle.relay_model.specs.Claims.{Accepted, Claim, Unknown, Storing, Stored, Waiting, Begun, Failed, Whole}
+use Rattle.first_model.specs.State.{State, Session, Kept}
+use Rattle.relay_model.specs.State.{put_id}
 use Rattle.first_model.specs.Terms.{Terms}
 use Rattle.first_model.specs.World.{empty_world}
 use Rattle.first_model.specs.Writes.{token_at, begun_at, stored_under}

@@ -2,10 +2,11 @@
 use Rattle.std.proofs.Common.{◌≡◌, ◌∙◌, ℕ, true, false, List, Option, None, Some, ◌⊎◌, inl, inr, refl, sym, ap, subst}
 use Rattle.std.proofs.lemmas.Bool.{cases_eq, false≢true}
 use Rattle.std.proofs.lemmas.Option.{same_Some, none-some}
-use Rattle.first_model.specs.Claims.{Claim, Unknown, Offered, Stored}
+use Rattle.relay_model.specs.Claims.{Claim, Unknown, Offered, Stored}
 use Rattle.first_model.specs.Lines.{is_open}
 use Rattle.first_model.specs.Run.{new_session}
-use Rattle.first_model.specs.State.{State, Session, Outcome, IsKept, HasFailed, put_id, put_at}
+use Rattle.first_model.specs.State.{State, Session, Outcome, IsKept, HasFailed}
+use Rattle.relay_model.specs.State.{put_id, put_at}
 use Rattle.first_model.specs.Terms.{Terms}
 use Rattle.first_model.specs.Today.{is_number_taken}
 use Rattle.first_model.specs.World.{empty_world}

@@ -2,7 +2,7 @@
 use Rattle.std.proofs.Common.{◌≡◌, ℕ, true, false, List, bytes_eq, ◌==◌, refl}
 use Rattle.std.proofs.lemmas.Bool.{cond_both, eqb-true, eqb-false}
 use Rattle.std.proofs.lemmas.Slice.Eq.{bytes_eq-Decides}
-use Rattle.first_model.specs.State.{put_id, put_at}
+use Rattle.relay_model.specs.State.{put_id, put_at}
 
 -- what holds of the new value there and of the old ones elsewhere holds everywhere
 pub put_id_both : {A : Type 0} (P : A → Type 0) (f : List ℕ → A) (k : List ℕ) (v : A) (x : List ℕ)

@@ -6,9 +6,10 @@ use Rattle.news_terms.specs.Fronts.{IsAmongBuffers}
 use Rattle.news_terms.specs.Places.{Buffer, Place, next_place, extents, front_after, on_line, size_of}
 use Rattle.news_terms.proofs.Extents.{front_here}
 use Rattle.news_terms.proofs.FrontLaws.{next_among, next_at_or_past}
-use Rattle.first_model.specs.Claims.{Accepted, Waiting}
+use Rattle.relay_model.specs.Claims.{Accepted, Waiting}
 use Rattle.first_model.specs.Fetches.{front_of}
-use Rattle.first_model.specs.State.{State, put_at}
+use Rattle.first_model.specs.State.{State}
+use Rattle.relay_model.specs.State.{put_at}
 use Rattle.first_model.specs.Terms.{Terms}
 use Rattle.first_model.specs.Writes.{Begins}
 use Rattle.first_laws.specs.Effects.{Effect, Opens, GoesOn, TouchesOne, HasBegun, HasStored, HasNotStored, HasAccepted, HasAbandonedFailed, HasAbandonedWorn}

@@ -2,8 +2,9 @@
 use Rattle.std.proofs.Common.{◌≡◌, ◌∙◌, ℕ, ◌+◌, ◌≤◌, true, List, [], ◌∷◌, ◌++◌, bytes_eq, count_by, ◌⊎◌, inl, inr, cond, refl, sym, ap, subst, add-zero, le_of_eq, zero-le, le_refl, le_trans}
 use Rattle.std.proofs.lemmas.Bool.{false≢true}
 use Rattle.std.proofs.lemmas.List.Sums.{sum_by_push}
-use Rattle.first_model.specs.Claims.{Claim, Unknown, Offered, Storing, Stored, Refused, Waiting, Begun, Failed, Whole}
-use Rattle.first_model.specs.State.{State, Session, Kept, put_id}
+use Rattle.relay_model.specs.Claims.{Claim, Unknown, Offered, Storing, Stored, Refused, Waiting, Begun, Failed, Whole}
+use Rattle.first_model.specs.State.{State, Session, Kept}
+use Rattle.relay_model.specs.State.{put_id}
 use Rattle.first_model.specs.Terms.{Terms}
 use Rattle.first_model.specs.World.{empty_world}
 use Rattle.first_laws.specs.Effects.{Effect, Opens, GoesOn, TouchesOne, HasBegun, HasStored, HasNotStored, HasAccepted, HasAbandonedFailed, HasAbandonedWorn, Touches}

@@ -1,9 +1,8 @@
 -- What a session's step does to an article that is being stored: it stays, or begins to wait.
-use Rattle.std.proofs.Common.{◌≡◌, ◌∙◌, ℕ, Bool, true, false, ◌==◌, ◌||◌, List, Some, if◌then◌else◌, ◌⊎◌, inl, inr, sym, ap, subst}
-use Rattle.first_model.specs.Claims.{Accepted, Claim, Unknown, Offered, Storing, Stored, Refused, Stage, Waiting, after_offer, after_take, after_refuse, after_release}
+use Rattle.std.proofs.Common.{◌≡◌, ◌∙◌, ℕ, Bool, true, false, ◌==◌, List, Some, if◌then◌else◌, ◌⊎◌, inl, inr, sym, ap, subst}
+use Rattle.relay_model.specs.Claims.{Accepted, Claim, Unknown, Offered, Storing, Stored, Refused, Stage, Waiting, after_offer, after_take, after_refuse, after_release}
 use Rattle.first_model.specs.State.{Session}
 use Rattle.first_model.specs.Terms.{Terms}
-use Rattle.first_model.specs.Today.{takes_over}
 use Rattle.first_laws.specs.Effects.{Touches, Offers, Refuses, Takes, TakesHeld, Releases, held_article}
 use Rattle.first_laws.specs.Sound.{ArticleFits, IsSound}
 
@@ -55,13 +54,7 @@ take_storing : (s : ℕ) (taken : Accepted) (t : ℕ) (article : Accepted) (stag
     (claim : Claim)
     → after_take s taken claim ≡ Storing t article stage → Was_or_waits taken t article stage claim
 take_storing s taken t article stage Unknown e = inr (cc, cc)
-take_storing s taken t article stage (Offered other) e = by_test (other == s || takes_over) e
-  where
-    by_test : (test : Bool)
-        → (if test then Storing s taken Waiting else Offered other) ≡ Storing t article stage
-        → Was_or_waits taken t article stage (Offered other)
-    by_test true is = inr (cc, cc)
-    by_test false is = absurd (cc)
+take_storing s taken t article stage (Offered other) e = inr (cc, cc)
 take_storing s taken t article stage (Storing other had at) e = inl e
 take_storing s taken t article stage (Stored token moment) e = absurd (cc)
 take_storing s taken t article stage (Refused moment) e = absurd (cc)

@@ -3,8 +3,9 @@ use Rattle.std.proofs.Common.{◌≡◌, ◌∙◌, ℕ, ◌≤◌, ◌&&◌, Bo
 use Rattle.std.proofs.lemmas.Bool.{and_parts}
 use Rattle.std.proofs.lemmas.Option.{none-some}
 use Rattle.news_terms.specs.Token.{Token, same_token}
-use Rattle.first_model.specs.Claims.{Accepted, Claim, Unknown, Offered, Storing, Stored, Refused, Stage, Waiting, Begun, Failed, Whole}
-use Rattle.first_model.specs.State.{State, Session, Kept, put_id}
+use Rattle.relay_model.specs.Claims.{Accepted, Claim, Unknown, Offered, Storing, Stored, Refused, Stage, Waiting, Begun, Failed, Whole}
+use Rattle.first_model.specs.State.{State, Session, Kept}
+use Rattle.relay_model.specs.State.{put_id}
 use Rattle.first_model.specs.Terms.{Terms}
 use Rattle.first_laws.specs.Effects.{Touches}
 use Rattle.first_laws.specs.Laws.{is_at, OneTextAPlace}

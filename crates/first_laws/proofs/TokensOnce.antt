@@ -7,8 +7,9 @@ use Rattle.std.proofs.lemmas.List.Sums.{sum_by_push, sum_by-cons}
 use Rattle.std.proofs.lemmas.Option.{same_Some, none-some}
 use Rattle.std.specs.List.{list_any}
 use Rattle.news_terms.specs.Token.{Token, same_token}
-use Rattle.first_model.specs.Claims.{Accepted, Unknown, Storing, Stored, Waiting, Begun, Failed, Whole}
-use Rattle.first_model.specs.State.{State, put_id}
+use Rattle.relay_model.specs.Claims.{Accepted, Unknown, Storing, Stored, Waiting, Begun, Failed, Whole}
+use Rattle.first_model.specs.State.{State}
+use Rattle.relay_model.specs.State.{put_id}
 use Rattle.first_model.specs.Terms.{Terms}
 use Rattle.first_model.specs.World.{empty_world}
 use Rattle.first_model.specs.Writes.{stored_under, accepted_as}

@@ -8,7 +8,7 @@ use Rattle.news_terms.specs.Command as commands
 use Rattle.news_terms.specs.Lines.{NextLine, Cut, TooLong, Incomplete, next_line}
 use Rattle.news_terms.specs.Token.{Token}
 use Rattle.first_model.specs.Arrivals.{taken_does, judged_does, block_does}
-use Rattle.first_model.specs.Claims.{Accepted, OfferAnswer, Wanted, Later, Seen, TakeAnswer, Mine, Held, Had, offer_answer, after_offer, take_answer, after_take, after_refuse, after_release, look_answer}
+use Rattle.relay_model.specs.Claims.{Accepted, OfferAnswer, Wanted, Later, Seen, TakeAnswer, Mine, Held, Had, offer_answer, after_offer, take_answer, after_take, after_refuse, after_release, look_answer}
 use Rattle.first_model.specs.Fetches.{Fetched, Gone, NotKnown, Article, fetched}
 use Rattle.first_model.specs.Lines.{check_answered, check_does, is_full, fetch_replied, look_does, command_does, line_does, with_offer, without_offer, with_offers}
 use Rattle.first_model.specs.Says.{says}

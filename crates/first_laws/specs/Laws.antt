@@ -3,7 +3,7 @@ use Rattle.std.specs.Prelude.{◌≡◌, ℕ, ◌≤◌, ◌==◌, ◌&&◌, nat
 use Rattle.std.specs.List.{list_any}
 use Rattle.news_terms.specs.Places.{Buffer, IsGone, on_line}
 use Rattle.news_terms.specs.Token.{Token, same_token}
-use Rattle.first_model.specs.Claims.{Claim, Unknown, Offered, Storing, Stored, Refused, Stage, Waiting, Begun, Failed, Whole}
+use Rattle.relay_model.specs.Claims.{Claim, Unknown, Offered, Storing, Stored, Refused, Stage, Waiting, Begun, Failed, Whole}
 use Rattle.first_model.specs.Fetches.{Gone, fetched, buffer_of, front_of}
 use Rattle.first_model.specs.Lines.{is_open}
 use Rattle.first_model.specs.Run.{Event, Run}

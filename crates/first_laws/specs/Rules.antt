@@ -3,7 +3,7 @@
 use Rattle.std.specs.Prelude.{◌≡◌, ℕ, ◌==◌, ◌++◌, Bool, true, false, List, ◌∷◌, Some}
 use Rattle.news_terms.specs.Places.{Buffer, IsLive, on_line}
 use Rattle.news_terms.specs.Token.{Token, same_token}
-use Rattle.first_model.specs.Claims.{Claim, Unknown, Offered, Storing, Stored, Refused}
+use Rattle.relay_model.specs.Claims.{Claim, Unknown, Offered, Storing, Stored, Refused}
 use Rattle.first_model.specs.Fetches.{buffer_of, front_of}
 use Rattle.first_model.specs.Run.{Event, Open, Bytes, Turn, Write, Break}
 use Rattle.first_model.specs.State.{State, Kept}

@@ -2,7 +2,7 @@
 use Rattle.std.specs.Prelude.{◌≡◌, ℕ, ◌≤◌, ◌==◌, List, length, All, find, slice_get, Option, Some, Ok}
 use Rattle.news_terms.specs.Fronts.{FitsGroup}
 use Rattle.news_terms.specs.Places.{Buffer, Group, size_of}
-use Rattle.first_model.specs.Claims.{Accepted, Storing, Stage}
+use Rattle.relay_model.specs.Claims.{Accepted, Storing, Stage}
 use Rattle.first_model.specs.State.{State, Session}
 use Rattle.first_model.specs.Terms.{Terms}
 use Rattle.first_laws.specs.Effects.{held_article}

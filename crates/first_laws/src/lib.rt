@@ -4,7 +4,7 @@
 //! verdict is in specs/Sound.antt, and what each rule does to the state is in specs/Effects.antt.
 //!
 //! Beside these stand laws of single rules (src/rules.rt, specs/Rules.antt), each of which a wrong
-//! rule breaks that the laws over runs let through: docs/DEFINITIONS.md lists what was tried.
+//! rule breaks that the laws over runs let through: docs/DECISIONS.md lists what was tried.
 #![tactic(auto)]
 
 pub mod claims;

@@ -2,10 +2,11 @@
 -- Sessions, Judging).
 use Rattle.std.specs.Prelude.{ℕ, List, Option, None, Some, Result, Ok, Err}
 use Rattle.news_terms.specs.Reply.{Reply, Rejected, IhaveRejected, IhaveLater, SyntaxError}
-use Rattle.first_model.specs.Claims.{Accepted, after_refuse, after_take, take_answer, TakeAnswer, Mine, Held, Had}
+use Rattle.relay_model.specs.Claims.{Accepted, after_refuse, after_take, take_answer, TakeAnswer, Mine, Held, Had}
 use Rattle.first_model.specs.Lines.{with_offers, without_offer}
 use Rattle.first_model.specs.Says.{goes_on, says}
-use Rattle.first_model.specs.State.{Session, Ready, Holds, Waits, Transfer, TakesThis, Has, put_at}
+use Rattle.first_model.specs.State.{Session, Ready, Holds, Waits, Transfer, TakesThis, Has}
+use Rattle.relay_model.specs.State.{put_at}
 use Rattle.first_model.specs.Terms.{Terms, Reason}
 use Rattle.first_model.specs.World.{World, Next, with_claim, in_phase}
 

@@ -1,5 +1,4 @@
 pub mod Arrivals
-pub mod Claims
 pub mod Fetches
 pub mod Lines
 pub mod Pace

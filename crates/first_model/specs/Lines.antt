@@ -5,7 +5,7 @@ use Rattle.news_terms.specs.Command.{Command, AskCapabilities, AskHelp, AskDate,
 use Rattle.news_terms.specs.Command as commands
 use Rattle.news_terms.specs.Reply.{Bye, SendIt, AskLater, NotWanted, NoArticle, NoGroup, Exists, UnknownCommand, SyntaxError}
 use Rattle.news_terms.specs.Token.{Token}
-use Rattle.first_model.specs.Claims.{offer_answer, after_offer, look_answer, OfferAnswer, Wanted, Later, Seen}
+use Rattle.relay_model.specs.Claims.{offer_answer, after_offer, look_answer, OfferAnswer, Wanted, Later, Seen}
 use Rattle.first_model.specs.Fetches.{Fetched, Gone, NotKnown, Article, fetched}
 use Rattle.first_model.specs.Says.{goes_on, says, ends}
 use Rattle.first_model.specs.State.{Session, Owes, TakesThis, Whether, Asked}

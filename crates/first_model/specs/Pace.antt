@@ -1,7 +1,8 @@
 -- The pace of the writers today: a job takes four Write events, three where its begin is worn. What
 -- the writers do is in Writes; this says in which events (docs/PROTOCOL.md, Store).
 use Rattle.std.specs.Prelude.{◌≡◌, ℕ, List, [], ◌∷◌, true}
-use Rattle.first_model.specs.State.{State, put_at}
+use Rattle.first_model.specs.State.{State}
+use Rattle.relay_model.specs.State.{put_at}
 use Rattle.first_model.specs.Terms.{Terms}
 use Rattle.first_model.specs.World.{World, Writer, Idle, Popped, Finished, Answering}
 use Rattle.first_model.specs.Writes.{Begins, Stores, Accepts, AbandonsWorn}

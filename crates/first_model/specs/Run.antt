@@ -4,7 +4,8 @@
 use Rattle.std.specs.Prelude.{◌≡◌, ℕ, ◌++◌, nat_lt, nat_le, Bool, true, false, List, [], ◌∷◌, length, Option, None, Some, if◌then◌else◌}
 use Rattle.news_terms.specs.Reply.{Greeting, reply_text}
 use Rattle.first_model.specs.Pace.{Writes}
-use Rattle.first_model.specs.State.{State, Session, Phase, Ready, Owes, Holds, Waits, Fetches, Leaving, Ended, put_at}
+use Rattle.first_model.specs.State.{State, Session, Phase, Ready, Owes, Holds, Waits, Fetches, Leaving, Ended}
+use Rattle.relay_model.specs.State.{put_at}
 use Rattle.first_model.specs.Terms.{Terms, last_moment}
 use Rattle.first_model.specs.Today.{is_number_taken}
 use Rattle.first_model.specs.Turns.{turn_does, with_unread}

@@ -1,8 +1,8 @@
 -- The state of the relay (docs/PROTOCOL.md, Claims, Sessions, Store): what it knows, keeps and has
 -- promised, with all that it ever began, stored and gained.
-use Rattle.std.specs.Prelude.{ℕ, ◌==◌, List, [], Option, None, bytes_eq, if◌then◌else◌}
+use Rattle.std.specs.Prelude.{ℕ, List, [], Option, None}
 use Rattle.news_terms.specs.Token.{Token}
-use Rattle.first_model.specs.Claims.{Accepted, Claim, Unknown}
+use Rattle.relay_model.specs.Claims.{Accepted, Claim, Unknown}
 
 -- a text that is whole on a buffer: its token, which names the buffer, and the id it was stored for
 pub record Kept : Type 0 where
@@ -69,14 +69,6 @@ pub record State : Type 0 where
   pub session : ℕ → Option Session
   -- the number of the newest session
   pub newest : Option ℕ
-
--- f, but v at the message-id k
-abbrev pub put_id : {A : Type 0} → (List ℕ → A) → List ℕ → A → List ℕ → A
-put_id f k v x = if bytes_eq x k then v else f x
-
--- f, but v at the number k
-abbrev pub put_at : {A : Type 0} → (ℕ → A) → ℕ → A → ℕ → A
-put_at f k v x = if x == k then v else f x
 
 -- the state before anything came
 abbrev pub empty_state : State

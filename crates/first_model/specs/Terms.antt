@@ -2,7 +2,7 @@
 -- docs/PROTOCOL.md, Judging, Limits).
 use Rattle.std.specs.Prelude.{ℕ, List, Option, Result}
 use Rattle.news_terms.specs.Places.{Buffer, Group}
-use Rattle.first_model.specs.Claims.{Accepted}
+use Rattle.relay_model.specs.Claims.{Accepted}
 
 -- why an article is refused, in the order of trial
 pub data Reason : Type 0 where

@@ -1,10 +1,6 @@
 -- The rules that stand today where the relay is to have others. More such rules are in Pace, in
 -- Verdict, in look_does and the unserved commands of Lines, and in is_served of news_terms.
-use Rattle.std.specs.Prelude.{ℕ, Bool, false, is_some, Option, None}
-
--- A TAKETHIS doesn't take an offer of another session over yet: it is held.
-abbrev pub takes_over : Bool
-takes_over = false
+use Rattle.std.specs.Prelude.{ℕ, Bool, is_some, Option, None}
 
 -- Open offers have no limit yet.
 abbrev pub offer_limit : Option ℕ

@@ -6,10 +6,11 @@ use Rattle.news_terms.specs.Command.{command_among, is_served}
 use Rattle.news_terms.specs.Lines.{NextLine, Cut, TooLong, Incomplete, next_line}
 use Rattle.news_terms.specs.Reply.{Kept, NotStored, IhaveKept, IhaveLater, LineTooLong}
 use Rattle.first_model.specs.Arrivals.{block_does, take_does}
-use Rattle.first_model.specs.Claims.{after_release}
+use Rattle.relay_model.specs.Claims.{after_release}
 use Rattle.first_model.specs.Lines.{line_does, fetch_does, with_offers}
 use Rattle.first_model.specs.Says.{goes_on, says, ends, rests}
-use Rattle.first_model.specs.State.{Session, Phase, Ready, Owes, Holds, Waits, Fetches, Leaving, Ended, Transfer, TakesThis, Has, Outcome, IsKept, HasFailed, put_at}
+use Rattle.first_model.specs.State.{Session, Phase, Ready, Owes, Holds, Waits, Fetches, Leaving, Ended, Transfer, TakesThis, Has, Outcome, IsKept, HasFailed}
+use Rattle.relay_model.specs.State.{put_at}
 use Rattle.first_model.specs.Terms.{Terms, queue_limit}
 use Rattle.first_model.specs.World.{World, Next, Quiet, Job, with_claim, in_phase}
 

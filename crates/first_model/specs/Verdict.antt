@@ -2,7 +2,7 @@
 -- being empty and its blocks count; the text is stored as it came.
 use Rattle.std.specs.Prelude.{ℕ, ◌==◌, nat_le, List, [], length, Option, None, Some, Result, Ok, Err, if◌then◌else◌}
 use Rattle.news_terms.specs.Places.{size_of}
-use Rattle.first_model.specs.Claims.{Accepted}
+use Rattle.relay_model.specs.Claims.{Accepted}
 use Rattle.first_model.specs.Terms.{Reason, Size, Grammar, TooLarge}
 
 -- an article that goes to group 0 under class 1, permitted for no feed

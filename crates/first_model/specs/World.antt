@@ -1,8 +1,9 @@
 -- The state with the work in hand: what decides when an event has nothing to say (docs/PROTOCOL.md,
 -- Quiet events). The laws speak of the state alone.
 use Rattle.std.specs.Prelude.{ℕ, Bool, false, List, [], Option, None, Some}
-use Rattle.first_model.specs.Claims.{Claim}
-use Rattle.first_model.specs.State.{State, Session, Phase, put_id, put_at, empty_state}
+use Rattle.relay_model.specs.Claims.{Claim}
+use Rattle.first_model.specs.State.{State, Session, Phase, empty_state}
+use Rattle.relay_model.specs.State.{put_id, put_at}
 
 -- an accepted article on its way to the writer of its group
 pub record Job : Type 0 where

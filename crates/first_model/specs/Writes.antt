@@ -3,8 +3,9 @@ use Rattle.std.specs.Prelude.{◌≡◌, ℕ, ◌≤◌, ◌<◌, nat_eq, List, 
 use Rattle.std.specs.List.{list_any}
 use Rattle.news_terms.specs.Places.{Place, next_place, size_of, last_cycle}
 use Rattle.news_terms.specs.Token.{Token}
-use Rattle.first_model.specs.Claims.{Accepted, Claim, Unknown, Storing, Stored, Waiting, Begun, Failed, Whole}
-use Rattle.first_model.specs.State.{State, Session, Phase, Ready, Owes, Holds, Waits, Fetches, Leaving, Ended, Outcome, IsKept, HasFailed, Feed, put_id, put_at}
+use Rattle.relay_model.specs.Claims.{Accepted, Claim, Unknown, Storing, Stored, Waiting, Begun, Failed, Whole}
+use Rattle.first_model.specs.State.{State, Session, Phase, Ready, Owes, Holds, Waits, Fetches, Leaving, Ended, Outcome, IsKept, HasFailed, Feed}
+use Rattle.relay_model.specs.State.{put_id, put_at}
 use Rattle.first_model.specs.Terms.{Terms}
 
 -- the state with this claim on the id

@@ -1,7 +1,7 @@
 -- Each mark is that of some claim.
 use Rattle.std.proofs.Common.{◌≡◌, [], refl}
-use Rattle.first_model.specs.Claims.{Accepted, Claim}
-use Rattle.first_model.specs.Claims as claim
+use Rattle.relay_model.specs.Claims.{Accepted, Claim}
+use Rattle.relay_model.specs.Claims as claim
 use Rattle.id_history.specs.Mark.{Mark, Unknown, Offered, Storing, Stored, Refused, mark_of}
 
 -- an article without a text

@@ -1,6 +1,6 @@
 -- What the answers of a shard stand for in the definitions (docs/PROTOCOL.md, Claims).
-use Rattle.first_model.specs.Claims.{OfferAnswer, TakeAnswer}
-use Rattle.first_model.specs.Claims as claim
+use Rattle.relay_model.specs.Claims.{OfferAnswer, TakeAnswer}
+use Rattle.relay_model.specs.Claims as claim
 use Rattle.cyc_token.specs.declared.Token.{Token}
 use Rattle.id_history.specs.declared.claims.Offer.{Offer}
 use Rattle.id_history.specs.declared.claims.Offer.TheVariants as offer

@@ -3,8 +3,8 @@
 use Rattle.std.specs.Prelude.{ℕ, Option, None, Some}
 use Rattle.news_terms.specs.Token.{Token}
 use Rattle.cyc_token.specs.Token.{token_view}
-use Rattle.first_model.specs.Claims.{Claim}
-use Rattle.first_model.specs.Claims as claim
+use Rattle.relay_model.specs.Claims.{Claim}
+use Rattle.relay_model.specs.Claims as claim
 use Rattle.id_history.specs.declared.claims.Entry.{Entry}
 use Rattle.id_history.specs.declared.claims.Entry.TheVariants as entry
 

@@ -1,6 +1,6 @@
 -- What a change of one entry does to all that a shard has.
 use Rattle.std.specs.Prelude.{◌≡◌, ℕ, List}
-use Rattle.first_model.specs.State.{put_id}
+use Rattle.relay_model.specs.State.{put_id}
 use Rattle.id_history.specs.declared.claims.Shard.{Shard}
 use Rattle.id_history.specs.Mark.{Mark}
 use Rattle.id_history.specs.Shard.{mark_at}

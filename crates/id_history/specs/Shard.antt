@@ -1,8 +1,8 @@
 -- Which claims a shard keeps, and what a call does to them (docs/PROTOCOL.md, Claims).
 use Rattle.std.specs.Prelude.{◌≡◌, ℕ, List}
 use Rattle.std.specs.HashMap.{get_by_text}
-use Rattle.first_model.specs.Claims.{Claim}
-use Rattle.first_model.specs.State.{put_id}
+use Rattle.relay_model.specs.Claims.{Claim}
+use Rattle.relay_model.specs.State.{put_id}
 use Rattle.id_history.specs.declared.claims.Shard.{Shard}
 use Rattle.id_history.specs.Mark.{Mark, mark_of, entry_mark}
 

@@ -1,9 +1,9 @@
 ghost use Rattle.std.specs.Prelude.{◌≡◌, ◌≢◌, Some, is_some, option_map};
 ghost use Rattle.std.specs.Prelude.{IsOk, IfOk, IfSome, OnOk, OnErr};
 ghost use Rattle.cyc_token.specs.Token.{token_view};
-ghost use Rattle.first_model.specs.Claims.{Accepted, Unknown, offer_answer, after_offer};
-ghost use Rattle.first_model.specs.Claims.{take_answer, after_take, after_refuse, after_release};
-ghost use Rattle.first_model.specs.Claims.{after_forget, is_storing_for, after_settle, look_answer};
+ghost use Rattle.relay_model.specs.Claims.{Accepted, Unknown, offer_answer, after_offer};
+ghost use Rattle.relay_model.specs.Claims.{take_answer, after_take, after_refuse, after_release};
+ghost use Rattle.relay_model.specs.Claims.{after_forget, is_storing_for, after_settle, look_answer};
 
 use cyc_token::Token;
 use nntp_text::MsgId;
@@ -27,7 +27,7 @@ pub enum Offer {
 pub enum Take {
     /// The session is to have it stored.
     Mine,
-    /// Another session was told to send it, or it is being stored.
+    /// It is being stored.
     Held,
     /// It is stored or was refused.
     Seen,
@@ -117,8 +117,8 @@ impl Shard {
         }
     }
 
-    /// The session has an accepted article of the id: where the id is unknown or offered to the
-    /// session, it is being stored for the session from now on.
+    /// The session has an accepted article of the id: where the id is unknown or offered, to
+    /// whomever, it is being stored for the session from now on.
     pub fn take(&mut self, id: &MsgId, session: u64) -> Result<Take, AllocError>
         ensures answer { IfOk result (λ answer. OfClaim self.old id.now
             (λ claim. take_view answer ≡ take_answer session claim)) }
@@ -134,11 +134,11 @@ impl Shard {
                 self.add(id, Entry::Storing { session })?;
                 Ok(Take::Mine)
             }
-            Some(Entry::Offered { session: other }) if other == session => {
+            Some(Entry::Offered { .. }) => {
                 self.change(id, Entry::Storing { session });
                 Ok(Take::Mine)
             }
-            Some(Entry::Offered { .. } | Entry::Storing { .. }) => Ok(Take::Held),
+            Some(Entry::Storing { .. }) => Ok(Take::Held),
             Some(Entry::Stored { .. } | Entry::Refused { .. }) => Ok(Take::Seen),
         }
     }

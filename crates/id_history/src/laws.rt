@@ -1,6 +1,6 @@
 //! Laws of what a shard keeps: each is the contract of an empty body.
 ghost use Rattle.std.specs.Prelude.{◌≡◌, ◌↔◌, ℕ, List};
-ghost use Rattle.first_model.specs.Claims.{Claim};
+ghost use Rattle.relay_model.specs.Claims.{Claim};
 ghost use Rattle.id_history.specs.Mark.{mark_of};
 ghost use Rattle.id_history.specs.Shard.{Keeps};
 

@@ -87,7 +87,8 @@ fn failed_and_wanted_again(rt: HostRuntime) -> Result<(), Fail> {
     assert_eq!(rt; shard.offer(&id, 2)?, Offer::Later);
     shard.forget(&id, 1);
     assert_eq!(rt; shard.offer(&id, 2)?, Offer::Wanted);
-    assert_eq!(rt; shard.take(&id, 1)?, Take::Held);
-    assert_eq!(rt; shard.take(&id, 2)?, Take::Mine);
+    // Session 1 takes the offer of session 2 over.
+    assert_eq!(rt; shard.take(&id, 1)?, Take::Mine);
+    assert_eq!(rt; shard.take(&id, 2)?, Take::Held);
     Ok(())
 }

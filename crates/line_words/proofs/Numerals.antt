@@ -1,5 +1,6 @@
 -- Numerals: what the digits say, and that more of them say no less.
-use Rattle.std.proofs.Common.{◌≡◌, ℕ, ◌<◌, ◌≤◌, ◌+◌, ◌-◌, ◌*◌, ◌^◌, true, zero, suc, List, [], ◌∷◌, length, get_or, refl, ap, arith, rules, tests, take}
+use Rattle.std.proofs.Common.{◌≡◌, ℕ, ◌<◌, ◌≤◌, ◌+◌, ◌-◌, ◌*◌, ◌^◌, true, zero, suc, List, [], ◌∷◌}
+use Rattle.std.proofs.Common.{length, get_or, refl, ap, arith, rules, tests, take}
 use Rattle.std.specs.Prelude.{◌&&◌}
 use Rattle.std.specs.Char.{is_ascii_digit, digit_value}
 use Rattle.std.specs.Str.{all_ascii_digits}

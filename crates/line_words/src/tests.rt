@@ -1,8 +1,25 @@
-//! Worked examples of the formats (docs/FORMATS.md, Articles, Configuration and Drill scripts).
+//! Worked examples of the formats (docs/FORMATS.md, Command lines, Articles, Configuration and
+//! Drill scripts), each a table: values in, the answer out.
 use crate::{
-    cut, has_only_digits, is_skipped, is_white, number_within, one_part, three_parts, trim,
-    two_parts,
+    Between, cut, first_word, has_only_digits, is_skipped, is_white, number_within, one_part,
+    three_parts, trim, two_parts,
 };
+
+#[test]
+fn words_of_lines(rt: HostRuntime) {
+    let cases = [
+        ("CHECK\t<a@x> ", Between::White, Some(("CHECK", "\t<a@x> "))),
+        (" \t quit", Between::White, Some(("quit", ""))),
+        (" \t ", Between::White, None),
+        ("  feed\tp2 2", Between::Spaces, Some(("feed\tp2", " 2"))),
+        ("", Between::Spaces, None),
+    ];
+    for (line, between, words) in cases {
+        let found = first_word(line.as_bytes(), between);
+        let asked = words.map(|(word, rest)| (word.as_bytes(), rest.as_bytes()));
+        assert_eq!(rt; found, asked, "{line:?}");
+    }
+}
 
 #[test]
 fn parts_of_lines(rt: HostRuntime) {
@@ -28,30 +45,40 @@ fn parts_of_lines(rt: HostRuntime) {
 
 #[test]
 fn white_space_at_the_ends(rt: HostRuntime) {
-    assert_eq!(rt; trim(b" \t a b\t "), b"a b".as_slice());
-    assert_eq!(rt; trim(b" \t"), b"".as_slice());
-    assert!(rt; is_white(b'\t'));
-    assert!(rt; !is_white(b'\r'));
+    for (text, asked) in [(" \t a b\t ", "a b"), (" \t", ""), ("\r", "\r")] {
+        let trimmed = trim(text.as_bytes());
+        assert_eq!(rt; trimmed, asked.as_bytes(), "{text:?}");
+    }
+    for (octet, white) in [(b' ', true), (b'\t', true), (b'\r', false), (b'\n', false)] {
+        assert_eq!(rt; is_white(octet), white, "{octet}");
+    }
 }
 
 #[test]
 fn numbers_of_lines(rt: HostRuntime) {
-    assert_eq!(rt; number_within(1, 4_096, b"0004096"), Some(4_096));
-    assert_eq!(rt; number_within(1, 4_096, b"4097"), None);
-    assert_eq!(rt; number_within(1, 4_096, b"0"), None);
-    assert_eq!(rt; number_within(0, 9, b""), None);
-    assert_eq!(rt; number_within(0, 9, b"1x"), None);
-    let largest = number_within(0, u64::MAX, b"18446744073709551615");
-    assert_eq!(rt; largest, Some(u64::MAX));
-    let past = number_within(0, u64::MAX, b"18446744073709551616");
-    assert_eq!(rt; past, None);
-    assert!(rt; has_only_digits(b"0123456789"));
-    assert!(rt; !has_only_digits(b"+1"));
+    let cases = [
+        (1, 4_096, "0004096", Some(4_096)),
+        (1, 4_096, "4097", None),
+        (1, 4_096, "0", None),
+        (0, 9, "", None),
+        (0, 9, "1x", None),
+        (0, u64::MAX, "18446744073709551615", Some(u64::MAX)),
+        (0, u64::MAX, "18446744073709551616", None),
+    ];
+    for (least, most, word, asked) in cases {
+        let number = number_within(least, most, word.as_bytes());
+        assert_eq!(rt; number, asked, "{word:?}");
+    }
+    for (word, asked) in [("0123456789", true), ("+1", false)] {
+        let digits = has_only_digits(word.as_bytes());
+        assert_eq!(rt; digits, asked, "{word:?}");
+    }
 }
 
 #[test]
 fn lines_that_say_nothing(rt: HostRuntime) {
-    assert!(rt; is_skipped(b""));
-    assert!(rt; is_skipped(b"# peers"));
-    assert!(rt; !is_skipped(b" # peers"));
+    for (line, asked) in [("", true), ("# peers", true), (" # peers", false)] {
+        let skipped = is_skipped(line.as_bytes());
+        assert_eq!(rt; skipped, asked, "{line:?}");
+    }
 }

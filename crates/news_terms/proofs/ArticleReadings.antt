@@ -7,7 +7,8 @@ use Rattle.std.specs.Char.{is_ascii_graphic}
 use Rattle.std.proofs.lemmas.Bool.{and_parts, or_cases, eqb-false, both_ways, not-true, leb-true}
 use Rattle.std.proofs.lemmas.Bool.{or_from, ne_eqb}
 use Rattle.std.specs.Str.{byte}
-use Rattle.news_terms.specs.Article.{Field, Article, field_text, line_end, line_feed, space, tab}
+use Rattle.news_terms.specs.Article.{Field, Article, field_text, line_feed, space, tab}
+use Rattle.news_terms.specs.Lines.{crlf}
 use Rattle.news_terms.specs.Article.{carriage_return, is_white, is_folded, is_name_octet}
 use Rattle.news_terms.specs.Article.{is_field_name, IsField, IsLaidOut, continues_field}
 
@@ -83,15 +84,15 @@ one_name (c ∷ x) (d ∷ y) after more nx ny e =
 
 -- a header that begins with a field: its name, the colon, its content, CRLF and the rest
 pub header_parts : (f : Field) (fields : List Field) (body : List ℕ)
-    → flat_map field_text (f ∷ fields) ++ line_end ++ body
+    → flat_map field_text (f ∷ fields) ++ crlf ++ body
     ≡ f.name ++ byte ":" ∷ (f.content ++ carriage_return ∷ line_feed
-    ∷ (flat_map field_text fields ++ line_end ++ body))
+    ∷ (flat_map field_text fields ++ crlf ++ body))
 header_parts f fields body =
     let others = flat_map field_text fields in
-    ap (λ x. x ++ body) (append_assoc (field_text f) others line_end)
-    ∙ append_assoc (field_text f) (others ++ line_end) body
-    ∙ append_assoc (f.name ++ byte ":" ∷ f.content) line_end (others ++ line_end ++ body)
-    ∙ append_assoc f.name (byte ":" ∷ f.content) (line_end ++ (others ++ line_end ++ body))
+    ap (λ x. x ++ body) (append_assoc (field_text f) others crlf)
+    ∙ append_assoc (field_text f) (others ++ crlf) body
+    ∙ append_assoc (f.name ++ byte ":" ∷ f.content) crlf (others ++ crlf ++ body)
+    ∙ append_assoc f.name (byte ":" ∷ f.content) (crlf ++ (others ++ crlf ++ body))
 
 -- a name begins with no white space, and not with CR
 name_begins : (name rest : List ℕ) → IsTrue (is_field_name name)
@@ -115,21 +116,21 @@ graphic_not_white c h =
 
 -- behind a field stands what does not continue it: the next one's name, or the empty line
 ends_field : (fields : List Field) (body : List ℕ) → AllByRecursion IsField fields
-    → IsFalse (continues_field (flat_map field_text fields ++ line_end ++ body))
+    → IsFalse (continues_field (flat_map field_text fields ++ crlf ++ body))
 ends_field [] body h = refl
 ends_field (f ∷ fields) body h =
     let begun = name_begins f.name (byte ":" ∷ (f.content ++ carriage_return ∷ line_feed
-    ∷ (flat_map field_text fields ++ line_end ++ body))) h.0.named in
+    ∷ (flat_map field_text fields ++ crlf ++ body))) h.0.named in
     subst (λ (x : List ℕ). IsFalse (continues_field x)) (sym (header_parts f fields body ∙ begun.2))
     (graphic_not_white begun.0 begun.3)
 
 -- a header that begins with a field does not begin with the empty line
 no_field : (f : Field) (fields : List Field) (b c : List ℕ) → IsField f
-    → line_end ++ b ≡ flat_map field_text (f ∷ fields) ++ line_end ++ c → ⊥
+    → crlf ++ b ≡ flat_map field_text (f ∷ fields) ++ crlf ++ c → ⊥
 no_field f fields b c h e =
     let begun = name_begins f.name (byte ":" ∷ (f.content ++ carriage_return ∷ line_feed
-    ∷ (flat_map field_text fields ++ line_end ++ c))) h.named in
-    let whole : line_end ++ b ≡ begun.0 ∷ begun.1 = e ∙ header_parts f fields c ∙ begun.2 in
+    ∷ (flat_map field_text fields ++ crlf ++ c))) h.named in
+    let whole : crlf ++ b ≡ begun.0 ∷ begun.1 = e ∙ header_parts f fields c ∙ begun.2 in
     let same : carriage_return ≡ begun.0 = cc in
     let above = graphic_above begun.0 begun.3 in
     omega (arith, same, above)
@@ -137,7 +138,7 @@ no_field f fields b c h e =
 -- two headers, each with a body behind its empty line, are the same
 one_header : (fs gs : List Field) (b c : List ℕ)
     → AllByRecursion IsField fs → AllByRecursion IsField gs
-    → flat_map field_text fs ++ line_end ++ b ≡ flat_map field_text gs ++ line_end ++ c
+    → flat_map field_text fs ++ crlf ++ b ≡ flat_map field_text gs ++ crlf ++ c
     → (fs ≡ gs) × (b ≡ c)
 one_header [] [] b c hf hg e = (refl, cc)
 one_header [] (g ∷ gs) b c hf hg e = absurd (no_field g gs b c hg.0 e)

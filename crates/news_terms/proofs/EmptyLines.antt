@@ -7,7 +7,8 @@ use Rattle.std.proofs.lemmas.Bool.{or_cases, or_left, or_right}
 use Rattle.std.proofs.lemmas.List.{take-append-drop}
 use Rattle.std.proofs.lemmas.Slice.Eq.{bytes_eq-Decides}
 use Rattle.std.proofs.Math.Seq.{take-append_seam}
-use Rattle.news_terms.specs.Article.{occurs, line_end, HasEmptyLine, has_empty_line}
+use Rattle.news_terms.specs.Article.{occurs, HasEmptyLine, has_empty_line}
+use Rattle.news_terms.specs.Lines.{crlf}
 
 -- a text that starts with another is that one, and more
 starts_with-split : (text part : List ℕ) → starts_with nat_eq text part ≡ true
@@ -44,17 +45,17 @@ occurs-append part (c ∷ before) after = or_right _ _ (occurs-append part befor
 
 -- the two ways to set parentheses about an empty line
 pub regrouped : (before after : List ℕ)
-    → before ++ line_end ++ line_end ++ after ≡ before ++ ((line_end ++ line_end) ++ after)
+    → before ++ crlf ++ crlf ++ after ≡ before ++ ((crlf ++ crlf) ++ after)
 regrouped before after =
-    append_assoc (before ++ line_end) line_end after
-    ∙ append_assoc before line_end (line_end ++ after)
+    append_assoc (before ++ crlf) crlf after
+    ∙ append_assoc before crlf (crlf ++ after)
 
 -- the test says whether there is an empty line
 pub has_empty_line-iff : (text : List ℕ) → IsTrue (has_empty_line text) ↔ HasEmptyLine text
 has_empty_line-iff text = (
-  (λ h. let o = occurs-split (line_end ++ line_end) (line_end ++ text) h in
+  (λ h. let o = occurs-split (crlf ++ crlf) (crlf ++ text) h in
       (o.0, o.1, o.2 ∙ sym (regrouped o.0 o.1))),
-  (λ h. subst (λ (x : List ℕ). occurs (line_end ++ line_end) x ≡ true)
+  (λ h. subst (λ (x : List ℕ). occurs (crlf ++ crlf) x ≡ true)
       (sym (h.2 ∙ regrouped h.0 h.1))
-      (occurs-append (line_end ++ line_end) h.0 h.1)),
+      (occurs-append (crlf ++ crlf) h.0 h.1)),
 )

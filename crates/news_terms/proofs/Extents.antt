@@ -1,9 +1,12 @@
 -- The articles that a group began, and the front of a buffer, after one more size.
-use Rattle.std.proofs.Common.{◌≡◌, ◌∙◌, ℕ, ◌+◌, ◌<◌, ◌≤◌, ◌==◌, length, slice_get, get_or, ◌⊎◌, inl, inr, arith, List, [], ◌∷◌, ◌++◌, Option, None, Some, refl, sym, ap, subst, append_assoc, append-nil}
+use Rattle.std.proofs.Common.{◌≡◌, ◌∙◌, ℕ, ◌+◌, ◌<◌, ◌≤◌, ◌==◌, length, slice_get, get_or, ◌⊎◌, inl}
+use Rattle.std.proofs.Common.{inr, arith, List, [], ◌∷◌, ◌++◌, Option, None, Some, refl, sym, ap}
+use Rattle.std.proofs.Common.{subst, append_assoc, append-nil}
 use Rattle.std.proofs.lemmas.Bool.{cond-true, cond-false, eq-eqb, ne_eqb}
 use Rattle.std.proofs.lemmas.Option.{slice_get_cases}
 use Rattle.std.proofs.lemmas.List.Sums.{fold_push}
-use Rattle.news_terms.specs.Places.{Buffer, Group, Place, Extent, next_place, with_extent, extents_after, extents, front_past, front_after, on_line}
+use Rattle.news_terms.specs.Places.{Buffer, Group, Place, Extent, next_place, with_extent}
+use Rattle.news_terms.specs.Places.{extents_after, extents, front_past, front_after, on_line}
 
 -- what holds of no size, and of one size more, holds of every list of sizes
 pub by_push : (P : List ℕ → Type 0) → P [] → ((xs : List ℕ) (x : ℕ) → P xs → P (xs ++ x ∷ []))

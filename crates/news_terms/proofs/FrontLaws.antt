@@ -1,10 +1,14 @@
 -- The laws of fronts, for a group in either mode.
-use Rattle.std.proofs.Common.{is_some, true, length, ◌<◌, ◌≡◌, ◌∙◌, ℕ, ◌≤◌, List, [], ◌∷◌, ◌++◌, All, Option, None, Some, slice_get, ◌⊎◌, inl, inr, refl, sym, ap, subst, arith, append_assoc, append-nil, le_of_eq, le_trans}
+use Rattle.std.proofs.Common.{is_some, true, length, ◌<◌, ◌≡◌, ◌∙◌, ℕ, ◌≤◌, List, [], ◌∷◌, ◌++◌}
+use Rattle.std.proofs.Common.{All, Option, None, Some, slice_get, ◌⊎◌, inl, inr, refl, sym, ap}
+use Rattle.std.proofs.Common.{subst, arith, append_assoc, append-nil, le_of_eq, le_trans}
 use Rattle.std.proofs.lemmas.Bool.{cases_eq}
 use Rattle.std.proofs.lemmas.List.Elements.{All-pop}
 use Rattle.std.proofs.lemmas.Option.{same_Some}
-use Rattle.news_terms.specs.Fronts.{HasOwnNumbers, FitsGroup, IsAtOrPastFront, IsAmongBuffers, EndsInBuffer}
-use Rattle.news_terms.specs.Places.{Buffer, Group, Mode, Interleave, Sequential, Place, next_place, with_extent, extents, front_after, on_line}
+use Rattle.news_terms.specs.Fronts.{HasOwnNumbers, FitsGroup, IsAtOrPastFront, IsAmongBuffers}
+use Rattle.news_terms.specs.Fronts.{EndsInBuffer}
+use Rattle.news_terms.specs.Places.{Buffer, Group, Mode, Interleave, Sequential, Place, next_place}
+use Rattle.news_terms.specs.Places.{with_extent, extents, front_after, on_line}
 use Rattle.news_terms.proofs.Extents.{by_push, extents_after_push, front_here, front_elsewhere}
 use Rattle.news_terms.proofs.InterleavedFronts as interleaved
 use Rattle.news_terms.proofs.SequentialFronts as sequential
@@ -123,6 +127,7 @@ pub next_some : (group : Group) → 0 < length group.buffers → (begun : List �
 next_some group = by_mode group.mode group.buffers
   where
     by_mode : (mode : Mode) (buffers : List Buffer) → 0 < length buffers → (begun : List ℕ)
-        (size : ℕ) → is_some (next_place (record { mode = mode; buffers = buffers }) begun size) ≡ true
+        (size : ℕ) → is_some (next_place (record { mode = mode; buffers = buffers }) begun size)
+        ≡ true
     by_mode Interleave buffers = interleaved.next_some buffers
     by_mode Sequential buffers = sequential.next_some buffers

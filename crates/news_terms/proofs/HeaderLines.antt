@@ -12,7 +12,8 @@ use Rattle.std.proofs.lemmas.Bool.{both_ways, cases_eq}
 use Rattle.std.proofs.Math.Seq.{take-append_seam, drop-append-add}
 use Rattle.std.proofs.lemmas.List.Folds.{list_any-append}
 use Rattle.std.proofs.lemmas.List.Sums.{take_while-cons}
-use Rattle.news_terms.specs.Article.{Field, field_text, line_end, line_feed, carriage_return, space}
+use Rattle.news_terms.specs.Article.{Field, field_text, line_feed, carriage_return, space}
+use Rattle.news_terms.specs.Lines.{crlf}
 use Rattle.news_terms.specs.Article.{is_white, is_empty, is_folded, is_set_off, is_name_octet}
 use Rattle.news_terms.specs.Article.{is_field_name, is_paired_after, IsField, HasEmptyLine}
 use Rattle.news_terms.specs.Article.{continues_field, begins_field, text_lines, header_lines}
@@ -23,23 +24,23 @@ use Rattle.news_terms.proofs.EmptyLines.{regrouped}
 
 -- an article's text has an empty line
 pub has_line : (fields : List Field) (body : List ℕ)
-    → HasEmptyLine (flat_map field_text fields ++ line_end ++ body)
+    → HasEmptyLine (flat_map field_text fields ++ crlf ++ body)
 has_line [] body = ([], body, refl)
 has_line (f ∷ fields) body =
     let later = has_line fields body in
-    let rest = flat_map field_text fields ++ line_end ++ body in
-    let front : List ℕ = line_end ++ (f.name ++ byte ":" ∷ f.content) in
-    let named : (f.name ++ byte ":" ∷ f.content) ++ (line_end ++ rest)
-    ≡ f.name ++ byte ":" ∷ (f.content ++ (line_end ++ rest)) =
-    append_assoc f.name (byte ":" ∷ f.content) (line_end ++ rest) in
-    let whole : line_end ++ (flat_map field_text (f ∷ fields) ++ line_end ++ body)
-    ≡ front ++ (line_end ++ rest) =
-    ap (λ x. line_end ++ x) (header_parts f fields body ∙ sym named) in (
+    let rest = flat_map field_text fields ++ crlf ++ body in
+    let front : List ℕ = crlf ++ (f.name ++ byte ":" ∷ f.content) in
+    let named : (f.name ++ byte ":" ∷ f.content) ++ (crlf ++ rest)
+    ≡ f.name ++ byte ":" ∷ (f.content ++ (crlf ++ rest)) =
+    append_assoc f.name (byte ":" ∷ f.content) (crlf ++ rest) in
+    let whole : crlf ++ (flat_map field_text (f ∷ fields) ++ crlf ++ body)
+    ≡ front ++ (crlf ++ rest) =
+    ap (λ x. crlf ++ x) (header_parts f fields body ∙ sym named) in (
       front ++ later.0,
       later.1,
       whole
           ∙ ap (λ x. front ++ x) (later.2 ∙ regrouped later.0 later.1)
-          ∙ sym (append_assoc front later.0 ((line_end ++ line_end) ++ later.1))
+          ∙ sym (append_assoc front later.0 ((crlf ++ crlf) ++ later.1))
           ∙ sym (regrouped (front ++ later.0) later.1),
     )
 
@@ -235,11 +236,11 @@ continued_follow ((c ∷ line) ∷ further) more h k =
 -- the lines before the empty line of an article begin fields and continue them
 pub header_is_good : (before : ℕ) (fields : List Field) (body : List ℕ) → before ≢ carriage_return
     → AllByRecursion IsField fields
-    → IsTrue (is_paired_after before (flat_map field_text fields ++ line_end ++ body))
-    → IsTrue (are_header_lines (header_lines (flat_map field_text fields ++ line_end ++ body)))
+    → IsTrue (is_paired_after before (flat_map field_text fields ++ crlf ++ body))
+    → IsTrue (are_header_lines (header_lines (flat_map field_text fields ++ crlf ++ body)))
 header_is_good before [] body no_cr h paired = refl
 header_is_good before (f ∷ fields) body no_cr h paired =
-    let rest = flat_map field_text fields ++ line_end ++ body in
+    let rest = flat_map field_text fields ++ crlf ++ body in
     let content = f.content ++ carriage_return ∷ line_feed ∷ rest in
     let whole = header_parts f fields body in
     let paired' = subst (λ (x : List ℕ). IsTrue (is_paired_after before x)) whole paired in
@@ -253,7 +254,7 @@ header_is_good before (f ∷ fields) body no_cr h paired =
     let others = header_is_good line_feed fields body (λ e. omega (arith, e)) h.1 behind in
     let line = f.name ++ byte ":" ∷ l.first in
     let more = l.further ++ text_lines rest in
-    let cut : text_lines (flat_map field_text (f ∷ fields) ++ line_end ++ body) ≡ line ∷ more =
+    let cut : text_lines (flat_map field_text (f ∷ fields) ++ crlf ++ body) ≡ line ∷ more =
     ap text_lines whole
     ∙ name_on f.name (byte ":" ∷ content) (byte ":" ∷ l.first) more (and_parts _ _ h.0.named).1
     (lines_on (byte ":") content l.first more no_cr' no_lf' l.cut) in

@@ -1,11 +1,13 @@
 -- The tests of a message-id decide its parts, and the first test that fails names the fault.
-use Rattle.std.proofs.Common.{◌≡◌, ◌≢◌, ℕ, ◌-◌, ◌≤◌, Bool, true, false, eqb, leb, List, length, take, get_or, All, Option, Some, None, refl, cond}
+use Rattle.std.proofs.Common.{◌≡◌, ◌≢◌, ℕ, ◌-◌, ◌≤◌, Bool, true, false, eqb, leb, List, length}
+use Rattle.std.proofs.Common.{take, get_or, All, Option, Some, None, refl, cond}
 use Rattle.std.specs.Prelude.{◌↔◌, ◌==◌, ◌&&◌, not}
 use Rattle.std.specs.Bool.{Decides}
 use Rattle.std.specs.List.{list_all}
 use Rattle.std.proofs.lemmas.Bool.{leb-true, le-leb, false≢true}
 use Rattle.std.proofs.lemmas.Bool.Decides.{Decides-eqb, Decides-not, Decides-and, Decides-by_and}
-use Rattle.news_terms.specs.MessageId.{IdFault, id_fault, IsMessageId, has_id_length, has_brackets, is_graphic}
+use Rattle.news_terms.specs.MessageId.{IdFault, id_fault, IsMessageId, has_id_length, has_brackets}
+use Rattle.news_terms.specs.MessageId.{is_graphic}
 use Rattle.news_terms.specs.MessageId as ids
 
 -- the test of an order decides it
@@ -45,8 +47,10 @@ Decides-brackets text =
     let closes = eqb (get_or text (length text - 1) 0) 62 in
     let once = list_all (λ c. not (c == 62)) front in
     let both = Decides-and (opens && closes) once
-    (Decides-and opens closes (Decides-eqb (get_or text 0 0) 60) (Decides-eqb (get_or text (length text - 1) 0) 62))
-    (Decides-each (λ c. not (c == 62)) (λ c. c ≢ 62) (λ c. Decides-not (c == 62) (Decides-eqb c 62)) front) in
+    (Decides-and opens closes (Decides-eqb (get_or text 0 0) 60)
+    (Decides-eqb (get_or text (length text - 1) 0) 62))
+    (Decides-each (λ c. not (c == 62)) (λ c. c ≢ 62)
+    (λ c. Decides-not (c == 62) (Decides-eqb c 62)) front) in
     (λ e. let w = both.0 e in (w.0.0, w.0.1, w.1), λ w. both.1 ((w.0, w.1), w.2))
 
 -- The test of the octets decides that each is graphic.
@@ -58,7 +62,8 @@ Decides-graphic text =
 -- the fault by the outcomes of the three tests
 abbrev pub fault_by : Bool → Bool → Bool → Option IdFault
 fault_by len brackets graphic =
-    cond len (cond brackets (cond graphic None (Some ids.Octet)) (Some ids.Brackets)) (Some ids.Length)
+    cond len (cond brackets (cond graphic None (Some ids.Octet)) (Some ids.Brackets))
+    (Some ids.Length)
 
 -- There is no fault exactly where the three parts hold.
 pub no_fault : {P Q R : Type 0} (a b c : Bool) → Decides a P → Decides b Q → Decides c R
@@ -90,6 +95,13 @@ id_fault-none text =
     let law = no_fault (has_id_length text) (has_brackets text) (list_all is_graphic text)
     (Decides-length text) (Decides-brackets text) (Decides-graphic text) in (
       λ e. let w = law.0 e in
-          record { least = w.0.0; most = w.0.1; opens = w.1.0; closes = w.1.1; closes_once = w.1.2; graphic = w.2 },
+          record {
+            least = w.0.0;
+            most = w.0.1;
+            opens = w.1.0;
+            closes = w.1.1;
+            closes_once = w.1.2;
+            graphic = w.2;
+          },
       λ m. law.1 ((m.least, m.most), (m.opens, m.closes, m.closes_once), m.graphic),
     )

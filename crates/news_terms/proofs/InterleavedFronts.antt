@@ -1,10 +1,17 @@
 -- Interleave: the front of each buffer is where the head of its own sizes is.
-use Rattle.std.proofs.Common.{is_some, ◌≡◌, ◌∙◌, ℕ, suc, ◌+◌, ◌*◌, ◌%◌, ◌≤◌, ◌<◌, ◌==◌, length, Bool, true, false, List, [], ◌∷◌, ◌++◌, All, Option, None, Some, slice_get, ◌⊎◌, inl, inr, if◌then◌else◌, refl, sym, ap, subst, arith, append-nil, add-zero, add_assoc, zero-add, mod-lt, le_of_eq, le_trans, zero-le}
+use Rattle.std.proofs.Common.{is_some, ◌≡◌, ◌∙◌, ℕ, suc, ◌+◌, ◌*◌, ◌%◌, ◌≤◌, ◌<◌, ◌==◌, length}
+use Rattle.std.proofs.Common.{Bool, true, false, List, [], ◌∷◌, ◌++◌, All, Option, None, Some}
+use Rattle.std.proofs.Common.{slice_get, ◌⊎◌, inl, inr, if◌then◌else◌, refl, sym, ap, subst, arith}
+use Rattle.std.proofs.Common.{append-nil, add-zero, add_assoc, zero-add, mod-lt, le_of_eq, le_trans}
+use Rattle.std.proofs.Common.{zero-le}
 use Rattle.std.proofs.lemmas.Bool.{cond-true, cond-false, cases_eq, eq-eqb, ne_eqb}
 use Rattle.std.proofs.lemmas.List.Elements.{All-pop}
 use Rattle.std.proofs.lemmas.Option.{same_Some, none-some, slice_get_within}
-use Rattle.news_terms.specs.Fronts.{HasOwnNumbers, FitsGroup, IsAtOrPastFront, IsAmongBuffers, EndsInBuffer}
-use Rattle.news_terms.specs.Places.{Buffer, Group, Interleave, Place, Head, dealt, interleaved, place_in_buffer, place_in_runs, after_size, head_after, next_place, extents, front_after, on_line}
+use Rattle.news_terms.specs.Fronts.{HasOwnNumbers, FitsGroup, IsAtOrPastFront, IsAmongBuffers}
+use Rattle.news_terms.specs.Fronts.{EndsInBuffer}
+use Rattle.news_terms.specs.Places.{Buffer, Group, Interleave, Place, Head, dealt, interleaved}
+use Rattle.news_terms.specs.Places.{place_in_buffer, place_in_runs, after_size, head_after}
+use Rattle.news_terms.specs.Places.{next_place, extents, front_after, on_line}
 use Rattle.news_terms.proofs.Extents.{by_push, whose_turn, front_here, front_elsewhere}
 use Rattle.news_terms.proofs.RunPlaces.{place_cases, head_push}
 

@@ -1,12 +1,15 @@
 -- A text has one leftmost fault at most.
-use Rattle.std.proofs.Common.{◌≡◌, ◌≢◌, ℕ, ◌+◌, ◌<◌, ◌≤◌, true, false, not, List, [], ◌∷◌, ◌++◌, length}
-use Rattle.std.proofs.Common.{take, drop, Option, Some, None, codes, refl, sym, ap, subst, ◌∙◌, inl, inr}
+use Rattle.std.proofs.Common.{◌≡◌, ◌≢◌, ℕ, ◌+◌, ◌<◌, ◌≤◌, true, false, not, List, [], ◌∷◌, ◌++◌}
+use Rattle.std.proofs.Common.{length}
+use Rattle.std.proofs.Common.{take, drop, Option, Some, None, codes, refl, sym, ap, subst, ◌∙◌, inl}
+use Rattle.std.proofs.Common.{inr}
 use Rattle.std.proofs.Common.{append_assoc, arith}
 use Rattle.std.specs.Prelude.{◌==◌, nat_eq, if◌then◌else◌, IsTrue, IsFalse, flat_map, unwrap_or}
 use Rattle.std.specs.List.{list_all, before_first, position_or_len, starts_with}
 use Rattle.std.specs.Char.{is_ascii}
 use Rattle.std.specs.Str.{byte}
-use Rattle.std.proofs.lemmas.Bool.{and_parts, both_ways, not-true, ne_eqb, cases_Bool, eqb-true, le-ltb}
+use Rattle.std.proofs.lemmas.Bool.{and_parts, both_ways, not-true, ne_eqb, cases_Bool, eqb-true}
+use Rattle.std.proofs.lemmas.Bool.{le-ltb}
 use Rattle.std.proofs.lemmas.List.Folds.{list_all-append}
 use Rattle.std.proofs.Math.Seq.{take-append_seam}
 use Rattle.news_terms.specs.Article.{is_empty}
@@ -64,12 +67,14 @@ bracket_closed set rest h =
     ∙ ap between_fault (take-append_seam set (byte "]" ∷ rest)))
 
 -- a fault of a set is the one between the brackets
-set_between : (set : List ℕ) (fault : ExpressionFault) → IsFalse (starts_with nat_eq set (codes "^"))
+set_between : (set : List ℕ) (fault : ExpressionFault)
+    → IsFalse (starts_with nat_eq set (codes "^"))
     → set_fault set ≡ Some fault → between_fault set ≡ Some fault
 set_between [] fault k f = absurd (none_is_none fault f)
 set_between (c ∷ set) fault k f = elim (cases_Bool (c == byte "^")) [
   | inl t ↦ absurd (both_ways _ k
-      (subst (λ x. starts_with nat_eq (x ∷ set) (codes "^") ≡ true) (sym (eqb-true c (byte "^") t)) refl))
+      (subst (λ x. starts_with nat_eq (x ∷ set) (codes "^") ≡ true)
+      (sym (eqb-true c (byte "^") t)) refl))
   | inr n ↦ rw n f
 ]
 
@@ -147,11 +152,13 @@ pattern_place : (p q : List Item) (s t : List ℕ) (a b : ExpressionFault)
     → flat_map item_text p ++ s ≡ flat_map item_text q ++ t → s ≡ t
 pattern_place [] [] s t a b hp hq ha hb e = e
 pattern_place [] (j ∷ q) s t a b hp hq ha hb e =
-    absurd (item_fault j (flat_map item_text q ++ t) a (and_parts (is_item j) (list_all is_item q) hq).0
+    absurd (item_fault j (flat_map item_text q ++ t) a
+    (and_parts (is_item j) (list_all is_item q) hq).0
     (subst (λ (x : List ℕ). BeginsFaulty x a)
     (e ∙ append_assoc (item_text j) (flat_map item_text q) t) ha))
 pattern_place (i ∷ p) [] s t a b hp hq ha hb e =
-    absurd (item_fault i (flat_map item_text p ++ s) b (and_parts (is_item i) (list_all is_item p) hp).0
+    absurd (item_fault i (flat_map item_text p ++ s) b
+    (and_parts (is_item i) (list_all is_item p) hp).0
     (subst (λ (x : List ℕ). BeginsFaulty x b)
     (sym e ∙ append_assoc (item_text i) (flat_map item_text p) s) hb))
 pattern_place (i ∷ p) (j ∷ q) s t a b hp hq ha hb e =

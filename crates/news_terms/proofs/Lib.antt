@@ -2,6 +2,7 @@ pub mod ArticleFaults
 pub mod ArticleReadings
 pub mod BlockLemmas
 pub mod Choices
+pub mod CivilTimes
 pub mod EmptyLines
 pub mod ExpressionFaults
 pub mod ExpressionReadings
@@ -15,6 +16,7 @@ pub mod LeftmostFaults
 pub mod LineLemmas
 pub mod LinePairs
 pub mod Matching
+pub mod NextLemmas
 pub mod PathUpdates
 pub mod RestLemmas
 pub mod RunPlaces

@@ -1,5 +1,6 @@
 -- The head of a list of sizes, the place of the next one, and numbers of runs.
-use Rattle.std.proofs.Common.{◌≡◌, ℕ, ◌+◌, ◌*◌, ◌≤◌, nat_le, true, false, List, [], ◌∷◌, ◌++◌, arith, mul-le-mul_right, ◌⊎◌, inl, inr}
+use Rattle.std.proofs.Common.{◌≡◌, ℕ, ◌+◌, ◌*◌, ◌≤◌, nat_le, true, false, List, [], ◌∷◌, ◌++◌}
+use Rattle.std.proofs.Common.{arith, mul-le-mul_right, ◌⊎◌, inl, inr}
 use Rattle.std.proofs.lemmas.Bool.{cond-true, cond-false, cases_Bool, leb-true}
 use Rattle.std.proofs.lemmas.List.Sums.{fold_push}
 use Rattle.news_terms.specs.Places.{Head, place_in_runs, after_size, head_after, first_head}

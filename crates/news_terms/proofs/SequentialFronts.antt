@@ -1,11 +1,18 @@
 -- Sequential: no front is past the next run of its buffer.
-use Rattle.std.proofs.Common.{is_some, true, ◌≡◌, ◌∙◌, ℕ, suc, zero-le, ◌+◌, ◌*◌, ◌/◌, ◌%◌, ◌≤◌, ◌<◌, length, List, [], ◌∷◌, ◌++◌, All, Option, None, Some, slice_get, ◌⊎◌, inl, inr, refl, sym, ap, subst, arith, zero-add, mod-lt, le_of_eq, le_trans, mul-le-mul_right, le_of_mul-le-mul_right, lt_of_mul-lt-mul_right}
+use Rattle.std.proofs.Common.{is_some, true, ◌≡◌, ◌∙◌, ℕ, suc, zero-le, ◌+◌, ◌*◌, ◌/◌, ◌%◌, ◌≤◌}
+use Rattle.std.proofs.Common.{◌<◌, length, List, [], ◌∷◌, ◌++◌, All, Option, None, Some, slice_get}
+use Rattle.std.proofs.Common.{◌⊎◌, inl, inr, refl, sym, ap, subst, arith, zero-add, mod-lt}
+use Rattle.std.proofs.Common.{le_of_eq, le_trans, mul-le-mul_right, le_of_mul-le-mul_right}
+use Rattle.std.proofs.Common.{lt_of_mul-lt-mul_right}
 use Rattle.std.proofs.lemmas.Bool.{cases_eq}
 use Rattle.std.proofs.lemmas.List.Elements.{All-pop}
 use Rattle.std.proofs.lemmas.Option.{same_Some, none-some, slice_get_within}
 use native.Mathlib.Nat.{div-add-mod'}
-use Rattle.news_terms.specs.Fronts.{HasOwnNumbers, FitsGroup, IsAtOrPastFront, IsAmongBuffers, EndsInBuffer}
-use Rattle.news_terms.specs.Places.{Buffer, Group, Sequential, Place, Head, blocks_of, sequential_at, place_in_runs, after_size, head_after, next_place, extents, front_after, on_line}
+use Rattle.news_terms.specs.Fronts.{HasOwnNumbers, FitsGroup, IsAtOrPastFront, IsAmongBuffers}
+use Rattle.news_terms.specs.Fronts.{EndsInBuffer}
+use Rattle.news_terms.specs.Places.{Buffer, Group, Sequential, Place, Head, blocks_of}
+use Rattle.news_terms.specs.Places.{sequential_at, place_in_runs, after_size, head_after}
+use Rattle.news_terms.specs.Places.{next_place, extents, front_after, on_line}
 use Rattle.news_terms.proofs.Extents.{by_push, whose_turn, front_here, front_elsewhere}
 use Rattle.news_terms.proofs.RunPlaces.{place_cases, head_push}
 
@@ -55,10 +62,10 @@ cycle_no_later : (blocks first early late : ℕ) → early ≤ late
     → (first + early) * blocks ≤ (first + late) * blocks
 cycle_no_later blocks first early late h = mul-le-mul_right blocks (omega arith)
 
--- how far the front of a buffer is, at most: it isn't past any run of that buffer that is still to come,
--- and in the current run not past the blocks used
-record Is_behind (buffers : List Buffer) (k : ℕ) (buffer : Buffer) (front : ℕ) (head : Head) : Type
-    0 where
+-- how far the front of a buffer is, at most: it isn't past any run of that buffer that is still to
+-- come, and in the current run not past the blocks used
+record Is_behind (buffers : List Buffer) (k : ℕ) (buffer : Buffer) (front : ℕ) (head : Head)
+    : Type 0 where
   later : (q : ℕ) → head.run < q * length buffers + k
       → front ≤ (buffer.first_cycle + q) * buffer.blocks
   here : (q : ℕ) → head.run ≡ q * length buffers + k

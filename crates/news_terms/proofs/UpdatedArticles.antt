@@ -12,7 +12,8 @@ use Rattle.std.proofs.lemmas.List.{reverse-append, length-map}
 use Rattle.news_terms.specs.MessageId.{IsMessageId}
 use Rattle.news_terms.specs.Article.{Field, Article, FieldName, Date, From, MessageId, Newsgroups}
 use Rattle.news_terms.specs.Article.{Path, Subject, InjectionDate, field_text, article_text}
-use Rattle.news_terms.specs.Article.{contents_of, name_of, line_end, space, carriage_return}
+use Rattle.news_terms.specs.Article.{contents_of, name_of, space, carriage_return}
+use Rattle.news_terms.specs.Lines.{crlf}
 use Rattle.news_terms.specs.Article.{line_feed, is_white, is_of_line_end, is_empty}
 use Rattle.news_terms.specs.Article.{is_paired_after, has_nul, IsField, IsArticleText}
 use Rattle.news_terms.specs.Article.{StandsRightly, is_newsgroup_name, newsgroups_in, trimmed}
@@ -75,13 +76,13 @@ nul_content own expected content agents h =
 
 -- nor has a header with its body
 updated-nul : (own expected : List ℕ) (fields : List Field) (body : List ℕ) → Agents own expected
-    → IsFalse (has_nul (flat_map field_text fields ++ line_end ++ body))
-    → IsFalse (has_nul (flat_map field_text (map (updated_field own expected) fields) ++ line_end
+    → IsFalse (has_nul (flat_map field_text fields ++ crlf ++ body))
+    → IsFalse (has_nul (flat_map field_text (map (updated_field own expected) fields) ++ crlf
     ++ body))
 updated-nul own expected [] body agents h = h
 updated-nul own expected (f ∷ fields) body agents h =
     let new = updated_field own expected f in
-    let rest = flat_map field_text fields ++ line_end ++ body in
+    let rest = flat_map field_text fields ++ crlf ++ body in
     let news = map (updated_field own expected) fields in
     let whole = subst (λ (x : List ℕ). IsFalse (has_nul x)) (header_parts f fields body) h in
     let named = nul_parts f.name
@@ -91,13 +92,13 @@ updated-nul own expected (f ∷ fields) body agents h =
     let join : (content : List ℕ) → IsFalse (has_nul content)
     → IsFalse (has_nul (f.name
     ++ byte ":" ∷ (content
-    ++ carriage_return ∷ line_feed ∷ (flat_map field_text news ++ line_end ++ body)))) =
+    ++ carriage_return ∷ line_feed ∷ (flat_map field_text news ++ crlf ++ body)))) =
     λ content k. nul_both f.name
     (byte ":" ∷ (content
     ++ carriage_return ∷ line_feed
-    ∷ (flat_map field_text news ++ line_end ++ body))) named.0
+    ∷ (flat_map field_text news ++ crlf ++ body))) named.0
     (nul_both content (carriage_return ∷ line_feed
-    ∷ (flat_map field_text news ++ line_end ++ body)) k later) in
+    ∷ (flat_map field_text news ++ crlf ++ body)) k later) in
     subst (λ (x : List ℕ). IsFalse (has_nul x)) (sym (header_parts new news body))
     (elim (cases_Bool (str_eq_ignore_ascii_case f.name (codes "Path"))) [
       | inl y ↦ rw y (join (space ∷ updated_content own expected f.content)
@@ -108,15 +109,15 @@ updated-nul own expected (f ∷ fields) body agents h =
 -- its line ends are in pairs where the received ones are
 updated-paired : (own expected : List ℕ) (fields : List Field) (body : List ℕ) (b : ℕ)
     → Agents own expected
-    → IsTrue (is_paired_after b (flat_map field_text fields ++ line_end ++ body))
+    → IsTrue (is_paired_after b (flat_map field_text fields ++ crlf ++ body))
     → IsTrue (is_paired_after b
-    (flat_map field_text (map (updated_field own expected) fields) ++ line_end ++ body))
+    (flat_map field_text (map (updated_field own expected) fields) ++ crlf ++ body))
 updated-paired own expected [] body b agents h = h
 updated-paired own expected (f ∷ fields) body b agents h =
     let new = updated_field own expected f in
     let news = map (updated_field own expected) fields in
-    let rest = flat_map field_text fields ++ line_end ++ body in
-    let more = flat_map field_text news ++ line_end ++ body in
+    let rest = flat_map field_text fields ++ crlf ++ body in
+    let more = flat_map field_text news ++ crlf ++ body in
     let whole = subst (λ (x : List ℕ). IsTrue (is_paired_after b x))
     (header_parts f fields body) h in
     let inside = paired-tail b (byte ":") f.name

@@ -8,35 +8,10 @@ use Rattle.std.specs.List.{starts_with, AllByRecursion}
 use Rattle.std.specs.Bool.{beq}
 use Rattle.std.specs.Char.{is_ascii_graphic, is_ascii_alphanumeric}
 use Rattle.std.specs.Str.{byte, str_eq_ignore_ascii_case}
+use Rattle.news_terms.specs.Lines.{crlf}
+pub use Rattle.news_terms.specs.Lines.{tab, line_feed, carriage_return, space}
+pub use Rattle.news_terms.specs.Lines.{is_white, is_of_line_end}
 use Rattle.news_terms.specs.MessageId.{IsMessageId}
-
--- the octet TAB (RFC 5234, appendix B.1)
-abbrev pub tab : ℕ
-tab = 9
-
--- the octet LF (RFC 5234, appendix B.1)
-abbrev pub line_feed : ℕ
-line_feed = 10
-
--- the octet CR (RFC 5234, appendix B.1)
-abbrev pub carriage_return : ℕ
-carriage_return = 13
-
--- the octet SP (RFC 5234, appendix B.1)
-abbrev pub space : ℕ
-space = 32
-
--- CRLF, which ends a line (RFC 5536, section 2.2)
-abbrev pub line_end : List ℕ
-line_end = carriage_return ∷ line_feed ∷ []
-
--- an SP or a TAB (RFC 5234, appendix B.1, WSP)
-abbrev pub is_white : ℕ → Bool
-is_white c = c == space || c == tab
-
--- a CR or an LF (RFC 5234, appendix B.1)
-abbrev pub is_of_line_end : ℕ → Bool
-is_of_line_end c = c == carriage_return || c == line_feed
 
 -- a text without any octet (docs/FORMATS.md, Articles)
 abbrev pub is_empty : List ℕ → Bool
@@ -56,11 +31,11 @@ pub record Article : Type 0 where
 
 -- a field's octets: its name, a colon, its content and CRLF (RFC 5536, section 2.2)
 abbrev pub field_text : Field → List ℕ
-field_text f = f.name ++ byte ":" ∷ f.content ++ line_end
+field_text f = f.name ++ byte ":" ∷ f.content ++ crlf
 
 -- an article's octets: the fields in order, an empty line, the body (RFC 5536, section 2.1)
 abbrev pub article_text : Article → List ℕ
-article_text a = flat_map field_text a.fields ++ line_end ++ a.body
+article_text a = flat_map field_text a.fields ++ crlf ++ a.body
 
 -- an octet 0x21 to 0x7E other than the colon (RFC 5536, section 2.2, header-field name)
 abbrev pub is_name_octet : ℕ → Bool
@@ -228,7 +203,7 @@ HasBareCrLf text = IsFalse (is_paired text)
 abbrev pub HasEmptyLine : List ℕ → Type 0
 HasEmptyLine text =
     (before : List ℕ) × (after : List ℕ)
-    × (line_end ++ text ≡ before ++ line_end ++ line_end ++ after)
+    × (crlf ++ text ≡ before ++ crlf ++ crlf ++ after)
 
 -- a text stands somewhere in another (docs/FORMATS.md, Articles)
 abbrev pub occurs : (part text : List ℕ) → Bool
@@ -237,7 +212,7 @@ occurs part (c ∷ rest) = starts_with nat_eq (c ∷ rest) part || occurs part r
 
 -- whether the text has an empty line (RFC 5536, section 2.1)
 abbrev pub has_empty_line : List ℕ → Bool
-has_empty_line text = occurs (line_end ++ line_end) (line_end ++ text)
+has_empty_line text = occurs (crlf ++ crlf) (crlf ++ text)
 
 -- the text has no empty line (RFC 5536, section 2.1)
 abbrev pub HasNoBlankLine : List ℕ → Type 0
@@ -349,5 +324,5 @@ worked_article i k = record {
       ∷ record { name = codes "Message-ID"; content = codes " <" ++ i ∷ codes "@x>" }
       ∷ record { name = codes "Date"; content = codes " Fri, 01 Jan 2021 00:00:00 +0000" }
       ∷ [];
-  body = replicate k (byte "x") ++ line_end;
+  body = replicate k (byte "x") ++ crlf;
 }

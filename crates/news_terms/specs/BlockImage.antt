@@ -2,10 +2,7 @@
 use Rattle.std.specs.Prelude.{ℕ, ◌-◌, ◌*◌, ◌^◌, ◌<◌, ◌≤◌, List, ◌∷◌, [], ◌++◌, length, take, drop}
 use Rattle.std.specs.Prelude.{replicate, codes}
 use Rattle.std.specs.Int.{w16, w32, to_be_bytes}
-
--- the octets of a text that one block holds (docs/FORMATS.md, Blocks on the device)
-abbrev pub chunk_size : ℕ
-chunk_size = 480
+pub use Rattle.news_terms.specs.Places.{block_size, chunk_size}
 
 -- the k-th chunk of a text, from 0 (docs/FORMATS.md, Blocks on the device)
 abbrev pub chunk : (k : ℕ) → (text : List ℕ) → List ℕ

@@ -1,5 +1,7 @@
 -- Blocks of lines and dot-stuffing (RFC 3977 section 3.1.1; docs/FORMATS.md, Blocks of text).
-use Rattle.std.specs.Prelude.{◌≡◌, ℕ, zero, suc, ◌==◌, nat_lt, false, List, [], ◌∷◌, ◌++◌, length, bytes_eq, map, option_map, option_and_then, unwrap_or, Option, None, Some, if◌then◌else◌}
+use Rattle.std.specs.Prelude.{◌≡◌, ℕ, zero, suc, ◌==◌, nat_lt, false, List, [], ◌∷◌, ◌++◌, length}
+use Rattle.std.specs.Prelude.{bytes_eq, map, option_map, option_and_then, unwrap_or, Option, None}
+use Rattle.std.specs.Prelude.{Some, if◌then◌else◌}
 use Rattle.news_terms.specs.Lines.{crlf, first_line, IsLine, spelled}
 
 -- the line that closes a block: a lone dot

@@ -1,17 +1,16 @@
 -- Command lines (RFC 3977 section 3.1, RFC 4644; docs/FORMATS.md, Command lines). A line is taken
 -- without its CRLF.
-use Rattle.std.specs.Prelude.{ℕ, ◌+◌, ◌-◌, ◌*◌, ◌==◌, nat_le, ◌&&◌, ◌||◌, not, Bool, true, false, List, [], ◌∷◌, length, filter, fold, codes, Option, None, Some, Result, Ok, Err, is_none, if◌then◌else◌}
+use Rattle.std.specs.Prelude.{ℕ, ◌+◌, ◌-◌, ◌*◌, ◌==◌, nat_le, ◌&&◌, ◌||◌, Bool, true, false}
+use Rattle.std.specs.Prelude.{List, [], ◌∷◌, length, fold, codes, Option, None, Some, is_none}
+use Rattle.std.specs.Prelude.{Result, Ok, Err, if◌then◌else◌}
 use Rattle.std.specs.Str.{str_eq_ignore_ascii_case, all_ascii_digits}
 use Rattle.std.specs.List.{slice_split}
 use Rattle.news_terms.specs.MessageId.{id_fault}
+use Rattle.news_terms.specs.Lines.{is_white, words_between}
 
--- SP or TAB, which stand between the words of a line
-abbrev pub is_blank : ℕ → Bool
-is_blank c = c == 32 || c == 9
-
--- the words of a line: what stands between blanks, and at either end
+-- the words of a line: what stands between SPs and TABs, and at either end
 abbrev pub words : List ℕ → List (List ℕ)
-words line = filter (λ word. not (length word == 0)) (slice_split is_blank line)
+words line = words_between is_white line
 
 -- the first words of the commands
 pub data Keyword : Type 0 where

@@ -13,5 +13,6 @@ pub mod PlaceExamples
 pub mod Places
 pub mod Reply
 pub mod Ring
+pub mod Stamps
 pub mod StorageClass
 pub mod Token

@@ -1,10 +1,38 @@
 -- Lines: what a stream of octets is cut into (RFC 3977 section 3.1; docs/FORMATS.md, Blocks of
--- text). All of it speaks of the octets joined: the pieces that they came in don't occur.
-use Rattle.std.specs.Prelude.{◌≡◌, ℕ, ◌+◌, ◌≤◌, nat_le, ◌==◌, ◌&&◌, List, [], ◌∷◌, ◌++◌, length, flat_map, option_map, Option, None, Some, if◌then◌else◌}
+-- text), and the words of a line. All of it speaks of the octets joined: the pieces that they came
+-- in don't occur.
+use Rattle.std.specs.Prelude.{◌≡◌, ℕ, ◌+◌, ◌≤◌, nat_le, ◌==◌, ◌&&◌, ◌||◌, not, Bool, List, [], ◌∷◌}
+use Rattle.std.specs.Prelude.{◌++◌, length, filter, flat_map, option_map, Option, None, Some}
+use Rattle.std.specs.Prelude.{if◌then◌else◌}
+use Rattle.std.specs.List.{slice_split}
 
--- carriage return and line feed, which end each line
+-- the octet TAB (RFC 5234, appendix B.1)
+abbrev pub tab : ℕ
+tab = 9
+
+-- the octet LF (RFC 5234, appendix B.1)
+abbrev pub line_feed : ℕ
+line_feed = 10
+
+-- the octet CR (RFC 5234, appendix B.1)
+abbrev pub carriage_return : ℕ
+carriage_return = 13
+
+-- the octet SP (RFC 5234, appendix B.1)
+abbrev pub space : ℕ
+space = 32
+
+-- an SP or a TAB (RFC 5234, appendix B.1, WSP)
+abbrev pub is_white : ℕ → Bool
+is_white c = c == space || c == tab
+
+-- a CR or an LF (RFC 5234, appendix B.1)
+abbrev pub is_of_line_end : ℕ → Bool
+is_of_line_end c = c == carriage_return || c == line_feed
+
+-- CR and LF, which end each line (RFC 3977, section 3.1; RFC 5536, section 2.2)
 abbrev pub crlf : List ℕ
-crlf = 13 ∷ 10 ∷ []
+crlf = carriage_return ∷ line_feed ∷ []
 
 -- The stream begins with this line, written without its CRLF, and the rest follows it: of all that
 -- stands before a CRLF it is the shortest (RFC 3977 section 3.1).
@@ -56,3 +84,8 @@ AreLines (line ∷ lines) = IsLine line × AreLines lines
 -- lines as they stand in a stream or in a text, each with its CRLF
 abbrev pub spelled : List (List ℕ) → List ℕ
 spelled lines = flat_map (λ line. line ++ crlf) lines
+
+-- the words of a line: what stands between octets of this kind, and at either end (docs/FORMATS.md,
+-- Command lines and Configuration)
+abbrev pub words_between : (separates : ℕ → Bool) → (line : List ℕ) → List (List ℕ)
+words_between separates line = filter (λ word. not (length word == 0)) (slice_split separates line)

@@ -1,5 +1,6 @@
 -- Message-ids (RFC 3977 section 3.6; docs/FORMATS.md, Message-ids).
-use Rattle.std.specs.Prelude.{◌≡◌, ◌≢◌, ℕ, ◌-◌, ◌≤◌, ◌==◌, nat_le, ◌&&◌, not, Bool, List, length, take, All, slice_index, Option, None, Some, if◌then◌else◌}
+use Rattle.std.specs.Prelude.{◌≡◌, ◌≢◌, ℕ, ◌-◌, ◌≤◌, ◌==◌, nat_le, ◌&&◌, not, Bool, List, length}
+use Rattle.std.specs.Prelude.{take, All, slice_index, Option, None, Some, if◌then◌else◌}
 use Rattle.std.specs.List.{list_all}
 
 -- why a text is no message-id, in the order of trial

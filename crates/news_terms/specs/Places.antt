@@ -1,18 +1,24 @@
 -- Where articles lie in cyclic buffers (the principle of INN's CNFS; docs/PROTOCOL.md, Store).
-use Rattle.std.specs.Prelude.{ℕ, ◌+◌, ◌*◌, ◌/◌, ◌%◌, ◌≤◌, ◌<◌, ◌==◌, nat_le, List, [], ◌∷◌, ◌++◌, length, fold, slice_get, Option, None, Some, if◌then◌else◌}
+use Rattle.std.specs.Prelude.{ℕ, ◌+◌, ◌-◌, ◌*◌, ◌/◌, ◌%◌, ◌≤◌, ◌<◌, ◌==◌, nat_le, List, [], ◌∷◌}
+use Rattle.std.specs.Prelude.{◌++◌}
+use Rattle.std.specs.Prelude.{length, fold, slice_get, Option, None, Some, if◌then◌else◌}
 
--- the octets of an article that one block has room for
-abbrev pub payload : ℕ
-payload = 480
+-- the octets of a block on the device (docs/FORMATS.md, Blocks on the device)
+abbrev pub block_size : ℕ
+block_size = 512
+
+-- the octets of an article that one block has room for (docs/FORMATS.md, Blocks on the device)
+abbrev pub chunk_size : ℕ
+chunk_size = 480
 
 -- n is the least number of blocks that have room for so many octets
 pub record IsSize (octets n : ℕ) : Type 0 where
-  pub enough : octets ≤ payload * n
-  pub least : (m : ℕ) → octets ≤ payload * m → n ≤ m
+  pub enough : octets ≤ chunk_size * n
+  pub least : (m : ℕ) → octets ≤ chunk_size * m → n ≤ m
 
 -- the blocks that an article of so many octets takes
 abbrev pub size_of : ℕ → ℕ
-size_of octets = (octets + 479) / payload
+size_of octets = (octets + (chunk_size - 1)) / chunk_size
 
 -- how far a list of sizes has come: the run that it is in, counted from 0,
 -- and the blocks used of it

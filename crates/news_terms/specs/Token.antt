@@ -1,5 +1,6 @@
 -- Tokens: where a stored article lies (docs/FORMATS.md, Tokens).
-use Rattle.std.specs.Prelude.{ℕ, ◌+◌, ◌/◌, ◌%◌, ◌<◌, ◌==◌, nat_lt, ◌&&◌, Bool, List, [], ◌∷◌, ◌++◌, flat_map, ◌^◌, if◌then◌else◌}
+use Rattle.std.specs.Prelude.{ℕ, ◌+◌, ◌/◌, ◌%◌, ◌<◌, ◌==◌, nat_lt, ◌&&◌, Bool, List, [], ◌∷◌, ◌++◌}
+use Rattle.std.specs.Prelude.{flat_map, ◌^◌, if◌then◌else◌}
 use Rattle.std.specs.Int.{to_be_bytes, w32}
 
 -- where a stored article lies, and how long it is

@@ -38,6 +38,24 @@ pub fn first_block_law()
         first_block (stream ++ more) ≡ Some (lines, rest ++ more) }
 {}
 
+/// The next line, and that it is too long, stay when more octets come.
+pub fn next_line_grows()
+    ensures cut { (stream line rest more : List ℕ) → next_line stream ≡ lines.Cut line rest →
+        next_line (stream ++ more) ≡ lines.Cut line (rest ++ more) }
+    ensures too_long { (stream more : List ℕ) → next_line stream ≡ lines.TooLong →
+        next_line (stream ++ more) ≡ lines.TooLong }
+{}
+
+/// The next block, and that it is oversize, stay when more octets come.
+pub fn next_block_grows()
+    ensures whole { (limit : ℕ) (stream text rest more : List ℕ) →
+        next_block limit stream ≡ blocks.Whole text rest →
+        next_block limit (stream ++ more) ≡ blocks.Whole text (rest ++ more) }
+    ensures oversize { (limit : ℕ) (stream rest more : List ℕ) →
+        next_block limit stream ≡ blocks.Oversize rest →
+        next_block limit (stream ++ more) ≡ blocks.Oversize (rest ++ more) }
+{}
+
 /// The block that sends a text of lines is the first of any stream that it begins, and stands for
 /// that text.
 pub fn stuffing_law()

@@ -1,11 +1,12 @@
 //! Dates: worked examples, of which now is 1609459200, the first second of 2021.
 
-ghost use Rattle.std.specs.Prelude.{◌≡◌, ◌++◌, ◌∷◌, ◌↔◌, ◌+◌, ◌+ℤ◌, ◌≤ℤ◌, ◌<ℤ◌, ℕ, ℤ, codes};
+ghost use Rattle.std.specs.Prelude.{◌≡◌, ◌++◌, ◌∷◌, ◌↔◌, ◌+◌, ◌+ℤ◌, ◌≤ℤ◌, ◌<ℤ◌, ℕ, ℤ, List, codes};
 ghost use Rattle.std.specs.Prelude.{◌<◌, Some, None, pos, negsuc};
 ghost use Rattle.news_terms.specs.Article.{worked_article};
 ghost use Rattle.news_terms.specs.Dates.{seconds_ahead, prepared_date, date_fault, judged_date};
 ghost use Rattle.news_terms.specs.Dates.{BadDate, Future, TooOld, two_digits, four_digits};
 ghost use Rattle.news_terms.specs.Dates.{fourteen_digits};
+ghost use Rattle.news_terms.specs.Stamps.{IsStamp};
 ghost use Rattle.news_terms.specs.Command.{number_of};
 
 /// A date has no fault from the cutoff before now to a day after it.
@@ -73,4 +74,17 @@ pub fn digit_examples()
       minute = 4;
       second = 59;
     }) ≡ codes "20210102030459" }
+{}
+
+/// The digits of a moment are one text.
+pub fn one_stamp()
+    ensures { (now : ℕ) (a b : List ℕ) → IsStamp now a → IsStamp now b → a ≡ b }
+{}
+
+/// The digits of some moments, a leap day and the last second of the year 9998 among them.
+pub fn stamp_examples()
+    ensures first { IsStamp 0 (codes "19700101000000") }
+    ensures new_year { IsStamp 1609459200 (codes "20210101000000") }
+    ensures leap_day { IsStamp 1709164800 (codes "20240229000000") }
+    ensures last { IsStamp 253370764799 (codes "99981231235959") }
 {}

@@ -1,5 +1,6 @@
 //! Laws of places and fronts: where the next article of a group begins, and that no front falls.
-ghost use Rattle.std.specs.Prelude.{◌≡◌, ℕ, ◌<◌, ◌≤◌, List, ◌++◌, All, length, slice_get, Some, is_some, true};
+ghost use Rattle.std.specs.Prelude.{◌≡◌, ℕ, ◌<◌, ◌≤◌, List, ◌++◌, All, length, slice_get, Some};
+ghost use Rattle.std.specs.Prelude.{is_some, true};
 ghost use Rattle.news_terms.specs.Fronts.{HasOwnNumbers, FitsGroup, IsAmongBuffers};
 ghost use Rattle.news_terms.specs.Fronts.{EndsInBuffer, IsAtOrPastFront};
 ghost use Rattle.news_terms.specs.Places.{Buffer, Group, Place, next_place, extents, front_after};

@@ -1,5 +1,6 @@
 //! Laws and worked examples of message-ids.
-ghost use Rattle.std.specs.Prelude.{◌≡◌, ◌≢◌, ℕ, ◌-◌, ◌≤◌, ◌↔◌, List, ◌++◌, codes, length, take, slice_index, All, Some, None, replicate};
+ghost use Rattle.std.specs.Prelude.{◌≡◌, ◌≢◌, ℕ, ◌-◌, ◌≤◌, ◌↔◌, List, ◌++◌, codes, length, take};
+ghost use Rattle.std.specs.Prelude.{slice_index, All, Some, None, replicate};
 ghost use Rattle.news_terms.specs.MessageId.{id_fault, IsMessageId};
 ghost use Rattle.news_terms.specs.MessageId as ids;
 

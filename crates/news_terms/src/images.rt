@@ -2,12 +2,12 @@
 
 ghost use Rattle.std.specs.Prelude.{◌≡◌, ◌≤◌, ◌<◌, ◌+◌, ◌*◌, ◌∷◌, ◌++◌, ℕ, List};
 ghost use Rattle.std.specs.Prelude.{length, take, replicate};
-ghost use Rattle.news_terms.specs.BlockImage.{Block, IsBlock, chunk_size, block_image, block_of};
-ghost use Rattle.news_terms.specs.BlockImage.{block_head, chunk};
+ghost use Rattle.news_terms.specs.BlockImage.{Block, IsBlock, block_size, chunk_size, block_image};
+ghost use Rattle.news_terms.specs.BlockImage.{block_of, block_head, chunk};
 
 /// The image of a block that holds 480 octets at most is 512 octets.
 pub fn image_size()
-    ensures { (b : Block) → length b.payload ≤ chunk_size → length (block_image b) ≡ 512 }
+    ensures { (b : Block) → length b.payload ≤ chunk_size → length (block_image b) ≡ block_size }
 {}
 
 /// An image is that of one block.

@@ -1,7 +1,8 @@
 //! Laws and worked examples of sizes, runs, places and fronts.
 ghost use Rattle.std.specs.Prelude.{◌≡◌, ◌<◌, ℕ, codes, Some, None, [], ◌∷◌};
 ghost use Rattle.news_terms.specs.Places.{IsSize, IsLive, IsGone, size_of, extents, front_after};
-ghost use Rattle.news_terms.specs.PlaceExamples.{eight, six, one_of_eight, eight_then_six, eight_and_six};
+ghost use Rattle.news_terms.specs.PlaceExamples.{eight, six, one_of_eight, eight_then_six};
+ghost use Rattle.news_terms.specs.PlaceExamples.{eight_and_six};
 
 /// How many blocks texts of these lengths take.
 pub fn size_examples()

@@ -1,6 +1,5 @@
-//! Worked examples of tokens and replies.
+//! Worked examples of tokens and replies: each reply once.
 ghost use Rattle.std.specs.Prelude.{◌≡◌, ◌++◌, codes, [], ◌∷◌};
-ghost use Rattle.news_terms.specs.Lines.{crlf};
 ghost use Rattle.news_terms.specs.Reply.{reply_text};
 ghost use Rattle.news_terms.specs.Reply as replies;
 ghost use Rattle.news_terms.specs.Token.{token_text};
@@ -21,15 +20,84 @@ pub fn token_examples()
         ≡ codes "@01000000000000000000000000A4@" }
 {}
 
-/// What the first script is answered.
-pub fn reply_examples()
+/// The greeting, and what a session says of itself.
+pub fn session_reply_examples()
     ensures greeting { reply_text replies.Greeting
-        ≡ codes "201 cnrelay ready, posting prohibited" ++ crlf }
-    ensures send { reply_text (replies.SendIt (codes "<a@x>")) ≡ codes "238 <a@x>" ++ crlf }
-    ensures kept { reply_text (replies.Kept (codes "<a@x>")) ≡ codes "239 <a@x>" ++ crlf }
-    ensures exists { reply_text (replies.Exists (codes "<a@x>")) ≡ codes "223 0 <a@x>" ++ crlf }
+        ≡ codes "201 cnrelay ready, posting prohibited\r\n" }
+    ensures capabilities { reply_text replies.CapabilityList
+        ≡ codes "101 Capability list:\r\nVERSION 2\r\nIMPLEMENTATION cnrelay\r\nIHAVE\r\n"
+        ++ codes "STREAMING\r\nXTAKE\r\nXFETCH\r\n.\r\n" }
+    ensures help { reply_text replies.HelpText
+        ≡ codes "100 Help text follows\r\nCHECK TAKETHIS IHAVE STAT ARTICLE HEAD BODY OVER XTAKE "
+        ++ codes "XFETCH MODE DATE CAPABILITIES HELP QUIT\r\n.\r\n" }
+    ensures date { reply_text (replies.DateIs (codes "20210101000000"))
+        ≡ codes "111 20210101000000\r\n" }
+    ensures bye { reply_text replies.Bye ≡ codes "205 Bye\r\n" }
+    ensures streaming { reply_text replies.StreamingPermitted
+        ≡ codes "203 Streaming permitted\r\n" }
+    ensures posting { reply_text replies.PostingProhibited ≡ codes "201 Posting prohibited\r\n" }
+{}
+
+/// What CHECK and TAKETHIS are answered.
+pub fn offer_reply_examples()
+    ensures send { reply_text (replies.SendIt (codes "<a@x>")) ≡ codes "238 <a@x>\r\n" }
+    ensures later { reply_text (replies.AskLater (codes "<a@x>")) ≡ codes "431 <a@x>\r\n" }
+    ensures not_wanted { reply_text (replies.NotWanted (codes "<a@x>")) ≡ codes "438 <a@x>\r\n" }
+    ensures kept { reply_text (replies.Kept (codes "<a@x>")) ≡ codes "239 <a@x>\r\n" }
+    ensures rejected { reply_text (replies.Rejected (codes "<a@x>")) ≡ codes "439 <a@x>\r\n" }
+    ensures not_stored { reply_text replies.NotStored ≡ codes "400 Not stored, closing\r\n" }
+{}
+
+/// What IHAVE is answered, at first and after the article.
+pub fn ihave_reply_examples()
+    ensures send { reply_text replies.IhaveSend ≡ codes "335 Send it\r\n" }
+    ensures not_wanted { reply_text replies.IhaveNotWanted ≡ codes "435 Not wanted\r\n" }
+    ensures later { reply_text replies.IhaveLater ≡ codes "436 Try again later\r\n" }
+    ensures kept { reply_text replies.IhaveKept ≡ codes "235 Transferred\r\n" }
+    ensures rejected { reply_text replies.IhaveRejected ≡ codes "437 Rejected\r\n" }
+{}
+
+/// What a fetch by message-id is answered: a text is stuffed and closed, STAT sends none.
+pub fn fetch_reply_examples()
+    ensures article { reply_text
+        (replies.ArticleFollows (codes "<a@x>") (codes "Path: x\r\n\r\n.\r\n"))
+        ≡ codes "220 0 <a@x>\r\nPath: x\r\n\r\n..\r\n.\r\n" }
+    ensures header { reply_text (replies.HeaderFollows (codes "<a@x>") (codes "Path: x\r\n"))
+        ≡ codes "221 0 <a@x>\r\nPath: x\r\n.\r\n" }
+    ensures body { reply_text (replies.BodyFollows (codes "<a@x>") (codes "..x\r\n"))
+        ≡ codes "222 0 <a@x>\r\n...x\r\n.\r\n" }
+    ensures empty_body { reply_text (replies.BodyFollows (codes "<a@x>") [])
+        ≡ codes "222 0 <a@x>\r\n.\r\n" }
+    ensures exists { reply_text (replies.Exists (codes "<a@x>")) ≡ codes "223 0 <a@x>\r\n" }
+    ensures overview { reply_text
+        (replies.OverviewFollows (codes "0\tt\ta@x.example\t\t<a@x>\t\t164\t1"))
+        ≡ codes "224 Overview follows\r\n0\tt\ta@x.example\t\t<a@x>\t\t164\t1\r\n.\r\n" }
+    ensures no_article { reply_text replies.NoArticle ≡ codes "430 No such article\r\n" }
+    ensures no_group { reply_text replies.NoGroup ≡ codes "412 No group selected\r\n" }
+    ensures device { reply_text replies.DeviceFault ≡ codes "403 Device fault\r\n" }
+{}
+
+/// What the commands of a feed are answered.
+pub fn feed_reply_examples()
     ensures queue { reply_text (replies.QueueFollows 1
         ((2, record { class = 1; buffer = 0; cycle = 0; first = 1; length = 164 }) ∷ []))
-        ≡ codes "290 Queue follows" ++ crlf ++ codes "1" ++ crlf
-        ++ codes "2 @01000000000000000001000000A4@" ++ crlf ++ codes "." ++ crlf }
+        ≡ codes "290 Queue follows\r\n1\r\n2 @01000000000000000001000000A4@\r\n.\r\n" }
+    ensures no_feed { reply_text replies.NoFeed ≡ codes "490 No feed\r\n" }
+    ensures token { reply_text (replies.TokenFollows
+        (record { class = 1; buffer = 0; cycle = 0; first = 0; length = 164 })
+        (codes ".\r\n"))
+        ≡ codes "292 @01000000000000000000000000A4@\r\n..\r\n.\r\n" }
+    ensures gone { reply_text (replies.TokenGone
+        (record { class = 1; buffer = 0; cycle = 0; first = 0; length = 164 }))
+        ≡ codes "492 @01000000000000000000000000A4@ gone\r\n" }
+    ensures unknown { reply_text (replies.TokenUnknown
+        (record { class = 1; buffer = 0; cycle = 0; first = 0; length = 164 }))
+        ≡ codes "493 @01000000000000000000000000A4@ unknown\r\n" }
+{}
+
+/// What a line that is no command is answered.
+pub fn fault_reply_examples()
+    ensures unknown { reply_text replies.UnknownCommand ≡ codes "500 Unknown command\r\n" }
+    ensures syntax { reply_text replies.SyntaxError ≡ codes "501 Syntax error\r\n" }
+    ensures long_line { reply_text replies.LineTooLong ≡ codes "501 Line too long\r\n" }
 {}

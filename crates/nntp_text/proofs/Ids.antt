@@ -1,5 +1,6 @@
 -- What is known of a text in which no fault of a message-id was found.
-use Rattle.std.proofs.Common.{◌≡◌, ℕ, Bool, true, false, List, [], ◌∷◌, get_or, length, take, ◌-◌, None, Result, Ok, Err, refl, sym, ap, ◌∙◌, arith, eqb}
+use Rattle.std.proofs.Common.{◌≡◌, ℕ, Bool, true, false, List, [], ◌∷◌, get_or, length, take, ◌-◌}
+use Rattle.std.proofs.Common.{None, Result, Ok, Err, refl, sym, ap, ◌∙◌, arith, eqb}
 use Rattle.std.specs.Prelude.{not, ◌==◌, ◌&&◌, ◌||◌, MatchResult, IsOk}
 use Rattle.std.specs.List.{list_any, list_all}
 use Rattle.std.specs.Str.{IsAscii}
@@ -25,7 +26,8 @@ not-or false b = refl
 -- No element passes the test exactly where each fails it.
 pub not-list_any : (p : ℕ → Bool) (xs : List ℕ) → not (list_any p xs) ≡ list_all (λ c. not (p c)) xs
 not-list_any p [] = refl
-not-list_any p (x ∷ xs) = not-or (p x) (list_any p xs) ∙ ap (λ b. not (p x) && b) (not-list_any p xs)
+not-list_any p (x ∷ xs) =
+    not-or (p x) (list_any p xs) ∙ ap (λ b. not (p x) && b) (not-list_any p xs)
 
 -- A result is Ok where its Err would say that a fact fails which holds.
 pub ok_from_fact : {X E : Type 0} (U : Type 0) (P : X → Type 0) (Q : E → Type 0) (r : Result X E)
@@ -38,4 +40,5 @@ pub brackets_are : (text : List ℕ) (r : Bool) → eqb (get_or text 0 0) 60 ≡
     → eqb (get_or text (length text - 1) 0) 62 ≡ true
     → r ≡ list_any (λ c. c == 62) (take (length text - 1) text) → not r ≡ has_brackets text
 brackets_are text r first last found =
-    ap not found ∙ not-list_any (λ c. c == 62) (take (length text - 1) text) ∙ sym (rw (first, last) refl)
+    ap not found ∙ not-list_any (λ c. c == 62) (take (length text - 1) text)
+    ∙ sym (rw (first, last) refl)

@@ -1,11 +1,13 @@
 -- What reading a command line gives (docs/FORMATS.md, Command lines).
-use Rattle.std.specs.Prelude.{◌≡◌, ℕ, List, false, Option, None, Some, Result, Ok, Err, if◌then◌else◌}
+use Rattle.std.specs.Prelude.{◌≡◌, ℕ, List, false, Option, None, Some, Result, Ok, Err}
+use Rattle.std.specs.Prelude.{if◌then◌else◌}
 use Rattle.news_terms.specs.Command.{is_served, is_id}
 use Rattle.news_terms.specs.Command as terms
 use Rattle.nntp_text.specs.declared.command.CmdError.{CmdError}
 use Rattle.nntp_text.specs.declared.command.CmdError.TheVariants.{Memory, Unknown, Syntax}
 use Rattle.nntp_text.specs.declared.command.Command.{Command}
-use Rattle.nntp_text.specs.declared.command.Command.TheVariants.{Check, TakeThis, Stat, NeedsGroup, Quit}
+use Rattle.nntp_text.specs.declared.command.Command.TheVariants.{Check, TakeThis, Stat, NeedsGroup}
+use Rattle.nntp_text.specs.declared.command.Command.TheVariants.{Quit}
 use Rattle.nntp_text.specs.declared.command.Keyword.{Keyword}
 use Rattle.nntp_text.specs.declared.command.Keyword.TheVariants as keywords
 

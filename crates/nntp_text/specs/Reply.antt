@@ -4,7 +4,11 @@ use Rattle.std.specs.Borrow.{Bor}
 use Rattle.news_terms.specs.Reply.{line_of}
 use Rattle.news_terms.specs.Reply as terms
 use Rattle.nntp_text.specs.declared.reply.Reply.{Reply}
-use Rattle.nntp_text.specs.declared.reply.Reply.TheVariants.{Greeting, Bye, SendIt, AskLater, NotWanted, Kept, Rejected, NotStored, Exists, NoArticle, NoGroup, UnknownCommand, SyntaxError, LineTooLong}
+use Rattle.nntp_text.specs.declared.reply.Reply.TheVariants.{Greeting, Bye, SendIt, AskLater}
+use Rattle.nntp_text.specs.declared.reply.Reply.TheVariants.{NotWanted, Kept, Rejected, NotStored}
+use Rattle.nntp_text.specs.declared.reply.Reply.TheVariants.{Exists, NoArticle, NoGroup}
+use Rattle.nntp_text.specs.declared.reply.Reply.TheVariants.{UnknownCommand, SyntaxError}
+use Rattle.nntp_text.specs.declared.reply.Reply.TheVariants.{LineTooLong}
 
 -- a reply as the definitions have it
 abbrev pub reply_view : Reply → terms.Reply

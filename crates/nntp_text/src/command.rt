@@ -1,12 +1,13 @@
 ghost use Rattle.std.specs.Prelude.{◌≡◌, IfOk};
-ghost use Rattle.news_terms.specs.Command.{command_among, command_with, is_served, words, CHECK, TAKETHIS, STAT, QUIT};
+ghost use Rattle.news_terms.specs.Command.{command_among, command_with, is_served, words, CHECK};
+ghost use Rattle.news_terms.specs.Command.{TAKETHIS, STAT, QUIT};
 ghost use Rattle.news_terms.specs.Command as terms;
 ghost use Rattle.nntp_text.specs.Command.{CommandGives, KeywordGives, id_among};
 ghost use Rattle.nntp_text.specs.declared.command.CmdError.TheVariants.{Memory};
 
 use crate::id::{IdError, MsgId};
-use crate::words::{Arguments, first_word, words_after};
-use line_words::has_only_digits;
+use crate::words::{Arguments, words_after};
+use line_words::{Between, first_word, has_only_digits};
 use std::alloc::{AllocError, Global};
 
 /// What a command line asks.
@@ -57,7 +58,7 @@ impl Command {
     pub fn parse(alloc: Global, line: &[u8]) -> Result<Command, CmdError>
         ensures { CommandGives result (command_among is_served line.now) }
     {
-        let Some((word, rest)) = first_word(line) else {
+        let Some((word, rest)) = first_word(line, Between::White) else {
             return Err(CmdError::Unknown);
         };
         match keyword_of(word) {
@@ -129,7 +130,7 @@ fn stat(alloc: Global, rest: &[u8]) -> Result<Command, CmdError>
 fn quit(rest: &[u8]) -> Result<Command, CmdError>
     ensures { CommandGives result (command_with QUIT (words rest.now)) }
 {
-    match first_word(rest) {
+    match first_word(rest, Between::White) {
         None => Ok(Command::Quit),
         Some(_) => Err(CmdError::Syntax),
     }

@@ -1,108 +1,88 @@
+//! Worked examples of the formats (docs/FORMATS.md, Command lines and Replies), each a table: a
+//! text in, what comes of it out.
 use super::*;
 use std::test::*;
 
-/// A text of a `<`, so many times `a`, and a `>`.
-fn bracketed(rt: &HostRuntime, count: usize) -> Result<Vec<u8>, Fail> {
-    let mut text = vec![in rt.alloc(); b'a'; count].map_err(|_| "memory")?;
-    text.insert(0, b'<').map_err(|_| "memory")?;
-    text.push(b'>').map_err(|_| "memory")?;
-    Ok(text)
+/// So many times `a` between two texts.
+fn around(rt: &HostRuntime, front: &str, count: usize, back: &str) -> Result<Vec<u8>, Fail> {
+    let letters = vec![in rt.alloc(); b'a'; count]?;
+    Ok([front.as_bytes(), letters.as_slice(), back.as_bytes()].concat(rt.alloc())?)
 }
 
 #[test]
-fn accepted_ids(rt: HostRuntime) -> Result<(), Fail> {
-    for text in ["<a>", "<a@x>", "<a<b>"] {
-        let id = MsgId::parse(rt.alloc(), text.as_bytes()).map_err(|_| "an id")?;
-        assert_eq!(rt; id.as_str(), text);
-        assert_eq!(rt; id.as_bytes(), text.as_bytes());
-        let copy = id.copied(rt.alloc()).map_err(|_| "memory")?;
-        assert_eq!(rt; copy.as_str(), text);
-        assert_eq!(rt; id.into_string().as_str(), text);
-    }
-    let longest = bracketed(&rt, 248)?;
-    let id = MsgId::parse(rt.alloc(), &longest).map_err(|_| "250 octets")?;
-    assert_eq!(rt; id.as_bytes(), longest.as_slice());
-    Ok(())
-}
-
-#[test]
-fn refused_ids(rt: HostRuntime) -> Result<(), Fail> {
+fn ids(rt: HostRuntime) -> Result<(), Fail> {
     let cases = [
-        ("", IdError::Length),
-        ("<>", IdError::Length),
-        ("<a>b>", IdError::Brackets),
-        ("a@x>", IdError::Brackets),
-        ("<a@x", IdError::Brackets),
-        ("<a b>", IdError::Octet),
-        ("<a\u{7f}>", IdError::Octet),
-        ("<\u{e9}>", IdError::Octet),
+        ("<a>", "Ok(MsgId { text: \"<a>\" })"),
+        ("<a@x>", "Ok(MsgId { text: \"<a@x>\" })"),
+        ("<a<b>", "Ok(MsgId { text: \"<a<b>\" })"),
+        ("", "Err(Length)"),
+        ("<>", "Err(Length)"),
+        ("<a>b>", "Err(Brackets)"),
+        ("a@x>", "Err(Brackets)"),
+        ("<a@x", "Err(Brackets)"),
+        ("<a b>", "Err(Octet)"),
+        ("<a\u{7f}>", "Err(Octet)"),
+        ("<\u{e9}>", "Err(Octet)"),
         // Of two faults the first in the order of trial is told.
-        (" >>", IdError::Brackets),
+        (" >>", "Err(Brackets)"),
     ];
-    for (text, error) in cases {
-        let answer = MsgId::parse(rt.alloc(), text.as_bytes());
-        assert_eq!(rt; answer.err(), Some(error), "{text:?}");
-    }
-    let too_long = bracketed(&rt, 249)?;
-    assert_eq!(rt;
-        MsgId::parse(rt.alloc(), &too_long).err(),
-        Some(IdError::Length)
-    );
-    Ok(())
-}
-
-#[test]
-fn commands_with_an_id(rt: HostRuntime) -> Result<(), Fail> {
-    for line in ["CHECK <a@x>", "check\t<a@x>  ", "  Check   <a@x>"] {
-        match Command::parse(rt.alloc(), line.as_bytes()).map_err(|_| "a command")? {
-            Command::Check(id) => assert_eq!(rt; id.as_str(), "<a@x>", "{line}"),
-            _ => return Err("CHECK".into()),
-        }
-    }
-    match Command::parse(rt.alloc(), b"STAT <a@x>").map_err(|_| "a command")? {
-        Command::Stat(id) => assert_eq!(rt; id.as_str(), "<a@x>"),
-        _ => return Err("STAT".into()),
-    }
-    match Command::parse(rt.alloc(), b"takethis <a@x>").map_err(|_| "a command")? {
-        Command::TakeThis(Some(id)) => assert_eq!(rt; id.as_str(), "<a@x>"),
-        _ => return Err("TAKETHIS".into()),
+    for (text, asked) in cases {
+        let id = MsgId::parse(rt.alloc(), text.as_bytes());
+        let said = format!(in rt.alloc(); "{id:?}")?;
+        assert_eq!(rt; said.as_str(), asked, "{text:?}");
     }
     Ok(())
 }
 
 #[test]
-fn commands_without_an_id(rt: HostRuntime) {
-    for line in ["TAKETHIS", "TAKETHIS nonsense", "TAKETHIS <a@x> <b@x>"] {
-        let command = Command::parse(rt.alloc(), line.as_bytes());
-        assert!(rt; matches!(command, Ok(Command::TakeThis(None))), "{line}");
-    }
-    for line in ["STAT", "STAT 5", "STAT 1234567890123456"] {
-        let command = Command::parse(rt.alloc(), line.as_bytes());
-        assert!(rt; matches!(command, Ok(Command::NeedsGroup)), "{line}");
-    }
-    let command = Command::parse(rt.alloc(), b"\tquit ");
-    assert!(rt; matches!(command, Ok(Command::Quit)));
+fn copies_of_an_id(rt: HostRuntime) -> Result<(), Fail> {
+    let id = MsgId::parse(rt.alloc(), b"<a@x>").map_err(|_| "an id")?;
+    let copy = id.copied(rt.alloc())?;
+    let octets = copy.as_bytes();
+    let said = format!(in rt.alloc(); "{} {octets:?}", id.as_str())?;
+    assert_eq!(rt; said.as_str(), "<a@x> [60, 97, 64, 120, 62]");
+    assert_eq!(rt; id.into_string().as_str(), "<a@x>");
+    Ok(())
 }
 
 #[test]
-fn refused_lines(rt: HostRuntime) {
-    for line in ["", "  \t ", "FOO", "MODE X", "IHAVE <a@x>", "CHECKS <a@x>"] {
-        let command = Command::parse(rt.alloc(), line.as_bytes());
-        assert_eq!(rt; command.err(), Some(CmdError::Unknown), "{line:?}");
-    }
-    let lines = [
-        "CHECK",
-        "CHECK a@x",
-        "CHECK <a@x> <b@x>",
-        "STAT 12345678901234567",
-        "STAT 5x",
-        "STAT <a@x> 5",
-        "QUIT now",
+fn command_lines(rt: HostRuntime) -> Result<(), Fail> {
+    let cases = [
+        ("CHECK <a@x>", "Ok(Check(MsgId { text: \"<a@x>\" }))"),
+        ("check\t<a@x>  ", "Ok(Check(MsgId { text: \"<a@x>\" }))"),
+        ("  Check   <a@x>", "Ok(Check(MsgId { text: \"<a@x>\" }))"),
+        ("STAT <a@x>", "Ok(Stat(MsgId { text: \"<a@x>\" }))"),
+        (
+            "takethis <a@x>",
+            "Ok(TakeThis(Some(MsgId { text: \"<a@x>\" })))",
+        ),
+        ("TAKETHIS", "Ok(TakeThis(None))"),
+        ("TAKETHIS nonsense", "Ok(TakeThis(None))"),
+        ("TAKETHIS <a@x> <b@x>", "Ok(TakeThis(None))"),
+        ("STAT", "Ok(NeedsGroup)"),
+        ("STAT 5", "Ok(NeedsGroup)"),
+        ("STAT 1234567890123456", "Ok(NeedsGroup)"),
+        ("\tquit ", "Ok(Quit)"),
+        ("", "Err(Unknown)"),
+        ("  \t ", "Err(Unknown)"),
+        ("FOO", "Err(Unknown)"),
+        ("MODE X", "Err(Unknown)"),
+        ("IHAVE <a@x>", "Err(Unknown)"),
+        ("CHECKS <a@x>", "Err(Unknown)"),
+        ("CHECK", "Err(Syntax)"),
+        ("CHECK a@x", "Err(Syntax)"),
+        ("CHECK <a@x> <b@x>", "Err(Syntax)"),
+        ("STAT 12345678901234567", "Err(Syntax)"),
+        ("STAT 5x", "Err(Syntax)"),
+        ("STAT <a@x> 5", "Err(Syntax)"),
+        ("QUIT now", "Err(Syntax)"),
     ];
-    for line in lines {
+    for (line, asked) in cases {
         let command = Command::parse(rt.alloc(), line.as_bytes());
-        assert_eq!(rt; command.err(), Some(CmdError::Syntax), "{line}");
+        let said = format!(in rt.alloc(); "{command:?}")?;
+        assert_eq!(rt; said.as_str(), asked, "{line:?}");
     }
+    Ok(())
 }
 
 #[test]
@@ -125,20 +105,25 @@ fn replies(rt: HostRuntime) -> Result<(), Fail> {
         (Reply::LineTooLong, "501 Line too long\r\n"),
     ];
     for (reply, text) in cases {
-        let octets = reply_bytes(rt.alloc(), &reply).map_err(|_| "memory")?;
+        let octets = reply_bytes(rt.alloc(), &reply)?;
         assert_eq!(rt; octets.as_slice(), text.as_bytes());
     }
     Ok(())
 }
 
+/// From the shortest id to one of 250 octets, whose reply fills the room for one.
 #[test]
-fn longest_reply(rt: HostRuntime) -> Result<(), Fail> {
-    let longest = bracketed(&rt, 248)?;
-    let id = MsgId::parse(rt.alloc(), &longest).map_err(|_| "an id")?;
-    let mut out = Vec::with_capacity(rt.alloc(), 2 + REPLY_ROOM).map_err(|_| "memory")?;
-    out.push_reserved(b'.');
-    out.push_reserved(b'.');
-    put_reply(&mut out, &Reply::Exists(&id));
-    assert_eq!(rt; out.len(), 2 + REPLY_ROOM);
+fn replies_of_any_length(rt: HostRuntime) -> Result<(), Fail> {
+    for (letters, octets) in [(1, 11), (70, 80), (247, 257), (248, REPLY_ROOM)] {
+        let text = around(&rt, "<", letters, ">")?;
+        let id = MsgId::parse(rt.alloc(), &text).map_err(|_| "an id")?;
+        let reply = reply_bytes(rt.alloc(), &Reply::Exists(&id))?;
+        let asked = around(&rt, "223 0 <", letters, ">\r\n")?;
+        assert_eq!(rt; reply.as_slice(), asked.as_slice());
+        assert_eq!(rt; reply.len(), octets);
+    }
+    let text = around(&rt, "<", 249, ">")?;
+    let id = MsgId::parse(rt.alloc(), &text);
+    assert_eq!(rt; id.err(), Some(IdError::Length));
     Ok(())
 }

@@ -2,7 +2,8 @@
 use Rattle.std.proofs.Common.{◌≡◌, ℕ, ◌+◌, ◌-◌, ◌^◌, ◌≤◌, ◌++◌, List, length, map, drop, min, arith, ap}
 use Rattle.std.specs.Prelude.{flat_map}
 use Rattle.std.proofs.lemmas.List.{length-append, drop_all}
-use Rattle.news_terms.specs.Article.{Article, field_text, article_text, line_end}
+use Rattle.news_terms.specs.Article.{Article, field_text, article_text}
+use Rattle.news_terms.specs.Lines.{crlf}
 use Rattle.news_terms.specs.Path.{updated_article, updated_field}
 use Rattle.article_parse.specs.declared.header.Field as parsed
 use Rattle.article_parse.specs.Header.{field_view}
@@ -18,8 +19,8 @@ length-article_text : (a : Article)
 length-article_text a =
     omega (
       arith,
-      length-append (flat_map field_text a.fields) line_end,
-      length-append (flat_map field_text a.fields ++ line_end) a.body,
+      length-append (flat_map field_text a.fields) crlf,
+      length-append (flat_map field_text a.fields ++ crlf) a.body,
     )
 
 -- behind the last field the octets are those of the update

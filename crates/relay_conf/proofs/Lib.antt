@@ -3,7 +3,6 @@ pub mod CycbuffReadings
 pub mod FileLines
 pub mod FirstFaults
 pub mod JoinedLines
-pub mod LineWords
 pub mod LinesRead
 pub mod NameTexts
 pub mod Numbered

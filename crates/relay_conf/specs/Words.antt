@@ -1,19 +1,16 @@
 -- Words of configuration files: what stands between spaces, names and identities.
-use Rattle.std.specs.Prelude.{ℕ, ◌==◌, ◌&&◌, ◌||◌, not, nat_eq, nat_le, filter, Bool, List, length}
-use Rattle.std.specs.Prelude.{codes}
-use Rattle.std.specs.List.{slice_split, list_all, starts_with}
+use Rattle.std.specs.Prelude.{ℕ, ◌==◌, ◌&&◌, ◌||◌, not, nat_eq, nat_le, Bool, List, length, codes}
+use Rattle.std.specs.List.{list_all, starts_with}
 use Rattle.std.specs.Char.{is_ascii_alphanumeric}
 use Rattle.std.specs.Str.{byte}
-use Rattle.news_terms.specs.Article.{is_empty, space}
-
--- an octet that stands between the words of relay.conf (docs/FORMATS.md, Configuration)
-abbrev pub is_space : ℕ → Bool
-is_space c = c == space
+use Rattle.news_terms.specs.Article.{is_empty}
+use Rattle.news_terms.specs.Lines.{words_between}
+use Rattle.line_words.specs.Words.{is_space}
 
 -- the words of a line of relay.conf: what stands between spaces, and at either end
 -- (docs/FORMATS.md, Configuration)
 abbrev pub words : List ℕ → List (List ℕ)
-words line = filter (λ word. not (length word == 0)) (slice_split is_space line)
+words line = words_between is_space line
 
 -- an octet of a name: an ASCII letter or digit, `-`, `_` or `.` (docs/FORMATS.md, Configuration)
 abbrev pub is_name_octet : ℕ → Bool

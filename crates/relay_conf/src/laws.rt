@@ -1,7 +1,8 @@
 //! Laws of what the files say: nothing of the code stands on them.
 ghost use Rattle.std.specs.Prelude.{◌≡◌, ◌↔◌, ℕ, List, [], ◌∷◌, ◌++◌, Ok, IsTrue, All};
 ghost use Rattle.std.specs.List.{list_all};
-ghost use Rattle.news_terms.specs.Article.{line_feed, line_end, without_outer_white};
+ghost use Rattle.news_terms.specs.Article.{line_feed, without_outer_white};
+ghost use Rattle.news_terms.specs.Lines.{crlf};
 ghost use Rattle.news_terms.specs.Path.{is_agent, path_identities};
 ghost use Rattle.news_terms.specs.StorageClass.{Entry};
 ghost use Rattle.std.specs.Str.{byte};
@@ -25,7 +26,7 @@ pub fn lines_joined_by_line_feeds()
 /// Lines joined by CRLF are the lines of that text: so LF or CRLF makes no difference.
 pub fn lines_joined_by_line_ends()
     ensures { (first : List ℕ) (more : List (List ℕ)) → IsTrue (list_all is_line (first ∷ more))
-        → lines_of (joined_by line_end (first ∷ more)) ≡ first ∷ more }
+        → lines_of (joined_by crlf (first ∷ more)) ≡ first ∷ more }
 {}
 
 /// A comment or an empty line changes nothing of what cycbuff.conf says.

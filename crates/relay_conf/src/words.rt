@@ -1,10 +1,12 @@
 //! The words of a configuration file's lines.
-ghost use Rattle.std.specs.Prelude.{◌≡◌, ◌≤◌, ◌∷◌, [], length, not, option_map, MatchOption};
+ghost use Rattle.std.specs.Prelude.{◌≡◌, ◌∷◌, [], option_map, MatchOption};
 ghost use Rattle.std.specs.Option.{option_copied};
-ghost use Rattle.std.specs.List.{list_all, position_or_len};
+ghost use Rattle.std.specs.List.{list_all};
 ghost use Rattle.line_words.specs.Parts.{one_of, three_of};
 ghost use Rattle.relay_conf.specs.Words.{words};
 ghost use Rattle.relay_conf.specs.Words as terms;
+
+use line_words::Between;
 
 /// Whether the word is a name: 1 to 16 octets of names.
 pub(crate) fn is_name(word: &[u8]) -> bool
@@ -32,31 +34,7 @@ pub(crate) fn first_word(line: &[u8]) -> Option<(&[u8], &[u8])>
     ensures { MatchOption result (words line.now ≡ [])
         (λ cut. words line.now ≡ cut.0.now ∷ words cut.1.now) }
 {
-    let line = &line[spaces_before(line)..];
-    if line.is_empty() {
-        return None;
-    }
-    Some(line.split_at(word_length(line)))
-}
-
-/// How many spaces the line begins with.
-fn spaces_before(line: &[u8]) -> usize
-    ensures value { result ≡ position_or_len (λ c. not (terms.is_space c)) line.now }
-    ensures within { result ≤ length line.now }
-{
-    line.iter()
-        .position(|octet| *octet != b' ')
-        .unwrap_or(line.len())
-}
-
-/// How many octets stand before the first space.
-fn word_length(line: &[u8]) -> usize
-    ensures value { result ≡ position_or_len terms.is_space line.now }
-    ensures within { result ≤ length line.now }
-{
-    line.iter()
-        .position(|octet| *octet == b' ')
-        .unwrap_or(line.len())
+    line_words::first_word(line, Between::Spaces)
 }
 
 /// The one word of a line, where there is just one.

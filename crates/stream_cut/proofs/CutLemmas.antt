@@ -6,7 +6,8 @@ use Rattle.stream_cut.specs.declared.cutter.Block.{Block}
 use Rattle.stream_cut.specs.declared.cutter.Block.TheVariants.{Whole, Oversize}
 use Rattle.stream_cut.specs.Stream.{Stream, with_unread, BlockCut, IsBlockOf}
 use Rattle.stream_cut.specs.Look.{IsPassed, ClosesAt}
-use Rattle.stream_cut.proofs.PassLemmas.{first_block-closed, next_block-whole, next_block-oversize}
+use Rattle.news_terms.proofs.NextLemmas.{next_block-whole, next_block-oversize}
+use Rattle.stream_cut.proofs.PassLemmas.{first_block-closed}
 
 -- a block of the lines that were passed, cut with the lone dot after them
 pub takes_block : (old new : Stream) (block : Block) (passed looked dots : ℕ) → old.overlong ≡ false → IsPassed old.unread passed looked dots → ClosesAt old.unread passed

@@ -1,11 +1,11 @@
 -- Whole lines of a block that were passed, and what follows them.
-use Rattle.std.proofs.Common.{◌≡◌, ℕ, ◌+◌, ◌-◌, ◌<◌, ◌≤◌, ◌==◌, true, false, List, [], ◌∷◌, ◌++◌, length, take, drop, bytes_eq, Some, None, refl, sym, ap, ◌∙◌, arith, ⊎_elim, append_assoc, append-nil, length-append, length-drop}
+use Rattle.std.proofs.Common.{◌≡◌, ℕ, ◌+◌, ◌-◌, ◌≤◌, ◌==◌, true, false, List, [], ◌∷◌, ◌++◌, length, take, drop, bytes_eq, Some, None, refl, sym, ap, ◌∙◌, arith, ⊎_elim, append_assoc, append-nil, length-append, length-drop}
 use Rattle.std.proofs.lemmas.List.{take_at, drop_at, drop-drop, length-take-le}
 use Rattle.std.proofs.lemmas.Grind.{flat_map-append}
-use Rattle.std.proofs.lemmas.Bool.{cases_Bool, cond-true, cond-false, lt-ltb, le-ltb}
+use Rattle.std.proofs.lemmas.Bool.{cases_Bool, cond-true, cond-false}
 use Rattle.std.proofs.lemmas.Slice.Eq.{bytes_eq-Decides}
 use Rattle.news_terms.specs.Lines.{crlf, first_line, IsLine, AreLines, spelled}
-use Rattle.news_terms.specs.Blocks.{dot, AreOpenLines, first_block, next_block, next_block_by, unstuffed_line, unstuffed, text_lines, Whole, Oversize, Unfinished}
+use Rattle.news_terms.specs.Blocks.{dot, AreOpenLines, first_block, next_block, next_block_by, unstuffed_line, unstuffed, text_lines, Unfinished}
 use Rattle.news_terms.proofs.LineLemmas.{first_line_whole}
 use Rattle.news_terms.proofs.RestLemmas.{IsLine-from_first}
 use Rattle.news_terms.proofs.BlockLemmas.{first_block-cuts, first_block-none}
@@ -178,16 +178,6 @@ first_block-closed s passed looked dots h closes =
     let tail : h.tail ≡ 46 ∷ 13 ∷ 10 ∷ rest = sym same ∙ first_line_whole (drop passed s) (dot, rest) closes in
     first_block-cuts s h.lines rest (record { whole = h.whole ∙ ap (λ (x : List ℕ). spelled h.lines ++ x) tail; unclosed = h.unclosed })
     ∙ ap (λ (x : List (List ℕ)). Some (x, rest)) (sym (passed-text_lines s passed looked dots h))
-
--- a text within the limit
-pub next_block-whole : (limit : ℕ) (s : List ℕ) (lines : List (List ℕ)) (rest : List ℕ) → first_block s ≡ Some (lines, rest)
-    → length (unstuffed lines) ≤ limit → next_block limit s ≡ Whole (unstuffed lines) rest
-next_block-whole limit s lines rest e short = ap (next_block_by limit) e ∙ cond-false _ _ _ (le-ltb _ _ short)
-
--- a text past it
-pub next_block-oversize : (limit : ℕ) (s : List ℕ) (lines : List (List ℕ)) (rest : List ℕ) → first_block s ≡ Some (lines, rest)
-    → limit < length (unstuffed lines) → next_block limit s ≡ Oversize rest
-next_block-oversize limit s lines rest e long = ap (next_block_by limit) e ∙ cond-true _ _ _ (lt-ltb _ _ long)
 
 -- the lone dot takes three octets
 pub ClosesAt-fits : (s : List ℕ) (passed : ℕ) → ClosesAt s passed → passed + 3 ≤ length s

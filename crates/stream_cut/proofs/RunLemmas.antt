@@ -19,7 +19,9 @@ use Rattle.stream_cut.specs.Stream.{Stream, with_unread, TakesLine, TakesText, P
 use Rattle.stream_cut.specs.Cuts.{CutOff, OfLine, OfText, OfOversize, cut_off, line_and_later, block_and_later, cuts_of, CutsUp}
 use Rattle.stream_cut.specs.Steps.{Advances, Ends}
 use Rattle.stream_cut.proofs.PlaceLemmas.{EndsAt-front}
-use Rattle.stream_cut.proofs.NextLemmas.{IsNextLine, next_line-is, IsNextBlock, next_block-is, next_line-append, too_long-append, whole-append, oversize-append}
+use Rattle.news_terms.proofs.NextLemmas.{IsNextBlock, next_block-is, next_line-append}
+use Rattle.news_terms.proofs.NextLemmas.{too_long-append, whole-append, oversize-append}
+use Rattle.stream_cut.proofs.NextLemmas.{IsNextLine, next_line-is}
 
 -- what a step leaves, with more octets
 after_step : (old new : Stream) (rest more : List ℕ) → new ≡ with_unread old rest → rest ++ more ≡ new.unread ++ more

@@ -8,5 +8,7 @@ returns c =
     let text = c.args.text.now in
     let from = 480 * c.args.k in
     let rest = take_rest text from in
-    let count : c.min.result ≡ min 480 (length (drop from text)) = omega (arith, c.min.ensures, ap length rest) in
-    ap (take c.min.result) rest ∙ ap (λ n. take n (drop from text)) count ∙ take_min 480 (drop from text)
+    let count : c.min.result ≡ min 480 (length (drop from text)) =
+    omega (arith, c.min.ensures, ap length rest) in
+    ap (take c.min.result) rest ∙ ap (λ n. take n (drop from text)) count
+    ∙ take_min 480 (drop from text)

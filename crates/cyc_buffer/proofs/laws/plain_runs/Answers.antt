@@ -7,7 +7,8 @@ use Rattle.cyc_buffer.proofs.laws.plain_runs.Goals as goal
 
 -- one more size moves the head on
 head_more : (room : ℕ → ℕ) (sizes : List ℕ) (size : ℕ) (head : Head)
-    → fold (after_size room) head (sizes ++ size ∷ []) ≡ after_size room (fold (after_size room) head sizes) size
+    → fold (after_size room) head (sizes ++ size ∷ [])
+    ≡ after_size room (fold (after_size room) head sizes) size
 head_more room [] size head = refl
 head_more room (s ∷ sizes) size head = head_more room sizes size (after_size room head s)
 
@@ -15,7 +16,8 @@ plain : (blocks : ℕ) (begins : List Begin) → AllByRecursion IsPlain begins
     → head_of blocks begins ≡ head_after (λ (run : ℕ). blocks) (sizes_of begins)
 plain blocks [] h = refl
 plain blocks (b ∷ earlier) h =
-    ap (λ (f : Bool). head_past (place_after blocks (head_of blocks earlier) f b.size) b.size) h.0.plain
+    ap (λ (f : Bool). head_past (place_after blocks (head_of blocks earlier) f b.size) b.size)
+    h.0.plain
     ∙ ap (after_size' b.size) (plain blocks earlier h.1)
     ∙ sym (head_more (λ (run : ℕ). blocks) (sizes_of earlier) b.size first_head)
   where

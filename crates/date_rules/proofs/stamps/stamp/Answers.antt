@@ -3,5 +3,8 @@ use Rattle.date_rules.proofs.CivilTimes.{civil_time_of}
 use Rattle.date_rules.proofs.stamps.stamp.Goals as goal
 
 pub returns : goal.returns
-returns c =
-    (civil_time c.datetime.result, civil_time_of c.args.now c.datetime.result c.datetime.ensures, c.digits.ensures)
+returns c = record {
+  time = civil_time c.datetime.result;
+  shown = civil_time_of c.args.now c.datetime.result c.datetime.ensures;
+  written = c.digits.ensures;
+}

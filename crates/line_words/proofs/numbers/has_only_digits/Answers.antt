@@ -6,4 +6,8 @@ use Rattle.line_words.proofs.Numerals.{list_all-digits}
 use Rattle.line_words.proofs.numbers.has_only_digits.Goals as goal
 
 pub returns : goal.returns
-returns c = all_from_yields_List is_ascii_digit _ _ c.all.result c.all.ensures.ran (YieldsList-from_slice c.args.word.now c.iter.ensures.rest) (λ x b q k. search (rules, tests)) ∙ list_all-digits c.args.word.now
+returns c =
+    all_from_yields_List is_ascii_digit _ _ c.all.result c.all.ensures.ran
+    (YieldsList-from_slice c.args.word.now c.iter.ensures.rest)
+    (λ x b q k. search (rules, tests))
+    ∙ list_all-digits c.args.word.now

@@ -5,5 +5,8 @@ use Rattle.line_words.proofs.parts.one_part.Goals as goal
 
 pub returns-in_default-Some : goal.returns-in_default-Some
 returns-in_default-Some c =
-    let cut : parts c.args.octet c.in_ok-rest.field-0.now ≡ c.cut.result.0.now ∷ parts c.args.octet c.in_default-Some.field-0-1.now = rw c.in_default-Some.is-1 at c.cut.ensures in
-    rw (c.in_ok-rest.was, cut) (sym (not_one (λ other. other == c.args.octet) c.cut.result.0.now c.in_default-Some.field-0-1.now))
+    let word = c.cut.result.0.now in
+    let rest = c.in_default-Some.field-0-1.now in
+    let cut : parts c.args.octet c.in_ok-rest.field-0.now ≡ word ∷ parts c.args.octet rest =
+    rw c.in_default-Some.is-1 at c.cut.ensures in
+    rw (c.in_ok-rest.was, cut) (sym (not_one (λ other. other == c.args.octet) word rest))

@@ -1,5 +1,6 @@
 -- What LineLemmas and RestLemmas say of the first line.
-use Rattle.news_terms.proofs.LineLemmas.{CutsLine-from_first, first_line-cuts, first_line-none, no_first_line}
+use Rattle.news_terms.proofs.LineLemmas.{CutsLine-from_first, first_line-cuts, first_line-none}
+use Rattle.news_terms.proofs.LineLemmas.{no_first_line}
 use Rattle.news_terms.proofs.RestLemmas.{first_line-append}
 use Rattle.news_terms.proofs.cutting.first_line_law.Goals as goal
 

@@ -1,7 +1,8 @@
 -- Each law is the one on three tests, at the tests of a message-id.
 use Rattle.std.specs.List.{list_all}
 use Rattle.news_terms.specs.MessageId.{has_id_length, has_brackets, is_graphic}
-use Rattle.news_terms.proofs.IdFaults.{Decides-length, Decides-brackets, Decides-graphic, id_fault-none, brackets_fault, octet_fault}
+use Rattle.news_terms.proofs.IdFaults.{Decides-length, Decides-brackets, Decides-graphic}
+use Rattle.news_terms.proofs.IdFaults.{id_fault-none, brackets_fault, octet_fault}
 use Rattle.news_terms.proofs.ids.fault_laws.Goals as goal
 
 pub returns-clause-accepted : goal.returns-clause-accepted

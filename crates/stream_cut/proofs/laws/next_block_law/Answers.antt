@@ -3,8 +3,7 @@ use Rattle.std.proofs.Common.{◌≤◌, ◌<◌, ℕ, List, length, refl, sym, 
 use Rattle.std.proofs.lemmas.Option.{none-some}
 use Rattle.news_terms.specs.Blocks.{unstuffed, next_block_by, Whole}
 use Rattle.news_terms.proofs.BlockLemmas.{CutsBlock-from_first, first_block-cuts, first_block-none_cuts}
-use Rattle.stream_cut.proofs.PassLemmas.{next_block-whole, next_block-oversize}
-use Rattle.stream_cut.proofs.NextLemmas.{IsNextBlock, next_block-is}
+use Rattle.news_terms.proofs.NextLemmas.{next_block-whole, next_block-oversize, IsNextBlock, next_block-is}
 use Rattle.stream_cut.proofs.laws.next_block_law.Goals as goal
 
 pub returns-clause-whole : goal.returns-clause-whole

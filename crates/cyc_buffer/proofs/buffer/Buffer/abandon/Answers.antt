@@ -13,11 +13,14 @@ returns-clause-abandoned g c trusted h agrees =
     let new = c.abandon.new.self in
     record {
       keeps = keeps_stays c.args.self.now.register new h None c.abandon.ensures.rest
-          (subst (λ (p : Option Progress). Writes (without_write h) p None) (sym c.abandon.ensures.progress) tt) agrees.keeps;
+          (subst (λ (p : Option Progress). Writes (without_write h) p None)
+          (sym c.abandon.ensures.progress) tt) agrees.keeps;
       honest = agrees.honest;
       holds = λ is. record {
-        articles = λ cycle first k article finished inside unpassed. (agrees.holds is).articles cycle first k article finished inside
-            (subst (λ (l : Line). IsUnpassed l cycle (first + k)) c.abandon.ensures.rest.line unpassed);
+        articles = λ cycle first k article finished inside unpassed. (agrees.holds is).articles
+            cycle first k article finished inside
+            (subst (λ (l : Line). IsUnpassed l cycle (first + k)) c.abandon.ensures.rest.line
+            unpassed);
         open_one = no_open _ new.progress;
       };
     }

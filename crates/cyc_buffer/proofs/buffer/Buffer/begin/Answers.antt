@@ -9,5 +9,6 @@ returns-clause-begun g c =
     on_ok_weaker c.begin.result (λ begun trusted h agrees. record {
       keeps = begun h agrees.keeps;
       honest = agrees.honest;
-      holds = λ is. holds_begin _ old c.begin.new.self h c.args.class c.args.length c.args.fresh agrees.keeps (begun h agrees.keeps) (agrees.holds is);
+      holds = λ is. holds_begin _ old c.begin.new.self h c.args.class c.args.length c.args.fresh
+          agrees.keeps (begun h agrees.keeps) (agrees.holds is);
     }) c.begin.ensures.begun

@@ -19,31 +19,51 @@ block_image-image-requires-clause-some g c =
 
 pub block_image-image-requires-clause-room : goal.block_image-image-requires-clause-room
 block_image-image-requires-clause-room g c =
-    omega (arith, ap length c.chunk_of.ensures, chunk_length c.next_stamp-stamp.result.index c.args.text.now)
+    omega (
+      arith,
+      ap length c.chunk_of.ensures,
+      chunk_length c.next_stamp-stamp.result.index c.args.text.now,
+    )
 
 pub returns-then-is_err-clause-broken : goal.returns-then-is_err-clause-broken
 returns-then-is_err-clause-broken g c trusted h agrees =
     let old = c.args.self.now.register in
     let here = ap (λ (s : Stamp). s.first + s.index) c.next_stamp-stamp.ensures.stamp in
-    let left = fails_by (trusted ≡ true) (g.S.BlockStore.blocks c.args.self.now.store) (g.S.BlockStore.blocks c.write.new.self) old c.mark_broken.new.self h c.args.write.now
-    agrees.keeps agrees.holds c.mark_broken.ensures.rest old.progress h.writing refl refl agrees.keeps.writing
+    let left = fails_by (trusted ≡ true) (g.S.BlockStore.blocks c.args.self.now.store)
+    (g.S.BlockStore.blocks c.write.new.self) old c.mark_broken.new.self h c.args.write.now
+    agrees.keeps agrees.holds c.mark_broken.ensures.rest old.progress h.writing refl refl
+    agrees.keeps.writing
     c.requires.«open» c.requires.left c.mark_broken.ensures.progress
-    (λ is. subst (λ n. ChangesOnly n (g.S.BlockStore.blocks c.args.self.now.store) (g.S.BlockStore.blocks c.write.new.self)) here (c.write.ensures.others (agrees.honest is)))
+    (λ is. subst (λ n. ChangesOnly n (g.S.BlockStore.blocks c.args.self.now.store)
+    (g.S.BlockStore.blocks c.write.new.self)) here (c.write.ensures.others (agrees.honest is)))
     (λ is. (agrees.holds is).open_one) in
-    record { keeps = left.0; honest = λ is. c.write.ensures.honest (agrees.honest is); holds = left.1 }
+    record {
+      keeps = left.0;
+      honest = λ is. c.write.ensures.honest (agrees.honest is);
+      holds = left.1;
+    }
 
 pub returns-clause-written : goal.returns-clause-written
 returns-clause-written g c trusted h continues agrees =
     let old = c.args.self.now.register in
     let here = ap (λ (s : Stamp). s.first + s.index) c.next_stamp-stamp.ensures.stamp in
-    let left = next_by (trusted ≡ true) (g.S.BlockStore.blocks c.args.self.now.store) (g.S.BlockStore.blocks c.write.new.self) old c.count_block.new.self h c.args.write.now
-    agrees.keeps agrees.holds c.count_block.ensures.rest c.args.text.now c.requires.length old.progress h.writing refl refl agrees.keeps.writing
+    let left = next_by (trusted ≡ true) (g.S.BlockStore.blocks c.args.self.now.store)
+    (g.S.BlockStore.blocks c.write.new.self) old c.count_block.new.self h c.args.write.now
+    agrees.keeps agrees.holds c.count_block.ensures.rest c.args.text.now c.requires.length
+    old.progress h.writing refl refl agrees.keeps.writing
     c.requires.«open» continues c.requires.left c.count_block.ensures.progress
-    (λ is. subst (λ n. ChangesOnly n (g.S.BlockStore.blocks c.args.self.now.store) (g.S.BlockStore.blocks c.write.new.self)) here (c.write.ensures.others (agrees.honest is)))
+    (λ is. subst (λ n. ChangesOnly n (g.S.BlockStore.blocks c.args.self.now.store)
+    (g.S.BlockStore.blocks c.write.new.self)) here (c.write.ensures.others (agrees.honest is)))
     (λ is. (agrees.holds is).open_one)
-    (λ is. image_there (g.S.BlockStore.blocks c.args.self.now.store) (g.S.BlockStore.blocks c.write.new.self) c.next_stamp-stamp.result c.args.write.now.token _
+    (λ is. image_there (g.S.BlockStore.blocks c.args.self.now.store)
+    (g.S.BlockStore.blocks c.write.new.self) c.next_stamp-stamp.result c.args.write.now.token _
     c.block_image-image.result c.chunk_of.result.now c.args.text.now
-    (without_error c.write.result (sym c.is_err.ensures.value ∙ c.if-is_err.false) (c.write.ensures.written (agrees.honest is)))
+    (without_error c.write.result (sym c.is_err.ensures.value ∙ c.if-is_err.false)
+    (c.write.ensures.written (agrees.honest is)))
     (omega (arith, here, c.next_stamp-stamp.ensures.within, c.args.self.now.counted))
     c.next_stamp-stamp.ensures.stamp c.block_image-image.ensures c.chunk_of.ensures) in
-    record { keeps = left.0; honest = λ is. c.write.ensures.honest (agrees.honest is); holds = left.1 }
+    record {
+      keeps = left.0;
+      honest = λ is. c.write.ensures.honest (agrees.honest is);
+      holds = left.1;
+    }

@@ -6,7 +6,8 @@ use Rattle.cyc_buffer.proofs.marks.Marks.change.Given as goal
 abbrev pub invariant-loop-word : goal.invariant-loop-word
 invariant-loop-word l = record {
   marks : (j : ℕ) → is_marked l.self.words.items j
-      ≡ cond (nat_lt j (64 * l.word)) (marked_after l.from l.to l.value j (is_marked l.fn.self.words.items j))
+      ≡ cond (nat_lt j (64 * l.word))
+      (marked_after l.from l.to l.value j (is_marked l.fn.self.words.items j))
       (is_marked l.fn.self.words.items j);
   length : length l.self.words.items ≡ length l.fn.self.words.items;
 }

@@ -5,8 +5,15 @@ use Rattle.cyc_buffer.proofs.MarkLemmas.{none_marked}
 use Rattle.cyc_buffer.proofs.marks.Marks.new.Goals as goal
 
 pub returns-clause-none : goal.returns-clause-none
-returns-clause-none c j = ap (λ (ws : List ℕ). is_marked ws j) c.loop-word.invariant ∙ none_marked c.loop-word._word j
+returns-clause-none c j = ap (λ (ws : List ℕ). is_marked ws j) c.loop-word.invariant
+    ∙ none_marked c.loop-word._word j
 
 pub returns-clause-room : goal.returns-clause-room
 returns-clause-room c =
-    omega (arith, c.loop-word-test.false, c.div_ceil-count.ensures, ap length c.loop-word.invariant, length-replicate {A = ℕ} c.loop-word._word 0)
+    omega (
+      arith,
+      c.loop-word-test.false,
+      c.div_ceil-count.ensures,
+      ap length c.loop-word.invariant,
+      length-replicate {A = ℕ} c.loop-word._word 0,
+    )

@@ -9,5 +9,7 @@ returns-clause-finished c h keeps =
     let old = c.args.self.now in
     let first = c.args.write.token.first in
     keeps_finish_of old _ h c.args.write keeps refl c.change.ensures.changed
-    (λ j. c.change-2.ensures.changed j ∙ ap (λ n. marked_after first (first + n) true j (is_marked old.kept.words.items j)) c.size_of.ensures)
+    (λ j. c.change-2.ensures.changed j
+    ∙ ap (λ n. marked_after first (first + n) true j (is_marked old.kept.words.items j))
+    c.size_of.ensures)
     refl c.requires.open c.requires.written

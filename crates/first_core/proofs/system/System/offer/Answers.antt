@@ -4,10 +4,10 @@ use Rattle.first_core.proofs.TurnLemmas.{moved, same_but_shard, said_as, offer_d
 use Rattle.first_core.specs.Absorb.{offers_after, offer_reply}
 use Rattle.first_core.specs.Session.{past}
 use Rattle.id_history.specs.Answers.{offer_view}
-use Rattle.first_model.specs.Claims.{after_offer}
+use Rattle.relay_model.specs.Claims.{after_offer}
 use Rattle.first_model.specs.Lines.{with_offers}
 use Rattle.first_model.specs.State as model
-use Rattle.first_model.specs.State.{put_id}
+use Rattle.relay_model.specs.State.{put_id}
 use Rattle.first_model.specs.World.{with_session, with_claim, in_phase}
 use Rattle.first_core.proofs.system.System.offer.Goals as goal
 

@@ -4,10 +4,10 @@ use Rattle.first_core.proofs.HandLemmas.{leaving_hand, release_done, close_done,
 use Rattle.first_core.proofs.OnlyLemmas.{only_put, release_stores}
 use Rattle.first_core.proofs.TurnLemmas.{moved, ended_none}
 use Rattle.first_core.specs.Session.{Stands, StoresNone}
-use Rattle.first_model.specs.Claims.{after_release}
+use Rattle.relay_model.specs.Claims.{after_release}
 use Rattle.first_model.specs.Lines.{with_offers}
 use Rattle.first_model.specs.State as model
-use Rattle.first_model.specs.State.{put_id}
+use Rattle.relay_model.specs.State.{put_id}
 use Rattle.first_model.specs.World.{Job, with_session, with_claim, in_phase}
 use Rattle.first_core.proofs.system.System.release.Goals as goal
 

@@ -2,10 +2,10 @@ use Rattle.std.proofs.Common.{None, refl, sym, ◌∙◌}
 use Rattle.first_core.proofs.OnlyLemmas.{only_put, take_stores, held_apart, had_apart}
 use Rattle.first_core.proofs.TurnLemmas.{moved, taken_in_hand, carried_short, same_but_shard, said_as, take_done, ready_none, holds_none}
 use Rattle.news_terms.specs.Reply.{Rejected}
-use Rattle.first_model.specs.Claims.{after_take, Held, Had, Mine}
+use Rattle.relay_model.specs.Claims.{after_take, Held, Had, Mine}
 use Rattle.first_model.specs.Arrivals.{with_job}
 use Rattle.first_model.specs.State as model
-use Rattle.first_model.specs.State.{put_id}
+use Rattle.relay_model.specs.State.{put_id}
 use Rattle.first_model.specs.Verdict.{accepted_text}
 use Rattle.first_model.specs.World.{with_session, with_claim, in_phase}
 use Rattle.first_core.proofs.system.System.take.Goals as goal

@@ -1,0 +1,86 @@
+-- What is printed line by line, and what a writer holds after one thing and another.
+use Rattle.std.proofs.Common.{◌≡◌, ℕ, ◌<◌, Bool, true, false, List, [], ◌∷◌, ◌++◌, ◌==◌, length}
+use Rattle.std.proofs.Common.{Option, Some, None, refl, sym, ap, ◌∙◌, arith, append_assoc}
+use Rattle.std.proofs.Common.{append-nil}
+use Rattle.std.proofs.lemmas.Option.{none-some}
+use Rattle.std.specs.Prelude.{◌&&◌}
+use Rattle.std.specs.Option.{unwrap_or, option_map}
+use Rattle.std.specs.Io.KnownBytes.{Appends}
+use Rattle.news_terms.specs.Lines.{first_line}
+use Rattle.news_terms.proofs.LineLemmas.{first_line_ends, first_line_goes, map_some}
+use Rattle.relay_drill.specs.Print.{lines_of, session_line, session_lines}
+
+-- The octets that a line and a rest are equal to have that line and that rest.
+some_parts : (p : List ℕ × List ℕ) (line rest : List ℕ) → Some p ≡ Some (line, rest)
+    → (p.0 ≡ line) × (p.1 ≡ rest)
+some_parts p line rest e = (
+  ap (λ (o : Option (List ℕ × List ℕ)). (unwrap_or o ([], [])).0) e,
+  ap (λ (o : Option (List ℕ × List ℕ)). (unwrap_or o ([], [])).1) e,
+)
+
+-- The first line of octets, and the lines of what follows it.
+pub lines_of-first : (octets line rest : List ℕ) → first_line octets ≡ Some (line, rest)
+    → lines_of octets ≡ line ∷ lines_of rest
+lines_of-first [] line rest e = cc
+lines_of-first (a ∷ []) line rest e = cc
+lines_of-first (a ∷ b ∷ cs) line rest e =
+    by_test (a == 13 && b == 10) refl (λ l r. lines_of-first (b ∷ cs) l r)
+  where
+    by_test : (t : Bool) → (a == 13 && b == 10) ≡ t
+        → ((l r : List ℕ) → first_line (b ∷ cs) ≡ Some (l, r) → lines_of (b ∷ cs) ≡ l ∷ lines_of r)
+        → lines_of (a ∷ b ∷ cs) ≡ line ∷ lines_of rest
+    by_test true t after =
+        let same = some_parts ([], cs) line rest (sym (first_line_ends a b cs t) ∙ e) in
+        rw t (cc (same.0, same.1))
+    by_test false t after =
+        let more = map_some _ (first_line (b ∷ cs)) (line, rest)
+        (sym (first_line_goes a b cs t) ∙ e) in
+        let same = some_parts _ line rest (ap Some more.2) in
+        rw (t, after more.0.0 more.0.1 more.1) (cc (same.0, same.1))
+
+-- What is mapped to nothing was nothing.
+map_none : {A B : Type 0} (f : A → B) (o : Option A) → option_map f o ≡ None → o ≡ None
+map_none f None e = refl
+map_none f (Some x) e = absurd (none-some (f x) (sym e))
+
+-- Octets without a CRLF are one line.
+pub lines_of-none : (octets : List ℕ) → 0 < length octets → first_line octets ≡ None
+    → lines_of octets ≡ octets ∷ []
+lines_of-none [] some e = absurd (omega (arith, some))
+lines_of-none (a ∷ []) some e = refl
+lines_of-none (a ∷ b ∷ cs) some e = by_test (a == 13 && b == 10) refl (lines_of-none (b ∷ cs))
+  where
+    by_test : (t : Bool) → (a == 13 && b == 10) ≡ t
+        → (0 < length (b ∷ cs) → first_line (b ∷ cs) ≡ None → lines_of (b ∷ cs) ≡ (b ∷ cs) ∷ [])
+        → lines_of (a ∷ b ∷ cs) ≡ (a ∷ b ∷ cs) ∷ []
+    by_test true t after = absurd (none-some ([], cs) (sym e ∙ first_line_ends a b cs t))
+    by_test false t after =
+        let nothing = map_none _ (first_line (b ∷ cs)) (sym (first_line_goes a b cs t) ∙ e) in
+        let joined = after (omega arith) nothing in
+        rw (t, joined) refl
+
+-- A writer that gains one text and then another gains both.
+pub appends_both : (old mid new : Option (List ℕ)) (first second : List ℕ) → Appends old mid first
+    → Appends mid new second → Appends old new (first ++ second)
+appends_both None mid new first second a b = tt
+appends_both (Some xs) None new first second a b = absurd a
+appends_both (Some xs) (Some ys) None first second a b = absurd b
+appends_both (Some xs) (Some ys) (Some zs) first second a b =
+    rw (b, a) (append_assoc xs first second)
+
+-- A writer that gains nothing holds what it held.
+pub appends_none : (old : Option (List ℕ)) → Appends old old []
+appends_none None = tt
+appends_none (Some xs) = simp append-nil
+
+-- Where one more line was printed, what is left is what follows it.
+pub one_more_line : (session : ℕ) (octets done left line rest : List ℕ)
+    → session_lines session octets ≡ done ++ session_lines session left
+    → lines_of left ≡ line ∷ lines_of rest
+    → session_lines session octets ≡ (done ++ session_line session line)
+    ++ session_lines session rest
+one_more_line session octets done left line rest e cut =
+    let next : session_lines session left ≡ session_line session line
+    ++ session_lines session rest = rw cut refl in
+    e ∙ ap (λ (text : List ℕ). done ++ text) next
+    ∙ sym (append_assoc done (session_line session line) (session_lines session rest))

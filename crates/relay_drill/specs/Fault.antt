@@ -1,0 +1,63 @@
+-- What the reader of a script answers (docs/PROTOCOL.md, Program).
+use Rattle.std.specs.Prelude.{◌≡◌, ℕ, List, map, Option, None, Some, IfSome, Result, Ok, Err}
+use Rattle.std.specs.declared.alloc.AllocError.{AllocError}
+use Rattle.relay_drill.specs.declared.fault.DrillError.{DrillError}
+use Rattle.relay_drill.specs.declared.fault.DrillError.TheVariants as faults
+use Rattle.relay_drill.specs.declared.script.Keyword.{Keyword}
+use Rattle.relay_drill.specs.declared.script.Keyword.TheVariants as keywords
+use Rattle.relay_drill.specs.declared.line.Line.{Line}
+use Rattle.relay_drill.specs.declared.line.Line.TheVariants.{Open, Bring, Split, Turn, Write}
+use Rattle.relay_drill.specs.declared.line.Line.TheVariants.{Rounds}
+use Rattle.relay_drill.specs.Script as script
+
+-- a keyword as the format has it
+abbrev pub keyword_view : Keyword → script.Keyword
+keyword_view keywords.Open = script.OPEN
+keyword_view keywords.Send = script.SEND
+keyword_view keywords.Raw = script.RAW
+keyword_view keywords.Split = script.SPLIT
+keyword_view keywords.Turn = script.TURN
+keyword_view keywords.Write = script.WRITE
+keyword_view keywords.Rounds = script.ROUNDS
+
+-- a line as the format has it
+abbrev pub line_view : Line → script.Line
+line_view (Open session peer) = script.Opens session peer
+line_view (Bring session octets) = script.Brings session octets.items
+line_view (Split size) = script.Splits size.octets
+line_view (Turn session moment) = script.Turns session moment
+line_view (Write group moment) = script.Writes group moment
+line_view (Rounds count moment) = script.Rounds count moment
+
+-- the answer is the line that the words say, or None where they are bad, unless memory ran out
+abbrev pub LineGives : Result (Option Line) AllocError → Option script.Line → Type 0
+LineGives (Ok None) says = says ≡ None
+LineGives (Ok (Some line)) says = says ≡ Some (line_view line)
+LineGives (Err e) says = Unit {0}
+
+-- the answer is the lines that the script says, or the number of its first bad line, unless memory
+-- ran out
+abbrev pub ScriptGives : {L : Type 0} → (L → List Line) → Result L DrillError
+    → Result (List script.Line) ℕ → Type 0
+ScriptGives items (Ok lines) says = says ≡ Ok (map line_view (items lines))
+ScriptGives items (Err faults.Memory) says = Unit {0}
+ScriptGives items (Err (faults.Line number)) says = says ≡ Err number
+ScriptGives items (Err faults.Unreadable) says = ⊥
+ScriptGives items (Err faults.Unwritten) says = ⊥
+
+-- the answer says that all is done; where memory ran out or the writer failed, it was broken off
+abbrev pub PlayGives : Result (Unit {0}) DrillError → (done stopped : Type 0) → Type 0
+PlayGives (Ok fine) done stopped = done
+PlayGives (Err faults.Memory) done stopped = stopped
+PlayGives (Err faults.Unwritten) done stopped = stopped
+PlayGives (Err (faults.Line number)) done stopped = ⊥
+PlayGives (Err faults.Unreadable) done stopped = ⊥
+
+-- the answer is all that the reader has left, where that is known; without it memory ran out or the
+-- reader failed
+abbrev pub ReadGives : {T : Type 0} → (T → List ℕ) → Result T DrillError → Option (List ℕ) → Type 0
+ReadGives items (Ok text) left = IfSome left (λ all. items text ≡ all)
+ReadGives items (Err faults.Memory) left = Unit {0}
+ReadGives items (Err faults.Unreadable) left = Unit {0}
+ReadGives items (Err (faults.Line number)) left = ⊥
+ReadGives items (Err faults.Unwritten) left = ⊥

@@ -1,0 +1,42 @@
+-- What an output prints (docs/FORMATS.md, Drill scripts: What is printed).
+use Rattle.std.specs.Prelude.{ℕ, ◌==◌, ◌&&◌, List, [], ◌∷◌, ◌++◌, flat_map, codes, decimal}
+use Rattle.std.specs.Prelude.{if◌then◌else◌}
+use Rattle.std.specs.List.{onto_first}
+use Rattle.first_model.specs.World.{Output, Quiet, Sent, Ended, Refuses, Fault, Memory, NoSession}
+use Rattle.first_model.specs.World.{SessionTaken, NoGroup, NoPeer, BadMoment}
+
+-- the lines of octets, without their CRLFs
+abbrev pub lines_of : List ℕ → List (List ℕ)
+lines_of [] = []
+lines_of (a ∷ []) = (a ∷ []) ∷ []
+lines_of (a ∷ b ∷ cs) =
+    if a == 13 && b == 10 then [] ∷ lines_of cs else onto_first a (lines_of (b ∷ cs))
+
+-- a line as it is printed
+abbrev pub printed_line : List ℕ → List ℕ
+printed_line line = line ++ 10 ∷ []
+
+-- a line that a session is sent, after its number
+abbrev pub session_line : ℕ → List ℕ → List ℕ
+session_line session line = printed_line (decimal session ++ codes " " ++ line)
+
+-- the lines that a session is sent
+abbrev pub session_lines : ℕ → List ℕ → List ℕ
+session_lines session octets = flat_map (session_line session) (lines_of octets)
+
+-- the code and the name of a fault
+abbrev pub fault_text : Fault → List ℕ
+fault_text Memory = codes "0 Memory"
+fault_text NoSession = codes "1 NoSession"
+fault_text SessionTaken = codes "2 SessionTaken"
+fault_text NoGroup = codes "3 NoGroup"
+fault_text NoPeer = codes "4 NoPeer"
+fault_text BadMoment = codes "5 BadMoment"
+
+-- what an output prints
+abbrev pub printed : Output → List ℕ
+printed Quiet = []
+printed (Sent session octets) = session_lines session octets
+printed (Ended session octets) =
+    session_lines session octets ++ session_line session (codes "closed")
+printed (Refuses fault) = printed_line (codes "refused " ++ fault_text fault)

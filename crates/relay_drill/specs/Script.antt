@@ -1,0 +1,118 @@
+-- Drill scripts: what the lines say (docs/FORMATS.md, Drill scripts).
+use Rattle.std.specs.Prelude.{ℕ, ◌+◌, ◌++◌, List, [], ◌∷◌, bytes_eq, codes, Option, None, Some}
+use Rattle.std.specs.Prelude.{Result, Ok, Err, if◌then◌else◌}
+use Rattle.std.specs.Option.{option_map, option_and_then}
+use Rattle.std.specs.List.{join_with_byte}
+use Rattle.news_terms.specs.Lines.{crlf}
+use Rattle.line_words.specs.Parts.{parts, one_of, two_of}
+use Rattle.line_words.specs.Comments.{is_skipped}
+use Rattle.relay_drill.specs.Words.{words, number, number_within, octets_of, peer_of}
+
+-- what a line asks
+pub data Line : Type 0 where
+  -- a session opens, of the peer of this number
+  Opens : (session peer : ℕ) → Line
+  -- octets of a session come
+  Brings : (session : ℕ) (octets : List ℕ) → Line
+  -- from here on octets come in pieces of so many
+  Splits : (octets : ℕ) → Line
+  -- a session has its turn
+  Turns : (session moment : ℕ) → Line
+  -- the writer of a group has its turn
+  Writes : (group moment : ℕ) → Line
+  -- so many times each session has its turn, then the writer of each group
+  Rounds : (count moment : ℕ) → Line
+
+-- the first word of a line
+pub data Keyword : Type 0 where
+  OPEN : Keyword
+  SEND : Keyword
+  RAW : Keyword
+  SPLIT : Keyword
+  TURN : Keyword
+  WRITE : Keyword
+  ROUNDS : Keyword
+
+-- the keyword that the word is
+abbrev pub keyword_of : List ℕ → Option Keyword
+keyword_of word =
+    if bytes_eq word (codes "open") then Some OPEN
+    else if bytes_eq word (codes "send") then Some SEND
+    else if bytes_eq word (codes "raw") then Some RAW
+    else if bytes_eq word (codes "split") then Some SPLIT
+    else if bytes_eq word (codes "turn") then Some TURN
+    else if bytes_eq word (codes "write") then Some WRITE
+    else if bytes_eq word (codes "rounds") then Some ROUNDS
+    else None
+
+-- a line of two values, where both are there
+abbrev pub both : {A B : Type 0} → (A → B → Line) → Option A → Option B → Option Line
+both line None second = None
+both line (Some first) None = None
+both line (Some first) (Some second) = Some (line first second)
+
+-- `open S PEER`
+abbrev pub open_line : List (List ℕ) → List ℕ × List ℕ → Option Line
+open_line peers two = both Opens (number two.0) (peer_of peers two.1)
+
+-- `send S TEXT`: the words after S, with the spaces between them, are the text
+abbrev pub send_line : List (List ℕ) → Option Line
+send_line [] = None
+send_line (session ∷ text) =
+    option_map (λ s. Brings s (join_with_byte 32 text ++ crlf)) (number session)
+
+-- `raw S HEX`
+abbrev pub raw_line : List ℕ × List ℕ → Option Line
+raw_line two = both Brings (number two.0) (octets_of two.1)
+
+-- `split N`
+abbrev pub split_line : List ℕ → Option Line
+split_line octets = option_map Splits (number_within 1 4096 octets)
+
+-- `turn S MOMENT`
+abbrev pub turn_line : List ℕ × List ℕ → Option Line
+turn_line two = both Turns (number two.0) (number two.1)
+
+-- `write G MOMENT`
+abbrev pub write_line : List ℕ × List ℕ → Option Line
+write_line two = both Writes (number two.0) (number two.1)
+
+-- `rounds N MOMENT`
+abbrev pub rounds_line : List ℕ × List ℕ → Option Line
+rounds_line two = both Rounds (number_within 1 100000 two.0) (number two.1)
+
+-- a keyword with the words that follow it; None is a bad line
+abbrev pub line_with : List (List ℕ) → List (List ℕ) → Keyword → Option Line
+line_with peers after OPEN = option_and_then (open_line peers) (two_of after)
+line_with peers after SEND = send_line after
+line_with peers after RAW = option_and_then raw_line (two_of after)
+line_with peers after SPLIT = option_and_then split_line (one_of after)
+line_with peers after TURN = option_and_then turn_line (two_of after)
+line_with peers after WRITE = option_and_then write_line (two_of after)
+line_with peers after ROUNDS = option_and_then rounds_line (two_of after)
+
+-- what these words say; None is a bad line
+abbrev pub line_of_words : List (List ℕ) → List (List ℕ) → Option Line
+line_of_words peers [] = None
+line_of_words peers (word ∷ after) = option_and_then (line_with peers after) (keyword_of word)
+
+-- what a line says; None is a bad line
+abbrev pub line_of : List (List ℕ) → List ℕ → Option Line
+line_of peers line = line_of_words peers (words line)
+
+-- a line before those that follow; a bad line is named before any that follows
+abbrev pub line_before : ℕ → Option Line → Result (List Line) ℕ → Result (List Line) ℕ
+line_before number None after = Err number
+line_before number (Some line) (Ok lines) = Ok (line ∷ lines)
+line_before number (Some line) (Err bad) = Err bad
+
+-- the lines of a script from the line of this number on, or the number of the first bad line
+abbrev pub script_from : List (List ℕ) → ℕ → List (List ℕ) → Result (List Line) ℕ
+script_from peers number [] = Ok []
+script_from peers number (line ∷ more) =
+    if is_skipped line then script_from peers (number + 1) more
+    else line_before number (line_of peers line) (script_from peers (number + 1) more)
+
+-- the lines of a script for peers of these names, or the number of its first bad line, from 1 on
+abbrev pub script_of : List (List ℕ) → List ℕ → Result (List Line) ℕ
+script_of peers text = script_from peers 1 (parts 10 text)

@@ -1,0 +1,19 @@
+//! Drills: scripts of events, read whole and then played on the core over memory, and what the core
+//! answers, printed (docs/FORMATS.md, Drill scripts; docs/PROTOCOL.md, The call `drill`).
+//!
+//! What is written is what the script says by the relay's definitions, and nothing else (`drill`).
+//! Which configuration and which script there are is the caller's.
+#![tactic(auto)]
+
+mod fault;
+mod line;
+mod play;
+mod print;
+mod script;
+mod whole;
+mod words;
+mod written;
+
+pub use fault::DrillError;
+pub use whole::{drill, read_all};
+pub use written::{Unwritten, put, put_all};

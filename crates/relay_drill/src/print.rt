@@ -1,0 +1,78 @@
+//! What an output prints (docs/FORMATS.md, Drill scripts: What is printed).
+ghost use Rattle.std.specs.Prelude.{◌≡◌, ◌<◌, ◌∷◌, length};
+ghost use Rattle.first_core.specs.Views.{fault_view, output_view};
+ghost use Rattle.relay_drill.specs.Print as terms;
+ghost use Rattle.relay_drill.specs.Print.{lines_of, printed, session_line, session_lines};
+ghost use Rattle.relay_drill.specs.Written.{Writes};
+
+use crate::written::{Unwritten, put_all};
+use first_core::{CoreError, Output};
+use itoa::Buffer;
+use memchr::memmem;
+use std::io::Write;
+
+/// Prints an output.
+pub fn print<W: Write>(writer: &mut W, output: &Output) -> Result<(), Unwritten>
+    ensures { Writes result (printed (output_view output.now))
+        (W.contents writer.old) (W.contents writer.new) }
+{
+    match output {
+        Output::Quiet => Ok(()),
+        Output::Sent(session, octets) => print_lines(writer, *session, octets.as_slice()),
+        Output::Ended(session, octets) => {
+            print_lines(writer, *session, octets.as_slice())?;
+            print_line(writer, *session, b"closed")
+        }
+        Output::Refused(error) => put_all(writer, &[b"refused ", fault_text(*error), b"\n"]),
+    }
+}
+
+/// The code and the name of a fault (docs/PROTOCOL.md, Errors of the core).
+fn fault_text(error: CoreError) -> &'static [u8]
+    ensures { result.now ≡ terms.fault_text (fault_view error) }
+{
+    match error {
+        CoreError::Memory => b"0 Memory",
+        CoreError::NoSession => b"1 NoSession",
+        CoreError::SessionTaken => b"2 SessionTaken",
+        CoreError::NoGroup => b"3 NoGroup",
+        CoreError::NoPeer => b"4 NoPeer",
+        CoreError::BadMoment => b"5 BadMoment",
+    }
+}
+
+/// Prints the lines that a session is sent, each after the session's number.
+fn print_lines<W: Write>(writer: &mut W, session: u64, octets: &[u8]) -> Result<(), Unwritten>
+    ensures { Writes result (session_lines session octets.now)
+        (W.contents writer.old) (W.contents writer.new) }
+{
+    let mut rest = octets;
+    while !rest.is_empty() {
+        let (line, after) = cut_line(rest);
+        print_line(writer, session, line)?;
+        rest = after;
+    }
+    Ok(())
+}
+
+/// Prints a line that a session is sent.
+fn print_line<W: Write>(writer: &mut W, session: u64, line: &[u8]) -> Result<(), Unwritten>
+    ensures { Writes result (session_line session line.now)
+        (W.contents writer.old) (W.contents writer.new) }
+{
+    let mut digits = Buffer::new();
+    let number = digits.format(session).as_bytes();
+    put_all(writer, &[number, b" ", line, b"\n"])
+}
+
+/// The first line, without its CRLF, and what follows it.
+fn cut_line(octets: &[u8]) -> (&[u8], &[u8])
+    requires { 0 < length octets.now }
+    ensures cut { lines_of octets.now ≡ result.0.now ∷ lines_of result.1.now }
+    ensures shorter { length result.1.now < length octets.now }
+{
+    match memmem::find(octets, b"\r\n") {
+        Some(at) => (&octets[..at], &octets[at + 2..]),
+        None => (octets, b""),
+    }
+}

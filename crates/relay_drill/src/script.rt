@@ -1,0 +1,178 @@
+//! Reading a drill script (docs/FORMATS.md, Drill scripts): all of it, before anything runs.
+ghost use Rattle.std.specs.Prelude.{◌≡◌, ◌++◌, [], map, option_map, string_bytes, vec_items, IfOk};
+ghost use Rattle.std.specs.List.{join_with_byte};
+ghost use Rattle.news_terms.specs.Lines.{crlf};
+ghost use Rattle.line_words.specs.Parts.{parts_after};
+ghost use Rattle.relay_drill.specs.Script.{line_with, send_line, script_of, OPEN, RAW, SPLIT, TURN};
+ghost use Rattle.relay_drill.specs.Script.{WRITE, ROUNDS};
+ghost use Rattle.relay_drill.specs.Script as terms;
+ghost use Rattle.relay_drill.specs.Fault.{LineGives, ScriptGives, keyword_view, line_view};
+
+use crate::fault::DrillError;
+use crate::line::{Line, PieceSize};
+use crate::words::{number, number_within, octets_of, peer_of};
+use line_words::{cut, is_skipped, one_part, two_parts};
+use std::alloc::{AllocError, Global};
+
+/// Reads a whole script, for peers of these names.
+pub fn read_script(alloc: Global, peers: &[String], text: &[u8]) -> Result<Vec<Line>, DrillError>
+    ensures { ScriptGives vec_items result (script_of (map string_bytes peers.now) text.now) }
+{
+    let mut lines = Vec::new(alloc);
+    let mut unread = Some(text);
+    let mut number: u64 = 0;
+    while let Some(rest) = unread {
+        let (line, after) = cut(rest, b'\n');
+        number += 1;
+        unread = after;
+        if !is_skipped(line) {
+            match read_line(alloc, peers, line)? {
+                Some(line) => lines.push(line)?,
+                None => return Err(DrillError::Line(number)),
+            }
+        }
+    }
+    Ok(lines)
+}
+
+/// The first words of lines.
+enum Keyword {
+    Open,
+    Send,
+    Raw,
+    Split,
+    Turn,
+    Write,
+    Rounds,
+}
+
+/// Reads a line, or answers `None` where it is bad.
+fn read_line(alloc: Global, peers: &[String], line: &[u8]) -> Result<Option<Line>, AllocError>
+    ensures { LineGives result (terms.line_of (map string_bytes peers.now) line.now) }
+{
+    let (word, rest) = cut(line, b' ');
+    match keyword_of(word) {
+        Some(Keyword::Open) => Ok(open(peers, rest)),
+        Some(Keyword::Send) => send(alloc, rest),
+        Some(Keyword::Raw) => raw(alloc, rest),
+        Some(Keyword::Split) => Ok(split(rest)),
+        Some(Keyword::Turn) => Ok(turn(rest)),
+        Some(Keyword::Write) => Ok(write(rest)),
+        Some(Keyword::Rounds) => Ok(rounds(rest)),
+        None => Ok(None),
+    }
+}
+
+/// The keyword that the word is.
+fn keyword_of(word: &[u8]) -> Option<Keyword>
+    ensures { option_map keyword_view result ≡ terms.keyword_of word.now }
+{
+    if word == b"open".as_slice() {
+        Some(Keyword::Open)
+    } else if word == b"send".as_slice() {
+        Some(Keyword::Send)
+    } else if word == b"raw".as_slice() {
+        Some(Keyword::Raw)
+    } else if word == b"split".as_slice() {
+        Some(Keyword::Split)
+    } else if word == b"turn".as_slice() {
+        Some(Keyword::Turn)
+    } else if word == b"write".as_slice() {
+        Some(Keyword::Write)
+    } else if word == b"rounds".as_slice() {
+        Some(Keyword::Rounds)
+    } else {
+        None
+    }
+}
+
+/// `open S PEER`, by what follows the keyword.
+fn open(peers: &[String], rest: Option<&[u8]>) -> Option<Line>
+    ensures { option_map line_view result
+        ≡ line_with (map string_bytes peers.now) (parts_after 32 rest.entry) OPEN }
+{
+    let (session, peer) = two_parts(rest, b' ')?;
+    Some(Line::Open(number(session)?, peer_of(peers, peer)?))
+}
+
+/// `send S TEXT`, by what follows the keyword: the text is all that follows the space after S.
+fn send(alloc: Global, rest: Option<&[u8]>) -> Result<Option<Line>, AllocError>
+    ensures { LineGives result (send_line (parts_after 32 rest.entry)) }
+{
+    let Some(rest) = rest else {
+        return Ok(None);
+    };
+    let (session, text) = cut(rest, b' ');
+    let Some(session) = number(session) else {
+        return Ok(None);
+    };
+    let octets = ended_line(alloc, joined(text))?;
+    Ok(Some(Line::Bring(session, octets)))
+}
+
+/// The words that follow, with the spaces between them.
+fn joined<'a>(after: Option<&'a [u8]>) -> &'a [u8]
+    ensures { result.now ≡ join_with_byte 32 (parts_after 32 after.entry) }
+{
+    match after {
+        Some(text) => text,
+        None => b"",
+    }
+}
+
+/// The line with its CRLF.
+fn ended_line(alloc: Global, line: &[u8]) -> Result<Vec<u8>, AllocError>
+    ensures { IfOk result (λ octets. octets.items ≡ line.now ++ crlf) }
+{
+    let mut octets = Vec::from_slice(alloc, line)?;
+    octets.extend_from_slice(b"\r\n")?;
+    Ok(octets)
+}
+
+/// `raw S HEX`, by what follows the keyword.
+fn raw(alloc: Global, rest: Option<&[u8]>) -> Result<Option<Line>, AllocError>
+    ensures { LineGives result (line_with [] (parts_after 32 rest.entry) RAW) }
+{
+    let Some((session, digits)) = two_parts(rest, b' ') else {
+        return Ok(None);
+    };
+    let Some(session) = number(session) else {
+        return Ok(None);
+    };
+    match octets_of(alloc, digits)? {
+        Some(octets) => Ok(Some(Line::Bring(session, octets))),
+        None => Ok(None),
+    }
+}
+
+/// `split N`, by what follows the keyword.
+fn split(rest: Option<&[u8]>) -> Option<Line>
+    ensures { option_map line_view result ≡ line_with [] (parts_after 32 rest.entry) SPLIT }
+{
+    let octets = number_within(1, 4_096, one_part(rest, b' ')?)? as usize;
+    Some(Line::Split(PieceSize { octets }))
+}
+
+/// `turn S MOMENT`, by what follows the keyword.
+fn turn(rest: Option<&[u8]>) -> Option<Line>
+    ensures { option_map line_view result ≡ line_with [] (parts_after 32 rest.entry) TURN }
+{
+    let (session, moment) = two_parts(rest, b' ')?;
+    Some(Line::Turn(number(session)?, number(moment)?))
+}
+
+/// `write G MOMENT`, by what follows the keyword.
+fn write(rest: Option<&[u8]>) -> Option<Line>
+    ensures { option_map line_view result ≡ line_with [] (parts_after 32 rest.entry) WRITE }
+{
+    let (group, moment) = two_parts(rest, b' ')?;
+    Some(Line::Write(number(group)?, number(moment)?))
+}
+
+/// `rounds N MOMENT`, by what follows the keyword.
+fn rounds(rest: Option<&[u8]>) -> Option<Line>
+    ensures { option_map line_view result ≡ line_with [] (parts_after 32 rest.entry) ROUNDS }
+{
+    let (count, moment) = two_parts(rest, b' ')?;
+    Some(Line::Rounds(number_within(1, 100_000, count)?, number(moment)?))
+}

@@ -1,0 +1,37 @@
+-- Each step and each run from a well world leads to one.
+use Rattle.std.proofs.Common.{ℕ, List, [], ◌∷◌, sym, subst, rules}
+use Rattle.relay_model.specs.Invariants.{IsWell}
+use Rattle.relay_model.specs.Run.{Event, Run, Step}
+use Rattle.relay_model.specs.Terms.{Terms}
+use Rattle.relay_model.specs.World.{World, Output, empty_world}
+use Rattle.relay_facts.specs.Sound.{IsSound}
+use Rattle.relay_facts.proofs.Orderly.{IsOrderly, orderly_of, well_of}
+use Rattle.relay_facts.proofs.StepErrands.{empty_awaited, step_awaited}
+use Rattle.relay_facts.proofs.Steps.{step_orderly}
+
+-- the empty world is in order
+empty_orderly : (w : Terms) (failures : ℕ → ℕ) → IsOrderly w (empty_world failures)
+empty_orderly w failures = search rules
+
+-- and well
+pub empty_well : (w : Terms) (failures : ℕ → ℕ) → IsWell w (empty_world failures)
+empty_well w failures =
+    well_of w (empty_world failures) (empty_orderly w failures) (empty_awaited failures)
+
+-- a step
+pub step_well : (w : Terms) (x x' : World) (event : Event) (output : Output) → IsSound w
+    → IsWell w x → Step w x event output x' → IsWell w x'
+step_well w x x' event output sound well step =
+    let orderly = orderly_of w x well in
+    well_of w x' (step_orderly w x x' event output sound orderly step)
+    (step_awaited w x x' event output orderly well.awaited step)
+
+-- a run
+pub run_well : (w : Terms) (x x' : World) (events : List Event) (outputs : List Output)
+    → IsSound w → IsWell w x → Run w x events outputs x' → IsWell w x'
+run_well w x x' [] [] sound well run = subst (IsWell w) (sym run) well
+run_well w x x' (event ∷ events) (output ∷ outputs) sound well run =
+    run_well w run.0 x' events outputs sound
+    (step_well w x run.0 event output sound well run.1) run.2
+run_well w x x' [] (output ∷ outputs) sound well run = absurd run
+run_well w x x' (event ∷ events) [] sound well run = absurd run

@@ -1,0 +1,2 @@
+pub mod Sound
+pub mod SoundExample

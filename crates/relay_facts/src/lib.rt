@@ -1,0 +1,47 @@
+//! What holds of every world that a run leads to, proved of the definitions of `relay_model` alone.
+//! The crates above cite it: the core's agreement asks that its world is well, and never proves it.
+//! There is no code: each function has an empty body, and its contract is what is proved.
+#![tactic(auto)]
+
+ghost use Rattle.std.specs.Prelude.{◌≡◌, ◌++◌, ℕ, List, Some};
+ghost use Rattle.news_terms.specs.Token.{Token};
+ghost use Rattle.relay_model.specs.Awaited.{Errand, WaitsFor};
+ghost use Rattle.relay_model.specs.Fetches.{text_under};
+ghost use Rattle.relay_model.specs.Invariants.{IsWell};
+ghost use Rattle.relay_model.specs.Run.{Event, Run, Step};
+ghost use Rattle.relay_model.specs.State.{Kept, Session, Transfer, Waits};
+ghost use Rattle.relay_model.specs.Terms.{Terms};
+ghost use Rattle.relay_model.specs.World.{World, Output, empty_world};
+ghost use Rattle.relay_facts.specs.Sound.{IsSound};
+ghost use Rattle.relay_facts.specs.SoundExample.{sound_terms};
+
+/// The world before anything came is well, each step from a well world leads to one, and so does
+/// each run.
+pub fn stay_well()
+    ensures begins { (w : Terms) (failures : ℕ → ℕ) → IsWell w (empty_world failures) }
+    ensures kept { (w : Terms) (x x' : World) (event : Event) (output : Output) → IsSound w
+        → IsWell w x → Step w x event output x' → IsWell w x' }
+    ensures run { (w : Terms) (x x' : World) (events : List Event) (outputs : List Output)
+        → IsSound w → IsWell w x → Run w x events outputs x' → IsWell w x' }
+{}
+
+/// Of each session at most one thing is on its way: its article is being stored, or a writer is to
+/// tell it the outcome, or the outcome is in its slot. Of one that waits there is one, and what is
+/// being stored is of its id.
+pub fn one_errand()
+    ensures one { (w : Terms) (x : World) (s : ℕ) → IsWell w x → Errand x s }
+    ensures waits { (w : Terms) (x : World) (s : ℕ) (session : Session) (transfer : Transfer)
+        (id : List ℕ) → IsWell w x → x.state.session s ≡ Some session
+        → session.phase ≡ Waits transfer id → WaitsFor x s id }
+{}
+
+/// What was found whole under a token is found so after more texts became whole.
+pub fn found_stays()
+    ensures { (kept more : List Kept) (token : Token) (text : List ℕ)
+        → text_under kept token ≡ Some text → text_under (kept ++ more) token ≡ Some text }
+{}
+
+/// There are sound terms.
+pub fn sound_example()
+    ensures { IsSound sound_terms }
+{}

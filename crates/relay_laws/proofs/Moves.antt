@@ -1,0 +1,255 @@
+-- What a step does to what is stored and gained: nothing, or one rule of the writers.
+use Rattle.std.proofs.Common.{◌≡◌, ◌-◌, ℕ, nat_lt, Bool, true, false, List}
+use Rattle.std.proofs.Common.{length, Option, None, Some, refl, sym, ap, subst}
+use Rattle.std.specs.Prelude.{slice_get}
+use Rattle.news_terms.specs.Places.{Buffer}
+use Rattle.news_terms.specs.Token.{Token}
+use Rattle.relay_model.specs.Asks.{Ask, Rests, GoesOn, Says, Leaves, Offers, Looks, Reads}
+use Rattle.relay_model.specs.Asks.{TakesQueue, Refuses, Takes, Pushes, LooksInSlot, Releases, Ends}
+use Rattle.relay_model.specs.Claims.{after_offer, after_take, after_refuse, after_release, Passed}
+use Rattle.relay_model.specs.Claims.{Claim}
+use Rattle.relay_model.specs.Run.{Event, Open, Bytes, Turn, Write, Break, Expire, Restart, Step, Does}
+use Rattle.relay_model.specs.Run.{IsRefused, WantsMemory, IsDone, Turns, Restarts, IsBusy, HasNoRoom}
+use Rattle.relay_model.specs.Run.{HasNot, Run, refusal, opened, expired, reads_front, forgotten}
+use Rattle.relay_model.specs.Run.{restarted}
+use Rattle.relay_model.specs.Run as run
+use Rattle.relay_model.specs.Shares.{Answer, Shares, Reading, IsFound, HasNotRead, Pushing, queue_taken}
+use Rattle.relay_model.specs.Shares.{ring_of, after_take_of, pushed, untold}
+use Rattle.relay_model.specs.State.{State, Session, Job, Feed}
+use Rattle.relay_model.specs.Terms.{Terms, queue_limit}
+use Rattle.relay_model.specs.World.{World, Output, Expirer, Forgetting, with_claim}
+use Rattle.relay_model.specs.World.{with_session, with_failures}
+use Rattle.relay_model.specs.World as world
+use Rattle.relay_model.specs.Writers.{Begins, Stores, Fails, Accepts, Abandons, Writes, NoJob, Pops}
+use Rattle.relay_model.specs.Writers.{HasBegun, FindsWorn, WritesBlock, FailsToWrite, HasStored}
+use Rattle.relay_model.specs.Writers.{Settles, Closes, Forgets, TellsKept, TellsFailed}
+use Rattle.relay_facts.proofs.Puts.{put_at_both}
+use Rattle.relay_laws.proofs.ClaimMoves.{ClaimGoes, Stays, offer_goes, take_goes, refuse_goes}
+use Rattle.relay_laws.proofs.ClaimMoves.{release_goes, forgetting_goes, restart_goes, put_goes}
+
+-- what is stored and gained stays
+pub record SameStore (σ τ : State) : Type 0 where
+  pub claims : (id : List ℕ) → ClaimGoes (σ.claim id) (τ.claim id)
+  pub begun : (g : ℕ) → τ.begun g ≡ σ.begun g
+  pub kept : τ.kept ≡ σ.kept
+  pub accepted : τ.accepted ≡ σ.accepted
+  pub gained : (f : ℕ) → (τ.feed f).gained ≡ (σ.feed f).gained
+
+-- what a step does
+pub data Moves (w : Terms) (σ τ : State) : Type 0 where
+  LeavesStore : SameStore σ τ → Moves w σ τ
+  Begun : (job : Job) (token : Token) → Begins w σ job token τ → Moves w σ τ
+  Stored : (job : Job) (token : Token) → Stores σ job token τ → Moves w σ τ
+  Failed : (job : Job) (token : Token) → Fails σ job token τ → Moves w σ τ
+  Accepted : (job : Job) (token : Token) (now : ℕ) → Accepts σ job token now τ → Moves w σ τ
+  Abandoned : (job : Job) → Abandons w σ job τ → Moves w σ τ
+
+-- the same state
+pub same_store : (σ : State) → SameStore σ σ
+same_store σ = record {
+  claims = λ id. Stays refl;
+  begun = λ g. refl;
+  kept = refl;
+  accepted = refl;
+  gained = λ f. refl;
+}
+
+-- one id's claim changes
+claim_changes : (x : World) (id : List ℕ) (claim : Claim) → ClaimGoes (x.state.claim id) claim
+    → SameStore x.state (with_claim x id claim).state
+claim_changes x id claim goes = record {
+  claims = put_goes x.state.claim id claim goes;
+  begun = λ g. refl;
+  kept = refl;
+  accepted = refl;
+  gained = λ f. refl;
+}
+
+-- a feed's queue is taken
+queue_same : (x : World) (ring feed most : ℕ) → SameStore x.state (queue_taken x ring feed most).state
+queue_same x ring feed most = record {
+  claims = λ id. Stays refl;
+  begun = λ g. refl;
+  kept = refl;
+  accepted = refl;
+  gained = λ f.
+      put_at_both (λ (one : Feed). one.gained ≡ (x.state.feed f).gained) x.state.feed feed
+      (after_take_of ring most (x.state.feed feed)) f
+      (λ e. ap (λ n. (x.state.feed n).gained) (sym e)) (λ other. refl);
+}
+
+-- a session goes on
+session_same : (σ : State) (y : World) (s : ℕ) (next : Session) → SameStore σ y.state
+    → SameStore σ (with_session y s next).state
+session_same σ y s next same = record {
+  claims = same.claims;
+  begun = same.begun;
+  kept = same.kept;
+  accepted = same.accepted;
+  gained = same.gained;
+}
+
+-- what was so in a world holds in the one that it is
+moved : (σ : State) (y z : World) → y ≡ z → SameStore σ z.state → SameStore σ y.state
+moved σ y z e same = subst (λ (one : World). SameStore σ one.state) (sym e) same
+
+-- a token that was read
+reading_same : (w : Terms) (x : World) (token : Token) (answer : Answer) (y : World)
+    → Reading w x token answer y → SameStore x.state y.state
+reading_same w x token answer y (IsFound failures rises says e) =
+    moved x.state y (with_failures x failures) e (same_store x.state)
+reading_same w x token answer y (HasNotRead failures none failed says e) =
+    moved x.state y (with_failures x failures) e (same_store x.state)
+
+-- a push
+pushing_same : (x : World) (job : Job) (room : Bool) (answer : Answer) (y : World)
+    → Pushing x job room answer y → SameStore x.state y.state
+pushing_same x job true answer y pushes =
+    moved x.state y (pushed x job) pushes.1 (same_store x.state)
+pushing_same x job false answer y pushes = moved x.state y x pushes.1 (same_store x.state)
+
+-- what is shared in a Turn
+shared_same : (w : Terms) (x : World) (s now : ℕ) (ask : Ask) (answer : Answer) (y : World)
+    → Shares w x s now ask answer y → SameStore x.state y.state
+shared_same w x s now Rests answer y e = moved x.state y x e.1 (same_store x.state)
+shared_same w x s now GoesOn answer y e = moved x.state y x e.1 (same_store x.state)
+shared_same w x s now (Says reply) answer y e = moved x.state y x e.1 (same_store x.state)
+shared_same w x s now (Leaves reply) answer y e = moved x.state y x e.1 (same_store x.state)
+shared_same w x s now (Offers transfer id) answer y e =
+    moved x.state y (with_claim x id (after_offer s (x.state.claim id))) e.1
+    (claim_changes x id (after_offer s (x.state.claim id)) (offer_goes s (x.state.claim id)))
+shared_same w x s now (Looks part id) answer y e = moved x.state y x e.1 (same_store x.state)
+shared_same w x s now (Reads asked token had) answer y reads = reading_same w x token answer y reads
+shared_same w x s now (TakesQueue feed most) answer y e =
+    moved x.state y (queue_taken x (ring_of (slice_get w.feeds feed)) feed most) e.1
+    (queue_same x (ring_of (slice_get w.feeds feed)) feed most)
+shared_same w x s now (Refuses transfer id) answer y e =
+    moved x.state y (with_claim x id (after_refuse s now (x.state.claim id))) e.1
+    (claim_changes x id (after_refuse s now (x.state.claim id))
+    (refuse_goes s now (x.state.claim id)))
+shared_same w x s now (Takes transfer id article) answer y e =
+    moved x.state y (with_claim x id (after_take s article (x.state.claim id))) e.1
+    (claim_changes x id (after_take s article (x.state.claim id))
+    (take_goes s article (x.state.claim id)))
+shared_same w x s now (Pushes job) answer y e =
+    pushing_same x job (nat_lt (length (x.work.queue job.article.group)) queue_limit) answer y e
+shared_same w x s now (LooksInSlot transfer id) answer y e =
+    moved x.state y (untold x s) e.1 (same_store x.state)
+shared_same w x s now (Releases id) answer y e =
+    moved x.state y (with_claim x id (after_release s (x.state.claim id))) e.1
+    (claim_changes x id (after_release s (x.state.claim id)) (release_goes s (x.state.claim id)))
+shared_same w x s now Ends answer y e = moved x.state y x e.1 (same_store x.state)
+
+-- a Turn
+turn_same : (w : Terms) (x : World) (s now : ℕ) (output : Output) (x' : World)
+    → Turns w x s now output x' → SameStore x.state x'.state
+turn_same w x s now output x' turn =
+    moved x.state x' (with_session turn.between s turn.heard.session) turn.after
+    (session_same x.state turn.between s turn.heard.session
+    (shared_same w x s now turn.due.ask turn.answer turn.between turn.shares))
+
+-- a Write
+write_moves : (w : Terms) (x : World) (g now : ℕ) (x' : World) → Writes w x g now x'
+    → Moves w x.state x'.state
+write_moves w x g now x' (NoJob idle empty e) =
+    LeavesStore (moved x.state x' x e (same_store x.state))
+write_moves w x g now x' (Pops job rest idle queue e) =
+    LeavesStore (moved x.state x' _ e (same_store x.state))
+write_moves w x g now x' (HasBegun job token τ has begins e) =
+    Begun job token (subst (λ (one : World). Begins w x.state job token one.state) (sym e) begins)
+write_moves w x g now x' (FindsWorn job has worn e) =
+    LeavesStore (moved x.state x' _ e (same_store x.state))
+write_moves w x g now x' (WritesBlock job token written failures has left rises e) =
+    LeavesStore (moved x.state x' _ e (same_store x.state))
+write_moves w x g now x' (FailsToWrite job token written failures τ has left failed fails e) =
+    Failed job token (subst (λ (one : World). Fails x.state job token one.state) (sym e) fails)
+write_moves w x g now x' (HasStored job token written τ has all stores e) =
+    Stored job token (subst (λ (one : World). Stores x.state job token one.state) (sym e) stores)
+write_moves w x g now x' (Settles job token τ has accepts e) =
+    Accepted job token now
+    (subst (λ (one : World). Accepts x.state job token now one.state) (sym e) accepts)
+write_moves w x g now x' (Closes job token has e) =
+    LeavesStore (moved x.state x' _ e (same_store x.state))
+write_moves w x g now x' (Forgets job τ has abandons e) =
+    Abandoned job (subst (λ (one : World). Abandons w x.state job one.state) (sym e) abandons)
+write_moves w x g now x' (TellsKept s has e) =
+    LeavesStore (moved x.state x' _ e (same_store x.state))
+write_moves w x g now x' (TellsFailed s has e) =
+    LeavesStore (moved x.state x' _ e (same_store x.state))
+
+-- an Expire that forgets
+forgotten_same : (w : Terms) (x : World) (shard now : ℕ) (fronts : List Passed) (left : ℕ)
+    → SameStore x.state (forgotten w x shard now fronts left).state
+forgotten_same w x shard now fronts left = record {
+  claims = forgetting_goes x.state.claim shard now w.remember fronts;
+  begun = λ g. refl;
+  kept = refl;
+  accepted = refl;
+  gained = λ f. refl;
+}
+
+-- an Expire, by what it reads
+front_same : (w : Terms) (x : World) (shard now : ℕ) (fronts : List Passed) (next : Option Buffer)
+    → SameStore x.state (reads_front w x shard now fronts next).state
+front_same w x shard now fronts (Some buffer) = same_store x.state
+front_same w x shard now fronts None = forgotten_same w x shard now fronts 15
+
+-- an Expire
+expired_same : (w : Terms) (x : World) (shard now : ℕ) (expirer : Expirer)
+    → SameStore x.state (expired w x shard now expirer).state
+expired_same w x shard now (world.Reading fronts) =
+    front_same w x shard now fronts (slice_get w.buffers (length fronts))
+expired_same w x shard now (Forgetting fronts left) =
+    forgotten_same w x shard now fronts (left - 1)
+
+-- a Restart that is done
+restarted_same : (x : World) (failures : ℕ → ℕ) → SameStore x.state (restarted x failures).state
+restarted_same x failures = record {
+  claims = λ id. restart_goes (x.state.claim id);
+  begun = λ g. refl;
+  kept = refl;
+  accepted = refl;
+  gained = λ f. refl;
+}
+
+-- a Restart
+restart_same : (w : Terms) (x : World) (output : Output) (x' : World) → Restarts w x output x'
+    → SameStore x.state x'.state
+restart_same w x output x' (IsBusy id busy said e) = moved x.state x' x e (same_store x.state)
+restart_same w x output x' (HasNoRoom failures rises said e) =
+    moved x.state x' (with_failures x failures) e (same_store x.state)
+restart_same w x output x' (HasNot i buffer failures there idle failed said e) =
+    moved x.state x' (with_failures x failures) e (same_store x.state)
+restart_same w x output x' (run.IsDone failures idle rises said e) =
+    moved x.state x' (restarted x failures) e (restarted_same x failures)
+
+-- an event that isn't refused
+does_moves : (w : Terms) (x : World) (event : Event) (output : Output) (x' : World)
+    → Does w x event output x' → Moves w x.state x'.state
+does_moves w x (Open s peer) output x' does =
+    LeavesStore (moved x.state x' (opened x s peer) does.1
+    (record {
+      claims = λ id. Stays refl;
+      begun = λ g. refl;
+      kept = refl;
+      accepted = refl;
+      gained = λ f. refl;
+    }))
+does_moves w x (Bytes s piece) output x' does =
+    LeavesStore (moved x.state x' _ does.3 (session_same x.state x s _ (same_store x.state)))
+does_moves w x (Turn s now) output x' does = LeavesStore (turn_same w x s now output x' does)
+does_moves w x (Write g now) output x' does = write_moves w x g now x' does.1
+does_moves w x (Break s) output x' does =
+    LeavesStore (moved x.state x' _ does.3 (session_same x.state x s _ (same_store x.state)))
+does_moves w x (Expire shard now) output x' does =
+    LeavesStore (moved x.state x' _ does.1 (expired_same w x shard now x.work.expirer))
+does_moves w x Restart output x' does = LeavesStore (restart_same w x output x' does)
+
+-- each step
+pub step_moves : (w : Terms) (x : World) (event : Event) (output : Output) (x' : World)
+    → Step w x event output x' → Moves w x.state x'.state
+step_moves w x event output x' (IsRefused fault is said e) =
+    LeavesStore (moved x.state x' x e (same_store x.state))
+step_moves w x event output x' (WantsMemory takes said e) =
+    LeavesStore (moved x.state x' x e (same_store x.state))
+step_moves w x event output x' (IsDone free does) = does_moves w x event output x' does

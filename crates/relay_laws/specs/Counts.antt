@@ -1,0 +1,50 @@
+-- How many Writes a job still takes (docs/PROTOCOL.md, Writers).
+use Rattle.std.specs.Prelude.{◌≡◌, ℕ, ◌+◌, ◌-◌, Bool, true, false, List, [], ◌∷◌, None, Some}
+use Rattle.relay_model.specs.Run.{Event, Open, Bytes, Turn, Write, Break, Expire, Restart}
+use Rattle.relay_model.specs.Terms.{Terms}
+use Rattle.relay_model.specs.World.{World, Writer, Idle, Popped, Writing, Finished, Failed, Settled}
+use Rattle.relay_model.specs.World.{Forgotten}
+use Rattle.relay_model.specs.Writers.{Writes, job_size}
+
+-- the Writes that are left where no fault is found: after the pop the begin, one for each block,
+-- the finish, the settle and the answer; after a fault the abandon, the forget and the answer
+abbrev pub writes_left : Writer → ℕ
+writes_left Idle = 0
+writes_left (Popped job) = job_size job + 4
+writes_left (Writing job token written) = job_size job - written + 3
+writes_left (Finished job token) = 2
+writes_left (Settled session) = 1
+writes_left (Failed job (Some token)) = 3
+writes_left (Failed job None) = 2
+writes_left (Forgotten session) = 1
+
+-- the writer found that its job can't be stored
+abbrev pub is_failed : Writer → Bool
+is_failed Idle = false
+is_failed (Popped job) = false
+is_failed (Writing job token written) = false
+is_failed (Finished job token) = false
+is_failed (Failed job open_one) = true
+is_failed (Settled session) = false
+is_failed (Forgotten session) = false
+
+-- no fault was found between these two worlds by the writer of this group
+abbrev pub FindsNoFault : World → World → ℕ → Type 0
+FindsNoFault x x' g = is_failed (x'.work.writer g) ≡ true → is_failed (x.work.writer g) ≡ true
+
+-- Writes of this group at these moments, one after the other, none of which finds a fault
+abbrev pub WritesInTurn : Terms → World → (g : ℕ) (moments : List ℕ) → World → Type 0
+WritesInTurn w x g [] x' = x' ≡ x
+WritesInTurn w x g (now ∷ moments) x' =
+    (between : World) × Writes w x g now between × FindsNoFault x between g
+    × WritesInTurn w between g moments x'
+
+-- the event is no Write of this group, and no Restart
+abbrev pub IsOther : ℕ → Event → Type 0
+IsOther g (Open s peer) = Unit {0}
+IsOther g (Bytes s piece) = Unit {0}
+IsOther g (Turn s now) = Unit {0}
+IsOther g (Write h now) = h ≡ g → ⊥
+IsOther g (Break s) = Unit {0}
+IsOther g (Expire shard now) = Unit {0}
+IsOther g Restart = ⊥

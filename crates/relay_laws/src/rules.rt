@@ -1,0 +1,118 @@
+//! Laws of single rules.
+ghost use Rattle.std.specs.Prelude.{◌≡◌, ◌≢◌, ◌++◌, ◌∷◌, [], ◌↔◌, ℕ, true, List, Option, Some};
+ghost use Rattle.std.specs.Prelude.{Result, Contains, IsSomeAnd, slice_get};
+ghost use Rattle.news_terms.specs.Article.{Article};
+ghost use Rattle.news_terms.specs.Places.{Buffer};
+ghost use Rattle.news_terms.specs.Reply as replies;
+ghost use Rattle.news_terms.specs.Token.{Token};
+ghost use Rattle.relay_model.specs.Asks.{Due, IsDue, Pushes};
+ghost use Rattle.relay_model.specs.Claims.{Accepted, Claim, Offered, Storing, Waiting, Wanted, Mine};
+ghost use Rattle.relay_model.specs.Claims.{offer_answer, after_offer, take_answer, after_take};
+ghost use Rattle.relay_model.specs.Claims.{after_refuse, after_release, after_forget, after_settle};
+ghost use Rattle.relay_model.specs.Fetches as fetches;
+ghost use Rattle.relay_model.specs.Fetches.{Gone, fetched, front_of, text_under};
+ghost use Rattle.relay_model.specs.Hears.{outcome_heard};
+ghost use Rattle.relay_model.specs.Judging.{Judges, is_permitted, permitted};
+ghost use Rattle.relay_model.specs.State.{State, Session, Transfer, Job, Waits, Leaving};
+ghost use Rattle.relay_model.specs.Terms.{Terms, Reason};
+ghost use Rattle.relay_model.specs.World.{Outcome, IsKept, Speaks};
+ghost use Rattle.relay_model.specs.Writers.{Stores, Fails, Accepts, Abandons};
+ghost use Rattle.relay_laws.specs.Rules.{IsNotOf, IsGoneToken, IsLiveToken};
+
+/// What is not this session's stays as it is when the session's article is refused, its open offer
+/// ends, or the writer gives its article up or has stored it.
+pub fn others_keep_theirs()
+    ensures refused { (s now : ℕ) (claim : Claim) → IsNotOf s claim
+        → after_refuse s now claim ≡ claim }
+    ensures released { (s : ℕ) (claim : Claim) → IsNotOf s claim → after_release s claim ≡ claim }
+    ensures forgotten { (s : ℕ) (claim : Claim) → IsNotOf s claim → after_forget s claim ≡ claim }
+    ensures settled { (s : ℕ) (token : Token) (now : ℕ) (claim : Claim) → IsNotOf s claim
+        → after_settle s token now claim ≡ claim }
+{}
+
+/// A session that is told to send an article has the offer of its id; else nothing has changed.
+pub fn one_is_told_to_send()
+    ensures told { (s : ℕ) (claim : Claim) → offer_answer s claim ≡ Wanted
+        → after_offer s claim ≡ Offered s }
+    ensures untold { (s : ℕ) (claim : Claim) → offer_answer s claim ≢ Wanted
+        → after_offer s claim ≡ claim }
+{}
+
+/// A session that is to store an article has its id from then on; else nothing has changed.
+pub fn one_stores()
+    ensures stores { (s : ℕ) (article : Accepted) (claim : Claim) → take_answer s claim ≡ Mine
+        → after_take s article claim ≡ Storing s article Waiting }
+    ensures leaves { (s : ℕ) (article : Accepted) (claim : Claim) → take_answer s claim ≢ Mine
+        → after_take s article claim ≡ claim }
+{}
+
+/// A block has at most one judgement.
+pub fn one_judgement()
+    ensures { (w : Terms) (from : ℕ) (id : List ℕ) (now : ℕ) (text : Option (List ℕ))
+        (one other : Result Accepted Reason) → Judges w from id now text one
+        → Judges w from id now text other → one ≡ other }
+{}
+
+/// The feeds that an article is permitted for are those that may have it, no other; each of them
+/// gains exactly its token when it is accepted, and no other feed anything.
+pub fn accepted_as_permitted()
+    ensures permitted { (w : Terms) (from feed : ℕ) (a : Article)
+        → Contains (permitted w from a) feed
+        ↔ IsSomeAnd (slice_get w.feeds feed) (λ one. is_permitted w from a one ≡ true) }
+    ensures gains { (σ σ' : State) (job : Job) (token : Token) (now feed : ℕ)
+        → Accepts σ job token now σ' → Contains job.article.permitted feed
+        → σ'.feed feed ≡ record (σ.feed feed) {
+          gained = (σ.feed feed).gained ++ token ∷ [];
+        } }
+    ensures others { (σ σ' : State) (job : Job) (token : Token) (now feed : ℕ)
+        → Accepts σ job token now σ' → ¬ Contains job.article.permitted feed
+        → σ'.feed feed ≡ σ.feed feed }
+{}
+
+/// A fetch says gone only where the front has passed the token's place, gives a text only where it
+/// is whole under this token and live, and finds what is whole and live.
+pub fn fetches_are_true()
+    ensures gone { (w : Terms) (σ : State) (token : Token) → fetched w σ token ≡ Gone
+        → IsGoneToken w σ token }
+    ensures whole { (w : Terms) (σ : State) (token : Token) (text : List ℕ)
+        → fetched w σ token ≡ fetches.Article text → text_under σ.kept token ≡ Some text }
+    ensures live { (w : Terms) (σ : State) (token : Token) (text : List ℕ)
+        → fetched w σ token ≡ fetches.Article text → IsLiveToken w σ token }
+    ensures found { (w : Terms) (σ : State) (token : Token) (text : List ℕ)
+        → IsLiveToken w σ token → text_under σ.kept token ≡ Some text
+        → fetched w σ token ≡ fetches.Article text }
+{}
+
+/// No front moves where a text becomes whole, fails, is accepted or is given up: a begin alone
+/// moves one.
+pub fn only_begins_move_fronts()
+    ensures stored { (w : Terms) (σ σ' : State) (job : Job) (token : Token) (buffer : Buffer)
+        → Stores σ job token σ' → front_of w σ' buffer ≡ front_of w σ buffer }
+    ensures failed { (w : Terms) (σ σ' : State) (job : Job) (token : Token) (buffer : Buffer)
+        → Fails σ job token σ' → front_of w σ' buffer ≡ front_of w σ buffer }
+    ensures accepted { (w : Terms) (σ σ' : State) (job : Job) (token : Token) (now : ℕ)
+        (buffer : Buffer) → Accepts σ job token now σ'
+        → front_of w σ' buffer ≡ front_of w σ buffer }
+    ensures abandoned { (w : Terms) (σ σ' : State) (job : Job) (buffer : Buffer)
+        → Abandons w σ job σ' → front_of w σ' buffer ≡ front_of w σ buffer }
+{}
+
+/// A session that waits or leaves pushes the job in its hand before it does anything else.
+pub fn jobs_are_pushed_first()
+    ensures waiting { (w : Terms) (session : Session) (now : ℕ) (due : Due) (transfer : Transfer)
+        (id : List ℕ) (job : Job) → session.phase ≡ Waits transfer id → session.hand ≡ Some job
+        → IsDue w session now due → due.ask ≡ Pushes job }
+    ensures leaving { (w : Terms) (session : Session) (now : ℕ) (due : Due) (job : Job)
+        → session.phase ≡ Leaving → session.hand ≡ Some job → IsDue w session now due
+        → due.ask ≡ Pushes job }
+{}
+
+/// That an article was kept (239, 235) is said only where that is its outcome.
+pub fn kept_is_said_of_kept()
+    ensures streaming { (session : Session) (transfer : Transfer) (id : List ℕ) (outcome : Outcome)
+        → (outcome_heard session transfer id outcome).said ≡ Speaks (replies.Kept id)
+        → outcome ≡ IsKept }
+    ensures offered { (session : Session) (transfer : Transfer) (id : List ℕ) (outcome : Outcome)
+        → (outcome_heard session transfer id outcome).said ≡ Speaks replies.IhaveKept
+        → outcome ≡ IsKept }
+{}

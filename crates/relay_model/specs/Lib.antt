@@ -1,0 +1,13 @@
+pub mod Asks
+pub mod Awaited
+pub mod Claims
+pub mod Fetches
+pub mod Hears
+pub mod Invariants
+pub mod Judging
+pub mod Run
+pub mod Shares
+pub mod State
+pub mod Terms
+pub mod World
+pub mod Writers
