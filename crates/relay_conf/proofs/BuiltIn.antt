@@ -1,6 +1,5 @@
 -- The texts of the built-in configuration say what K1 is.
-use Rattle.std.proofs.Common.{◌≡◌, ℕ, List, [], ◌∷◌, map, Result, Ok, Err, refl, subst}
-use Rattle.std.proofs.Common.{lit<}
+use Rattle.std.proofs.Common.{◌≡◌, ℕ, List, [], ◌∷◌, map, Result, Ok, Err, refl, subst, lit<}
 use Rattle.std.specs.Prelude.{codes, IfOk, IfErr}
 use Rattle.std.specs.Global.{Vec}
 use Rattle.news_terms.specs.Pattern.{IsExpressionText}
@@ -68,7 +67,8 @@ relay_has_settings = record {
 -- What is read of them are the settings of K1,
 pub relay_is_k1 : (result : Result Relay ConfError) → RelayGives result relay_lines
     → IfOk result (λ settings. relay_view settings ≡ k1_relay)
-relay_is_k1 (Ok settings) h = one_settings relay_lines (relay_view settings) k1_relay h relay_has_settings
+relay_is_k1 (Ok settings) h = one_settings relay_lines
+    (relay_view settings) k1_relay h relay_has_settings
 relay_is_k1 (Err error) h = tt
 
 -- unless memory ran out.

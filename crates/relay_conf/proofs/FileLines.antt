@@ -8,7 +8,8 @@ use Rattle.relay_conf.specs.Cycbuff.{ignored_line, members_of, Skipped}
 use Rattle.line_words.proofs.Cuts.{some_part}
 
 -- A line that LF ends stands before the lines of what follows.
-pub lines_more : (line rest : List ℕ) → lines_in (line ∷ parts 10 rest) ≡ strip_carriage_return line ∷ lines_of rest
+pub lines_more : (line rest : List ℕ)
+    → lines_in (line ∷ parts 10 rest) ≡ strip_carriage_return line ∷ lines_of rest
 lines_more line rest = let some = some_part (λ other. other == 10) rest in rw some.2 refl
 
 -- Behind a colon there is something.

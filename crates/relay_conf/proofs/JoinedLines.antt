@@ -1,5 +1,6 @@
 -- Lines joined by either line end are the lines of the text.
-use Rattle.std.proofs.Common.{◌≡◌, ℕ, ◌-◌, Bool, true, false, List, [], ◌∷◌, ◌++◌, length, get_or, refl, ap, ◌∙◌, sym, arith, append_assoc}
+use Rattle.std.proofs.Common.{◌≡◌, ℕ, ◌-◌, Bool, true, false, List, [], ◌∷◌, ◌++◌, length, get_or}
+use Rattle.std.proofs.Common.{refl, ap, ◌∙◌, sym, arith, append_assoc}
 use Rattle.std.specs.Prelude.{◌==◌, not}
 use Rattle.std.specs.List.{list_all}
 use Rattle.std.specs.Str.Lines.{strip_carriage_return}
@@ -44,28 +45,36 @@ strip_cr x =
     rw (n, get_or-append_seam x 13 [] 0) (take-append_seam x (13 ∷ []))
 
 -- the line and those behind it
-parts_of : (x : List ℕ) (more : List (List ℕ)) → list_all is_line (x ∷ more) ≡ true → (is_plain x ≡ true) × ((get_or x (length x - 1) 0 == 13) ≡ false) × (list_all is_line more ≡ true)
+parts_of : (x : List ℕ) (more : List (List ℕ)) → list_all is_line (x ∷ more) ≡ true
+    → (is_plain x ≡ true) × ((get_or x (length x - 1) 0 == 13) ≡ false) ×
+    (list_all is_line more ≡ true)
 parts_of x more h =
     let both = and_parts (is_line x) (list_all is_line more) h in
     let line = and_parts (is_plain x) (not (get_or x (length x - 1) 0 == 13)) both.0 in
     (line.0, not_true (get_or x (length x - 1) 0 == 13) line.1, both.1)
 
-pub joined_by_lf : (first : List ℕ) (more : List (List ℕ)) → list_all is_line (first ∷ more) ≡ true → lines_of (joined_by (10 ∷ []) (first ∷ more)) ≡ first ∷ more
+pub joined_by_lf : (first : List ℕ) (more : List (List ℕ)) → list_all is_line (first ∷ more) ≡ true
+    → lines_of (joined_by (10 ∷ []) (first ∷ more)) ≡ first ∷ more
 joined_by_lf first [] h = ap lines_in (plain_one first (parts_of first [] h).0)
 joined_by_lf first (next ∷ more) h =
     let all = parts_of first (next ∷ more) h in
     let rest = joined_by (10 ∷ []) (next ∷ more) in
-    ap lines_of (append_assoc first (10 ∷ []) rest) ∙ ap lines_in (plain_cut first rest all.0) ∙ lines_more first rest
+    ap lines_of (append_assoc first (10 ∷ []) rest) ∙ ap lines_in (plain_cut first rest all.0)
+    ∙ lines_more first rest
     ∙ ap (λ (line : List ℕ). line ∷ lines_of rest) (strip_other first all.1)
     ∙ ap (λ (lines : List (List ℕ)). first ∷ lines) (joined_by_lf next more all.2)
 
-pub joined_by_crlf : (first : List ℕ) (more : List (List ℕ)) → list_all is_line (first ∷ more) ≡ true → lines_of (joined_by (13 ∷ 10 ∷ []) (first ∷ more)) ≡ first ∷ more
+pub joined_by_crlf : (first : List ℕ) (more : List (List ℕ))
+    → list_all is_line (first ∷ more) ≡ true → lines_of (joined_by (13 ∷ 10 ∷ []) (first ∷ more))
+    ≡ first ∷ more
 joined_by_crlf first [] h = ap lines_in (plain_one first (parts_of first [] h).0)
 joined_by_crlf first (next ∷ more) h =
     let all = parts_of first (next ∷ more) h in
     let rest = joined_by (13 ∷ 10 ∷ []) (next ∷ more) in
-    let plain : is_plain (first ++ 13 ∷ []) ≡ true = list_all-append (λ (c : ℕ). not (c == 10)) first (13 ∷ []) ∙ rw all.0 refl in
-    ap lines_of (append_assoc first (13 ∷ 10 ∷ []) rest ∙ sym (append_assoc first (13 ∷ []) (10 ∷ rest)))
+    let plain : is_plain (first ++ 13 ∷ []) ≡ true = list_all-append
+    (λ (c : ℕ). not (c == 10)) first (13 ∷ []) ∙ rw all.0 refl in
+    ap lines_of (append_assoc first (13 ∷ 10 ∷ []) rest
+    ∙ sym (append_assoc first (13 ∷ []) (10 ∷ rest)))
     ∙ ap lines_in (plain_cut (first ++ 13 ∷ []) rest plain) ∙ lines_more (first ++ 13 ∷ []) rest
     ∙ ap (λ (line : List ℕ). line ∷ lines_of rest) (strip_cr first)
     ∙ ap (λ (lines : List (List ℕ)). first ∷ lines) (joined_by_crlf next more all.2)

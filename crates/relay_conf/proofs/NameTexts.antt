@@ -1,5 +1,6 @@
 -- Names as text, and sets of them.
-use Rattle.std.proofs.Common.{◌≡◌, ℕ, ◌<◌, Bool, true, false, cond, List, [], ◌∷◌, ◌++◌, refl, sym, ◌∙◌, arith, rules, tests, zero, suc}
+use Rattle.std.proofs.Common.{◌≡◌, ℕ, ◌<◌, Bool, true, false, cond, List, [], ◌∷◌, ◌++◌, refl, sym}
+use Rattle.std.proofs.Common.{◌∙◌, arith, rules, tests, zero, suc}
 use Rattle.std.specs.Prelude.{◌||◌, bytes_eq}
 use Rattle.std.specs.List.{list_all, list_any}
 use Rattle.std.specs.Str.{IsAscii, IsUtf8}
@@ -17,12 +18,15 @@ name_octet c h = search (rules, tests)
 -- Octets of names are ASCII.
 name_octets : (word : List ℕ) → list_all is_name_octet word ≡ true → IsAscii word
 name_octets [] h i = omega arith
-name_octets (c ∷ word) h zero = name_octet c (and_parts (is_name_octet c) (list_all is_name_octet word) h).0
-name_octets (c ∷ word) h (suc i) = name_octets word (and_parts (is_name_octet c) (list_all is_name_octet word) h).1 i
+name_octets (c ∷ word) h zero = name_octet c (and_parts (is_name_octet c)
+    (list_all is_name_octet word) h).0
+name_octets (c ∷ word) h (suc i) = name_octets word (and_parts (is_name_octet c)
+    (list_all is_name_octet word) h).1 i
 
 -- A name is text.
 pub name_utf8 : (word : List ℕ) → is_name word ≡ true → IsUtf8 word
-name_utf8 word h = IsUtf8-from_ascii word (name_octets word (and_parts _ (list_all is_name_octet word) h).1)
+name_utf8 word h = IsUtf8-from_ascii word
+    (name_octets word (and_parts _ (list_all is_name_octet word) h).1)
 
 -- A choice of true is an or.
 pub cond_or : (b c : Bool) → cond b true c ≡ b || c
@@ -36,7 +40,8 @@ bytes_eq-sym xs ys =
     (Decides-like (bytes_eq ys xs) sym sym (bytes_eq-Decides ys xs))
 
 -- One name more is found as well.
-pub any_more : (names : List (List ℕ)) (name other : List ℕ) → bytes_eq name other || list_any (bytes_eq other) names ≡ list_any (bytes_eq other) (names ++ name ∷ [])
+pub any_more : (names : List (List ℕ)) (name other : List ℕ) → bytes_eq name other || list_any
+    (bytes_eq other) names ≡ list_any (bytes_eq other) (names ++ name ∷ [])
 any_more names name other =
     rw (bytes_eq-sym name other) (swapped (bytes_eq other name) (list_any (bytes_eq other) names))
     ∙ sym (list_any-append (bytes_eq other) names (name ∷ []))

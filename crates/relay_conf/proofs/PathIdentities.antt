@@ -1,16 +1,17 @@
 -- The identities that relay.conf takes are such as stand in a Path.
-use Rattle.std.proofs.Common.{◌≡◌, ◌≢◌, ℕ, Bool, true, false, cond, List, [], ◌∷◌, ◌++◌, Option, None, Some}
-use Rattle.std.proofs.Common.{Result, Ok, Err, refl, ap, ◌∙◌, sym, subst, rules, tests, not}
-use Rattle.std.specs.Prelude.{◌&&◌, ◌==◌, All, nat_eq, nat_le, codes, filter, filter_map}
-use Rattle.std.specs.Prelude.{bytes_eq, length}
+use Rattle.std.proofs.Common.{◌≡◌, ◌≢◌, ℕ, Bool, true, false, cond, List, [], ◌∷◌, ◌++◌, Option}
+use Rattle.std.proofs.Common.{None, Some, Result, Ok, Err, refl, ap, ◌∙◌, sym, subst, rules, tests}
+use Rattle.std.proofs.Common.{not}
+use Rattle.std.specs.Prelude.{◌&&◌, ◌==◌, All, nat_eq, nat_le, codes, filter, filter_map, bytes_eq}
+use Rattle.std.specs.Prelude.{length}
 use Rattle.std.specs.Char.{is_ascii_graphic}
 use Rattle.std.specs.List.{list_all, starts_with, onto_first}
 use Rattle.std.specs.Str.{byte}
 use Rattle.std.proofs.lemmas.Bool.{and_parts, and_from, and_left, or_from, both_ways, ne_eqb}
 use Rattle.std.proofs.lemmas.List.Sums.{AllPass-from_list_all, take_while-cons}
 use Rattle.news_terms.specs.Article.{is_empty, without_outer_white}
-use Rattle.news_terms.specs.Path.{cut_at_bangs, path_octets, path_pieces, before_tail}
-use Rattle.news_terms.specs.Path.{is_posted, before_posted, path_identities, is_agent}
+use Rattle.news_terms.specs.Path.{cut_at_bangs, path_octets, path_pieces, before_tail, is_posted}
+use Rattle.news_terms.specs.Path.{before_posted, path_identities, is_agent}
 use Rattle.news_terms.specs.Path as path
 use Rattle.news_terms.proofs.PathUpdates.{agent_octet, all_agent}
 use Rattle.line_words.specs.Comments.{is_skipped}
@@ -22,12 +23,13 @@ use Rattle.relay_conf.specs.declared.faults.Fault.TheVariants.{Syntax}
 use Rattle.relay_conf.specs.declared.faults.LineFault.{LineFault}
 use Rattle.relay_conf.specs.declared.relay.Peer.{Peer}
 use Rattle.relay_conf.specs.Faults.{first_fault, whole_fault, unless_fault}
+use Rattle.relay_conf.specs.LineByLine.{SayEach}
 use Rattle.relay_conf.specs.Relay.{RelayLine, RawLine, SaidLine, Skipped, Own, MaxArticle, Cutoff}
-use Rattle.relay_conf.specs.Relay.{Remember, PeerLine, FeedLine, RawSays, LinesSay}
-use Rattle.relay_conf.specs.Relay.{own_line, number_line, with_number, peer_ported}
-use Rattle.relay_conf.specs.Relay.{peer_line, feed_ringed, feed_line, relay_words, relay_line}
-use Rattle.relay_conf.specs.Relay.{own_of, peer_of, stand_of, early_fault, late_fault, no_own_fault}
-use Rattle.relay_conf.specs.Relay.{first_or, settings_of, relay_said, RelaySettings}
+use Rattle.relay_conf.specs.Relay.{Remember, PeerLine, FeedLine, RawSays, LineSays, own_line}
+use Rattle.relay_conf.specs.Relay.{number_line, with_number, peer_ported, peer_line, feed_ringed}
+use Rattle.relay_conf.specs.Relay.{feed_line, relay_words, relay_line, own_of, peer_of, stand_of}
+use Rattle.relay_conf.specs.Relay.{early_fault, late_fault, no_own_fault, first_or, settings_of}
+use Rattle.relay_conf.specs.Relay.{relay_said, RelaySettings}
 use Rattle.relay_conf.specs.RelayViews.{HasSettings}
 use Rattle.relay_conf.specs.Words.{words, is_name, is_name_octet, is_identity}
 
@@ -116,7 +118,8 @@ of_either false one other h k = k
 -- So it is of what follows `own`,
 of_own : (word : Option (List ℕ)) → HasIdentity (own_line word)
 of_own None = tt
-of_own (Some identity) = of_either (is_identity identity) (Ok (Own identity)) (Err Syntax) (λ e. e) tt
+of_own (Some identity) = of_either (is_identity identity) (Ok (Own identity)) (Err Syntax)
+    (λ e. e) tt
 
 -- of a line of a number,
 of_number : (line : ℕ → RelayLine (List ℕ)) (said : Result ℕ Fault)
@@ -179,41 +182,50 @@ of_said (Ok (Cutoff seconds)) said h k = subst HasIdentity (sym h) tt
 of_said (Ok (Remember seconds)) said h k = subst HasIdentity (sym h) tt
 of_said (Ok (PeerLine name identity port)) said h k = subst HasIdentity (sym h) k
 of_said (Ok (FeedLine name ring text)) (Err fault) h k = tt
-of_said (Ok (FeedLine name ring text)) (Ok line) h k = subst (λ (l : _). HasIdentity (Ok l)) (sym h.2) tt
+of_said (Ok (FeedLine name ring text)) (Ok line) h k = subst (λ (l : _). HasIdentity (Ok l))
+    (sym h.2) tt
 
--- The own identities that lines say are of agents,
-owns_pass : (lines : List (List ℕ)) (said : List SaidLine) → LinesSay lines said
+-- so it is of each of these lines
+abbrev AllHaveIdentities : List SaidLine → Type 0
+AllHaveIdentities [] = Unit {0}
+AllHaveIdentities (one ∷ said) = HasIdentity one × AllHaveIdentities said
+
+-- So it is of what lines say.
+all_have : (before : List SaidLine) (lines : List (List ℕ)) (said : List SaidLine)
+    → SayEach LineSays before lines said → AllHaveIdentities said
+all_have before [] [] h = tt
+all_have before [] (one ∷ said) h = absurd h
+all_have before (line ∷ lines) [] h = absurd h
+all_have before (line ∷ lines) (one ∷ said) h =
+    (of_said (relay_line line) one h.0 (of_line line), all_have (before ++ one ∷ []) lines said h.1)
+
+-- The own identities that they say are agents',
+owns_pass : (said : List SaidLine) → AllHaveIdentities said
     → list_all is_agent (filter_map own_of said) ≡ true
-owns_pass [] [] h = refl
-owns_pass [] (s ∷ said) h = absurd h
-owns_pass (line ∷ lines) [] h = absurd h
-owns_pass (line ∷ lines) (Err fault ∷ said) h = owns_pass lines said h.1
-owns_pass (line ∷ lines) (Ok Skipped ∷ said) h = owns_pass lines said h.1
-owns_pass (line ∷ lines) (Ok (Own identity) ∷ said) h =
-    let one = of_said (relay_line line) (Ok (Own identity)) h.0 (of_line line) in
-    and_from _ _ (identity_is_agent identity one) (owns_pass lines said h.1)
-owns_pass (line ∷ lines) (Ok (MaxArticle octets) ∷ said) h = owns_pass lines said h.1
-owns_pass (line ∷ lines) (Ok (Cutoff seconds) ∷ said) h = owns_pass lines said h.1
-owns_pass (line ∷ lines) (Ok (Remember seconds) ∷ said) h = owns_pass lines said h.1
-owns_pass (line ∷ lines) (Ok (PeerLine name identity port) ∷ said) h = owns_pass lines said h.1
-owns_pass (line ∷ lines) (Ok (FeedLine name ring expression) ∷ said) h = owns_pass lines said h.1
+owns_pass [] h = refl
+owns_pass (Err fault ∷ said) h = owns_pass said h.1
+owns_pass (Ok Skipped ∷ said) h = owns_pass said h.1
+owns_pass (Ok (Own identity) ∷ said) h =
+    and_from _ _ (identity_is_agent identity h.0) (owns_pass said h.1)
+owns_pass (Ok (MaxArticle octets) ∷ said) h = owns_pass said h.1
+owns_pass (Ok (Cutoff seconds) ∷ said) h = owns_pass said h.1
+owns_pass (Ok (Remember seconds) ∷ said) h = owns_pass said h.1
+owns_pass (Ok (PeerLine name identity port) ∷ said) h = owns_pass said h.1
+owns_pass (Ok (FeedLine name ring expression) ∷ said) h = owns_pass said h.1
 
 -- and so are those of the peers.
-peers_pass : (lines : List (List ℕ)) (said : List SaidLine) → LinesSay lines said
+peers_pass : (said : List SaidLine) → AllHaveIdentities said
     → list_all (λ (peer : Peer). is_agent peer.identity) (filter_map peer_of said) ≡ true
-peers_pass [] [] h = refl
-peers_pass [] (s ∷ said) h = absurd h
-peers_pass (line ∷ lines) [] h = absurd h
-peers_pass (line ∷ lines) (Err fault ∷ said) h = peers_pass lines said h.1
-peers_pass (line ∷ lines) (Ok Skipped ∷ said) h = peers_pass lines said h.1
-peers_pass (line ∷ lines) (Ok (Own identity) ∷ said) h = peers_pass lines said h.1
-peers_pass (line ∷ lines) (Ok (MaxArticle octets) ∷ said) h = peers_pass lines said h.1
-peers_pass (line ∷ lines) (Ok (Cutoff seconds) ∷ said) h = peers_pass lines said h.1
-peers_pass (line ∷ lines) (Ok (Remember seconds) ∷ said) h = peers_pass lines said h.1
-peers_pass (line ∷ lines) (Ok (PeerLine name identity port) ∷ said) h =
-    let one = of_said (relay_line line) (Ok (PeerLine name identity port)) h.0 (of_line line) in
-    and_from _ _ (identity_is_agent identity one) (peers_pass lines said h.1)
-peers_pass (line ∷ lines) (Ok (FeedLine name ring expression) ∷ said) h = peers_pass lines said h.1
+peers_pass [] h = refl
+peers_pass (Err fault ∷ said) h = peers_pass said h.1
+peers_pass (Ok Skipped ∷ said) h = peers_pass said h.1
+peers_pass (Ok (Own identity) ∷ said) h = peers_pass said h.1
+peers_pass (Ok (MaxArticle octets) ∷ said) h = peers_pass said h.1
+peers_pass (Ok (Cutoff seconds) ∷ said) h = peers_pass said h.1
+peers_pass (Ok (Remember seconds) ∷ said) h = peers_pass said h.1
+peers_pass (Ok (PeerLine name identity port) ∷ said) h =
+    and_from _ _ (identity_is_agent identity h.0) (peers_pass said h.1)
+peers_pass (Ok (FeedLine name ring expression) ∷ said) h = peers_pass said h.1
 
 -- Settings behind a trial are there where it finds no fault.
 behind_trial : {S : Type 0} (fault : Option LineFault) (said : Result S LineFault) (settings : S)
@@ -241,7 +253,7 @@ pub own_is_agent : (lines : List (List ℕ)) (settings : RelaySettings) → HasS
 own_is_agent lines settings h =
     let parts = of_settings h.said settings h.gives in
     subst (λ (s : RelaySettings). is_agent s.own ≡ true) parts.1
-    (by_owns (stand_of h.said).owns parts.0 (owns_pass lines h.said h.says))
+    (by_owns (stand_of h.said).owns parts.0 (owns_pass h.said (all_have [] lines h.said h.says)))
   where
     by_owns : (owns : List (List ℕ)) → no_own_fault owns ≡ None → list_all is_agent owns ≡ true
         → is_agent (first_or [] owns) ≡ true
@@ -255,5 +267,6 @@ pub peers_are_agents : (lines : List (List ℕ)) (settings : RelaySettings)
 peers_are_agents lines settings h =
     let parts = of_settings h.said settings h.gives in
     AllPass-from_list_all (λ (peer : Peer). is_agent peer.identity) settings.peers
-    (subst (λ (s : RelaySettings). list_all (λ (peer : Peer). is_agent peer.identity) s.peers ≡ true)
-    parts.1 (peers_pass lines h.said h.says))
+    (subst (λ (s : RelaySettings). list_all (λ (peer : Peer). is_agent peer.identity) s.peers
+    ≡ true)
+    parts.1 (peers_pass h.said (all_have [] lines h.said h.says)))

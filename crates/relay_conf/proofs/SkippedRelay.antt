@@ -1,16 +1,24 @@
 -- Comments and empty lines of relay.conf.
-use Rattle.std.proofs.Common.{◌≡◌, ℕ, true, List, [], ◌∷◌, ◌++◌, Some, Ok, refl, ap, ◌∙◌, sym, subst}
+use Rattle.std.proofs.Common.{◌≡◌, ℕ, true, List, [], ◌∷◌, ◌++◌, Some, Ok, refl, ap, ◌∙◌, sym}
+use Rattle.std.proofs.Common.{subst}
 use Rattle.std.specs.Prelude.{◌↔◌, filter_map}
 use Rattle.news_terms.specs.Article.{without_outer_white}
 use Rattle.relay_conf.specs.declared.relay.Feed.{Feed}
 use Rattle.relay_conf.specs.Faults.{first_fault, whole_fault}
 use Rattle.line_words.specs.Comments.{is_skipped}
-use Rattle.relay_conf.specs.Relay.{SaidLine, Skipped, RawSays, LinesSay, Stand, stand_of, own_of, max_article_of, cutoff_of, remember_of, peer_of, feed_name_of, feed_of, line_fault, early_fault, late_fault, no_own_fault, first_or, first_of, settings_of, relay_said, relay_line, RelaySettings}
+use Rattle.relay_conf.specs.Relay.{RawLine, SaidLine, Skipped, RawSays, LineSays, Stand, stand_of}
+use Rattle.relay_conf.specs.Relay.{own_of, max_article_of, cutoff_of, remember_of, peer_of}
+use Rattle.relay_conf.specs.Relay.{feed_name_of, feed_of, line_fault, early_fault, late_fault}
+use Rattle.relay_conf.specs.Relay.{no_own_fault, first_or, first_of, settings_of, relay_said}
+use Rattle.relay_conf.specs.Relay.{relay_line, RelaySettings}
 use Rattle.relay_conf.specs.RelayViews.{HasSettings}
-use Rattle.relay_conf.proofs.SkippedLines.{is_quiet, settings_in, kept_same, quiet_same, unless_same, settings_to}
+use Rattle.relay_conf.proofs.SkippedLines.{is_quiet, settings_in, kept_same, quiet_same}
+use Rattle.relay_conf.proofs.SkippedLines.{unless_same, settings_without}
+use Rattle.relay_conf.proofs.OneRelay.{line_once}
 
 -- The same stands without a line that is skipped.
-stand_same : (before after : List SaidLine) → stand_of (before ++ Ok Skipped ∷ after) ≡ stand_of (before ++ after)
+stand_same : (before after : List SaidLine) → stand_of (before ++ Ok Skipped ∷ after) ≡ stand_of
+    (before ++ after)
 stand_same before after =
     rw (
       kept_same own_of before (Ok Skipped) after refl,
@@ -34,68 +42,42 @@ settings_by stand feeds =
     }
 
 -- The settings of relay.conf are the same without a line that is skipped.
-relay_same : (before after : List SaidLine) → settings_in (relay_said (before ++ Ok Skipped ∷ after)) ≡ settings_in (relay_said (before ++ after))
+relay_same : (before after : List SaidLine)
+    → settings_in (relay_said (before ++ Ok Skipped ∷ after)) ≡ settings_in
+    (relay_said (before ++ after))
 relay_same before after =
     let all = before ++ Ok Skipped ∷ after in
     let peers = (stand_of (before ++ after)).peers in
     let stands = stand_same before after in
-    let late : is_quiet (first_fault (late_fault (stand_of all).peers) [] all) ≡ is_quiet (first_fault (late_fault peers) [] (before ++ after)) =
+    let late : is_quiet (first_fault (late_fault (stand_of all).peers) [] all) ≡ is_quiet
+    (first_fault (late_fault peers) [] (before ++ after)) =
     ap (λ (stand : Stand). is_quiet (first_fault (late_fault stand.peers) [] all)) stands
     ∙ quiet_same (late_fault peers) (Ok Skipped) (λ b. refl) (λ b c line. refl) [] before after in
-    let settings : settings_in (Ok (settings_of all)) ≡ settings_in (Ok (settings_of (before ++ after))) =
+    let settings : settings_in (Ok (settings_of all)) ≡ settings_in
+    (Ok (settings_of (before ++ after))) =
     ap (λ (stand : Stand). Some (settings_by stand (filter_map (feed_of stand.peers) all))) stands
-    ∙ ap (λ (feeds : List Feed). Some (settings_by (stand_of (before ++ after)) feeds)) (kept_same (feed_of peers) before (Ok Skipped) after refl) in
+    ∙ ap (λ (feeds : List Feed). Some (settings_by (stand_of (before ++ after)) feeds))
+    (kept_same (feed_of peers) before (Ok Skipped) after refl) in
     unless_same (first_fault early_fault [] all) (first_fault early_fault [] (before ++ after)) _ _
-    (quiet_same early_fault (Ok Skipped) (λ b. refl) (λ b c line. ap (λ (stand : Stand). line_fault stand line) (stand_same b c)) [] before after)
-    (unless_same (whole_fault (no_own_fault (stand_of all).owns)) (whole_fault (no_own_fault (stand_of (before ++ after)).owns)) _ _
+    (quiet_same early_fault (Ok Skipped) (λ b. refl)
+    (λ b c line. ap (λ (stand : Stand). line_fault stand line) (stand_same b c)) [] before after)
+    (unless_same (whole_fault (no_own_fault (stand_of all).owns))
+    (whole_fault (no_own_fault (stand_of (before ++ after)).owns)) _ _
     (ap (λ (stand : Stand). is_quiet (whole_fault (no_own_fault stand.owns))) stands)
-    (unless_same (first_fault (late_fault (stand_of all).peers) [] all) (first_fault (late_fault peers) [] (before ++ after)) _ _
+    (unless_same (first_fault (late_fault (stand_of all).peers) [] all)
+    (first_fault (late_fault peers) [] (before ++ after)) _ _
     late settings))
 
--- What lines say without one that is skipped.
-say_less : (before : List (List ℕ)) (line : List ℕ) (after : List (List ℕ)) (said : List SaidLine) → relay_line line ≡ Ok Skipped → LinesSay (before ++ line ∷ after) said
-    → (one : List SaidLine) × (two : List SaidLine) × (said ≡ one ++ Ok Skipped ∷ two) × LinesSay (before ++ after) (one ++ two)
-say_less [] line after [] e h = absurd h
-say_less [] line after (says ∷ said) e h =
-    let skip : says ≡ Ok Skipped = subst (λ (raw : _). RawSays raw says) e h.0 in
-    ([], said, ap (λ (s : SaidLine). s ∷ said) skip, h.1)
-say_less (first ∷ before) line after [] e h = absurd h
-say_less (first ∷ before) line after (says ∷ said) e h =
-    let rest = say_less before line after said e h.1 in
-    (says ∷ rest.0, rest.1, ap (λ (more : List SaidLine). says ∷ more) rest.2, (h.0, rest.3))
-
--- What lines say with one more that is skipped.
-say_with : (before : List (List ℕ)) (line : List ℕ) (after : List (List ℕ)) (said : List SaidLine) → relay_line line ≡ Ok Skipped → LinesSay (before ++ after) said
-    → (one : List SaidLine) × (two : List SaidLine) × (said ≡ one ++ two) × LinesSay (before ++ line ∷ after) (one ++ Ok Skipped ∷ two)
-say_with [] line after said e h = ([], said, refl, (subst (λ (raw : _). RawSays raw (Ok Skipped)) (sym e) refl, h))
-say_with (first ∷ before) line after [] e h = absurd h
-say_with (first ∷ before) line after (says ∷ said) e h =
-    let rest = say_with before line after said e h.1 in
-    (says ∷ rest.0, rest.1, ap (λ (more : List SaidLine). says ∷ more) rest.2, (h.0, rest.3))
-
 -- A comment or an empty line is skipped.
-relay_skipped : (line : List ℕ) → is_skipped (without_outer_white line) ≡ true → relay_line line ≡ Ok Skipped
+relay_skipped : (line : List ℕ) → is_skipped (without_outer_white line) ≡ true
+    → relay_line line ≡ Ok Skipped
 relay_skipped line e = rw e refl
 
 -- The settings of relay.conf are the same without a comment or an empty line.
-pub relay_without : (before after : List (List ℕ)) (line : List ℕ) (settings : RelaySettings) → is_skipped (without_outer_white line) ≡ true
+pub relay_without : (before after : List (List ℕ)) (line : List ℕ) (settings : RelaySettings)
+    → is_skipped (without_outer_white line) ≡ true
     → HasSettings (before ++ line ∷ after) settings ↔ HasSettings (before ++ after) settings
-relay_without before after line settings e = (less, with)
-  where
-    less : HasSettings (before ++ line ∷ after) settings → HasSettings (before ++ after) settings
-    less h =
-        let s = say_less before line after h.said (relay_skipped line e) h.says in
-        record {
-          said = s.0 ++ s.1;
-          says = s.3;
-          gives = settings_to (relay_said h.said) (relay_said (s.0 ++ s.1)) settings (ap (λ (said : List SaidLine). settings_in (relay_said said)) s.2 ∙ relay_same s.0 s.1) h.gives;
-        }
-
-    with : HasSettings (before ++ after) settings → HasSettings (before ++ line ∷ after) settings
-    with h =
-        let s = say_with before line after h.said (relay_skipped line e) h.says in
-        record {
-          said = s.0 ++ Ok Skipped ∷ s.1;
-          says = s.3;
-          gives = settings_to (relay_said h.said) (relay_said (s.0 ++ Ok Skipped ∷ s.1)) settings (ap (λ (said : List SaidLine). settings_in (relay_said said)) s.2 ∙ sym (relay_same s.0 s.1)) h.gives;
-        }
+relay_without before after line settings e =
+    settings_without LineSays line_once (Ok Skipped) (λ b c next one. (λ h. h, λ h. h)) relay_said
+    relay_same before after line settings
+    (λ b. subst (λ (raw : RawLine). RawSays raw (Ok Skipped)) (sym (relay_skipped line e)) refl)

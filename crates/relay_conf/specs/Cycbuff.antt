@@ -1,10 +1,14 @@
 -- cycbuff.conf: what its lines say, one by one and together.
-use Rattle.std.specs.Prelude.{ℕ, ◌*◌, ◌==◌, ◌&&◌, ◌||◌, not, nat_le, nat_lt, Bool, false, List, [], ◌∷◌, ◌++◌, length, map, filter_map, codes, bytes_eq, Option, None, Some, Result, Ok, Err, if◌then◌else◌}
+use Rattle.std.specs.Prelude.{ℕ, ◌*◌, ◌==◌, ◌&&◌, ◌||◌, not, nat_le, nat_lt, Bool, false, List, []}
+use Rattle.std.specs.Prelude.{◌∷◌, ◌++◌, length, map, filter_map, codes, bytes_eq, Option, None}
+use Rattle.std.specs.Prelude.{Some, Result, Ok, Err, if◌then◌else◌}
 use Rattle.std.specs.List.{list_all, list_any, position_or_len}
 use Rattle.std.specs.Str.{byte}
 use Rattle.news_terms.specs.Article.{is_empty, without_outer_white}
 use Rattle.relay_conf.specs.declared.faults.Fault.{Fault}
-use Rattle.relay_conf.specs.declared.faults.Fault.TheVariants.{Syntax, UnknownKey, Duplicate, UnknownName, Number, Shared, NoBuffers}
+use Rattle.relay_conf.specs.declared.faults.Fault.TheVariants.{Syntax, UnknownKey, Duplicate}
+use Rattle.relay_conf.specs.declared.faults.Fault.TheVariants.{UnknownName, Number, Shared}
+use Rattle.relay_conf.specs.declared.faults.Fault.TheVariants.{NoBuffers}
 use Rattle.relay_conf.specs.declared.faults.LineFault.{LineFault}
 use Rattle.relay_conf.specs.declared.cycbuff.Mode.{Mode}
 use Rattle.relay_conf.specs.declared.cycbuff.Mode.TheVariants.{Interleave, Sequential}

@@ -1,10 +1,13 @@
 pub mod Cycbuff
-pub mod Draft
+pub mod CycbuffDraft
+pub mod Drafts
 pub mod Expressions
 pub mod Faults
 pub mod K1
+pub mod LineByLine
 pub mod Lines
 pub mod Relay
+pub mod RelayDraft
 pub mod RelayViews
 pub mod Settings
 pub mod Storage

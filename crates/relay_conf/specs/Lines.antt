@@ -1,5 +1,6 @@
 -- The lines of a configuration file.
-use Rattle.std.specs.Prelude.{ℕ, ◌==◌, Bool, List, [], ◌∷◌, Option, None, Some, ◌++◌, ◌&&◌, ◌-◌, not, slice_index, length}
+use Rattle.std.specs.Prelude.{ℕ, ◌==◌, Bool, List, [], ◌∷◌, Option, None, Some, ◌++◌, ◌&&◌, ◌-◌}
+use Rattle.std.specs.Prelude.{not, slice_index, length}
 use Rattle.std.specs.List.{list_all}
 use Rattle.std.specs.Str.Lines.{strip_carriage_return}
 use Rattle.std.specs.Borrow.{Bor}

@@ -1,10 +1,13 @@
 -- relay.conf: what its lines say, one by one and together.
-use Rattle.std.specs.Prelude.{◌≡◌, ℕ, ◌&&◌, nat_le, nat_lt, Bool, List, [], ◌∷◌, length, map, filter_map, codes, bytes_eq, Option, None, Some, Result, Ok, Err, if◌then◌else◌}
+use Rattle.std.specs.Prelude.{◌≡◌, ℕ, ◌&&◌, nat_le, nat_lt, Bool, List, [], ◌∷◌, length, map}
+use Rattle.std.specs.Prelude.{filter_map, codes, bytes_eq, Option, None, Some, Result, Ok, Err}
+use Rattle.std.specs.Prelude.{if◌then◌else◌}
 use Rattle.std.specs.List.{list_any, position_or_len}
 use Rattle.news_terms.specs.Article.{without_outer_white}
 use Rattle.news_terms.specs.Pattern.{Marked, ExpressionFault, IsExpressionText, HasLeftmostFault}
 use Rattle.relay_conf.specs.declared.faults.Fault.{Fault}
-use Rattle.relay_conf.specs.declared.faults.Fault.TheVariants.{Syntax, UnknownKey, Duplicate, UnknownName, Number, Pattern}
+use Rattle.relay_conf.specs.declared.faults.Fault.TheVariants.{Syntax, UnknownKey, Duplicate}
+use Rattle.relay_conf.specs.declared.faults.Fault.TheVariants.{UnknownName, Number, Pattern}
 use Rattle.relay_conf.specs.declared.faults.LineFault.{LineFault}
 use Rattle.relay_conf.specs.declared.relay.Peer.{Peer}
 use Rattle.relay_conf.specs.declared.relay.Feed.{Feed}
@@ -130,16 +133,9 @@ RawSays (Ok (Remember seconds)) said = said ≡ Ok (Remember seconds)
 RawSays (Ok (PeerLine name identity port)) said = said ≡ Ok (PeerLine name identity port)
 RawSays (Ok (FeedLine name ring text)) said = FeedSays name ring text said
 
--- what a line of relay.conf says (docs/FORMATS.md, Configuration)
-abbrev pub LineSays : (line : List ℕ) → SaidLine → Type 0
-LineSays line said = RawSays (relay_line line) said
-
--- lines say this, one by one
-abbrev pub LinesSay : (lines : List (List ℕ)) → List SaidLine → Type 0
-LinesSay [] [] = Unit {0}
-LinesSay [] (says ∷ more) = ⊥
-LinesSay (line ∷ lines) [] = ⊥
-LinesSay (line ∷ lines) (says ∷ more) = LineSays line says × LinesSay lines more
+-- what a line of relay.conf says, whatever stands before it (docs/FORMATS.md, Configuration)
+abbrev pub LineSays : (before : List SaidLine) → (line : List ℕ) → SaidLine → Type 0
+LineSays before line said = RawSays (relay_line line) said
 
 -- the own identity that a line says
 abbrev pub own_of : SaidLine → Option (List ℕ)

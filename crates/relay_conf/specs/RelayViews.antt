@@ -1,16 +1,16 @@
 -- Lines of relay.conf that were read, as the definitions have them.
-use Rattle.std.specs.Prelude.{◌≡◌, ℕ, List, Some, Result, Ok, Err, [], ◌++◌, ◌⊎◌, IsTrue}
+use Rattle.std.specs.Prelude.{ℕ, List, Result, Ok, Err, IsTrue}
 use Rattle.relay_conf.specs.declared.faults.Fault.{Fault}
 use Rattle.relay_conf.specs.declared.relay_lines.Line.{Line}
 use Rattle.relay_conf.specs.declared.relay_lines.Line.TheVariants as lines
 use Rattle.relay_conf.specs.declared.faults.LineFault.{LineFault}
 use Rattle.relay_conf.specs.declared.faults.ConfError.{ConfError}
-use Rattle.relay_conf.specs.declared.faults.ConfError.TheVariants.{Memory, Faulty}
 use Rattle.relay_conf.specs.declared.relay.Relay.{Relay}
 use Rattle.relay_conf.specs.Words.{is_name}
-use Rattle.relay_conf.specs.Faults.{first_fault}
-use Rattle.relay_conf.specs.Relay.{SaidLine, LinesSay, RelaySettings, early_fault, relay_said}
-use Rattle.relay_conf.specs.Relay.{RelayLine, RawLine, Skipped, Own, MaxArticle, Cutoff, Remember, PeerLine, FeedLine}
+use Rattle.relay_conf.specs.LineByLine.{SayTogether, HaveFault, LinesGive}
+use Rattle.relay_conf.specs.Relay.{LineSays, RelaySettings, early_fault, relay_said, RelayLine}
+use Rattle.relay_conf.specs.Relay.{RawLine, Skipped, Own, MaxArticle, Cutoff, Remember, PeerLine}
+use Rattle.relay_conf.specs.Relay.{FeedLine}
 
 -- a line of relay.conf as the definitions have it, its expression as text
 abbrev pub raw_view : Line → RelayLine (List ℕ)
@@ -49,33 +49,14 @@ relay_view relay =
       feeds = relay.feeds.items;
     }
 
--- the lines up to some line say this, and its fault is the first
-pub record HasEarlyFault (lines : List (List ℕ)) (fault : LineFault) : Type 0 where
-  pub read : List (List ℕ)
-  pub rest : List (List ℕ)
-  pub said : List SaidLine
-  pub split : lines ≡ read ++ rest
-  pub says : LinesSay read said
-  pub first : first_fault early_fault [] said ≡ Some fault
+-- the lines say these settings together (docs/FORMATS.md, Configuration)
+abbrev pub HasSettings : (lines : List (List ℕ)) → RelaySettings → Type 0
+HasSettings lines settings = SayTogether LineSays relay_said lines (Ok settings)
 
--- all lines say this, and its fault together is this one
-pub record HasWholeFault (lines : List (List ℕ)) (fault : LineFault) : Type 0 where
-  pub said : List SaidLine
-  pub says : LinesSay lines said
-  pub first : relay_said said ≡ Err fault
-
--- all lines say this, and together these settings
-pub record HasSettings (lines : List (List ℕ)) (settings : RelaySettings) : Type 0 where
-  pub said : List SaidLine
-  pub says : LinesSay lines said
-  pub gives : relay_said said ≡ Ok settings
-
--- the lines have this fault: the first that is looked for line by line, or that of them together
+-- the lines have this fault (docs/FORMATS.md, Configuration)
 abbrev pub HasFault : (lines : List (List ℕ)) → LineFault → Type 0
-HasFault lines fault = HasEarlyFault lines fault ⊎ HasWholeFault lines fault
+HasFault lines fault = HaveFault LineSays early_fault relay_said lines fault
 
 -- the answer is what the lines of relay.conf say, unless memory ran out
 abbrev pub RelayGives : Result Relay ConfError → (lines : List (List ℕ)) → Type 0
-RelayGives (Ok relay) lines = HasSettings lines (relay_view relay)
-RelayGives (Err Memory) lines = Unit {0}
-RelayGives (Err (Faulty fault)) lines = HasFault lines fault
+RelayGives result lines = LinesGive relay_view LineSays early_fault relay_said result lines

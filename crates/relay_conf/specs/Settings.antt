@@ -3,9 +3,10 @@ use Rattle.std.specs.Prelude.{map, Result, Ok, Err}
 use Rattle.relay_conf.specs.declared.faults.Fault.{Fault}
 use Rattle.relay_conf.specs.declared.cycbuff.Buffers.{Buffers}
 use Rattle.relay_conf.specs.declared.cycbuff.GroupConf.{GroupConf}
-use Rattle.relay_conf.specs.declared.cycbuff.Line.{Line}
-use Rattle.relay_conf.specs.declared.cycbuff.Line.TheVariants as lines
-use Rattle.relay_conf.specs.Cycbuff.{CycbuffLine, CycbuffSettings, Group, Skipped, BufferLine, GroupLine, members_of}
+use Rattle.relay_conf.specs.declared.cycbuff_lines.Line.{Line}
+use Rattle.relay_conf.specs.declared.cycbuff_lines.Line.TheVariants as lines
+use Rattle.relay_conf.specs.Cycbuff.{CycbuffLine, CycbuffSettings, Group, Skipped, BufferLine}
+use Rattle.relay_conf.specs.Cycbuff.{GroupLine, members_of}
 
 -- a group of buffers as the definitions have it
 abbrev pub group_view : GroupConf → Group

@@ -1,5 +1,7 @@
 -- storage.conf: what its lines say together.
-use Rattle.std.specs.Prelude.{ℕ, nat_lt, Bool, false, List, [], ◌∷◌, ◌++◌, length, filter_map, reverse, codes, bytes_eq, Option, None, Some, Result, Ok, Err, if◌then◌else◌}
+use Rattle.std.specs.Prelude.{ℕ, nat_lt, Bool, false, List, [], ◌∷◌, ◌++◌, length, filter_map}
+use Rattle.std.specs.Prelude.{reverse, codes, bytes_eq, Option, None, Some, Result, Ok, Err}
+use Rattle.std.specs.Prelude.{if◌then◌else◌}
 use Rattle.std.specs.List.{position_or_len}
 use Rattle.news_terms.specs.Pattern.{Marked}
 use Rattle.news_terms.specs.StorageClass.{Entry}
@@ -12,7 +14,9 @@ use Rattle.relay_conf.specs.declared.storage_lines.Sizes.{Sizes}
 use Rattle.relay_conf.specs.Cycbuff.{Group}
 use Rattle.relay_conf.specs.Faults.{first_fault, whole_fault, unless_fault}
 use Rattle.relay_conf.specs.Relay.{once, first_or}
-use Rattle.relay_conf.specs.StorageLines.{SaidLine, RawSays, storage_line, Skipped, Opens, Closes, Ends, ClassLine, NewsgroupsLine, OptionsLine, SizeLine, ExactLine}
+use Rattle.relay_conf.specs.StorageLines.{SaidLine, RawSays, storage_line, Skipped, Opens, Closes}
+use Rattle.relay_conf.specs.StorageLines.{Ends, ClassLine, NewsgroupsLine, OptionsLine, SizeLine}
+use Rattle.relay_conf.specs.StorageLines.{ExactLine}
 
 -- where the lines behind `method NAME {` stand (docs/FORMATS.md, Configuration)
 abbrev pub place_in : (method : List ℕ) → Place
@@ -248,11 +252,3 @@ storage_said groups said =
 -- what a line of storage.conf says behind these (docs/FORMATS.md, Configuration)
 abbrev pub LineSays : (before : List SaidLine) → (line : List ℕ) → SaidLine → Type 0
 LineSays before line said = RawSays (storage_line (place_behind before) line) said
-
--- lines say this behind others, one by one
-abbrev pub LinesSay : (before : List SaidLine) → (lines : List (List ℕ)) → List SaidLine → Type 0
-LinesSay before [] [] = Unit {0}
-LinesSay before [] (says ∷ more) = ⊥
-LinesSay before (line ∷ lines) [] = ⊥
-LinesSay before (line ∷ lines) (says ∷ more) =
-    LineSays before line says × LinesSay (before ++ says ∷ []) lines more

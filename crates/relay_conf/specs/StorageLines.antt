@@ -1,5 +1,7 @@
 -- storage.conf: what its lines say, each alone.
-use Rattle.std.specs.Prelude.{◌≡◌, ℕ, ◌+◌, ◌^◌, ◌-◌, ◌==◌, ◌&&◌, ◌||◌, nat_eq, nat_lt, Bool, true, false, List, [], ◌∷◌, length, take, drop, codes, bytes_eq, Option, None, Some, Result, Ok, Err, if◌then◌else◌}
+use Rattle.std.specs.Prelude.{◌≡◌, ℕ, ◌+◌, ◌^◌, ◌-◌, ◌==◌, ◌&&◌, ◌||◌, nat_eq, nat_lt, Bool, true}
+use Rattle.std.specs.Prelude.{false, List, [], ◌∷◌, length, take, drop, codes, bytes_eq, Option}
+use Rattle.std.specs.Prelude.{None, Some, Result, Ok, Err, if◌then◌else◌}
 use Rattle.std.specs.List.{list_any, position_or_len, starts_with}
 use Rattle.std.specs.Str.{byte, str_eq_ignore_ascii_case}
 use Rattle.news_terms.specs.Article.{is_empty, without_outer_white}
@@ -168,7 +170,8 @@ setting_line key value =
 -- Configuration)
 abbrev pub unquoted_line : (key value : List ℕ) → RawLine
 unquoted_line key value =
-    if is_key key && starts_with nat_eq value (codes "\"") then Err Syntax else setting_line key value
+    if is_key key && starts_with nat_eq value
+    (codes "\"") then Err Syntax else setting_line key value
 
 -- what a line says by its key and value, where it has a colon (docs/FORMATS.md, Configuration)
 abbrev pub keyed_line : (line : List ℕ) → Option (List ℕ × List ℕ) → RawLine

@@ -1,20 +1,20 @@
 -- Lines of storage.conf that were read, as the definitions have them.
-use Rattle.std.specs.Prelude.{◌≡◌, ℕ, List, [], ◌++◌, map, Some, Result, Ok, Err, ◌⊎◌}
-use Rattle.news_terms.specs.StorageClass as classes
+use Rattle.std.specs.Prelude.{ℕ, List, map, Result, Ok, Err}
+use Rattle.news_terms.specs.StorageClass.{Entry}
 use Rattle.relay_conf.specs.declared.faults.Fault.{Fault}
 use Rattle.relay_conf.specs.declared.faults.LineFault.{LineFault}
 use Rattle.relay_conf.specs.declared.faults.ConfError.{ConfError}
-use Rattle.relay_conf.specs.declared.faults.ConfError.TheVariants.{Memory, Faulty}
 use Rattle.relay_conf.specs.declared.storage_lines.Line.{Line}
 use Rattle.relay_conf.specs.declared.storage_lines.Line.TheVariants as lines
 use Rattle.relay_conf.specs.declared.storage.Method.{Method}
 use Rattle.std.specs.Global.{Vec}
 use Rattle.relay_conf.specs.Cycbuff.{Group}
-use Rattle.relay_conf.specs.Faults.{first_fault}
+use Rattle.relay_conf.specs.LineByLine.{SayTogether, HaveFault, LinesGive}
 use Rattle.relay_conf.specs.Storage.{entry_view}
-use Rattle.relay_conf.specs.StorageLines.{StorageLine, RawLine, SaidLine}
-use Rattle.relay_conf.specs.StorageFile.{LinesSay, early_fault, storage_said}
-use Rattle.relay_conf.specs.StorageLines.{Skipped, Opens, Closes, Ends, ClassLine, NewsgroupsLine, OptionsLine, SizeLine, ExactLine}
+use Rattle.relay_conf.specs.StorageLines.{StorageLine, RawLine}
+use Rattle.relay_conf.specs.StorageFile.{LineSays, early_fault, storage_said}
+use Rattle.relay_conf.specs.StorageLines.{Skipped, Opens, Closes, Ends, ClassLine, NewsgroupsLine}
+use Rattle.relay_conf.specs.StorageLines.{OptionsLine, SizeLine, ExactLine}
 
 -- a line of storage.conf as the definitions have it, its expression as text
 abbrev pub raw_view : Line → StorageLine (List ℕ)
@@ -33,37 +33,18 @@ abbrev pub raw_by : Result Line Fault → RawLine
 raw_by (Ok line) = Ok (raw_view line)
 raw_by (Err fault) = Err fault
 
--- the lines up to some line say this, and its fault is the first
-pub record HasEarlyFault (groups : List Group) (lines : List (List ℕ)) (fault : LineFault)
-    : Type 0 where
-  pub read : List (List ℕ)
-  pub rest : List (List ℕ)
-  pub said : List SaidLine
-  pub split : lines ≡ read ++ rest
-  pub says : LinesSay [] read said
-  pub first : first_fault (early_fault groups) [] said ≡ Some fault
+-- the lines say these entries together, over these groups (docs/FORMATS.md, Configuration)
+abbrev pub HasEntries : (groups : List Group) (lines : List (List ℕ)) → List Entry → Type 0
+HasEntries groups lines entries = SayTogether LineSays (storage_said groups) lines (Ok entries)
 
--- all lines say this, and its fault together is this one
-pub record HasWholeFault (groups : List Group) (lines : List (List ℕ)) (fault : LineFault)
-    : Type 0 where
-  pub said : List SaidLine
-  pub says : LinesSay [] lines said
-  pub first : storage_said groups said ≡ Err fault
-
--- all lines say this, and together these entries
-pub record HasEntries (groups : List Group) (lines : List (List ℕ))
-    (entries : List classes.Entry) : Type 0 where
-  pub said : List SaidLine
-  pub says : LinesSay [] lines said
-  pub gives : storage_said groups said ≡ Ok entries
-
--- the lines have this fault: the first that is looked for line by line, or that of them together
+-- the lines have this fault over these groups (docs/FORMATS.md, Configuration)
 abbrev pub HasFault : (groups : List Group) (lines : List (List ℕ)) → LineFault → Type 0
-HasFault groups lines fault = HasEarlyFault groups lines fault ⊎ HasWholeFault groups lines fault
+HasFault groups lines fault =
+    HaveFault LineSays (early_fault groups) (storage_said groups) lines fault
 
 -- the answer is what the lines of storage.conf say over these groups, unless memory ran out
 abbrev pub StorageGives : Result (Vec Method) ConfError → List Group → (lines : List (List ℕ))
     → Type 0
-StorageGives (Ok methods) groups lines = HasEntries groups lines (map entry_view methods.items)
-StorageGives (Err Memory) groups lines = Unit {0}
-StorageGives (Err (Faulty fault)) groups lines = HasFault groups lines fault
+StorageGives result groups lines =
+    LinesGive (λ (methods : Vec Method). map entry_view methods.items) LineSays (early_fault groups)
+    (storage_said groups) result lines

@@ -1,23 +1,24 @@
 //! cycbuff.conf: the buffers and their groups (docs/FORMATS.md, Configuration).
-ghost use Rattle.std.specs.Prelude.{◌≡◌, ◌∷◌, ◌++◌, [], map, option_map, vec_items, bytes_eq, IfOk, OnOk};
+ghost use Rattle.std.specs.Prelude.{◌≡◌, ◌∷◌, ◌++◌, [], map, option_map, vec_items, bytes_eq, IfOk};
+ghost use Rattle.std.specs.Prelude.{OnOk};
 ghost use Rattle.std.specs.Option.{option_to_list};
-ghost use Rattle.std.specs.List.{list_all, list_any};
-ghost use Rattle.relay_conf.specs.Cycbuff.{cycbuff_of, buffers_said, groups_said, buffer_line};
-ghost use Rattle.relay_conf.specs.Cycbuff.{group_line, group_moded, name_fault, line_fault};
-ghost use Rattle.relay_conf.specs.Cycbuff.{buffer_of, group_name_of, list_fault, listed_fault};
-ghost use Rattle.relay_conf.specs.Cycbuff.{group_of, members_of, number_of};
+ghost use Rattle.std.specs.List.{list_any};
+ghost use Rattle.relay_conf.specs.Cycbuff.{cycbuff_of, buffers_said, groups_said, name_fault};
+ghost use Rattle.relay_conf.specs.Cycbuff.{line_fault, buffer_of, group_name_of, list_fault};
+ghost use Rattle.relay_conf.specs.Cycbuff.{listed_fault, group_of, members_of, number_of};
 ghost use Rattle.relay_conf.specs.Cycbuff as terms;
+ghost use Rattle.relay_conf.specs.CycbuffDraft.{HasBuffers, HasGroups};
 ghost use Rattle.relay_conf.specs.Faults.{ConfGives, LineGives};
 ghost use Rattle.relay_conf.specs.Lines.{lines_of};
-ghost use Rattle.relay_conf.specs.Settings.{buffers_view, group_view, said_by};
-ghost use Rattle.line_words.specs.Parts.{parts, parts_after};
-ghost use Rattle.relay_conf.specs.Words as words;
+ghost use Rattle.relay_conf.specs.Settings.{buffers_view, group_view};
+ghost use Rattle.line_words.specs.Parts.{parts};
 
+use crate::cycbuff_lines::{Line, cycbuff_line};
+use crate::drafts::{LineByLine, read_lines};
 use crate::faults::{ConfError, Fault, LineFault, Refusal};
 use crate::lines::lines_of;
 use crate::octets::Octets;
-use crate::words::is_name;
-use line_words::{cut, is_skipped, number_within, three_parts, trim, two_parts};
+use line_words::cut;
 use std::alloc::{AllocError, Global};
 
 /// A buffer: its name, the path of its file, and its size in blocks of 512 octets.
@@ -66,15 +67,10 @@ pub fn read_cycbuff(alloc: Global, text: &[u8]) -> Result<Buffers, ConfError>
 /// Reads the lines up to the first fault that is looked for line by line, and gives the buffers.
 fn read_buffers(alloc: Global, lines: &[&[u8]]) -> Result<Vec<BufferConf>, ConfError>
     ensures { ConfGives vec_items result
-        (buffers_said (map (λ line. terms.cycbuff_line line.now) lines.now)) }
+        (buffers_said (map terms.cycbuff_line (map (λ line. line.now) lines.now))) }
 {
-    let mut buffers = Vec::new(alloc);
-    let mut names = Vec::new(alloc);
-    for (index, line) in lines.iter().enumerate() {
-        if let Err(refusal) = add_line(alloc, &mut buffers, &mut names, line) {
-            return Err(refusal.at(index + 1));
-        }
-    }
+    let draft = read_lines(alloc, BufferDraft::new(alloc), lines)?;
+    let BufferDraft { buffers, names } = draft;
     if names.is_empty() {
         return Err(ConfError::Faulty(LineFault {
             line: 0,
@@ -82,6 +78,45 @@ fn read_buffers(alloc: Global, lines: &[&[u8]]) -> Result<Vec<BufferConf>, ConfE
         }));
     }
     Ok(buffers)
+}
+
+/// The buffers so far, and the names of the groups.
+#[derive(Drop)]
+pub(crate) struct BufferDraft {
+    buffers: Vec<BufferConf>,
+    names: Vec<Octets>,
+}
+
+impl LineByLine for BufferDraft {
+    ghost use Rattle.std.specs.Prelude.{Result};
+    ghost use Rattle.relay_conf.specs.Cycbuff.{CycbuffLine, early_fault};
+    ghost use Rattle.relay_conf.specs.CycbuffDraft.{LineSays, HasBuffers};
+    ghost use Rattle.relay_conf.specs.declared.faults.Fault.{Fault};
+
+    ghost Known = { Unit {0} };
+
+    ghost Said = { Result CycbuffLine Fault };
+
+    ghost Says = { LineSays };
+
+    ghost wrong = { λ known. early_fault };
+
+    ghost Draws = { λ known. HasBuffers };
+
+    fn add_line(&mut self, alloc: Global, _number: usize, line: &[u8]) -> Result<(), Refusal> {
+        add_line(alloc, &mut self.buffers, &mut self.names, line)
+    }
+}
+
+impl BufferDraft {
+    fn new(alloc: Global) -> BufferDraft
+        ensures { HasBuffers [] result }
+    {
+        BufferDraft {
+            buffers: Vec::new(alloc),
+            names: Vec::new(alloc),
+        }
+    }
 }
 
 /// Adds what a line says to the buffers and the names of the groups.
@@ -178,16 +213,51 @@ fn read_groups(
     lines: &[&[u8]],
     buffers: &[BufferConf],
 ) -> Result<Vec<GroupConf>, ConfError>
-    ensures { ConfGives (λ groups. map group_view groups.items) result
-        (groups_said buffers.now (map (λ line. terms.cycbuff_line line.now) lines.now)) }
+    ensures { ConfGives (λ groups. map group_view groups.items) result (groups_said buffers.now
+        (map terms.cycbuff_line (map (λ line. line.now) lines.now))) }
 {
-    let mut groups = Vec::new(alloc);
-    for (index, line) in lines.iter().enumerate() {
-        if let Err(refusal) = add_group_line(alloc, buffers, &mut groups, line) {
-            return Err(refusal.at(index + 1));
+    let draft = read_lines(alloc, GroupDraft::new(alloc, buffers), lines)?;
+    Ok(draft.groups)
+}
+
+/// The groups so far, over all buffers.
+#[derive(Drop)]
+pub(crate) struct GroupDraft<'a> {
+    buffers: &'a [BufferConf],
+    groups: Vec<GroupConf>,
+}
+
+impl<'a> LineByLine for GroupDraft<'a> {
+    ghost use Rattle.std.specs.Prelude.{List, Result};
+    ghost use Rattle.relay_conf.specs.Cycbuff.{CycbuffLine, late_fault};
+    ghost use Rattle.relay_conf.specs.CycbuffDraft.{LineSays, HasGroups};
+    ghost use Rattle.relay_conf.specs.declared.cycbuff.BufferConf.{BufferConf};
+    ghost use Rattle.relay_conf.specs.declared.faults.Fault.{Fault};
+
+    ghost Known = { List BufferConf };
+
+    ghost Said = { Result CycbuffLine Fault };
+
+    ghost Says = { LineSays };
+
+    ghost wrong = { late_fault };
+
+    ghost Draws = { HasGroups };
+
+    fn add_line(&mut self, alloc: Global, _number: usize, line: &[u8]) -> Result<(), Refusal> {
+        add_group_line(alloc, self.buffers, &mut self.groups, line)
+    }
+}
+
+impl<'a> GroupDraft<'a> {
+    fn new(alloc: Global, buffers: &'a [BufferConf]) -> GroupDraft<'a>
+        ensures { HasGroups buffers.now [] result }
+    {
+        GroupDraft {
+            buffers,
+            groups: Vec::new(alloc),
         }
     }
-    Ok(groups)
 }
 
 /// Adds the group that a line says, if it says one.
@@ -277,115 +347,4 @@ fn is_listed(groups: &[GroupConf], number: usize) -> bool
     ensures { result ≡ terms.is_listed (map group_view groups.now) number }
 {
     groups.iter().any(|group| group.buffers.contains(&number))
-}
-
-/// What a line says, without fault.
-#[derive(Clone, Copy)]
-enum Line<'a> {
-    /// A comment, an empty line, or a key that is accepted and ignored.
-    Skipped,
-    /// A buffer: its name, its file and its blocks of 512 octets.
-    Buffer(&'a [u8], &'a [u8], u32),
-    /// A group: its name, its list and its mode.
-    Group(&'a [u8], &'a [u8], Mode),
-}
-
-/// Reads a line alone.
-fn cycbuff_line(line: &[u8]) -> Result<Line<'_>, Fault>
-    ensures { said_by result ≡ terms.cycbuff_line line.now }
-{
-    let line = trim(line);
-    if is_skipped(line) {
-        return Ok(Line::Skipped);
-    }
-    let (word, rest) = cut(line, b':');
-    if word == b"cycbuff".as_slice() {
-        buffer_line(rest)
-    } else if word == b"metacycbuff".as_slice() {
-        group_line(rest)
-    } else if word == b"cycbuffupdate".as_slice() || word == b"refreshinterval".as_slice() {
-        ignored_line(rest)
-    } else {
-        Err(Fault::UnknownKey)
-    }
-}
-
-/// Reads what follows `cycbuff`.
-fn buffer_line<'a>(rest: Option<&'a [u8]>) -> Result<Line<'a>, Fault>
-    ensures { said_by result ≡ terms.buffer_line (parts_after 58 rest.entry) }
-{
-    let Some((name, file, size)) = three_parts(rest, b':') else {
-        return Err(Fault::Syntax);
-    };
-    if !is_name(name) || !is_file(file) {
-        return Err(Fault::Syntax);
-    }
-    match number_within(1, 2_097_152, size) {
-        Some(kilobytes) => Ok(Line::Buffer(name, file, 2 * kilobytes as u32)),
-        None => Err(Fault::Number),
-    }
-}
-
-/// Whether a text may be the path of a file: one octet or more, none of them NUL.
-fn is_file(file: &[u8]) -> bool
-    ensures { result ≡ terms.is_file file.now }
-{
-    !file.is_empty() && !file.contains(&0)
-}
-
-/// Reads what follows `metacycbuff`.
-fn group_line<'a>(rest: Option<&'a [u8]>) -> Result<Line<'a>, Fault>
-    ensures { said_by result ≡ terms.group_line (parts_after 58 rest.entry) }
-{
-    if let Some((name, list)) = two_parts(rest, b':') {
-        return group_moded(name, list, Some(Mode::Interleave));
-    }
-    match three_parts(rest, b':') {
-        Some((name, list, mode)) => group_moded(name, list, mode_of(mode)),
-        None => Err(Fault::Syntax),
-    }
-}
-
-/// The group of a name, a list and a mode.
-fn group_moded<'a>(name: &'a [u8], list: &'a [u8], mode: Option<Mode>) -> Result<Line<'a>, Fault>
-    ensures { said_by result ≡ terms.group_moded name.now list.now mode }
-{
-    let Some(mode) = mode else {
-        return Err(Fault::Syntax);
-    };
-    if is_name(name) && are_names(list) {
-        Ok(Line::Group(name, list, mode))
-    } else {
-        Err(Fault::Syntax)
-    }
-}
-
-/// Whether a list is names between commas, or empty.
-fn are_names(list: &[u8]) -> bool
-    ensures { result ≡ list_all words.is_name (members_of list.now) }
-{
-    list.is_empty() || list.split(|octet| *octet == b',').all(|name| is_name(name))
-}
-
-/// The mode that the word is.
-fn mode_of(word: &[u8]) -> Option<Mode>
-    ensures { result ≡ terms.mode_of word.now }
-{
-    if word == b"INTERLEAVE".as_slice() {
-        Some(Mode::Interleave)
-    } else if word == b"SEQUENTIAL".as_slice() {
-        Some(Mode::Sequential)
-    } else {
-        None
-    }
-}
-
-/// Reads what follows an ignored key.
-fn ignored_line<'a>(rest: Option<&'a [u8]>) -> Result<Line<'a>, Fault>
-    ensures { said_by result ≡ terms.ignored_line (parts_after 58 rest.entry) }
-{
-    match rest {
-        Some(_) => Ok(Line::Skipped),
-        None => Err(Fault::Syntax),
-    }
 }

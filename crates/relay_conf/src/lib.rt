@@ -4,6 +4,8 @@
 
 mod config;
 mod cycbuff;
+mod cycbuff_lines;
+mod drafts;
 mod expressions;
 mod faults;
 pub mod laws;

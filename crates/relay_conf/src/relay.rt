@@ -1,16 +1,16 @@
 //! relay.conf: the relay itself, its peers and their feeds (docs/FORMATS.md, Configuration).
-ghost use Rattle.std.specs.Prelude.{◌≡◌, ◌≤◌, ◌∷◌, ◌++◌, [], length, map, bytes_eq, vec_items, IsTrue, OnOk};
-ghost use Rattle.std.specs.Option.{option_to_list};
+ghost use Rattle.std.specs.Prelude.{◌≡◌, ◌≤◌, ◌∷◌, ◌++◌, [], length, map, bytes_eq, vec_items};
+ghost use Rattle.std.specs.Prelude.{IsTrue, Ok, OnOk};
 ghost use Rattle.std.specs.List.{list_any};
 ghost use Rattle.relay_conf.specs.Faults.{ConfGives, LineGives};
 ghost use Rattle.relay_conf.specs.Lines.{lines_of};
-ghost use Rattle.relay_conf.specs.Relay.{once, peer_fault};
-ghost use Rattle.relay_conf.specs.Draft.{DraftGives, StepGives, FeedGives, Lists, nothing};
-ghost use Rattle.relay_conf.specs.Draft.{draft_view, draft_said, named_said, known_number, with_peers};
-ghost use Rattle.relay_conf.specs.Relay as terms;
-ghost use Rattle.relay_conf.specs.RelayViews.{relay_view, RelayGives};
+ghost use Rattle.relay_conf.specs.Relay.{peer_fault};
+ghost use Rattle.relay_conf.specs.RelayDraft.{RelayStep, FeedStep, Lists, nothing, draft_view};
+ghost use Rattle.relay_conf.specs.RelayDraft.{draft_said, named_said, known_number, with_peers};
+ghost use Rattle.relay_conf.specs.RelayViews.{relay_view, raw_view, IsNamed, RelayGives};
 ghost use Rattle.relay_conf.specs.Words.{is_name};
 
+use crate::drafts::{LineByLine, read_lines, set_once};
 use crate::expressions::expression_of;
 use crate::faults::{ConfError, Fault, LineFault, Refusal};
 use crate::lines::lines_of;
@@ -64,26 +64,13 @@ pub fn read_relay(alloc: Global, text: &[u8]) -> Result<Relay, ConfError>
     ensures { RelayGives result (lines_of text.now) }
 {
     let lines = lines_of(alloc, text)?;
-    let draft = read_lines(alloc, &lines)?;
+    let draft = read_lines(alloc, RelayDraft::new(alloc), &lines)?;
     finished(alloc, draft)
-}
-
-/// Reads the lines up to the first fault that is looked for line by line.
-fn read_lines(alloc: Global, lines: &[&[u8]]) -> Result<Draft, ConfError>
-    ensures { DraftGives (map (λ line. line.now) lines.now) result }
-{
-    let mut draft = Draft::new(alloc);
-    for (index, line) in lines.iter().enumerate() {
-        if let Err(refusal) = draft.add_line(alloc, index + 1, line) {
-            return Err(refusal.at(index + 1));
-        }
-    }
-    Ok(draft)
 }
 
 /// What the lines so far say.
 #[derive(Drop)]
-struct Draft {
+pub(crate) struct RelayDraft {
     own: Option<Octets>,
     max_article: Option<u32>,
     cutoff: Option<u64>,
@@ -96,19 +83,41 @@ struct Draft {
 
 /// A feed by the name of its peer, and its line.
 #[derive(Drop)]
-struct NamedFeed {
+pub(crate) struct NamedFeed {
     line: usize,
     name: Octets,
     ring: u32,
     expression: Expr,
 }
 
-impl Draft {
-    fn new(alloc: Global) -> Draft
+impl LineByLine for RelayDraft {
+    ghost use Rattle.relay_conf.specs.Relay.{SaidLine, LineSays, early_fault};
+    ghost use Rattle.relay_conf.specs.RelayDraft.{IsDraftOf};
+
+    ghost Known = { Unit {0} };
+
+    ghost Said = { SaidLine };
+
+    ghost Says = { LineSays };
+
+    ghost wrong = { λ known. early_fault };
+
+    ghost Draws = { λ known. IsDraftOf };
+
+    fn add_line(&mut self, alloc: Global, number: usize, line: &[u8]) -> Result<(), Refusal> {
+        match relay_line(line) {
+            Ok(said) => self.add(alloc, number, said),
+            Err(fault) => Err(Refusal::Faulty(fault)),
+        }
+    }
+}
+
+impl RelayDraft {
+    fn new(alloc: Global) -> RelayDraft
         ensures stand { draft_view result ≡ nothing }
         ensures listed { Lists result }
     {
-        Draft {
+        RelayDraft {
             own: None,
             max_article: None,
             cutoff: None,
@@ -119,71 +128,22 @@ impl Draft {
         }
     }
 
-    /// Adds what a line says.
-    fn add_line(&mut self, alloc: Global, number: usize, line: &[u8]) -> Result<(), Refusal>
-        requires { Lists self.old }
-        ensures step { StepGives number (draft_view self.old) (terms.relay_line line.now)
-            (draft_view self.new) result }
-        ensures listed { OnOk result (Lists self.new) }
+    /// Adds what the line of this number says.
+    fn add(&mut self, alloc: Global, number: usize, said: Line<'_>) -> Result<(), Refusal>
+        requires { IsNamed said }
+        ensures step { Lists self.old → RelayStep number (draft_view self.old)
+            (Ok (raw_view said.entry)) (draft_view self.new) result }
+        ensures listed { Lists self.old → OnOk result (Lists self.new) }
     {
-        match relay_line(line) {
-            Ok(Line::Skipped) => Ok(()),
-            Ok(Line::Own(identity)) => self.add_own(alloc, identity),
-            Ok(Line::MaxArticle(octets)) => self.add_max_article(octets),
-            Ok(Line::Cutoff(seconds)) => self.add_cutoff(seconds),
-            Ok(Line::Remember(seconds)) => self.add_remember(seconds),
-            Ok(Line::Peer(name, identity, port)) => self.add_peer(alloc, name, identity, port),
-            Ok(Line::Feed(name, ring, text)) => self.add_feed(alloc, number, name, ring, text),
-            Err(fault) => Err(Refusal::Faulty(fault)),
+        match said {
+            Line::Skipped => Ok(()),
+            Line::Own(own) => set_once(&mut self.own, Octets::copied(alloc, own)?),
+            Line::MaxArticle(octets) => set_once(&mut self.max_article, octets),
+            Line::Cutoff(seconds) => set_once(&mut self.cutoff, seconds),
+            Line::Remember(seconds) => set_once(&mut self.remember, seconds),
+            Line::Peer(name, identity, port) => self.add_peer(alloc, name, identity, port),
+            Line::Feed(name, ring, text) => self.add_feed(alloc, number, name, ring, text),
         }
-    }
-
-    /// Adds the own identity.
-    fn add_own(&mut self, alloc: Global, identity: &[u8]) -> Result<(), Refusal>
-        ensures fault { LineGives result (once (option_to_list self.old.own)) }
-        ensures own { OnOk result (self.new ≡ record self.old { own = Some identity.now }) }
-    {
-        if self.own.is_some() {
-            return Err(Refusal::Faulty(Fault::Duplicate));
-        }
-        self.own = Some(Octets::copied(alloc, identity)?);
-        Ok(())
-    }
-
-    /// Adds the largest article.
-    fn add_max_article(&mut self, octets: u32) -> Result<(), Refusal>
-        ensures fault { LineGives result (once (option_to_list self.old.max_article)) }
-        ensures size { OnOk result (self.new ≡ record self.old { max_article = Some octets }) }
-    {
-        if self.max_article.is_some() {
-            return Err(Refusal::Faulty(Fault::Duplicate));
-        }
-        self.max_article = Some(octets);
-        Ok(())
-    }
-
-    /// Adds the cutoff.
-    fn add_cutoff(&mut self, seconds: u64) -> Result<(), Refusal>
-        ensures fault { LineGives result (once (option_to_list self.old.cutoff)) }
-        ensures cutoff { OnOk result (self.new ≡ record self.old { cutoff = Some seconds }) }
-    {
-        if self.cutoff.is_some() {
-            return Err(Refusal::Faulty(Fault::Duplicate));
-        }
-        self.cutoff = Some(seconds);
-        Ok(())
-    }
-
-    /// Adds how long ids are remembered.
-    fn add_remember(&mut self, seconds: u64) -> Result<(), Refusal>
-        ensures fault { LineGives result (once (option_to_list self.old.remember)) }
-        ensures remember { OnOk result (self.new ≡ record self.old { remember = Some seconds }) }
-    {
-        if self.remember.is_some() {
-            return Err(Refusal::Faulty(Fault::Duplicate));
-        }
-        self.remember = Some(seconds);
-        Ok(())
     }
 
     /// Adds a peer.
@@ -223,11 +183,10 @@ impl Draft {
         ring: u32,
         text: &[u8],
     ) -> Result<(), Refusal>
-        requires named { IsTrue (is_name name.now) }
-        requires listed { Lists self.old }
-        ensures step { FeedGives line name.now ring text.now (draft_view self.old)
+        requires { IsTrue (is_name name.now) }
+        ensures step { Lists self.old → FeedStep line name.now ring text.now (draft_view self.old)
             (draft_view self.new) result }
-        ensures listed { OnOk result (Lists self.new) }
+        ensures listed { Lists self.old → OnOk result (Lists self.new) }
     {
         let expression = expression_of(alloc, text)?;
         if !self.feed_names.add(alloc, name)? {
@@ -244,11 +203,11 @@ impl Draft {
 }
 
 /// The settings, or the first fault that is looked for after the last line.
-fn finished(alloc: Global, draft: Draft) -> Result<Relay, ConfError>
+fn finished(alloc: Global, draft: RelayDraft) -> Result<Relay, ConfError>
     requires { length draft.peers.items ≤ 1024 }
     ensures { ConfGives relay_view result (draft_said (draft_view draft)) }
 {
-    let Draft {
+    let RelayDraft {
         own,
         max_article,
         cutoff,

@@ -1,20 +1,21 @@
 //! storage.conf: the classes of articles (docs/FORMATS.md, Configuration).
-ghost use Rattle.std.specs.Prelude.{◌≡◌, map, Option, None, Some, Ok, IfOk, OnOk};
+ghost use Rattle.std.specs.Prelude.{◌≡◌, map, None, Some, Ok, IfOk, OnOk};
 ghost use Rattle.std.specs.Option.{option_to_list};
+ghost use Rattle.relay_conf.specs.Drafts.{late_or};
 ghost use Rattle.relay_conf.specs.Faults.{ConfGives, LineGives};
 ghost use Rattle.relay_conf.specs.Lines.{lines_of};
+ghost use Rattle.relay_conf.specs.Relay.{once};
 ghost use Rattle.relay_conf.specs.Settings.{buffers_view, group_view};
 ghost use Rattle.relay_conf.specs.Storage.{entry_view};
-ghost use Rattle.relay_conf.specs.Relay.{once};
-ghost use Rattle.relay_conf.specs.StorageDraft.{DraftGives, StepGives, NewsgroupsGive};
-ghost use Rattle.relay_conf.specs.StorageDraft.{draft_view, draft_said, stand_view};
-ghost use Rattle.relay_conf.specs.StorageDraft.{nothing, no_lines, opened, closed, ended, grouped};
-ghost use Rattle.relay_conf.specs.StorageDraft.{late_or, unknown_at};
+ghost use Rattle.relay_conf.specs.StorageDraft.{StorageStep, NewsgroupsStep, draft_view};
+ghost use Rattle.relay_conf.specs.StorageDraft.{stand_view, nothing, no_lines, opened, closed};
+ghost use Rattle.relay_conf.specs.StorageDraft.{ended, grouped, draft_said, unknown_at};
 ghost use Rattle.relay_conf.specs.StorageFile as terms;
-ghost use Rattle.relay_conf.specs.StorageLines.{storage_line, Closes};
-ghost use Rattle.relay_conf.specs.StorageViews.{StorageGives};
+ghost use Rattle.relay_conf.specs.StorageLines.{Closes};
+ghost use Rattle.relay_conf.specs.StorageViews.{StorageGives, raw_view};
 
 use crate::cycbuff::{Buffers, GroupConf};
+use crate::drafts::{LineByLine, read_lines, set_once};
 use crate::expressions::expression_of;
 use crate::faults::{ConfError, Fault, LineFault, Refusal};
 use crate::lines::lines_of;
@@ -46,26 +47,15 @@ pub fn read_storage(alloc: Global, text: &[u8], buffers: &Buffers) -> Result<Vec
     ensures { StorageGives result (buffers_view buffers.now).groups (lines_of text.now) }
 {
     let lines = lines_of(alloc, text)?;
-    let draft = read_lines(alloc, &buffers.groups, &lines)?;
+    let draft = read_lines(alloc, StorageDraft::new(alloc, &buffers.groups), &lines)?;
     finished(draft)
-}
-
-/// Reads the lines up to the first fault that is looked for line by line.
-fn read_lines(alloc: Global, groups: &[GroupConf], lines: &[&[u8]]) -> Result<Draft, ConfError>
-    ensures { DraftGives (map group_view groups.now) (map (λ line. line.now) lines.now) result }
-{
-    let mut draft = Draft::new(alloc);
-    for (index, line) in lines.iter().enumerate() {
-        if let Err(refusal) = draft.add_line(alloc, groups, index + 1, line) {
-            return Err(refusal.at(index + 1));
-        }
-    }
-    Ok(draft)
 }
 
 /// What the lines so far say.
 #[derive(Drop)]
-struct Draft {
+pub(crate) struct StorageDraft<'a> {
+    /// The groups of cycbuff.conf.
+    groups: &'a [GroupConf],
     methods: Vec<Method>,
     /// Where the next line stands.
     place: Place,
@@ -77,7 +67,7 @@ struct Draft {
 
 /// What the lines of an entry so far say.
 #[derive(Drop)]
-struct OpenEntry {
+pub(crate) struct OpenEntry {
     class: Option<u8>,
     newsgroups: Option<Expr>,
     group: Option<usize>,
@@ -98,74 +88,39 @@ impl OpenEntry {
             exactmatch: None,
         }
     }
+}
 
-    /// Adds the class.
-    fn add_class(&mut self, class: u8) -> Result<(), Refusal>
-        ensures fault { LineGives result (once (option_to_list self.old.class)) }
-        ensures class { OnOk result (self.new ≡ record self.old { class = Some class }) }
-    {
-        if self.class.is_some() {
-            return Err(Refusal::Faulty(Fault::Duplicate));
-        }
-        self.class = Some(class);
-        Ok(())
-    }
+impl<'a> LineByLine for StorageDraft<'a> {
+    ghost use Rattle.std.specs.Prelude.{List};
+    ghost use Rattle.relay_conf.specs.Cycbuff.{Group};
+    ghost use Rattle.relay_conf.specs.StorageDraft.{IsDraftOf};
+    ghost use Rattle.relay_conf.specs.StorageFile.{LineSays, early_fault};
+    ghost use Rattle.relay_conf.specs.StorageLines.{SaidLine};
 
-    /// Adds the expression.
-    fn add_newsgroups(&mut self, expression: Expr) -> Result<(), Refusal>
-        ensures fault { LineGives result (once (option_to_list self.old.newsgroups)) }
-        ensures newsgroups { OnOk result (self.new
-            ≡ record self.old { newsgroups = Some expression }) }
-    {
-        if self.newsgroups.is_some() {
-            return Err(Refusal::Faulty(Fault::Duplicate));
-        }
-        self.newsgroups = Some(expression);
-        Ok(())
-    }
+    ghost Known = { List Group };
 
-    /// Adds the number of the group.
-    fn add_group(&mut self, group: usize) -> Result<(), Refusal>
-        ensures fault { LineGives result (once (option_to_list self.old.group)) }
-        ensures group { OnOk result (self.new ≡ record self.old { group = Some group }) }
-    {
-        if self.group.is_some() {
-            return Err(Refusal::Faulty(Fault::Duplicate));
-        }
-        self.group = Some(group);
-        Ok(())
-    }
+    ghost Said = { SaidLine };
 
-    /// Adds the sizes.
-    fn add_sizes(&mut self, sizes: Sizes) -> Result<(), Refusal>
-        ensures fault { LineGives result (once (option_to_list self.old.sizes)) }
-        ensures sizes { OnOk result (self.new ≡ record self.old { sizes = Some sizes }) }
-    {
-        if self.sizes.is_some() {
-            return Err(Refusal::Faulty(Fault::Duplicate));
-        }
-        self.sizes = Some(sizes);
-        Ok(())
-    }
+    ghost Says = { LineSays };
 
-    /// Adds whether each newsgroup has to match.
-    fn add_exactmatch(&mut self, exactmatch: bool) -> Result<(), Refusal>
-        ensures fault { LineGives result (once (option_to_list self.old.exactmatch)) }
-        ensures exact { OnOk result (self.new ≡ record self.old { exactmatch = Some exactmatch }) }
-    {
-        if self.exactmatch.is_some() {
-            return Err(Refusal::Faulty(Fault::Duplicate));
+    ghost wrong = { early_fault };
+
+    ghost Draws = { IsDraftOf };
+
+    fn add_line(&mut self, alloc: Global, number: usize, line: &[u8]) -> Result<(), Refusal> {
+        match storage_line(self.place, line) {
+            Ok(said) => self.add(alloc, number, said),
+            Err(fault) => Err(Refusal::Faulty(fault)),
         }
-        self.exactmatch = Some(exactmatch);
-        Ok(())
     }
 }
 
-impl Draft {
-    fn new(alloc: Global) -> Draft
-        ensures { draft_view result ≡ no_lines }
+impl<'a> StorageDraft<'a> {
+    fn new(alloc: Global, groups: &'a [GroupConf]) -> StorageDraft<'a>
+        ensures { draft_view result ≡ no_lines (map group_view groups.now) }
     {
-        Draft {
+        StorageDraft {
+            groups,
             methods: Vec::new(alloc),
             place: Place::Outside,
             entry: OpenEntry::new(),
@@ -173,28 +128,21 @@ impl Draft {
         }
     }
 
-    /// Adds what a line says.
-    fn add_line(
-        &mut self,
-        alloc: Global,
-        groups: &[GroupConf],
-        number: usize,
-        line: &[u8],
-    ) -> Result<(), Refusal>
-        ensures { StepGives (map group_view groups.now) number (draft_view self.old)
-            (storage_line self.old.place line.now) (draft_view self.new) result }
+    /// Adds what the line of this number says.
+    fn add(&mut self, alloc: Global, number: usize, said: Line<'_>) -> Result<(), Refusal>
+        ensures { StorageStep number (draft_view self.old) (Ok (raw_view said.entry))
+            (draft_view self.new) result }
     {
-        match storage_line(self.place, line) {
-            Ok(Line::Skipped) => Ok(()),
-            Ok(Line::Opens(method)) => self.open_entry(number, method),
-            Ok(Line::Closes) => self.close_entry(),
-            Ok(Line::Ends) => self.end_entry(),
-            Ok(Line::Class(class)) => self.entry.add_class(class),
-            Ok(Line::Newsgroups(text)) => self.add_newsgroups(alloc, text),
-            Ok(Line::Options(name)) => self.add_options(groups, number, name),
-            Ok(Line::Size(sizes)) => self.entry.add_sizes(sizes),
-            Ok(Line::ExactMatch(exactmatch)) => self.entry.add_exactmatch(exactmatch),
-            Err(fault) => Err(Refusal::Faulty(fault)),
+        match said {
+            Line::Skipped => Ok(()),
+            Line::Opens(method) => self.open_entry(number, method),
+            Line::Closes => self.close_entry(),
+            Line::Ends => self.end_entry(),
+            Line::Class(class) => set_once(&mut self.entry.class, class),
+            Line::Newsgroups(text) => self.add_newsgroups(alloc, text),
+            Line::Options(name) => self.add_options(number, name),
+            Line::Size(sizes) => set_once(&mut self.entry.sizes, sizes),
+            Line::ExactMatch(exact) => set_once(&mut self.entry.exactmatch, exact),
         }
     }
 
@@ -237,26 +185,21 @@ impl Draft {
 
     /// Adds the expression that a text is.
     fn add_newsgroups(&mut self, alloc: Global, text: &[u8]) -> Result<(), Refusal>
-        ensures { NewsgroupsGive text.now (draft_view self.old) (draft_view self.new) result }
+        ensures { NewsgroupsStep text.now (draft_view self.old) (draft_view self.new) result }
     {
         let expression = expression_of(alloc, text)?;
-        self.entry.add_newsgroups(expression)
+        set_once(&mut self.entry.newsgroups, expression)
     }
 
     /// Adds the group of a name.
-    fn add_options(
-        &mut self,
-        groups: &[GroupConf],
-        number: usize,
-        name: &[u8],
-    ) -> Result<(), Refusal>
+    fn add_options(&mut self, number: usize, name: &[u8]) -> Result<(), Refusal>
         ensures fault { LineGives result (once (option_to_list self.old.entry.group)) }
         ensures group { OnOk result (draft_view self.new
-            ≡ grouped (map group_view groups.now) number (draft_view self.old) name.now) }
+            ≡ grouped number (draft_view self.old) name.now) }
     {
-        let group = group_number(groups, name);
-        self.entry.add_group(group)?;
-        if group >= groups.len() {
+        let group = group_number(self.groups, name);
+        set_once(&mut self.entry.group, group)?;
+        if group >= self.groups.len() {
             self.note(number);
         }
         Ok(())
@@ -315,11 +258,12 @@ fn group_number(groups: &[GroupConf], name: &[u8]) -> usize
 }
 
 /// The entries, or the first fault that is looked for after the last line.
-fn finished(draft: Draft) -> Result<Vec<Method>, ConfError>
+fn finished(draft: StorageDraft<'_>) -> Result<Vec<Method>, ConfError>
     ensures { ConfGives (λ methods. map entry_view methods.items) result
-        (draft_said (draft_view draft)) }
+        (draft_said (draft_view draft.entry)) }
 {
-    let Draft {
+    let StorageDraft {
+        groups: _,
         methods,
         place,
         entry: _,

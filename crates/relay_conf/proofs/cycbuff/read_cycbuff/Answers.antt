@@ -1,31 +1,60 @@
-use Rattle.std.proofs.Common.{◌∙◌, sym, map, subst, Vec, Global, vec_items, Err, Result}
-use Rattle.relay_conf.specs.declared.faults.LineFault.{LineFault}
+use Rattle.std.proofs.Common.{◌≡◌, map, subst, List, ℕ, Ok, Err, Vec, Global, vec_items}
+use Rattle.relay_conf.specs.Cycbuff.{cycbuff_line, cycbuff_said, buffers_said, groups_said}
+use Rattle.relay_conf.specs.Faults.{ConfGives}
+use Rattle.relay_conf.specs.Lines.{lines_of}
+use Rattle.relay_conf.specs.Settings.{buffers_view, group_view}
 use Rattle.relay_conf.specs.declared.cycbuff.BufferConf.{BufferConf}
 use Rattle.relay_conf.specs.declared.cycbuff.GroupConf.{GroupConf}
-use Rattle.relay_conf.specs.Cycbuff.{CycbuffSettings}
-use Rattle.relay_conf.specs.Faults.{ConfGives}
-use Rattle.relay_conf.specs.Settings.{buffers_view, group_view}
+use Rattle.relay_conf.proofs.CycbuffReadings.{buffers_fault, groups_fault, cycbuff_done}
 use Rattle.relay_conf.proofs.FirstFaults.{handed_on}
-use Rattle.relay_conf.proofs.CycbuffLines.{buffers_fault, groups_fault, cycbuff_done, said_lines, said_of}
+use Rattle.relay_conf.proofs.LinesRead.{read_of}
 use Rattle.relay_conf.proofs.cycbuff.read_cycbuff.Goals as goal
 
 pub returns-in_err-buffers : goal.returns-in_err-buffers
 returns-in_err-buffers c =
-    handed_on buffers_view _ c.in_err-buffers.field-0.0 _ c.from_residual-in_err-buffers.ensures.1
-    (subst (λ (says : Result CycbuffSettings LineFault). ConfGives buffers_view (Err c.in_err-buffers.field-0.0) says)
-    (said_lines c.in_ok-lines.lines.items _ c.in_ok-lines.ensures)
-    (buffers_fault (vec_items {X = BufferConf} {Z = Global}) (map said_of c.in_ok-lines.lines.items) c.in_err-buffers.field-0.0 (rw c.deref.ensures.value at c.in_err-buffers.ensures)))
+    let lines = lines_of c.args.text.now in
+    let error = c.in_err-buffers.field-0.0 in
+    let view = vec_items {X = BufferConf} {Z = Global} in
+    handed_on buffers_view _ error (cycbuff_said (map cycbuff_line lines))
+    c.from_residual-in_err-buffers.ensures.1
+    (buffers_fault view (map cycbuff_line lines) error
+    (subst (λ (read : List (List ℕ)).
+    ConfGives view (Err error) (buffers_said (map cycbuff_line read)))
+    (read_of c.in_ok-lines.lines.items c.deref.result.now lines c.deref.ensures.value
+    c.in_ok-lines.ensures) c.in_err-buffers.ensures))
 
 pub returns-in_err-groups : goal.returns-in_err-groups
 returns-in_err-groups c =
-    handed_on buffers_view _ c.in_err-groups.field-0.0 _ c.from_residual-in_err-groups.ensures.1
-    (subst (λ (says : Result CycbuffSettings LineFault). ConfGives buffers_view (Err c.in_err-groups.field-0.0) says)
-    (said_lines c.in_ok-lines.lines.items _ c.in_ok-lines.ensures)
-    (groups_fault (λ (groups : Vec GroupConf Global). map group_view groups.items) (map said_of c.in_ok-lines.lines.items) c.in_ok-buffers.buffers.items c.in_err-groups.field-0.0
-    (rw c.deref.ensures.value at c.in_ok-buffers.ensures) (rw (c.deref-2.ensures.value, c.deref-3.ensures.value) at c.in_err-groups.ensures)))
+    let lines = lines_of c.args.text.now in
+    let error = c.in_err-groups.field-0.0 in
+    let view : Vec GroupConf Global → _ = λ groups. map group_view groups.items in
+    handed_on buffers_view _ error (cycbuff_said (map cycbuff_line lines))
+    c.from_residual-in_err-groups.ensures.1
+    (groups_fault view (map cycbuff_line lines) c.in_ok-buffers.buffers.items error
+    (subst (λ (read : List (List ℕ)).
+    buffers_said (map cycbuff_line read) ≡ Ok c.in_ok-buffers.buffers.items)
+    (read_of c.in_ok-lines.lines.items c.deref.result.now lines c.deref.ensures.value
+    c.in_ok-lines.ensures) c.in_ok-buffers.ensures)
+    (subst (λ (known : List BufferConf).
+    ConfGives view (Err error) (groups_said known (map cycbuff_line lines)))
+    c.deref-3.ensures.value
+    (subst (λ (read : List (List ℕ)).
+    ConfGives view (Err error) (groups_said c.deref-3.result.now (map cycbuff_line read)))
+    (read_of c.in_ok-lines.lines.items c.deref-2.result.now lines c.deref-2.ensures.value
+    c.in_ok-lines.ensures) c.in_err-groups.ensures)))
 
 pub returns : goal.returns
 returns c =
-    sym (said_lines c.in_ok-lines.lines.items _ c.in_ok-lines.ensures)
-    ∙ cycbuff_done (map said_of c.in_ok-lines.lines.items) c.in_ok-buffers.buffers.items (map group_view c.in_ok-groups.groups.items)
-    (rw c.deref.ensures.value at c.in_ok-buffers.ensures) (rw (c.deref-2.ensures.value, c.deref-3.ensures.value) at c.in_ok-groups.ensures)
+    let lines = lines_of c.args.text.now in
+    let groups = map group_view c.in_ok-groups.groups.items in
+    cycbuff_done (map cycbuff_line lines) c.in_ok-buffers.buffers.items groups
+    (subst (λ (read : List (List ℕ)).
+    buffers_said (map cycbuff_line read) ≡ Ok c.in_ok-buffers.buffers.items)
+    (read_of c.in_ok-lines.lines.items c.deref.result.now lines c.deref.ensures.value
+    c.in_ok-lines.ensures) c.in_ok-buffers.ensures)
+    (subst (λ (known : List BufferConf). groups_said known (map cycbuff_line lines) ≡ Ok groups)
+    c.deref-3.ensures.value
+    (subst (λ (read : List (List ℕ)).
+    groups_said c.deref-3.result.now (map cycbuff_line read) ≡ Ok groups)
+    (read_of c.in_ok-lines.lines.items c.deref-2.result.now lines c.deref-2.ensures.value
+    c.in_ok-lines.ensures) c.in_ok-groups.ensures))

@@ -1,17 +1,21 @@
-use Rattle.relay_conf.proofs.CycbuffLines.{groups_refused, groups_passed, groups_done}
-use Rattle.relay_conf.specs.declared.cycbuff.GroupConf.{GroupConf}
-use Rattle.std.proofs.Common.{map, Vec, Global}
+use Rattle.std.proofs.Common.{map, Vec, Global, List, ℕ}
+use Rattle.std.specs.Borrow.{Bor}
+use Rattle.relay_conf.specs.Cycbuff.{late_fault}
+use Rattle.relay_conf.specs.CycbuffDraft.{HasGroups}
 use Rattle.relay_conf.specs.Settings.{group_view}
+use Rattle.relay_conf.specs.declared.cycbuff.GroupConf.{GroupConf}
+use Rattle.relay_conf.proofs.CycbuffReadings.{draft_error, groups_done}
 use Rattle.relay_conf.proofs.cycbuff.read_groups.Goals as goal
 
-pub returns-in-Err : goal.returns-in-Err
-returns-in-Err c =
-    rw c.at.ensures (groups_refused (λ (groups : Vec GroupConf Global). map group_view groups.items) c.args.buffers.now c.args.lines.now c.loop-index.index _ (map group_view c.loop-index.groups.items) c.in-Err.refusal c.loop-index-test.true c.loop-index.invariant c.in-Err.ensures.fault)
-
-pub loop-index-preserved : goal.loop-index-preserved
-loop-index-preserved c =
-    groups_passed c.args.buffers.now c.args.lines.now c.loop-index.index _ (map group_view c.loop-index.groups.items) _ c.loop-index-test.true c.loop-index.invariant
-    c.in_default.ensures.fault c.in_default.ensures.groups
+pub returns-in_err-draft : goal.returns-in_err-draft
+returns-in_err-draft c =
+    let known = c.args.buffers.now in
+    draft_error (λ (groups : Vec GroupConf Global). map group_view groups.items) (late_fault known)
+    (HasGroups known) (map (λ (line : Bor (List ℕ)). line.now) c.args.lines.now)
+    c.in_err-draft.field-0.0 c.from_residual.result _ c.from_residual.ensures.1
+    (c.in_err-draft.ensures known c.new.ensures)
 
 pub returns : goal.returns
-returns c = groups_done c.args.buffers.now c.args.lines.now c.loop-index.index (map group_view c.loop-index.groups.items) c.loop-index-test.false c.loop-index.invariant
+returns c =
+    groups_done c.args.buffers.now (map (λ (line : Bor (List ℕ)). line.now) c.args.lines.now)
+    c.in_ok-draft.draft (c.in_ok-draft.ensures c.args.buffers.now c.new.ensures)

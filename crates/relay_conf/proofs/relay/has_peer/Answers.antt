@@ -8,6 +8,7 @@ use Rattle.relay_conf.proofs.relay.has_peer.Goals as goal
 
 pub returns : goal.returns
 returns c =
-    any_from_yields_List (λ peer. bytes_eq c.args.name.now peer.name) _ _ c.any.result c.any.ensures.ran
+    any_from_yields_List (λ peer. bytes_eq c.args.name.now peer.name) _ _ c.any.result
+    c.any.ensures.ran
     (YieldsList-from_slice c.args.peers.now c.iter.ensures.rest) (λ x b q k. search (rules, tests))
     ∙ sym (list_any-map (bytes_eq c.args.name.now) (λ (peer : Peer). peer.name) c.args.peers.now)

@@ -1,20 +1,42 @@
-use Rattle.std.proofs.Common.{List, ℕ, subst, Err, map}
+use Rattle.std.proofs.Common.{subst, map, List, ℕ, Err}
 use Rattle.std.specs.Borrow.{Bor}
+use Rattle.relay_conf.specs.Drafts.{DraftGives, IsDrawnFrom}
 use Rattle.relay_conf.specs.Lines.{lines_of}
-use Rattle.relay_conf.specs.Draft.{ReadsTo, DraftGives, draft_view}
-use Rattle.relay_conf.proofs.Readings.{reading_gives, draft_err}
+use Rattle.relay_conf.specs.Relay.{LineSays, early_fault, relay_said}
+use Rattle.relay_conf.specs.RelayDraft.{IsDraftOf}
+use Rattle.relay_conf.specs.RelayViews.{relay_view}
+use Rattle.relay_conf.proofs.LinesRead.{read_of, draft_fails}
+use Rattle.relay_conf.proofs.RelayReadings.{no_draft, relay_gives}
 use Rattle.relay_conf.proofs.relay.read_relay.Goals as goal
 
 pub returns-in_err-draft : goal.returns-in_err-draft
 returns-in_err-draft c =
-    draft_err (lines_of c.args.text.now) _ c.in_err-draft.field-0.0 c.from_residual-in_err-draft.ensures.1
-    (subst (λ (lines : List (List ℕ)). DraftGives lines (Err c.in_err-draft.field-0.0)) c.in_ok-lines.ensures (subst (λ (lines : List (Bor (List ℕ))). DraftGives (map (λ line. line.now) lines) (Err c.in_err-draft.field-0.0)) c.deref.ensures.value c.in_err-draft.ensures))
+    let error = c.in_err-draft.field-0.0 in
+    let lines =
+    read_of c.in_ok-lines.lines.items c.deref.result.now (lines_of c.args.text.now)
+    c.deref.ensures.value c.in_ok-lines.ensures in
+    draft_fails relay_view LineSays early_fault IsDraftOf relay_said (lines_of c.args.text.now)
+    error c.from_residual-in_err-draft.result c.from_residual-in_err-draft.ensures.1
+    (subst (λ (read : List (List ℕ)). DraftGives LineSays early_fault IsDraftOf read (Err error))
+    lines
+    (c.in_err-draft.ensures tt (no_draft c.new.result c.new.ensures.stand c.new.ensures.listed)))
+
+-- The draft is that of the lines that were read.
+drawn : (c : goal.In_ok-draft)
+    → IsDrawnFrom LineSays early_fault IsDraftOf
+    (map (λ (line : Bor (List ℕ)). line.now) c.deref.result.now) c.in_ok-draft.draft
+drawn c = c.in_ok-draft.ensures tt (no_draft c.new.result c.new.ensures.stand c.new.ensures.listed)
 
 pub finished-requires : goal.finished-requires
-finished-requires c = c.in_ok-draft.ensures.reading.few
+finished-requires c = (drawn c).draws.reading.few
 
 pub returns : goal.returns
 returns c =
-    reading_gives (lines_of c.args.text.now) (draft_view c.in_ok-draft.draft) c.finished.result
-    (subst (λ (lines : List (List ℕ)). ReadsTo lines (draft_view c.in_ok-draft.draft)) c.in_ok-lines.ensures (rw c.deref.ensures.value at c.in_ok-draft.ensures))
+    let lines =
+    read_of c.in_ok-lines.lines.items c.deref.result.now (lines_of c.args.text.now)
+    c.deref.ensures.value c.in_ok-lines.ensures in
+    relay_gives (lines_of c.args.text.now) c.in_ok-draft.draft c.finished.result
+    (subst (λ (read : List (List ℕ)).
+    IsDrawnFrom LineSays early_fault IsDraftOf read c.in_ok-draft.draft) lines
+    (c.in_ok-draft.ensures tt (no_draft c.new.result c.new.ensures.stand c.new.ensures.listed)))
     c.finished.ensures

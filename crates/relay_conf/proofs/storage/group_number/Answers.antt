@@ -11,7 +11,12 @@ use Rattle.relay_conf.proofs.storage.group_number.Goals as goal
 
 pub returns : goal.returns
 returns c =
-    let found = position_from_yields_List (λ (group : GroupConf). bytes_eq c.args.name.now group.name) _ _ c.position.result c.position.ensures.ran (YieldsList-from_slice c.args.groups.now c.iter.ensures.rest) (λ x b q k. search (rules, tests)) in
+    let found = position_from_yields_List (λ (group : GroupConf).
+    bytes_eq c.args.name.now group.name) _ _ c.position.result c.position.ensures.ran
+    (YieldsList-from_slice c.args.groups.now c.iter.ensures.rest)
+    (λ x b q k. search (rules, tests)) in
     c.unwrap_or.ensures
-    ∙ place_or_length (λ (group : GroupConf). bytes_eq c.args.name.now group.name) c.args.groups.now c.position.result found
-    ∙ sym (position_map (λ (group : Group). bytes_eq c.args.name.now group.name) group_view c.args.groups.now)
+    ∙ place_or_length (λ (group : GroupConf). bytes_eq c.args.name.now group.name) c.args.groups.now
+    c.position.result found
+    ∙ sym (position_map (λ (group : Group). bytes_eq c.args.name.now group.name) group_view
+    c.args.groups.now)

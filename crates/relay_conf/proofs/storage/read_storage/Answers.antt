@@ -1,24 +1,45 @@
-use Rattle.std.proofs.Common.{List, ℕ, subst, Err, map}
-use Rattle.std.specs.Borrow.{Bor}
-use Rattle.relay_conf.specs.declared.cycbuff.GroupConf.{GroupConf}
+use Rattle.std.proofs.Common.{◌≡◌, ◌∙◌, ap, subst, map, List, ℕ, Err}
+use Rattle.std.specs.Global.{Vec}
+use Rattle.relay_conf.specs.Drafts.{DraftGives, IsDrawnFrom}
 use Rattle.relay_conf.specs.Lines.{lines_of}
 use Rattle.relay_conf.specs.Settings.{group_view}
-use Rattle.relay_conf.specs.StorageDraft.{ReadsTo, DraftGives, draft_view}
-use Rattle.relay_conf.proofs.StorageReadings.{reading_gives, draft_err}
+use Rattle.relay_conf.specs.Storage.{entry_view}
+use Rattle.relay_conf.specs.StorageDraft.{draft_view, no_lines, IsDraftOf}
+use Rattle.relay_conf.specs.StorageFile.{LineSays, early_fault, storage_said}
+use Rattle.relay_conf.specs.declared.cycbuff.GroupConf.{GroupConf}
+use Rattle.relay_conf.specs.declared.storage.Method.{Method}
+use Rattle.relay_conf.proofs.LinesRead.{read_of, draft_fails}
+use Rattle.relay_conf.proofs.StorageReadings.{no_draft, storage_gives}
 use Rattle.relay_conf.proofs.storage.read_storage.Goals as goal
 
 pub returns-in_err-draft : goal.returns-in_err-draft
 returns-in_err-draft c =
+    let error = c.in_err-draft.field-0.0 in
     let groups = map group_view c.args.buffers.now.groups.items in
-    draft_err groups (lines_of c.args.text.now) _ c.in_err-draft.field-0.0 c.from_residual-in_err-draft.ensures.1
-    (subst (λ (lines : List (List ℕ)). DraftGives groups lines (Err c.in_err-draft.field-0.0)) c.in_ok-lines.ensures
-    (subst (λ (known : List GroupConf). DraftGives (map group_view known) (map (λ line. line.now) c.in_ok-lines.lines.items) (Err c.in_err-draft.field-0.0)) c.deref.ensures.value
-    (subst (λ (lines : List (Bor (List ℕ))). DraftGives (map group_view c.deref.result.now) (map (λ line. line.now) lines) (Err c.in_err-draft.field-0.0)) c.deref-2.ensures.value c.in_err-draft.ensures)))
+    let known : draft_view c.new.result ≡ no_lines groups =
+    c.new.ensures ∙ ap (λ (gs : List GroupConf). no_lines (map group_view gs)) c.deref.ensures.value
+    in
+    let lines =
+    read_of c.in_ok-lines.lines.items c.deref-2.result.now (lines_of c.args.text.now)
+    c.deref-2.ensures.value c.in_ok-lines.ensures in
+    draft_fails (λ (methods : Vec Method). map entry_view methods.items) LineSays
+    (early_fault groups) (IsDraftOf groups) (storage_said groups) (lines_of c.args.text.now) error
+    c.from_residual-in_err-draft.result c.from_residual-in_err-draft.ensures.1
+    (subst (λ (read : List (List ℕ)).
+    DraftGives LineSays (early_fault groups) (IsDraftOf groups) read (Err error)) lines
+    (c.in_err-draft.ensures groups (no_draft groups c.new.result known)))
 
 pub returns : goal.returns
 returns c =
     let groups = map group_view c.args.buffers.now.groups.items in
-    reading_gives groups (lines_of c.args.text.now) (draft_view c.in_ok-draft.draft) c.finished.result
-    (subst (λ (lines : List (List ℕ)). ReadsTo groups lines (draft_view c.in_ok-draft.draft)) c.in_ok-lines.ensures
-    (rw (c.deref.ensures.value, c.deref-2.ensures.value) at c.in_ok-draft.ensures))
+    let known : draft_view c.new.result ≡ no_lines groups =
+    c.new.ensures ∙ ap (λ (gs : List GroupConf). no_lines (map group_view gs)) c.deref.ensures.value
+    in
+    let lines =
+    read_of c.in_ok-lines.lines.items c.deref-2.result.now (lines_of c.args.text.now)
+    c.deref-2.ensures.value c.in_ok-lines.ensures in
+    storage_gives groups (lines_of c.args.text.now) c.in_ok-draft.draft c.finished.result
+    (subst (λ (read : List (List ℕ)).
+    IsDrawnFrom LineSays (early_fault groups) (IsDraftOf groups) read c.in_ok-draft.draft) lines
+    (c.in_ok-draft.ensures groups (no_draft groups c.new.result known)))
     c.finished.ensures

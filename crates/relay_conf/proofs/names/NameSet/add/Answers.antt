@@ -7,7 +7,10 @@ use Rattle.relay_conf.proofs.names.NameSet.add.Goals as goal
 
 pub returns-clause-names : goal.returns-clause-names
 returns-clause-names c = λ other.
-    let is : string_bytes c.in_ok-key.key ≡ c.args.name.now = c.in_ok-key.ensures.ok ∙ c.text_of.ensures in
-    hash_set_updates_text (string_bytes c.in_ok-key.key) c.args.self.now.names c.insert.new.self true c.in_ok-added.ensures.updates other
-    ∙ cond_or (bytes_eq (string_bytes c.in_ok-key.key) other) (contains_text c.args.self.now.names other)
+    let is : string_bytes c.in_ok-key.key ≡ c.args.name.now = c.in_ok-key.ensures.ok
+    ∙ c.text_of.ensures in
+    hash_set_updates_text (string_bytes c.in_ok-key.key) c.args.self.now.names c.insert.new.self
+    true c.in_ok-added.ensures.updates other
+    ∙ cond_or (bytes_eq (string_bytes c.in_ok-key.key) other)
+    (contains_text c.args.self.now.names other)
     ∙ ap (λ (name : List ℕ). bytes_eq name other || contains_text c.args.self.now.names other) is

@@ -1,0 +1,175 @@
+-- How far the lines of relay.conf are read. No public contract cites it.
+use Rattle.std.specs.Prelude.{◌≡◌, ℕ, ◌+◌, ◌≤◌, List, [], ◌∷◌, ◌++◌, length, map, bytes_eq}
+use Rattle.std.specs.Prelude.{unwrap_or, Option, None, Some, Result, Ok, Err, if◌then◌else◌}
+use Rattle.std.specs.List.{list_any}
+use Rattle.std.specs.Option.{option_to_list}
+use Rattle.std.specs.HashSet.{contains_text}
+use Rattle.news_terms.specs.Pattern.{Marked}
+use Rattle.relay_conf.specs.declared.faults.Fault.{Fault}
+use Rattle.relay_conf.specs.declared.faults.Fault.TheVariants.{UnknownName}
+use Rattle.relay_conf.specs.declared.faults.LineFault.{LineFault}
+use Rattle.relay_conf.specs.declared.faults.Refusal.{Refusal}
+use Rattle.relay_conf.specs.declared.relay.Peer.{Peer}
+use Rattle.relay_conf.specs.declared.relay.Feed.{Feed}
+use Rattle.relay_conf.specs.declared.relay.NamedFeed.{NamedFeed}
+use Rattle.relay_conf.specs.declared.relay.RelayDraft.{RelayDraft}
+use Rattle.relay_conf.specs.Faults.{whole_fault, unless_fault}
+use Rattle.relay_conf.specs.Drafts.{ReadingGives}
+use Rattle.relay_conf.specs.Relay.{RelayLine, RawLine, SaidLine, RawSays, Stand, stand_of, Skipped}
+use Rattle.relay_conf.specs.Relay.{Own, MaxArticle, Cutoff, Remember, PeerLine, FeedLine}
+use Rattle.relay_conf.specs.Relay.{line_fault, peer_number, is_peer, no_own_fault, RelaySettings}
+
+-- what lines so far say
+pub record Reading : Type 0 where
+  pub own : Option (List ℕ)
+  pub max_article : Option ℕ
+  pub cutoff : Option ℕ
+  pub remember : Option ℕ
+  pub peers : List Peer
+  pub feeds : List NamedFeed
+
+-- the draft as a reading
+abbrev pub draft_view : RelayDraft → Reading
+draft_view d =
+    record {
+      own = d.own;
+      max_article = d.max_article;
+      cutoff = d.cutoff;
+      remember = d.remember;
+      peers = d.peers.items;
+      feeds = d.feeds.items;
+    }
+
+-- the reading of no lines
+abbrev pub nothing : Reading
+nothing =
+    record {
+      own = None;
+      max_article = None;
+      cutoff = None;
+      remember = None;
+      peers = [];
+      feeds = [];
+    }
+
+-- the reading with other peers
+abbrev pub with_peers : Reading → List Peer → Reading
+with_peers r peers = record r { peers = peers }
+
+-- what of a reading a further line may double
+abbrev pub stand_view : Reading → Stand
+stand_view r =
+    record {
+      owns = option_to_list r.own;
+      sizes = option_to_list r.max_article;
+      cutoffs = option_to_list r.cutoff;
+      remembers = option_to_list r.remember;
+      peers = r.peers;
+      feed_names = map (λ feed. feed.name) r.feeds;
+    }
+
+-- the reading after a line of this number that has no fault
+abbrev pub after_line : ℕ → Reading → RelayLine (List Marked) → Reading
+after_line number r Skipped = r
+after_line number r (Own identity) = record r { own = Some identity }
+after_line number r (MaxArticle octets) = record r { max_article = Some octets }
+after_line number r (Cutoff seconds) = record r { cutoff = Some seconds }
+after_line number r (Remember seconds) = record r { remember = Some seconds }
+after_line number r (PeerLine name identity port) =
+    record r { peers = r.peers ++ record { name = name; identity = identity; port = port } ∷ [] }
+after_line number r (FeedLine name ring expression) =
+    record r {
+      feeds = r.feeds
+          ++ record { line = number; name = name; ring = ring; expression = expression } ∷ [];
+    }
+
+-- what is wrong with a line behind a reading
+abbrev pub fault_behind : Reading → SaidLine → Option Fault
+fault_behind r said = line_fault (stand_view r) said
+
+-- the answer is what a line of this number says behind a reading, unless memory ran out
+abbrev pub RelayStep : ℕ → Reading → RawLine → (after : Reading) → Result (Unit {0}) Refusal
+    → Type 0
+RelayStep number r raw after result =
+    ReadingGives (RawSays raw) fault_behind (after_line number) r after result
+
+-- the same of a feed
+abbrev pub FeedStep : ℕ → (name : List ℕ) (ring : ℕ) (text : List ℕ) → Reading
+    → (after : Reading) → Result (Unit {0}) Refusal → Type 0
+FeedStep number name ring text r after result =
+    RelayStep number r (Ok (FeedLine name ring text)) after result
+
+-- the set has just the names of the feeds
+abbrev pub Lists : RelayDraft → Type 0
+Lists d =
+    (name : List ℕ)
+    → contains_text d.feed_names.names name
+    ≡ list_any (bytes_eq name) (map (λ feed. feed.name) d.feeds.items)
+
+-- the feed that a line of this number says, by the name of its peer
+abbrev pub named_of : ℕ → SaidLine → Option NamedFeed
+named_of number (Err fault) = None
+named_of number (Ok Skipped) = None
+named_of number (Ok (Own identity)) = None
+named_of number (Ok (MaxArticle octets)) = None
+named_of number (Ok (Cutoff seconds)) = None
+named_of number (Ok (Remember seconds)) = None
+named_of number (Ok (PeerLine name identity port)) = None
+named_of number (Ok (FeedLine name ring expression)) =
+    Some (record { line = number; name = name; ring = ring; expression = expression })
+
+-- the feeds that lines from this number on say
+abbrev pub named_from : ℕ → List SaidLine → List NamedFeed
+named_from number [] = []
+named_from number (line ∷ more) =
+    option_to_list (named_of number line) ++ named_from (number + 1) more
+
+-- a reading is that of these lines
+pub record IsReadingOf (said : List SaidLine) (r : Reading) : Type 0 where
+  pub stand : stand_view r ≡ stand_of said
+  pub feeds : r.feeds ≡ named_from 1 said
+  pub few : length r.peers ≤ 1024
+
+-- a draft is that of these lines
+pub record IsDraftOf (said : List SaidLine) (d : RelayDraft) : Type 0 where
+  pub reading : IsReadingOf said (draft_view d)
+  pub listed : Lists d
+
+-- the number of the peer of a name, where there is one
+abbrev pub known_number : List Peer → (name : List ℕ) → Option ℕ
+known_number peers name = if is_peer peers name then Some (peer_number peers name) else None
+
+-- the first feed of no peer
+abbrev pub first_unknown : List Peer → List NamedFeed → Option LineFault
+first_unknown peers [] = None
+first_unknown peers (feed ∷ more) =
+    if is_peer peers feed.name then first_unknown peers more
+    else Some (record { line = feed.line; fault = UnknownName })
+
+-- a feed by the number of its peer
+abbrev pub numbered_feed : List Peer → NamedFeed → Feed
+numbered_feed peers feed =
+    record { peer = peer_number peers feed.name; ring = feed.ring; expression = feed.expression }
+
+-- the feeds by the numbers of their peers, or the first that is of no peer
+abbrev pub named_said : List Peer → List NamedFeed → Result (List Feed) LineFault
+named_said peers named =
+    unless_fault (first_unknown peers named) (Ok (map (numbered_feed peers) named))
+
+-- the settings of a reading
+abbrev pub reading_settings : Reading → RelaySettings
+reading_settings r =
+    record {
+      own = unwrap_or r.own [];
+      max_article = unwrap_or r.max_article 1000000;
+      cutoff = unwrap_or r.cutoff 864000;
+      remember = r.remember;
+      peers = r.peers;
+      feeds = map (numbered_feed r.peers) r.feeds;
+    }
+
+-- what a reading without early fault says
+abbrev pub draft_said : Reading → Result RelaySettings LineFault
+draft_said r =
+    unless_fault (whole_fault (no_own_fault (option_to_list r.own)))
+    (unless_fault (first_unknown r.peers r.feeds) (Ok (reading_settings r)))
