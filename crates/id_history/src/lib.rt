@@ -10,6 +10,3 @@ mod claims;
 pub mod laws;
 
 pub use claims::{Offer, Settled, Shard, Take};
-
-#[cfg(test)]
-mod tests;

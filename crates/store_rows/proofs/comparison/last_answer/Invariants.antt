@@ -1,6 +1,6 @@
 use Rattle.std.proofs.Common.{◌≡◌}
 use Rattle.cyc_buffer.specs.Agreement.{register_of}
-use Rattle.cyc_buffer.proofs.comparison.last_answer.Given as goal
+use Rattle.store_rows.proofs.comparison.last_answer.Given as goal
 
 -- reading changes nothing that the buffer keeps in memory
 abbrev pub invariant-loop-article : goal.invariant-loop-article

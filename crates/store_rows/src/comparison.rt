@@ -1,16 +1,13 @@
+//! A buffer of eight blocks beside a plain list of the articles that were begun in it.
 ghost use Rattle.std.specs.Prelude.{◌≡◌, ◌≤◌, ◌<◌, false, length};
 ghost use Rattle.cyc_buffer.specs.Agreement.{Owns, is_broken, blocks_written, length_of};
 ghost use Rattle.cyc_buffer.specs.Agreement.{register_of};
 
-use crate::tests::{eight, text};
-use crate::*;
+use crate::articles::text_of;
 use cyc_block::MemoryBlocks;
+use cyc_buffer::{Buffer, Found, Open};
 use cyc_token::Token;
 use std::alloc::{AllocError, Global};
-use std::test::Fail;
-
-/// How many articles are begun.
-const ARTICLES: usize = 1500;
 
 /// How many of the last articles are asked for after each.
 const LAST: usize = 12;
@@ -92,7 +89,7 @@ fn answers(
         None => matches!(found, Ok(Found::Gone(passed)) if passed.front() == front),
         Some(None) => matches!(found, Ok(Found::Unknown)),
         Some(Some(seed)) => {
-            let text = text(alloc, seed, token.length as usize)?;
+            let text = text_of(alloc, seed, token.length as usize)?;
             match (found, text.chunks(480).nth(k as usize)) {
                 (Ok(Found::Chunk(octets)), Some(expected)) => &chunk[..octets] == expected,
                 _ => false,
@@ -197,7 +194,7 @@ fn write_out(
 }
 
 /// Begins an article, writes it out and reads; whether all is as the list says.
-fn article(
+fn agrees(
     alloc: Global,
     buffer: &mut Buffer<MemoryBlocks>,
     begun: &mut Vec<Begun>,
@@ -207,7 +204,7 @@ fn article(
     let class = draw(state, 2) as u8;
     let fresh = draw(state, 5) == 0;
     let seed = draw(state, 256) as u8;
-    let text = text(alloc, seed, length as usize)?;
+    let text = text_of(alloc, seed, length as usize)?;
     let asked = Token {
         class,
         buffer: 0,
@@ -237,14 +234,16 @@ fn article(
     Ok(moved && same && last_answer(alloc, buffer, begun.as_slice(), state)?)
 }
 
-#[test]
-fn agrees_with_a_list_of_articles(rt: HostRuntime) -> Result<(), Fail> {
-    let mut buffer = eight(rt.alloc(), 0)?;
-    let mut begun = Vec::new(rt.alloc());
-    let mut state = 20_210_101;
-    for _ in 0..ARTICLES {
-        let same = article(rt.alloc(), &mut buffer, &mut begun, &mut state)?;
-        assert!(rt; same);
+/// How many of so many articles, the one after the other, are stored and read as the list says,
+/// before the first that is not.
+pub fn agreeing(alloc: Global, articles: u32, seed: u64) -> Result<u32, AllocError> {
+    let mut buffer = Buffer::format(alloc, MemoryBlocks::new(alloc, 8)?, 0, 0)?;
+    let mut begun = Vec::new(alloc);
+    let mut state = seed;
+    for article in 0..articles {
+        if !agrees(alloc, &mut buffer, &mut begun, &mut state)? {
+            return Ok(article);
+        }
     }
-    Ok(())
+    Ok(articles)
 }
