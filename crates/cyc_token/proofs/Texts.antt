@@ -187,7 +187,8 @@ octets_fit t h (suc (suc (suc (suc (suc (suc (suc (suc (suc (suc (suc (suc zero)
 octets_fit t h (suc (suc (suc (suc (suc (suc (suc (suc (suc (suc (suc (suc (suc zero))))))))))))) =
     omega arith
 octets_fit t h
-    (suc (suc (suc (suc (suc (suc (suc (suc (suc (suc (suc (suc (suc (suc k)))))))))))))) = omega arith
+    (suc (suc (suc (suc (suc (suc (suc (suc (suc (suc (suc (suc (suc (suc k)))))))))))))) =
+        omega arith
 
 -- the text of a token has no fault
 pub text_fits : (t : terms.Token) → IsToken t → token_fault (token_text t) ≡ None
