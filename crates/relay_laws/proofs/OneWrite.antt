@@ -16,7 +16,7 @@ use Rattle.relay_model.specs.Writers.{TellsFailed, job_size, place_for, token_at
 use Rattle.relay_model.specs.Writers.{gaining, writer_at, popped, answered}
 
 -- the world after a begin, or after it was found worn
-abbrev after_place : World → ℕ → Job → Option Place → World
+abbrev pub after_place : World → ℕ → Job → Option Place → World
 after_place x g job None = x
 after_place x g job (Some place) =
     if nat_le place.cycle last_cycle
@@ -27,12 +27,12 @@ after_place x g job (Some place) =
     else writer_at x x.state g (world.Failed job None)
 
 -- the world after a pop
-abbrev after_pop : World → ℕ → List Job → World
+abbrev pub after_pop : World → ℕ → List Job → World
 after_pop x g [] = x
 after_pop x g (job ∷ rest) = popped x g job rest
 
 -- the world after a Write without a failure
-abbrev after_write : Terms → World → (g now : ℕ) → Writer → World
+abbrev pub after_write : Terms → World → (g now : ℕ) → Writer → World
 after_write w x g now Idle = after_pop x g (x.work.queue g)
 after_write w x g now (Popped job) = after_place x g job (place_for w x.state job)
 after_write w x g now (Writing job token written) =
