@@ -11,6 +11,10 @@ use Rattle.relay_model.specs.Terms.{Terms}
 use Rattle.relay_model.specs.World.{World, Output, Quiet, Sent, Refuses, Memory, Fault}
 use Rattle.relay_model.specs.World.{Expirer, with_session}
 use Rattle.relay_model.specs.World as world
+use Rattle.relay_model.specs.Claims.{Passed}
+use Rattle.relay_model.specs.Run.{reads_front}
+use Rattle.news_terms.specs.Places.{Buffer}
+use Rattle.std.specs.Prelude.{slice_get, length}
 use Rattle.news_terms.specs.Reply.{Greeting, reply_text}
 use Rattle.relay_laws.specs.Calm.{CalmRun}
 use Rattle.relay_laws.proofs.OneAnswer.{one_run}
@@ -85,8 +89,7 @@ event_premise w x hint (Bytes s piece) = there_premise (x.state.session s)
 event_premise w x hint (Turn s now) = turn_of_premise w now hint (x.state.session s)
 event_premise w x hint (Write g now) = write_premise w x (x.work.writer g)
 event_premise w x hint (Break s) = there_premise (x.state.session s)
-event_premise w x hint (Expire shard now) =
-    Needs ((expired w x shard now x.work.expirer).work.failures ≡ x.work.failures)
+event_premise w x hint (Expire shard now) = Free
 event_premise w x hint Restart = Needs ⊥
 
 -- by whether it is refused: it isn't for want of memory
@@ -209,6 +212,19 @@ break_calm : (x : World) (s : ℕ) (session : Option Session)
 break_calm x s None = refl
 break_calm x s (Some session) = refl
 
+-- nor in an Expire
+front_calm : (w : Terms) (x : World) (shard now : ℕ) (fronts : List Passed)
+    (buffer : Option Buffer)
+    → (reads_front w x shard now fronts buffer).work.failures ≡ x.work.failures
+front_calm w x shard now fronts (Some buffer) = refl
+front_calm w x shard now fronts None = refl
+
+expire_calm : (w : Terms) (x : World) (shard now : ℕ) (expirer : Expirer)
+    → (expired w x shard now expirer).work.failures ≡ x.work.failures
+expire_calm w x shard now (world.Reading fronts) =
+    front_calm w x shard now fronts (slice_get w.buffers (length fronts))
+expire_calm w x shard now (world.Forgetting fronts left) = refl
+
 -- nor in any event
 event_calm : (w : Terms) (x : World) (hint : Hint) (event : Event) → IsMet (event_premise w x hint event)
     → (played_event w x hint event).world.work.failures ≡ x.work.failures
@@ -217,7 +233,7 @@ event_calm w x hint (Bytes s piece) knows = bytes_calm x s piece (x.state.sessio
 event_calm w x hint (Turn s now) knows = turn_of_calm w x s now hint (x.state.session s)
 event_calm w x hint (Write g now) knows = write_calm w x g now (x.work.writer g)
 event_calm w x hint (Break s) knows = break_calm x s (x.state.session s)
-event_calm w x hint (Expire shard now) knows = knows
+event_calm w x hint (Expire shard now) knows = expire_calm w x shard now x.work.expirer
 event_calm w x hint Restart knows = refl
 
 -- refused or not

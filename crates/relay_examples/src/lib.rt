@@ -4,3 +4,4 @@
 #![tactic(auto)]
 
 pub mod rows;
+pub mod worlds;
