@@ -16,6 +16,3 @@ pub use numbers::{has_only_digits, number_within};
 pub use parts::{cut, one_part, three_parts, two_parts};
 pub use white::{is_white, trim};
 pub use words::{Between, first_word};
-
-#[cfg(test)]
-mod tests;
