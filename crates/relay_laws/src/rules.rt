@@ -14,10 +14,12 @@ ghost use Rattle.relay_model.specs.Fetches as fetches;
 ghost use Rattle.relay_model.specs.Fetches.{Gone, fetched, front_of, text_under};
 ghost use Rattle.relay_model.specs.Hears.{outcome_heard};
 ghost use Rattle.relay_model.specs.Judging.{Judges, is_permitted, permitted};
+ghost use Rattle.relay_model.specs.Run.{Event, Step};
 ghost use Rattle.relay_model.specs.State.{State, Session, Transfer, Job, Waits, Leaving};
 ghost use Rattle.relay_model.specs.Terms.{Terms, Reason};
-ghost use Rattle.relay_model.specs.World.{Outcome, IsKept, Speaks};
+ghost use Rattle.relay_model.specs.World.{World, Output, Outcome, IsKept, Speaks};
 ghost use Rattle.relay_model.specs.Writers.{Stores, Fails, Accepts, Abandons};
+ghost use Rattle.relay_laws.specs.Calm.{IsCalm, CalmRun};
 ghost use Rattle.relay_laws.specs.Rules.{IsNotOf, IsGoneToken, IsLiveToken};
 
 /// What is not this session's stays as it is when the session's article is refused, its open offer
@@ -116,4 +118,14 @@ pub fn kept_is_said_of_kept()
     ensures offered { (session : Session) (transfer : Transfer) (id : List ℕ) (outcome : Outcome)
         → (outcome_heard session transfer id outcome).said ≡ Speaks replies.IhaveKept
         → outcome ≡ IsKept }
+{}
+
+/// An event has one answer, and leads to one world, where memory is there and no device fails.
+pub fn one_answer()
+    ensures step { (w : Terms) (x y z : World) (event : Event) (one other : Output)
+        → Step w x event one y → Step w x event other z → IsCalm x one y → IsCalm x other z
+        → (one ≡ other) × (y ≡ z) }
+    ensures run { (w : Terms) (x y z : World) (events : List Event) (outputs others : List Output)
+        → CalmRun w x events outputs y → CalmRun w x events others z
+        → (outputs ≡ others) × (y ≡ z) }
 {}

@@ -1,0 +1,6 @@
+mod Articles
+mod Dues
+mod Playing
+mod Premises
+mod Turning
+mod Writing

@@ -1,0 +1,5 @@
+pub mod Answered
+pub mod Rows
+pub mod Terms
+pub mod WorldRows
+pub mod Worlds
