@@ -14,8 +14,6 @@ mod command_line;
 mod example_tests;
 #[cfg(test)]
 mod fault_tests;
-#[cfg(test)]
-mod tests;
 mod token;
 #[cfg(test)]
 mod token_tests;

@@ -18,6 +18,3 @@ pub use octets::Octets;
 pub use parts::{cut, one_part, three_parts, two_parts};
 pub use white::{is_white, trim};
 pub use words::{Between, first_word};
-
-#[cfg(test)]
-mod tests;

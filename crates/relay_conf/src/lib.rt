@@ -23,12 +23,3 @@ pub use faults::{ConfError, Fault, LineFault};
 pub use line_words::Octets;
 pub use relay::{Feed, Peer, Relay, read_relay};
 pub use storage::{Method, read_storage};
-
-#[cfg(test)]
-mod cycbuff_tests;
-#[cfg(test)]
-mod relay_tests;
-#[cfg(test)]
-mod storage_tests;
-#[cfg(test)]
-mod tests;
