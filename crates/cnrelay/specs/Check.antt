@@ -1,5 +1,6 @@
 -- What is told of a configuration (docs/PROTOCOL.md, Program; docs/FORMATS.md, Configuration).
-use Rattle.std.specs.Prelude.{◌≡◌, ◌≢◌, ◌⊎◌, ℕ, List, ◌++◌, length, codes, decimal, Option, Result, Ok, Err}
+use Rattle.std.specs.Prelude.{◌≡◌, ◌≢◌, ◌⊎◌, ℕ, List, ◌++◌, length, codes, decimal, Option, Result}
+use Rattle.std.specs.Prelude.{Ok, Err}
 use Rattle.std.specs.Global.{Vec}
 use Rattle.std.specs.Io.KnownBytes.{Appends, Keeps}
 use Rattle.relay_conf.specs.Cycbuff.{cycbuff_of}
@@ -15,7 +16,8 @@ use Rattle.relay_conf.specs.declared.faults.ConfError.{ConfError}
 use Rattle.relay_conf.specs.declared.faults.ConfError.TheVariants as errors
 use Rattle.relay_conf.specs.declared.storage.Method.{Method}
 use Rattle.cnrelay.specs.declared.check.CheckError.{CheckError}
-use Rattle.cnrelay.specs.declared.check.CheckError.TheVariants.{Memory, Unreadable, Faulty, Unwritten}
+use Rattle.cnrelay.specs.declared.check.CheckError.TheVariants.{Memory, Unreadable, Faulty}
+use Rattle.cnrelay.specs.declared.check.CheckError.TheVariants.{Unwritten}
 use Rattle.cnrelay.specs.declared.check.ConfFile.{ConfFile}
 use Rattle.cnrelay.specs.declared.check.ConfFile.TheVariants as files
 

@@ -6,7 +6,8 @@ use Rattle.cyc_token.specs.Faults.{HasOtherLength, LacksMarks, HasOtherDigit, Ha
 use Rattle.cyc_token.specs.declared.text.TokenError.{TokenError}
 use Rattle.cyc_token.specs.declared.text.TokenError.TheVariants as errors
 use Rattle.cnrelay.specs.declared.token.TokenFault.{TokenFault}
-use Rattle.cnrelay.specs.declared.token.TokenFault.TheVariants.{Length, Marks, Digit, LowerCase, Unwritten}
+use Rattle.cnrelay.specs.declared.token.TokenFault.TheVariants.{Length, Marks, Digit, LowerCase}
+use Rattle.cnrelay.specs.declared.token.TokenFault.TheVariants.{Unwritten}
 
 -- a part of a token with its name: `class 1`
 abbrev pub named_part : (name : List ℕ) → (part : ℕ) → List ℕ
