@@ -47,10 +47,12 @@ pub hand_place : {claim : List ℕ → Claim} {ids : List (List ℕ)} {v : world
 hand_place job id is (agreement.Nowhere stores q t s o) = absurd (subst StoresNone is stores)
 hand_place {claim} {n = n} job id is (agreement.InHand other its at waits q t s o) =
     let same : other ≡ job = let joined : phase.Handing other its ≡ phase.Handing job id =
-        sym at ∙ is in cc in
-    record { waits = subst (IsWaiting claim n) same waits;
-        idle = record { queue_is = q; writer_is = t; slot_is = s };
-        only = subst (λ (j : Job). OnlyStoring claim (Some j.id)) same o }
+    sym at ∙ is in cc in
+    record {
+      waits = subst (IsWaiting claim n) same waits;
+      idle = record { queue_is = q; writer_is = t; slot_is = s };
+      only = subst (λ (j : Job). OnlyStoring claim (Some j.id)) same o;
+    }
 hand_place job id is (agreement.InQueue other awaits waits q t s o) = let a = awaits.here in cc
 hand_place job id is (agreement.AtWriter other awaits waits q t s o) = let a = awaits.here in cc
 hand_place job id is (agreement.IsWhole other text token awaits whole q t s o) = let a =
@@ -86,32 +88,43 @@ pub push_done : (w : Terms) (x : World) (n now : ℕ) (m : model.Session) (job :
     → record { output = Quiet; world = pushed x n job } ≡ done w x n m now d
 push_done w x n now m job d is empty =
     sym (ap (done w x n m now) is
-        ∙ ap (λ (ids : List (List ℕ)). push_by x n job (ltb (length ids) 64)) empty)
+    ∙ ap (λ (ids : List (List ℕ)). push_by x n job (ltb (length ids) 64)) empty)
 
 pub push_agrees : (w : Terms) (system : System) (x : World) (m : model.Session) (job : Job)
     (id : List ℕ) (queue : VecDeque Job Global)
     → Around w system x m → Stands w system.session m (x.work.hand system.session.number)
     → system.session.phase ≡ phase.Handing job id → queue.items ≡ system.queue.items ++ job ∷ []
-    → Agrees w (record system { queue = queue;
-        session = record system.session { phase = phase.Waiting id } })
+    → Agrees w (record system {
+      queue = queue;
+      session = record system.session { phase = phase.Waiting id };
+    })
     (pushed x system.session.number (record { group = 0; id = job.id }))
 push_agrees w system x m job id queue around stands is more =
     let n : ℕ = system.session.number in
     let place = hand_place job id is around.place in
     let next = handing_stands w system.session m _ job id stands is in
-    agrees_open w (record system { queue = queue;
-        session = record system.session { phase = phase.Waiting id } })
-        (pushed x system.session.number (record { group = 0; id = job.id })) m
+    agrees_open w (record system {
+      queue = queue;
+      session = record system.session { phase = phase.Waiting id };
+    })
+    (pushed x system.session.number (record { group = 0; id = job.id })) m
     (record {
-      core = record { terms = around.core.terms; blocks = around.core.blocks;
-          claims = around.core.claims; store = around.core.store };
+      core = record {
+        terms = around.core.terms;
+        blocks = around.core.blocks;
+        claims = around.core.claims;
+        store = around.core.store;
+      };
       open_one = around.open_one;
       newest = around.newest;
       session = around.session;
       others = around.others;
       place = agreement.InQueue job
-          (record { here = ap (λ (i : List ℕ). phase.Waiting i) (sym next.2); there = next.0
-              ∙ ap (λ (i : List ℕ). model.Waits model.TakesThis i None) (sym next.2) })
+          (record {
+            here = ap (λ (i : List ℕ). phase.Waiting i) (sym next.2);
+            there = next.0
+                ∙ ap (λ (i : List ℕ). model.Waits model.TakesThis i None) (sym next.2);
+          })
           place.waits
           (record {
             here = more ∙ ap (λ (jobs : List Job). jobs ++ job ∷ []) place.idle.queue_is.here;
@@ -121,24 +134,32 @@ push_agrees w system x m job id queue around stands is more =
           place.idle.writer_is place.idle.slot_is place.only;
     })
     (subst (λ (hand : Option world.Job). Stands w
-        (record system.session { phase = phase.Waiting id }) m hand)
-            (sym (put_at-same x.work.hand system.session.number None)) next.3)
+    (record system.session { phase = phase.Waiting id }) m hand)
+    (sym (put_at-same x.work.hand system.session.number None)) next.3)
 
 -- where memory was refused, the job stays in hand
 pub kept_in_hand : (w : Terms) (system : System) (x : World) (m : model.Session) (job back : Job)
     (id : List ℕ) (queue : VecDeque Job Global)
     → Around w system x m → Stands w system.session m (x.work.hand system.session.number)
     → system.session.phase ≡ phase.Handing job id → back ≡ job → queue.items ≡ system.queue.items
-    → Agrees w (record system { queue = queue;
-        session = record system.session { phase = phase.Handing back id } }) x
+    → Agrees w (record system {
+      queue = queue;
+      session = record system.session { phase = phase.Handing back id };
+    }) x
 kept_in_hand w system x m job back id queue around stands is same still =
     let again : system.session.phase ≡ phase.Handing back id =
-        is ∙ ap (λ (j : Job). phase.Handing j id) (sym same) in
-    agrees_open w (record system { queue = queue;
-        session = record system.session { phase = phase.Handing back id } }) x m
+    is ∙ ap (λ (j : Job). phase.Handing j id) (sym same) in
+    agrees_open w (record system {
+      queue = queue;
+      session = record system.session { phase = phase.Handing back id };
+    }) x m
     (record {
-      core = record { terms = around.core.terms; blocks = around.core.blocks;
-          claims = around.core.claims; store = around.core.store };
+      core = record {
+        terms = around.core.terms;
+        blocks = around.core.blocks;
+        claims = around.core.claims;
+        store = around.core.store;
+      };
       open_one = around.open_one;
       newest = around.newest;
       session = around.session;
@@ -147,11 +168,11 @@ kept_in_hand w system x m job back id queue around stands is same still =
           (x.work.is_told system.session.number) system.session.number m p queue.items system.writer
           system.slot) again
           (subst (λ (jobs : List Job). Place x.state.claim (x.work.queue 0) (x.work.writer 0)
-              (x.work.is_told system.session.number) system.session.number m system.session.phase
-              jobs system.writer system.slot) (sym still) around.place);
+          (x.work.is_told system.session.number) system.session.number m system.session.phase
+          jobs system.writer system.slot) (sym still) around.place);
     })
     (subst (λ p. Stands w (record system.session { phase = p }) m
-        (x.work.hand system.session.number)) again stands)
+    (x.work.hand system.session.number)) again stands)
 
 -- the outcome is in the slot
 pub record IsInSlot (claim : List ℕ → Claim) (m : model.Session) (p : Phase) (id : List ℕ)
@@ -175,9 +196,17 @@ slot_place outcome is (agreement.AtWriter job awaits waits q t s o) = let h = s.
 slot_place outcome is (agreement.IsWhole id text token awaits whole q t s o) = let h = s.here in cc
 slot_place outcome is (agreement.IsSettled id other awaits q t s o) = let h = s.here in cc
 slot_place {m = m} {p = p} outcome is (agreement.InSlot id other awaits q t s o) =
-    let same : other ≡ outcome = let h = s.here in cc in
-    (id, record { awaits = subst (λ (o : Outcome). Awaits m p id (Some (outcome_view o))) same
-        awaits; queue_is = q; writer_is = t; told_is = s.there; only = o })
+    let same : other ≡ outcome = let h = s.here in cc in (
+      id,
+      record {
+        awaits = subst (λ (o : Outcome). Awaits m p id (Some (outcome_view o))) same
+            awaits;
+        queue_is = q;
+        writer_is = t;
+        told_is = s.there;
+        only = o;
+      },
+    )
 
 -- where the slot is empty, the session isn't told
 pub untold_place : {claim : List ℕ → Claim} {ids : List (List ℕ)} {v : world.Writer} {told : Bool}
@@ -203,8 +232,8 @@ pub wait_rests : (w : Terms) (x : World) (n now : ℕ) (m : model.Session) (id :
     → record { output = Quiet; world = x } ≡ done w x n m now d
 wait_rests w x n now m id outcome d is untold =
     sym (ap (done w x n m now) is
-        ∙ ap (λ (told : Bool). slot_does x n m model.TakesThis id outcome told) untold
-        ∙ slot_rests x n m id outcome)
+    ∙ ap (λ (told : Bool). slot_does x n m model.TakesThis id outcome told) untold
+    ∙ slot_rests x n m id outcome)
 
 -- the session is told the outcome that is in its slot
 pub wait_tells : (w : Terms) (x : World) (n now : ℕ) (m : model.Session) (id : List ℕ)
@@ -215,7 +244,7 @@ pub wait_tells : (w : Terms) (x : World) (n now : ℕ) (m : model.Session) (id :
 wait_tells w x n now m id known outcome d is knows told =
     sym (ap (done w x n m now) is
     ∙ ap (λ (o : Option model.Outcome). slot_does x n m model.TakesThis id o (x.work.is_told n))
-        knows
+    knows
     ∙ ap (λ (t : Bool). slot_does x n m model.TakesThis id (Some outcome) t) told)
 
 -- The session was told its outcome, and stores nothing from here on.
@@ -223,14 +252,14 @@ pub told_agrees : (w : Terms) (system : System) (x : World) (m : model.Session) 
     (id : List ℕ) (outcome : Outcome) (after : model.Session)
     → Around w system x m → x.work.hand system.session.number ≡ None
     → IsInSlot x.state.claim m system.session.phase id outcome system.queue.items
-        (x.work.queue 0) system.writer (x.work.writer 0) (x.work.is_told system.session.number)
+    (x.work.queue 0) system.writer (x.work.writer 0) (x.work.is_told system.session.number)
     → session.number ≡ system.session.number → StoresNone session.phase
     → Stands w session after None
     → Agrees w (record system { session = session; slot = None })
-        (with_session (untold x system.session.number) system.session.number after)
+    (with_session (untold x system.session.number) system.session.number after)
 told_agrees w system x m session id outcome after around empty at same stores stands =
     agrees_open w (record system { session = session; slot = None })
-        (with_session (untold x system.session.number) system.session.number after) after
+    (with_session (untold x system.session.number) system.session.number after) after
     (record {
       core = record {
         terms = around.core.terms;
@@ -244,13 +273,16 @@ told_agrees w system x m session id outcome after around empty at same stores st
           ≡ Some after) (sym same) (put_at-same x.state.session system.session.number (Some after));
       others = λ s other. let apart = subst (λ (k : ℕ). nat_eq s k ≡ false) same other in
           put_at-other x.state.session system.session.number (Some after) s apart
-              ∙ around.others s apart;
+          ∙ around.others s apart;
       place = agreement.Nowhere stores at.queue_is at.writer_is
-          (record { here = refl; there = ap (put_at x.work.is_told system.session.number false) same
-              ∙ put_at-same x.work.is_told system.session.number false }) at.only;
+          (record {
+            here = refl;
+            there = ap (put_at x.work.is_told system.session.number false) same
+                ∙ put_at-same x.work.is_told system.session.number false;
+          }) at.only;
     })
     (subst (λ (hand : Option world.Job). Stands w session after hand)
-        (sym (ap x.work.hand same ∙ empty)) stands)
+    (sym (ap x.work.hand same ∙ empty)) stands)
 
 -- a session that waits has nothing in its hand
 pub waiting_hand : (w : Terms) (s : Session) (m : model.Session) (hand : Option world.Job)
@@ -273,7 +305,7 @@ pub same_slot : (w : Terms) (system : System) (x : World) (m : model.Session)
     → Agrees w (record system { slot = slot }) x
 same_slot w system x m slot around stands same =
     subst (λ (s : Option Outcome). Agrees w (record system { slot = s }) x) (sym same)
-        (agrees_open w system x m around stands)
+    (agrees_open w system x m around stands)
 
 -- a session that leaves has nothing in its hand
 pub leaving_hand : (w : Terms) (s : Session) (m : model.Session) (hand : Option world.Job)
@@ -284,8 +316,11 @@ leaving_hand w s m hand stands is = subst (λ p. IsPhase p m.phase hand) is stan
 pub release_done : (w : Terms) (x : World) (n now : ℕ) (m : model.Session) (id : List ℕ)
     (rest : List (List ℕ)) (d : Due)
     → d ≡ machine.Releases → m.offers ≡ id ∷ rest
-    → record { output = Quiet; world = with_session
-        (with_claim x id (after_release n (x.state.claim id))) n (with_offers m rest) }
+    → record {
+      output = Quiet;
+      world = with_session
+          (with_claim x id (after_release n (x.state.claim id))) n (with_offers m rest);
+    }
     ≡ done w x n m now d
 release_done w x n now m id rest d is first =
     sym (ap (done w x n m now) is ∙ ap (release_does x n m) first)

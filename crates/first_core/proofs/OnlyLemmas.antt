@@ -24,7 +24,7 @@ put_by : (claim : List ℕ → Claim) (one : Option (List ℕ)) (id : List ℕ) 
     → is_storing (cond b c (claim other)) ≡ true → one ≡ Some other
 put_by claim one id c other true tested stores only storing =
     only id (stores storing) ∙ ap (λ (i : List ℕ). Some i)
-        (sym ((bytes_eq-Decides other id).0 tested))
+    (sym ((bytes_eq-Decides other id).0 tested))
 put_by claim one id c other false tested stores only storing = only other storing
 
 -- a claim that isn't storing, unless the one before was, leaves the id that is being stored

@@ -76,7 +76,7 @@ pub taken_steps : (s : System) (number peer : ℕ) → is_some s.newest ≡ true
 taken_steps s number peer taken =
     refused_steps (run.Open number peer) core.SessionTaken s (λ w x agrees.
     ap (λ (b : Bool). if b then Some SessionTaken
-        else (if nat_lt peer w.peers then None else Some NoPeer))
+    else (if nat_lt peer w.peers then None else Some NoPeer))
     (same_newest w s x s.newest agrees ∙ taken))
 
 -- the two tests of an Open
@@ -85,7 +85,7 @@ open_refusal : (w : Terms) (σ : State) (number peer : ℕ) (b : Bool) → is_so
     → refusal w σ (run.Open number peer) ≡ (if b then None else Some NoPeer)
 open_refusal w σ number peer b fresh few =
     ap (λ (c : Bool). if c then Some SessionTaken
-        else (if nat_lt peer w.peers then None else Some NoPeer)) fresh
+    else (if nat_lt peer w.peers then None else Some NoPeer)) fresh
     ∙ ap (λ (c : Bool). if c then None else Some NoPeer) few
 
 peers_same : (w : Terms) (s : System) (x : World) → Agrees w s x → vec_len s.config.peers ≡ w.peers
@@ -127,8 +127,12 @@ opened_agrees : (w : Terms) (s : System) (x : World) (new : Session) (peer : ℕ
 opened_agrees w s x new peer un stands ready = (
   new_session peer,
   record {
-    core = record { terms = un.core.terms; blocks = un.core.blocks; claims = un.core.claims;
-        store = un.core.store };
+    core = record {
+      terms = un.core.terms;
+      blocks = un.core.blocks;
+      claims = un.core.claims;
+      store = un.core.store;
+    };
     open_one = refl;
     newest = refl;
     session = put_here x.state.session new.number (Some (new_session peer));
@@ -147,13 +151,13 @@ pub opened_steps : (s : System) (new : Session) (n peer : ℕ) (octets : List �
     → ((w : Terms) → w.max_article ≡ s.config.max_article → Stands w new (new_session peer) None)
     → new.phase ≡ phase.Ready → new.number ≡ n
     → Steps (run.Open n peer) s (outputs.Sent n octets)
-        (record s { session = new; newest = Some n })
+    (record s { session = new; newest = Some n })
 opened_steps s new n peer octets fresh few greets stands ready same =
     subst (λ (k : ℕ). Steps (run.Open k peer) s (outputs.Sent k octets)
-        (record s { session = new; newest = Some k })) same
+    (record s { session = new; newest = Some k })) same
     (λ w x agrees.
     let un : Unopened w s x = subst (λ (o : Option ℕ). AgreesBy w s x o)
-        (is_none s.newest fresh) agrees in (
+    (is_none s.newest fresh) agrees in (
       opened x new.number peer,
       opened_agrees w s x new peer un
           (stands w (sym (ap (λ (t : Terms). t.max_article) un.core.terms))) ready,
@@ -171,7 +175,7 @@ found_by test w s x number m around there = ⊎_elim
     (λ (t : nat_eq number s.session.number ≡ true). eqb-true number s.session.number t)
     (λ (f : nat_eq number s.session.number ≡ false).
     let none : is_there test (x.state.session number) ≡ false =
-        ap (is_there test) (around.others number f) in
+    ap (is_there test) (around.others number f) in
     absurd (cc))
     (cases_Bool (nat_eq number s.session.number))
 
@@ -188,11 +192,15 @@ pub found : (test : model.Phase → Bool) (w : Terms) (s : System) (x : World) (
     → AgreesBy w s x newest → is_there test (x.state.session number) ≡ true → IsAt test w s x number
 found test w s x number None un there =
     let none : is_there test (x.state.session number) ≡ false =
-        ap (is_there test) (un.sessions number) in
+    ap (is_there test) (un.sessions number) in
     absurd (cc)
 found test w s x number (Some n) at there =
-    record { m = at.0; around = at.1; stands = at.2;
-        number = found_by test w s x number at.0 at.1 there }
+    record {
+      m = at.0;
+      around = at.1;
+      stands = at.2;
+      number = found_by test w s x number at.0 at.1 there;
+    }
 
 -- an article is where it was, whatever was read
 place_of : (claim : List ℕ → Claim) (ids : List (List ℕ)) (v : world.Writer) (told : Bool) (n : ℕ)
@@ -210,7 +218,7 @@ place_of claim ids v told n m after p queue w slot same (AtWriter job awaits wai
 place_of claim ids v told n m after p queue w slot same
     (IsWhole id text token awaits claimed q wr sl only) =
     IsWhole id text token (record { here = awaits.here; there = same ∙ awaits.there }) claimed q wr
-        sl only
+    sl only
 place_of claim ids v told n m after p queue w slot same (IsSettled id outcome awaits q wr sl only) =
     IsSettled id outcome (record { here = awaits.here; there = same ∙ awaits.there }) q wr sl only
 place_of claim ids v told n m after p queue w slot same (InSlot id outcome awaits q wr sl only) =
@@ -237,14 +245,26 @@ read_more : (p : Phase) (s : Stream) (line : Option (Vec ℕ Global)) (cut : Opt
 read_more phase.Ready s line cut unread piece h = (h.0, h.1, line_more line s unread piece h.2)
 read_more (phase.Owes id) s line cut unread piece h = (h.0, h.1, block_more cut s unread piece h.2)
 read_more (phase.Holds id text) s line cut unread piece h =
-    record { sound = h.sound; no_line = h.no_line; no_block = h.no_block;
-        same = ap (λ (u : List ℕ). u ++ piece) h.same }
+    record {
+      sound = h.sound;
+      no_line = h.no_line;
+      no_block = h.no_block;
+      same = ap (λ (u : List ℕ). u ++ piece) h.same;
+    }
 read_more (phase.Handing job id) s line cut unread piece h =
-    record { sound = h.sound; no_line = h.no_line; no_block = h.no_block;
-        same = ap (λ (u : List ℕ). u ++ piece) h.same }
+    record {
+      sound = h.sound;
+      no_line = h.no_line;
+      no_block = h.no_block;
+      same = ap (λ (u : List ℕ). u ++ piece) h.same;
+    }
 read_more (phase.Waiting id) s line cut unread piece h =
-    record { sound = h.sound; no_line = h.no_line; no_block = h.no_block;
-        same = ap (λ (u : List ℕ). u ++ piece) h.same }
+    record {
+      sound = h.sound;
+      no_line = h.no_line;
+      no_block = h.no_block;
+      same = ap (λ (u : List ℕ). u ++ piece) h.same;
+    }
 read_more phase.Leaving s line cut unread piece h = tt
 read_more phase.Ended s line cut unread piece h = tt
 
@@ -255,18 +275,22 @@ with_cutter s cutter = record s { session = record s.session { cutter = cutter }
 fed_agrees : (w : Terms) (s : System) (x : World) (m : model.Session) (piece : List ℕ)
     → Around w s x m → Stands w s.session m (x.work.hand s.session.number)
     → Agrees w (with_cutter s
-        (stream.with_unread s.session.cutter (s.session.cutter.unread ++ piece)))
+    (stream.with_unread s.session.cutter (s.session.cutter.unread ++ piece)))
     (with_session x s.session.number (with_unread m (m.unread ++ piece)))
 fed_agrees w s x m piece around stands =
     let fed : System = with_cutter s
-        (stream.with_unread s.session.cutter (s.session.cutter.unread ++ piece)) in
+    (stream.with_unread s.session.cutter (s.session.cutter.unread ++ piece)) in
     let after : model.Session = with_unread m (m.unread ++ piece) in
     subst (λ (newest : Option ℕ). AgreesBy w fed (with_session x s.session.number after) newest)
-        (sym around.open_one) (
+    (sym around.open_one) (
       after,
       record {
-        core = record { terms = around.core.terms; blocks = around.core.blocks;
-            claims = around.core.claims; store = around.core.store };
+        core = record {
+          terms = around.core.terms;
+          blocks = around.core.blocks;
+          claims = around.core.claims;
+          store = around.core.store;
+        };
         open_one = around.open_one;
         newest = around.newest;
         session = put_here x.state.session s.session.number (Some after);
@@ -287,7 +311,7 @@ fed_agrees w s x m piece around stands =
 -- a session that doesn't read is refused octets
 pub no_reader_steps : (s : System) (number : ℕ) (piece : List ℕ)
     → ((w : Terms) (x : World) → Agrees w s x
-        → false ≡ is_there is_reading (x.state.session number))
+    → false ≡ is_there is_reading (x.state.session number))
     → Steps (run.Bytes number piece) s (outputs.Refused core.NoSession) s
 no_reader_steps s number piece gone =
     refused_steps (run.Bytes number piece) core.NoSession s (λ w x agrees.
@@ -300,28 +324,32 @@ pub fed_steps : (s : System) (number : ℕ) (piece : List ℕ) (cutter : Stream)
     → Steps (run.Bytes number piece) s outputs.Quiet (with_cutter s cutter)
 fed_steps s number piece cutter there fed =
     subst (λ (c : Stream). Steps (run.Bytes number piece) s outputs.Quiet (with_cutter s c))
-        (sym fed)
+    (sym fed)
     (λ w x agrees.
     let at = found is_reading w s x number s.newest agrees (sym (there w x agrees)) in
     let m : model.Session = at.m in
-    let here : x.state.session number ≡ Some m = ap x.state.session at.number ∙ at.around.session in
-        (
+    let here : x.state.session number ≡ Some m =
+    ap x.state.session at.number ∙ at.around.session in (
       with_session x s.session.number (with_unread m (m.unread ++ piece)),
       fed_agrees w s x m piece at.around at.stands,
-      IsDone (ap (λ (b : Bool). if b then None else Some NoSession) (sym (there w x agrees)))
-          (m, here, refl, ap (λ (k : ℕ). with_session x k (with_unread m (m.unread ++ piece)))
-              (sym at.number)),
+      IsDone (ap (λ (b : Bool). if b then None else Some NoSession) (sym (there w x agrees))) (
+        m,
+        here,
+        refl,
+        ap (λ (k : ℕ). with_session x k (with_unread m (m.unread ++ piece)))
+            (sym at.number),
+      ),
     ))
 
 -- a session that doesn't run is refused a Turn
 pub no_runner_steps : (s : System) (number now : ℕ)
     → ((w : Terms) (x : World) → Agrees w s x
-        → false ≡ is_there is_running (x.state.session number))
+    → false ≡ is_there is_running (x.state.session number))
     → Steps (run.Turn number now) s (outputs.Refused core.NoSession) s
 no_runner_steps s number now gone =
     refused_steps (run.Turn number now) core.NoSession s (λ w x agrees.
     ap (λ (b : Bool). if b then (if nat_le now last_moment then None else Some BadMoment)
-        else Some NoSession)
+    else Some NoSession)
     (sym (gone w x agrees)))
 
 -- the two tests of a Turn
@@ -331,7 +359,7 @@ turn_refusal : (w : Terms) (σ : State) (number now : ℕ) (b : Bool)
     → refusal w σ (run.Turn number now) ≡ (if b then None else Some BadMoment)
 turn_refusal w σ number now b there early =
     ap (λ (c : Bool). if c then (if nat_le now last_moment then None else Some BadMoment)
-        else Some NoSession) there
+    else Some NoSession) there
     ∙ ap (λ (c : Bool). if c then None else Some BadMoment) early
 
 not_within : (a b : ℕ) → b < a → nat_le a b ≡ false
@@ -347,25 +375,29 @@ pub late_steps : (s : System) (number now : ℕ)
 late_steps s number now there late =
     refused_steps (run.Turn number now) core.BadMoment s (λ w x agrees.
     turn_refusal w x.state number now false (sym (there w x agrees))
-        (not_within now last_moment late))
+    (not_within now last_moment late))
 
 -- a plan of the session changes nothing around it
 around_planned : (w : Terms) (s : System) (x : World) (m : model.Session) (new : Session)
     → new.number ≡ s.session.number → new.phase ≡ s.session.phase → Around w s x m
     → Around w (record s { session = new }) x m
 around_planned w s x m new number same around = record {
-  core = record { terms = around.core.terms; blocks = around.core.blocks;
-      claims = around.core.claims; store = around.core.store };
+  core = record {
+    terms = around.core.terms;
+    blocks = around.core.blocks;
+    claims = around.core.claims;
+    store = around.core.store;
+  };
   open_one = around.open_one ∙ ap (λ (k : ℕ). Some k) (sym number);
   newest = around.newest ∙ ap (λ (k : ℕ). Some k) (sym number);
   session = ap x.state.session number ∙ around.session;
   others = λ k other. around.others k (subst (λ (j : ℕ). nat_eq k j ≡ false) number other);
   place =
       subst (λ (k : ℕ). Place x.state.claim (x.work.queue 0) (x.work.writer 0)
-          (x.work.is_told k) k m new.phase s.queue.items s.writer s.slot) (sym number)
+      (x.work.is_told k) k m new.phase s.queue.items s.writer s.slot) (sym number)
       (subst (λ (p : Phase). Place x.state.claim (x.work.queue 0) (x.work.writer 0)
-          (x.work.is_told s.session.number) s.session.number m p s.queue.items s.writer s.slot)
-              (sym same) around.place);
+      (x.work.is_told s.session.number) s.session.number m p s.queue.items s.writer s.slot)
+      (sym same) around.place);
 }
 
 -- memory was refused to a plan
@@ -380,10 +412,10 @@ unplanned_steps s new number now there same_number same_phase as_before = λ w x
     let around : Around w s x m = at.around in
     let stood : Stands w s.session m (x.work.hand s.session.number) = at.stands in
     let before : StandsAsBefore w s.session new =
-        subst (λ (t : Terms). StandsAsBefore t s.session new) around.core.terms as_before in
+    subst (λ (t : Terms). StandsAsBefore t s.session new) around.core.terms as_before in
     let stands : Stands w new m (x.work.hand new.number) =
     subst (λ (k : ℕ). Stands w new m (x.work.hand k)) (sym same_number)
-        (before m (x.work.hand s.session.number) stood) in (
+    (before m (x.work.hand s.session.number) stood) in (
       x,
       subst (λ (newest : Option ℕ). AgreesBy w (record s { session = new }) x newest)
           (sym around.open_one)
@@ -421,22 +453,22 @@ turn_steps s planned p number now output new there same_number same_phase early 
     let around : Around w s x m = at.around in
     let stood : Stands w s.session m (x.work.hand s.session.number) = at.stands in
     let planned_so : Plans w s.session p planned =
-        subst (λ (t : Terms). Plans t s.session p planned) around.core.terms plans in
+    subst (λ (t : Terms). Plans t s.session p planned) around.core.terms plans in
     let is : IsPlan w planned m (x.work.hand planned.number) p
-        (due w m (x.work.hand planned.number) now) =
+    (due w m (x.work.hand planned.number) now) =
     subst (λ (k : ℕ). IsPlan w planned m (x.work.hand k) p (due w m (x.work.hand k) now))
-        (sym same_number)
+    (sym same_number)
     (planned_so m (x.work.hand s.session.number) now stood) in
     let got = carried w x m (around_planned w s x m planned same_number same_phase around) is in
     let at_number : planned.number ≡ number = same_number ∙ sym at.number in
     let turned : IsTurn w x number m now (due w m (x.work.hand number) now) output got.0 =
     subst (λ (k : ℕ). IsTurn w x k m now (due w m (x.work.hand k) now) output got.0) at_number
-        got.2 in (
+    got.2 in (
       got.0,
       got.1,
       turn_step w x number now m output got.0
           (turn_refusal w x.state number now true (sym (there w x agrees))
-              (is_within now last_moment early))
+          (is_within now last_moment early))
           (ap x.state.session at.number ∙ around.session) turned,
     )
 
@@ -445,7 +477,7 @@ pub rest_carried : (s : System) (p : Plan) (now : ℕ) → p ≡ plan.Rest
     → CarriesOut p now s outputs.Quiet s
 rest_carried s p now none = λ w x m around is.
     let rests = subst (λ (q : Plan). IsPlan w s.session m (x.work.hand s.session.number) q
-        (due w m (x.work.hand s.session.number) now)) none is in (
+    (due w m (x.work.hand s.session.number) now)) none is in (
       x,
       subst (λ (newest : Option ℕ). AgreesBy w s x newest) (sym around.open_one)
           (m, around, rests.0),

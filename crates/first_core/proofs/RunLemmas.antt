@@ -35,9 +35,12 @@ pub ran_on : (old s new : System) (events : List Event) (outputs : List Output) 
     → Ran old (events ++ event ∷ []) (outputs ++ output_view output ∷ []) new
 ran_on old s new events outputs event output ran step = λ w x agrees.
     let before = ran w x agrees in
-    let then = step w before.0 before.1 in
-    (then.0, then.1, run_on w events outputs x before.0 then.0 event
-        (output_view output) before.2 then.2)
+    let then = step w before.0 before.1 in (
+      then.0,
+      then.1,
+      run_on w events outputs x before.0 then.0 event
+          (output_view output) before.2 then.2,
+    )
 
 -- one more of the events is answered
 pub ran_more : (old s new : System) (events : List coded.Event) (before after : List code.Output)
@@ -48,18 +51,18 @@ pub ran_more : (old s new : System) (events : List coded.Event) (before after : 
     → Ran old (map event_view (take (i + 1) events)) (map output_view after) new
 ran_more old s new events before after i event output below is grows ran step =
     let es : map event_view (take (i + 1) events)
-        ≡ map event_view (take i events) ++ event_view event ∷ [] =
+    ≡ map event_view (take i events) ++ event_view event ∷ [] =
     ap (λ (xs : List coded.Event). map event_view xs) (take_more events i event below)
     ∙ map-append event_view (take i events) (get_or events i event ∷ [])
     ∙ ap (λ (e : coded.Event). map event_view (take i events) ++ event_view e ∷ []) (sym is) in
     let os : map output_view after ≡ map output_view before ++ output_view output ∷ [] =
     ap (λ (xs : List code.Output). map output_view xs) grows
-        ∙ map-append output_view before (output ∷ []) in
+    ∙ map-append output_view before (output ∷ []) in
     subst (λ (xs : List Event). Ran old xs (map output_view after) new) (sym es)
     (subst (λ (ys : List Output). Ran old
-        (map event_view (take i events) ++ event_view event ∷ []) ys new) (sym os)
+    (map event_view (take i events) ++ event_view event ∷ []) ys new) (sym os)
     (ran_on old s new (map event_view (take i events)) (map output_view before)
-        (event_view event) output ran step))
+    (event_view event) output ran step))
 
 -- all of them are answered
 pub ran_all : (old new : System) (events : List coded.Event) (outputs : List Output) (i : ℕ)
@@ -67,4 +70,4 @@ pub ran_all : (old new : System) (events : List coded.Event) (outputs : List Out
     → Ran old (map event_view events) outputs new
 ran_all old new events outputs i all ran =
     subst (λ (xs : List coded.Event). Ran old (map event_view xs) outputs new)
-        (take_all i events all) ran
+    (take_all i events all) ran

@@ -55,12 +55,12 @@ stands_offers w s m hand offers same stands = record {
 ready_due : (w : Terms) (m : model.Session) (hand : Option Job) (now : ℕ) (line rest : List ℕ)
     → m.phase ≡ model.Ready → next_line m.unread ≡ Cut line rest
     → due w m hand now ≡ due_of_line (in_phase (with_unread m rest) model.Ready)
-        (command_among is_served line)
+    (command_among is_served line)
 ready_due w m hand now line rest ready cut =
     ap (λ (p : model.Phase). due_by w m hand now p) ready
     ∙ ap (due_where_ready m) cut
     ∙ ap (λ (after : model.Session). due_of_line after (command_among is_served line))
-        (phase_same (with_unread m rest) model.Ready ready)
+    (phase_same (with_unread m rest) model.Ready ready)
 
 -- a plan of a line is what is due where that line was cut
 pub line_planned : (w : Terms) (s : Session) (m : model.Session) (hand : Option Job) (d : Due)
@@ -122,7 +122,7 @@ pub cut_line_planned : (w : Terms) (s : Session) (m : model.Session) (hand : Opt
     → Stands w s m hand → s.phase ≡ phase.Ready → s.line ≡ Some line
     → vec_len s.offers + 1 ≤ vec_capacity s.offers
     → ((after : model.Session) → IsLinePlan after planned
-        (due_of_line after (command_among is_served line.items)))
+    (due_of_line after (command_among is_served line.items)))
     → IsPlan w s m hand planned (due w m hand now)
 cut_line_planned w s m hand now line planned stands ready cut room asks =
     let at = ready_phase w s m hand stands ready in
@@ -185,7 +185,7 @@ owing_due : (w : Terms) (m : model.Session) (hand : Option Job) (now : ℕ) (id 
     → due w m hand now ≡ due_where_owing w m now model.TakesThis id next
 owing_due w m hand now id next owes cut =
     ap (λ (p : model.Phase). due_by w m hand now p) owes
-        ∙ ap (due_where_owing w m now model.TakesThis id) cut
+    ∙ ap (due_where_owing w m now model.TakesThis id) cut
 
 -- a session of the code that owes a block stands for one that does, with nothing in its hand
 pub owing_phase : (w : Terms) (s : Session) (m : model.Session) (hand : Option Job)
@@ -208,7 +208,7 @@ cut_due : (w : Terms) (s : Session) (m : model.Session) (hand : Option Job) (now
     → Stands w s m hand → s.phase ≡ phase.Owes id → s.block ≡ cut → HasBlock cut s.cutter m.unread
 cut_due w s m hand now id cut stands owes is =
     subst (λ (b : Option Block). HasBlock b s.cutter m.unread) is
-        (owing_reads w s m hand id stands owes).2
+    (owing_reads w s m hand id stands owes).2
 
 -- nothing is due where no block is whole
 rest_planned : (w : Terms) (s : Session) (m : model.Session) (hand : Option Job) (now : ℕ)
@@ -230,12 +230,12 @@ fault_due w s m hand now (block.Whole text) stands owes is =
     let first = cut_due w s m hand now None (Some (block.Whole text)) stands owes is in
     owing_due w m hand now None _ (owing_phase w s m hand None stands owes).0
     (subst (λ (limit : ℕ). next_block limit m.unread ≡ blocks.Whole text.items s.cutter.unread)
-        stands.limit first)
+    stands.limit first)
 fault_due w s m hand now block.Oversize stands owes is =
     let first = cut_due w s m hand now None (Some block.Oversize) stands owes is in
     owing_due w m hand now None _ (owing_phase w s m hand None stands owes).0
     (subst (λ (limit : ℕ). next_block limit m.unread ≡ blocks.Oversize s.cutter.unread) stands.limit
-        first)
+    first)
 
 -- what is due of a block that was announced under a message-id, its text or None where it was
 -- oversize
@@ -247,17 +247,17 @@ judged_due : (w : Terms) (s : Session) (m : model.Session) (hand : Option Job) (
     (id : List ℕ) (block : Block)
     → Stands w s m hand → s.phase ≡ phase.Owes (Some id) → s.block ≡ Some block
     → due w m hand now ≡ due_of_verdict (arrived s m id) model.TakesThis id
-        (w.verdict m.peer id now (text_of block))
+    (w.verdict m.peer id now (text_of block))
 judged_due w s m hand now id (block.Whole text) stands owes is =
     let first = cut_due w s m hand now (Some id) (Some (block.Whole text)) stands owes is in
     owing_due w m hand now (Some id) _ (owing_phase w s m hand (Some id) stands owes).0
     (subst (λ (limit : ℕ). next_block limit m.unread ≡ blocks.Whole text.items s.cutter.unread)
-        stands.limit first)
+    stands.limit first)
 judged_due w s m hand now id block.Oversize stands owes is =
     let first = cut_due w s m hand now (Some id) (Some block.Oversize) stands owes is in
     owing_due w m hand now (Some id) _ (owing_phase w s m hand (Some id) stands owes).0
     (subst (λ (limit : ℕ). next_block limit m.unread ≡ blocks.Oversize s.cutter.unread) stands.limit
-        first)
+    first)
 
 -- an acceptable block is to be taken
 take_planned : (few : ℕ) (w : Terms) (s : Session) (m : model.Session) (hand : Option Job) (now : ℕ)
@@ -274,10 +274,10 @@ take_planned few w s m hand now id text room terms small stands owes is enough f
       arrived s m id,
       judged_due w s m hand now id (block.Whole text) stands owes is
           ∙ ap (λ (verdict : ℕ → List ℕ → ℕ → Option (List ℕ) → Result Accepted Reason).
-              due_of_verdict (arrived s m id) model.TakesThis id
-              (verdict m.peer id now (Some text.items))) terms
+          due_of_verdict (arrived s m id) model.TakesThis id
+          (verdict m.peer id now (Some text.items))) terms
           ∙ ap (due_of_verdict (arrived s m id) model.TakesThis id)
-              (verdict_ok few m.peer now id text.items fine),
+          (verdict_ok few m.peer now id text.items fine),
       subst (λ p. Carries p s.block s m id text.items (arrived s m id)) (sym owes)
           (subst (λ b. Carries (phase.Owes (Some id)) b s m id text.items (arrived s m id)) (sym is)
           (refl, refl, short_text few text.items small fine, refl)),
@@ -299,8 +299,8 @@ refuse_planned few w s m hand now id cut room reason terms stands owes is enough
       reason,
       judged_due w s m hand now id cut stands owes is
           ∙ ap (λ (verdict : ℕ → List ℕ → ℕ → Option (List ℕ) → Result Accepted Reason).
-              due_of_verdict (arrived s m id) model.TakesThis id
-              (verdict m.peer id now (text_of cut))) terms
+          due_of_verdict (arrived s m id) model.TakesThis id
+          (verdict m.peer id now (text_of cut))) terms
           ∙ ap (due_of_verdict (arrived s m id) model.TakesThis id) refused,
       enough,
       record { empty = at.1; sound = reads.0 },
@@ -324,7 +324,7 @@ block_planned few w s m hand now id (block.Whole text)
     let refused = verdict_err few m.peer now id text.items asks.2 in
     subst (λ (c : List ℕ). IsPlan w s m hand (plan.Refuse c room) (due w m hand now)) (sym asks.0)
     (refuse_planned few w s m hand now id
-        (block.Whole text) room refused.0 terms stands owes is asks.1 refused.1)
+    (block.Whole text) room refused.0 terms stands owes is asks.1 refused.1)
 block_planned few w s m hand now id block.Oversize
     (plan.Refuse copy room) terms small stands owes is asks =
     subst (λ (c : List ℕ). IsPlan w s m hand (plan.Refuse c room) (due w m hand now)) (sym asks.0)
@@ -357,9 +357,13 @@ owed_planned few w s m hand now id None planned terms small stands owes is none 
 owed_planned few w s m hand now None (Some cut) planned terms small stands owes is none asks =
     let at = owing_phase w s m hand None stands owes in
     let reads = owing_reads w s m hand None stands owes in
-    subst (λ (p : Plan). IsPlan w s m hand p (due w m hand now)) (sym asks.1)
-    (stands, SyntaxError, fault_due w s m hand now cut stands owes is, asks.2,
-        record { empty = at.1; sound = reads.0 })
+    subst (λ (p : Plan). IsPlan w s m hand p (due w m hand now)) (sym asks.1) (
+      stands,
+      SyntaxError,
+      fault_due w s m hand now cut stands owes is,
+      asks.2,
+      record { empty = at.1; sound = reads.0 },
+    )
 owed_planned few w s m hand now (Some id) (Some cut) planned terms small stands owes is none asks =
     block_planned few w s m hand now id cut planned terms small stands owes is asks
 
@@ -413,7 +417,7 @@ pub stands_anew : (w : Terms) (s : Session) (m : model.Session) (hand : Option J
     (next : Option Job)
     → Stands w s m hand → s.cutter.overlong ≡ false → opened ≡ offers.items → IsPhase p q next
     → Stands w (record s { line = None; block = None; offers = offers; phase = p })
-        (record m { unread = s.cutter.unread; offers = opened; phase = q }) next
+    (record m { unread = s.cutter.unread; offers = opened; phase = q }) next
 stands_anew w s m hand offers opened p q next stands sound same in_phase = record {
   peer = stands.peer;
   limit = stands.limit;
@@ -444,7 +448,7 @@ pub stands_in_phase : (w : Terms) (s : Session) (m : model.Session) (p : Phase) 
 stands_in_phase w s m p q next stands ready no_line fits =
     let reads = subst (λ r. HasRead r s.cutter s.line s.block m.unread) ready stands.reads in
     let same : s.cutter.unread ≡ m.unread =
-        subst (λ (l : Option (Vec ℕ Global)). HasLine l s.cutter m.unread) no_line reads.2 in
+    subst (λ (l : Option (Vec ℕ Global)). HasLine l s.cutter m.unread) no_line reads.2 in
     record {
       peer = stands.peer;
       limit = stands.limit;
@@ -452,9 +456,9 @@ stands_in_phase w s m p q next stands ready no_line fits =
       in_phase = fits;
       reads = subst (λ (u : List ℕ). HasRead p s.cutter s.line s.block u) same
           (subst (λ (l : Option (Vec ℕ Global)). HasRead p s.cutter l s.block s.cutter.unread)
-              (sym no_line)
+          (sym no_line)
           (subst (λ (b : Option Block). HasRead p s.cutter None b s.cutter.unread) (sym reads.1)
-              (fresh_read p s.cutter reads.0)));
+          (fresh_read p s.cutter reads.0)));
     }
 
 -- what was taken out was taken out of a session that is ready then

@@ -30,7 +30,7 @@ dealt-one i (size ∷ sizes) =
 pub next_place-one : (blocks : ℕ) (begun : List ℕ) (size : ℕ)
     → places.next_place (the_group blocks) begun size
     ≡ Some (places.place_in_buffer (the_buffer blocks)
-        (places.place_in_runs (room_of blocks) (head_of blocks begun) size))
+    (places.place_in_runs (room_of blocks) (head_of blocks begun) size))
 next_place-one blocks begun size =
     let turn : length begun % 1 ≡ 0 = omega arith in
     rw (turn, turn, dealt-one 0 begun) refl
@@ -43,15 +43,15 @@ pub place_for-one : (w : Terms) (σ : model.State) (text : List ℕ) (blocks : �
 place_for-one w σ text blocks sizes one same =
     let size : ℕ = places.size_of (length text) in
     ap (λ (groups : List places.Group). option_and_then
-        (λ (group : places.Group). places.next_place group (σ.begun 0) size) (slice_get groups 0))
-        one.groups
+    (λ (group : places.Group). places.next_place group (σ.begun 0) size) (slice_get groups 0))
+    one.groups
     ∙ ap (λ (begun : List ℕ). places.next_place (the_group blocks) begun size) same
     ∙ next_place-one blocks sizes size
 
 -- the front of the one buffer after more sizes
 front_from : (blocks : ℕ) (before sizes : List ℕ)
     → fold (places.front_past (the_buffer blocks)) (front_view blocks (head_of blocks before))
-        (places.extents_after (the_group blocks) before sizes)
+    (places.extents_after (the_group blocks) before sizes)
     ≡ front_view blocks (head_of blocks (before ++ sizes))
 front_from blocks before [] =
     ap (λ (all : List ℕ). front_view blocks (head_of blocks all)) (sym (append-nil before))
@@ -59,22 +59,22 @@ front_from blocks before (size ∷ sizes) =
     let buffer = the_buffer blocks in
     let at : places.Head = places.place_in_runs (room_of blocks) (head_of blocks before) size in
     let rest : List places.Extent =
-        places.extents_after (the_group blocks) (before ++ size ∷ []) sizes in
+    places.extents_after (the_group blocks) (before ++ size ∷ []) sizes in
     let front : ℕ = front_view blocks (head_of blocks before) in
     let placed : fold (places.front_past (the_buffer blocks)) front
-        (places.with_extent (places.next_place (the_group blocks) before size) size rest)
+    (places.with_extent (places.next_place (the_group blocks) before size) size rest)
     ≡ fold (places.front_past (the_buffer blocks))
-        (places.on_line blocks (0 + at.run) at.used + size) rest =
+    (places.on_line blocks (0 + at.run) at.used + size) rest =
     ap (λ (place : Option places.Place). fold (places.front_past (the_buffer blocks)) front
-        (places.with_extent place size rest)) (next_place-one blocks before size) in
+    (places.with_extent place size rest)) (next_place-one blocks before size) in
     let past : places.on_line blocks (0 + at.run) at.used + size
-        ≡ front_view blocks (head_of blocks (before ++ size ∷ [])) =
+    ≡ front_view blocks (head_of blocks (before ++ size ∷ [])) =
     rw fold-append (rw zero-add (add_assoc (at.run * blocks) at.used size)) in
     placed
     ∙ ap (λ (now : ℕ). fold (places.front_past (the_buffer blocks)) now rest) past
     ∙ front_from blocks (before ++ size ∷ []) sizes
     ∙ ap (λ (all : List ℕ). front_view blocks (head_of blocks all))
-        (append_assoc before (size ∷ []) sizes)
+    (append_assoc before (size ∷ []) sizes)
 
 -- the front of the one buffer, where the articles begun have these sizes
 pub front-one : (blocks : ℕ) (begun : ℕ → List ℕ)
@@ -82,7 +82,7 @@ pub front-one : (blocks : ℕ) (begun : ℕ → List ℕ)
     ≡ front_view blocks (head_of blocks (begun 0))
 front-one blocks begun =
     ap (λ (all : List places.Extent). fold (places.front_past (the_buffer blocks))
-        (places.on_line blocks 0 0) all)
+    (places.on_line blocks 0 0) all)
     (append-nil (places.extents (the_group blocks) (begun 0)))
     ∙ front_from blocks [] (begun 0)
 
@@ -131,22 +131,22 @@ is_live_at-tests token blocks front =
     let fits : leb end blocks ≡ not (ltb blocks end) = leb-ltb end blocks in
     let begun : ltb place front ≡ not (leb front place) = ltb-leb place front in
     let here : leb front (place + blocks) ≡ not (ltb (place + blocks) front) =
-        leb-ltb front (place + blocks) in
+    leb-ltb front (place + blocks) in
     cc
 
 -- what a fetch in the one buffer finds
 pub fetched_at-one : (σ : model.State) (store : Store) (token : tokens.Token) (front : ℕ)
     → KeepsState store σ
     → article_of (fetched_at σ token (the_buffer store.blocks)
-        (places.on_line store.blocks token.cycle token.first) front)
+    (places.on_line store.blocks token.cycle token.first) front)
     ≡ cond (is_live_at token store.blocks front)
-        (text_under token (map kept_view store.kept.items)) None
+    (text_under token (map kept_view store.kept.items)) None
 fetched_at-one σ store token front keeps =
     let end : ℕ = token.first + places.size_of token.length in
     let place : ℕ = places.on_line store.blocks token.cycle token.first in
     let text : Option (List ℕ) = text_under token (map kept_view store.kept.items) in
     tests_agree (eqb token.length 0) (ltb store.blocks end) (leb front place)
-        (ltb (place + store.blocks) front) (whole_under σ token) text
+    (ltb (place + store.blocks) front) (whole_under σ token) text
     (text_under-find σ.kept token ∙ ap (text_under token) keeps.texts)
     ∙ ap (λ (live : Bool). cond live text None) (sym (is_live_at-tests token store.blocks front))
 
@@ -157,7 +157,7 @@ pub front_of-one : (w : Terms) (σ : model.State) (store : Store)
     ≡ front_view store.blocks (head_of store.blocks store.sizes.items)
 front_of-one w σ store one keeps =
     ap (λ (groups : List places.Group). places.front_after (the_buffer store.blocks)
-        (extents_from 0 groups σ.begun)) one.groups
+    (extents_from 0 groups σ.begun)) one.groups
     ∙ front-one store.blocks σ.begun
     ∙ ap (λ (sizes : List ℕ). front_view store.blocks (head_of store.blocks sizes)) keeps.sizes
 
@@ -166,12 +166,12 @@ fetched-by : (w : Terms) (σ : model.State) (store : Store) (token : tokens.Toke
     → IsOneBuffer w store.blocks → KeepsState store σ
     → article_of (fetched_in w σ token (cond named (Some (the_buffer store.blocks)) None))
     ≡ cond named (cond (is_live_at token store.blocks
-        (front_view store.blocks (head_of store.blocks store.sizes.items)))
+    (front_view store.blocks (head_of store.blocks store.sizes.items)))
     (text_under token (map kept_view store.kept.items)) None) None
 fetched-by w σ store token false one keeps = refl
 fetched-by w σ store token true one keeps =
     ap (λ (front : ℕ). article_of (fetched_at σ token (the_buffer store.blocks)
-        (places.on_line store.blocks token.cycle token.first) front))
+    (places.on_line store.blocks token.cycle token.first) front))
     (front_of-one w σ store one keeps)
     ∙ fetched_at-one σ store token _ keeps
 
@@ -180,27 +180,27 @@ pub fetched-one : (w : Terms) (σ : model.State) (store : Store) (token : tokens
     → IsOneBuffer w store.blocks → KeepsState store σ
     → article_of (fetched w σ token)
     ≡ cond (eqb 0 token.buffer)
-        (cond (is_live_at token store.blocks
-            (front_view store.blocks (head_of store.blocks store.sizes.items)))
+    (cond (is_live_at token store.blocks
+    (front_view store.blocks (head_of store.blocks store.sizes.items)))
     (text_under token (map kept_view store.kept.items)) None) None
 fetched-one w σ store token one keeps =
     ap (λ (buffers : List places.Buffer). article_of
-        (fetched_in w σ token (find (λ (buffer : places.Buffer). eqb buffer.number token.buffer)
-            buffers))) one.buffers
+    (fetched_in w σ token (find (λ (buffer : places.Buffer). eqb buffer.number token.buffer)
+    buffers))) one.buffers
     ∙ fetched-by w σ store token (eqb 0 token.buffer) one keeps
 
 -- a token in the one buffer that isn't live has no article
 pub fetched-dead : (w : Terms) (σ : model.State) (store : Store) (token : tokens.Token)
     → IsOneBuffer w store.blocks → KeepsState store σ → token.buffer ≡ 0
     → is_live_at token store.blocks
-        (front_view store.blocks (head_of store.blocks store.sizes.items)) ≡ false
+    (front_view store.blocks (head_of store.blocks store.sizes.items)) ≡ false
     → article_of (fetched w σ token) ≡ None
 fetched-dead w σ store token one keeps zeroth dead =
     fetched-one w σ store token one keeps
     ∙ ap (λ (named : Bool). cond named
-        (cond (is_live_at token store.blocks
-            (front_view store.blocks (head_of store.blocks store.sizes.items)))
-                (text_under token (map kept_view store.kept.items)) None) None)
+    (cond (is_live_at token store.blocks
+    (front_view store.blocks (head_of store.blocks store.sizes.items)))
+    (text_under token (map kept_view store.kept.items)) None) None)
     (eq-eqb 0 token.buffer (sym zeroth))
     ∙ ap (λ (live : Bool). cond live (text_under token (map kept_view store.kept.items)) None) dead
 
@@ -208,14 +208,14 @@ fetched-dead w σ store token one keeps zeroth dead =
 pub fetched-live : (w : Terms) (σ : model.State) (store : Store) (token : tokens.Token)
     → IsOneBuffer w store.blocks → KeepsState store σ → token.buffer ≡ 0
     → is_live_at token store.blocks
-        (front_view store.blocks (head_of store.blocks store.sizes.items)) ≡ true
+    (front_view store.blocks (head_of store.blocks store.sizes.items)) ≡ true
     → article_of (fetched w σ token) ≡ text_under token (map kept_view store.kept.items)
 fetched-live w σ store token one keeps zeroth live =
     fetched-one w σ store token one keeps
     ∙ ap (λ (named : Bool). cond named
-        (cond (is_live_at token store.blocks
-            (front_view store.blocks (head_of store.blocks store.sizes.items)))
-                (text_under token (map kept_view store.kept.items)) None) None)
+    (cond (is_live_at token store.blocks
+    (front_view store.blocks (head_of store.blocks store.sizes.items)))
+    (text_under token (map kept_view store.kept.items)) None) None)
     (eq-eqb 0 token.buffer (sym zeroth))
     ∙ ap (λ (l : Bool). cond l (text_under token (map kept_view store.kept.items)) None) live
 
@@ -234,6 +234,6 @@ pub fetched-elsewhere : (w : Terms) (σ : model.State) (store : Store) (token : 
 fetched-elsewhere w σ store token one keeps other =
     fetched-one w σ store token one keeps
     ∙ ap (λ (named : Bool). cond named
-        (cond (is_live_at token store.blocks
-            (front_view store.blocks (head_of store.blocks store.sizes.items)))
-                (text_under token (map kept_view store.kept.items)) None) None) other
+    (cond (is_live_at token store.blocks
+    (front_view store.blocks (head_of store.blocks store.sizes.items)))
+    (text_under token (map kept_view store.kept.items)) None) None) other

@@ -133,14 +133,16 @@ pub moved : (w : Terms) (system : System) (x : World) (m : model.Session) (shard
     → Stands w session after None
     → (OnlyStoring x.state.claim None → OnlyStoring claim None)
     → Agrees w (record system { shard = shard; session = session })
-    (record x { state = record x.state
-        { claim = claim; session = put_at x.state.session system.session.number (Some after) } })
+    (record x {
+      state = record x.state
+          { claim = claim; session = put_at x.state.session system.session.number (Some after) };
+    })
 moved w system x m shard claim session after around none empty keeps same stores stands only =
     let idle = place_idle none around.place in
     let there : (n : ℕ) → n ≡ system.session.number
-        → put_at x.state.session system.session.number (Some after) n ≡ Some after =
+    → put_at x.state.session system.session.number (Some after) n ≡ Some after =
     λ n is. subst (λ (k : ℕ). put_at x.state.session system.session.number (Some after) k
-        ≡ Some after) (sym is) (put_at-same x.state.session system.session.number (Some after)) in
+    ≡ Some after) (sym is) (put_at-same x.state.session system.session.number (Some after)) in
     agrees_open w _ _ after
     (record {
       core = record {
@@ -154,13 +156,13 @@ moved w system x m shard claim session after around none empty keeps same stores
       session = there session.number same;
       others = λ s other. let apart = subst (λ (n : ℕ). nat_eq s n ≡ false) same other in
           put_at-other x.state.session system.session.number (Some after) s apart
-              ∙ around.others s apart;
+          ∙ around.others s apart;
       place = agreement.Nowhere stores idle.queue_is idle.writer_is
           (record { here = idle.slot_is.here; there = ap x.work.is_told same ∙ idle.slot_is.there })
           (only (nothing_stored none around.place));
     })
     (subst (λ (hand : Option world.Job). Stands w session after hand)
-        (sym (ap x.work.hand same ∙ empty)) stands)
+    (sym (ap x.work.hand same ∙ empty)) stands)
 
 -- a Turn that only says something
 pub turn_says : (w : Terms) (x : World) (n k now : ℕ) (m after : model.Session) (d : Due)
@@ -170,7 +172,7 @@ pub turn_says : (w : Terms) (x : World) (n k now : ℕ) (m after : model.Session
 turn_says w x n k now m after d reply octets is said same =
     ap (λ (t : List ℕ). record { output = Sent k t; world = with_session x n after }) said
     ∙ ap (λ (i : ℕ). record { output = Sent i (reply_text reply); world = with_session x n after })
-        same
+    same
     ∙ sym (ap (done w x n m now) is)
 
 -- a Turn that says something last
@@ -180,10 +182,14 @@ pub turn_leaves : (w : Terms) (x : World) (n k now : ℕ) (m after : model.Sessi
     → record { output = Ended k octets; world = with_session x n (in_phase after model.Leaving) }
     ≡ done w x n m now d
 turn_leaves w x n k now m after d reply octets is said same =
-    ap (λ (t : List ℕ). record { output = Ended k t;
-        world = with_session x n (in_phase after model.Leaving) }) said
-    ∙ ap (λ (i : ℕ). record { output = Ended i (reply_text reply);
-        world = with_session x n (in_phase after model.Leaving) }) same
+    ap (λ (t : List ℕ). record {
+      output = Ended k t;
+      world = with_session x n (in_phase after model.Leaving);
+    }) said
+    ∙ ap (λ (i : ℕ). record {
+      output = Ended i (reply_text reply);
+      world = with_session x n (in_phase after model.Leaving);
+    }) same
     ∙ sym (ap (done w x n m now) is)
 
 -- what says a reply in a world, as an output with octets
@@ -248,7 +254,7 @@ pub offer_done : (w : Terms) (x : World) (n now : ℕ) (m after : model.Session)
     (answer : OfferAnswer) (d : Due)
     → d ≡ machine.Offers id after → answer ≡ offer_answer n (x.state.claim id)
     → says (with_claim x id (after_offer n (x.state.claim id))) n
-        (with_offers after (offers_after answer after.offers id)) (offer_reply answer id)
+    (with_offers after (offers_after answer after.offers id)) (offer_reply answer id)
     ≡ done w x n m now d
 offer_done w x n now m after id answer d is said =
     sym (check_says (with_claim x id (after_offer n (x.state.claim id))) n after id answer)
@@ -260,7 +266,7 @@ pub refuse_done : (w : Terms) (x : World) (n now : ℕ) (m after : model.Session
     (reason : Reason) (d : Due)
     → d ≡ machine.Refuses model.TakesThis id reason after
     → says (with_claim x id (after_refuse n now (x.state.claim id))) n (in_phase after model.Ready)
-        (Rejected id) ≡ done w x n m now d
+    (Rejected id) ≡ done w x n m now d
 refuse_done w x n now m after id reason d is = sym (ap (done w x n m now) is)
 
 -- an accepted article that the claim answered
@@ -268,10 +274,10 @@ pub take_done : (w : Terms) (x : World) (n now : ℕ) (m after : model.Session) 
     (article : Accepted) (answer : TakeAnswer) (d : Due)
     → d ≡ machine.Takes model.TakesThis id article after → answer ≡ take_answer n (x.state.claim id)
     → taken_does (with_claim x id (after_take n article (x.state.claim id))) n after model.TakesThis
-        id article answer ≡ done w x n m now d
+    id article answer ≡ done w x n m now d
 take_done w x n now m after id article answer d is said =
     ap (taken_does (with_claim x id (after_take n article (x.state.claim id))) n after
-        model.TakesThis id article) said
+    model.TakesThis id article) said
     ∙ sym (ap (done w x n m now) is)
 
 found_by : (x : World) (n : ℕ) (after : model.Session) (id : List ℕ) (got : Fetched) (found : Bool)
@@ -297,7 +303,7 @@ pub look_done : (w : Terms) (x : World) (n now : ℕ) (m after : model.Session) 
     → says x n after (look_reply found id) ≡ done w x n m now d
 look_done w x n now m after id found d is got =
     look_by w x n after id (look_answer (x.state.claim id)) found got
-        ∙ sym (ap (done w x n m now) is)
+    ∙ sym (ap (done w x n m now) is)
 
 -- the terms have the one buffer of the store
 pub one_buffer : (w : Terms) (system : System) (x : World) → Core w system x
@@ -336,8 +342,12 @@ pub same_but_shard : (w : Terms) (system : System) (x : World) (m : model.Sessio
 same_but_shard w system x m shard around stands keeps =
     agrees_open w (record system { shard = shard }) x m
     (record {
-      core = record { terms = around.core.terms; blocks = around.core.blocks; claims = keeps;
-          store = around.core.store };
+      core = record {
+        terms = around.core.terms;
+        blocks = around.core.blocks;
+        claims = keeps;
+        store = around.core.store;
+      };
       open_one = around.open_one;
       newest = around.newest;
       session = around.session;
@@ -356,15 +366,15 @@ pub taken_in_hand : (w : Terms) (system : System) (x : World) (m : model.Session
     (session : Session) (id text : List ℕ) (after : model.Session)
     → Around w system x m → StoresNone system.session.phase
     → Keeps shard (put_id x.state.claim id
-        (after_take system.session.number (accepted_text text) (x.state.claim id)))
+    (after_take system.session.number (accepted_text text) (x.state.claim id)))
     → take_answer system.session.number (x.state.claim id) ≡ Mine
     → IsShort text → session.number ≡ system.session.number
     → HandsOver w system.session.number id text session after
     → Agrees w (record system { shard = shard; session = session })
     (with_session (with_job
-        (with_claim x id (after_take system.session.number (accepted_text text) (x.state.claim id)))
-        system.session.number (accepted_text text) id) system.session.number
-            (in_phase after (model.Waits model.TakesThis id None)))
+    (with_claim x id (after_take system.session.number (accepted_text text) (x.state.claim id)))
+    system.session.number (accepted_text text) id) system.session.number
+    (in_phase after (model.Waits model.TakesThis id None)))
 taken_in_hand w system x m shard session id text after around none keeps mine short same over =
     let idle = place_idle none around.place in
     let n : ℕ = system.session.number in
@@ -384,26 +394,26 @@ taken_in_hand w system x m shard session id text after around none keeps mine sh
           ≡ Some next) (sym same) (put_at-same x.state.session system.session.number (Some next));
       others = λ s other. let apart = subst (λ (k : ℕ). nat_eq s k ≡ false) same other in
           put_at-other x.state.session system.session.number (Some next) s apart
-              ∙ around.others s apart;
+          ∙ around.others s apart;
       place = agreement.InHand over.job id over.in_hand
           (record {
             of_session = over.of_session ∙ sym same;
             claimed = storing_taken x.state.claim system.session.number id over.job.id
                 (accepted_text text) over.same_id mine
                 ∙ ap (λ (t : List ℕ). Storing system.session.number (accepted_text t) Waiting)
-                    (sym over.same_text)
+                (sym over.same_text)
                 ∙ ap (λ (k : ℕ). Storing k (accepted_text over.job.text) Waiting) (sym same);
             short = subst IsShort (sym over.same_text) short;
           })
           idle.queue_is idle.writer_is
           (record { here = idle.slot_is.here; there = ap x.work.is_told same ∙ idle.slot_is.there })
           (only_taken x.state.claim id over.job.id
-              (after_take system.session.number (accepted_text text) (x.state.claim id))
-              over.same_id (nothing_stored none around.place));
+          (after_take system.session.number (accepted_text text) (x.state.claim id))
+          over.same_id (nothing_stored none around.place));
     })
     (subst (λ (hand : Option world.Job). Stands w session next hand)
     (sym (ap (put_at x.work.hand system.session.number (Some job)) same
-        ∙ put_at-same x.work.hand system.session.number (Some job))) over.stands)
+    ∙ put_at-same x.work.hand system.session.number (Some job))) over.stands)
 
 -- what is carried is short
 pub carried_short : (p : Phase) (cut : Option Block) (s : Session) (m : model.Session)

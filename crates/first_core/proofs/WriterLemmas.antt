@@ -134,7 +134,7 @@ module _ {claim : List ℕ → Claim} {ids : List (List ℕ)} {v : world.Writer}
   popped_place : (job : Job) (rest : List Job) → Place claim ids v told n m p queue w slot
       → w ≡ writer.Idle → queue ≡ job ∷ rest
       → (ids ≡ job.id ∷ []) × Place claim [] (world.Popped job.id) told n m p rest
-          (writer.Popped job) slot
+      (writer.Popped job) slot
   popped_place job rest (Nowhere none q now empty only) idle full = absurd (cc)
   popped_place job rest (InHand had id here waits q now empty only) idle full = absurd (cc)
   popped_place job rest (InQueue found awaits waits q now empty only) idle full =
@@ -157,7 +157,7 @@ module _ {claim : List ℕ → Claim} {ids : List (List ℕ)} {v : world.Writer}
   answered_place : (s : ℕ) (outcome : Outcome) → Place claim ids v told n m p queue w slot
       → w ≡ writer.Answering s outcome
       → (v ≡ world.Answering n) × Place claim ids world.Idle true n m p queue writer.Idle
-          (Some outcome)
+      (Some outcome)
   answered_place s outcome (Nowhere none q now empty only) is = absurd (cc)
   answered_place s outcome (InHand job id here waits q now empty only) is = absurd (cc)
   answered_place s outcome (InQueue job awaits waits q now empty only) is = absurd (cc)
@@ -239,7 +239,7 @@ module _ {claim : List ℕ → Claim} {ids : List (List ℕ)} {v : world.Writer}
         claimed = subst (λ (i : List ℕ). claim i
             ≡ Storing n (accepted_text text) (Whole (token_view token))) same_id
             (subst (λ (t : Token). claim had
-                ≡ Storing n (accepted_text text) (Whole (token_view t))) same_token claimed);
+            ≡ Storing n (accepted_text text) (Whole (token_view t))) same_token claimed);
         queue_is = q;
         there = now.there ∙ ap (λ (i : List ℕ). world.Finished i) same_id;
         slot_is = empty;
@@ -255,8 +255,12 @@ pub finds_none : (now : ℕ) (w : Terms) (s t : System) (x : World) (n : Option 
     → AgreesBy w (record s { queue = t.queue }) x n × pace.Writes w x 0 now x
 finds_none now w s t x None idle none left agrees = (
   record {
-    core = record { terms = agrees.core.terms; blocks = agrees.core.blocks;
-        claims = agrees.core.claims; store = agrees.core.store };
+    core = record {
+      terms = agrees.core.terms;
+      blocks = agrees.core.blocks;
+      claims = agrees.core.claims;
+      store = agrees.core.store;
+    };
     newest = agrees.newest;
     sessions = agrees.sessions;
     hand = agrees.hand;
@@ -273,8 +277,12 @@ finds_none now w s t x (Some k) idle none left agrees =
       (
         agrees.0,
         record {
-          core = record { terms = around.core.terms; blocks = around.core.blocks;
-              claims = around.core.claims; store = around.core.store };
+          core = record {
+            terms = around.core.terms;
+            blocks = around.core.blocks;
+            claims = around.core.claims;
+            store = around.core.store;
+          };
           open_one = around.open_one;
           newest = around.newest;
           session = around.session;
@@ -290,7 +298,7 @@ finds_none now w s t x (Some k) idle none left agrees =
 pub pops : (now : ℕ) (w : Terms) (s t : System) (x : World) (job : Job) (n : Option ℕ)
     → s.writer ≡ writer.Idle → s.queue.items ≡ job ∷ t.queue.items → AgreesBy w s x n
     → AgreesBy w (record s { queue = t.queue; writer = writer.Popped job })
-        (pace.popped x 0 job.id []) n
+    (pace.popped x 0 job.id []) n
     × pace.Writes w x 0 now (pace.popped x 0 job.id [])
 pops now w s t x job None idle full agrees = let here = agrees.queue.here in absurd (cc)
 pops now w s t x job (Some k) idle full agrees =
@@ -299,8 +307,12 @@ pops now w s t x job (Some k) idle full agrees =
       (
         agrees.0,
         record {
-          core = record { terms = around.core.terms; blocks = around.core.blocks;
-              claims = around.core.claims; store = around.core.store };
+          core = record {
+            terms = around.core.terms;
+            blocks = around.core.blocks;
+            claims = around.core.claims;
+            store = around.core.store;
+          };
           open_one = around.open_one;
           newest = around.newest;
           session = around.session;
@@ -317,7 +329,7 @@ pub answers : (now : ℕ) (w : Terms) (s : System) (x : World) (number : ℕ) (o
     (n : Option ℕ)
     → s.writer ≡ writer.Answering number outcome → AgreesBy w s x n
     → AgreesBy w (record s { writer = writer.Idle; slot = Some outcome })
-        (pace.answered x 0 s.session.number) n
+    (pace.answered x 0 s.session.number) n
     × pace.Writes w x 0 now (pace.answered x 0 s.session.number)
 answers now w s x number outcome None is agrees = let here = agrees.writer.here in absurd (cc)
 answers now w s x number outcome (Some k) is agrees =
@@ -326,8 +338,12 @@ answers now w s x number outcome (Some k) is agrees =
       (
         agrees.0,
         record {
-          core = record { terms = around.core.terms; blocks = around.core.blocks;
-              claims = around.core.claims; store = around.core.store };
+          core = record {
+            terms = around.core.terms;
+            blocks = around.core.blocks;
+            claims = around.core.claims;
+            store = around.core.store;
+          };
           open_one = around.open_one;
           newest = around.newest;
           session = around.session;
@@ -348,8 +364,8 @@ told_there σ s id outcome m here waits =
     ∙ ap (session_told id outcome) here
     ∙ ap (λ (p : model.Phase). Some (in_phase m (phase_told id outcome p))) waits
     ∙ ap (λ (b : Bool). Some
-        (in_phase m (cond b (model.Waits model.TakesThis id (Some outcome))
-            (model.Waits model.TakesThis id None)))) (same_bytes id)
+    (in_phase m (cond b (model.Waits model.TakesThis id (Some outcome))
+    (model.Waits model.TakesThis id None)))) (same_bytes id)
 
 -- a session that waits stands for the one that was told its outcome
 told_stands : (w : Terms) (s : Session) (m : model.Session) (hand : Option world.Job) (id : List ℕ)
@@ -379,28 +395,33 @@ outcome_known : (w : Terms) (s t : System) (x : World) (m : model.Session) (id :
     → ((i : ℕ) → σ.session i ≡ told x.state s.session.number id (outcome_view outcome) i)
     → OnlyStoring σ.claim None
     → AgreesBy w (record s { shard = t.shard; writer = writer.Answering number outcome })
-        (pace.writer_at x σ 0 (world.Answering s.session.number)) (Some k)
+    (pace.writer_at x σ 0 (world.Answering s.session.number)) (Some k)
 outcome_known w s t x m id outcome σ k number around stands awaits queue slot same claims store
     newest sessions only = (
-  in_phase m (model.Waits model.TakesThis id (Some (outcome_view outcome))),
-  record {
-    core = record { terms = around.core.terms; blocks = around.core.blocks; claims = claims;
-        store = store };
-    open_one = around.open_one;
-    newest = newest ∙ around.newest;
-    session = sessions s.session.number
-        ∙ told_there x.state s.session.number id
+      in_phase m (model.Waits model.TakesThis id (Some (outcome_view outcome))),
+      record {
+        core = record {
+          terms = around.core.terms;
+          blocks = around.core.blocks;
+          claims = claims;
+          store = store;
+        };
+        open_one = around.open_one;
+        newest = newest ∙ around.newest;
+        session = sessions s.session.number
+            ∙ told_there x.state s.session.number id
             (outcome_view outcome) m around.session awaits.there;
-    others = λ i other. sessions i
-        ∙ put_at-other x.state.session s.session.number
+        others = λ i other. sessions i
+            ∙ put_at-other x.state.session s.session.number
             (session_told id (outcome_view outcome) (x.state.session s.session.number)) i other
-        ∙ around.others i other;
-    place = IsSettled id outcome (record { here = awaits.here; there = refl }) queue
-        (record { here = ap (λ (i : ℕ). writer.Answering i outcome) same; there = refl }) slot only;
-  },
-  told_stands w s.session m (x.work.hand s.session.number) id
-      (outcome_view outcome) awaits.here stands,
-)
+            ∙ around.others i other;
+        place = IsSettled id outcome (record { here = awaits.here; there = refl }) queue
+            (record { here = ap (λ (i : ℕ). writer.Answering i outcome) same; there = refl }) slot
+            only;
+      },
+      told_stands w s.session m (x.work.hand s.session.number) id
+          (outcome_view outcome) awaits.here stands,
+    )
 
 -- the text is being stored for the session
 pub storing_there : (w : Terms) (s : System) (x : World) (number : ℕ) (id : List ℕ) (token : Token)
@@ -419,7 +440,7 @@ pub settles : (now : ℕ) (w : Terms) (s t : System) (x : World) (number : ℕ) 
     → ChangesClaim (Keeps s.shard) (Keeps t.shard) id (after_settle number (token_view token) now)
     → AgreesBy w s x n
     → (x' : World) × AgreesBy w
-        (record s { shard = t.shard; writer = writer.Answering number outcomes.Kept }) x' n
+    (record s { shard = t.shard; writer = writer.Answering number outcomes.Kept }) x' n
     × pace.Writes w x 0 now x'
 settles now w s t x number id token None is changes agrees = let here = agrees.writer.here in
     absurd (cc)
@@ -427,20 +448,20 @@ settles now w s t x number id token (Some k) is changes agrees =
     let around = agrees.1 in
     let found = finished_there number id token around.place is in
     let after : after_settle number (token_view token) now (x.state.claim id)
-        ≡ Stored (token_view token) now =
+    ≡ Stored (token_view token) now =
     ap (after_settle number (token_view token) now) found.claimed
     ∙ ap (λ (b : Bool). cond b (Stored (token_view token) now)
-        (Storing s.session.number (accepted_text found.text) (Whole (token_view token))))
+    (Storing s.session.number (accepted_text found.text) (Whole (token_view token))))
     (eq-eqb s.session.number number (sym found.of_session)) in
     let σ : model.State = accepted_as x.state id s.session.number (accepted_text found.text)
-        (token_view token) now in (
+    (token_view token) now in (
       pace.writer_at x σ 0 (world.Answering s.session.number),
       outcome_known w s t x agrees.0 id outcomes.Kept σ k number around agrees.2 found.awaits
           found.queue_is found.slot_is found.of_session
           (subst (λ (c : Claim). Keeps t.shard (put_id x.state.claim id c)) after
-              (changes x.state.claim around.core.claims))
+          (changes x.state.claim around.core.claims))
           around.core.store refl (λ i. refl)
-              (only_gone x.state.claim id (Stored (token_view token) now) refl found.only),
+          (only_gone x.state.claim id (Stored (token_view token) now) refl found.only),
       pace.Settles id s.session.number σ found.there (record {
         article = accepted_text found.text;
         token = token_view token;
@@ -454,10 +475,10 @@ settles now w s t x number id token (Some k) is changes agrees =
 pub finds_worn : (now : ℕ) (w : Terms) (s t : System) (x : World) (job : Job) (n : Option ℕ)
     → ChangesClaim (Keeps s.shard) (Keeps t.shard) job.id (after_forget job.session)
     → (IsOneBuffer w s.store.blocks → KeepsState s.store x.state → IsShort job.text
-        → Places None w x.state job.text)
+    → Places None w x.state job.text)
     → AgreesBy w (record s { writer = writer.Popped job }) x n
     → (x' : World) × AgreesBy w
-        (record s { shard = t.shard; writer = writer.Answering job.session outcomes.Failed }) x' n
+    (record s { shard = t.shard; writer = writer.Answering job.session outcomes.Failed }) x' n
     × pace.Writes w x 0 now x'
 finds_worn now w s t x job None changes worn agrees = let here = agrees.writer.here in absurd (cc)
 finds_worn now w s t x job (Some k) changes worn agrees =
@@ -467,16 +488,16 @@ finds_worn now w s t x job (Some k) changes worn agrees =
     let after : after_forget job.session (x.state.claim job.id) ≡ Unknown =
     ap (after_forget job.session) found.waits.claimed
     ∙ ap (λ (b : Bool). cond b Unknown (Storing s.session.number (accepted_text job.text) Waiting))
-        (eq-eqb s.session.number job.session (sym found.waits.of_session)) in
+    (eq-eqb s.session.number job.session (sym found.waits.of_session)) in
     let σ : model.State = given_up x.state job.id s.session.number in (
       pace.writer_at x σ 0 (world.Answering s.session.number),
       outcome_known w (record s { writer = writer.Popped job }) t x agrees.0 job.id outcomes.Failed
           σ k job.session around agrees.2 found.awaits found.queue_is found.slot_is
           found.waits.of_session
           (subst (λ (c : Claim). Keeps t.shard (put_id x.state.claim job.id c)) after
-              (changes x.state.claim around.core.claims))
+          (changes x.state.claim around.core.claims))
           around.core.store refl (λ i. refl)
-              (only_gone x.state.claim job.id Unknown refl found.only),
+          (only_gone x.state.claim job.id Unknown refl found.only),
       pace.FindsWorn job.id s.session.number σ found.there (record {
         worn = record {
           article = accepted_text job.text;
@@ -494,15 +515,15 @@ finds_worn now w s t x job (Some k) changes worn agrees =
 pub stores : (now : ℕ) (w : Terms) (s t : System) (x : World) (job : Job) (token : Token)
     (n : Option ℕ)
     → (IsOneBuffer w s.store.blocks → KeepsState s.store x.state → IsShort job.text
-        → Places (Some token) w x.state job.text)
+    → Places (Some token) w x.state job.text)
     → t.store.blocks ≡ s.store.blocks
     → (IsShort job.text → t.store.sizes.items
-        ≡ s.store.sizes.items ++ places.size_of (length job.text) ∷ [])
+    ≡ s.store.sizes.items ++ places.size_of (length job.text) ∷ [])
     → map kept_view t.store.kept.items
     ≡ map kept_view s.store.kept.items ++ (token_view token, job.text) ∷ []
     → AgreesBy w (record s { writer = writer.Popped job }) x n
     → (x' : World) × AgreesBy w
-        (record s { store = t.store; writer = writer.Finished job.session job.id token }) x' n
+    (record s { store = t.store; writer = writer.Finished job.session job.id token }) x' n
     × pace.Writes w x 0 now x'
 stores now w s t x job token None fits blocks sizes kept agrees = let here = agrees.writer.here in
     absurd (cc)
@@ -516,10 +537,10 @@ stores now w s t x job token (Some k) fits blocks sizes kept agrees =
     let begun : model.State = begun_at x.state job.id number article placed.0 in
     let σ : model.State = stored_under begun job.id number article under in
     let begun_here : begun.claim job.id ≡ Storing number article (Begun under) =
-        put_id-same x.state.claim job.id (Storing number article (Begun under)) in
+    put_id-same x.state.claim job.id (Storing number article (Begun under)) in
     let whole_here : σ.claim job.id ≡ Storing number article (Whole (token_view token)) =
     put_id-same begun.claim job.id (Storing number article (Whole under))
-        ∙ ap (λ (u : tokens.Token). Storing number article (Whole u)) (sym placed.3) in (
+    ∙ ap (λ (u : tokens.Token). Storing number article (Whole u)) (sym placed.3) in (
       pace.writer_at x σ 0 (world.Finished job.id),
       (
         agrees.0,
@@ -529,7 +550,7 @@ stores now w s t x job token (Some k) fits blocks sizes kept agrees =
             blocks = blocks ∙ around.core.blocks;
             claims = keeps_put s.shard begun.claim job.id (Storing number article (Whole under))
                 (keeps_put s.shard x.state.claim job.id (Storing number article (Begun under))
-                    around.core.claims (ap mark_of found.waits.claimed))
+                around.core.claims (ap mark_of found.waits.claimed))
                 (ap mark_of begun_here);
             store = record {
               sizes = ap (λ (all : List ℕ). all ++ places.size_of (length job.text) ∷ [])
@@ -537,9 +558,11 @@ stores now w s t x job token (Some k) fits blocks sizes kept agrees =
               texts = map-append kept_text x.state.kept
                   (record { token = under; id = job.id; text = job.text } ∷ [])
                   ∙ ap (λ (all : List (tokens.Token × List ℕ)). all ++ (under, job.text) ∷ [])
-                      around.core.store.texts
-                  ∙ ap (λ (u : tokens.Token). map kept_view s.store.kept.items ++ (u,
-                      job.text) ∷ []) (sym placed.3)
+                  around.core.store.texts
+                  ∙ ap (λ (u : tokens.Token). map kept_view s.store.kept.items ++ (
+                    u,
+                    job.text,
+                  ) ∷ []) (sym placed.3)
                   ∙ sym kept;
             };
           };
@@ -548,21 +571,37 @@ stores now w s t x job token (Some k) fits blocks sizes kept agrees =
           session = around.session;
           others = around.others;
           place = IsWhole job.id job.text token found.awaits whole_here found.queue_is
-              (record { here = ap (λ (i : ℕ). writer.Finished i job.id token)
-                  found.waits.of_session; there = refl }) found.slot_is
+              (record {
+                here = ap (λ (i : ℕ). writer.Finished i job.id token)
+                    found.waits.of_session;
+                there = refl;
+              }) found.slot_is
               (only_put begun.claim (Some job.id) job.id (Storing number article (Whole under))
-                  (λ h. ap is_storing begun_here)
+              (λ h. ap is_storing begun_here)
               (only_put x.state.claim (Some job.id) job.id (Storing number article (Begun under))
-                  (λ h. ap is_storing found.waits.claimed) found.only));
+              (λ h. ap is_storing found.waits.claimed) found.only));
         },
         agrees.2,
       ),
       pace.StoresWhole job.id begun σ found.there
-          (record { session = number; article = article; place = placed.0;
-              waiting = found.waits.claimed; of_group = refl; next = placed.1; in_time = placed.2;
-              after = refl })
-          (record { session = number; article = article; token = under; begun = begun_here;
-              of_group = refl; after = refl })
+          (record {
+            session = number;
+            article = article;
+            place = placed.0;
+            waiting = found.waits.claimed;
+            of_group = refl;
+            next = placed.1;
+            in_time = placed.2;
+            after = refl;
+          })
+          (record {
+            session = number;
+            article = article;
+            token = under;
+            begun = begun_here;
+            of_group = refl;
+            after = refl;
+          })
           refl,
     )
 
@@ -576,8 +615,11 @@ with_room w s t x None blocks sizes kept agrees = record {
     terms = agrees.core.terms;
     blocks = blocks ∙ agrees.core.blocks;
     claims = agrees.core.claims;
-    store = record { sizes = agrees.core.store.sizes ∙ sym sizes; texts = agrees.core.store.texts
-        ∙ ap (map kept_view) (sym kept) };
+    store = record {
+      sizes = agrees.core.store.sizes ∙ sym sizes;
+      texts = agrees.core.store.texts
+          ∙ ap (map kept_view) (sym kept);
+    };
   };
   newest = agrees.newest;
   sessions = agrees.sessions;
@@ -596,8 +638,10 @@ with_room w s t x (Some k) blocks sizes kept agrees =
           terms = around.core.terms;
           blocks = blocks ∙ around.core.blocks;
           claims = around.core.claims;
-          store = record { sizes = around.core.store.sizes ∙ sym sizes;
-              texts = around.core.store.texts ∙ ap (map kept_view) (sym kept) };
+          store = record {
+            sizes = around.core.store.sizes ∙ sym sizes;
+            texts = around.core.store.texts ∙ ap (map kept_view) (sym kept);
+          };
         };
         open_one = around.open_one;
         newest = around.newest;
@@ -614,7 +658,7 @@ write_passes : (w : Terms) (σ : model.State) (now blocks : ℕ) → IsOneBuffer
     → refusal w σ (run.Write 0 now) ≡ None
 write_passes w σ now blocks one early =
     ap (λ (groups : List places.Group). cond (ltb 0 (length groups))
-        (cond (leb now last_moment) None (Some world.BadMoment)) (Some world.NoGroup)) one.groups
+    (cond (leb now last_moment) None (Some world.BadMoment)) (Some world.NoGroup)) one.groups
     ∙ ap (λ (b : Bool). cond b None (Some world.BadMoment)) (le-leb now last_moment early)
 
 -- a Write past the last moment is refused
@@ -623,7 +667,7 @@ write_late : (w : Terms) (σ : model.State) (now blocks : ℕ) → IsOneBuffer w
     → refusal w σ (run.Write 0 now) ≡ Some world.BadMoment
 write_late w σ now blocks one late =
     ap (λ (groups : List places.Group). cond (ltb 0 (length groups))
-        (cond (leb now last_moment) None (Some world.BadMoment)) (Some world.NoGroup)) one.groups
+    (cond (leb now last_moment) None (Some world.BadMoment)) (Some world.NoGroup)) one.groups
     ∙ ap (λ (b : Bool). cond b None (Some world.BadMoment)) (lt-leb now last_moment late)
 
 -- a Write of another group is refused
@@ -632,9 +676,9 @@ write_elsewhere : (w : Terms) (σ : model.State) (group now blocks : ℕ) → Is
     → refusal w σ (run.Write group now) ≡ Some world.NoGroup
 write_elsewhere w σ group now blocks one other =
     ap (λ (groups : List places.Group). cond (ltb group (length groups))
-        (cond (leb now last_moment) None (Some world.BadMoment)) (Some world.NoGroup)) one.groups
+    (cond (leb now last_moment) None (Some world.BadMoment)) (Some world.NoGroup)) one.groups
     ∙ ap (λ (b : Bool). cond b (cond (leb now last_moment) None (Some world.BadMoment))
-        (Some world.NoGroup)) (le-ltb group 1 (omega arith))
+    (Some world.NoGroup)) (le-ltb group 1 (omega arith))
 
 -- a Write that isn't refused does the writer's next step, or wants memory
 written : (w : Terms) (x x' : World) (now blocks : ℕ) (output : Output) → IsOneBuffer w blocks
@@ -654,26 +698,35 @@ pub writes_step : (group now : ℕ) (old new : System) (output : Output) → gro
 writes_step group now old new output zeroth early writes =
     subst (λ (g : ℕ). Steps (run.Write g now) old output new) (sym zeroth)
     (λ w x agrees.
-    let got = writes w x agrees in
-    (got.0, got.1, written w x got.0 now _ output
-        (one_buffer w old x (core_by w old x old.newest agrees)) early got.2))
+    let got = writes w x agrees in (
+      got.0,
+      got.1,
+      written w x got.0 now _ output
+          (one_buffer w old x (core_by w old x old.newest agrees)) early got.2,
+    ))
 
 -- a Write of another group is refused
 pub write_of_no_group : (group now : ℕ) (system : System) → group ≢ 0
     → Steps (run.Write group now) system (outputs.Refused core.NoGroup) system
 write_of_no_group group now system other =
-    λ w x agrees.
-    (x, agrees, IsRefused world.NoGroup
-        (write_elsewhere w x.state group now _
-            (one_buffer w system x (core_by w system x system.newest agrees)) other) refl refl)
+    λ w x agrees. (
+      x,
+      agrees,
+      IsRefused world.NoGroup
+          (write_elsewhere w x.state group now _
+          (one_buffer w system x (core_by w system x system.newest agrees)) other) refl refl,
+    )
 
 -- a Write past the last moment is refused
 pub write_too_late : (group now : ℕ) (system : System) → group ≡ 0 → last_moment < now
     → Steps (run.Write group now) system (outputs.Refused core.BadMoment) system
 write_too_late group now system zeroth late =
     subst (λ (g : ℕ). Steps (run.Write g now) system (outputs.Refused core.BadMoment) system)
-        (sym zeroth)
-    (λ w x agrees.
-    (x, agrees, IsRefused world.BadMoment
-        (write_late w x.state now _
-            (one_buffer w system x (core_by w system x system.newest agrees)) late) refl refl))
+    (sym zeroth)
+    (λ w x agrees. (
+      x,
+      agrees,
+      IsRefused world.BadMoment
+          (write_late w x.state now _
+          (one_buffer w system x (core_by w system x system.newest agrees)) late) refl refl,
+    ))

@@ -7,4 +7,4 @@ use Rattle.first_core.proofs.store.find_text.Given as goal
 abbrev pub invariant-loop-entry : goal.invariant-loop-entry
 invariant-loop-entry l =
     text_under (token_view l.token) (map kept_view (drop l.entry-index l.kept))
-        ≡ text_under (token_view l.token) (map kept_view l.kept)
+    ≡ text_under (token_view l.token) (map kept_view l.kept)

@@ -11,5 +11,5 @@ pub returns-in_ok-reply_room-in-Holds-clause-plan :
     goal.returns-in_ok-reply_room-in-Holds-clause-plan
 returns-in_ok-reply_room-in-Holds-clause-plan c = λ m hand now stands.
     held_planned (terms_of c.args.config.now) c.args.self.now m hand now c.in-Holds.id
-        c.in-Holds.field-1 c.in_ok-copied-in-Holds.field-0 c.in_ok-reply_room-in-Holds.field-0
-        stands c.in-Holds.is c.in_ok-copied-in-Holds.ensures c.in_ok-reply_room-in-Holds.ensures
+    c.in-Holds.field-1 c.in_ok-copied-in-Holds.field-0 c.in_ok-reply_room-in-Holds.field-0
+    stands c.in-Holds.is c.in_ok-copied-in-Holds.ensures c.in_ok-reply_room-in-Holds.ensures

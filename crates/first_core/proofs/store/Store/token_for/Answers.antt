@@ -9,17 +9,17 @@ returns-in-Ok c = λ w σ text one keeps same short.
     let size : c.narrow.result ≡ terms.size_of (length text) =
     c.narrow.ensures (omega arith) ∙ c.size_of.ensures ∙ ap terms.size_of (sym same) in
     let head : head_view c.head_after-head.result
-        ≡ head_of c.args.self.now.blocks c.args.self.now.sizes.items =
+    ≡ head_of c.args.self.now.blocks c.args.self.now.sizes.items =
     c.head_after-head.ensures.head ∙ ap (head_of c.args.self.now.blocks) c.deref.ensures.value in
     let at : head_view c.place_in_runs-at.result
-        ≡ terms.place_in_runs (room_of c.args.self.now.blocks)
-            (head_of c.args.self.now.blocks c.args.self.now.sizes.items)
-        (terms.size_of (length text)) =
+    ≡ terms.place_in_runs (room_of c.args.self.now.blocks)
+    (head_of c.args.self.now.blocks c.args.self.now.sizes.items)
+    (terms.size_of (length text)) =
     c.place_in_runs-at.ensures
     ∙ ap (λ (h : terms.Head). terms.place_in_runs
-        (room_of c.args.self.now.blocks) h c.narrow.result) head
+    (room_of c.args.self.now.blocks) h c.narrow.result) head
     ∙ ap (λ (n : ℕ). terms.place_in_runs (room_of c.args.self.now.blocks)
-        (head_of c.args.self.now.blocks c.args.self.now.sizes.items) n) size in
+    (head_of c.args.self.now.blocks c.args.self.now.sizes.items) n) size in
     let run = ap (λ (h : terms.Head). h.run) at in (
       place_at c.args.self.now.blocks c.args.self.now.sizes.items (terms.size_of (length text)),
       place_for-one w σ text _ _ one keeps.sizes,
@@ -34,17 +34,17 @@ returns-in-Err c = λ w σ text one keeps same short.
     let size : c.narrow.result ≡ terms.size_of (length text) =
     c.narrow.ensures (omega arith) ∙ c.size_of.ensures ∙ ap terms.size_of (sym same) in
     let head : head_view c.head_after-head.result
-        ≡ head_of c.args.self.now.blocks c.args.self.now.sizes.items =
+    ≡ head_of c.args.self.now.blocks c.args.self.now.sizes.items =
     c.head_after-head.ensures.head ∙ ap (head_of c.args.self.now.blocks) c.deref.ensures.value in
     let at : head_view c.place_in_runs-at.result
-        ≡ terms.place_in_runs (room_of c.args.self.now.blocks)
-            (head_of c.args.self.now.blocks c.args.self.now.sizes.items)
-        (terms.size_of (length text)) =
+    ≡ terms.place_in_runs (room_of c.args.self.now.blocks)
+    (head_of c.args.self.now.blocks c.args.self.now.sizes.items)
+    (terms.size_of (length text)) =
     c.place_in_runs-at.ensures
     ∙ ap (λ (h : terms.Head). terms.place_in_runs
-        (room_of c.args.self.now.blocks) h c.narrow.result) head
+    (room_of c.args.self.now.blocks) h c.narrow.result) head
     ∙ ap (λ (n : ℕ). terms.place_in_runs (room_of c.args.self.now.blocks)
-        (head_of c.args.self.now.blocks c.args.self.now.sizes.items) n) size in
+    (head_of c.args.self.now.blocks c.args.self.now.sizes.items) n) size in
     let run = ap (λ (h : terms.Head). h.run) at in (
       place_at c.args.self.now.blocks c.args.self.now.sizes.items (terms.size_of (length text)),
       place_for-one w σ text _ _ one keeps.sizes,

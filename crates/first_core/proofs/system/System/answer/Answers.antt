@@ -25,18 +25,18 @@ returns c = λ now w x agrees.
     elim c.match-replace.branch [
       | in-Answering b ↦
           let got = answers now w c.args.self.now x b.in-Answering.field-0 b.in-Answering.outcome
-              c.args.self.now.newest (sym c.replace.ensures.value ∙ b.in-Answering.is) agrees in
+          c.args.self.now.newest (sym c.replace.ensures.value ∙ b.in-Answering.is) agrees in
           subst (λ (s : System). (x' : World) × Agrees w s x' × pace.Writes w x 0 now x')
-              (sym (b.self-is ∙ ap (λ (v : Writer). record c.args.self.now
-                  { writer = v; slot = Some b.in-Answering.outcome }) c.replace.ensures.after))
+          (sym (b.self-is ∙ ap (λ (v : Writer). record c.args.self.now
+          { writer = v; slot = Some b.in-Answering.outcome }) c.replace.ensures.after))
           (pace.answered x 0 c.args.self.now.session.number, got.0, got.1)
       | in_default+in-Popped-1 b ↦ absurd
           (no_other c.args.self.now.writer c.replace.result c.requires c.replace.ensures.value
-              b.in_default.not-Answering)
+          b.in_default.not-Answering)
       | in_default+in-Finished-1 b ↦ absurd
           (no_other c.args.self.now.writer c.replace.result c.requires c.replace.ensures.value
-              b.in_default.not-Answering)
+          b.in_default.not-Answering)
       | in_default+in-Idle-1 b ↦ absurd
           (no_other c.args.self.now.writer c.replace.result c.requires c.replace.ensures.value
-              b.in_default.not-Answering)
+          b.in_default.not-Answering)
     ]

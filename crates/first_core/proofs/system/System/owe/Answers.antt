@@ -15,6 +15,6 @@ returns c = λ w x m around plan.
       moved w c.args.self.now x m c.args.self.now.shard x.state.claim c.absorb_owe.new.self _ around
           c.requires plan.2.empty around.core.claims
           c.absorb_owe.ensures.number (owes_none w c.absorb_owe.new.self
-              (past c.args.self.now.session m) c.args.id stands) stands (λ only. only),
+          (past c.args.self.now.session m) c.args.id stands) stands (λ only. only),
       sym (ap (done w x c.args.self.now.session.number m c.args.now) plan.1),
     )

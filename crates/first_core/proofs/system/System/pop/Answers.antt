@@ -48,8 +48,8 @@ returns c = λ now w x agrees.
       | in_default b ↦
           let none = no_items c.args.self.now.queue b.in_default.ensures.cases.0 in
           let got = finds_none now w c.args.self.now
-              (record c.args.self.now { queue = c.pop_front.new.self }) x c.args.self.now.newest
-              c.requires none (sym b.in_default.ensures.items ∙ none) agrees in
+          (record c.args.self.now { queue = c.pop_front.new.self }) x c.args.self.now.newest
+          c.requires none (sym b.in_default.ensures.items ∙ none) agrees in
           subst (λ (s : System). (x' : World) × Agrees w s x' × pace.Writes w x 0 now x')
-              (sym b.self-is) (x, got.0, got.1)
+          (sym b.self-is) (x, got.0, got.1)
     ]

@@ -16,9 +16,9 @@ pub loop-event-preserved : goal.loop-event-preserved
 loop-event-preserved c = record {
   so_far = ran_more c.args.self.now c.loop-event.self c.step-output.new.self c.args.events.now
       c.loop-event.outputs.items c.push_reserved.new.self.items c.loop-event.event-index
-          c.event-item.result c.step-output.result
+      c.event-item.result c.step-output.result
       c.loop-event-test.true c.event-item.is c.push_reserved.ensures.items
-          c.loop-event.invariant.so_far c.step-output.ensures;
+      c.loop-event.invariant.so_far c.step-output.ensures;
   room = omega (arith, c.loop-event.invariant.room, c.push_reserved.ensures.capacity);
   each = omega (arith, c.loop-event.invariant.each, c.push_reserved.ensures.len);
 }
@@ -26,5 +26,5 @@ loop-event-preserved c = record {
 pub returns-clause-run : goal.returns-clause-run
 returns-clause-run c =
     ran_all c.args.self.now c.loop-event.self c.args.events.now
-        (map output_view c.loop-event.outputs.items)
+    (map output_view c.loop-event.outputs.items)
     c.loop-event.event-index c.loop-event-test.false c.loop-event.invariant.so_far

@@ -34,29 +34,31 @@ returns c = λ w x agrees.
     elim c.match-replace.branch [
       | in-Finished b ↦
           let held : c.args.self.now.writer ≡ writer.Finished b.in-Finished.session b.in-Finished.id
-              b.in-Finished.token = sym c.replace.ensures.value ∙ b.in-Finished.is in
+          b.in-Finished.token = sym c.replace.ensures.value ∙ b.in-Finished.is in
           let storing = b.settle.ensures.answer x.state.claim
-              (core_by w c.args.self.now x c.args.self.now.newest agrees).claims
-              ∙ storing_there w c.args.self.now x b.in-Finished.session b.in-Finished.id
-                  b.in-Finished.token c.args.self.now.newest held agrees in
+          (core_by w c.args.self.now x c.args.self.now.newest agrees).claims
+          ∙ storing_there w c.args.self.now x b.in-Finished.session b.in-Finished.id
+          b.in-Finished.token c.args.self.now.newest held agrees in
           let kept : b.match-settle.outcome ≡ outcomes.Kept = elim b.match-settle.branch [
             | in-Some d ↦ d.outcome-is
             | in-None d ↦ absurd (none_is_none _ d.in-None.is storing)
           ] in
           subst (λ (s : System). (x' : World) × Agrees w s x' × pace.Writes w x 0 c.args.now x')
-          (sym (b.self-is ∙ ap (λ (o : Outcome). record c.args.self.now { shard = b.settle.new.self;
-              writer = writer.Answering b.in-Finished.session o }) kept))
+          (sym (b.self-is ∙ ap (λ (o : Outcome). record c.args.self.now {
+            shard = b.settle.new.self;
+            writer = writer.Answering b.in-Finished.session o;
+          }) kept))
           (settles c.args.now w c.args.self.now
-              (record c.args.self.now { shard = b.settle.new.self }) x b.in-Finished.session
-              b.in-Finished.id b.in-Finished.token c.args.self.now.newest held
-              b.settle.ensures.claims agrees)
+          (record c.args.self.now { shard = b.settle.new.self }) x b.in-Finished.session
+          b.in-Finished.id b.in-Finished.token c.args.self.now.newest held
+          b.settle.ensures.claims agrees)
       | in_default+in-Popped-1 b ↦ absurd
           (no_other c.args.self.now.writer c.replace.result c.requires c.replace.ensures.value
-              b.in_default.not-Finished)
+          b.in_default.not-Finished)
       | in_default+in-Finished-1 b ↦ absurd
           (no_other c.args.self.now.writer c.replace.result c.requires c.replace.ensures.value
-              b.in_default.not-Finished)
+          b.in_default.not-Finished)
       | in_default+in-Idle-1 b ↦ absurd
           (no_other c.args.self.now.writer c.replace.result c.requires c.replace.ensures.value
-              b.in_default.not-Finished)
+          b.in_default.not-Finished)
     ]
