@@ -4,6 +4,8 @@ use Rattle.std.specs.Prelude.{IsTrue, IsFalse}
 use Rattle.std.specs.List.{list_any}
 use Rattle.std.specs.Str.{byte}
 use Rattle.news_terms.specs.Lines.{crlf}
+use Rattle.news_terms.specs.Path.{updated_article}
+use Rattle.news_terms.proofs.UpdatedArticles.{updated_is_article}
 use Rattle.news_terms.proofs.ArticleFaults.{laid_out_line}
 use Rattle.news_terms.specs.MessageId.{id_fault}
 use Rattle.news_terms.proofs.IdFaults.{id_fault-none}
@@ -13,14 +15,14 @@ use Rattle.news_terms.specs.Article.{IsArticleText, StandsRightly, has_nul}
 use Rattle.news_terms.specs.Article.{contents_of, name_of, article_text, worked_article, is_empty}
 use Rattle.news_terms.specs.Article.{trimmed, is_paired, message_id}
 
--- the article A(i, 1) is one, by the tests that its id has to pass
-pub worked_by_tests : (i : ℕ) → IsFalse (has_nul (article_text (worked_article i 1)))
-    → IsTrue (is_paired (article_text (worked_article i 1)))
+-- the article A(i, k) is one, by the tests that its id has to pass
+pub worked_by_tests : (i k : ℕ) → IsFalse (has_nul (article_text (worked_article i k)))
+    → IsTrue (is_paired (article_text (worked_article i k)))
     → IsTrue (is_folded (codes " <" ++ i ∷ codes "@x>"))
     → IsFalse (is_empty (trimmed (codes " <" ++ i ∷ codes "@x>")))
-    → id_fault (message_id (worked_article i 1).fields) ≡ None
-    → IsArticleText (article_text (worked_article i 1)) (worked_article i 1)
-worked_by_tests i nul paired folded filled id = record {
+    → id_fault (message_id (worked_article i k).fields) ≡ None
+    → IsArticleText (article_text (worked_article i k)) (worked_article i k)
+worked_by_tests i k nul paired folded filled id = record {
   laid_out = record {
     without_nul = nul;
     paired = paired;
@@ -45,13 +47,13 @@ worked_by_tests i nul paired folded filled id = record {
   fields = record {
     often = often;
     filled = all_filled;
-    id = (id_fault-none (message_id (worked_article i 1).fields)).0 id;
+    id = (id_fault-none (message_id (worked_article i k).fields)).0 id;
     groups = refl;
   };
 }
   where
     often : (name : FieldName)
-        → StandsRightly name (length (contents_of (name_of name) (worked_article i 1).fields))
+        → StandsRightly name (length (contents_of (name_of name) (worked_article i k).fields))
     often Date = refl
     often From = refl
     often MessageId = refl
@@ -62,7 +64,7 @@ worked_by_tests i nul paired folded filled id = record {
 
     all_filled : (name : FieldName)
         → IsFalse (list_any (λ c. is_empty (trimmed c))
-        (contents_of (name_of name) (worked_article i 1).fields))
+        (contents_of (name_of name) (worked_article i k).fields))
     all_filled Date = refl
     all_filled From = refl
     all_filled MessageId = rw filled refl
@@ -72,20 +74,45 @@ worked_by_tests i nul paired folded filled id = record {
     all_filled InjectionDate = refl
 
 -- A(a, 1)
-pub article_a_is : IsArticleText (article_text (worked_article (byte "a") 1)) (worked_article (byte "a") 1)
-article_a_is = worked_by_tests (byte "a") refl refl refl refl refl
+pub article_a_is : IsArticleText (article_text (worked_article (byte "a") 1))
+    (worked_article (byte "a") 1)
+article_a_is = worked_by_tests (byte "a") 1 refl refl refl refl refl
 
 -- A(1, 1)
-pub article_1_is : IsArticleText (article_text (worked_article (byte "1") 1)) (worked_article (byte "1") 1)
-article_1_is = worked_by_tests (byte "1") refl refl refl refl refl
+pub article_1_is : IsArticleText (article_text (worked_article (byte "1") 1))
+    (worked_article (byte "1") 1)
+article_1_is = worked_by_tests (byte "1") 1 refl refl refl refl refl
 
 -- A(2, 1)
-pub article_2_is : IsArticleText (article_text (worked_article (byte "2") 1)) (worked_article (byte "2") 1)
-article_2_is = worked_by_tests (byte "2") refl refl refl refl refl
+pub article_2_is : IsArticleText (article_text (worked_article (byte "2") 1))
+    (worked_article (byte "2") 1)
+article_2_is = worked_by_tests (byte "2") 1 refl refl refl refl refl
 
 -- A(3, 1)
-pub article_3_is : IsArticleText (article_text (worked_article (byte "3") 1)) (worked_article (byte "3") 1)
-article_3_is = worked_by_tests (byte "3") refl refl refl refl refl
+pub article_3_is : IsArticleText (article_text (worked_article (byte "3") 1))
+    (worked_article (byte "3") 1)
+article_3_is = worked_by_tests (byte "3") 1 refl refl refl refl refl
+
+-- A(a, 317) and A(a, 318), which have 480 and 481 octets once their Path is updated
+pub article_317_is : IsArticleText (article_text (worked_article (byte "a") 317))
+    (worked_article (byte "a") 317)
+article_317_is = worked_by_tests (byte "a") 317 refl refl refl refl refl
+
+pub article_318_is : IsArticleText (article_text (worked_article (byte "a") 318))
+    (worked_article (byte "a") 318)
+article_318_is = worked_by_tests (byte "a") 318 refl refl refl refl refl
+
+-- A(a, 1) with its Path updated, as it is stored
+abbrev pub stored_a : Article
+stored_a = updated_article (codes "relay.example") (codes "one.example") (worked_article
+    (byte "a") 1)
+
+-- it is an article too
+pub stored_a_is : IsArticleText (article_text stored_a) stored_a
+stored_a_is =
+    updated_is_article (codes "relay.example") (codes "one.example")
+    (article_text (worked_article (byte "a") 1)) (worked_article
+    (byte "a") 1) refl refl article_a_is
 
 -- two octets are not four
 too_short : (before after : List ℕ) → crlf ≡ before ++ crlf ++ crlf ++ after → ⊥

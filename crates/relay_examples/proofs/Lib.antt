@@ -1,5 +1,6 @@
 mod Articles
 mod Dues
+mod Moments
 mod Playing
 mod Premises
 mod Turning

@@ -12,14 +12,16 @@ use Rattle.relay_model.specs.World.{World, Output, Quiet, Sent, Refuses, Memory,
 use Rattle.relay_model.specs.World.{Expirer, with_session}
 use Rattle.relay_model.specs.World as world
 use Rattle.relay_model.specs.Claims.{Passed}
-use Rattle.relay_model.specs.Run.{reads_front}
+use Rattle.relay_model.specs.Claims.{is_storing}
+use Rattle.relay_model.specs.Run.{reads_front, restarted}
+use Rattle.std.proofs.Common.{le_refl}
 use Rattle.news_terms.specs.Places.{Buffer}
 use Rattle.std.specs.Prelude.{slice_get, length}
 use Rattle.news_terms.specs.Reply.{Greeting, reply_text}
 use Rattle.relay_laws.specs.Calm.{CalmRun}
 use Rattle.relay_laws.proofs.OneAnswer.{one_run}
 use Rattle.relay_laws.proofs.OneWrite.{after_write}
-use Rattle.relay_examples.specs.Answered.{AreAnswered}
+use Rattle.relay_examples.specs.Answered.{AreAnswered, LeadTo}
 use Rattle.relay_examples.proofs.Dues.{Hint, NoHint}
 use Rattle.relay_examples.proofs.Premises.{Premise, Free, Needs, IsMet, With, parted}
 use Rattle.relay_examples.proofs.Turning.{Played, turn_premise, played_turn, turns, turn_calm}
@@ -50,7 +52,7 @@ played_break x s (Some session) = record {
   world = with_session x s (in_phase session Leaving);
 }
 
--- an event that isn't refused; a Restart is never played
+-- an event that isn't refused
 abbrev played_event : Terms → World → Hint → Event → Played
 played_event w x hint (Open s peer) =
     record { output = Sent s (reply_text Greeting); world = opened x s peer }
@@ -61,7 +63,8 @@ played_event w x hint (Write g now) =
 played_event w x hint (Break s) = played_break x s (x.state.session s)
 played_event w x hint (Expire shard now) =
     record { output = Quiet; world = expired w x shard now x.work.expirer }
-played_event w x hint Restart = idle x
+played_event w x hint Restart =
+    record { output = Quiet; world = restarted x x.work.failures }
 
 -- by whether it is refused
 abbrev played_by : Terms → World → Hint → Event → Option Fault → Played
@@ -73,9 +76,9 @@ abbrev played : Terms → World → Hint → Event → Played
 played w x hint event = played_by w x hint event (refusal w x.state event)
 
 -- what has to be known of a Turn of the session that is there
-abbrev turn_of_premise : Terms → (now : ℕ) → Hint → Option Session → Premise
-turn_of_premise w now hint None = Needs ⊥
-turn_of_premise w now hint (Some session) = turn_premise w now hint session
+abbrev turn_of_premise : Terms → World → (now : ℕ) → Hint → Option Session → Premise
+turn_of_premise w x now hint None = Needs ⊥
+turn_of_premise w x now hint (Some session) = turn_premise w x now hint session
 
 -- the session is there
 abbrev there_premise : Option Session → Premise
@@ -86,11 +89,12 @@ there_premise (Some session) = Free
 abbrev event_premise : Terms → World → Hint → Event → Premise
 event_premise w x hint (Open s peer) = Free
 event_premise w x hint (Bytes s piece) = there_premise (x.state.session s)
-event_premise w x hint (Turn s now) = turn_of_premise w now hint (x.state.session s)
+event_premise w x hint (Turn s now) = turn_of_premise w x now hint (x.state.session s)
 event_premise w x hint (Write g now) = write_premise w x (x.work.writer g)
 event_premise w x hint (Break s) = there_premise (x.state.session s)
 event_premise w x hint (Expire shard now) = Free
-event_premise w x hint Restart = Needs ⊥
+event_premise w x hint Restart =
+    Needs ((id : List ℕ) → is_storing (x.state.claim id) ≡ false)
 
 -- by whether it is refused: it isn't for want of memory
 abbrev needs : Terms → World → Hint → Event → Option Fault → Premise
@@ -143,14 +147,15 @@ break_may w x s (Some session) there knows = (session, there, refl, refl)
 
 -- a Turn may go so
 turn_may : (w : Terms) (x : World) (s now : ℕ) (hint : Hint) (session : Option Session)
-    → x.state.session s ≡ session → IsMet (turn_of_premise w now hint session)
+    → x.state.session s ≡ session → IsMet (turn_of_premise w x now hint session)
     → Does w x (Turn s now) (played_turn_of w x s now hint session).output
     (played_turn_of w x s now hint session).world
 turn_may w x s now hint None there knows = absurd knows
 turn_may w x s now hint (Some session) there knows = turns w x s now hint session there knows
 
 -- an event that isn't refused may go so
-event_may : (w : Terms) (x : World) (hint : Hint) (event : Event) → IsMet (event_premise w x hint event)
+event_may : (w : Terms) (x : World) (hint : Hint) (event : Event) → IsMet
+    (event_premise w x hint event)
     → Does w x event (played_event w x hint event).output (played_event w x hint event).world
 event_may w x hint (Open s peer) knows = (refl, refl)
 event_may w x hint (Bytes s piece) knows =
@@ -159,7 +164,8 @@ event_may w x hint (Turn s now) knows = turn_may w x s now hint (x.state.session
 event_may w x hint (Write g now) knows = (refl, writes w x g now (x.work.writer g) refl knows)
 event_may w x hint (Break s) knows = break_may w x s (x.state.session s) refl knows
 event_may w x hint (Expire shard now) knows = (refl, refl)
-event_may w x hint Restart knows = absurd knows
+event_may w x hint Restart knows =
+    runs.IsDone x.work.failures knows (λ buffer. le_refl (x.work.failures buffer)) refl refl
 
 -- a step
 step_may : (w : Terms) (x : World) (hint : Hint) (event : Event) (fault : Option Fault)
@@ -226,7 +232,8 @@ expire_calm w x shard now (world.Reading fronts) =
 expire_calm w x shard now (world.Forgetting fronts left) = refl
 
 -- nor in any event
-event_calm : (w : Terms) (x : World) (hint : Hint) (event : Event) → IsMet (event_premise w x hint event)
+event_calm : (w : Terms) (x : World) (hint : Hint) (event : Event) → IsMet
+    (event_premise w x hint event)
     → (played_event w x hint event).world.work.failures ≡ x.work.failures
 event_calm w x hint (Open s peer) knows = refl
 event_calm w x hint (Bytes s piece) knows = bytes_calm x s piece (x.state.session s)
@@ -278,4 +285,33 @@ are_answered w x hints events outputs knows same none =
       may = may;
       only = λ others y run.
           (one_run w x events others outputs y (world_of w x hints events) run may).0;
+    }
+
+-- the events lead to a world that is such
+pub lead_to : (w : Terms) (x : World) (hints : List Hint) (events : List Event)
+    (such : World → Type 0) → Knows w x hints events
+    → want_none (outputs_of w x hints events) ≡ true → such (world_of w x hints events)
+    → LeadTo w x events such
+lead_to w x hints events such knows none is =
+    let said = outputs_of w x hints events in
+    let after = world_of w x hints events in
+    let may : CalmRun w x events said after = run_may w x hints events knows none in
+    record {
+      outputs = said;
+      after = after;
+      may = may;
+      only = λ others y run. subst such (one_run w x events said others after y may run).1 is;
+    }
+
+-- one event is answered so
+pub answered_so : (w : Terms) (x : World) (event : Event) (output : Output) (y : World)
+    → Step w x event output y → wants_memory output ≡ false
+    → y.work.failures ≡ x.work.failures → AreAnswered w x (event ∷ []) (output ∷ [])
+answered_so w x event output y step none calm =
+    let may : CalmRun w x (event ∷ []) (output ∷ []) y =
+    (y, step, record { memory = not_memory output none; devices = calm }, refl) in
+    record {
+      after = y;
+      may = may;
+      only = λ others z run. (one_run w x (event ∷ []) others (output ∷ []) z y run may).0;
     }

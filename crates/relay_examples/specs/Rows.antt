@@ -126,8 +126,8 @@ by_ihave_replies =
     greeted 1 ∷ Quiet ∷ Sent 1 (codes "335 Send it\r\n") ∷ quiet 8
     ++ Sent 1 (codes "235 Transferred\r\n") ∷ Sent 1 (codes "435 Not wanted\r\n") ∷ []
 
--- an empty block is no article, and one can be too long: they are refused, and their ids remembered;
--- session 2 has offered another id
+-- an empty block is no article, and one can be too long: they are refused, and their ids
+-- remembered; session 2 has offered another id
 abbrev pub refused_block : List Event
 refused_block =
     both_open
@@ -204,3 +204,146 @@ ring_replies =
     ∷ Sent 2 (codes "290 Queue follows\r\n1\r\n2 @01000000000000000001000000A4@\r\n"
     ++ codes "3 @01000000000000000002000000A4@\r\n.\r\n")
     ∷ Sent 2 (codes "290 Queue follows\r\n0\r\n.\r\n") ∷ []
+
+-- an article of session 1 is being stored when session 2 offers one of its id
+abbrev pub offered_meanwhile : List Event
+offered_meanwhile =
+    both_open
+    ++ Bytes 1 (codes "TAKETHIS <a@x>\r\n" ++ block_of (byte "a"))
+    ∷ Bytes 2 (codes "CHECK <a@x>\r\nIHAVE <a@x>\r\nCHECK <a@x>\r\nCHECK <a@x>\r\n")
+    ∷ turns 1 2 ++ turns 2 2 ++ turns 1 1 ++ writes 4 ++ turns 2 1 ++ writes 1 ++ turns 2 1
+    ++ writes 1 ++ turns 1 1
+
+-- 431 and 436 until it is accepted, then 438
+abbrev pub offered_meanwhile_replies : List Output
+offered_meanwhile_replies =
+    both_greeted ++ quiet 4
+    ++ Sent 2 (codes "431 <a@x>\r\n") ∷ Sent 2 (codes "436 Try again later\r\n") ∷ quiet 5
+    ++ Sent 2 (codes "431 <a@x>\r\n") ∷ Quiet ∷ Sent 2 (codes "438 <a@x>\r\n") ∷ Quiet
+    ∷ Sent 1 (codes "239 <a@x>\r\n") ∷ []
+
+-- an id whose article was refused, and then an article of it
+abbrev pub refused_stays : List Event
+refused_stays =
+    Open 1 0 ∷ Bytes 1 (codes "TAKETHIS <a@x>\r\n.\r\nTAKETHIS <a@x>\r\n" ++ block_of (byte "a"))
+    ∷ turns 1 4
+
+-- 439 both times
+abbrev pub refused_stays_replies : List Output
+refused_stays_replies =
+    greeted 1 ∷ quiet 2
+    ++ Sent 1 (codes "439 <a@x>\r\n") ∷ Quiet ∷ Sent 1 (codes "439 <a@x>\r\n") ∷ []
+
+-- an article whose session breaks off before its job is pushed
+abbrev pub broken_off : List Event
+broken_off =
+    both_open
+    ++ Bytes 1 (codes "TAKETHIS <a@x>\r\n" ++ block_of (byte "a"))
+    ∷ Bytes 2 (codes "STAT <a@x>\r\n")
+    ∷ turns 1 2 ++ Break 1 ∷ turns 1 1 ++ writes 6 ++ turns 1 2 ++ turns 2 2
+
+-- it is stored all the same: 223
+abbrev pub broken_off_replies : List Output
+broken_off_replies =
+    both_greeted ++ quiet 4
+    ++ Ended 1 [] ∷ quiet 8 ++ Refuses NoSession ∷ Quiet ∷ Sent 2 (codes "223 0 <a@x>\r\n") ∷ []
+
+-- a session with two offers leaves: the older offer ends first
+abbrev pub two_offers : List Event
+two_offers =
+    both_open
+    ++ Bytes 1 (codes "CHECK <a@x>\r\nCHECK <b@x>\r\nCHECK <a@x>\r\nQUIT\r\n")
+    ∷ Bytes 2 (codes "CHECK <b@x>\r\nCHECK <a@x>\r\nCHECK <b@x>\r\n")
+    ∷ turns 1 5 ++ turns 2 2 ++ turns 1 1 ++ turns 2 1 ++ turns 1 2
+
+-- 431 of the newer one, 238 of the older; then 238 of both
+abbrev pub two_offers_replies : List Output
+two_offers_replies =
+    both_greeted ++ quiet 2
+    ++ Sent 1 (codes "238 <a@x>\r\n") ∷ Sent 1 (codes "238 <b@x>\r\n")
+    ∷ Sent 1 (codes "238 <a@x>\r\n") ∷ Ended 1 (codes "205 Bye\r\n") ∷ Quiet
+    ∷ Sent 2 (codes "431 <b@x>\r\n") ∷ Sent 2 (codes "238 <a@x>\r\n") ∷ Quiet
+    ∷ Sent 2 (codes "238 <b@x>\r\n") ∷ Quiet ∷ Refuses NoSession ∷ []
+
+-- an article that is held goes with its session
+abbrev pub held_and_broken : List Event
+held_and_broken =
+    both_open
+    ++ Bytes 1 (codes "TAKETHIS <a@x>\r\n" ++ block_of (byte "a"))
+    ∷ Bytes 2 (codes "TAKETHIS <a@x>\r\n" ++ block_of (byte "a"))
+    ∷ turns 2 2 ++ turns 1 2 ++ Break 1 ∷ turns 1 2 ++ turns 2 1 ++ writes 6 ++ turns 2 1
+
+-- nothing more of it
+abbrev pub held_and_broken_replies : List Output
+held_and_broken_replies =
+    both_greeted ++ quiet 6 ++ Ended 1 [] ∷ Quiet ∷ Refuses NoSession ∷ quiet 7
+    ++ Sent 2 (codes "239 <a@x>\r\n") ∷ []
+
+-- parts of an article that session 1 sent, and the moment
+abbrev pub parts : List Event
+parts =
+    Open 1 0 ∷ Bytes 1 (codes "TAKETHIS <a@x>\r\n" ++ block_of (byte "a"))
+    ∷ Bytes 1 (codes "ARTICLE <a@x>\r\nHEAD <a@x>\r\nBODY <a@x>\r\nOVER <a@x>\r\nDATE\r\n")
+    ∷ turns 1 3 ++ writes 6 ++ turns 1 10
+
+-- the header of A(a, 1), as session 1 sent it and with its Path updated
+abbrev pub header_a : List ℕ
+header_a =
+    codes "Path: relay.example!!one.example!not-for-mail\r\nFrom: a@x.example\r\n"
+    ++ codes "Newsgroups: misc.test\r\nSubject: t\r\nMessage-ID: <a@x>\r\n"
+    ++ codes "Date: Fri, 01 Jan 2021 00:00:00 +0000\r\n"
+
+-- 220, 221, 222 and 224, each with its octets, and 111
+abbrev pub parts_replies : List Output
+parts_replies =
+    greeted 1 ∷ quiet 11 ++ Sent 1 (codes "239 <a@x>\r\n") ∷ Quiet
+    ∷ Sent 1 (codes "220 0 <a@x>\r\n" ++ header_a ++ codes "\r\nx\r\n.\r\n") ∷ Quiet
+    ∷ Sent 1 (codes "221 0 <a@x>\r\n" ++ header_a ++ codes ".\r\n") ∷ Quiet
+    ∷ Sent 1 (codes "222 0 <a@x>\r\nx\r\n.\r\n") ∷ Quiet
+    ∷ Sent 1 (codes "224 Overview follows\r\n0\tt\ta@x.example\t"
+    ++ codes "Fri, 01 Jan 2021 00:00:00 +0000\t<a@x>\t\t164\t1\r\n.\r\n")
+    ∷ Sent 1 (codes "111 20210101000000\r\n") ∷ []
+
+-- an article from the second peer, whose feed may have none of its own, and whose Path it isn't at
+-- the front of
+abbrev pub from_second : List Event
+from_second =
+    Open 2 1 ∷ Bytes 2 (codes "TAKETHIS <a@x>\r\n" ++ block_of (byte "a"))
+    ∷ Bytes 2 (codes "XTAKE 5\r\nARTICLE <a@x>\r\n")
+    ∷ turns 2 3 ++ writes 6 ++ turns 2 4
+
+-- an empty queue, and the mismatch in the Path
+abbrev pub from_second_replies : List Output
+from_second_replies =
+    greeted 2 ∷ quiet 11 ++ Sent 2 (codes "239 <a@x>\r\n")
+    ∷ Sent 2 (codes "290 Queue follows\r\n0\r\n.\r\n") ∷ Quiet
+    ∷ Sent 2 (codes "220 0 <a@x>\r\n"
+    ++ codes "Path: relay.example!.MISMATCH.two.example!one.example!not-for-mail\r\n"
+    ++ codes "From: a@x.example\r\nNewsgroups: misc.test\r\nSubject: t\r\n"
+    ++ codes "Message-ID: <a@x>\r\nDate: Fri, 01 Jan 2021 00:00:00 +0000\r\n\r\nx\r\n.\r\n") ∷ []
+
+-- the same where the feed is of the first peer, which is in the Path
+abbrev pub for_first : List Event
+for_first =
+    both_open ++ Bytes 2 (codes "TAKETHIS <a@x>\r\n" ++ block_of (byte "a"))
+    ∷ Bytes 1 (codes "XTAKE 5\r\n") ∷ turns 2 3 ++ writes 6 ++ turns 2 1 ++ turns 1 1
+
+-- an empty queue
+abbrev pub for_first_replies : List Output
+for_first_replies =
+    both_greeted ++ quiet 11 ++ Sent 2 (codes "239 <a@x>\r\n")
+    ∷ Sent 1 (codes "290 Queue follows\r\n0\r\n.\r\n") ∷ []
+
+-- one article
+abbrev pub one_article : (k : ℕ) → List Event
+one_article k =
+    Open 1 0 ∷ Bytes 1 (codes "TAKETHIS <a@x>\r\n" ++ article_text (worked_article (byte "a") k))
+    ∷ Bytes 1 (codes ".\r\n") ∷ turns 1 2
+
+-- 439
+abbrev pub one_refused : List Output
+one_refused = greeted 1 ∷ quiet 3 ++ Sent 1 (codes "439 <a@x>\r\n") ∷ []
+
+-- nothing yet: it is being stored
+abbrev pub one_stored : List Output
+one_stored = greeted 1 ∷ quiet 4

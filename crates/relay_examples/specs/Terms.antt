@@ -59,3 +59,20 @@ k1 =
       feeds = feed_of_second ∷ [];
       second_read = second_read;
     }
+
+-- the same with a feed of the first peer
+abbrev pub feeding_first : Terms
+feeding_first = record k1 { feeds = record feed_of_second { peer = 0 } ∷ [] }
+
+-- the same for the first peer's relay, which finds itself in the Path
+abbrev pub own_is_first : Terms
+own_is_first = record k1 { own = codes "one.example" }
+
+-- the same with a buffer of one block, in which 480 octets have room
+abbrev pub one_block : Terms
+one_block =
+    record k1 {
+      max_article = 1000;
+      buffers = record buffer_a { blocks = 1 } ∷ [];
+      groups = record group_g { buffers = record buffer_a { blocks = 1 } ∷ [] } ∷ [];
+    }

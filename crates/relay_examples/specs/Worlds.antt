@@ -6,7 +6,8 @@ use Rattle.news_terms.specs.Token.{Token}
 use Rattle.relay_model.specs.Claims.{Accepted, Claim, Unknown, Offered, Storing, Stored, Refused}
 use Rattle.relay_model.specs.Claims.{Stage, Waiting, Begun}
 use Rattle.relay_model.specs.Claims as claims
-use Rattle.relay_model.specs.State.{State, Session, Job, Ready, Waits, Fetches, OfId, TakesThis, Has}
+use Rattle.relay_model.specs.State.{State, Session, Job, Ready, Waits, Fetches, OfId, TakesThis}
+use Rattle.relay_model.specs.State.{Has}
 use Rattle.relay_model.specs.State.{put_id, put_at, empty_state}
 use Rattle.relay_model.specs.Terms.{Terms}
 use Rattle.relay_model.specs.World.{World, Idle, Writing, empty_world}

@@ -4,4 +4,5 @@
 #![tactic(auto)]
 
 pub mod rows;
+pub mod states;
 pub mod worlds;

@@ -3,7 +3,7 @@ ghost use Rattle.std.specs.Prelude.{ℕ};
 ghost use Rattle.relay_model.specs.World.{empty_world};
 ghost use Rattle.relay_examples.specs.Answered.{AreAnswered};
 ghost use Rattle.relay_examples.specs.Rows as rows;
-ghost use Rattle.relay_examples.specs.Terms.{k1};
+ghost use Rattle.relay_examples.specs.Terms.{k1, feeding_first, own_is_first, one_block};
 
 /// CHECK, TAKETHIS of an article, STAT: 238, 239, 223.
 pub fn first_script()
@@ -65,4 +65,68 @@ pub fn refused_events()
 pub fn ring()
     ensures { (failures : ℕ → ℕ)
         → AreAnswered k1 (empty_world failures) rows.ring rows.ring_replies }
+{}
+
+/// An id that is offered while an article of it is being stored: 431 and 436, until it is accepted.
+pub fn offered_meanwhile()
+    ensures { (failures : ℕ → ℕ)
+        → AreAnswered k1
+        (empty_world failures) rows.offered_meanwhile rows.offered_meanwhile_replies }
+{}
+
+/// An article whose id is remembered as refused: 439.
+pub fn refused_stays()
+    ensures { (failures : ℕ → ℕ)
+        → AreAnswered k1 (empty_world failures) rows.refused_stays rows.refused_stays_replies }
+{}
+
+/// A session breaks off with a job in its hand: the article is stored all the same.
+pub fn broken_off()
+    ensures { (failures : ℕ → ℕ)
+        → AreAnswered k1 (empty_world failures) rows.broken_off rows.broken_off_replies }
+{}
+
+/// A session that leaves gives its offers up, the oldest first.
+pub fn two_offers()
+    ensures { (failures : ℕ → ℕ)
+        → AreAnswered k1 (empty_world failures) rows.two_offers rows.two_offers_replies }
+{}
+
+/// A session breaks off that holds an article: it is gone.
+pub fn held_and_broken()
+    ensures { (failures : ℕ → ℕ)
+        → AreAnswered k1 (empty_world failures) rows.held_and_broken rows.held_and_broken_replies }
+{}
+
+/// ARTICLE, HEAD, BODY, OVER and DATE, each with its octets.
+pub fn parts()
+    ensures { (failures : ℕ → ℕ)
+        → AreAnswered k1 (empty_world failures) rows.parts rows.parts_replies }
+{}
+
+/// An article of the peer whose feed it is: the feed has none of it, and the Path says where it
+/// came from.
+pub fn from_second()
+    ensures { (failures : ℕ → ℕ)
+        → AreAnswered k1 (empty_world failures) rows.from_second rows.from_second_replies }
+{}
+
+/// A feed of a peer that is in the Path gains nothing.
+pub fn for_first()
+    ensures { (failures : ℕ → ℕ)
+        → AreAnswered feeding_first (empty_world failures) rows.for_first rows.for_first_replies }
+{}
+
+/// An article whose Path has the own identity: 439.
+pub fn looping()
+    ensures { (failures : ℕ → ℕ)
+        → AreAnswered own_is_first (empty_world failures) (rows.one_article 1) rows.one_refused }
+{}
+
+/// The updated text has to fit: 480 octets do, 481 do not, where there is one block.
+pub fn sizes()
+    ensures fits { (failures : ℕ → ℕ)
+        → AreAnswered one_block (empty_world failures) (rows.one_article 317) rows.one_stored }
+    ensures not { (failures : ℕ → ℕ)
+        → AreAnswered one_block (empty_world failures) (rows.one_article 318) rows.one_refused }
 {}

@@ -43,7 +43,8 @@ one_restart w x y z one other (IsBusy id busy e after) (runs.IsDone f idle r e' 
     absurd (true≢false (sym busy ∙ idle id))
 one_restart w x y z one other (runs.IsDone f idle r e after) (IsBusy id busy e' after') c d =
     absurd (true≢false (sym busy ∙ idle id))
-one_restart w x y z one other (runs.IsDone f idle r e after) (runs.IsDone f' idle' r' e' after') c d =
+one_restart w x y z one other (runs.IsDone f idle r e after)
+    (runs.IsDone f' idle' r' e' after') c d =
     let first : f ≡ x.work.failures =
     made_with x y f (ap (λ (v : World). v.work.failures) after) c.devices in
     let second : f' ≡ x.work.failures =

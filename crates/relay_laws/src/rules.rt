@@ -49,11 +49,13 @@ pub fn one_stores()
         → after_take s article claim ≡ claim }
 {}
 
-/// A block has at most one judgement.
+/// A block has at most one judgement, and is never without one.
 pub fn one_judgement()
-    ensures { (w : Terms) (from : ℕ) (id : List ℕ) (now : ℕ) (text : Option (List ℕ))
+    ensures most { (w : Terms) (from : ℕ) (id : List ℕ) (now : ℕ) (text : Option (List ℕ))
         (one other : Result Accepted Reason) → Judges w from id now text one
         → Judges w from id now text other → one ≡ other }
+    ensures least { (w : Terms) (from : ℕ) (id : List ℕ) (now : ℕ) (text : Option (List ℕ))
+        → ¬ ((one : Result Accepted Reason) → ¬ Judges w from id now text one) }
 {}
 
 /// The feeds that an article is permitted for are those that may have it, no other; each of them

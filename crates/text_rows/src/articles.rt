@@ -58,7 +58,7 @@ fn put_fault_of(alloc: Global, text: &mut Vec<u8>, octets: &[u8]) -> Result<(), 
     put_debug(alloc, text, &fault)
 }
 
-/// Writes the content of the first field of this name.
+/// Writes the content of the first field of this name, or the text's fault.
 fn put_field(
     alloc: Global,
     text: &mut Vec<u8>,
@@ -67,15 +67,15 @@ fn put_field(
 ) -> Result<(), AllocError> {
     match Article::parse(alloc, octets) {
         Ok(article) => put_some(text, article.field(name)),
-        Err(_) => put_fault(text),
+        Err(error) => put_debug(alloc, text, &error),
     }
 }
 
-/// Writes the newsgroups of an article.
+/// Writes the newsgroups of an article, or the text's fault.
 fn put_groups(alloc: Global, text: &mut Vec<u8>, octets: &[u8]) -> Result<(), AllocError> {
     match Article::parse(alloc, octets) {
         Ok(article) => put_list(text, &article.groups(alloc)?),
-        Err(_) => put_fault(text),
+        Err(error) => put_debug(alloc, text, &error),
     }
 }
 

@@ -25,22 +25,37 @@ pub fn answer(
     Ok(true)
 }
 
-/// Writes the text of a message-id, the octets of its copy, and the text that it leaves.
+/// Writes the texts of a message-id, or its fault.
 fn put_copied(alloc: Global, text: &mut Vec<u8>, id: &[u8]) -> Result<(), AllocError> {
-    let Ok(id) = MsgId::parse(alloc, id) else {
-        return put_fault(text);
-    };
+    match MsgId::parse(alloc, id) {
+        Ok(id) => put_texts(alloc, text, id),
+        Err(error) => put_debug(alloc, text, &error),
+    }
+}
+
+/// Writes the text of a message-id, the octets of its copy, and the text that it leaves.
+fn put_texts(alloc: Global, text: &mut Vec<u8>, id: MsgId) -> Result<(), AllocError> {
     put_octets(text, id.as_str().as_bytes())?;
     put_next(text, id.copied(alloc)?.as_bytes())?;
     put_next(text, id.into_string().as_bytes())
 }
 
-/// Writes how many octets the reply of this name has, and the octets.
+/// Writes the reply of this name to a message-id, or the fault of that.
 fn put_reply(alloc: Global, text: &mut Vec<u8>, name: &[u8], id: &[u8]) -> Result<(), AllocError> {
-    let Ok(id) = MsgId::parse(alloc, id) else {
-        return put_fault(text);
-    };
-    let Some(reply) = reply_of(name, &id) else {
+    match MsgId::parse(alloc, id) {
+        Ok(id) => put_reply_to(alloc, text, name, &id),
+        Err(error) => put_debug(alloc, text, &error),
+    }
+}
+
+/// Writes how many octets the reply of this name has, and the octets.
+fn put_reply_to(
+    alloc: Global,
+    text: &mut Vec<u8>,
+    name: &[u8],
+    id: &MsgId,
+) -> Result<(), AllocError> {
+    let Some(reply) = reply_of(name, id) else {
         return put_fault(text);
     };
     let octets = reply_bytes(alloc, &reply)?;

@@ -29,7 +29,7 @@ pub fn answer(
     Ok(true)
 }
 
-/// Writes whether the date of an article lies in the window.
+/// Writes whether the date of an article lies in the window, or the text's fault.
 fn put_judged(
     alloc: Global,
     text: &mut Vec<u8>,
@@ -42,7 +42,7 @@ fn put_judged(
     };
     match Article::parse(alloc, octets) {
         Ok(article) => put_debug(alloc, text, &judge(alloc, &article, now, cutoff)),
-        Err(_) => put_fault(text),
+        Err(error) => put_debug(alloc, text, &error),
     }
 }
 

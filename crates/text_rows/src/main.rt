@@ -41,6 +41,24 @@ impl Answers for Texts {
         let Ok(call) = str::from_utf8(call) else {
             return Ok(false);
         };
+        let known = self.answer_call(alloc, call, cells, text)?;
+        // Of want of memory nothing is expected, so that no answer may stand in its place.
+        if says_memory(text) {
+            return Err(AllocError);
+        }
+        Ok(known)
+    }
+}
+
+impl Texts {
+    /// Names a text, or writes the answer of a call of the crates of texts.
+    fn answer_call(
+        &mut self,
+        alloc: Global,
+        call: &str,
+        cells: &[Vec<u8>],
+        text: &mut Vec<u8>,
+    ) -> Result<bool, AllocError> {
         match (call, cells) {
             ("text", [name, parts @ ..]) => {
                 let octets = self.names.name(alloc, name, parts)?;
@@ -53,6 +71,11 @@ impl Answers for Texts {
             }
         }
     }
+}
+
+/// Whether an answer has the fault `Memory`.
+fn says_memory(text: &[u8]) -> bool {
+    text.windows(6).any(|word| word == b"Memory".as_slice())
 }
 
 /// Writes the answer of a call, or answers `false` where it is not known.

@@ -1,7 +1,7 @@
 //! The calls of `path_rules`.
 
 use crate::names::joined;
-use crate::values::{put_debug, put_fault, put_next};
+use crate::values::{put_debug, put_next};
 use article_parse::Article;
 use path_rules::{Identity, identities, loops, updated};
 use row_text::put_number;
@@ -43,20 +43,29 @@ fn put_each(text: &mut Vec<u8>, list: &[Identity]) -> Result<(), AllocError> {
     text.extend_from_slice(b" ]")
 }
 
-/// Writes what becomes of an article that comes to an agent from another: that it has been here, or
-/// as what it is stored.
+/// Writes what becomes of an article that comes to an agent from another, or the text's fault.
 fn put_arrived(
     alloc: Global,
     text: &mut Vec<u8>,
     agents: [&[u8]; 2],
     octets: &[u8],
 ) -> Result<(), AllocError> {
-    let Ok(article) = Article::parse(alloc, octets) else {
-        return put_fault(text);
-    };
+    match Article::parse(alloc, octets) {
+        Ok(article) => put_taken(alloc, text, agents, &article),
+        Err(error) => put_debug(alloc, text, &error),
+    }
+}
+
+/// Writes that an article has been here, or as what it is stored.
+fn put_taken(
+    alloc: Global,
+    text: &mut Vec<u8>,
+    agents: [&[u8]; 2],
+    article: &Article<'_>,
+) -> Result<(), AllocError> {
     match loops(article.field(b"Path").unwrap_or(b""), agents[0]) {
         Ok(true) => text.extend_from_slice(b"Loop"),
-        Ok(false) => put_updated(alloc, text, agents, &article),
+        Ok(false) => put_updated(alloc, text, agents, article),
         Err(error) => put_debug(alloc, text, &error),
     }
 }

@@ -12,4 +12,19 @@ use Rattle.relay_examples.proofs.rows.by_ihave.Goals as goal
 pub returns : goal.returns
 returns c = λ failures. are_answered k1 (empty_world failures)
     (NoHint ∷ NoHint ∷ NoHint ∷ ReadsAs (worked_article (byte "a") 1) ∷ [])
-    rows.by_ihave rows.by_ihave_replies (article_a_is, (refl, (refl, (refl, (refl, (refl, tt)))))) refl refl
+    rows.by_ihave rows.by_ihave_replies (
+      article_a_is,
+      (
+        refl,
+        (
+          refl,
+          (
+            refl,
+            (
+              refl,
+              (refl, tt),
+            ),
+          ),
+        ),
+      ),
+    ) refl refl

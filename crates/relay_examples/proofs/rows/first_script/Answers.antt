@@ -12,4 +12,19 @@ use Rattle.relay_examples.proofs.rows.first_script.Goals as goal
 pub returns : goal.returns
 returns c = λ failures. are_answered k1 (empty_world failures)
     (NoHint ∷ NoHint ∷ NoHint ∷ NoHint ∷ NoHint ∷ ReadsAs (worked_article (byte "a") 1) ∷ [])
-    rows.first_script rows.first_replies (article_a_is, (refl, (refl, (refl, (refl, (refl, tt)))))) refl refl
+    rows.first_script rows.first_replies (
+      article_a_is,
+      (
+        refl,
+        (
+          refl,
+          (
+            refl,
+            (
+              refl,
+              (refl, tt),
+            ),
+          ),
+        ),
+      ),
+    ) refl refl

@@ -11,5 +11,21 @@ use Rattle.relay_examples.proofs.rows.held_body.Goals as goal
 
 pub returns : goal.returns
 returns c = λ failures. are_answered k1 (empty_world failures)
-    (NoHint ∷ NoHint ∷ NoHint ∷ NoHint ∷ NoHint ∷ ReadsAs (worked_article (byte "a") 1) ∷ NoHint ∷ ReadsAs (worked_article (byte "a") 1) ∷ [])
-    rows.held_body rows.held_body_replies (article_a_is, (article_a_is, (refl, (refl, (refl, (refl, (refl, tt))))))) refl refl
+    (NoHint ∷ NoHint ∷ NoHint ∷ NoHint ∷ NoHint ∷ ReadsAs (worked_article (byte "a") 1)
+    ∷ NoHint ∷ ReadsAs (worked_article (byte "a") 1) ∷ [])
+    rows.held_body rows.held_body_replies (
+      article_a_is,
+      (
+        article_a_is,
+        (
+          refl,
+          (
+            refl,
+            (
+              refl,
+              (refl, (refl, tt)),
+            ),
+          ),
+        ),
+      ),
+    ) refl refl

@@ -11,5 +11,25 @@ use Rattle.relay_examples.proofs.rows.offer_taken_over.Goals as goal
 
 pub returns : goal.returns
 returns c = λ failures. are_answered k1 (empty_world failures)
-    (NoHint ∷ NoHint ∷ NoHint ∷ NoHint ∷ NoHint ∷ NoHint ∷ ReadsAs (worked_article (byte "a") 1) ∷ NoHint ∷ NoHint ∷ NoHint ∷ NoHint ∷ NoHint ∷ NoHint ∷ NoHint ∷ NoHint ∷ NoHint ∷ ReadsAs (worked_article (byte "a") 1) ∷ [])
-    rows.taken_over rows.taken_over_replies (article_a_is, (refl, (refl, (refl, (refl, (refl, (article_a_is, tt))))))) refl refl
+    (NoHint ∷ NoHint ∷ NoHint ∷ NoHint ∷ NoHint ∷ NoHint
+    ∷ ReadsAs (worked_article (byte "a") 1) ∷ NoHint ∷ NoHint ∷ NoHint ∷ NoHint ∷ NoHint
+    ∷ NoHint ∷ NoHint ∷ NoHint ∷ NoHint ∷ ReadsAs (worked_article (byte "a") 1) ∷ [])
+    rows.taken_over rows.taken_over_replies (
+      article_a_is,
+      (
+        refl,
+        (
+          refl,
+          (
+            refl,
+            (
+              refl,
+              (
+                refl,
+                (article_a_is, tt),
+              ),
+            ),
+          ),
+        ),
+      ),
+    ) refl refl

@@ -13,5 +13,57 @@ use Rattle.relay_examples.proofs.rows.ring.Goals as goal
 pub returns : goal.returns
 unfolding digits
 returns c = λ failures. are_answered k1 (empty_world failures)
-    (NoHint ∷ NoHint ∷ NoHint ∷ NoHint ∷ NoHint ∷ NoHint ∷ ReadsAs (worked_article (byte "1") 1) ∷ NoHint ∷ NoHint ∷ NoHint ∷ NoHint ∷ NoHint ∷ NoHint ∷ NoHint ∷ NoHint ∷ NoHint ∷ ReadsAs (worked_article (byte "2") 1) ∷ NoHint ∷ NoHint ∷ NoHint ∷ NoHint ∷ NoHint ∷ NoHint ∷ NoHint ∷ NoHint ∷ NoHint ∷ ReadsAs (worked_article (byte "3") 1) ∷ [])
-    rows.ring rows.ring_replies (article_1_is, (refl, (refl, (refl, (refl, (refl, (article_2_is, (refl, (refl, (refl, (refl, (refl, (article_3_is, (refl, (refl, (refl, (refl, (refl, tt)))))))))))))))))) refl refl
+    (NoHint ∷ NoHint ∷ NoHint ∷ NoHint ∷ NoHint ∷ NoHint
+    ∷ ReadsAs (worked_article (byte "1") 1) ∷ NoHint ∷ NoHint ∷ NoHint ∷ NoHint ∷ NoHint
+    ∷ NoHint ∷ NoHint ∷ NoHint ∷ NoHint ∷ ReadsAs (worked_article (byte "2") 1) ∷ NoHint
+    ∷ NoHint ∷ NoHint ∷ NoHint ∷ NoHint ∷ NoHint ∷ NoHint ∷ NoHint ∷ NoHint
+    ∷ ReadsAs (worked_article (byte "3") 1) ∷ [])
+    rows.ring rows.ring_replies (
+      article_1_is,
+      (
+        refl,
+        (
+          refl,
+          (
+            refl,
+            (
+              refl,
+              (
+                refl,
+                (
+                  article_2_is,
+                  (
+                    refl,
+                    (
+                      refl,
+                      (
+                        refl,
+                        (
+                          refl,
+                          (
+                            refl,
+                            (
+                              article_3_is,
+                              (
+                                refl,
+                                (
+                                  refl,
+                                  (
+                                    refl,
+                                    (refl, (refl, tt)),
+                                  ),
+                                ),
+                              ),
+                            ),
+                          ),
+                        ),
+                      ),
+                    ),
+                  ),
+                ),
+              ),
+            ),
+          ),
+        ),
+      ),
+    ) refl refl

@@ -11,5 +11,21 @@ use Rattle.relay_examples.proofs.rows.two_bodies_at_once.Goals as goal
 
 pub returns : goal.returns
 returns c = λ failures. are_answered k1 (empty_world failures)
-    (NoHint ∷ NoHint ∷ NoHint ∷ NoHint ∷ NoHint ∷ NoHint ∷ ReadsAs (worked_article (byte "a") 1) ∷ ReadsAs (worked_article (byte "a") 1) ∷ [])
-    rows.two_bodies rows.two_bodies_replies (article_a_is, (article_a_is, (refl, (refl, (refl, (refl, (refl, tt))))))) refl refl
+    (NoHint ∷ NoHint ∷ NoHint ∷ NoHint ∷ NoHint ∷ NoHint
+    ∷ ReadsAs (worked_article (byte "a") 1) ∷ ReadsAs (worked_article (byte "a") 1) ∷ [])
+    rows.two_bodies rows.two_bodies_replies (
+      article_a_is,
+      (
+        article_a_is,
+        (
+          refl,
+          (
+            refl,
+            (
+              refl,
+              (refl, (refl, tt)),
+            ),
+          ),
+        ),
+      ),
+    ) refl refl
