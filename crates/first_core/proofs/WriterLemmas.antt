@@ -7,7 +7,8 @@ use Rattle.std.proofs.lemmas.Slice.Eq.{bytes_eq-Decides}
 use Rattle.cyc_token.specs.Token.{token_view}
 use Rattle.cyc_token.specs.declared.Token.{Token}
 use Rattle.id_history.specs.Mark.{mark_of}
-use Rattle.id_history.specs.Shard.{Keeps, ChangesClaim}
+use Rattle.id_history.specs.Changes.{ChangesClaim}
+use Rattle.id_history.specs.Shard.{Keeps}
 use Rattle.id_history.specs.declared.claims.Shard.{Shard}
 use Rattle.news_terms.specs.Places as places
 use Rattle.news_terms.specs.Token as tokens
@@ -362,7 +363,7 @@ storing_there w s x number id token (Some k) is agrees =
 -- the writer settles the article
 pub settles : (now : ℕ) (w : Terms) (s t : System) (x : World) (number : ℕ) (id : List ℕ) (token : Token) (n : Option ℕ)
     → s.writer ≡ writer.Finished number id token
-    → ChangesClaim s.shard t.shard id (after_settle number (token_view token) now)
+    → ChangesClaim (Keeps s.shard) (Keeps t.shard) id (after_settle number (token_view token) now)
     → AgreesBy w s x n
     → (x' : World) × AgreesBy w (record s { shard = t.shard; writer = writer.Answering number outcomes.Kept }) x' n
     × pace.Writes w x 0 now x'
@@ -389,7 +390,7 @@ settles now w s t x number id token (Some k) is changes agrees =
 
 -- the writer finds that the begin is worn
 pub finds_worn : (now : ℕ) (w : Terms) (s t : System) (x : World) (job : Job) (n : Option ℕ)
-    → ChangesClaim s.shard t.shard job.id (after_forget job.session)
+    → ChangesClaim (Keeps s.shard) (Keeps t.shard) job.id (after_forget job.session)
     → (IsOneBuffer w s.store.blocks → KeepsState s.store x.state → IsShort job.text → Places None w x.state job.text)
     → AgreesBy w (record s { writer = writer.Popped job }) x n
     → (x' : World) × AgreesBy w (record s { shard = t.shard; writer = writer.Answering job.session outcomes.Failed }) x' n

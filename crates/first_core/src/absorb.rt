@@ -12,9 +12,9 @@ ghost use Rattle.first_model.specs.Verdict.{accepted_text};
 ghost use Rattle.first_model.specs.World.{Job as ModelJob, in_phase};
 
 use crate::job::Job;
-use crate::octets::Octets;
 use crate::session::{Phase, Session, close_offer, open_offer, replied};
 use id_history::Offer;
+use line_words::Octets;
 use nntp_text::{MsgId, Reply};
 use std::mem;
 use stream_cut::Block;

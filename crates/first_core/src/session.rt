@@ -16,9 +16,9 @@ ghost use Rattle.first_model.specs.State as model;
 
 use crate::config::Config;
 use crate::job::{Job, Outcome};
-use crate::octets::Octets;
 use crate::store::size_of;
 use id_history::Offer;
+use line_words::Octets;
 use nntp_text::{CmdError, Command, MsgId, REPLY_ROOM, Reply, put_reply};
 use std::alloc::{AllocError, Global};
 use std::mem;

@@ -8,8 +8,8 @@ ghost use Rattle.first_model.specs.State.{State};
 ghost use Rattle.first_model.specs.Terms.{Terms};
 ghost use Rattle.first_core.specs.Store.{head_view, head_of, room_of, front_view, kept_view, is_live_at, text_under, HasRoomForOne, IsOneBuffer, KeepsState, Finds, Places};
 
-use crate::octets::Octets;
 use cyc_token::Token;
+use line_words::Octets;
 use std::alloc::{AllocError, Global};
 
 /// The octets of an article that one block has room for.

@@ -4,9 +4,12 @@ use Rattle.std.specs.Io.KnownBytes.{Keeps}
 use Rattle.relay_conf.specs.declared.faults.ConfError.{ConfError}
 use Rattle.relay_conf.specs.declared.faults.ConfError.TheVariants as errors
 use Rattle.relay_conf.specs.RelayViews.{RelayGives}
-use Rattle.relay_command.specs.Check.{CheckGives, CycbuffReads, StorageReads, Fails, HasError, IsErrorIn, in_cycbuff, in_storage, in_relay}
+use Rattle.relay_command.specs.Check.{CheckGives, CycbuffReads, StorageReads, Fails, HasError}
+use Rattle.relay_command.specs.Check.{IsErrorIn}
+use Rattle.relay_command.specs.Check.{in_cycbuff, in_storage, in_relay}
 use Rattle.relay_command.specs.declared.check.CheckError.{CheckError}
-use Rattle.relay_command.specs.declared.check.CheckError.TheVariants.{Memory, Unreadable, Faulty, Unwritten}
+use Rattle.relay_command.specs.declared.check.CheckError.TheVariants.{Memory, Unreadable, Faulty}
+use Rattle.relay_command.specs.declared.check.CheckError.TheVariants.{Unwritten}
 use Rattle.relay_command.specs.declared.check.ConfFile.{ConfFile}
 use Rattle.relay_command.specs.declared.check.ConfFile.TheVariants as files
 
@@ -16,7 +19,8 @@ not_written file errors.Memory e = cc
 not_written file (errors.Faulty at) e = e
 
 -- No file fails as the writer does.
-no_file_fails_so : {T : Type 0} (folder : List ℕ) (file : ConfFile) (reads : Result T ConfError → List (List ℕ) → Type 0) → Fails folder file reads Unwritten → ⊥
+no_file_fails_so : {T : Type 0} (folder : List ℕ) (file : ConfFile)
+    (reads : Result T ConfError → List (List ℕ) → Type 0) → Fails folder file reads Unwritten → ⊥
 no_file_fails_so folder file reads fails = elim fails [
   | inl unread ↦ elim unread [
     | inl memory ↦ cc
@@ -39,7 +43,8 @@ keeps_same None = tt
 keeps_same (Some xs) = refl
 
 -- Where a configuration has an error, that is told and nothing is written.
-pub error_is_told : (folder : List ℕ) (error : CheckError) (held : Option (List ℕ)) → HasError folder error → CheckGives (Err error) folder held held
+pub error_is_told : (folder : List ℕ) (error : CheckError) (held : Option (List ℕ))
+    → HasError folder error → CheckGives (Err error) folder held held
 error_is_told folder Memory held has = keeps_same held
 error_is_told folder (Unreadable file) held has = (has, keeps_same held)
 error_is_told folder (Faulty file line code name) held has = (has, keeps_same held)

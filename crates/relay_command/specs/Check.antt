@@ -1,5 +1,6 @@
 -- What is told of a configuration (docs/PROTOCOL.md, Program; docs/FORMATS.md, Configuration).
-use Rattle.std.specs.Prelude.{◌≡◌, ◌≢◌, ◌⊎◌, ℕ, List, ◌++◌, codes, decimal, vec_len, Option, Result, Ok, Err}
+use Rattle.std.specs.Prelude.{◌≡◌, ◌≢◌, ◌⊎◌, ℕ, List, ◌++◌, codes, decimal, vec_len, Option}
+use Rattle.std.specs.Prelude.{Result, Ok, Err}
 use Rattle.std.specs.Global.{Vec}
 use Rattle.std.specs.Io.KnownBytes.{Appends, Keeps}
 use Rattle.relay_conf.specs.Cycbuff.{cycbuff_of}
@@ -16,7 +17,8 @@ use Rattle.relay_conf.specs.declared.faults.ConfError.TheVariants as errors
 use Rattle.relay_conf.specs.declared.storage.Method.{Method}
 use Rattle.relay_drill.specs.Written.{GainsFront}
 use Rattle.relay_command.specs.declared.check.CheckError.{CheckError}
-use Rattle.relay_command.specs.declared.check.CheckError.TheVariants.{Memory, Unreadable, Faulty, Unwritten}
+use Rattle.relay_command.specs.declared.check.CheckError.TheVariants.{Memory, Unreadable, Faulty}
+use Rattle.relay_command.specs.declared.check.CheckError.TheVariants.{Unwritten}
 use Rattle.relay_command.specs.declared.check.ConfFile.{ConfFile}
 use Rattle.relay_command.specs.declared.check.ConfFile.TheVariants as files
 

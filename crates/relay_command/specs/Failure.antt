@@ -1,5 +1,6 @@
 -- How the program ends (docs/PROTOCOL.md, Statuses).
-use Rattle.std.specs.Prelude.{ℕ, List, ◌++◌, codes, Option, None, Some, Result, Ok, Err, MatchOption, ⊤}
+use Rattle.std.specs.Prelude.{ℕ, List, ◌++◌, codes, Option, None, Some, Result, Ok, Err}
+use Rattle.std.specs.Prelude.{MatchOption, ⊤}
 use Rattle.std.specs.Io.KnownBytes.{Appends, Keeps}
 use Rattle.clap.specs.Words.{kind_of}
 use Rattle.clap.specs.declared.error.kind.ErrorKind.{ErrorKind}
@@ -10,7 +11,8 @@ use Rattle.relay_command.specs.Check.{check_text}
 use Rattle.relay_command.specs.Tell.{fault_text}
 use Rattle.relay_command.specs.declared.check.CheckError.TheVariants as check
 use Rattle.relay_command.specs.declared.failure.Failure.{Failure}
-use Rattle.relay_command.specs.declared.failure.Failure.TheVariants.{Unbegun, Words, Check, Drill, Token}
+use Rattle.relay_command.specs.declared.failure.Failure.TheVariants.{Unbegun, Words, Check}
+use Rattle.relay_command.specs.declared.failure.Failure.TheVariants.{Drill, Token}
 use Rattle.relay_command.specs.declared.failure.Unbegun.TheVariants as unbegun
 use Rattle.relay_command.specs.declared.failure.Unbegun as begin
 use Rattle.relay_command.specs.declared.token.TokenFault.TheVariants as token

@@ -15,7 +15,8 @@ use Rattle.relay_command.specs.declared.failure.Failure.TheVariants.{Words, Chec
 
 -- what a drill of the script with the configuration K1 answers; or memory ran out before it, and
 -- nothing was written
-abbrev pub DrillsK1 : Result (Unit {0}) DrillError → (script before after : Option (List ℕ)) → Type 0
+abbrev pub DrillsK1 : Result (Unit {0}) DrillError → (script before after : Option (List ℕ))
+    → Type 0
 DrillsK1 result script before after =
     ((config : Config) × IsK1 config × DrillGives config result script before after)
     ⊎ ((result ≡ Err drill.Memory) × Keeps before after)
@@ -29,12 +30,14 @@ Performs (Checks folder) (Ok done) script before after = CheckGives (Ok done) fo
 Performs (Checks folder) (Err (Check error)) script before after =
     CheckGives (Err error) folder before after
 Performs (Tells text) (Ok done) script before after = TellGives (Ok done) text before after
-Performs (Tells text) (Err (Token fault)) script before after = TellGives (Err fault) text before after
+Performs (Tells text) (Err (Token fault)) script before after =
+    TellGives (Err fault) text before after
 Performs asked (Err failure) script before after = ⊥
 
 -- what the words ask for is done or failed; or they ask for nothing, and nothing was written
 abbrev pub RunGives : List Text → Result (Unit {0}) Failure
     → (script before after : Option (List ℕ)) → Type 0
-RunGives words (Err (Words error)) script before after = IsRefusedBy words error × Keeps before after
+RunGives words (Err (Words error)) script before after =
+    IsRefusedBy words error × Keeps before after
 RunGives words result script before after =
     (asked : Asked) × IsAskedBy words asked × Performs asked result script before after

@@ -7,7 +7,8 @@ use Rattle.cyc_token.specs.declared.text.TokenError.{TokenError}
 use Rattle.cyc_token.specs.declared.text.TokenError.TheVariants as errors
 use Rattle.relay_drill.specs.Written.{GainsFront}
 use Rattle.relay_command.specs.declared.token.TokenFault.{TokenFault}
-use Rattle.relay_command.specs.declared.token.TokenFault.TheVariants.{Length, Marks, Digit, LowerCase, Unwritten}
+use Rattle.relay_command.specs.declared.token.TokenFault.TheVariants.{Length, Marks, Digit}
+use Rattle.relay_command.specs.declared.token.TokenFault.TheVariants.{LowerCase, Unwritten}
 
 -- the parts of a token in one line: `class 1 buffer 0 cycle 0 first 0 length 164`
 abbrev pub parts_line : Token → List ℕ

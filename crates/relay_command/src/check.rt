@@ -3,7 +3,8 @@
 ghost use Rattle.std.specs.Prelude.{◌≡◌, ◌⊎◌, codes, IfOk, IfErr, Some};
 ghost use Rattle.relay_conf.specs.RelayViews.{RelayGives};
 ghost use Rattle.relay_drill.specs.Written.{Writes};
-ghost use Rattle.relay_command.specs.Check.{CheckGives, CycbuffReads, FileGives, IsErrorIn, IsTextOf};
+ghost use Rattle.relay_command.specs.Check.{CheckGives, CycbuffReads, FileGives, IsErrorIn};
+ghost use Rattle.relay_command.specs.Check.{IsTextOf};
 ghost use Rattle.relay_command.specs.Check.{IsUnread, LoadGives, StorageReads};
 ghost use Rattle.relay_command.specs.Check.{check_text, counted, file_name, k1_text};
 ghost use Rattle.relay_command.specs.declared.check.CheckError.TheVariants.{Memory, Unreadable};

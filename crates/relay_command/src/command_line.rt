@@ -3,7 +3,8 @@ ghost use Rattle.std.specs.Prelude.{◌≡◌, false, map, string_bytes, Some, I
 ghost use Rattle.clap.specs.Words.{found_of, rows_of, rule_of, subcommand_rows_of};
 ghost use Rattle.clap.specs.declared.builder.ValueParser.{ValueParser};
 ghost use Rattle.relay_command.specs.CommandLine.{AreServed, Reads, ReadsWords, asked, asked_by};
-ghost use Rattle.relay_command.specs.CommandLine.{word_given, check_words, drill_words, token_words};
+ghost use Rattle.relay_command.specs.CommandLine.{word_given, check_words, drill_words};
+ghost use Rattle.relay_command.specs.CommandLine.{token_words};
 ghost use Rattle.relay_command.specs.CommandLine.{needed, program_words};
 
 use clap::{Arg, ArgAction, ArgMatches, Command, Error};

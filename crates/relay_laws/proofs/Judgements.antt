@@ -1,11 +1,12 @@
--- A block has at most one judgement, since a text is laid out as one article at most.
-use Rattle.std.proofs.Common.{◌≡◌, ◌∙◌, ℕ, List, Option, Result, sym, ap, subst}
+-- A block has one judgement at most, since a text is laid out as one article at most, and is never
+-- without one.
+use Rattle.std.proofs.Common.{◌≡◌, ◌∙◌, ℕ, List, Option, None, Some, Result, Err, refl, sym, ap, subst}
 use Rattle.std.proofs.lemmas.Option.{none-some, same_Some}
-use Rattle.news_terms.specs.Article.{IsArticleText}
+use Rattle.news_terms.specs.Article.{Article, IsArticleText}
 use Rattle.news_terms.proofs.ArticleReadings.{one_article}
 use Rattle.relay_model.specs.Claims.{Accepted}
 use Rattle.relay_model.specs.Judging.{Judges, IsOversize, IsNone, IsRead, judged}
-use Rattle.relay_model.specs.Terms.{Terms, Reason}
+use Rattle.relay_model.specs.Terms.{Terms, Reason, Size, Grammar}
 
 -- two judgements are one
 pub one_judgement : (w : Terms) (from : ℕ) (id : List ℕ) (now : ℕ) (text : Option (List ℕ))
@@ -36,3 +37,12 @@ one_judgement w from id now text one other (IsRead octets a some read is)
     is ∙ ap (judged w from id now) (one_article octets a b read.laid_out
     (subst (λ t. IsArticleText t b) (same_Some octets' octets (sym some' ∙ some)) read').laid_out)
     ∙ sym was
+
+-- a block isn't without a judgement: without one no article would be its text, and then it has one
+pub some_judgement : (w : Terms) (from : ℕ) (id : List ℕ) (now : ℕ) (text : Option (List ℕ))
+    → ¬ ((one : Result Accepted Reason) → ¬ Judges w from id now text one)
+some_judgement w from id now None none = none (Err Size) (IsOversize refl refl)
+some_judgement w from id now (Some octets) none =
+    let unread : (a : Article) → ¬ IsArticleText octets a =
+    λ a read. none (judged w from id now a) (IsRead octets a refl read refl) in
+    none (Err Grammar) (IsNone octets refl unread refl)

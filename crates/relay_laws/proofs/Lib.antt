@@ -14,7 +14,11 @@ pub mod NamedBuffers
 pub mod OfferDues
 pub mod OfferSteps
 pub mod OfferTurns
+pub mod OneAnswer
+pub mod OneDue
 pub mod OneText
+pub mod OneTurn
+pub mod OneWrite
 pub mod OpenOffers
 pub mod Permitted
 pub mod RisingFronts

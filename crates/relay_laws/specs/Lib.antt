@@ -1,3 +1,4 @@
+pub mod Calm
 pub mod Counts
 pub mod Laws
 pub mod Rules

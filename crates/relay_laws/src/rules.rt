@@ -14,10 +14,12 @@ ghost use Rattle.relay_model.specs.Fetches as fetches;
 ghost use Rattle.relay_model.specs.Fetches.{Gone, fetched, front_of, text_under};
 ghost use Rattle.relay_model.specs.Hears.{outcome_heard};
 ghost use Rattle.relay_model.specs.Judging.{Judges, is_permitted, permitted};
+ghost use Rattle.relay_model.specs.Run.{Event, Step};
 ghost use Rattle.relay_model.specs.State.{State, Session, Transfer, Job, Waits, Leaving};
 ghost use Rattle.relay_model.specs.Terms.{Terms, Reason};
-ghost use Rattle.relay_model.specs.World.{Outcome, IsKept, Speaks};
+ghost use Rattle.relay_model.specs.World.{World, Output, Outcome, IsKept, Speaks};
 ghost use Rattle.relay_model.specs.Writers.{Stores, Fails, Accepts, Abandons};
+ghost use Rattle.relay_laws.specs.Calm.{IsCalm, CalmRun};
 ghost use Rattle.relay_laws.specs.Rules.{IsNotOf, IsGoneToken, IsLiveToken};
 
 /// What is not this session's stays as it is when the session's article is refused, its open offer
@@ -47,11 +49,13 @@ pub fn one_stores()
         → after_take s article claim ≡ claim }
 {}
 
-/// A block has at most one judgement.
+/// A block has at most one judgement, and is never without one.
 pub fn one_judgement()
-    ensures { (w : Terms) (from : ℕ) (id : List ℕ) (now : ℕ) (text : Option (List ℕ))
+    ensures most { (w : Terms) (from : ℕ) (id : List ℕ) (now : ℕ) (text : Option (List ℕ))
         (one other : Result Accepted Reason) → Judges w from id now text one
         → Judges w from id now text other → one ≡ other }
+    ensures least { (w : Terms) (from : ℕ) (id : List ℕ) (now : ℕ) (text : Option (List ℕ))
+        → ¬ ((one : Result Accepted Reason) → ¬ Judges w from id now text one) }
 {}
 
 /// The feeds that an article is permitted for are those that may have it, no other; each of them
@@ -116,4 +120,14 @@ pub fn kept_is_said_of_kept()
     ensures offered { (session : Session) (transfer : Transfer) (id : List ℕ) (outcome : Outcome)
         → (outcome_heard session transfer id outcome).said ≡ Speaks replies.IhaveKept
         → outcome ≡ IsKept }
+{}
+
+/// An event has one answer, and leads to one world, where memory is there and no device fails.
+pub fn one_answer()
+    ensures step { (w : Terms) (x y z : World) (event : Event) (one other : Output)
+        → Step w x event one y → Step w x event other z → IsCalm x one y → IsCalm x other z
+        → (one ≡ other) × (y ≡ z) }
+    ensures run { (w : Terms) (x y z : World) (events : List Event) (outputs others : List Output)
+        → CalmRun w x events outputs y → CalmRun w x events others z
+        → (outputs ≡ others) × (y ≡ z) }
 {}

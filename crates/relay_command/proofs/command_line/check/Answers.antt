@@ -7,7 +7,10 @@ use Rattle.relay_command.proofs.command_line.check.Goals as goal
 
 pub returns : goal.returns
 returns c =
-    let start : Reads c.about.result (new_app (codes "check")) = record { words = search rules; own = search rules } in
+    let start : Reads c.about.result (new_app (codes "check")) = record {
+      words = search rules;
+      own = search rules;
+    } in
     with_word c.about.result c.in_ok-arg.field-0 c.help-folder.result _ _ start
     (ap (λ (a : Arg). a.global) c.help-folder.ensures ∙ c.needed.ensures.own)
     (ap rule_of c.help-folder.ensures ∙ c.needed.ensures.rule) c.in_ok-arg.ensures

@@ -1,0 +1,7 @@
+mod Articles
+mod Dues
+mod Moments
+mod Playing
+mod Premises
+mod Turning
+mod Writing

@@ -1,0 +1,18 @@
+use Rattle.std.proofs.Common.{[], refl}
+use Rattle.relay_examples.specs.Terms.{k1}
+use Rattle.relay_examples.specs.WorldRows as rows
+use Rattle.relay_examples.specs.Worlds.{offering}
+use Rattle.relay_examples.proofs.Playing.{are_answered}
+use Rattle.relay_examples.proofs.worlds.open_offers.Goals as goal
+
+pub returns-clause-full : goal.returns-clause-full
+returns-clause-full c = λ failures. are_answered k1 (offering failures 256) []
+    rows.offers rows.full_replies tt refl refl
+
+pub returns-clause-last : goal.returns-clause-last
+returns-clause-last c = λ failures. are_answered k1 (offering failures 255) []
+    rows.offers rows.last_replies tt refl refl
+
+pub returns-clause-again : goal.returns-clause-again
+returns-clause-again c = λ failures. are_answered k1 (offering failures 256) []
+    rows.open_again rows.open_again_replies tt refl refl

@@ -1,0 +1,132 @@
+-- The worked rows from other worlds: their events, and what these are answered.
+use Rattle.std.specs.Prelude.{ℕ, ◌+◌, List, [], ◌∷◌, ◌++◌, codes, replicate}
+use Rattle.news_terms.specs.Reply.{ArticleFollows, TokenFollows, reply_text}
+use Rattle.relay_model.specs.Run.{Event, Bytes, Turn, Expire}
+use Rattle.relay_model.specs.World.{Output, Quiet, Sent, Ended}
+use Rattle.relay_examples.specs.Rows.{turns, writes, quiet}
+use Rattle.relay_examples.specs.Terms.{now}
+use Rattle.relay_examples.specs.Worlds.{three_blocks_at}
+
+-- lost while reading: session 2 has read two of three blocks when the third article is begun
+abbrev pub lost_while_reading : List Event
+lost_while_reading = Bytes 2 (codes "ARTICLE <1@x>\r\n") ∷ turns 2 3 ++ writes 2 ++ turns 2 1
+
+-- 430
+abbrev pub lost_replies : List Output
+lost_replies = quiet 6 ++ Sent 2 (codes "430 No such article\r\n") ∷ []
+
+-- the same with the last block read before the begin
+abbrev pub read_before : List Event
+read_before = Bytes 2 (codes "ARTICLE <1@x>\r\n") ∷ turns 2 3 ++ writes 1 ++ turns 2 1 ++ writes 1
+
+-- 220 and the whole article
+abbrev pub read_replies : List ℕ → List Output
+read_replies one =
+    quiet 5 ++ Sent 2 (reply_text (ArticleFollows (codes "<1@x>") one)) ∷ Quiet ∷ []
+
+-- overwrite: the third article is stored, and STAT and XFETCH ask for what is gone, what is there,
+-- and what never was: nothing began at that block, a cycle to come, no such buffer, no length
+abbrev pub overwrite : List Event
+overwrite =
+    writes 8
+    ++ Bytes 2 (codes "STAT <1@x>\r\nXFETCH @01000000000000000000000005A0@\r\n")
+    ∷ Bytes 2 (codes "STAT <2@x>\r\nXFETCH @01000000000000000003000005A0@\r\n")
+    ∷ Bytes 2 (codes "XFETCH @01000000000000000004000005A0@\r\n")
+    ∷ Bytes 2 (codes "XFETCH @01000000000200000000000005A0@\r\n")
+    ∷ Bytes 2 (codes "XFETCH @01010000000000000003000005A0@\r\n")
+    ∷ Bytes 2 (codes "XFETCH @0100000000000000000300000000@\r\n")
+    ∷ Bytes 2 (codes "XFETCH @01000000000100000000000005a0@\r\n")
+    ∷ turns 2 13
+
+-- 430, 492; 223, 292 and the whole article; 493 of each that never was; 501 of a lower case letter
+abbrev pub overwrite_replies : List ℕ → List Output
+overwrite_replies two =
+    quiet 15 ++ Quiet ∷ Sent 2 (codes "430 No such article\r\n")
+    ∷ Sent 2 (codes "492 @01000000000000000000000005A0@ gone\r\n") ∷ Quiet
+    ∷ Sent 2 (codes "223 0 <2@x>\r\n") ∷ quiet 2
+    ++ Sent 2 (reply_text (TokenFollows (three_blocks_at 0 3) two))
+    ∷ Sent 2 (codes "493 @01000000000000000004000005A0@ unknown\r\n")
+    ∷ Sent 2 (codes "493 @01000000000200000000000005A0@ unknown\r\n")
+    ∷ Sent 2 (codes "493 @01010000000000000003000005A0@ unknown\r\n")
+    ∷ Sent 2 (codes "493 @0100000000000000000300000000@ unknown\r\n")
+    ∷ Sent 2 (codes "501 Syntax error\r\n") ∷ []
+
+-- failed write: after the failure the third article is given up and session 1 told; its id may be
+-- offered again, the first article stays gone, and the fourth is stored at block 3 of cycle 1
+abbrev pub after_failure : List Event
+after_failure =
+    writes 3 ++ turns 1 2 ++ Bytes 2 (codes "CHECK <3@x>\r\nSTAT <1@x>\r\nXTAKE 5\r\n") ∷ turns 2 3
+    ++ writes 8 ++ turns 3 1 ++ turns 2 1
+
+-- 400 and the end; 238, 430; 235, and its token
+abbrev pub after_failure_replies : List Output
+after_failure_replies =
+    quiet 3 ++ Ended 1 (codes "400 Not stored, closing\r\n") ∷ quiet 2
+    ++ Sent 2 (codes "238 <3@x>\r\n") ∷ Quiet ∷ Sent 2 (codes "430 No such article\r\n")
+    ∷ quiet 8 ++ Sent 3 (codes "235 Transferred\r\n")
+    ∷ Sent 2 (codes "290 Queue follows\r\n0\r\n1 @01000000000100000003000005A0@\r\n.\r\n") ∷ []
+
+-- a failed IHAVE is told 436, and the session goes on
+abbrev pub fourth_fails : List Event
+fourth_fails = writes 3 ++ turns 3 2
+
+-- 436, and nothing more is due
+abbrev pub fourth_fails_replies : List Output
+fourth_fails_replies = quiet 3 ++ Sent 3 (codes "436 Try again later\r\n") ∷ Quiet ∷ []
+
+-- the front is read first, and nothing is forgotten; then, a second too early, nothing either; then
+-- the first id is forgotten, whose article is gone, and the refused one, but not that of the
+-- second, which is live, nor one that is offered
+abbrev pub forgotten_ids : List Event
+forgotten_ids =
+    Bytes 2 (codes "CHECK <1@x>\r\nCHECK <1@x>\r\nCHECK <1@x>\r\nCHECK <1@x>\r\nCHECK <2@x>\r\n")
+    ∷ Bytes 2 (codes "CHECK <e@x>\r\nCHECK <e@x>\r\nCHECK <o@x>\r\n")
+    ∷ Expire 3 (now + 100) ∷ Turn 2 now ∷ Expire 3 (now + 99) ∷ Turn 2 now
+    ∷ Expire 4 (now + 100) ∷ Turn 2 now ∷ Expire 3 (now + 100) ∷ Turn 2 now
+    ∷ Expire 4 (now + 100) ∷ Turn 2 now ∷ Expire 7 (now + 99) ∷ Turn 2 now
+    ∷ Expire 7 (now + 100) ∷ Turn 2 now ∷ Expire 1 (now + 100) ∷ Turn 2 now ∷ []
+
+-- 438 until an id is forgotten, then 238; 431 of the one that is offered
+abbrev pub forgotten_replies : List Output
+forgotten_replies =
+    quiet 3
+    ++ Sent 2 (codes "438 <1@x>\r\n") ∷ Quiet ∷ Sent 2 (codes "438 <1@x>\r\n") ∷ Quiet
+    ∷ Sent 2 (codes "438 <1@x>\r\n") ∷ Quiet ∷ Sent 2 (codes "238 <1@x>\r\n") ∷ Quiet
+    ∷ Sent 2 (codes "438 <2@x>\r\n") ∷ Quiet ∷ Sent 2 (codes "438 <e@x>\r\n") ∷ Quiet
+    ∷ Sent 2 (codes "238 <e@x>\r\n") ∷ Quiet ∷ Sent 2 (codes "431 <o@x>\r\n") ∷ []
+
+-- sixteen Expires forget, then the front is read again
+abbrev pub sixteen_expires : List Event
+sixteen_expires =
+    replicate 16 (Expire 7 now) ++ Expire 3 (now + 100) ∷ Expire 7 (now + 100)
+    ∷ Bytes 2 (codes "CHECK <1@x>\r\nCHECK <e@x>\r\nCHECK <e@x>\r\n") ∷ turns 2 2
+    ++ Expire 7 (now + 100) ∷ Turn 2 now ∷ []
+
+-- 238 of what the sixteenth forgot, 438 of what the next Expire leaves, 238 after the one behind it
+abbrev pub sixteen_replies : List Output
+sixteen_replies =
+    quiet 19 ++ Sent 2 (codes "238 <1@x>\r\n") ∷ Sent 2 (codes "438 <e@x>\r\n") ∷ Quiet
+    ∷ Sent 2 (codes "238 <e@x>\r\n") ∷ []
+
+-- offers of a new id, of one that is open, and of the new one again
+abbrev pub offers : List Event
+offers =
+    Bytes 1 (codes "CHECK <n@x>\r\nIHAVE <m@x>\r\n") ∷ turns 1 2
+
+-- 431 and 436: no further offer may be opened
+abbrev pub full_replies : List Output
+full_replies =
+    Quiet ∷ Sent 1 (codes "431 <n@x>\r\n") ∷ Sent 1 (codes "436 Try again later\r\n") ∷ []
+
+-- 238 for the one that there is room for, then 436
+abbrev pub last_replies : List Output
+last_replies =
+    Quiet ∷ Sent 1 (codes "238 <n@x>\r\n") ∷ Sent 1 (codes "436 Try again later\r\n") ∷ []
+
+-- an offer of an id that is open
+abbrev pub open_again : List Event
+open_again = Bytes 1 (codes "CHECK <o@x>\r\n") ∷ turns 1 1
+
+-- 238
+abbrev pub open_again_replies : List Output
+open_again_replies = Quiet ∷ Sent 1 (codes "238 <o@x>\r\n") ∷ []

@@ -1,0 +1,186 @@
+-- The worlds in which the other worked rows begin, so that they stay short.
+use Rattle.std.specs.Prelude.{ℕ, List, [], ◌∷◌, codes, replicate, Option, Some, None}
+use Rattle.std.specs.Str.{byte}
+use Rattle.news_terms.specs.Command.{WholeText}
+use Rattle.news_terms.specs.Token.{Token}
+use Rattle.relay_model.specs.Claims.{Accepted, Claim, Unknown, Offered, Storing, Stored, Refused}
+use Rattle.relay_model.specs.Claims.{Stage, Waiting, Begun}
+use Rattle.relay_model.specs.Claims as claims
+use Rattle.relay_model.specs.State.{State, Session, Job, Ready, Waits, Fetches, OfId, TakesThis}
+use Rattle.relay_model.specs.State.{Has}
+use Rattle.relay_model.specs.State.{put_id, put_at, empty_state}
+use Rattle.relay_model.specs.Terms.{Terms}
+use Rattle.relay_model.specs.World.{World, Idle, Writing, empty_world}
+use Rattle.relay_model.specs.World as world
+use Rattle.relay_examples.specs.Terms.{now, k1}
+
+-- the token of an article of three blocks, at this cycle and block
+abbrev pub three_blocks_at : (cycle first : ℕ) → Token
+three_blocks_at cycle first =
+    record { class = 1; buffer = 0; cycle = cycle; first = first; length = 1440 }
+
+-- an accepted article of three blocks, permitted for the one feed
+abbrev pub three_blocks : Accepted
+three_blocks =
+    record { class = 1; group = 0; permitted = 0 ∷ []; text = replicate 1440 (byte "x") }
+
+-- the job of the third article, which session 1 brought by TAKETHIS
+abbrev pub third_job : Job
+third_job = record { session = 1; id = codes "<3@x>"; article = three_blocks }
+
+-- the job of the fourth, which session 3 brought by IHAVE
+abbrev pub fourth_job : Job
+fourth_job = record { session = 3; id = codes "<4@x>"; article = three_blocks }
+
+-- a session of the first peer that waits for the outcome of its article
+abbrev pub waiting_third : Session
+waiting_third =
+    record {
+      peer = 0;
+      unread = [];
+      offers = [];
+      phase = Waits TakesThis (codes "<3@x>");
+      hand = None;
+    }
+
+-- another one
+abbrev pub waiting_fourth : Session
+waiting_fourth =
+    record { peer = 0; unread = []; offers = []; phase = Waits Has (codes "<4@x>"); hand = None }
+
+-- a session of the second peer that reads commands
+abbrev pub reading : Session
+reading = record { peer = 1; unread = []; offers = []; phase = Ready; hand = None }
+
+-- the sessions 1 and 3 wait, session 2 reads commands
+abbrev pub three_sessions : ℕ → Option Session
+three_sessions =
+    put_at (put_at (put_at (λ s. None) 1 (Some waiting_third)) 2 (Some reading)) 3
+    (Some waiting_fourth)
+
+-- two articles of three blocks are stored, the third and the fourth wait for their writer
+abbrev pub two_stored_claims : List ℕ → Claim
+two_stored_claims =
+    put_id (put_id (put_id (put_id (λ id. Unknown) (codes "<1@x>")
+    (Stored (three_blocks_at 0 0) now)) (codes "<2@x>") (Stored (three_blocks_at 0 3) now))
+    (codes "<3@x>") (Storing 1 three_blocks Waiting)) (codes "<4@x>")
+    (Storing 3 three_blocks Waiting)
+
+-- the state in which these two texts are stored
+abbrev pub two_stored_state : (one two : List ℕ) → State
+two_stored_state one two =
+    record empty_state {
+      claim = two_stored_claims;
+      begun = λ group. 3 ∷ 3 ∷ [];
+      kept =
+          record { token = three_blocks_at 0 0; id = codes "<1@x>"; text = one }
+          ∷ record { token = three_blocks_at 0 3; id = codes "<2@x>"; text = two } ∷ [];
+      session = three_sessions;
+      newest = Some 3;
+    }
+
+-- the world in which these two texts are stored, and two jobs are queued
+abbrev pub two_stored : (failures : ℕ → ℕ) → (one two : List ℕ) → World
+two_stored failures one two =
+    record {
+      state = two_stored_state one two;
+      work = record (empty_world failures).work {
+        queue = put_at (λ group. []) 0 (third_job ∷ fourth_job ∷ []);
+      };
+    }
+
+-- the claims while a job is being stored, at this stage
+abbrev pub claims_at : Job → Stage → List ℕ → Claim
+claims_at job stage = put_id two_stored_claims job.id (Storing job.session three_blocks stage)
+
+-- the state in which a job is begun, so that the first article is overwritten
+abbrev pub begun_state : (one two : List ℕ) → Job → State
+begun_state one two job =
+    record (two_stored_state one two) {
+      claim = claims_at job (Begun (three_blocks_at 1 0));
+      begun = put_at (λ group. 3 ∷ 3 ∷ []) 0 (3 ∷ 3 ∷ 3 ∷ []);
+    }
+
+-- so many of its blocks are written, and these jobs are queued
+abbrev pub begun_world : (failures : ℕ → ℕ) → (one two : List ℕ) → Job → (rest : List Job)
+    → (written : ℕ) → World
+begun_world failures one two job rest written =
+    record {
+      state = begun_state one two job;
+      work = record (empty_world failures).work {
+        queue = put_at (λ group. []) 0 rest;
+        writer = put_at (λ group. Idle) 0 (Writing job (three_blocks_at 1 0) written);
+      };
+    }
+
+-- the write of a block has failed
+abbrev pub failed_world : (failures : ℕ → ℕ) → (one two : List ℕ) → Job → (rest : List Job)
+    → (written : ℕ) → World
+failed_world failures one two job rest written =
+    let before = begun_world failures one two job rest written in
+    record {
+      state = record before.state {
+        claim = put_id before.state.claim job.id (Storing job.session three_blocks claims.Failed);
+      };
+      work = record before.work {
+        writer = put_at before.work.writer 0 (world.Failed job (Some (three_blocks_at 1 0)));
+      };
+    }
+
+-- two texts are stored, and session 2 has read two of the three blocks of the first
+abbrev pub reading_last : (failures : ℕ → ℕ) → (one two : List ℕ) → World
+reading_last failures one two =
+    let before = two_stored failures one two in
+    record before {
+      state = record before.state {
+        session = put_at before.state.session 2 (Some (record reading {
+          phase = Fetches (OfId WholeText (codes "<1@x>")) (three_blocks_at 0 0) 2;
+        }));
+      };
+    }
+
+-- ids may be forgotten after a hundred seconds
+abbrev pub forgetting : Terms
+forgetting = record k1 { remember = Some 100 }
+
+-- three articles were begun, so that the first is overwritten; the ids of the first two are stored,
+-- a third one was refused, and a fourth is offered
+abbrev pub remembering : (failures : ℕ → ℕ) → World
+remembering failures =
+    record (empty_world failures) {
+      state = record empty_state {
+        claim = put_id (put_id (put_id (put_id (λ id. Unknown) (codes "<1@x>")
+            (Stored (three_blocks_at 0 0) now)) (codes "<2@x>")
+            (Stored (three_blocks_at 0 3) now)) (codes "<e@x>") (Refused now)) (codes "<o@x>")
+            (Offered 1);
+        begun = λ group. 3 ∷ 3 ∷ 3 ∷ [];
+        session = put_at (λ s. None) 2 (Some reading);
+        newest = Some 2;
+      };
+    }
+
+-- session 1 has so many offers open, all of one id
+abbrev pub offering : (failures : ℕ → ℕ) → ℕ → World
+offering failures n =
+    record (empty_world failures) {
+      state = record empty_state {
+        claim = put_id (λ id. Unknown) (codes "<o@x>") (Offered 1);
+        session = put_at (λ s. None) 1
+            (Some (record reading { offers = replicate n (codes "<o@x>") }));
+        newest = Some 1;
+      };
+    }
+
+-- session 1 has a job in its hand, and so many are queued
+abbrev pub pushing : (failures : ℕ → ℕ) → ℕ → World
+pushing failures n =
+    record {
+      state = record empty_state {
+        claim = put_id (λ id. Unknown) (codes "<3@x>") (Storing 1 three_blocks Waiting);
+        session = put_at (λ s. None) 1 (Some (record waiting_third { hand = Some third_job }));
+        newest = Some 1;
+      };
+      work = record (empty_world failures).work {
+        queue = put_at (λ group. []) 0 (replicate n fourth_job);
+      };
+    }
