@@ -1,20 +1,25 @@
-//! Rows of text, played. Standard input holds rows, each under a line `== what it shows`: a drill
-//! script, which is run with the configuration K1. The line is printed again, with what the drill
-//! wrote, and where it failed with the text of its fault and the status, as `script:3: fault (3)`.
+//! Rows of text, played. Standard input holds rows, each under a line `== what it shows`: the
+//! words of the program, one behind each `$`, and its standard input, most often a drill script.
+//! The line is printed again, with what `relay_command::run` wrote, and where it failed with the
+//! text of its failure and the status.
 //!
-//! The rows stand in the file `stdin` of this crate, what they have to print in `stdout`.
+//! The rows stand in the file `stdin` of this crate, what they have to print in `stdout`, and the
+//! configurations that they name in `data`.
 #![tactic(auto)]
 
 mod expand;
 mod row;
 mod streams;
 
-use relay_drill::{DrillError, put_all, read_all};
+use relay_drill::read_all;
 use row::Row;
 use std::io;
+use std::io::{ErrorKind, Write};
 
-fn main(rt: HostRuntime) -> Result<(), DrillError> {
-    let text = read_all(rt.alloc(), &mut rt.reader())?;
+fn main(rt: HostRuntime) -> io::Result<()> {
+    let Ok(text) = read_all(rt.alloc(), &mut rt.reader()) else {
+        return Err(io::Error::from(ErrorKind::InvalidInput));
+    };
     let mut row = Row::new(rt.alloc(), b"");
     for line in text.as_slice().split(|octet| *octet == b'\n') {
         match line.strip_prefix(b"== ".as_slice()) {
@@ -29,11 +34,14 @@ fn main(rt: HostRuntime) -> Result<(), DrillError> {
 }
 
 /// Prints a row and what it gives. What stands before the first row is none.
-fn print(rt: &HostRuntime, row: &Row<'_>) -> Result<(), DrillError> {
+fn print(rt: &HostRuntime, row: &Row<'_>) -> io::Result<()> {
     if row.title.is_empty() {
         return Ok(());
     }
     let played = row.play(rt)?;
-    put_all(&mut io::writer(rt), &[b"== ", row.title, b"\n", &played])?;
+    let mut output = io::writer(rt);
+    for part in [b"== ".as_slice(), row.title, b"\n", &played] {
+        output.write_all(part)?;
+    }
     Ok(())
 }

@@ -1,20 +1,24 @@
-//! A row: what it shows, how its streams behave, and its script.
+//! A row: what it shows, the program's words, how its streams behave, and its standard input.
 use crate::expand::expanded;
 use crate::streams::{Input, Output};
-use first_core::Config;
-use relay_drill::{DrillError, drill};
+use relay_command::{print_failure, run};
 use std::alloc::{AllocError, Global};
+use std::{io, str};
 
 /// A row, with what it shows.
 #[derive(Drop)]
 pub struct Row<'a> {
     /// What the row shows.
     pub title: &'a [u8],
-    /// The words of its first line, where that begins with `$`: how its streams behave.
-    words: &'a [u8],
-    /// The lines below that, with an LF between each two: none stands behind the last.
+    /// The words behind the program's name: each stands in a line of its own, behind `$`.
+    words: Vec<&'a [u8]>,
+    /// How standard input behaves: the line behind `<`.
+    input: &'a [u8],
+    /// How standard output behaves: the line behind `>`.
+    output: &'a [u8],
+    /// The lines below those, with an LF between each two: none stands behind the last.
     script: Vec<u8>,
-    /// Whether a line was added.
+    /// Whether such a line was added.
     begun: bool,
 }
 
@@ -23,7 +27,9 @@ impl<'a> Row<'a> {
     pub fn new(alloc: Global, title: &'a [u8]) -> Row<'a> {
         Row {
             title,
-            words: b"",
+            words: Vec::new(alloc),
+            input: b"",
+            output: b"",
             script: Vec::new(alloc),
             begun: false,
         }
@@ -31,33 +37,47 @@ impl<'a> Row<'a> {
 
     /// Adds a line.
     pub fn add(&mut self, line: &'a [u8]) -> Result<(), AllocError> {
-        if !self.begun && self.words.is_empty() {
-            if let Some(words) = line.strip_prefix(b"$ ".as_slice()) {
-                self.words = words;
-                return Ok(());
-            }
-        }
         if self.begun {
             self.script.push(b'\n')?;
+        } else if let Some(word) = line.strip_prefix(b"$ ".as_slice()) {
+            self.words.push(word)?;
+            return Ok(());
+        } else if let Some(input) = line.strip_prefix(b"< ".as_slice()) {
+            self.input = input;
+            return Ok(());
+        } else if let Some(output) = line.strip_prefix(b"> ".as_slice()) {
+            self.output = output;
+            return Ok(());
         }
         self.begun = true;
         self.script.extend_from_slice(line)
     }
 
-    /// What the row gives: what its drill wrote, and its fault.
-    pub fn play(&self, rt: &HostRuntime) -> Result<Vec<u8>, DrillError> {
+    /// What the row gives: what the program wrote, and its failure.
+    pub fn play(&self, rt: &HostRuntime) -> io::Result<Vec<u8>> {
         let alloc = rt.alloc();
         let script = expanded(alloc, &self.script)?;
-        let mut input = Input::new(&script, self.words);
-        let mut output = Output::new(alloc, self.words);
-        let config = Config::k1(alloc)?;
-        let drilled = drill(rt, alloc, config, &mut input, &mut output);
+        let words = self.command_line(alloc)?;
+        let mut input = Input::new(&script, self.input);
+        let mut output = Output::new(alloc, self.output);
+        let ran = run(rt, alloc, &words, &mut input, &mut output);
         let mut played = output.written;
-        if let Err(fault) = drilled {
-            let status = fault.status();
-            let line = format!(in alloc; "{fault} ({status})\n")?;
-            played.extend_from_slice(line.as_bytes())?;
+        print_failure(&ran, &mut played)?;
+        if let Err(failure) = ran {
+            let status = format!(in alloc; "status {}\n", failure.status())?;
+            played.extend_from_slice(status.as_bytes())?;
         }
         Ok(played)
+    }
+
+    /// The words of the program, its name first. A word that is no UTF-8 is empty.
+    fn command_line(&self, alloc: Global) -> Result<Vec<String>, AllocError> {
+        let mut words = Vec::new(alloc);
+        words.push(String::from_str(alloc, "cnrelay")?)?;
+        for word in &self.words {
+            let text = str::from_utf8(word).unwrap_or("");
+            words.push(String::from_str(alloc, text)?)?;
+        }
+        Ok(words)
     }
 }

@@ -3,8 +3,8 @@ use std::alloc::Global;
 use std::io;
 use std::io::{ErrorKind, Read, Write};
 
-/// Standard input of a row: all at once; by `<octets` and `<broken` an octet at a turn, each after
-/// an interrupted one; by `<broken` it fails at its end.
+/// Standard input of a row: all at once; by `octets` and `broken` an octet at a turn, each after an
+/// interrupted one; by `broken` it fails at its end.
 #[derive(Drop)]
 pub struct Input<'a> {
     rest: &'a [u8],
@@ -14,12 +14,12 @@ pub struct Input<'a> {
 }
 
 impl<'a> Input<'a> {
-    /// These octets, as the words say.
-    pub fn new(rest: &'a [u8], words: &[u8]) -> Input<'a> {
-        let broken = has_word(words, b"<broken");
+    /// These octets, given in this manner.
+    pub fn new(rest: &'a [u8], manner: &[u8]) -> Input<'a> {
+        let broken = manner == b"broken".as_slice();
         Input {
             rest,
-            by_octets: broken || has_word(words, b"<octets"),
+            by_octets: broken || manner == b"octets".as_slice(),
             broken,
             interrupted: false,
         }
@@ -44,7 +44,7 @@ impl<'a> Read for Input<'a> {
     }
 }
 
-/// Standard output of a row: by `>full` it fails once it holds 40 octets.
+/// Standard output of a row: by `full` it fails once it holds 40 octets, by `closed` at once.
 #[derive(Drop)]
 pub struct Output {
     pub written: Vec<u8>,
@@ -52,17 +52,24 @@ pub struct Output {
 }
 
 impl Output {
-    /// Nothing is written yet.
-    pub fn new(alloc: Global, words: &[u8]) -> Output {
+    /// Nothing is written yet, and it is taken in this manner.
+    pub fn new(alloc: Global, manner: &[u8]) -> Output {
         Output {
             written: Vec::new(alloc),
-            most: if has_word(words, b">full") {
-                40
-            } else {
-                usize::MAX
-            },
+            most: most_of(manner),
         }
     }
+}
+
+/// How many octets are taken before it fails.
+fn most_of(manner: &[u8]) -> usize {
+    if manner == b"closed".as_slice() {
+        return 0;
+    }
+    if manner == b"full".as_slice() {
+        return 40;
+    }
+    usize::MAX
 }
 
 impl Write for Output {
@@ -77,11 +84,4 @@ impl Write for Output {
     fn flush(&mut self) -> io::Result<()> {
         Ok(())
     }
-}
-
-/// Whether this is one of the words.
-fn has_word(words: &[u8], word: &[u8]) -> bool {
-    words
-        .split(|octet| *octet == b' ')
-        .any(|other| other == word)
 }
