@@ -31,6 +31,6 @@ pub among : (plain given : Arg) (values : ValueParser) (rule : Rule)
     → rule_of plain ≡ rule → rule_of given ≡ record rule { parser = Some values }
 among plain given values rule others tested same =
     let with_parser : Option ValueParser → Rule =
-        λ p. rule_of (record plain { value_parser = p }) in
+    λ p. rule_of (record plain { value_parser = p }) in
     let with_values : Rule → Rule = λ r. record r { parser = Some values } in
     ap rule_of others ∙ ap with_parser tested ∙ ap with_values same

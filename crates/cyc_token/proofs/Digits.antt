@@ -39,7 +39,7 @@ agrees_at (suc n) k h lt =
 upper_of_lower : (n : ℕ) → n < 16 → to_ascii_uppercase (slice_index lower_digits n) ≡ upper_digit n
 upper_of_lower n h =
     eqb-true (to_ascii_uppercase (slice_index lower_digits n)) (upper_digit n)
-        (agrees_at 16 n refl h)
+    (agrees_at 16 n refl h)
 
 -- lower case text in upper case has the digits of the definition
 pub upper_text : (xs : List ℕ) → IsBytes xs
@@ -106,13 +106,13 @@ decodes_from i (a ∷ b ∷ rest) xs e h =
     let p2 = bind_ok (value_at b (i + 1)) _ p0.0 p1.2 in
     let p3 = bind_ok (decode_pairs (i + 2) rest) _ xs p0.2 in
     let la = or_parts (is_ascii_lowercase a)
-        (is_ascii_lowercase b || list_any is_ascii_lowercase rest) h in
+    (is_ascii_lowercase b || list_any is_ascii_lowercase rest) h in
     let lb = or_parts (is_ascii_lowercase b) (list_any is_ascii_lowercase rest) la.1 in
     let ih = decodes_from (i + 2) rest p3.0 p3.1 lb.1 in
     let whole : p0.0 ∷ p3.0 ≡ xs =
-        ap (λ (r : Result (List ℕ) FromHexError). result_unwrap_or r []) p3.2 in
+    ap (λ (r : Result (List ℕ) FromHexError). result_unwrap_or r []) p3.2 in
     let byte : p1.0 * 16 + p2.0 ≡ p0.0 =
-        ap (λ (r : Result ℕ FromHexError). result_unwrap_or r 0) p2.2 in
+    ap (λ (r : Result ℕ FromHexError). result_unwrap_or r 0) p2.2 in
     let da = digit_back a p1.0 (digit_read a i (hex_digit_value a) p1.0 p1.1) la.0 in
     let db = digit_back b p2.0 (digit_read b (i + 1) (hex_digit_value b) p2.0 p2.1) lb.0 in
     let high : p0.0 / 16 ≡ p1.0 = omega (arith, da.1, db.1) in
@@ -129,9 +129,9 @@ digits_back (x ∷ xs) (y ∷ ys) hx hy e =
     let sx : x < 256 = hx 0 in
     let sy : y < 256 = hy 0 in
     let high : upper_digit (x / 16) ≡ upper_digit (y / 16) =
-        ap (λ (s : List ℕ). slice_index s 0) e in
+    ap (λ (s : List ℕ). slice_index s 0) e in
     let low : upper_digit (x % 16) ≡ upper_digit (y % 16) =
-        ap (λ (s : List ℕ). slice_index s 1) e in
+    ap (λ (s : List ℕ). slice_index s 1) e in
     let same_high = one_digit (x / 16) (y / 16) (omega arith) (omega arith) high in
     let same_low = one_digit (x % 16) (y % 16) (omega arith) (omega arith) low in
     let same : x ≡ y = omega (arith, same_high, same_low) in

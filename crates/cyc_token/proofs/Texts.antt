@@ -55,16 +55,18 @@ Decides-marks text =
 
 -- the test of the digits decides them
 Decides-digits : (text : List ℕ) → Decides (has_digits text) (AllPass is_hex_digit (digits_of text))
-Decides-digits text =
-    (AllPass-from_list_all is_hex_digit (digits_of text),
-        list_all-from_AllPass is_hex_digit (digits_of text))
+Decides-digits text = (
+  AllPass-from_list_all is_hex_digit (digits_of text),
+  list_all-from_AllPass is_hex_digit (digits_of text),
+)
 
 -- the test of their case decides it
 Decides-lower : (text : List ℕ)
     → Decides (has_lower text) (Any (λ c. is_ascii_lowercase c ≡ true) (digits_of text))
-Decides-lower text =
-    (Any-from_list_any is_ascii_lowercase (digits_of text),
-        list_any-from_Any is_ascii_lowercase (digits_of text))
+Decides-lower text = (
+  Any-from_list_any is_ascii_lowercase (digits_of text),
+  list_any-from_Any is_ascii_lowercase (digits_of text),
+)
 
 -- ---- the fault that four tests find
 
@@ -72,7 +74,7 @@ Decides-lower text =
 abbrev fault_by : Bool → Bool → Bool → Bool → Option TokenError
 fault_by len marks digits lower =
     cond len (cond marks (cond digits (cond lower (Some LowerCase) None) (Some Digit)) (Some Marks))
-        (Some Length)
+    (Some Length)
 
 -- there is no fault where the tests hold and no letter is lower case
 none_by : {P Q R S : Type 0} (a b c d : Bool) → Decides a P → Decides b Q → Decides c R
@@ -127,7 +129,7 @@ lower_by false b c d p q r s = (λ e. absurd cc, λ w. absurd (false≢true (p.1
 pub length_fault : (text : List ℕ) → (token_fault text ≡ Some Length) ↔ HasOtherLength text
 length_fault text =
     let law = length_by (has_length text) (has_marks text) (has_digits text) (has_lower text)
-        (Decides-length text) in
+    (Decides-length text) in
     (λ e. record { length = law.0 e }, λ m. law.1 m.length)
 
 -- a text lacks its marks exactly where that is its fault
@@ -188,7 +190,7 @@ octets_fit t h (suc (suc (suc (suc (suc (suc (suc (suc (suc (suc (suc (suc (suc 
     omega arith
 octets_fit t h
     (suc (suc (suc (suc (suc (suc (suc (suc (suc (suc (suc (suc (suc (suc k)))))))))))))) =
-        omega arith
+    omega arith
 
 -- the text of a token has no fault
 pub text_fits : (t : terms.Token) → IsToken t → token_fault (token_text t) ≡ None
@@ -200,7 +202,7 @@ text_fits t h =
       fit.0,
       λ some.
           false≢true (sym fit.1 ∙ list_any-from_Any is_ascii_lowercase
-              (digits_of (token_text t)) some),
+          (digits_of (token_text t)) some),
     )
 
 -- two tokens of the same octets are the same
@@ -220,15 +222,20 @@ octets_tell a b ha hb e =
     sym (from_be_bytes-to_be_bytes_4 a.length ha.length)
     ∙ ap (λ (x : List ℕ). from_be_bytes w32 (take 4 (drop 10 x))) e
     ∙ from_be_bytes-to_be_bytes_4 b.length hb.length in
-    λ i. record { class = class i; buffer = buffer i; cycle = cycle i; first = first i;
-        length = len i }
+    λ i. record {
+      class = class i;
+      buffer = buffer i;
+      cycle = cycle i;
+      first = first i;
+      length = len i;
+    }
 
 -- each token has a text of its own
 pub one_spelling : (a b : terms.Token) → IsToken a → IsToken b → token_text a ≡ token_text b → a ≡ b
 one_spelling a b ha hb e =
     octets_tell a b ha hb
     (digits_back (token_octets a) (token_octets b) (octets_fit a ha) (octets_fit b hb)
-        (ap digits_of e))
+    (ap digits_of e))
 
 -- a text without a fault is its digits between the marks
 pub marked_text : (text digits : List ℕ) → token_fault text ≡ None → digits_of text ≡ digits
@@ -296,7 +303,12 @@ answers_token r text g t = (
         → IsToken (token_view t) × (text ≡ token_text (token_view t)) → q ≡ Ok t
     is_that (Ok u) h w =
         let same = one_spelling (token_view u) (token_view t) h.0 w.0 (sym h.1 ∙ w.1) in
-        ap (λ (v : terms.Token). Ok (record { class = v.class; buffer = v.buffer; cycle = v.cycle;
-            first = v.first; length = v.length })) same
+        ap (λ (v : terms.Token). Ok (record {
+          class = v.class;
+          buffer = v.buffer;
+          cycle = v.cycle;
+          first = v.first;
+          length = v.length;
+        })) same
     is_that (Err e) h w =
         absurd (none-some e (sym (text_fits (token_view t) w.0) ∙ sym (ap token_fault w.1) ∙ h))

@@ -1,7 +1,7 @@
 -- The worked rows from other worlds: their events, and what these are answered.
 use Rattle.std.specs.Prelude.{ℕ, ◌+◌, List, [], ◌∷◌, ◌++◌, codes, replicate}
 use Rattle.news_terms.specs.Reply.{ArticleFollows, TokenFollows, reply_text}
-use Rattle.relay_model.specs.Run.{Event, Bytes, Turn, Expire}
+use Rattle.relay_model.specs.Run.{Event, Bytes, Turn, Break, Expire}
 use Rattle.relay_model.specs.World.{Output, Quiet, Sent, Ended}
 use Rattle.relay_examples.specs.Rows.{turns, writes, quiet}
 use Rattle.relay_examples.specs.Terms.{now}
@@ -130,3 +130,18 @@ open_again = Bytes 1 (codes "CHECK <o@x>\r\n") ∷ turns 1 1
 -- 238
 abbrev pub open_again_replies : List Output
 open_again_replies = Quiet ∷ Sent 1 (codes "238 <o@x>\r\n") ∷ []
+
+-- session 1 leaves, ids are forgotten, and an article of a stored id is refused
+abbrev pub kept_from_others : List Event
+kept_from_others =
+    Break 1 ∷ turns 1 5 ++ Expire 1 (now + 100) ∷ Expire 1 (now + 100) ∷ Expire 6 (now + 100)
+    ∷ Bytes 2 (codes "CHECK <o@x>\r\nCHECK <3@x>\r\nCHECK <4@x>\r\nSTAT <2@x>\r\n")
+    ∷ Bytes 2 (codes "TAKETHIS <2@x>\r\n.\r\nSTAT <2@x>\r\n") ∷ turns 2 9
+
+-- 431 of what is offered to another or being stored; 223 of what is stored, before and after the 439
+abbrev pub kept_from_others_replies : List Output
+kept_from_others_replies =
+    Ended 1 [] ∷ quiet 10
+    ++ Sent 2 (codes "431 <o@x>\r\n") ∷ Sent 2 (codes "431 <3@x>\r\n")
+    ∷ Sent 2 (codes "431 <4@x>\r\n") ∷ Quiet ∷ Sent 2 (codes "223 0 <2@x>\r\n") ∷ Quiet
+    ∷ Sent 2 (codes "439 <2@x>\r\n") ∷ Quiet ∷ Sent 2 (codes "223 0 <2@x>\r\n") ∷ []

@@ -139,6 +139,21 @@ reading_last failures one two =
       };
     }
 
+-- session 1 has four offers open, of ids that are by now offered to session 3, being stored for
+-- session 1 and for session 3, and stored
+abbrev pub sharing : (failures : ℕ → ℕ) → (one two : List ℕ) → World
+sharing failures one two =
+    let before = two_stored failures one two in
+    record before {
+      state = record before.state {
+        claim = put_id before.state.claim (codes "<o@x>") (Offered 3);
+        session = put_at before.state.session 1 (Some (record reading {
+          offers =
+              codes "<o@x>" ∷ codes "<3@x>" ∷ codes "<4@x>" ∷ codes "<2@x>" ∷ [];
+        }));
+      };
+    }
+
 -- ids may be forgotten after a hundred seconds
 abbrev pub forgetting : Terms
 forgetting = record k1 { remember = Some 100 }

@@ -23,6 +23,7 @@ pub mod OpenOffers
 pub mod Permitted
 pub mod RisingFronts
 pub mod Runs
+pub mod Settling
 pub mod StoredOnce
 pub mod Tests
 pub mod WritesLeft

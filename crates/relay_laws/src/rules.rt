@@ -49,6 +49,16 @@ pub fn one_stores()
         → after_take s article claim ≡ claim }
 {}
 
+/// What an acceptance does to a claim is what settling says, and what giving an article up does to
+/// one is what forgetting says.
+pub fn writers_settle_and_forget()
+    ensures settled { (σ σ' : State) (job : Job) (token : Token) (now : ℕ)
+        → Accepts σ job token now σ'
+        → σ'.claim job.id ≡ after_settle job.session token now (σ.claim job.id) }
+    ensures forgotten { (w : Terms) (σ σ' : State) (job : Job) → Abandons w σ job σ'
+        → σ'.claim job.id ≡ after_forget job.session (σ.claim job.id) }
+{}
+
 /// A block has at most one judgement, and is never without one.
 pub fn one_judgement()
     ensures most { (w : Terms) (from : ℕ) (id : List ℕ) (now : ℕ) (text : Option (List ℕ))

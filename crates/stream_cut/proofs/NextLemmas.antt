@@ -23,21 +23,21 @@ next_line-is s = at (first_line s) refl
         → IsNextLine s (next_line_by o (length s))
     at None e = ⊎_elim
         (λ t. subst (IsNextLine s) (sym (cond-true _ TooLong Incomplete t))
-            (leb-true 512 (length s) t, λ k h. absurd (EndsAt-line s k e h)))
+        (leb-true 512 (length s) t, λ k h. absurd (EndsAt-line s k e h)))
         (λ f. subst (IsNextLine s) (sym (cond-false _ TooLong Incomplete f))
-            (leb-false 512 (length s) f, e))
+        (leb-false 512 (length s) f, e))
         (cases_Bool (leb 512 (length s)))
     at (Some p) e =
         let whole = first_line_whole s p e in
         let count : length s ≡ length p.0 + length (13 ∷ 10 ∷ p.1) =
-            ap length whole ∙ length-append p.0 (13 ∷ 10 ∷ p.1) in
+        ap length whole ∙ length-append p.0 (13 ∷ 10 ∷ p.1) in
         ⊎_elim
         (λ t. subst (IsNextLine s) (sym (cond-true _ (Cut p.0 p.1) TooLong t))
-            (e, leb-true (length p.0 + 2) 512 t))
+        (e, leb-true (length p.0 + 2) 512 t))
         (λ f.
         let long : 512 < length p.0 + 2 = leb-false (length p.0 + 2) 512 f in
         subst (IsNextLine s) (sym (cond-false _ (Cut p.0 p.1) TooLong f))
-            (omega arith, λ k h. omega (arith, EndsAt-least s p.0 p.1 k e h)))
+        (omega arith, λ k h. omega (arith, EndsAt-least s p.0 p.1 k e h)))
         (cases_Bool (leb (length p.0 + 2) 512))
 
 -- a stream is in one case
@@ -51,6 +51,6 @@ next_line-from s TooLong h = at (first_line s) refl
     at None e = cond-true _ _ _ (le-leb _ _ h.0)
     at (Some p) e = cond-false _ _ _
         (lt-leb (length p.0 + 2) 512
-            (h.1 (length p.0) (EndsAt-front s p.0 p.1 (first_line_whole s p e))))
+        (h.1 (length p.0) (EndsAt-front s p.0 p.1 (first_line_whole s p e))))
 next_line-from s Incomplete h = ap (λ (o : Option (List ℕ × List ℕ)). next_line_by o (length s)) h.1
     ∙ cond-false _ _ _ (lt-leb _ _ h.0)

@@ -130,7 +130,7 @@ pass_line s passed looked dots end h ends open_line =
     let same : left ≡ h.tail = passed-tail s passed looked dots h in
     let whole : left ≡ line ++ 13 ∷ 10 ∷ rest = first_line_whole left (line, rest) ends.first in
     let spelling : spelled (h.lines ++ line ∷ []) ≡ spelled h.lines ++ (line ++ crlf) =
-        spelled-push h.lines line in
+    spelled-push h.lines line in
     record {
       lines = h.lines ++ line ∷ [];
       unclosed = AreOpenLines-push h.lines line h.unclosed
@@ -141,8 +141,13 @@ pass_line s passed looked dots end h ends open_line =
           ∙ sym (append_assoc (spelled h.lines) (line ++ crlf) rest)
           ∙ ap (λ (x : List ℕ). x ++ rest) (sym spelling);
       count = ap length spelling
-          ∙ omega (arith, h.count, length-append (spelled h.lines) (line ++ crlf),
-              length-append line crlf, length-take-le end left (omega arith));
+          ∙ omega (
+            arith,
+            h.count,
+            length-append (spelled h.lines) (line ++ crlf),
+            length-append line crlf,
+            length-take-le end left (omega arith),
+          );
       dotted = dots_of-push h.lines line ∙ ap (λ (n : ℕ). n + dot_of line) h.dotted;
       seen = IsLooked-none rest;
     }
@@ -159,7 +164,7 @@ dot_closes s passed end ends lone =
     ends.first
     ∙ ap (λ (x : List ℕ). Some (x, drop (end + 2) left)) same
     ∙ ap (λ (x : List ℕ). Some (dot, x))
-        (drop-drop (end + 2) passed s ∙ ap (λ (n : ℕ). drop n s) place)
+    (drop-drop (end + 2) passed s ∙ ap (λ (n : ℕ). drop n s) place)
 
 -- no line follows: all that follows was looked at
 pub look_stops : (s : List ℕ) (passed looked dots n : ℕ) → IsPassed s passed looked dots
@@ -208,7 +213,7 @@ pub next_block-open : (limit : ℕ) (s : List ℕ) (passed looked dots : ℕ)
 next_block-open limit s passed looked dots h none =
     let same : drop passed s ≡ h.tail = passed-tail s passed looked dots h in
     ap (next_block_by limit) (first_block-none s h.lines h.tail h.whole h.unclosed
-        (ap first_line (sym same) ∙ none))
+    (ap first_line (sym same) ∙ none))
 
 -- where the lone dot follows the block is whole
 pub first_block-closed : (s : List ℕ) (passed looked dots : ℕ) → IsPassed s passed looked dots
@@ -218,10 +223,13 @@ first_block-closed s passed looked dots h closes =
     let rest = drop (passed + 3) s in
     let same : drop passed s ≡ h.tail = passed-tail s passed looked dots h in
     let tail : h.tail ≡ 46 ∷ 13 ∷ 10 ∷ rest =
-        sym same ∙ first_line_whole (drop passed s) (dot, rest) closes in
+    sym same ∙ first_line_whole (drop passed s) (dot, rest) closes in
     first_block-cuts s h.lines rest
-        (record { whole = h.whole ∙ ap (λ (x : List ℕ). spelled h.lines ++ x) tail; unclosed =
-            h.unclosed })
+    (record {
+      whole = h.whole ∙ ap (λ (x : List ℕ). spelled h.lines ++ x) tail;
+      unclosed =
+          h.unclosed;
+    })
     ∙ ap (λ (x : List (List ℕ)). Some (x, rest)) (sym (passed-text_lines s passed looked dots h))
 
 -- the lone dot takes three octets

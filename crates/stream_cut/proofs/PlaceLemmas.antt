@@ -47,14 +47,14 @@ pub EndsAt-line : (s : List ℕ) (k : ℕ) → first_line s ≡ None → EndsAt 
 EndsAt-line s k none h =
     let at = EndsAt-drop s k h in
     no_first_line s (take k s) (drop (k + 2) s) none
-        (sym (take-append-drop k s) ∙ ap (λ (x : List ℕ). take k s ++ x) at.1)
+    (sym (take-append-drop k s) ∙ ap (λ (x : List ℕ). take k s ++ x) at.1)
 
 -- the first line ends no later than any CRLF
 pub EndsAt-least : (s l r : List ℕ) (k : ℕ) → first_line s ≡ Some (l, r) → EndsAt s k → length l ≤ k
 EndsAt-least s l r k e h =
     let at = EndsAt-drop s k h in
     let least = (CutsLine-from_first s l r e).shortest (take k s) (drop (k + 2) s)
-        (sym (take-append-drop k s) ∙ ap (λ (x : List ℕ). take k s ++ x) at.1) in
+    (sym (take-append-drop k s) ∙ ap (λ (x : List ℕ). take k s ++ x) at.1) in
     omega (arith, least, length-take k s)
 
 -- the first CRLF ends the first line
@@ -121,7 +121,7 @@ line_found s hay looked k seen e none here =
     (λ new.
     let place : j ≡ looked + (j - looked) = omega arith in
     none.before (j - looked) (omega arith) (omega arith)
-        (occurs-EndsAt s hay looked (j - looked) e (subst (EndsAt s) place h)))
+    (occurs-EndsAt s hay looked (j - looked) e (subst (EndsAt s) place h)))
     (cases_lt j looked))
 
 -- a search from where the look stopped that finds nothing says that there is no line
@@ -134,7 +134,7 @@ line_missed s hay looked seen e none = line_nowhere s (λ j h. ⊎_elim
     let fits = (EndsAt-drop s j h).0 in
     let count : length hay ≡ length s - looked = ap length e ∙ length-drop looked s in
     none (j - looked) (omega arith) (omega arith)
-        (occurs-EndsAt s hay looked (j - looked) e (subst (EndsAt s) place h)))
+    (occurs-EndsAt s hay looked (j - looked) e (subst (EndsAt s) place h)))
     (cases_lt j looked))
 
 -- octets with no first line were looked at but for the last
@@ -153,18 +153,20 @@ next_line-ends s n k within limit h =
     let count : length (take n s) ≡ n = length-take-le n s within in
     let fits = h.fits in
     let grown = first_line-append (take n s) (take k (take n s)) (drop (k + 2) (take n s))
-        (drop n s) h.first in
+    (drop n s) h.first in
     let line : take k (take n s) ≡ take k s = take-take k n s (omega arith) in
     let rest : drop (k + 2) (take n s) ++ drop n s ≡ drop (k + 2) s =
     sym (drop-append-le (k + 2) (take n s) (drop n s) fits)
-        ∙ ap (drop (k + 2)) (take-append-drop n s) in
+    ∙ ap (drop (k + 2)) (take-append-drop n s) in
     let found : first_line s ≡ Some (take k s, drop (k + 2) s) =
     ap first_line (sym (take-append-drop n s)) ∙ grown
     ∙ ap (λ (x : List ℕ). Some (x, drop (k + 2) (take n s) ++ drop n s)) line
     ∙ ap (λ (x : List ℕ). Some (take k s, x)) rest in
-    let short : length (take k s) + 2 ≤ 512 = omega (arith, length-take k s) in
-    (omega arith, ap (λ (o : Option (List ℕ × List ℕ)). next_line_by o (length s)) found
-        ∙ cond-true _ _ _ (le-leb _ _ short))
+    let short : length (take k s) + 2 ≤ 512 = omega (arith, length-take k s) in (
+      omega arith,
+      ap (λ (o : Option (List ℕ × List ℕ)). next_line_by o (length s)) found
+          ∙ cond-true _ _ _ (le-leb _ _ short),
+    )
 
 -- no line within 512 octets
 pub next_line-too_long : (s : List ℕ) → 512 ≤ length s → first_line (take 512 s) ≡ None
@@ -175,9 +177,9 @@ next_line-too_long s long none = at (first_line s) refl
     at None e = cond-true _ _ _ (le-leb _ _ long)
     at (Some p) e = ⊎_elim
         (λ early. absurd
-            (EndsAt-line (take 512 s) (length p.0) none
-                (take-EndsAt s 512 (length p.0) (omega arith)
-                    (EndsAt-front s p.0 p.1 (first_line_whole s p e)))))
+        (EndsAt-line (take 512 s) (length p.0) none
+        (take-EndsAt s 512 (length p.0) (omega arith)
+        (EndsAt-front s p.0 p.1 (first_line_whole s p e)))))
         (λ late. cond-false _ _ _ (lt-leb (length p.0 + 2) 512 (omega arith)))
         (cases_lt (length p.0 + 1) 512)
 

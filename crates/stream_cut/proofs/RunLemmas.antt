@@ -70,8 +70,8 @@ pub step_line : (old new : Stream) (w : Want) (given : Option (Vec ℕ Global)) 
     → Advances old w (OfLine line.items) new
 step_line old new w given line is e h =
     subst (λ (x : Want). Advances old x (OfLine line.items) new) (sym is)
-        (advances_line old line.items new
-            (subst (λ (x : Option (Vec ℕ Global)). LineCut old (Ok x) new) e h))
+    (advances_line old line.items new
+    (subst (λ (x : Option (Vec ℕ Global)). LineCut old (Ok x) new) e h))
 
 -- what `block` gives is a step
 pub step_block : (old new : Stream) (w : Want) (given : Option Block) (b : Block) → w ≡ want.Block
@@ -79,7 +79,7 @@ pub step_block : (old new : Stream) (w : Want) (given : Option Block) (b : Block
     → Advances old w (cut_off (cut.Block b)) new
 step_block old new w given b is e h =
     subst (λ (x : Want). Advances old x (cut_off (cut.Block b)) new) (sym is)
-        (at b (subst (λ (x : Option Block). BlockCut old (Ok x) new) e h))
+    (at b (subst (λ (x : Option Block). BlockCut old (Ok x) new) e h))
   where
     at : (b : Block) → BlockCut old (Ok (Some b)) new
         → Advances old want.Block (cut_off (cut.Block b)) new
@@ -92,7 +92,7 @@ pub step_end : (old new : Stream) (w : Want) (error : CutError) → w ≡ want.L
 step_end old new w error is e sound h =
     let refused : RefusesLine old new = subst (λ (x : CutError). LineCut old (Err x) new) e h in
     let long : next_line old.unread ≡ TooLong =
-        ⊎_elim (λ was. absurd (false≢true (sym sound ∙ was))) (λ now. now) refused.too_long in
+    ⊎_elim (λ was. absurd (false≢true (sym sound ∙ was))) (λ now. now) refused.too_long in
     subst (λ (x : Want). Ends old x new) (sym is) (record {
       limit = ap (λ (s : Stream). s.limit) refused.remembered;
       unread = ap (λ (s : Stream). s.unread) refused.remembered;
@@ -115,15 +115,37 @@ cuts_up-line : (limit : ℕ) (wants : List Want) (later : List ℕ → List CutO
     → (stream : List ℕ) (n : NextLine) → IsNextLine stream n
     → CutsUpSome limit (want.Line ∷ wants) (line_and_later later n) stream
 cuts_up-line limit wants later ih stream (Cut line after) h =
-    let rest = ih after in
-    (rest.0, (after, record { cuts = CutsLine-from_first stream line after h.0; fits = h.1 },
-        rest.1))
-cuts_up-line limit wants later ih stream TooLong h =
-    (stream, (refl, refl, record { long = h.0; none =
-        λ line rest cut. h.1 (length line) (EndsAt-front stream line rest cut.whole) }))
-cuts_up-line limit wants later ih stream Incomplete h =
-    (stream, (refl, record { short = h.0; none =
-        λ line rest cut. no_first_line stream line rest h.1 cut.whole }))
+    let rest = ih after in (
+      rest.0,
+      (
+        after,
+        record { cuts = CutsLine-from_first stream line after h.0; fits = h.1 },
+        rest.1,
+      ),
+    )
+cuts_up-line limit wants later ih stream TooLong h = (
+  stream,
+  (
+    refl,
+    refl,
+    record {
+      long = h.0;
+      none =
+          λ line rest cut. h.1 (length line) (EndsAt-front stream line rest cut.whole);
+    },
+  ),
+)
+cuts_up-line limit wants later ih stream Incomplete h = (
+  stream,
+  (
+    refl,
+    record {
+      short = h.0;
+      none =
+          λ line rest cut. no_first_line stream line rest h.1 cut.whole;
+    },
+  ),
+)
 
 -- one block, and what is cut after it
 cuts_up-block : (limit : ℕ) (wants : List Want) (later : List ℕ → List CutOff)
@@ -132,17 +154,38 @@ cuts_up-block : (limit : ℕ) (wants : List Want) (later : List ℕ → List Cut
     → CutsUpSome limit (want.Block ∷ wants) (block_and_later later n) stream
 cuts_up-block limit wants later ih stream (blocks.Whole text after) h =
     let rest = ih after in
-    let short = subst (λ (x : List ℕ). length x ≤ limit) (sym h.2) h.3 in
-    (rest.0, (after, record { lines = h.0; cuts = CutsBlock-from_first stream h.0 after h.1;
-        unstuffs = h.2 }, short, rest.1))
+    let short = subst (λ (x : List ℕ). length x ≤ limit) (sym h.2) h.3 in (
+      rest.0,
+      (
+        after,
+        record {
+          lines = h.0;
+          cuts = CutsBlock-from_first stream h.0 after h.1;
+          unstuffs = h.2;
+        },
+        short,
+        rest.1,
+      ),
+    )
 cuts_up-block limit wants later ih stream (blocks.Oversize after) h =
-    let rest = ih after in
-    (rest.0, (unstuffed h.0, after,
+    let rest = ih after in (
+      rest.0,
+      (
+        unstuffed h.0,
+        after,
         record { lines = h.0; cuts = CutsBlock-from_first stream h.0 after h.1; unstuffs = refl },
-        h.2, rest.1))
-cuts_up-block limit wants later ih stream Unfinished h =
-    (stream, (refl, λ lines after cut. none-some (lines, after)
-        (sym h ∙ first_block-cuts stream lines after cut)))
+        h.2,
+        rest.1,
+      ),
+    )
+cuts_up-block limit wants later ih stream Unfinished h = (
+  stream,
+  (
+    refl,
+    λ lines after cut. none-some (lines, after)
+        (sym h ∙ first_block-cuts stream lines after cut),
+  ),
+)
 
 -- what a run cuts and a rest are the stream
 pub cuts_up : (limit : ℕ) (wants : List Want) (stream : List ℕ)
@@ -150,7 +193,7 @@ pub cuts_up : (limit : ℕ) (wants : List Want) (stream : List ℕ)
 cuts_up limit [] stream = (stream, refl)
 cuts_up limit (want.Line ∷ wants) stream =
     cuts_up-line limit wants (λ rest. cuts_of limit wants rest) (λ s. cuts_up limit wants s) stream
-        (next_line stream) (next_line-is stream)
+    (next_line stream) (next_line-is stream)
 cuts_up limit (want.Block ∷ wants) stream =
     cuts_up-block limit wants (λ rest. cuts_of limit wants rest) (λ s. cuts_up limit wants s) stream
-        (next_block limit stream) (next_block-is limit stream)
+    (next_block limit stream) (next_block-is limit stream)

@@ -15,9 +15,9 @@ pub stuffed_line-crlf : (l : List ℕ) → stuffed_line (l ++ crlf) ≡ stuffed_
 stuffed_line-crlf [] = refl
 stuffed_line-crlf (a ∷ l) = ⊎_elim
     (λ t. cond-true _ _ _ t ∙ ap (λ (x : List ℕ). x ++ crlf)
-        (sym (cond-true _ (46 ∷ a ∷ l) (a ∷ l) t)))
+    (sym (cond-true _ (46 ∷ a ∷ l) (a ∷ l) t)))
     (λ f. cond-false _ _ _ f ∙ ap (λ (x : List ℕ). x ++ crlf)
-        (sym (cond-false _ (46 ∷ a ∷ l) (a ∷ l) f)))
+    (sym (cond-false _ (46 ∷ a ∷ l) (a ∷ l) f)))
     (cases_Bool (a == 46))
 
 -- nor does unstuffing
@@ -45,16 +45,20 @@ module _ (f : List ℕ → List ℕ) where
       let here : left ≡ line ++ 13 ∷ 10 ∷ rest = first_line_whole left (line, rest) ends.first in
       let fits = ends.fits in
       let split : left ≡ (line ++ crlf) ++ rest = here ∙ sym (append_assoc line crlf rest) in
-      let count : length (line ++ crlf) ≡ next - at = omega (arith, ap length split,
-          length-append (line ++ crlf) rest, length-drop (end + 2) left) in
+      let count : length (line ++ crlf) ≡ next - at = omega (
+        arith,
+        ap length split,
+        length-append (line ++ crlf) rest,
+        length-drop (end + 2) left,
+      ) in
       let taken : take (next - at) left ≡ line ++ crlf = ap (take (next - at)) split
-          ∙ take_at (line ++ crlf) rest (next - at) count in
+      ∙ take_at (line ++ crlf) rest (next - at) count in
       let place : at + (end + 2) ≡ next = omega arith in
       let after : rest ≡ drop next t = drop-drop (end + 2) at t ∙ ap (λ (n : ℕ). drop n t) place in
       let one : f (take (next - at) left) ≡ f line ++ crlf = ap f taken ∙ even line in
       let lines : sent left ≡ (f line ++ crlf) ++ sent rest =
-          ap (λ (x : List (List ℕ)). spelled (map f x))
-          (text_lines-line left line rest ends.first) in
+      ap (λ (x : List (List ℕ)). spelled (map f x))
+      (text_lines-line left line rest ends.first) in
       append_assoc before (f (take (next - at) left)) (sent (drop next t))
       ∙ ap (λ (x : List ℕ). before ++ (x ++ sent (drop next t))) one
       ∙ ap (λ (x : List ℕ). before ++ ((f line ++ crlf) ++ sent x)) (sym after)
@@ -66,7 +70,7 @@ module _ (f : List ℕ → List ℕ) where
       → before ++ sent (drop at t) ≡ whole → before ≡ whole
   sent_all t before whole at none so_far =
       sym (append-nil before) ∙ ap (λ (x : List ℕ). before ++ sent x) (sym (drop_all at t none))
-          ∙ so_far
+      ∙ so_far
 
 -- whole lines with one taken off are whole lines
 pub whole_more : (t : List ℕ) (at end next : ℕ) → LineEnds (drop at t) end → next ≡ at + end + 2
@@ -80,11 +84,11 @@ whole_more t at end next ends e whole =
     let after : rest ≡ drop next t = drop-drop (end + 2) at t ∙ ap (λ (n : ℕ). drop n t) place in
     let here : left ≡ line ++ 13 ∷ 10 ∷ rest = first_line_whole left (line, rest) ends.first in
     let lines : spelled (text_lines left) ≡ (line ++ crlf) ++ spelled (text_lines rest) =
-        ap spelled (text_lines-line left line rest ends.first) in
+    ap spelled (text_lines-line left line rest ends.first) in
     let same : (line ++ crlf) ++ spelled (text_lines rest) ≡ (line ++ crlf) ++ rest =
-        sym lines ∙ whole ∙ here ∙ sym (append_assoc line crlf rest) in
+    sym lines ∙ whole ∙ here ∙ sym (append_assoc line crlf rest) in
     subst (λ (x : List ℕ). spelled (text_lines x) ≡ x) after
-        (append_cancel_left (line ++ crlf) _ _ same)
+    (append_cancel_left (line ++ crlf) _ _ same)
 
 -- whole lines with no line are none
 pub whole_none : (t : List ℕ) (at : ℕ) → first_line (drop at t) ≡ None
@@ -93,9 +97,13 @@ whole_none t at none whole = ⊎_elim
     (λ some.
     let left = drop at t in
     let lines : spelled (text_lines left) ≡ (left ++ crlf) ++ [] =
-        ap spelled (text_lines-last left none (omega (arith, length-drop at t))) in
+    ap spelled (text_lines-last left none (omega (arith, length-drop at t))) in
     let more : (left ++ crlf) ++ [] ≡ left = sym lines ∙ whole in
-    absurd (omega (arith, ap length more, length-append (left ++ crlf) [],
-        length-append left crlf)))
+    absurd (omega (
+      arith,
+      ap length more,
+      length-append (left ++ crlf) [],
+      length-append left crlf,
+    )))
     (λ past. past)
     (cases_lt at (length t))

@@ -34,7 +34,7 @@ pub fn answer(
 /// Writes the message-id of an article, the place of its body, and the body, or the text's fault.
 fn put_article(alloc: Global, text: &mut Vec<u8>, octets: &[u8]) -> Result<(), AllocError> {
     match Article::parse(alloc, octets) {
-        Ok(article) => put_three(
+        Ok(article) => put_read(
             text,
             article.id().as_bytes(),
             article.body_at(),
@@ -45,7 +45,7 @@ fn put_article(alloc: Global, text: &mut Vec<u8>, octets: &[u8]) -> Result<(), A
 }
 
 /// Writes the message-id of an article, the place of its body, and the body.
-fn put_three(text: &mut Vec<u8>, id: &[u8], body_at: usize, body: &[u8]) -> Result<(), AllocError> {
+fn put_read(text: &mut Vec<u8>, id: &[u8], body_at: usize, body: &[u8]) -> Result<(), AllocError> {
     put_octets(text, id)?;
     text.extend_from_slice(b" ")?;
     put_number(text, body_at as u64)?;

@@ -21,7 +21,7 @@ pub fn answer(
         ("cut_all", [limit, wants, pieces @ ..]) => put_cut_all(alloc, text, limit, wants, pieces),
         ("cut_in_two", [limit, wants, stream]) => put_cut_in_two(alloc, text, limit, wants, stream),
         ("cut_in_octets", [limit, wants, stream]) => {
-            put_cut_all(alloc, text, limit, wants, &octets_of(alloc, stream)?)
+            put_cut_all(alloc, text, limit, wants, &pieces_of(alloc, stream)?)
         }
         _ => return Ok(false),
     };
@@ -148,7 +148,7 @@ fn wants_of(alloc: Global, letters: &[u8]) -> Result<Vec<Want>, AllocError> {
 }
 
 /// The pieces of a stream that comes octet by octet.
-fn octets_of(alloc: Global, stream: &[u8]) -> Result<Vec<Vec<u8>>, AllocError> {
+fn pieces_of(alloc: Global, stream: &[u8]) -> Result<Vec<Vec<u8>>, AllocError> {
     let mut pieces = Vec::new(alloc);
     for octet in stream {
         pieces.push(Vec::from_slice(alloc, &[*octet])?)?;

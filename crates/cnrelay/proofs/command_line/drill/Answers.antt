@@ -17,14 +17,14 @@ returns c =
     let named = with_word c.about.result c.in_ok-arg.field-0 folder.result _ _ start
     (ap is_global folder.ensures.others ∙ ap is_global c.help.ensures ∙ c.needed.ensures.own)
     (among c.help.result folder.result folder.ensures.given.0 _ folder.ensures.others
-        folder.ensures.given.1 (ap rule_of c.help.ensures ∙ c.needed.ensures.rule))
+    folder.ensures.given.1 (ap rule_of c.help.ensures ∙ c.needed.ensures.rule))
     c.in_ok-arg.ensures in (
       folder.ensures.given.0,
       script.ensures.given.0,
       with_word c.in_ok-arg.field-0 c.in_ok-arg-2.field-0 script.result _ _ named
           (ap is_global script.ensures.others ∙ ap is_global c.help-2.ensures
-              ∙ c.needed-2.ensures.own)
+          ∙ c.needed-2.ensures.own)
           (among c.help-2.result script.result script.ensures.given.0 _ script.ensures.others
-              script.ensures.given.1 (ap rule_of c.help-2.ensures ∙ c.needed-2.ensures.rule))
+          script.ensures.given.1 (ap rule_of c.help-2.ensures ∙ c.needed-2.ensures.rule))
           c.in_ok-arg-2.ensures,
     )

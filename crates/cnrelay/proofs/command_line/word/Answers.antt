@@ -8,12 +8,12 @@ use Rattle.cnrelay.proofs.command_line.word.Goals as goal
 pub returns-in-Some : goal.returns-in-Some
 returns-in-Some c =
     let given = sym (first_value-rows (found_of c.args.given.now) c.args.name.now)
-        ∙ sym c.get_str.ensures ∙ ap (option_map (λ s. s.now)) c.in-Some.is in
+    ∙ sym c.get_str.ensures ∙ ap (option_map (λ s. s.now)) c.in-Some.is in
     IfOk-weaker c.from_str.result _ _
-        (λ w same. same ∙ sym (ap (λ t. unwrap_or t []) given)) c.from_str.ensures.ok
+    (λ w same. same ∙ sym (ap (λ t. unwrap_or t []) given)) c.from_str.ensures.ok
 
 pub returns-in-None : goal.returns-in-None
 returns-in-None c =
     let given = sym (first_value-rows (found_of c.args.given.now) c.args.name.now)
-        ∙ sym c.get_str.ensures ∙ ap (option_map (λ s. s.now)) c.in-None.is in
+    ∙ sym c.get_str.ensures ∙ ap (option_map (λ s. s.now)) c.in-None.is in
     c.new.ensures.bytes ∙ sym (ap (λ t. unwrap_or t []) given)

@@ -21,9 +21,15 @@ returns-clause-whole c = λ limit s text rest. (
 
 pub returns-clause-oversize : goal.returns-clause-oversize
 returns-clause-oversize c = λ limit s rest. (
-  λ e. let is = subst (IsNextBlock limit s) e (next_block-is limit s) in
-      (unstuffed is.0, record { lines = is.0; cuts = CutsBlock-from_first s is.0 rest is.1;
-          unstuffs = refl }, is.2),
+  λ e. let is = subst (IsNextBlock limit s) e (next_block-is limit s) in (
+    unstuffed is.0,
+    record {
+      lines = is.0;
+      cuts = CutsBlock-from_first s is.0 rest is.1;
+      unstuffs = refl;
+    },
+    is.2,
+  ),
   λ h. next_block-oversize limit s (h.1).lines rest (first_block-cuts s (h.1).lines rest (h.1).cuts)
       (subst (λ (x : List ℕ). limit < length x) (h.1).unstuffs h.2),
 )
@@ -32,6 +38,6 @@ pub returns-clause-unfinished : goal.returns-clause-unfinished
 returns-clause-unfinished c = λ limit s. (
   λ e lines rest cut. none-some (lines, rest)
       (sym (subst (IsNextBlock limit s) e (next_block-is limit s))
-          ∙ first_block-cuts s lines rest cut),
+      ∙ first_block-cuts s lines rest cut),
   λ h. ap (next_block_by limit) (first_block-none_cuts s h),
 )

@@ -16,8 +16,11 @@ late s h k ends = at (first_line s) refl
   where
     at : (o : Option (List ℕ × List ℕ)) → first_line s ≡ o → 512 < k + 2
     at None e = absurd (EndsAt-line s k e ends)
-    at (Some p) e = omega (arith, h.none p.0 p.1 (CutsLine-from_first s p.0 p.1 e),
-        EndsAt-least s p.0 p.1 k e ends)
+    at (Some p) e = omega (
+      arith,
+      h.none p.0 p.1 (CutsLine-from_first s p.0 p.1 e),
+      EndsAt-least s p.0 p.1 k e ends,
+    )
 
 pub returns-clause-line : goal.returns-clause-line
 returns-clause-line c = λ s line rest. (
@@ -29,8 +32,11 @@ returns-clause-line c = λ s line rest. (
 pub returns-clause-too_long : goal.returns-clause-too_long
 returns-clause-too_long c = λ s. (
   λ e. let is = subst (IsNextLine s) e (next_line-is s) in
-      record { long = is.0; none = λ line rest cut. is.1 (length line)
-          (EndsAt-front s line rest cut.whole) },
+      record {
+        long = is.0;
+        none = λ line rest cut. is.1 (length line)
+            (EndsAt-front s line rest cut.whole);
+      },
   λ h. next_line-from s TooLong (h.long, late s h),
 )
 

@@ -11,7 +11,7 @@ pub returns-in-Some : goal.returns-in-Some
 returns-in-Some c =
     let count = c.min-seen.ensures in
     next_line-ends c.args.octets.now c.min-seen.result c.in-Some.end (omega arith)
-        (omega arith) c.in-Some.ensures
+    (omega arith) c.in-Some.ensures
 
 pub returns-then-seen-eq-LINE_LIMIT : goal.returns-then-seen-eq-LINE_LIMIT
 returns-then-seen-eq-LINE_LIMIT c =
@@ -19,7 +19,7 @@ returns-then-seen-eq-LINE_LIMIT c =
     let count = c.min-seen.ensures in
     let full = c.if-seen-eq-LINE_LIMIT.true in
     next_line-too_long s (omega arith)
-        (ap (λ (n : ℕ). first_line (take n s)) (sym full) ∙ c.in_default.ensures)
+    (ap (λ (n : ℕ). first_line (take n s)) (sym full) ∙ c.in_default.ensures)
 
 pub returns : goal.returns
 returns c =
@@ -28,7 +28,8 @@ returns c =
     let short = c.if-seen-eq-LINE_LIMIT.false in
     let all : length s ≤ c.min-seen.result = omega arith in
     let none = ap first_line (sym (take_all c.min-seen.result s all)) ∙ c.in_default.ensures in
-    let one = c.saturating_sub-2.ensures in
-    (next_line-incomplete s (omega arith) none,
-        IsPassed-none s c.saturating_sub-2.result
-        (looked_all s c.saturating_sub-2.result none (omega arith)))
+    let one = c.saturating_sub-2.ensures in (
+      next_line-incomplete s (omega arith) none,
+      IsPassed-none s c.saturating_sub-2.result
+          (looked_all s c.saturating_sub-2.result none (omega arith)),
+    )

@@ -22,8 +22,12 @@ joined pieces = flat_map (λ piece. piece.items) pieces
 
 pub loop-piece-init : goal.loop-piece-init
 loop-piece-init c =
-    let made : c.new-cutter.result ≡ record { unread = []; limit = c.args.max_block; overlong =
-        false } = c.new-cutter.ensures in
+    let made : c.new-cutter.result ≡ record {
+      unread = [];
+      limit = c.args.max_block;
+      overlong =
+          false;
+    } = c.new-cutter.ensures in
     let wants = c.args.wants.now in
     let limit = c.args.max_block in
     let all = joined c.args.pieces.now in
@@ -48,19 +52,19 @@ loop-piece-preserved c =
     let after = c.in_ok-next.ensures in
     let more = joined (drop (i + 1) pieces) in
     let grown : fed ≡ with_unread old (old.unread ++ c.deref.result.now) = on_no_error
-        c.feed.result _ (sym c.is_err.ensures.value ∙ c.if-is_err.false) c.feed.ensures.fed in
+    c.feed.result _ (sym c.is_err.ensures.value ∙ c.if-is_err.false) c.feed.ensures.fed in
     let same : fed.limit ≡ limit = ap (λ (s : Stream). s.limit) grown ∙ inv.limit in
     let left : drop i pieces ≡ c.piece-item.result ∷ drop (i + 1) pieces =
     drop_more pieces i c.piece-item.result c.loop-piece-test.true
-        ∙ ap (λ x. x ∷ drop (i + 1) pieces) (sym c.piece-item.is) in
+    ∙ ap (λ x. x ∷ drop (i + 1) pieces) (sym c.piece-item.is) in
     let rest : fed.unread ++ more ≡ old.unread ++ joined (drop i pieces) =
     ap (λ (s : Stream). s.unread ++ more) grown ∙ append_assoc old.unread c.deref.result.now more
     ∙ ap (λ (x : List ℕ). old.unread ++ (x ++ more)) c.deref.ensures.value
     ∙ ap (λ x. old.unread ++ joined x) (sym left) in
     let cut = subst (λ (n : ℕ). map cut_off c.cut_ready.new.cuts.items ++ cuts_of n
-        (drop c.in_ok-next.next wants) (c.cut_ready.new.cutter.unread ++ more)
+    (drop c.in_ok-next.next wants) (c.cut_ready.new.cutter.unread ++ more)
     ≡ map cut_off c.loop-piece.cuts.items ++ cuts_of n (drop c.loop-piece.next wants)
-        (fed.unread ++ more)) same (after.cut more) in
+    (fed.unread ++ more)) same (after.cut more) in
     record {
       sound = after.sound;
       limit = after.limit ∙ same;
@@ -78,13 +82,13 @@ returns-clause-whole c =
     let inv = c.loop-piece.invariant in
     let unread = c.loop-piece.cutter.unread in
     let none : drop c.loop-piece.piece-index pieces ≡ [] =
-        drop_all c.loop-piece.piece-index pieces c.loop-piece-test.false in
+    drop_all c.loop-piece.piece-index pieces c.loop-piece-test.false in
     let end : unread ++ joined (drop c.loop-piece.piece-index pieces) ≡ unread =
-        ap (λ x. unread ++ joined x) none ∙ append-nil unread in
+    ap (λ x. unread ++ joined x) none ∙ append-nil unread in
     let told : map cut_off c.loop-piece.cuts.items ≡ cuts_of limit wants (joined pieces) =
     sym (append-nil (map cut_off c.loop-piece.cuts.items))
     ∙ ap (λ (x : List CutOff). map cut_off c.loop-piece.cuts.items ++ x)
-        (sym (ap (λ (x : List ℕ). cuts_of limit (drop c.loop-piece.next wants) x) end ∙ inv.waits))
+    (sym (ap (λ (x : List ℕ). cuts_of limit (drop c.loop-piece.next wants) x) end ∙ inv.waits))
     ∙ inv.cut in
     subst (λ (x : List CutOff). (rest : List ℕ) × CutsUp limit wants x (joined pieces) rest)
-        (sym told) (cuts_up limit wants (joined pieces))
+    (sym told) (cuts_up limit wants (joined pieces))

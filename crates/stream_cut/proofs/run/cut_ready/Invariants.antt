@@ -10,7 +10,7 @@ invariant-loop-at l = record {
   cut : (more : List ℕ) → map cut_off l.cuts.items ++ cuts_of l.fn.cutter.limit (drop l.at l.wants)
       (l.cutter.unread ++ more)
       ≡ map cut_off l.fn.cuts.items ++ cuts_of l.fn.cutter.limit (drop l.next l.wants)
-          (l.fn.cutter.unread ++ more);
+      (l.fn.cutter.unread ++ more);
 }
 
 abbrev pub decreases-loop-at : goal.decreases-loop-at

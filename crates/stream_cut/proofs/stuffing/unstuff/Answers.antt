@@ -15,13 +15,13 @@ loop-end-preserved c =
     let at = c.loop-end.at in
     let end = c.in-Some.end in
     let ends : LineEnds (drop at t) end =
-        subst (λ (x : List ℕ). LineEnds x end) (take_rest t at) c.in-Some.ensures in
+    subst (λ (x : List ℕ). LineEnds x end) (take_rest t at) c.in-Some.ensures in
     let pushed = c.in_ok-push_unstuffed.ensures in
     record {
       within = omega (arith, ends.fits, c.loop-end.invariant.within, length-drop at t);
       told = ap (λ (x : List ℕ). x ++ sent unstuffed_line (drop (at + end + 2) t)) pushed
           ∙ sent_more unstuffed_line unstuffed_line-crlf t c.loop-end.text.items
-              (sent unstuffed_line t) at end (at + end + 2) ends refl c.loop-end.invariant.told;
+          (sent unstuffed_line t) at end (at + end + 2) ends refl c.loop-end.invariant.told;
       whole = whole_more t at end (at + end + 2) ends refl c.loop-end.invariant.whole;
     }
 
@@ -31,4 +31,4 @@ returns c =
     let at = c.loop-end.at in
     let none = ap first_line (sym (take_rest t at)) ∙ c.in_default.ensures in
     sent_all unstuffed_line t c.loop-end.text.items (sent unstuffed_line t) at
-        (whole_none t at none c.loop-end.invariant.whole) c.loop-end.invariant.told
+    (whole_none t at none c.loop-end.invariant.whole) c.loop-end.invariant.told

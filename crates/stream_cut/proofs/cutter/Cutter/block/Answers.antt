@@ -31,10 +31,10 @@ advance-requires c =
     let p = c.in-Closed.progress in
     let i = c.self.inside in
     let same = unread_is c.deref.result.now i.octets.items i.start old.unread c.deref.ensures.value
-        (ap (λ (s : Stream). s.unread) c.self.view_is) in
+    (ap (λ (s : Stream). s.unread) c.self.view_is) in
     let closes = subst (λ (x : List ℕ). ClosesAt x p.passed) same c.in-Closed.ensures.1 in
     subst (λ (s : Stream). p.passed + 3 ≤ length s.unread) (sym c.self.view_is)
-        (ClosesAt-fits old.unread p.passed closes)
+    (ClosesAt-fits old.unread p.passed closes)
 
 pub returns-in-Open : goal.returns-in-Open
 returns-in-Open c =
@@ -42,11 +42,11 @@ returns-in-Open c =
     let p = c.in-Open.progress in
     let i = c.self.inside in
     let same = unread_is c.deref.result.now i.octets.items i.start old.unread c.deref.ensures.value
-        (ap (λ (s : Stream). s.unread) c.self.view_is) in
+    (ap (λ (s : Stream). s.unread) c.self.view_is) in
     let passed = subst (λ (x : List ℕ). IsPassed x p.passed p.looked p.dots) same
-        c.in-Open.ensures.0 in
+    c.in-Open.ensures.0 in
     let none = subst (λ (x : List ℕ). first_line (drop p.passed x) ≡ None) same
-        c.in-Open.ensures.1 in
+    c.in-Open.ensures.1 in
     record {
       cut = record {
         sound = sym (ap (λ (s : Stream). s.overlong) c.self.view_is) ∙ c.if-self.false;
@@ -62,16 +62,16 @@ returns-in_ok-block-in-Closed c =
     let i = c.self.inside in
     let block = c.in_ok-block-in-Closed.block in
     let same = unread_is c.deref.result.now i.octets.items i.start old.unread c.deref.ensures.value
-        (ap (λ (s : Stream). s.unread) c.self.view_is) in
+    (ap (λ (s : Stream). s.unread) c.self.view_is) in
     let passed = subst (λ (x : List ℕ). IsPassed x p.passed p.looked p.dots) same
-        c.in-Closed.ensures.0 in
+    c.in-Closed.ensures.0 in
     let closes = subst (λ (x : List ℕ). ClosesAt x p.passed) same c.in-Closed.ensures.1 in
     let is = subst (λ (x : List ℕ). IsBlockOf i.max_block
-        (unstuffed (text_lines (take p.passed x))) block) same c.in_ok-block-in-Closed.ensures in
+    (unstuffed (text_lines (take p.passed x))) block) same c.in_ok-block-in-Closed.ensures in
     let limited = subst (λ (n : ℕ). IsBlockOf n (unstuffed (text_lines (take p.passed old.unread)))
-        block) (ap (λ (s : Stream). s.limit) c.self.view_is) is in
+    block) (ap (λ (s : Stream). s.limit) c.self.view_is) is in
     let left = c.advance.ensures ∙ ap (λ (s : Stream). with_unread s (drop (p.passed + 3) s.unread))
-        c.self.view_is in
+    c.self.view_is in
     record {
       cut = takes_block old c.advance.new.self block p.passed p.looked p.dots
           (sym (ap (λ (s : Stream). s.overlong) c.self.view_is) ∙ c.if-self.false) passed closes
