@@ -4,7 +4,7 @@
 //! those of docs/ and of the contracts, never this program's own.
 //!
 //! A row is the name of a call and its words, as README.md lists them. What a call leaves behind,
-//! the rows after it find: one store of blocks, one buffer and one shard of claims.
+//! the rows after it find: one store of blocks, one buffer, one shard of claims and sixteen more.
 #![tactic(auto)]
 
 mod articles;
@@ -12,13 +12,14 @@ mod buffers;
 mod claims;
 mod comparison;
 mod images;
+mod shards;
 mod stores;
 mod tokens;
 mod words;
 
 use cyc_block::{FailAt, MemoryBlocks};
 use cyc_buffer::Buffer;
-use id_history::Shard;
+use id_history::{Shard, Shards};
 use row_text::{Answers, play};
 use std::alloc::{AllocError, Global};
 use std::hash::RandomState;
@@ -31,6 +32,7 @@ struct Rows {
     store: FailAt<MemoryBlocks>,
     buffer: Buffer<FailAt<MemoryBlocks>>,
     shard: Shard,
+    shards: Shards,
 }
 
 fn main(rt: HostRuntime) -> ExitCode {
@@ -40,13 +42,14 @@ fn main(rt: HostRuntime) -> ExitCode {
     }
 }
 
-/// A store and a buffer without blocks, and a shard to which every message-id is unknown.
+/// A store and a buffer without blocks, and shards to which every message-id is unknown.
 fn first_rows(rt: &HostRuntime) -> io::Result<Rows> {
     let alloc = rt.alloc();
     Ok(Rows {
         store: FailAt::new(MemoryBlocks::new(alloc, 0)?, 0),
         buffer: buffers::formatted(alloc, 0, 0, 0, 0)?,
         shard: Shard::new(alloc, RandomState::new(rt)?),
+        shards: Shards::new(rt, alloc)?,
     })
 }
 
@@ -68,6 +71,9 @@ impl Answers for Rows {
             return Ok(true);
         }
         if buffers::answer(alloc, &mut self.buffer, call, cells, text)? {
+            return Ok(true);
+        }
+        if shards::answer(alloc, &mut self.shards, call, cells, text)? {
             return Ok(true);
         }
         claims::answer(alloc, &mut self.shard, call, cells, text)
