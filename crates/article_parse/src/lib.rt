@@ -14,10 +14,3 @@ pub use article::Article;
 pub use content::{is_blank, unfolded};
 pub use faults::{ArtError, FieldName};
 pub use header::Field;
-
-#[cfg(test)]
-mod damage_tests;
-#[cfg(test)]
-mod fault_tests;
-#[cfg(test)]
-mod tests;

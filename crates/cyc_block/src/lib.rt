@@ -21,6 +21,3 @@ pub const BLOCK_OCTETS: usize = 512;
 
 /// The octets of a text that one block holds, behind those of its head.
 pub const CHUNK_OCTETS: usize = 480;
-
-#[cfg(test)]
-mod tests;

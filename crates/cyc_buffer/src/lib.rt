@@ -15,8 +15,3 @@ mod register;
 pub use answers::{BufError, Fault, FaultKind, Found, Front};
 pub use buffer::Buffer;
 pub use register::Open;
-
-#[cfg(test)]
-mod comparison;
-#[cfg(test)]
-mod tests;

@@ -1,12 +1,16 @@
 -- The digits of octets: those of the definition are those that hex reads and writes.
 use Rattle.std.specs.Prelude.{◌||◌}
-use Rattle.std.proofs.Common.{◌≡◌, ℕ, zero, suc, ◌+◌, ◌*◌, ◌/◌, ◌%◌, ◌<◌, ◌==◌, Bool, true, false, ◌&&◌, List, [], ◌∷◌, drop, map, slice_index, Option, Some, None, is_some, inl, inr, Result, Ok, Err, refl, ap, arith}
+use Rattle.std.proofs.Common.{◌≡◌, ℕ, zero, suc, ◌+◌, ◌*◌, ◌/◌, ◌%◌, ◌<◌, ◌==◌, Bool, true, false}
+use Rattle.std.proofs.Common.{◌&&◌, List, [], ◌∷◌, drop, map, slice_index, Option, Some, None}
+use Rattle.std.proofs.Common.{is_some, inl, inr, Result, Ok, Err, refl, ap, arith}
 use Rattle.std.specs.List.{flat_map, AllPass, list_any}
 use Rattle.std.specs.Char.{to_ascii_uppercase, is_ascii_lowercase}
 use Rattle.std.specs.Result.{result_unwrap_or}
 use Rattle.std.proofs.lemmas.Bool.{and_parts, or_parts, cases_lt, eqb-true}
 use Rattle.std.proofs.lemmas.List.Elements.{All-cons, All-nil}
-use Rattle.hex.specs.Hex.{IsBytes, decode_pairs, encode_with, encode_lower, lower_digits, hex_digit_value, is_hex_digit, value_at, pair_value, digit_or_error, ◌>>=◌}
+use Rattle.hex.specs.Hex.{IsBytes, decode_pairs, encode_with, encode_lower, lower_digits}
+use Rattle.hex.specs.Hex.{hex_digit_value, is_hex_digit, value_at, pair_value, digit_or_error}
+use Rattle.hex.specs.Hex.{◌>>=◌}
 use Rattle.hex.specs.declared.error.FromHexError.{FromHexError}
 use Rattle.news_terms.specs.Token.{octet_digits, upper_digit}
 
@@ -34,10 +38,12 @@ agrees_at (suc n) k h lt =
 -- a digit of the table, in upper case, is the digit of the definition
 upper_of_lower : (n : ℕ) → n < 16 → to_ascii_uppercase (slice_index lower_digits n) ≡ upper_digit n
 upper_of_lower n h =
-    eqb-true (to_ascii_uppercase (slice_index lower_digits n)) (upper_digit n) (agrees_at 16 n refl h)
+    eqb-true (to_ascii_uppercase (slice_index lower_digits n)) (upper_digit n)
+    (agrees_at 16 n refl h)
 
 -- lower case text in upper case has the digits of the definition
-pub upper_text : (xs : List ℕ) → IsBytes xs → map to_ascii_uppercase (encode_lower xs) ≡ flat_map octet_digits xs
+pub upper_text : (xs : List ℕ) → IsBytes xs
+    → map to_ascii_uppercase (encode_lower xs) ≡ flat_map octet_digits xs
 unfolding encode_with
 upper_text [] h = refl
 upper_text (x ∷ xs) h =
@@ -47,7 +53,8 @@ upper_text (x ∷ xs) h =
     rw (a, b, upper_text xs (λ k. h (suc k))) refl
 
 -- a digit of the definition is hex's, of the same value and in upper case
-digit_fits : (n : ℕ) → n < 16 → (hex_digit_value (upper_digit n) ≡ Some n) × (is_ascii_lowercase (upper_digit n) ≡ false)
+digit_fits : (n : ℕ) → n < 16 → (hex_digit_value (upper_digit n) ≡ Some n)
+    × (is_ascii_lowercase (upper_digit n) ≡ false)
 digit_fits n h = (grind arith, grind arith)
 
 -- the digits of octets are digits
@@ -69,7 +76,8 @@ digits_fit (x ∷ xs) h =
     )
 
 -- an upper case digit is that of its value
-digit_back : (c v : ℕ) → hex_digit_value c ≡ Some v → is_ascii_lowercase c ≡ false → (upper_digit v ≡ c) × (v < 16)
+digit_back : (c v : ℕ) → hex_digit_value c ≡ Some v → is_ascii_lowercase c ≡ false
+    → (upper_digit v ≡ c) × (v < 16)
 digit_back c v h l = (grind arith, grind arith)
 
 -- a digit that read has the value that hex gives it
@@ -84,7 +92,8 @@ bind_ok (Ok x) f y h = (x, refl, h)
 bind_ok (Err e) f y h = cc h
 
 -- upper case digits that decode are those of the octets
-pub decodes_from : (i : ℕ) (s xs : List ℕ) → decode_pairs i s ≡ Ok xs → list_any is_ascii_lowercase s ≡ false
+pub decodes_from : (i : ℕ) (s xs : List ℕ) → decode_pairs i s ≡ Ok xs
+    → list_any is_ascii_lowercase s ≡ false
     → flat_map octet_digits xs ≡ s
 unfolding decode_pairs
 decodes_from i [] xs e h =
@@ -96,11 +105,14 @@ decodes_from i (a ∷ b ∷ rest) xs e h =
     let p1 = bind_ok (value_at a i) _ p0.0 p0.1 in
     let p2 = bind_ok (value_at b (i + 1)) _ p0.0 p1.2 in
     let p3 = bind_ok (decode_pairs (i + 2) rest) _ xs p0.2 in
-    let la = or_parts (is_ascii_lowercase a) (is_ascii_lowercase b || list_any is_ascii_lowercase rest) h in
+    let la = or_parts (is_ascii_lowercase a)
+    (is_ascii_lowercase b || list_any is_ascii_lowercase rest) h in
     let lb = or_parts (is_ascii_lowercase b) (list_any is_ascii_lowercase rest) la.1 in
     let ih = decodes_from (i + 2) rest p3.0 p3.1 lb.1 in
-    let whole : p0.0 ∷ p3.0 ≡ xs = ap (λ (r : Result (List ℕ) FromHexError). result_unwrap_or r []) p3.2 in
-    let byte : p1.0 * 16 + p2.0 ≡ p0.0 = ap (λ (r : Result ℕ FromHexError). result_unwrap_or r 0) p2.2 in
+    let whole : p0.0 ∷ p3.0 ≡ xs =
+    ap (λ (r : Result (List ℕ) FromHexError). result_unwrap_or r []) p3.2 in
+    let byte : p1.0 * 16 + p2.0 ≡ p0.0 =
+    ap (λ (r : Result ℕ FromHexError). result_unwrap_or r 0) p2.2 in
     let da = digit_back a p1.0 (digit_read a i (hex_digit_value a) p1.0 p1.1) la.0 in
     let db = digit_back b p2.0 (digit_read b (i + 1) (hex_digit_value b) p2.0 p2.1) lb.0 in
     let high : p0.0 / 16 ≡ p1.0 = omega (arith, da.1, db.1) in
@@ -108,15 +120,18 @@ decodes_from i (a ∷ b ∷ rest) xs e h =
     rw (← whole, high, low, da.0, db.0, ih) refl
 
 -- octets of the same digits are the same
-pub digits_back : (xs ys : List ℕ) → IsBytes xs → IsBytes ys → flat_map octet_digits xs ≡ flat_map octet_digits ys → xs ≡ ys
+pub digits_back : (xs ys : List ℕ) → IsBytes xs → IsBytes ys
+    → flat_map octet_digits xs ≡ flat_map octet_digits ys → xs ≡ ys
 digits_back [] [] hx hy e = refl
 digits_back [] (y ∷ ys) hx hy e = cc e
 digits_back (x ∷ xs) [] hx hy e = cc e
 digits_back (x ∷ xs) (y ∷ ys) hx hy e =
     let sx : x < 256 = hx 0 in
     let sy : y < 256 = hy 0 in
-    let high : upper_digit (x / 16) ≡ upper_digit (y / 16) = ap (λ (s : List ℕ). slice_index s 0) e in
-    let low : upper_digit (x % 16) ≡ upper_digit (y % 16) = ap (λ (s : List ℕ). slice_index s 1) e in
+    let high : upper_digit (x / 16) ≡ upper_digit (y / 16) =
+    ap (λ (s : List ℕ). slice_index s 0) e in
+    let low : upper_digit (x % 16) ≡ upper_digit (y % 16) =
+    ap (λ (s : List ℕ). slice_index s 1) e in
     let same_high = one_digit (x / 16) (y / 16) (omega arith) (omega arith) high in
     let same_low = one_digit (x % 16) (y % 16) (omega arith) (omega arith) low in
     let same : x ≡ y = omega (arith, same_high, same_low) in

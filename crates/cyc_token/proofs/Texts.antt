@@ -1,5 +1,7 @@
 -- The texts of tokens: each has the fault that its tests say, and the ones without are token texts.
-use Rattle.std.proofs.Common.{◌≡◌, ℕ, zero, suc, ◌==◌, eqb, cond, Bool, true, false, List, [], ◌∷◌, ◌++◌, length, take, drop, get_or, slice_index, Option, Some, None, Result, Ok, Err, refl, sym, ap, subst, ◌∙◌, arith}
+use Rattle.std.proofs.Common.{◌≡◌, ℕ, zero, suc, ◌==◌, eqb, cond, Bool, true, false, List, [], ◌∷◌}
+use Rattle.std.proofs.Common.{◌++◌, length, take, drop, get_or, slice_index, Option, Some, None}
+use Rattle.std.proofs.Common.{Result, Ok, Err, refl, sym, ap, subst, ◌∙◌, arith}
 use Rattle.std.specs.Prelude.{◌↔◌, ◌&&◌, IsErrOf, IsErrAnd}
 use Rattle.std.specs.Int.{w32, from_be_bytes}
 use Rattle.std.specs.Bool.{Decides}
@@ -15,7 +17,8 @@ use Rattle.std.proofs.lemmas.List.Folds.{Any-from_list_any, list_any-from_Any}
 use Rattle.hex.specs.Hex.{IsBytes, is_hex_digit}
 use Rattle.news_terms.specs.Token.{IsToken, token_text, token_octets, octet_digits}
 use Rattle.news_terms.specs.Token as terms
-use Rattle.cyc_token.specs.Faults.{token_fault, digits_of, HasMarks, HasOtherLength, LacksMarks, HasOtherDigit, HasLowerCase}
+use Rattle.cyc_token.specs.Faults.{token_fault, digits_of, HasMarks, HasOtherLength, LacksMarks}
+use Rattle.cyc_token.specs.Faults.{HasOtherDigit, HasLowerCase}
 use Rattle.cyc_token.specs.Token.{token_view}
 use Rattle.cyc_token.specs.declared.Token.{Token}
 use Rattle.cyc_token.specs.declared.text.TokenError.{TokenError}
@@ -52,24 +55,30 @@ Decides-marks text =
 
 -- the test of the digits decides them
 Decides-digits : (text : List ℕ) → Decides (has_digits text) (AllPass is_hex_digit (digits_of text))
-Decides-digits text =
-    (AllPass-from_list_all is_hex_digit (digits_of text), list_all-from_AllPass is_hex_digit (digits_of text))
+Decides-digits text = (
+  AllPass-from_list_all is_hex_digit (digits_of text),
+  list_all-from_AllPass is_hex_digit (digits_of text),
+)
 
 -- the test of their case decides it
 Decides-lower : (text : List ℕ)
     → Decides (has_lower text) (Any (λ c. is_ascii_lowercase c ≡ true) (digits_of text))
-Decides-lower text =
-    (Any-from_list_any is_ascii_lowercase (digits_of text), list_any-from_Any is_ascii_lowercase (digits_of text))
+Decides-lower text = (
+  Any-from_list_any is_ascii_lowercase (digits_of text),
+  list_any-from_Any is_ascii_lowercase (digits_of text),
+)
 
 -- ---- the fault that four tests find
 
 -- the first of four tests that fails names the fault
 abbrev fault_by : Bool → Bool → Bool → Bool → Option TokenError
 fault_by len marks digits lower =
-    cond len (cond marks (cond digits (cond lower (Some LowerCase) None) (Some Digit)) (Some Marks)) (Some Length)
+    cond len (cond marks (cond digits (cond lower (Some LowerCase) None) (Some Digit)) (Some Marks))
+    (Some Length)
 
 -- there is no fault where the tests hold and no letter is lower case
-none_by : {P Q R S : Type 0} (a b c d : Bool) → Decides a P → Decides b Q → Decides c R → Decides d S
+none_by : {P Q R S : Type 0} (a b c d : Bool) → Decides a P → Decides b Q → Decides c R
+    → Decides d S
     → (fault_by a b c d ≡ None) ↔ (P × Q × R × ¬ S)
 none_by true true true false p q r s =
     (λ _. (p.0 refl, q.0 refl, r.0 refl, λ y. false≢true (s.1 y)), λ _. refl)
@@ -105,7 +114,8 @@ digit_by true false c d p q r = (λ e. absurd cc, λ w. absurd (false≢true (q.
 digit_by false b c d p q r = (λ e. absurd cc, λ w. absurd (false≢true (p.1 w.0)))
 
 -- the fault is the case exactly where all else holds
-lower_by : {P Q R S : Type 0} (a b c d : Bool) → Decides a P → Decides b Q → Decides c R → Decides d S
+lower_by : {P Q R S : Type 0} (a b c d : Bool) → Decides a P → Decides b Q → Decides c R
+    → Decides d S
     → (fault_by a b c d ≡ Some LowerCase) ↔ (P × Q × R × S)
 lower_by true true true true p q r s = (λ _. (p.0 refl, q.0 refl, r.0 refl, s.0 refl), λ _. refl)
 lower_by true true true false p q r s = (λ e. absurd cc, λ w. absurd (false≢true (s.1 w.3)))
@@ -118,7 +128,8 @@ lower_by false b c d p q r s = (λ e. absurd cc, λ w. absurd (false≢true (p.1
 -- a text has another length exactly where that is its fault
 pub length_fault : (text : List ℕ) → (token_fault text ≡ Some Length) ↔ HasOtherLength text
 length_fault text =
-    let law = length_by (has_length text) (has_marks text) (has_digits text) (has_lower text) (Decides-length text) in
+    let law = length_by (has_length text) (has_marks text) (has_digits text) (has_lower text)
+    (Decides-length text) in
     (λ e. record { length = law.0 e }, λ m. law.1 m.length)
 
 -- a text lacks its marks exactly where that is its fault
@@ -173,9 +184,13 @@ octets_fit t h (suc (suc (suc (suc (suc (suc (suc (suc zero)))))))) = omega arit
 octets_fit t h (suc (suc (suc (suc (suc (suc (suc (suc (suc zero))))))))) = omega arith
 octets_fit t h (suc (suc (suc (suc (suc (suc (suc (suc (suc (suc zero)))))))))) = omega arith
 octets_fit t h (suc (suc (suc (suc (suc (suc (suc (suc (suc (suc (suc zero))))))))))) = omega arith
-octets_fit t h (suc (suc (suc (suc (suc (suc (suc (suc (suc (suc (suc (suc zero)))))))))))) = omega arith
-octets_fit t h (suc (suc (suc (suc (suc (suc (suc (suc (suc (suc (suc (suc (suc zero))))))))))))) = omega arith
-octets_fit t h (suc (suc (suc (suc (suc (suc (suc (suc (suc (suc (suc (suc (suc (suc k)))))))))))))) = omega arith
+octets_fit t h (suc (suc (suc (suc (suc (suc (suc (suc (suc (suc (suc (suc zero)))))))))))) =
+    omega arith
+octets_fit t h (suc (suc (suc (suc (suc (suc (suc (suc (suc (suc (suc (suc (suc zero))))))))))))) =
+    omega arith
+octets_fit t h
+    (suc (suc (suc (suc (suc (suc (suc (suc (suc (suc (suc (suc (suc (suc k)))))))))))))) =
+    omega arith
 
 -- the text of a token has no fault
 pub text_fits : (t : terms.Token) → IsToken t → token_fault (token_text t) ≡ None
@@ -186,7 +201,8 @@ text_fits t h =
       (refl, refl),
       fit.0,
       λ some.
-          false≢true (sym fit.1 ∙ list_any-from_Any is_ascii_lowercase (digits_of (token_text t)) some),
+          false≢true (sym fit.1 ∙ list_any-from_Any is_ascii_lowercase
+          (digits_of (token_text t)) some),
     )
 
 -- two tokens of the same octets are the same
@@ -206,13 +222,20 @@ octets_tell a b ha hb e =
     sym (from_be_bytes-to_be_bytes_4 a.length ha.length)
     ∙ ap (λ (x : List ℕ). from_be_bytes w32 (take 4 (drop 10 x))) e
     ∙ from_be_bytes-to_be_bytes_4 b.length hb.length in
-    λ i. record { class = class i; buffer = buffer i; cycle = cycle i; first = first i; length = len i }
+    λ i. record {
+      class = class i;
+      buffer = buffer i;
+      cycle = cycle i;
+      first = first i;
+      length = len i;
+    }
 
 -- each token has a text of its own
 pub one_spelling : (a b : terms.Token) → IsToken a → IsToken b → token_text a ≡ token_text b → a ≡ b
 one_spelling a b ha hb e =
     octets_tell a b ha hb
-    (digits_back (token_octets a) (token_octets b) (octets_fit a ha) (octets_fit b hb) (ap digits_of e))
+    (digits_back (token_octets a) (token_octets b) (octets_fit a ha) (octets_fit b hb)
+    (ap digits_of e))
 
 -- a text without a fault is its digits between the marks
 pub marked_text : (text digits : List ℕ) → token_fault text ≡ None → digits_of text ≡ digits
@@ -223,7 +246,8 @@ marked_text text digits e same =
     drop_more text 0 0 (omega (arith, parts.0)) ∙ ap (λ n. n ∷ drop 1 text) parts.1.0 in
     let last : drop 28 (drop 1 text) ≡ 64 ∷ [] =
     drop-drop 28 1 text ∙ drop_more text 29 0 (omega (arith, parts.0))
-    ∙ ap (λ n. n ∷ drop 30 text) parts.1.1 ∙ ap (λ (l : List ℕ). 64 ∷ l) (drop_all 30 text (omega (arith, parts.0))) in
+    ∙ ap (λ n. n ∷ drop 30 text) parts.1.1
+    ∙ ap (λ (l : List ℕ). 64 ∷ l) (drop_all 30 text (omega (arith, parts.0))) in
     let middle : drop 1 text ≡ digits ++ 64 ∷ [] =
     sym (take-append-drop 28 (drop 1 text)) ∙ ap (λ (l : List ℕ). l ++ drop 28 (drop 1 text)) same
     ∙ ap (λ (l : List ℕ). digits ++ l) last in
@@ -237,7 +261,8 @@ Gives (Ok t) text = IsToken (token_view t) × (text ≡ token_text (token_view t
 Gives (Err e) text = token_fault text ≡ Some e
 
 -- a fault of the text that is handed on is the answer's
-pub gives_fault : (r : Result Token TokenError) (text : List ℕ) (e : TokenError) → IsErrAnd r (λ d. d ≡ e)
+pub gives_fault : (r : Result Token TokenError) (text : List ℕ) (e : TokenError)
+    → IsErrAnd r (λ d. d ≡ e)
     → token_fault text ≡ Some e → Gives r text
 gives_fault (Ok t) text e h f = absurd h
 gives_fault (Err d) text e h f = f ∙ ap Some (sym h)
@@ -248,7 +273,8 @@ fault_of (Ok t) = None
 fault_of (Err e) = Some e
 
 -- an answer says the fault of the text
-fault_of_text : (r : Result Token TokenError) (text : List ℕ) → Gives r text → fault_of r ≡ token_fault text
+fault_of_text : (r : Result Token TokenError) (text : List ℕ) → Gives r text
+    → fault_of r ≡ token_fault text
 fault_of_text (Ok t) text g = sym (ap token_fault g.1 ∙ text_fits (token_view t) g.0)
 fault_of_text (Err e) text g = sym g
 
@@ -258,7 +284,8 @@ is_err (Ok t) e = (λ h. absurd cc, λ h. absurd cc)
 is_err (Err d) e = (λ h. ap fault_of h, λ h. cc)
 
 -- an answer is an error exactly where that is the fault of the text
-pub answers_fault : (r : Result Token TokenError) (text : List ℕ) (e : TokenError) (P : Type 0) → Gives r text
+pub answers_fault : (r : Result Token TokenError) (text : List ℕ) (e : TokenError) (P : Type 0)
+    → Gives r text
     → (token_fault text ≡ Some e) ↔ P → IsErrOf r e ↔ P
 answers_fault r text e P g law =
     let same = fault_of_text r text g in
@@ -276,5 +303,12 @@ answers_token r text g t = (
         → IsToken (token_view t) × (text ≡ token_text (token_view t)) → q ≡ Ok t
     is_that (Ok u) h w =
         let same = one_spelling (token_view u) (token_view t) h.0 w.0 (sym h.1 ∙ w.1) in
-        ap (λ (v : terms.Token). Ok (record { class = v.class; buffer = v.buffer; cycle = v.cycle; first = v.first; length = v.length })) same
-    is_that (Err e) h w = absurd (none-some e (sym (text_fits (token_view t) w.0) ∙ sym (ap token_fault w.1) ∙ h))
+        ap (λ (v : terms.Token). Ok (record {
+          class = v.class;
+          buffer = v.buffer;
+          cycle = v.cycle;
+          first = v.first;
+          length = v.length;
+        })) same
+    is_that (Err e) h w =
+        absurd (none-some e (sym (text_fits (token_view t) w.0) ∙ sym (ap token_fault w.1) ∙ h))

@@ -25,6 +25,3 @@ pub struct Token {
     /// The octets of its text.
     pub length: u32,
 }
-
-#[cfg(test)]
-mod tests;

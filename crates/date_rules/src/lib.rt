@@ -10,6 +10,3 @@ mod window;
 pub use reading::seconds;
 pub use stamps::stamp;
 pub use window::{DateError, judge};
-
-#[cfg(test)]
-mod tests;

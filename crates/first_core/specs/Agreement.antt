@@ -1,6 +1,7 @@
 -- When the core agrees with a state of the relay: all that it keeps is that state's, the article
 -- that its session stores is in exactly one place, and no other article is being stored.
-use Rattle.std.specs.Prelude.{◌≡◌, ℕ, nat_eq, Bool, true, false, List, [], ◌∷◌, Option, None, Some, is_some}
+use Rattle.std.specs.Prelude.{◌≡◌, ℕ, nat_eq, Bool, true, false, List, [], ◌∷◌, Option, None, Some}
+use Rattle.std.specs.Prelude.{is_some}
 use Rattle.cyc_token.specs.Token.{token_view}
 use Rattle.cyc_token.specs.declared.Token.{Token}
 use Rattle.id_history.specs.Shard.{Keeps}
@@ -20,7 +21,8 @@ use Rattle.first_core.specs.declared.session.Phase.{Phase}
 use Rattle.first_core.specs.declared.session.Phase.TheVariants as phase
 use Rattle.first_core.specs.declared.session.Plan.{Plan}
 use Rattle.first_core.specs.declared.system.System.{System}
-use Rattle.relay_model.specs.Claims.{Claim, Unknown, Storing, Stored, Waiting, Whole, is_storing, look_answer}
+use Rattle.relay_model.specs.Claims.{Claim, Unknown, Storing, Stored, Waiting, Whole, is_storing}
+use Rattle.relay_model.specs.Claims.{look_answer}
 use Rattle.first_model.specs.Fetches.{fetched}
 use Rattle.news_terms.specs.Token as tokens
 use Rattle.first_model.specs.Pace as pace

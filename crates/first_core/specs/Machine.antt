@@ -3,7 +3,11 @@
 -- octets read, the moments and the answers of the shared steps.
 use Rattle.std.specs.Prelude.{ℕ, List, Option, None, Some, Result, Ok, Err}
 use Rattle.news_terms.specs.Blocks.{NextBlock, Whole, Oversize, Unfinished, next_block}
-use Rattle.news_terms.specs.Command.{Command, AskCapabilities, AskHelp, AskDate, Quit, ModeStream, ModeReader, Check, Ihave, TakeThis, Fetch, NeedsGroup, TakeQueue, FetchToken, WholeText, Header, BodyLines, OverviewLine, Presence, CommandFault, Syntax, command_among, is_served}
+use Rattle.news_terms.specs.Command.{Command, AskCapabilities, AskHelp, AskDate, Quit, ModeStream}
+use Rattle.news_terms.specs.Command.{ModeReader, Check, Ihave, TakeThis, Fetch, NeedsGroup}
+use Rattle.news_terms.specs.Command.{TakeQueue, FetchToken, WholeText, Header, BodyLines}
+use Rattle.news_terms.specs.Command.{OverviewLine, Presence, CommandFault, Syntax, command_among}
+use Rattle.news_terms.specs.Command.{is_served}
 use Rattle.news_terms.specs.Command as commands
 use Rattle.news_terms.specs.Lines.{NextLine, Cut, TooLong, Incomplete, next_line}
 use Rattle.news_terms.specs.Reply.{Reply, Bye, NoGroup, UnknownCommand, SyntaxError, LineTooLong}
@@ -12,7 +16,8 @@ use Rattle.first_model.specs.Arrivals.{judged_does, take_does}
 use Rattle.relay_model.specs.Claims.{Accepted, look_answer}
 use Rattle.first_model.specs.Lines.{check_does, look_does, fetch_does, with_offers, without_offer}
 use Rattle.first_model.specs.Says.{goes_on, says, ends, rests}
-use Rattle.first_model.specs.State.{Session, Phase, Ready, Owes, Holds, Waits, Fetches, Leaving, Ended, Transfer, TakesThis, Asked, Whether, Outcome}
+use Rattle.first_model.specs.State.{Session, Phase, Ready, Owes, Holds, Waits, Fetches, Leaving}
+use Rattle.first_model.specs.State.{Ended, Transfer, TakesThis, Asked, Whether, Outcome}
 use Rattle.first_model.specs.Terms.{Terms, Reason}
 use Rattle.first_model.specs.Turns.{push_does, slot_does, release_does, with_unread}
 use Rattle.first_model.specs.World.{World, Next, Job, in_phase}

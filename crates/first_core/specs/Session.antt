@@ -1,6 +1,8 @@
 -- What a session of the code stands for: the session of the definitions that it agrees with, and
 -- what its plans are.
-use Rattle.std.specs.Prelude.{◌≡◌, ℕ, ◌+◌, ◌≤◌, ◌<◌, ◌^◌, ◌==◌, ◌&&◌, not, nat_le, Bool, List, [], length, true, false, Option, None, Some, Result, Ok, Err, Vec, vec_len, vec_capacity}
+use Rattle.std.specs.Prelude.{◌≡◌, ℕ, ◌+◌, ◌≤◌, ◌<◌, ◌^◌, ◌==◌, ◌&&◌, not, nat_le, Bool, List, []}
+use Rattle.std.specs.Prelude.{length, true, false, Option, None, Some, Result, Ok, Err, Vec}
+use Rattle.std.specs.Prelude.{vec_len, vec_capacity}
 use Rattle.std.specs.declared.alloc.Global.{Global}
 use Rattle.news_terms.specs.Blocks.{next_block}
 use Rattle.news_terms.specs.Blocks as blocks

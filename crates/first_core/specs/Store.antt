@@ -1,5 +1,7 @@
 -- What contracts see of the store.
-use Rattle.std.specs.Prelude.{◌≡◌, ℕ, ◌+◌, ◌*◌, ◌≤◌, ◌<◌, List, [], ◌∷◌, map, if◌then◌else◌, Option, None, Some, option_copied, Bool, not, ◌==◌, ◌&&◌, nat_le, nat_lt, vec_len, vec_capacity}
+use Rattle.std.specs.Prelude.{◌≡◌, ℕ, ◌+◌, ◌*◌, ◌≤◌, ◌<◌, List, [], ◌∷◌, map, if◌then◌else◌, Option}
+use Rattle.std.specs.Prelude.{None, Some, option_copied, Bool, not, ◌==◌, ◌&&◌, nat_le, nat_lt}
+use Rattle.std.specs.Prelude.{vec_len, vec_capacity}
 use Rattle.cyc_token.specs.Token.{token_view}
 use Rattle.cyc_token.specs.declared.Token.{Token}
 use Rattle.news_terms.specs.Places as places

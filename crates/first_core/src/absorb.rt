@@ -1,9 +1,11 @@
 //! What a session makes of the answers of the shared steps: its next phase, and its reply in the
 //! room that the plan made. None of it takes memory.
-ghost use Rattle.std.specs.Prelude.{◌≡◌, ◌+◌, ◌≤◌, ℕ, List, [], ◌∷◌, Bool, Option, Some, None, IfSome, IfNone, vec_len, vec_capacity};
+ghost use Rattle.std.specs.Prelude.{◌≡◌, ◌+◌, ◌≤◌, ℕ, List, [], ◌∷◌, Bool, Option, Some, None};
+ghost use Rattle.std.specs.Prelude.{IfSome, IfNone, vec_len, vec_capacity};
 ghost use Rattle.id_history.specs.Answers.{offer_view};
 ghost use Rattle.news_terms.specs.Reply.{reply_text, Kept, NotStored, Rejected};
-ghost use Rattle.first_core.specs.Absorb.{offers_after, offer_reply, look_reply, HandsOver, TakesOut};
+ghost use Rattle.first_core.specs.Absorb.{offers_after, offer_reply, look_reply, HandsOver};
+ghost use Rattle.first_core.specs.Absorb.{TakesOut};
 ghost use Rattle.first_core.specs.Session.{IsRoom, IsSound, IsLeft, Stands, Carries, past, arrived};
 ghost use Rattle.first_model.specs.Lines.{with_offers};
 ghost use Rattle.first_model.specs.State as model;
@@ -12,9 +14,9 @@ ghost use Rattle.first_model.specs.Verdict.{accepted_text};
 ghost use Rattle.first_model.specs.World.{Job as ModelJob, in_phase};
 
 use crate::job::Job;
-use crate::octets::Octets;
 use crate::session::{Phase, Session, close_offer, open_offer, replied};
 use id_history::Offer;
+use line_words::Octets;
 use nntp_text::{MsgId, Reply};
 use std::mem;
 use stream_cut::Block;

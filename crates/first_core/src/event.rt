@@ -1,5 +1,5 @@
 //! What happens to the core, and what it answers.
-use crate::octets::Octets;
+use line_words::Octets;
 
 /// What happens to the core (docs/PROTOCOL.md, Events). Sessions, peers and groups are named by
 /// number, moments are seconds since 1970 in UTC.

@@ -1,6 +1,6 @@
 //! Articles on their way from a session to the store.
-use crate::octets::Octets;
 use cyc_token::Token;
+use line_words::Octets;
 use nntp_text::MsgId;
 
 /// An accepted article that waits for the writer.

@@ -9,7 +9,6 @@ mod absorb;
 mod config;
 mod event;
 mod job;
-mod octets;
 mod session;
 mod store;
 mod system;
@@ -17,5 +16,5 @@ mod writing;
 
 pub use config::Config;
 pub use event::{CoreError, Event, Output};
-pub use octets::Octets;
+pub use line_words::Octets;
 pub use system::{LAST_MOMENT, System};

@@ -1,13 +1,17 @@
 //! A session as a machine of its own: `plan` reads what is due and says which shared step that is,
 //! and the `absorb` methods take the step's answer and give the reply. Neither touches what is
 //! shared, and both depend on the unread octets, the moment and the answers alone.
-ghost use Rattle.std.specs.Prelude.{◌≡◌, ◌+◌, ◌≤◌, ◌++◌, ℕ, List, [], ◌∷◌, false, true, Option, Some, None, IfOk, IfSome, OnOk, OnErr, vec_len, vec_capacity};
+ghost use Rattle.std.specs.Prelude.{◌≡◌, ◌+◌, ◌≤◌, ◌++◌, ℕ, List, [], ◌∷◌, false, true, Option};
+ghost use Rattle.std.specs.Prelude.{Some, None, IfOk, IfSome, OnOk, OnErr, vec_len, vec_capacity};
 ghost use Rattle.news_terms.specs.Command.{command_among, is_served};
 ghost use Rattle.news_terms.specs.Reply.{reply_text};
 ghost use Rattle.nntp_text.specs.Reply.{reply_view};
 ghost use Rattle.first_core.specs.Machine.{due_of_line};
 ghost use Rattle.first_core.specs.Config.{terms_of};
-ghost use Rattle.first_core.specs.Session.{IsRoom, IsLinePlan, IsBlockPlan, is_acceptable, is_block_acceptable, Stands, StandsAsBefore, Plans, CutsLine, CutsBlock, OwesBlock, IsOwedPlan, HasMemory, FitsPhase};
+ghost use Rattle.first_core.specs.Session.{IsRoom, IsLinePlan, IsBlockPlan, is_acceptable};
+ghost use Rattle.first_core.specs.Session.{is_block_acceptable, Stands, StandsAsBefore, Plans};
+ghost use Rattle.first_core.specs.Session.{CutsLine, CutsBlock, OwesBlock, IsOwedPlan, HasMemory};
+ghost use Rattle.first_core.specs.Session.{FitsPhase};
 ghost use Rattle.first_model.specs.Run.{new_session};
 ghost use Rattle.first_model.specs.Terms.{Terms};
 ghost use Rattle.first_model.specs.Lines.{with_offer, without_offer};
@@ -16,9 +20,9 @@ ghost use Rattle.first_model.specs.State as model;
 
 use crate::config::Config;
 use crate::job::{Job, Outcome};
-use crate::octets::Octets;
 use crate::store::size_of;
 use id_history::Offer;
+use line_words::Octets;
 use nntp_text::{CmdError, Command, MsgId, REPLY_ROOM, Reply, put_reply};
 use std::alloc::{AllocError, Global};
 use std::mem;

@@ -1,15 +1,18 @@
 //! The store: the sizes of all articles begun, and the texts that are whole. It is plain on
 //! purpose: what later stores do is compared with it.
-ghost use Rattle.std.specs.Prelude.{◌≡◌, ◌+◌, ◌^◌, ◌<◌, ◌≤◌, ℕ, List, [], ◌∷◌, ◌++◌, length, map, option_copied, OnOk};
+ghost use Rattle.std.specs.Prelude.{◌≡◌, ◌+◌, ◌^◌, ◌<◌, ◌≤◌, ℕ, List, [], ◌∷◌, ◌++◌, length, map};
+ghost use Rattle.std.specs.Prelude.{option_copied, OnOk};
 ghost use Rattle.news_terms.specs.Places as terms;
 ghost use Rattle.cyc_token.specs.Token.{token_view};
 ghost use Rattle.first_model.specs.Fetches.{fetched};
 ghost use Rattle.first_model.specs.State.{State};
 ghost use Rattle.first_model.specs.Terms.{Terms};
-ghost use Rattle.first_core.specs.Store.{head_view, head_of, room_of, front_view, kept_view, is_live_at, text_under, HasRoomForOne, IsOneBuffer, KeepsState, Finds, Places};
+ghost use Rattle.first_core.specs.Store.{head_view, head_of, room_of, front_view, kept_view};
+ghost use Rattle.first_core.specs.Store.{is_live_at, text_under, HasRoomForOne, IsOneBuffer};
+ghost use Rattle.first_core.specs.Store.{KeepsState, Finds, Places};
 
-use crate::octets::Octets;
 use cyc_token::Token;
+use line_words::Octets;
 use std::alloc::{AllocError, Global};
 
 /// The octets of an article that one block has room for.

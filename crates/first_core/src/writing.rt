@@ -1,7 +1,8 @@
 //! The writer's half of the core: its jobs from the queue to their outcomes
 //! (docs/PROTOCOL.md, Store).
 ghost use Rattle.std.specs.Prelude.{◌≡◌, ℕ};
-ghost use Rattle.first_core.specs.Agreement.{Steps, Writes, StoresJob, IsPopped, IsFinished, IsAnswering};
+ghost use Rattle.first_core.specs.Agreement.{Steps, Writes, StoresJob, IsPopped, IsFinished};
+ghost use Rattle.first_core.specs.Agreement.{IsAnswering};
 ghost use Rattle.first_core.specs.Store.{HasRoomForOne};
 ghost use Rattle.first_model.specs.Run as run;
 

@@ -1,5 +1,7 @@
 -- What is below the front of its buffer, and the place of an article that is begun.
-use Rattle.std.proofs.Common.{◌≡◌, ◌∙◌, ℕ, ◌+◌, ◌*◌, ◌≤◌, ◌<◌, ◌==◌, false, List, All, count_by, length, find, sym, ap, subst, arith, le_of_eq, le_trans, lt_of_lt_of_le}
+use Rattle.std.proofs.Common.{◌≡◌, ◌∙◌, ℕ, ◌+◌, ◌*◌, ◌≤◌, ◌<◌, ◌==◌, false, List, All, count_by}
+use Rattle.std.proofs.Common.{length, find, sym, ap, subst, arith, le_of_eq, le_trans}
+use Rattle.std.proofs.Common.{lt_of_lt_of_le}
 use Rattle.std.proofs.lemmas.Bool.{false_from_ne_true}
 use Rattle.std.proofs.lemmas.List.Elements.{All-weaker}
 use Rattle.std.proofs.lemmas.Option.{same_Some}
@@ -14,7 +16,8 @@ use Rattle.first_laws.specs.Effects.{Effect}
 use Rattle.first_laws.specs.Laws.{is_at}
 use Rattle.first_laws.specs.Sound.{IsSound, SizesFit}
 use Rattle.first_laws.proofs.Counts.{count-none}
-use Rattle.first_laws.proofs.RisingFronts.{Named, Begin_facts, place_named, begins_past, front_then, front_rises}
+use Rattle.first_laws.proofs.RisingFronts.{Named, Begin_facts, place_named, begins_past, front_then}
+use Rattle.first_laws.proofs.RisingFronts.{front_rises}
 use Rattle.first_laws.proofs.Tests.{Same_place, at_place}
 
 -- the place of the token is below the front of its buffer

@@ -1,5 +1,6 @@
 -- How many elements pass a test.
-use Rattle.std.proofs.Common.{◌≡◌, ◌∙◌, ◌+◌, ◌≤◌, Bool, true, false, List, [], ◌∷◌, All, count_by, cond, refl, sym, ap, arith, le_refl, zero-le, true≢false}
+use Rattle.std.proofs.Common.{◌≡◌, ◌∙◌, ◌+◌, ◌≤◌, Bool, true, false, List, [], ◌∷◌, All, count_by}
+use Rattle.std.proofs.Common.{cond, refl, sym, ap, arith, le_refl, zero-le, true≢false}
 use Rattle.std.proofs.lemmas.List.Elements.{All-head, All-tail}
 use Rattle.std.proofs.lemmas.List.Sums.{sum_by-cons}
 

@@ -1,6 +1,9 @@
 -- A session's step leaves a claim, or leads from one early claim to another.
-use Rattle.std.proofs.Common.{◌≡◌, ℕ, ◌==◌, Bool, true, false, List, if◌then◌else◌, ◌⊎◌, inl, inr, refl, subst, sym}
-use Rattle.relay_model.specs.Claims.{Accepted, Claim, Unknown, Offered, Storing, Stored, Refused, Waiting, Begun, Failed, Whole, after_offer, after_take, after_refuse, after_release}
+use Rattle.std.proofs.Common.{◌≡◌, ℕ, ◌==◌, Bool, true, false, List, if◌then◌else◌, ◌⊎◌, inl, inr}
+use Rattle.std.proofs.Common.{refl, subst, sym}
+use Rattle.relay_model.specs.Claims.{Accepted, Claim, Unknown, Offered, Storing, Stored, Refused}
+use Rattle.relay_model.specs.Claims.{Waiting, Begun, Failed, Whole, after_offer, after_take}
+use Rattle.relay_model.specs.Claims.{after_refuse, after_release}
 use Rattle.first_model.specs.State.{Session}
 use Rattle.first_model.specs.Terms.{Terms}
 use Rattle.first_laws.specs.Effects.{Touches, Offers, Refuses, Takes, TakesHeld, Releases}

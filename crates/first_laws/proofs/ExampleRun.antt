@@ -6,13 +6,16 @@ use Rattle.news_terms.specs.Places.{Place}
 use Rattle.news_terms.specs.Reply.{Greeting, Kept, reply_text}
 use Rattle.news_terms.specs.Token.{Token}
 use Rattle.relay_model.specs.Claims.{Accepted}
-use Rattle.first_model.specs.Pace.{Writes, Pops, StoresWhole, Settles, Answers, popped, writer_at, answered}
+use Rattle.first_model.specs.Pace.{Writes, Pops, StoresWhole, Settles, Answers, popped, writer_at}
+use Rattle.first_model.specs.Pace.{answered}
 use Rattle.first_model.specs.Run.{Step, IsDone, Turn, Write, refusal, opened, new_session}
 use Rattle.first_model.specs.State.{State, Session}
 use Rattle.first_model.specs.Turns.{turn_does, with_unread}
 use Rattle.first_model.specs.Verdict.{accepted_text}
-use Rattle.first_model.specs.World.{World, Output, Quiet, Sent, Finished, Answering, empty_world, with_session}
-use Rattle.first_model.specs.Writes.{Begins, Stores, Accepts, begun_at, stored_under, accepted_as, token_at}
+use Rattle.first_model.specs.World.{World, Output, Quiet, Sent, Finished, Answering, empty_world}
+use Rattle.first_model.specs.World.{with_session}
+use Rattle.first_model.specs.Writes.{Begins, Stores, Accepts, begun_at, stored_under, accepted_as}
+use Rattle.first_model.specs.Writes.{token_at}
 use Rattle.first_laws.specs.Example.{eight_blocks, some_id, some_bytes, some_events, MayLeadTo}
 use Rattle.first_laws.specs.Laws.{texts_of}
 

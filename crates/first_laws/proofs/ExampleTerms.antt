@@ -1,5 +1,7 @@
 -- The terms of one buffer of eight blocks are sound; what is gone where it was filled twice.
-use Rattle.std.proofs.Common.{lit<, le_refl, ◌≡◌, ◌∙◌, ℕ, zero, suc, ◌≤◌, ◌==◌, nat_le, length, Bool, true, false, List, [], ◌∷◌, find, slice_get, Option, None, Some, Ok, Err, if◌then◌else◌, refl, sym, ap, subst, arith, leb-true}
+use Rattle.std.proofs.Common.{lit<, le_refl, ◌≡◌, ◌∙◌, ℕ, zero, suc, ◌≤◌, ◌==◌, nat_le, length}
+use Rattle.std.proofs.Common.{Bool, true, false, List, [], ◌∷◌, find, slice_get, Option, None, Some}
+use Rattle.std.proofs.Common.{Ok, Err, if◌then◌else◌, refl, sym, ap, subst, arith, leb-true}
 use Rattle.std.proofs.lemmas.Bool.{eqb-false}
 use Rattle.std.proofs.lemmas.List.Elements.{All-nil, All-cons}
 use Rattle.std.proofs.lemmas.Option.{same_Some, none-some}

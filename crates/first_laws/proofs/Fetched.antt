@@ -1,10 +1,12 @@
 -- What a fetch that gives a text rests on: it is whole under the token, at a place that is live.
-use Rattle.std.proofs.Common.{◌≡◌, ◌∙◌, ℕ, ◌+◌, ◌==◌, ◌||◌, nat_lt, nat_le, Bool, true, false, List, [], ◌∷◌, ◌++◌, find, if◌then◌else◌, Option, None, Some, refl, sym, ap}
+use Rattle.std.proofs.Common.{◌≡◌, ◌∙◌, ℕ, ◌+◌, ◌==◌, ◌||◌, nat_lt, nat_le, Bool, true, false, List}
+use Rattle.std.proofs.Common.{[], ◌∷◌, ◌++◌, find, if◌then◌else◌, Option, None, Some, refl, sym, ap}
 use Rattle.std.proofs.lemmas.Bool.{leb-false, ltb-false}
 use Rattle.std.proofs.lemmas.Option.{same_Some}
 use Rattle.news_terms.specs.Places.{Buffer, on_line, size_of}
 use Rattle.news_terms.specs.Token.{Token, same_token}
-use Rattle.first_model.specs.Fetches.{Fetched, Gone, NotKnown, Article, text_of, whole_under, fetched_in, fetched, buffer_of, front_of}
+use Rattle.first_model.specs.Fetches.{Fetched, Gone, NotKnown, Article, text_of, whole_under}
+use Rattle.first_model.specs.Fetches.{fetched_in, fetched, buffer_of, front_of}
 use Rattle.first_model.specs.State.{State, Kept}
 use Rattle.first_model.specs.Terms.{Terms}
 use Rattle.first_laws.specs.Rules.{IsKeptUnder}

@@ -1,17 +1,22 @@
 -- Each effect keeps that the sizes fit.
-use Rattle.std.proofs.Common.{◌≡◌, ◌∙◌, ℕ, List, [], ◌∷◌, ◌++◌, All, length, bytes_eq, slice_get, Option, None, Some, ◌⊎◌, inl, inr, refl, sym, ap, subst}
+use Rattle.std.proofs.Common.{◌≡◌, ◌∙◌, ℕ, List, [], ◌∷◌, ◌++◌, All, length, bytes_eq, slice_get}
+use Rattle.std.proofs.Common.{Option, None, Some, ◌⊎◌, inl, inr, refl, sym, ap, subst}
 use Rattle.std.proofs.lemmas.Bool.{cond_both}
 use Rattle.std.proofs.lemmas.List.Elements.{All-push, All-nil}
 use Rattle.std.proofs.lemmas.Option.{same_Some, none-some}
 use Rattle.news_terms.specs.Fronts.{FitsGroup}
 use Rattle.news_terms.specs.Places.{Group, size_of}
-use Rattle.relay_model.specs.Claims.{Accepted, Claim, Unknown, Storing, Stored, Stage, Waiting, Begun, Failed}
-use Rattle.first_model.specs.State.{State, Session, Phase, Ready, Owes, Holds, Waits, Fetches, Leaving, Ended, Outcome, IsKept, HasFailed}
+use Rattle.relay_model.specs.Claims.{Accepted, Claim, Unknown, Storing, Stored, Stage, Waiting}
+use Rattle.relay_model.specs.Claims.{Begun, Failed}
+use Rattle.first_model.specs.State.{State, Session, Phase, Ready, Owes, Holds, Waits, Fetches}
+use Rattle.first_model.specs.State.{Leaving, Ended, Outcome, IsKept, HasFailed}
 use Rattle.relay_model.specs.State.{put_id, put_at}
 use Rattle.first_model.specs.Terms.{Terms}
 use Rattle.first_model.specs.World.{empty_world}
 use Rattle.first_model.specs.Writes.{told, session_told, phase_told}
-use Rattle.first_laws.specs.Effects.{Effect, Opens, GoesOn, TouchesOne, HasBegun, HasStored, HasNotStored, HasAccepted, HasAbandonedFailed, HasAbandonedWorn, held_article}
+use Rattle.first_laws.specs.Effects.{Effect, Opens, GoesOn, TouchesOne, HasBegun, HasStored}
+use Rattle.first_laws.specs.Effects.{HasNotStored, HasAccepted, HasAbandonedFailed}
+use Rattle.first_laws.specs.Effects.{HasAbandonedWorn, held_article}
 use Rattle.first_laws.specs.Laws.{Always}
 use Rattle.first_laws.specs.Sound.{ArticleFits, IsSound, SizesFit}
 use Rattle.first_laws.proofs.Puts.{put_id_both, put_at_both}

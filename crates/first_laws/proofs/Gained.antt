@@ -1,5 +1,6 @@
 -- Gained once: each feed gained the tokens of the accepted articles that it is permitted.
-use Rattle.std.proofs.Common.{◌≡◌, ◌∙◌, ℕ, nat_eq, Bool, true, false, List, [], ◌∷◌, ◌++◌, map, filter, cond, if◌then◌else◌, refl, sym, ap, subst}
+use Rattle.std.proofs.Common.{◌≡◌, ◌∙◌, ℕ, nat_eq, Bool, true, false, List, [], ◌∷◌, ◌++◌, map}
+use Rattle.std.proofs.Common.{filter, cond, if◌then◌else◌, refl, sym, ap, subst}
 use Rattle.std.proofs.lemmas.List.{map-append, append-nil}
 use Rattle.std.proofs.lemmas.List.Elements.{filter-append}
 use Rattle.std.specs.List.{list_any}
@@ -8,7 +9,9 @@ use Rattle.first_model.specs.State.{State, Feed}
 use Rattle.first_model.specs.Terms.{Terms}
 use Rattle.first_model.specs.World.{empty_world}
 use Rattle.first_model.specs.Writes.{gaining}
-use Rattle.first_laws.specs.Effects.{Effect, Opens, GoesOn, TouchesOne, HasBegun, HasStored, HasNotStored, HasAccepted, HasAbandonedFailed, HasAbandonedWorn}
+use Rattle.first_laws.specs.Effects.{Effect, Opens, GoesOn, TouchesOne, HasBegun, HasStored}
+use Rattle.first_laws.specs.Effects.{HasNotStored, HasAccepted, HasAbandonedFailed}
+use Rattle.first_laws.specs.Effects.{HasAbandonedWorn}
 use Rattle.first_laws.specs.Laws.{Always, GainsPermitted, tokens_for}
 use Rattle.first_laws.proofs.StepEffects.{run_keeps}
 

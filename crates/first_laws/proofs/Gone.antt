@@ -1,9 +1,12 @@
 -- Gone stays gone: no front falls, so a place that a front has passed stays passed.
-use Rattle.std.proofs.Common.{◌≡◌, ℕ, ◌+◌, ◌≤◌, ◌<◌, ◌==◌, ◌||◌, nat_lt, nat_le, Bool, true, false, find, if◌then◌else◌, Option, None, Some, refl, sym, arith, lt-ltb, ltb-true, true≢false, le_trans, le_refl, lt_of_lt_of_le}
+use Rattle.std.proofs.Common.{◌≡◌, ℕ, ◌+◌, ◌≤◌, ◌<◌, ◌==◌, ◌||◌, nat_lt, nat_le, Bool, true, false}
+use Rattle.std.proofs.Common.{find, if◌then◌else◌, Option, None, Some, refl, sym, arith, lt-ltb}
+use Rattle.std.proofs.Common.{ltb-true, true≢false, le_trans, le_refl, lt_of_lt_of_le}
 use Rattle.std.proofs.lemmas.Bool.{lt-leb}
 use Rattle.news_terms.specs.Places.{Buffer, on_line, size_of}
 use Rattle.news_terms.specs.Token.{Token, same_token}
-use Rattle.first_model.specs.Fetches.{Fetched, Gone, NotKnown, text_of, whole_under, fetched_at, fetched_in, buffer_of, front_of}
+use Rattle.first_model.specs.Fetches.{Fetched, Gone, NotKnown, text_of, whole_under, fetched_at}
+use Rattle.first_model.specs.Fetches.{fetched_in, buffer_of, front_of}
 use Rattle.first_model.specs.State.{State, Kept}
 use Rattle.first_model.specs.Terms.{Terms}
 use Rattle.first_model.specs.World.{World}

@@ -1,10 +1,13 @@
 -- The front of a buffer among those of all groups.
-use Rattle.std.proofs.Common.{◌≡◌, ◌∙◌, ℕ, zero, suc, ◌+◌, ◌==◌, List, [], ◌∷◌, ◌++◌, fold, slice_get, Option, None, Some, ◌⊎◌, inl, inr, refl, sym, ap, arith, add-zero, zero-add}
+use Rattle.std.proofs.Common.{◌≡◌, ◌∙◌, ℕ, zero, suc, ◌+◌, ◌==◌, List, [], ◌∷◌, ◌++◌, fold}
+use Rattle.std.proofs.Common.{slice_get, Option, None, Some, ◌⊎◌, inl, inr, refl, sym, ap, arith}
+use Rattle.std.proofs.Common.{add-zero, zero-add}
 use Rattle.std.proofs.lemmas.Bool.{cond-false, cases_eq, ne_eqb}
 use Rattle.std.proofs.lemmas.List.Sums.{fold-append}
 use Rattle.std.proofs.lemmas.Option.{same_Some, none-some}
 use Rattle.news_terms.specs.Fronts.{HasOwnNumbers, IsAmongBuffers}
-use Rattle.news_terms.specs.Places.{Buffer, Group, Place, next_place, with_extent, extents_after, extents, front_past, front_after, on_line}
+use Rattle.news_terms.specs.Places.{Buffer, Group, Place, next_place, with_extent, extents_after}
+use Rattle.news_terms.specs.Places.{extents, front_past, front_after, on_line}
 use Rattle.news_terms.proofs.Extents.{extents_after_push}
 use Rattle.news_terms.proofs.FrontLaws.{next_among}
 use Rattle.first_model.specs.Fetches.{extents_from, front_of}

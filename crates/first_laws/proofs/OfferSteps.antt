@@ -1,12 +1,18 @@
 -- What a session's step does to its open offers, and to what is offered to it.
-use Rattle.std.proofs.Common.{◌≡◌, ◌∙◌, ℕ, Bool, true, false, not, List, [], ◌∷◌, ◌++◌, ◌==◌, ◌||◌, bytes_eq, ◌⊎◌, inl, inr, if◌then◌else◌, refl, sym, ap, subst, eqb-true}
-use Rattle.std.proofs.lemmas.Bool.{cond_both, cases_Bool, cond-true, or_left, or_right, eqb-false, false≢true, not_from_false, false_from_ne_true}
+use Rattle.std.proofs.Common.{◌≡◌, ◌∙◌, ℕ, Bool, true, false, not, List, [], ◌∷◌, ◌++◌, ◌==◌, ◌||◌}
+use Rattle.std.proofs.Common.{bytes_eq, ◌⊎◌, inl, inr, if◌then◌else◌, refl, sym, ap, subst}
+use Rattle.std.proofs.Common.{eqb-true}
+use Rattle.std.proofs.lemmas.Bool.{cond_both, cases_Bool, cond-true, or_left, or_right, eqb-false}
+use Rattle.std.proofs.lemmas.Bool.{false≢true, not_from_false, false_from_ne_true}
 use Rattle.std.proofs.lemmas.List.Folds.{list_any-append}
-use Rattle.relay_model.specs.Claims.{Accepted, Claim, Unknown, Offered, Storing, Stored, Refused, after_offer, after_take, after_refuse, after_release, offer_answer, OfferAnswer, Wanted, Later, Seen}
+use Rattle.relay_model.specs.Claims.{Accepted, Claim, Unknown, Offered, Storing, Stored, Refused}
+use Rattle.relay_model.specs.Claims.{after_offer, after_take, after_refuse, after_release}
+use Rattle.relay_model.specs.Claims.{offer_answer, OfferAnswer, Wanted, Later, Seen}
 use Rattle.first_model.specs.Lines.{is_open, with_offer, without_offer}
 use Rattle.first_model.specs.State.{Session}
 use Rattle.first_model.specs.Terms.{Terms}
-use Rattle.first_laws.specs.Effects.{Touches, Offers, Refuses, Takes, TakesHeld, Releases, offers_answered}
+use Rattle.first_laws.specs.Effects.{Touches, Offers, Refuses, Takes, TakesHeld, Releases}
+use Rattle.first_laws.specs.Effects.{offers_answered}
 use Rattle.first_laws.proofs.Puts.{same_id, is_itself}
 
 -- an open offer stays open where another one is opened

@@ -1,18 +1,23 @@
 -- One text a token: each article that is begun lies at the front of its buffer or past it, so no
 -- two lie at one place.
-use Rattle.std.proofs.Common.{◌≡◌, ◌∙◌, ℕ, ◌+◌, ◌≤◌, Bool, true, false, List, [], ◌∷◌, ◌++◌, All, count_by, cond, bytes_eq, Some, ◌⊎◌, inl, inr, refl, sym, ap, subst, zero-le, le_of_eq, le_trans, add-zero}
+use Rattle.std.proofs.Common.{◌≡◌, ◌∙◌, ℕ, ◌+◌, ◌≤◌, Bool, true, false, List, [], ◌∷◌, ◌++◌, All}
+use Rattle.std.proofs.Common.{count_by, cond, bytes_eq, Some, ◌⊎◌, inl, inr, refl, sym, ap, subst}
+use Rattle.std.proofs.Common.{zero-le, le_of_eq, le_trans, add-zero}
 use Rattle.std.proofs.lemmas.Bool.{false≢true}
 use Rattle.std.proofs.lemmas.List.Elements.{All-push, All-nil, All-weaker}
 use Rattle.std.proofs.lemmas.List.Sums.{sum_by_push}
 use Rattle.news_terms.specs.Places.{Place}
 use Rattle.news_terms.specs.Token.{Token, same_token}
-use Rattle.relay_model.specs.Claims.{Accepted, Claim, Unknown, Storing, Stored, Waiting, Begun, Failed, Whole}
+use Rattle.relay_model.specs.Claims.{Accepted, Claim, Unknown, Storing, Stored, Waiting, Begun}
+use Rattle.relay_model.specs.Claims.{Failed, Whole}
 use Rattle.first_model.specs.State.{State, Session, Kept}
 use Rattle.relay_model.specs.State.{put_id}
 use Rattle.first_model.specs.Terms.{Terms}
 use Rattle.first_model.specs.World.{empty_world}
 use Rattle.first_model.specs.Writes.{token_at, begun_at, stored_under}
-use Rattle.first_laws.specs.Effects.{Effect, Opens, GoesOn, TouchesOne, HasBegun, HasStored, HasNotStored, HasAccepted, HasAbandonedFailed, HasAbandonedWorn, Touches}
+use Rattle.first_laws.specs.Effects.{Effect, Opens, GoesOn, TouchesOne, HasBegun, HasStored}
+use Rattle.first_laws.specs.Effects.{HasNotStored, HasAccepted, HasAbandonedFailed}
+use Rattle.first_laws.specs.Effects.{HasAbandonedWorn, Touches}
 use Rattle.first_laws.specs.Laws.{Always, is_at, OneTextAPlace, OneTextAToken}
 use Rattle.first_laws.specs.Sound.{ArticleFits, IsSound, SizesFit}
 use Rattle.first_laws.proofs.Counts.{count-le}
@@ -22,7 +27,8 @@ use Rattle.first_laws.proofs.RisingFronts.{Begin_facts, begin_facts, place_named
 use Rattle.first_laws.proofs.StepEffects.{run_keeps}
 use Rattle.first_laws.proofs.StoringSteps.{touch_storing}
 use Rattle.first_laws.proofs.Tests.{Same_place, turned, at_place, passes_place, same_places}
-use Rattle.first_laws.proofs.BelowFronts.{Is_below, below_rises, other_place, none_past, new_below, new_apart}
+use Rattle.first_laws.proofs.BelowFronts.{Is_below, below_rises, other_place, none_past, new_below}
+use Rattle.first_laws.proofs.BelowFronts.{new_apart}
 
 -- what is kept
 pub record One_each (w : Terms) (σ : State) : Type 0 where

@@ -1,5 +1,6 @@
 -- Offers are open: a message-id that is offered to a session is one of its open offers.
-use Rattle.std.proofs.Common.{◌≡◌, ◌∙◌, ℕ, true, false, List, Option, None, Some, ◌⊎◌, inl, inr, refl, sym, ap, subst}
+use Rattle.std.proofs.Common.{◌≡◌, ◌∙◌, ℕ, true, false, List, Option, None, Some, ◌⊎◌, inl, inr}
+use Rattle.std.proofs.Common.{refl, sym, ap, subst}
 use Rattle.std.proofs.lemmas.Bool.{cases_eq, false≢true}
 use Rattle.std.proofs.lemmas.Option.{same_Some, none-some}
 use Rattle.relay_model.specs.Claims.{Claim, Unknown, Offered, Stored}
@@ -11,7 +12,9 @@ use Rattle.first_model.specs.Terms.{Terms}
 use Rattle.first_model.specs.Today.{is_number_taken}
 use Rattle.first_model.specs.World.{empty_world}
 use Rattle.first_model.specs.Writes.{told, session_told, phase_told}
-use Rattle.first_laws.specs.Effects.{Effect, Opens, GoesOn, TouchesOne, HasBegun, HasStored, HasNotStored, HasAccepted, HasAbandonedFailed, HasAbandonedWorn, Touches, with_session_on}
+use Rattle.first_laws.specs.Effects.{Effect, Opens, GoesOn, TouchesOne, HasBegun, HasStored}
+use Rattle.first_laws.specs.Effects.{HasNotStored, HasAccepted, HasAbandonedFailed}
+use Rattle.first_laws.specs.Effects.{HasAbandonedWorn, Touches, with_session_on}
 use Rattle.first_laws.specs.Laws.{Always, OffersAreOpen, IsOpenOffer}
 use Rattle.first_laws.proofs.Puts.{put_id_both, put_at_both, put_at_here, put_at_there, same_id}
 use Rattle.first_laws.proofs.StepEffects.{run_keeps}

@@ -1,9 +1,12 @@
 -- No effect lowers the front of a buffer.
-use Rattle.std.proofs.Common.{◌≡◌, ◌∙◌, ℕ, ◌+◌, ◌≤◌, ◌==◌, List, [], ◌∷◌, ◌++◌, length, find, slice_get, option_and_then, Bool, true, false, cond, Some, ◌⊎◌, inl, inr, refl, sym, ap, subst, le_of_eq, le_trans, le-add_right}
+use Rattle.std.proofs.Common.{◌≡◌, ◌∙◌, ℕ, ◌+◌, ◌≤◌, ◌==◌, List, [], ◌∷◌, ◌++◌, length, find}
+use Rattle.std.proofs.Common.{slice_get, option_and_then, Bool, true, false, cond, Some, ◌⊎◌, inl}
+use Rattle.std.proofs.Common.{inr, refl, sym, ap, subst, le_of_eq, le_trans, le-add_right}
 use Rattle.std.proofs.lemmas.Bool.{cases_eq, eqb-true}
 use Rattle.std.proofs.lemmas.Option.{same_Some, none-some}
 use Rattle.news_terms.specs.Fronts.{IsAmongBuffers}
-use Rattle.news_terms.specs.Places.{Buffer, Place, next_place, extents, front_after, on_line, size_of}
+use Rattle.news_terms.specs.Places.{Buffer, Place, next_place, extents, front_after, on_line}
+use Rattle.news_terms.specs.Places.{size_of}
 use Rattle.news_terms.proofs.Extents.{front_here}
 use Rattle.news_terms.proofs.FrontLaws.{next_among, next_at_or_past}
 use Rattle.relay_model.specs.Claims.{Accepted, Waiting}
@@ -12,7 +15,9 @@ use Rattle.first_model.specs.State.{State}
 use Rattle.relay_model.specs.State.{put_at}
 use Rattle.first_model.specs.Terms.{Terms}
 use Rattle.first_model.specs.Writes.{Begins}
-use Rattle.first_laws.specs.Effects.{Effect, Opens, GoesOn, TouchesOne, HasBegun, HasStored, HasNotStored, HasAccepted, HasAbandonedFailed, HasAbandonedWorn}
+use Rattle.first_laws.specs.Effects.{Effect, Opens, GoesOn, TouchesOne, HasBegun, HasStored}
+use Rattle.first_laws.specs.Effects.{HasNotStored, HasAccepted, HasAbandonedFailed}
+use Rattle.first_laws.specs.Effects.{HasAbandonedWorn}
 use Rattle.first_laws.specs.Sound.{IsBufferAt, ArticleFits, IsSound, SizesFit}
 use Rattle.first_laws.proofs.GroupFronts.{front_in_group, front_elsewhere, own_numbers}
 use Rattle.first_laws.proofs.Puts.{put_at_here}

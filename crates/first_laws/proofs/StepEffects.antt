@@ -1,14 +1,17 @@
 -- What a step does to the state, and what every run keeps.
-use Rattle.std.proofs.Common.{◌≡◌, ℕ, ◌++◌, nat_lt, Bool, true, false, List, [], ◌∷◌, Option, None, Some, refl, sym, ap, subst, if◌then◌else◌}
+use Rattle.std.proofs.Common.{◌≡◌, ℕ, ◌++◌, nat_lt, Bool, true, false, List, [], ◌∷◌, Option, None}
+use Rattle.std.proofs.Common.{Some, refl, sym, ap, subst, if◌then◌else◌}
 use Rattle.std.proofs.lemmas.Option.{none-some}
 use Rattle.first_model.specs.Pace.{Writes, NoJob, Pops, StoresWhole, FindsWorn, Settles, Answers}
-use Rattle.first_model.specs.Run.{Event, Open, Bytes, Turn, Write, Break, Does, Step, IsRefused, WantsMemory, IsDone, Run, refusal}
+use Rattle.first_model.specs.Run.{Event, Open, Bytes, Turn, Write, Break, Does, Step, IsRefused}
+use Rattle.first_model.specs.Run.{WantsMemory, IsDone, Run, refusal}
 use Rattle.first_model.specs.State.{State, Leaving}
 use Rattle.first_model.specs.Terms.{Terms}
 use Rattle.first_model.specs.Today.{is_number_taken}
 use Rattle.first_model.specs.Turns.{turn_does, with_unread}
 use Rattle.first_model.specs.World.{World, Output, Fault, NoPeer, SessionTaken, in_phase}
-use Rattle.first_laws.specs.Effects.{Effect, Effects, Nothing, One, Two, Opens, GoesOn, HasBegun, HasStored, HasAccepted, HasAbandonedWorn}
+use Rattle.first_laws.specs.Effects.{Effect, Effects, Nothing, One, Two, Opens, GoesOn, HasBegun}
+use Rattle.first_laws.specs.Effects.{HasStored, HasAccepted, HasAbandonedWorn}
 use Rattle.first_laws.proofs.TurnEffects.{turn_effects, holds_nothing}
 
 -- what equal states have for effects

@@ -1,13 +1,18 @@
 -- Stored once: each message-id has the texts that its claim says.
-use Rattle.std.proofs.Common.{◌≡◌, ◌∙◌, ℕ, ◌+◌, ◌≤◌, true, List, [], ◌∷◌, ◌++◌, bytes_eq, count_by, ◌⊎◌, inl, inr, cond, refl, sym, ap, subst, add-zero, le_of_eq, zero-le, le_refl, le_trans}
+use Rattle.std.proofs.Common.{◌≡◌, ◌∙◌, ℕ, ◌+◌, ◌≤◌, true, List, [], ◌∷◌, ◌++◌, bytes_eq, count_by}
+use Rattle.std.proofs.Common.{◌⊎◌, inl, inr, cond, refl, sym, ap, subst, add-zero, le_of_eq}
+use Rattle.std.proofs.Common.{zero-le, le_refl, le_trans}
 use Rattle.std.proofs.lemmas.Bool.{false≢true}
 use Rattle.std.proofs.lemmas.List.Sums.{sum_by_push}
-use Rattle.relay_model.specs.Claims.{Claim, Unknown, Offered, Storing, Stored, Refused, Waiting, Begun, Failed, Whole}
+use Rattle.relay_model.specs.Claims.{Claim, Unknown, Offered, Storing, Stored, Refused, Waiting}
+use Rattle.relay_model.specs.Claims.{Begun, Failed, Whole}
 use Rattle.first_model.specs.State.{State, Session, Kept}
 use Rattle.relay_model.specs.State.{put_id}
 use Rattle.first_model.specs.Terms.{Terms}
 use Rattle.first_model.specs.World.{empty_world}
-use Rattle.first_laws.specs.Effects.{Effect, Opens, GoesOn, TouchesOne, HasBegun, HasStored, HasNotStored, HasAccepted, HasAbandonedFailed, HasAbandonedWorn, Touches}
+use Rattle.first_laws.specs.Effects.{Effect, Opens, GoesOn, TouchesOne, HasBegun, HasStored}
+use Rattle.first_laws.specs.Effects.{HasNotStored, HasAccepted, HasAbandonedFailed}
+use Rattle.first_laws.specs.Effects.{HasAbandonedWorn, Touches}
 use Rattle.first_laws.specs.Laws.{Always, TextsAreDue, AtMostOneText, texts_due}
 use Rattle.first_laws.proofs.EarlyClaims.{is_early, stays_or_early}
 use Rattle.first_laws.proofs.Puts.{put_id_both, same_id}

@@ -1,9 +1,13 @@
 -- What a session's step does to an article that is being stored: it stays, or begins to wait.
-use Rattle.std.proofs.Common.{◌≡◌, ◌∙◌, ℕ, Bool, true, false, ◌==◌, List, Some, if◌then◌else◌, ◌⊎◌, inl, inr, sym, ap, subst}
-use Rattle.relay_model.specs.Claims.{Accepted, Claim, Unknown, Offered, Storing, Stored, Refused, Stage, Waiting, after_offer, after_take, after_refuse, after_release}
+use Rattle.std.proofs.Common.{◌≡◌, ◌∙◌, ℕ, Bool, true, false, ◌==◌, List, Some, if◌then◌else◌, ◌⊎◌}
+use Rattle.std.proofs.Common.{inl, inr, sym, ap, subst}
+use Rattle.relay_model.specs.Claims.{Accepted, Claim, Unknown, Offered, Storing, Stored, Refused}
+use Rattle.relay_model.specs.Claims.{Stage, Waiting, after_offer, after_take, after_refuse}
+use Rattle.relay_model.specs.Claims.{after_release}
 use Rattle.first_model.specs.State.{Session}
 use Rattle.first_model.specs.Terms.{Terms}
-use Rattle.first_laws.specs.Effects.{Touches, Offers, Refuses, Takes, TakesHeld, Releases, held_article}
+use Rattle.first_laws.specs.Effects.{Touches, Offers, Refuses, Takes, TakesHeld, Releases}
+use Rattle.first_laws.specs.Effects.{held_article}
 use Rattle.first_laws.specs.Sound.{ArticleFits, IsSound}
 
 -- CHECK stores nothing new

@@ -1,5 +1,6 @@
 -- Tests that pass together, one by one: of a place three, of a token five.
-use Rattle.std.proofs.Common.{◌≡◌, ◌==◌, ◌&&◌, ℕ, Bool, true, false, refl, sym, eqb-true, eq-eqb, true≢false}
+use Rattle.std.proofs.Common.{◌≡◌, ◌==◌, ◌&&◌, ℕ, Bool, true, false, refl, sym, eqb-true, eq-eqb}
+use Rattle.std.proofs.Common.{true≢false}
 use Rattle.news_terms.specs.Token.{Token, same_token}
 use Rattle.first_model.specs.State.{Kept}
 use Rattle.first_laws.specs.Laws.{is_at}

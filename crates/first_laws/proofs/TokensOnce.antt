@@ -1,19 +1,25 @@
 -- Each token is accepted once: its text lies at a place of its own, and its message-id is stored
 -- then.
-use Rattle.std.proofs.Common.{◌≡◌, ◌∙◌, ℕ, ◌+◌, ◌≤◌, nat_eq, Bool, true, false, List, [], ◌∷◌, ◌++◌, All, map, filter, count_by, cond, bytes_eq, Some, inl, inr, refl, sym, ap, subst, arith, zero-le, le_of_eq, le_trans, le_antisymm, add-zero, le-add_right, true≢false}
+use Rattle.std.proofs.Common.{◌≡◌, ◌∙◌, ℕ, ◌+◌, ◌≤◌, nat_eq, Bool, true, false, List, [], ◌∷◌, ◌++◌}
+use Rattle.std.proofs.Common.{All, map, filter, count_by, cond, bytes_eq, Some, inl, inr, refl, sym}
+use Rattle.std.proofs.Common.{ap, subst, arith, zero-le, le_of_eq, le_trans, le_antisymm, add-zero}
+use Rattle.std.proofs.Common.{le-add_right, true≢false}
 use Rattle.std.proofs.lemmas.Bool.{and_from, false_from_ne_true}
 use Rattle.std.proofs.lemmas.List.Elements.{All-push, All-nil, All-weaker}
 use Rattle.std.proofs.lemmas.List.Sums.{sum_by_push, sum_by-cons}
 use Rattle.std.proofs.lemmas.Option.{same_Some, none-some}
 use Rattle.std.specs.List.{list_any}
 use Rattle.news_terms.specs.Token.{Token, same_token}
-use Rattle.relay_model.specs.Claims.{Accepted, Unknown, Storing, Stored, Waiting, Begun, Failed, Whole}
+use Rattle.relay_model.specs.Claims.{Accepted, Unknown, Storing, Stored, Waiting, Begun, Failed}
+use Rattle.relay_model.specs.Claims.{Whole}
 use Rattle.first_model.specs.State.{State}
 use Rattle.relay_model.specs.State.{put_id}
 use Rattle.first_model.specs.Terms.{Terms}
 use Rattle.first_model.specs.World.{empty_world}
 use Rattle.first_model.specs.Writes.{stored_under, accepted_as}
-use Rattle.first_laws.specs.Effects.{Effect, Opens, GoesOn, TouchesOne, HasBegun, HasStored, HasNotStored, HasAccepted, HasAbandonedFailed, HasAbandonedWorn}
+use Rattle.first_laws.specs.Effects.{Effect, Opens, GoesOn, TouchesOne, HasBegun, HasStored}
+use Rattle.first_laws.specs.Effects.{HasNotStored, HasAccepted, HasAbandonedFailed}
+use Rattle.first_laws.specs.Effects.{HasAbandonedWorn}
 use Rattle.first_laws.specs.Laws.{Always, tokens_for, GainsOnce, AcceptsStored}
 use Rattle.first_laws.specs.Sound.{IsSound}
 use Rattle.first_laws.proofs.Counts.{count-none}
@@ -22,7 +28,9 @@ use Rattle.first_laws.proofs.OneText.{One_each, each_kept, empty_each}
 use Rattle.first_laws.proofs.Puts.{put_id_both, same_id, is_itself}
 use Rattle.first_laws.proofs.StepEffects.{run_keeps}
 use Rattle.first_laws.proofs.Tests.{Same_place, passes_place, same_itself, same_places}
-use Rattle.first_laws.proofs.TextClaims.{token_of, Stays_or_textless, is_text, Has_text, apart_texts, Is_stored, times_accepted, has_none, textless_put, stored_stays, touch_textless, textless}
+use Rattle.first_laws.proofs.TextClaims.{token_of, Stays_or_textless, is_text, Has_text}
+use Rattle.first_laws.proofs.TextClaims.{apart_texts, Is_stored, times_accepted, has_none}
+use Rattle.first_laws.proofs.TextClaims.{textless_put, stored_stays, touch_textless, textless}
 
 -- what is kept
 record Accepts_once (w : Terms) (σ : State) : Type 0 where

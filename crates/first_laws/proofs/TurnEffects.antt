@@ -1,23 +1,37 @@
 -- What a Turn does to the state: at most one effect, by the functions that say what a session does.
-use Rattle.std.proofs.Common.{◌≡◌, ◌∙◌, ℕ, nat_lt, length, Bool, true, false, List, [], ◌∷◌, Option, None, Some, Result, Ok, Err, refl, sym, ap}
+use Rattle.std.proofs.Common.{◌≡◌, ◌∙◌, ℕ, nat_lt, length, Bool, true, false, List, [], ◌∷◌, Option}
+use Rattle.std.proofs.Common.{None, Some, Result, Ok, Err, refl, sym, ap}
 use Rattle.std.proofs.lemmas.Bool.{cond_both}
 use Rattle.std.proofs.lemmas.Option.{none-some, same_Some}
 use Rattle.news_terms.specs.Blocks.{NextBlock, Whole, Oversize, Unfinished, next_block}
-use Rattle.news_terms.specs.Command.{Command, AskCapabilities, AskHelp, AskDate, Quit, ModeStream, ModeReader, Check, Ihave, TakeThis, Fetch, NeedsGroup, TakeQueue, FetchToken, WholeText, Header, BodyLines, OverviewLine, Presence, CommandFault, Syntax, command_among, is_served}
+use Rattle.news_terms.specs.Command.{Command, AskCapabilities, AskHelp, AskDate, Quit, ModeStream}
+use Rattle.news_terms.specs.Command.{ModeReader, Check, Ihave, TakeThis, Fetch, NeedsGroup}
+use Rattle.news_terms.specs.Command.{TakeQueue, FetchToken, WholeText, Header, BodyLines}
+use Rattle.news_terms.specs.Command.{OverviewLine, Presence, CommandFault, Syntax, command_among}
+use Rattle.news_terms.specs.Command.{is_served}
 use Rattle.news_terms.specs.Command as commands
 use Rattle.news_terms.specs.Lines.{NextLine, Cut, TooLong, Incomplete, next_line}
 use Rattle.news_terms.specs.Token.{Token}
 use Rattle.first_model.specs.Arrivals.{taken_does, judged_does, block_does}
-use Rattle.relay_model.specs.Claims.{Accepted, OfferAnswer, Wanted, Later, Seen, TakeAnswer, Mine, Held, Had, offer_answer, after_offer, take_answer, after_take, after_refuse, after_release, look_answer}
+use Rattle.relay_model.specs.Claims.{Accepted, OfferAnswer, Wanted, Later, Seen, TakeAnswer, Mine}
+use Rattle.relay_model.specs.Claims.{Held, Had, offer_answer, after_offer, take_answer, after_take}
+use Rattle.relay_model.specs.Claims.{after_refuse, after_release, look_answer}
 use Rattle.first_model.specs.Fetches.{Fetched, Gone, NotKnown, Article, fetched}
-use Rattle.first_model.specs.Lines.{check_answered, check_does, is_full, fetch_replied, look_does, command_does, line_does, with_offer, without_offer, with_offers}
+use Rattle.first_model.specs.Lines.{check_answered, check_does, is_full, fetch_replied, look_does}
+use Rattle.first_model.specs.Lines.{command_does, line_does, with_offer, without_offer, with_offers}
 use Rattle.first_model.specs.Says.{says}
 use Rattle.news_terms.specs.Reply.{AskLater}
-use Rattle.first_model.specs.State.{Session, Phase, Ready, Owes, Holds, Waits, Fetches, Leaving, Ended, Transfer, TakesThis, Has, Outcome, IsKept, HasFailed, Asked, Whether}
+use Rattle.first_model.specs.State.{Session, Phase, Ready, Owes, Holds, Waits, Fetches, Leaving}
+use Rattle.first_model.specs.State.{Ended, Transfer, TakesThis, Has, Outcome, IsKept, HasFailed}
+use Rattle.first_model.specs.State.{Asked, Whether}
 use Rattle.first_model.specs.Terms.{Terms, Reason, queue_limit}
-use Rattle.first_model.specs.Turns.{ready_does, owing_does, push_by, answer_does, slot_does, waiting_does, release_does, leaving_does, turn_by, turn_does, with_unread, untold}
+use Rattle.first_model.specs.Turns.{ready_does, owing_does, push_by, answer_does, slot_does}
+use Rattle.first_model.specs.Turns.{waiting_does, release_does, leaving_does, turn_by, turn_does}
+use Rattle.first_model.specs.Turns.{with_unread, untold}
 use Rattle.first_model.specs.World.{World, Next, Job, with_claim, with_session, in_phase}
-use Rattle.first_laws.specs.Effects.{Effects, Nothing, One, GoesOn, TouchesOne, Offers, Refuses, Takes, TakesHeld, Releases, Touches, HoldsNoMore, HoldsNoOther, held_article, offers_answered}
+use Rattle.first_laws.specs.Effects.{Effects, Nothing, One, GoesOn, TouchesOne, Offers, Refuses}
+use Rattle.first_laws.specs.Effects.{Takes, TakesHeld, Releases, Touches, HoldsNoMore, HoldsNoOther}
+use Rattle.first_laws.specs.Effects.{held_article, offers_answered}
 
 -- what is said and done has one of the effects
 abbrev Has_effects : Terms → World → Next → Type 0

@@ -1,10 +1,13 @@
 -- What an event does to the state, rule by rule: which message-id and which session alone it
 -- touches, and how. The laws go over these effects.
 use Rattle.std.specs.Prelude.{◌≡◌, ℕ, false, List, ◌∷◌, Option, None, Some, Ok}
-use Rattle.relay_model.specs.Claims.{Accepted, Claim, OfferAnswer, Wanted, Later, Seen, offer_answer, after_offer, after_take, after_refuse, after_release}
+use Rattle.relay_model.specs.Claims.{Accepted, Claim, OfferAnswer, Wanted, Later, Seen}
+use Rattle.relay_model.specs.Claims.{offer_answer, after_offer, after_take, after_refuse}
+use Rattle.relay_model.specs.Claims.{after_release}
 use Rattle.first_model.specs.Lines.{with_offer, without_offer}
 use Rattle.first_model.specs.Run.{new_session}
-use Rattle.first_model.specs.State.{State, Session, Phase, Ready, Owes, Holds, Waits, Fetches, Leaving, Ended}
+use Rattle.first_model.specs.State.{State, Session, Phase, Ready, Owes, Holds, Waits, Fetches}
+use Rattle.first_model.specs.State.{Leaving, Ended}
 use Rattle.relay_model.specs.State.{put_id, put_at}
 use Rattle.first_model.specs.Terms.{Terms}
 use Rattle.first_model.specs.Today.{is_number_taken}

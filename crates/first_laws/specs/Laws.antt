@@ -1,9 +1,11 @@
 -- The laws: what holds of the state after every list of events, whatever it was answered.
-use Rattle.std.specs.Prelude.{◌≡◌, ℕ, ◌≤◌, ◌==◌, ◌&&◌, nat_eq, Bool, true, List, map, filter, count_by, bytes_eq, Some}
+use Rattle.std.specs.Prelude.{◌≡◌, ℕ, ◌≤◌, ◌==◌, ◌&&◌, nat_eq, Bool, true, List, map, filter}
+use Rattle.std.specs.Prelude.{count_by, bytes_eq, Some}
 use Rattle.std.specs.List.{list_any}
 use Rattle.news_terms.specs.Places.{Buffer, IsGone, on_line}
 use Rattle.news_terms.specs.Token.{Token, same_token}
-use Rattle.relay_model.specs.Claims.{Claim, Unknown, Offered, Storing, Stored, Refused, Stage, Waiting, Begun, Failed, Whole}
+use Rattle.relay_model.specs.Claims.{Claim, Unknown, Offered, Storing, Stored, Refused, Stage}
+use Rattle.relay_model.specs.Claims.{Waiting, Begun, Failed, Whole}
 use Rattle.first_model.specs.Fetches.{Gone, fetched, buffer_of, front_of}
 use Rattle.first_model.specs.Lines.{is_open}
 use Rattle.first_model.specs.Run.{Event, Run}

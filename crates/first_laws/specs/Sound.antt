@@ -1,5 +1,6 @@
 -- What the laws of places ask of the terms and of the state.
-use Rattle.std.specs.Prelude.{◌≡◌, ℕ, ◌≤◌, ◌==◌, List, length, All, find, slice_get, Option, Some, Ok}
+use Rattle.std.specs.Prelude.{◌≡◌, ℕ, ◌≤◌, ◌==◌, List, length, All, find, slice_get, Option, Some}
+use Rattle.std.specs.Prelude.{Ok}
 use Rattle.news_terms.specs.Fronts.{FitsGroup}
 use Rattle.news_terms.specs.Places.{Buffer, Group, size_of}
 use Rattle.relay_model.specs.Claims.{Accepted, Storing, Stage}

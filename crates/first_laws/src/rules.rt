@@ -10,7 +10,8 @@ ghost use Rattle.relay_model.specs.Claims.{offer_answer, after_offer, take_answe
 ghost use Rattle.relay_model.specs.Claims.{after_refuse, after_release, after_forget, after_settle};
 ghost use Rattle.first_model.specs.Fetches.{Gone, Article, fetched, front_of};
 ghost use Rattle.first_model.specs.Run.{Event, Step};
-ghost use Rattle.first_model.specs.State.{State, Session, Transfer, Outcome, IsKept, Waits, Leaving};
+ghost use Rattle.first_model.specs.State.{State, Session, Transfer, Outcome, IsKept, Waits};
+ghost use Rattle.first_model.specs.State.{Leaving};
 ghost use Rattle.first_model.specs.Terms.{Terms};
 ghost use Rattle.first_model.specs.Turns.{answer_does, push_does, turn_does};
 ghost use Rattle.first_model.specs.World.{World, Output, Job, Sent};

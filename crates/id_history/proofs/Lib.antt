@@ -1,2 +1,3 @@
 mod ClaimLemmas
 mod MarkLemmas
+mod ShardsLemmas

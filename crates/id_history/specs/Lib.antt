@@ -1,4 +1,6 @@
 pub mod Answers
+pub mod Changes
 pub mod Mark
 pub mod Marks
 pub mod Shard
+pub mod Shards

@@ -83,7 +83,8 @@ impl Shard {
     ghost use Rattle.id_history.specs.Mark.{entry_mark};
     ghost use Rattle.id_history.specs.Mark as mark;
     ghost use Rattle.id_history.specs.Marks.{SetsMark, SameMarks};
-    ghost use Rattle.id_history.specs.Shard.{mark_at, Keeps, OfClaim, ChangesClaim, KeepsClaims};
+    ghost use Rattle.id_history.specs.Changes.{OfClaim, ChangesClaim, KeepsClaims};
+    ghost use Rattle.id_history.specs.Shard.{mark_at, Keeps};
 
     /// A shard to which every message-id is unknown.
     pub fn new(alloc: Global, hasher: RandomState) -> Shard
@@ -97,14 +98,14 @@ impl Shard {
 
     /// The session offers the article of the id: an id that is unknown becomes its offer.
     pub fn offer(&mut self, id: &MsgId, session: u64) -> Result<Offer, AllocError>
-        ensures answer { IfOk result (λ answer. OfClaim self.old id.now
+        ensures answer { IfOk result (λ answer. OfClaim (Keeps self.old) id.now
             (λ claim. offer_view answer ≡ offer_answer session claim)) }
         ensures claims { OnOk result
-            (ChangesClaim self.old self.new id.now (after_offer session)) }
-        ensures err { OnErr result (KeepsClaims self.old self.new) }
+            (ChangesClaim (Keeps self.old) (Keeps self.new) id.now (after_offer session)) }
+        ensures err { OnErr result (KeepsClaims (Keeps self.old) (Keeps self.new)) }
 
         // An id that is known takes no memory.
-        ensures known { OfClaim self.old id.now (λ claim. claim ≢ Unknown → IsOk result) }
+        ensures known { OfClaim (Keeps self.old) id.now (λ claim. claim ≢ Unknown → IsOk result) }
     {
         match self.entry(id) {
             None => {
@@ -120,14 +121,14 @@ impl Shard {
     /// The session has an accepted article of the id: where the id is unknown or offered, to
     /// whomever, it is being stored for the session from now on.
     pub fn take(&mut self, id: &MsgId, session: u64) -> Result<Take, AllocError>
-        ensures answer { IfOk result (λ answer. OfClaim self.old id.now
+        ensures answer { IfOk result (λ answer. OfClaim (Keeps self.old) id.now
             (λ claim. take_view answer ≡ take_answer session claim)) }
         ensures claims { OnOk result ((article : Accepted)
-            → ChangesClaim self.old self.new id.now (after_take session article)) }
-        ensures err { OnErr result (KeepsClaims self.old self.new) }
+            → ChangesClaim (Keeps self.old) (Keeps self.new) id.now (after_take session article)) }
+        ensures err { OnErr result (KeepsClaims (Keeps self.old) (Keeps self.new)) }
 
         // An id that is known takes no memory.
-        ensures known { OfClaim self.old id.now (λ claim. claim ≢ Unknown → IsOk result) }
+        ensures known { OfClaim (Keeps self.old) id.now (λ claim. claim ≢ Unknown → IsOk result) }
     {
         match self.entry(id) {
             None => {
@@ -147,11 +148,11 @@ impl Shard {
     /// offered to the session, that is remembered.
     pub fn refuse(&mut self, id: &MsgId, session: u64, now: u64) -> Result<(), AllocError>
         ensures claims { OnOk result
-            (ChangesClaim self.old self.new id.now (after_refuse session now)) }
-        ensures err { OnErr result (KeepsClaims self.old self.new) }
+            (ChangesClaim (Keeps self.old) (Keeps self.new) id.now (after_refuse session now)) }
+        ensures err { OnErr result (KeepsClaims (Keeps self.old) (Keeps self.new)) }
 
         // An id that is known takes no memory.
-        ensures known { OfClaim self.old id.now (λ claim. claim ≢ Unknown → IsOk result) }
+        ensures known { OfClaim (Keeps self.old) id.now (λ claim. claim ≢ Unknown → IsOk result) }
     {
         let refused = Entry::Refused { moment: now };
         match self.entry(id) {
@@ -164,7 +165,7 @@ impl Shard {
 
     /// The session's offer of the id ends, which takes no memory: another session's stays.
     pub fn release(&mut self, id: &MsgId, session: u64)
-        ensures { ChangesClaim self.old self.new id.now (after_release session) }
+        ensures { ChangesClaim (Keeps self.old) (Keeps self.new) id.now (after_release session) }
     {
         match self.entry(id) {
             Some(Entry::Offered { session: other }) if other == session => self.remove(id),
@@ -175,7 +176,7 @@ impl Shard {
     /// The session's article of the id is given up, which takes no memory: the id becomes unknown
     /// where it is being stored for the session.
     pub fn forget(&mut self, id: &MsgId, session: u64)
-        ensures { ChangesClaim self.old self.new id.now (after_forget session) }
+        ensures { ChangesClaim (Keeps self.old) (Keeps self.new) id.now (after_forget session) }
     {
         match self.entry(id) {
             Some(Entry::Storing { session: other }) if other == session => self.remove(id),
@@ -187,10 +188,10 @@ impl Shard {
     /// no memory. `None`, with nothing changed, exactly where the id isn't being stored for the
     /// session.
     pub fn settle(&mut self, id: &MsgId, session: u64, token: Token, now: u64) -> Option<Settled>
-        ensures answer { OfClaim self.old id.now
+        ensures answer { OfClaim (Keeps self.old) id.now
             (λ claim. is_some result ≡ is_storing_for session claim) }
         ensures token { IfSome result (λ settled. token_of settled ≡ token) }
-        ensures claims { ChangesClaim self.old self.new id.now
+        ensures claims { ChangesClaim (Keeps self.old) (Keeps self.new) id.now
             (after_settle session (token_view token) now) }
     {
         match self.entry(id) {
@@ -204,7 +205,7 @@ impl Shard {
 
     /// The token under which the article of the id is stored. It takes no memory.
     pub fn look(&self, id: &MsgId) -> Option<Token>
-        ensures { OfClaim self.now id.now
+        ensures { OfClaim (Keeps self.now) id.now
             (λ claim. option_map token_view result ≡ look_answer claim) }
     {
         match self.entry(id) {

@@ -3,8 +3,9 @@ ghost use Rattle.std.specs.Prelude.{◌≡◌, ◌↔◌, ℕ, List};
 ghost use Rattle.relay_model.specs.Claims.{Claim};
 ghost use Rattle.id_history.specs.Mark.{mark_of};
 ghost use Rattle.id_history.specs.Shard.{Keeps};
+ghost use Rattle.id_history.specs.Shards.{KeepsAll};
 
-use crate::Shard;
+use crate::{Shard, Shards};
 
 /// Every shard keeps some claims, so nothing is said of it in vain.
 pub fn keeps_some(shard: &Shard)
@@ -16,4 +17,9 @@ pub fn keeps_some(shard: &Shard)
 pub fn keeps_alike(shard: &Shard)
     ensures { (claims others : List ℕ → Claim) → Keeps shard.now claims
         → (Keeps shard.now others ↔ ((id : List ℕ) → mark_of (others id) ≡ mark_of (claims id))) }
+{}
+
+/// Sixteen shards keep some claims, too.
+pub fn all_keep_some(shards: &Shards)
+    ensures { (claims : List ℕ → Claim) × KeepsAll shards.now claims }
 {}

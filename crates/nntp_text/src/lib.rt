@@ -13,6 +13,3 @@ mod words;
 pub use command::{CmdError, Command};
 pub use id::{IdError, MsgId};
 pub use reply::{REPLY_ROOM, Reply, put_reply, reply_bytes};
-
-#[cfg(test)]
-mod tests;

@@ -10,6 +10,3 @@ mod words;
 
 pub use rules::{Identity, PathError, identities, loops};
 pub use update::{update_parses, updated};
-
-#[cfg(test)]
-mod tests;

@@ -1,7 +1,8 @@
-//! How fast `cyc_buffer` writes and reads blocks over memory.
+//! Blocks of a buffer in memory.
 ghost use Rattle.std.specs.Prelude.{◌≤◌, ◌<◌, ◌^◌, length};
 
-use cyc_block::MemoryBlocks;
+use crate::work::Work;
+use cyc_block::{CHUNK_OCTETS, MemoryBlocks};
 use cyc_buffer::{Buffer, Found};
 use cyc_token::Token;
 use std::alloc::Global;
@@ -9,73 +10,34 @@ use std::io;
 use std::io::ErrorKind;
 use std::time::Instant;
 
-/// The blocks of the buffer.
-const BLOCKS: u32 = 1 << 16;
+/// The octets of an article of 64 blocks.
+const ARTICLE: usize = 64 * CHUNK_OCTETS;
 
-/// The articles that are written and read in one run.
-const ARTICLES: u32 = 1 << 10;
-
-/// The blocks of an article.
-const SIZE: u32 = 64;
-
-/// The octets of a block's chunk.
-const CHUNK: usize = 480;
-
-/// How often each is timed; the least time counts.
-const RUNS: u32 = 25;
-
-/// Times writing, reading and copying, and prints a table.
-pub fn measure(rt: &HostRuntime) -> io::Result<()> {
-    let alloc = rt.alloc();
-    let mut buffer = Buffer::format(alloc, MemoryBlocks::new(alloc, BLOCKS)?, 0, 0)?;
-    let text = text_of(alloc)?;
-    let mut least = [f64::MAX; 3];
-    let mut sum = 0u64;
-    for run in 0..RUNS {
-        let _run = run;
-        let start = Instant::now(rt)?;
-        let tokens = write(alloc, &mut buffer, &text)?;
-        least[0] = least[0].min(start.elapsed(rt)?.as_secs_f64());
-        let start = Instant::now(rt)?;
-        sum = sum.wrapping_add(read(&mut buffer, &tokens)?);
-        least[1] = least[1].min(start.elapsed(rt)?.as_secs_f64());
-        let start = Instant::now(rt)?;
-        sum = sum.wrapping_add(copy(&text));
-        least[2] = least[2].min(start.elapsed(rt)?.as_secs_f64());
+/// The seconds that writing the text to a buffer takes, or reading it from one.
+pub fn seconds(rt: &HostRuntime, work: Work, text: &[u8]) -> io::Result<f64> {
+    let blocks = u32::try_from(text.len().div_ceil(CHUNK_OCTETS)).unwrap_or(u32::MAX);
+    let store = MemoryBlocks::new(rt.alloc(), blocks)?;
+    let mut buffer = Buffer::format(rt.alloc(), store, 0, 0)?;
+    let start = Instant::now(rt)?;
+    let tokens = write(rt.alloc(), &mut buffer, text)?;
+    if let Work::Write = work {
+        return Ok(start.elapsed(rt)?.as_secs_f64());
     }
-    println!(rt; "| Done | Blocks | Seconds | Blocks a second | Share of copying |")?;
-    println!(rt; "|---|---:|---:|---:|---:|")?;
-    for (name, seconds) in [
-        ("written", least[0]),
-        ("read", least[1]),
-        ("copied", least[2]),
-    ] {
-        let rate = f64::from(ARTICLES) * f64::from(SIZE) / seconds;
-        let share = least[2] / seconds;
-        println!(rt; "| {name} | {BLOCKS} | {seconds:.4} | {rate:.0} | {share:.3} |")?;
+    let start = Instant::now(rt)?;
+    for token in &tokens {
+        read_article(&mut buffer, token)?;
     }
-    // The sum is printed so that no copy can be left out.
-    println!(rt; "sum {sum}")
+    Ok(start.elapsed(rt)?.as_secs_f64())
 }
 
-/// A text of an article's octets.
-fn text_of(alloc: Global) -> io::Result<Vec<u8>> {
-    let mut text = Vec::new(alloc);
-    for block in 0..SIZE {
-        text.extend_from_slice(&[block as u8; CHUNK])?;
-    }
-    Ok(text)
-}
-
-/// Writes the articles, and gives their tokens.
+/// Writes the articles of the text, and gives their tokens.
 fn write(alloc: Global, buffer: &mut Buffer<MemoryBlocks>, text: &[u8]) -> io::Result<Vec<Token>> {
     let mut tokens = Vec::new(alloc);
-    for article in 0..ARTICLES {
-        let _article = article;
-        if text.is_empty() || text.len() > u32::MAX as usize {
+    for article in text.chunks(ARTICLE) {
+        if article.is_empty() || article.len() > u32::MAX as usize {
             return Err(io::Error::from(ErrorKind::InvalidData));
         }
-        tokens.push(write_article(buffer, text)?)?;
+        tokens.push(write_article(buffer, article)?)?;
     }
     Ok(tokens)
 }
@@ -88,7 +50,7 @@ fn write_article(buffer: &mut Buffer<MemoryBlocks>, text: &[u8]) -> io::Result<T
     let Ok(open) = buffer.begin(1, text.len() as u32, false) else {
         return Err(io::Error::from(ErrorKind::InvalidData));
     };
-    for block in 0..text.len().div_ceil(CHUNK) {
+    for block in 0..text.len().div_ceil(CHUNK_OCTETS) {
         let _block = block;
         if buffer.write_next(&open, text).is_err() {
             buffer.abandon(open);
@@ -98,30 +60,25 @@ fn write_article(buffer: &mut Buffer<MemoryBlocks>, text: &[u8]) -> io::Result<T
     Ok(buffer.finish(open))
 }
 
-/// Reads the articles of the tokens, and sums up an octet of each block.
-fn read(buffer: &mut Buffer<MemoryBlocks>, tokens: &[Token]) -> io::Result<u64> {
-    let mut sum = 0u64;
-    let mut chunk = [0; CHUNK];
-    for token in tokens {
-        for block in 0..SIZE {
-            match buffer.read_block(token, block, &mut chunk) {
-                Ok(Found::Chunk(_)) => sum = sum.wrapping_add(u64::from(chunk[7])),
-                _ => return Err(io::Error::from(ErrorKind::InvalidData)),
-            }
+/// Reads the blocks of an article.
+fn read_article(buffer: &mut Buffer<MemoryBlocks>, token: &Token) -> io::Result<()> {
+    let mut chunk = [0; CHUNK_OCTETS];
+    for block in 0..64 {
+        match buffer.read_block(token, block, &mut chunk) {
+            Ok(Found::Chunk(_)) => {}
+            _ => return Err(io::Error::from(ErrorKind::InvalidData)),
         }
     }
-    Ok(sum)
+    Ok(())
 }
 
-/// Copies as many octets, a block at a time.
-fn copy(text: &[u8]) -> u64 {
+/// Copies the text, a block at a time, and sums up an octet of each.
+pub fn copy(text: &[u8]) -> u64 {
     let mut sum = 0u64;
-    let mut chunk = [0; CHUNK];
-    for article in 0..ARTICLES {
-        for octets in text.chunks_exact(CHUNK) {
-            chunk.copy_from_slice(octets);
-            sum = sum.wrapping_add(u64::from(chunk[article as usize % CHUNK]));
-        }
+    let mut chunk = [0; CHUNK_OCTETS];
+    for octets in text.chunks_exact(CHUNK_OCTETS) {
+        chunk.copy_from_slice(octets);
+        sum = sum.wrapping_add(u64::from(chunk[7]));
     }
     sum
 }

@@ -17,8 +17,7 @@ use crate::cycbuff_lines::{Line, cycbuff_line};
 use crate::drafts::{LineByLine, read_lines};
 use crate::faults::{ConfError, Fault, LineFault, Refusal};
 use crate::lines::lines_of;
-use crate::octets::Octets;
-use line_words::cut;
+use line_words::{Octets, cut};
 use std::alloc::{AllocError, Global};
 
 /// A buffer: its name, the path of its file, and its size in blocks of 512 octets.

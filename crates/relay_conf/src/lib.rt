@@ -11,7 +11,6 @@ mod faults;
 pub mod laws;
 mod lines;
 mod names;
-mod octets;
 mod relay;
 mod relay_lines;
 mod storage;
@@ -21,15 +20,6 @@ mod words;
 pub use config::{Config, K1_CYCBUFF, K1_RELAY, K1_STORAGE};
 pub use cycbuff::{BufferConf, Buffers, GroupConf, Mode, read_cycbuff};
 pub use faults::{ConfError, Fault, LineFault};
-pub use octets::Octets;
+pub use line_words::Octets;
 pub use relay::{Feed, Peer, Relay, read_relay};
 pub use storage::{Method, read_storage};
-
-#[cfg(test)]
-mod cycbuff_tests;
-#[cfg(test)]
-mod relay_tests;
-#[cfg(test)]
-mod storage_tests;
-#[cfg(test)]
-mod tests;

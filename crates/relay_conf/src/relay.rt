@@ -15,8 +15,8 @@ use crate::expressions::expression_of;
 use crate::faults::{ConfError, Fault, LineFault, Refusal};
 use crate::lines::lines_of;
 use crate::names::NameSet;
-use crate::octets::Octets;
 use crate::relay_lines::{Line, relay_line};
+use line_words::Octets;
 use std::alloc::Global;
 use uwild::Expr;
 

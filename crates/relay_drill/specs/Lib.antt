@@ -4,6 +4,6 @@ pub mod Play
 pub mod Print
 pub mod Progress
 pub mod Script
-pub mod Status
+pub mod Text
 pub mod Words
 pub mod Written

@@ -1,42 +1,42 @@
 //! Why a drill ends before its script does.
-ghost use Rattle.std.specs.Prelude.{◌≡◌};
-ghost use Rattle.relay_drill.specs.Status.{status_of};
+ghost use Rattle.std.specs.Prelude.{◌≡◌, Some};
+ghost use Rattle.relay_drill.specs.Text.{text_of};
 ghost use Rattle.relay_drill.specs.declared.fault.DrillError.TheVariants as faults;
 
 use crate::written::Unwritten;
 use std::alloc::{AllocError, AllocFailed};
-use thiserror::Error;
+use std::error::Error;
+use std::fmt;
+use std::fmt::{Display, Formatter};
 
 /// Why a drill ended before its script did (docs/PROTOCOL.md, The call `drill`). Its text is what
 /// the program prints.
-#[derive(Debug, Drop, Error)]
+#[derive(Debug, Drop)]
 pub enum DrillError {
     /// Memory was refused outside an event. What was written before stands.
-    #[error("out of memory")]
     Memory,
     /// The script's line of this number, from 1 on, is bad. Nothing ran.
-    #[error("script:{0}: fault")]
     Line(u64),
     /// The reader failed, or took more turns than it may. Nothing ran.
-    #[error("stdin: unreadable")]
     Unreadable,
     /// The writer failed. What was written before stands.
-    #[error("stdout: unwritten")]
     Unwritten,
 }
 
-impl DrillError {
-    /// The status that the program ends with (docs/PROTOCOL.md, Statuses).
-    pub fn status(&self) -> u8
-        ensures { result ≡ status_of self.now }
-    {
+impl Display for DrillError {
+    ghost output = { λ error. Some (text_of error) };
+
+    fn fmt<W: fmt::Write>(&self, formatter: &mut Formatter<W>) -> fmt::Result {
         match self {
-            DrillError::Memory => 5,
-            DrillError::Line(_) | DrillError::Unreadable => 3,
-            DrillError::Unwritten => 4,
+            DrillError::Memory => formatter.write_str("out of memory"),
+            DrillError::Line(line) => write!(formatter, "script:{line}: fault"),
+            DrillError::Unreadable => formatter.write_str("stdin: unreadable"),
+            DrillError::Unwritten => formatter.write_str("stdout: unwritten"),
         }
     }
 }
+
+impl Error for DrillError {}
 
 impl From<Unwritten> for DrillError {
     ghost from_gives = { λ _ e. e ≡ faults.Unwritten };

@@ -5,6 +5,3 @@
 mod choice;
 
 pub use choice::choose;
-
-#[cfg(test)]
-mod tests;

@@ -1,6 +1,7 @@
 -- What is cut off a whole stream where lines and blocks are wanted in order.
 use Rattle.std.specs.Prelude.{◌≡◌, ℕ, ◌+◌, ◌<◌, ◌≤◌, List, [], ◌∷◌, length}
-use Rattle.news_terms.specs.Lines.{CutsLine, line_limit, next_line, NextLine, Cut, TooLong, Incomplete}
+use Rattle.news_terms.specs.Lines.{CutsLine, line_limit, next_line, NextLine, Cut, TooLong}
+use Rattle.news_terms.specs.Lines.{Incomplete}
 use Rattle.news_terms.specs.Blocks.{CutsBlock, unstuffed, next_block, NextBlock, Unfinished}
 use Rattle.news_terms.specs.Blocks as blocks
 use Rattle.stream_cut.specs.declared.run.Want.{Want}

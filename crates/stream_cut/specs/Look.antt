@@ -1,6 +1,7 @@
 -- How far a stream was looked through, so that nothing is looked at twice. No public contract
 -- cites it.
-use Rattle.std.specs.Prelude.{◌≡◌, ℕ, ◌+◌, ◌-◌, ◌<◌, ◌≤◌, ◌==◌, if◌then◌else◌, List, [], ◌∷◌, ◌++◌, length, take, drop, slice_index, Some, None}
+use Rattle.std.specs.Prelude.{◌≡◌, ℕ, ◌+◌, ◌-◌, ◌<◌, ◌≤◌, ◌==◌, if◌then◌else◌, List, [], ◌∷◌, ◌++◌}
+use Rattle.std.specs.Prelude.{length, take, drop, slice_index, Some, None}
 use Rattle.news_terms.specs.Lines.{first_line, next_line, spelled}
 use Rattle.news_terms.specs.Lines as lines
 use Rattle.news_terms.specs.Blocks.{AreOpenLines}

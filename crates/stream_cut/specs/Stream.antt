@@ -1,5 +1,6 @@
 -- A stream that is cut into lines and blocks, what each step answers, and what it leaves.
-use Rattle.std.specs.Prelude.{◌≡◌, ◌⊎◌, ℕ, ◌<◌, ◌≤◌, length, Bool, true, false, List, Option, Some, None, Result, Ok, Err, Vec}
+use Rattle.std.specs.Prelude.{◌≡◌, ◌⊎◌, ℕ, ◌<◌, ◌≤◌, length, Bool, true, false, List, Option, Some}
+use Rattle.std.specs.Prelude.{None, Result, Ok, Err, Vec}
 use Rattle.std.specs.declared.alloc.Global.{Global}
 use Rattle.news_terms.specs.Lines.{next_line}
 use Rattle.news_terms.specs.Lines as lines

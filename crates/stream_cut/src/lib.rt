@@ -14,6 +14,3 @@ mod stuffing;
 pub use cutter::{Block, CutError, Cutter};
 pub use run::{Cut, Want, cut_all};
 pub use stuffing::stuff;
-
-#[cfg(test)]
-mod tests;

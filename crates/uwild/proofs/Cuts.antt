@@ -1,13 +1,11 @@
 -- The first `]` of a text, and the faults of what stands before it.
-use Rattle.std.proofs.Common.{◌≡◌, ℕ, zero, suc, ◌+◌, ◌<◌, true, false, not, List, [], ◌∷◌, ◌++◌, length}
-use Rattle.std.proofs.Common.{take, drop, get_or, Option, Some, None, refl, sym, ap, ◌∙◌, arith}
-use Rattle.std.proofs.Common.{inl, inr}
+use Rattle.std.proofs.Common.{◌≡◌, ℕ, zero, suc, ◌+◌, ◌<◌, true, false, List, [], ◌∷◌, ◌++◌, length}
+use Rattle.std.proofs.Common.{take, drop, get_or, Option, Some, refl, sym, ap, ◌∙◌, arith, inl, inr}
 use Rattle.std.proofs.Common.{take-append-drop, codes}
 use Rattle.std.specs.Prelude.{◌==◌, ◌≤◌, nat_eq, nat_lt}
 use Rattle.std.specs.List.{position, position_or_len, starts_with}
 use Rattle.std.specs.Str.{byte}
-use Rattle.std.proofs.lemmas.Bool.{eqb-true, cases_Bool, both_ways, lt-ltb, le-ltb}
-use Rattle.std.proofs.lemmas.Bool.{ltb-false}
+use Rattle.std.proofs.lemmas.Bool.{eqb-true, cases_Bool, both_ways, lt-ltb, le-ltb, ltb-false}
 use Rattle.std.proofs.lemmas.List.{drop_more}
 use Rattle.std.proofs.lemmas.List.Quantifiers.{position-Some}
 use Rattle.std.proofs.lemmas.Slice.Eq.{bytes_eq-Decides}
@@ -45,7 +43,8 @@ no_bracket text found e none = elim (cases_Bool
       | inr f ↦ no_place text f
     ]
   where
-    place : (text : List ℕ) → nat_lt (position_or_len (λ c. c == byte "]") text) (length text) ≡ true
+    place : (text : List ℕ) → nat_lt (position_or_len (λ c. c == byte "]") text) (length text)
+        ≡ true
         → position (λ c. c == byte "]") text ≡ Some (position_or_len (λ c. c == byte "]") text)
     place text t = rw t refl
 

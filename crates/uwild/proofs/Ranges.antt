@@ -1,13 +1,12 @@
 -- Octets between brackets that have no fault are a set.
-use Rattle.std.proofs.Common.{◌≡◌, ◌≢◌, ℕ, ◌<◌, ◌≤◌, Bool, true, false, not, List, [], ◌∷◌, length, Option}
-use Rattle.std.proofs.Common.{Some, None, refl, sym, ap, ◌∙◌, inl, inr, arith}
+use Rattle.std.proofs.Common.{◌≡◌, ℕ, ◌<◌, ◌≤◌, Bool, true, false, not, List, [], ◌∷◌, Option, Some}
+use Rattle.std.proofs.Common.{None, refl, sym, ap, ◌∙◌, inl, inr, arith}
 use Rattle.std.specs.Prelude.{◌&&◌, ◌==◌, nat_le, nat_lt, IsTrue, filter_map, slice_get}
 use Rattle.std.specs.List.{list_all}
 use Rattle.std.specs.Char.{is_ascii}
 use Rattle.std.specs.Str.{byte}
 use Rattle.std.proofs.lemmas.Bool.{and_parts, and_from, cases_Bool, leb-true, ltb-true, ltb-false}
 use Rattle.std.proofs.lemmas.Bool.{le-leb, lt-ltb, eqb-true}
-use Rattle.news_terms.specs.Article.{is_empty}
 use Rattle.news_terms.specs.Pattern.{Range, ExpressionFault, BadRange, NonAscii, ranges_of, is_set}
 use Rattle.news_terms.specs.Pattern.{range_fault, set_fault, has_no_bracket}
 
@@ -23,7 +22,8 @@ all_fine (r ∷ ranges) h = elim (cases_Bool (nat_lt r.high r.low)) [
   | inl t ↦ absurd (some_none BadRange (sym (first_fault r ranges (bad r t)) ∙ h))
   | inr f ↦ elim (cases_Bool (is_ascii r.high)) [
     | inl a ↦ and_from _ _ (and_from _ _ (le-leb _ _ (ltb-false _ _ f)) a)
-        (all_fine ranges (ap (λ (x : List ExpressionFault). slice_get x 0) (no_fault r ranges (fine r f a)) ∙ h))
+        (all_fine ranges (ap (λ (x : List ExpressionFault). slice_get x 0)
+        (no_fault r ranges (fine r f a)) ∙ h))
     | inr n ↦ absurd (some_none NonAscii (sym (first_fault r ranges (past r f n)) ∙ h))
   ]
 ]
@@ -68,13 +68,16 @@ fine_ascii (a ∷ b ∷ []) h =
     let parts = and_parts (is_fine (record { low = a; high = a }))
     (list_all is_fine (record { low = b; high = b } ∷ [])) h in
     and_from _ _ (low_ascii a a parts.0)
-    (and_from _ _ (low_ascii b b (and_parts (is_fine (record { low = b; high = b })) true parts.1).0) refl)
+    (and_from _ _ (low_ascii b b
+    (and_parts (is_fine (record { low = b; high = b })) true parts.1).0) refl)
 fine_ascii (a ∷ b ∷ c ∷ rest) h = elim (cases_Bool (b == byte "-")) [
   | inl t ↦ (let k = rw t at h in
-      let parts = and_parts (is_fine (record { low = a; high = c })) (list_all is_fine (ranges_of rest)) k in
+      let parts = and_parts (is_fine (record { low = a; high = c }))
+      (list_all is_fine (ranges_of rest)) k in
       let high = (and_parts (nat_le a c) (is_ascii c) parts.0).1 in
       and_from _ _ (low_ascii a c parts.0)
-      (and_from _ _ (rw (eqb-true b (byte "-") t) refl) (and_from _ _ high (fine_ascii rest parts.1))))
+      (and_from _ _ (rw (eqb-true b (byte "-") t) refl)
+      (and_from _ _ high (fine_ascii rest parts.1))))
   | inr f ↦ (let k = rw f at h in
       let parts = and_parts (is_fine (record { low = a; high = a }))
       (list_all is_fine (ranges_of (b ∷ c ∷ rest))) k in

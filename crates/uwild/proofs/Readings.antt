@@ -1,7 +1,7 @@
 -- Parts of patterns and patterns that were read one after another, and the fault behind them.
-use Rattle.std.proofs.Common.{◌≡◌, ℕ, ◌<◌, Bool, true, false, not, List, [], ◌∷◌, ◌++◌, length, map}
-use Rattle.std.proofs.Common.{codes, refl, sym, ap, ◌∙◌, append_assoc, length-append, arith}
-use Rattle.std.specs.Prelude.{◌==◌, ◌||◌, IsTrue, flat_map}
+use Rattle.std.proofs.Common.{◌≡◌, ℕ, not, List, [], ◌∷◌, ◌++◌, codes, refl, sym, ap, ◌∙◌}
+use Rattle.std.proofs.Common.{append_assoc, length-append, arith}
+use Rattle.std.specs.Prelude.{◌||◌, IsTrue, flat_map}
 use Rattle.std.specs.List.{list_all}
 use Rattle.std.specs.Str.{byte}
 use Rattle.std.proofs.lemmas.Bool.{and_from}
@@ -9,8 +9,8 @@ use Rattle.std.proofs.lemmas.List.{append-nil}
 use Rattle.std.proofs.lemmas.List.Folds.{list_all-append}
 use Rattle.news_terms.specs.Pattern.{Item, Star, AnyOctet, Literal, Escaped, OneOf, NoneOf, Verdict}
 use Rattle.news_terms.specs.Pattern.{Match, Fail, Poison, Marked, ExpressionFault, HasLeftmostFault}
-use Rattle.news_terms.specs.Pattern.{IsExpressionText, expression_text, marked_text, mark_text, item_text}
-use Rattle.news_terms.specs.Pattern.{is_match, begins_unmarked, is_marked}
+use Rattle.news_terms.specs.Pattern.{IsExpressionText, expression_text, marked_text, mark_text}
+use Rattle.news_terms.specs.Pattern.{item_text, is_match, begins_unmarked, is_marked}
 use Rattle.uwild.specs.Reads.{AreItemsTo, HasFaultBehindItems, begins_marked, IsMarkCut, IsMarkedTo}
 use Rattle.uwild.specs.Reads.{HasFaultInPattern, with_commas, ArePatternsTo}
 
@@ -27,7 +27,8 @@ unmarked (OneOf set ∷ items) rest h = refl
 unmarked (NoneOf set ∷ items) rest h = refl
 
 -- a mark and the parts behind it
-pub marked_items : (text : List ℕ) (mark : Verdict) (rest : List ℕ) (items : List Item) (more : List ℕ)
+pub marked_items : (text : List ℕ) (mark : Verdict) (rest : List ℕ) (items : List Item)
+    (more : List ℕ)
     → IsMarkCut text mark rest → AreItemsTo rest items more
     → IsMarkedTo text (record { mark = mark; pattern = items }) more
 marked_items text mark rest items more cut read = record {

@@ -1,6 +1,6 @@
 -- A fault of the octets between brackets stands at their `[`.
-use Rattle.std.proofs.Common.{◌≡◌, ℕ, true, false, List, [], ◌∷◌, ◌++◌, codes, refl, sym, ap, ◌∙◌, inl, inr}
-use Rattle.std.proofs.Common.{append_assoc}
+use Rattle.std.proofs.Common.{◌≡◌, ℕ, true, false, List, [], ◌∷◌, ◌++◌, codes, sym, ap, ◌∙◌, inl}
+use Rattle.std.proofs.Common.{inr, append_assoc}
 use Rattle.std.specs.Prelude.{nat_eq}
 use Rattle.std.specs.List.{starts_with}
 use Rattle.std.specs.Str.{byte}
@@ -44,10 +44,12 @@ pub reverse_begins : (between set : List ℕ) → between ≡ byte "^" ∷ set �
 reverse_begins between set e n OpenSet h rest = absurd h
 reverse_begins between set e n EmptySet h rest =
     (rest, inr (ap (λ x. byte "[" ∷ (x ++ byte "]" ∷ rest)) (e ∙ ap (λ x. byte "^" ∷ x) h)))
-reverse_begins between set e n BadRange h rest = in_reverse set rest (spelled between set e rest) n h
+reverse_begins between set e n BadRange h rest =
+    in_reverse set rest (spelled between set e rest) n h
   where
     spelled : (between set : List ℕ) → between ≡ byte "^" ∷ set → (rest : List ℕ)
-        → byte "[" ∷ (between ++ byte "]" ∷ rest) ≡ byte "[" ∷ byte "^" ∷ ((set ++ byte "]" ∷ []) ++ rest)
+        → byte "[" ∷ (between ++ byte "]" ∷ rest)
+        ≡ byte "[" ∷ byte "^" ∷ ((set ++ byte "]" ∷ []) ++ rest)
     spelled between set e rest =
         ap (λ x. byte "[" ∷ (x ++ byte "]" ∷ rest)) e
         ∙ ap (λ x. byte "[" ∷ byte "^" ∷ x) (closed set rest)

@@ -1,14 +1,11 @@
 -- Remembering the last star is enough: an earlier one with more octets leaves fewer to it.
-use Rattle.std.proofs.Common.{◌≡◌, ℕ, zero, suc, ◌+◌, ◌*◌, ◌<◌, ◌≤◌, Bool, true, false, not, List, []}
-use Rattle.std.proofs.Common.{◌∷◌, ◌++◌, length, drop, Option, Some, None, refl, sym, ap, subst, ◌∙◌}
-use Rattle.std.proofs.Common.{inl, inr}
+use Rattle.std.proofs.Common.{◌≡◌, ℕ, zero, suc, Bool, true, false, not, List, [], ◌∷◌, ◌++◌}
+use Rattle.std.proofs.Common.{length, drop, refl, sym, ap, subst, ◌∙◌, inl, inr}
 use Rattle.std.proofs.Math.Seq.{drop-append_seam}
-use Rattle.std.specs.Prelude.{◌||◌, ◌&&◌, ◌==◌, IsTrue, IsFalse}
-use Rattle.std.specs.List.{list_all, list_any}
-use Rattle.std.proofs.lemmas.Bool.{and_parts, and_from, or_cases, or_left, or_right, both_ways, not-true}
-use Rattle.std.proofs.lemmas.Bool.{not_from_false}
+use Rattle.std.specs.Prelude.{◌||◌, ◌&&◌, IsTrue, IsFalse}
+use Rattle.std.specs.List.{list_all}
+use Rattle.std.proofs.lemmas.Bool.{and_parts, or_cases, or_right, both_ways, not-true}
 use Rattle.news_terms.specs.Pattern.{Item, Star, AnyOctet, Literal, Escaped, OneOf, NoneOf, matches}
-use Rattle.news_terms.specs.Pattern.{rests}
 use Rattle.uwild.specs.Walks.{is_star, takes, later}
 
 -- a part that is no star takes the first octet, and the others match what is left

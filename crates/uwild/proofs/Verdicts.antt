@@ -1,5 +1,5 @@
 -- The mark of the last pattern that matches is that of the first one from behind.
-use Rattle.std.proofs.Common.{◌≡◌, ℕ, true, false, List, [], ◌∷◌, ◌++◌, map, Option, Some, None, refl}
+use Rattle.std.proofs.Common.{◌≡◌, ℕ, true, false, List, [], ◌∷◌, map, Option, Some, None, refl}
 use Rattle.std.proofs.Common.{sym, ap, ◌∙◌, inl, inr}
 use Rattle.std.specs.Prelude.{filter, find, reverse, unwrap_or, Bool}
 use Rattle.std.specs.Option.{option_map, option_or}
@@ -27,11 +27,13 @@ last_passing f p o (x ∷ xs) = elim (cases_Bool (p x)) [
     none p x n = rw n refl
 
     over : {A B : Type 0} (f : A → B) (a b : Option A) (o : Option B)
-        → option_or (option_map f (option_or a b)) o ≡ option_or (option_map f a) (option_or (option_map f b) o)
+        → option_or (option_map f (option_or a b)) o
+        ≡ option_or (option_map f a) (option_or (option_map f b) o)
     over f None b o = refl
     over f (Some x) b o = refl
 
-    behind : {A B : Type 0} (f : A → B) (p : A → Bool) (o : Option B) (x : A) (xs : List A) (r : Option A)
+    behind : {A B : Type 0} (f : A → B) (p : A → Bool) (o : Option B) (x : A) (xs : List A)
+        (r : Option A)
         → find p (x ∷ []) ≡ r
         → option_or (option_map f (find p (reverse (x ∷ xs)))) o
         ≡ option_or (option_map f (find p (reverse xs))) (option_or (option_map f r) o)

@@ -3,17 +3,14 @@ use Rattle.std.proofs.Common.{◌≡◌, ℕ, ◌+◌, ◌*◌, ◌<◌, ◌≤�
 use Rattle.std.proofs.Common.{length, map, Option, Some, None, refl, sym, ap, subst, ◌∙◌, arith}
 use Rattle.std.proofs.Common.{append_assoc, length-append}
 use Rattle.std.proofs.Math.Nat.{mul-le-mul_right, add-mul}
-use Rattle.std.specs.Prelude.{◌||◌, ◌&&◌, IsTrue, IsFalse}
-use Rattle.std.specs.List.{list_all}
+use Rattle.std.specs.Prelude.{◌||◌}
 use Rattle.std.proofs.lemmas.Bool.{and_from, not_from_false}
-use Rattle.std.proofs.lemmas.List.{append-nil}
 use Rattle.std.proofs.lemmas.List.Folds.{list_all-append}
 use Rattle.news_terms.specs.Pattern.{Item, Star, matches}
 use Rattle.uwild.specs.declared.matching.Rest.{Rest}
 use Rattle.uwild.specs.Expression.{item_view}
 use Rattle.uwild.specs.Walks.{is_star, items_left, goes, IsBehindStar, IsBehindOctet, IsFurther}
-use Rattle.uwild.specs.Walks.{FurtherGives, later, IsSinceStar, IsFirstWalk, IsStarWalk, IsWalk}
-use Rattle.uwild.specs.Walks.{steps_left}
+use Rattle.uwild.specs.Walks.{FurtherGives, later, IsSinceStar, IsWalk, steps_left}
 use Rattle.uwild.proofs.Stars.{star_tried, last_star}
 
 -- the star where the walk stands behind it
@@ -171,5 +168,6 @@ steps_further pattern name (Some star) at rest h f =
     let b = h.parts in
     lower_digit _ _ _ _ (length pattern)
     (subst (λ (k : ℕ). k * (length name + 1) + length rest.name.now
-    < length (items_left star) * (length name + 1) + length star.name.now) (sym e) (omega (arith, n)))
+    < length (items_left star) * (length name + 1) + length star.name.now) (sym e)
+    (omega (arith, n)))
     (omega (arith, e, b))

@@ -1,12 +1,13 @@
 -- What reading the parts of an expression gives. No public contract cites it.
-use Rattle.std.specs.Prelude.{◌≡◌, ◌==◌, ◌||◌, ℕ, Bool, true, false, not, IsTrue, List, [], ◌∷◌, ◌++◌}
+use Rattle.std.specs.Prelude.{◌≡◌, ◌==◌, ◌||◌, ℕ, Bool, false, not, IsTrue, List, [], ◌∷◌, ◌++◌}
 use Rattle.std.specs.Prelude.{map, flat_map, Option, None, Some, Result, Ok, Err}
 use Rattle.std.specs.List.{list_all}
 use Rattle.std.specs.Str.{byte}
 use Rattle.std.specs.Global.{Vec}
 use Rattle.std.specs.Borrow.{Bor}
 use Rattle.news_terms.specs.Pattern.{Marked, Item, BeginsFaulty, ExpressionFault, is_item, is_set}
-use Rattle.news_terms.specs.Pattern.{item_text, mark_text, marked_text, is_marked, is_match, set_fault}
+use Rattle.news_terms.specs.Pattern.{item_text, mark_text, marked_text, is_marked, is_match}
+use Rattle.news_terms.specs.Pattern.{set_fault}
 use Rattle.news_terms.specs.Pattern as terms
 use Rattle.uwild.specs.declared.expression.WildError.{WildError}
 use Rattle.uwild.specs.declared.item.Item as own

@@ -1,8 +1,9 @@
 -- The walk over a pattern and a name. No public contract cites it.
-use Rattle.std.specs.Prelude.{◌≡◌, ◌==◌, ◌||◌, ◌+◌, ◌*◌, ◌≤◌, ℕ, Bool, true, false, not, IsTrue, IsFalse}
-use Rattle.std.specs.Prelude.{List, [], ◌∷◌, ◌++◌, length, map, Option, None, Some}
+use Rattle.std.specs.Prelude.{◌≡◌, ◌==◌, ◌||◌, ◌+◌, ◌*◌, ◌≤◌, ℕ, Bool, true, false, not, IsTrue}
+use Rattle.std.specs.Prelude.{IsFalse, List, [], ◌∷◌, ◌++◌, length, map, Option, None, Some}
 use Rattle.std.specs.List.{list_all}
-use Rattle.news_terms.specs.Pattern.{Item, Star, AnyOctet, Literal, Escaped, OneOf, NoneOf, matches, is_of_set}
+use Rattle.news_terms.specs.Pattern.{Item, Star, AnyOctet, Literal, Escaped, OneOf, NoneOf, matches}
+use Rattle.news_terms.specs.Pattern.{is_of_set}
 use Rattle.uwild.specs.declared.matching.Rest.{Rest}
 use Rattle.uwild.specs.declared.matching.Step.{Step}
 use Rattle.uwild.specs.declared.matching.Step.TheVariants.{Matched, BehindStar, BehindOctet, Stuck}

@@ -9,6 +9,3 @@ mod pattern;
 mod set;
 
 pub use expression::{Expr, Verdict, WildError};
-
-#[cfg(test)]
-mod tests;

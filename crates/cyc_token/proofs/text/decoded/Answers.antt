@@ -12,7 +12,8 @@ pub returns-in-Ok-clause-digits : goal.returns-in-Ok-clause-digits
 returns-in-Ok-clause-digits c =
     let written = IsOk-written _ _ _ c.decode_to_slice.ensures.value in
     let digits = IsOk-decode_sized c.args.digits.now 14 in
-    list_all-from_AllPass is_hex_digit c.args.digits.now (digits.0 (written.0 (ap is_ok c.in-Ok.is))).1
+    list_all-from_AllPass is_hex_digit c.args.digits.now
+    (digits.0 (written.0 (ap is_ok c.in-Ok.is))).1
 
 pub returns-in-Err-clause-digits : goal.returns-in-Err-clause-digits
 returns-in-Err-clause-digits c =

@@ -1,5 +1,6 @@
 -- The cutter was fed the pieces so far, joined.
-use Rattle.std.proofs.Common.{◌≡◌, ◌++◌, ◌+◌, ℕ, List, [], ◌∷◌, drop, map, false, Vec, OnOk, Result, Ok, Err, sym, ap, subst, ◌∙◌, append_assoc, append-nil}
+use Rattle.std.proofs.Common.{◌≡◌, ◌++◌, ◌+◌, ℕ, List, [], ◌∷◌, drop, map, false, Vec, OnOk, Result}
+use Rattle.std.proofs.Common.{Ok, Err, sym, ap, subst, ◌∙◌, append_assoc, append-nil}
 use Rattle.std.specs.List.{flat_map}
 use Rattle.std.specs.Result.{is_err}
 use Rattle.std.proofs.lemmas.Bool.{true≢false}
@@ -21,7 +22,12 @@ joined pieces = flat_map (λ piece. piece.items) pieces
 
 pub loop-piece-init : goal.loop-piece-init
 loop-piece-init c =
-    let made : c.new-cutter.result ≡ record { unread = []; limit = c.args.max_block; overlong = false } = c.new-cutter.ensures in
+    let made : c.new-cutter.result ≡ record {
+      unread = [];
+      limit = c.args.max_block;
+      overlong =
+          false;
+    } = c.new-cutter.ensures in
     let wants = c.args.wants.now in
     let limit = c.args.max_block in
     let all = joined c.args.pieces.now in
@@ -29,7 +35,8 @@ loop-piece-init c =
       sound = λ _. ap (λ (s : Stream). s.overlong) made;
       limit = ap (λ (s : Stream). s.limit) made;
       waits = ap (λ (s : Stream). cuts_of limit wants s.unread) made ∙ cuts_of-nil limit wants;
-      cut = ap (λ (s : Stream). map cut_off c.new-cuts.result.items ++ cuts_of limit wants (s.unread ++ all)) made
+      cut = ap (λ (s : Stream). map cut_off c.new-cuts.result.items ++ cuts_of limit wants
+          (s.unread ++ all)) made
           ∙ ap (λ x. map cut_off x ++ cuts_of limit wants all) c.new-cuts.ensures.items;
     }
 
@@ -44,21 +51,27 @@ loop-piece-preserved c =
     let inv = c.loop-piece.invariant in
     let after = c.in_ok-next.ensures in
     let more = joined (drop (i + 1) pieces) in
-    let grown : fed ≡ with_unread old (old.unread ++ c.deref.result.now) = on_no_error c.feed.result _ (sym c.is_err.ensures.value ∙ c.if-is_err.false) c.feed.ensures.fed in
+    let grown : fed ≡ with_unread old (old.unread ++ c.deref.result.now) = on_no_error
+    c.feed.result _ (sym c.is_err.ensures.value ∙ c.if-is_err.false) c.feed.ensures.fed in
     let same : fed.limit ≡ limit = ap (λ (s : Stream). s.limit) grown ∙ inv.limit in
     let left : drop i pieces ≡ c.piece-item.result ∷ drop (i + 1) pieces =
-    drop_more pieces i c.piece-item.result c.loop-piece-test.true ∙ ap (λ x. x ∷ drop (i + 1) pieces) (sym c.piece-item.is) in
+    drop_more pieces i c.piece-item.result c.loop-piece-test.true
+    ∙ ap (λ x. x ∷ drop (i + 1) pieces) (sym c.piece-item.is) in
     let rest : fed.unread ++ more ≡ old.unread ++ joined (drop i pieces) =
     ap (λ (s : Stream). s.unread ++ more) grown ∙ append_assoc old.unread c.deref.result.now more
     ∙ ap (λ (x : List ℕ). old.unread ++ (x ++ more)) c.deref.ensures.value
     ∙ ap (λ x. old.unread ++ joined x) (sym left) in
-    let cut = subst (λ (n : ℕ). map cut_off c.cut_ready.new.cuts.items ++ cuts_of n (drop c.in_ok-next.next wants) (c.cut_ready.new.cutter.unread ++ more)
-    ≡ map cut_off c.loop-piece.cuts.items ++ cuts_of n (drop c.loop-piece.next wants) (fed.unread ++ more)) same (after.cut more) in
+    let cut = subst (λ (n : ℕ). map cut_off c.cut_ready.new.cuts.items ++ cuts_of n
+    (drop c.in_ok-next.next wants) (c.cut_ready.new.cutter.unread ++ more)
+    ≡ map cut_off c.loop-piece.cuts.items ++ cuts_of n (drop c.loop-piece.next wants)
+    (fed.unread ++ more)) same (after.cut more) in
     record {
       sound = after.sound;
       limit = after.limit ∙ same;
-      waits = subst (λ (n : ℕ). cuts_of n (drop c.in_ok-next.next wants) c.cut_ready.new.cutter.unread ≡ []) same after.waits;
-      cut = cut ∙ ap (λ (x : List ℕ). map cut_off c.loop-piece.cuts.items ++ cuts_of limit (drop c.loop-piece.next wants) x) rest ∙ inv.cut;
+      waits = subst (λ (n : ℕ). cuts_of n
+          (drop c.in_ok-next.next wants) c.cut_ready.new.cutter.unread ≡ []) same after.waits;
+      cut = cut ∙ ap (λ (x : List ℕ). map cut_off c.loop-piece.cuts.items ++ cuts_of limit
+          (drop c.loop-piece.next wants) x) rest ∙ inv.cut;
     }
 
 pub returns-clause-whole : goal.returns-clause-whole
@@ -68,10 +81,14 @@ returns-clause-whole c =
     let pieces = c.args.pieces.now in
     let inv = c.loop-piece.invariant in
     let unread = c.loop-piece.cutter.unread in
-    let none : drop c.loop-piece.piece-index pieces ≡ [] = drop_all c.loop-piece.piece-index pieces c.loop-piece-test.false in
-    let end : unread ++ joined (drop c.loop-piece.piece-index pieces) ≡ unread = ap (λ x. unread ++ joined x) none ∙ append-nil unread in
+    let none : drop c.loop-piece.piece-index pieces ≡ [] =
+    drop_all c.loop-piece.piece-index pieces c.loop-piece-test.false in
+    let end : unread ++ joined (drop c.loop-piece.piece-index pieces) ≡ unread =
+    ap (λ x. unread ++ joined x) none ∙ append-nil unread in
     let told : map cut_off c.loop-piece.cuts.items ≡ cuts_of limit wants (joined pieces) =
     sym (append-nil (map cut_off c.loop-piece.cuts.items))
-    ∙ ap (λ (x : List CutOff). map cut_off c.loop-piece.cuts.items ++ x) (sym (ap (λ (x : List ℕ). cuts_of limit (drop c.loop-piece.next wants) x) end ∙ inv.waits))
+    ∙ ap (λ (x : List CutOff). map cut_off c.loop-piece.cuts.items ++ x)
+    (sym (ap (λ (x : List ℕ). cuts_of limit (drop c.loop-piece.next wants) x) end ∙ inv.waits))
     ∙ inv.cut in
-    subst (λ (x : List CutOff). (rest : List ℕ) × CutsUp limit wants x (joined pieces) rest) (sym told) (cuts_up limit wants (joined pieces))
+    subst (λ (x : List CutOff). (rest : List ℕ) × CutsUp limit wants x (joined pieces) rest)
+    (sym told) (cuts_up limit wants (joined pieces))

@@ -10,6 +10,7 @@ invariant-loop-piece l = record {
   limit : l.cutter.limit ≡ l.max_block;
   waits : cuts_of l.max_block (drop l.next l.wants) l.cutter.unread ≡ [];
   cut : map cut_off l.cuts.items
-      ++ cuts_of l.max_block (drop l.next l.wants) (l.cutter.unread ++ flat_map (λ piece. piece.items) (drop l.piece-index l.pieces))
+      ++ cuts_of l.max_block (drop l.next l.wants)
+      (l.cutter.unread ++ flat_map (λ piece. piece.items) (drop l.piece-index l.pieces))
       ≡ cuts_of l.max_block l.wants (flat_map (λ piece. piece.items) l.pieces);
 }

@@ -7,8 +7,10 @@ abbrev pub invariant-loop-at : goal.invariant-loop-at
 invariant-loop-at l = record {
   sound : l.at < length l.wants → l.cutter.overlong ≡ false;
   limit : l.cutter.limit ≡ l.fn.cutter.limit;
-  cut : (more : List ℕ) → map cut_off l.cuts.items ++ cuts_of l.fn.cutter.limit (drop l.at l.wants) (l.cutter.unread ++ more)
-      ≡ map cut_off l.fn.cuts.items ++ cuts_of l.fn.cutter.limit (drop l.next l.wants) (l.fn.cutter.unread ++ more);
+  cut : (more : List ℕ) → map cut_off l.cuts.items ++ cuts_of l.fn.cutter.limit (drop l.at l.wants)
+      (l.cutter.unread ++ more)
+      ≡ map cut_off l.fn.cuts.items ++ cuts_of l.fn.cutter.limit (drop l.next l.wants)
+      (l.fn.cutter.unread ++ more);
 }
 
 abbrev pub decreases-loop-at : goal.decreases-loop-at

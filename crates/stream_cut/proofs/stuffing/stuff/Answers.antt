@@ -11,10 +11,12 @@ loop-end-preserved c =
     let t = c.args.text.now in
     let at = c.loop-end.at in
     let end = c.in-Some.end in
-    let ends : LineEnds (drop at t) end = subst (λ (x : List ℕ). LineEnds x end) (take_rest t at) c.in-Some.ensures in
+    let ends : LineEnds (drop at t) end =
+    subst (λ (x : List ℕ). LineEnds x end) (take_rest t at) c.in-Some.ensures in
     let pushed = c.in_ok-push_stuffed.ensures in
     record {
       within = omega (arith, ends.fits, c.loop-end.invariant.within, length-drop at t);
       told = ap (λ (x : List ℕ). x ++ sent stuffed_line (drop (at + end + 2) t)) pushed
-          ∙ sent_more stuffed_line stuffed_line-crlf t c.loop-end.block.items (sent stuffed_line t) at end (at + end + 2) ends refl c.loop-end.invariant.told;
+          ∙ sent_more stuffed_line stuffed_line-crlf t c.loop-end.block.items
+          (sent stuffed_line t) at end (at + end + 2) ends refl c.loop-end.invariant.told;
     }

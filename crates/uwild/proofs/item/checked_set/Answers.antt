@@ -7,5 +7,6 @@ use Rattle.uwild.proofs.item.checked_set.Goals as goal
 pub returns-in_ok-from_slice-in-None : goal.returns-in_ok-from_slice-in-None
 returns-in_ok-from_slice-in-None c = (
   c.in_ok-from_slice-in-None.ensures.items,
-  faultless_set c.args.set.now (λ e. both_ways _ (sym c.is_empty.ensures ∙ c.if-is_empty.false) (ap (λ x. length x == 0) e)) c.requires (sym c.in-None.ensures),
+  faultless_set c.args.set.now (λ e. both_ways _ (sym c.is_empty.ensures ∙ c.if-is_empty.false)
+      (ap (λ x. length x == 0) e)) c.requires (sym c.in-None.ensures),
 )

@@ -1,4 +1,5 @@
-use Rattle.std.proofs.Common.{List, ℕ, take, drop, ◌+◌, ◌∷◌, ◌++◌, refl, sym, ap, subst, ◌∙◌, codes, append_assoc}
+use Rattle.std.proofs.Common.{List, ℕ, take, drop, ◌+◌, ◌∷◌, ◌++◌, refl, sym, ap, subst, ◌∙◌, codes}
+use Rattle.std.proofs.Common.{append_assoc}
 use Rattle.std.specs.Str.{byte}
 use Rattle.std.proofs.lemmas.List.{take_rest}
 use Rattle.std.proofs.lemmas.Result.{err_from_is_err_and}
@@ -21,11 +22,13 @@ set_between-requires c = (bracket_at c.args.text.now c.in-Some.end (sym c.in-Som
 pub returns-in_err-item : goal.returns-in_err-item
 returns-in_err-item c =
     let text = c.args.text.now in
-    let split = bracket_split text c.in-Some.end (bracket_at text c.in-Some.end (sym c.in-Some.ensures)) in
+    let split = bracket_split text c.in-Some.end
+    (bracket_at text c.in-Some.end (sym c.in-Some.ensures)) in
     let p = err_from_is_err_and c.from_residual.result c.from_residual.ensures.1 in
     rw (p.1, p.2)
     (fault_map
-    (λ fault. (rest : List ℕ) → BeginsFaulty (byte "[" ∷ (take c.in-Some.end text ++ byte "]" ∷ rest)) fault)
+    (λ fault. (rest : List ℕ) → BeginsFaulty
+    (byte "[" ∷ (take c.in-Some.end text ++ byte "]" ∷ rest)) fault)
     (BeginsFaulty (byte "[" ∷ text))
     (λ fault h. subst (λ (x : List ℕ). BeginsFaulty (byte "[" ∷ x) fault) (sym split)
     (h (drop (c.in-Some.end + 1) text)))
@@ -34,12 +37,14 @@ returns-in_err-item c =
 pub returns : goal.returns
 returns c =
     let text = c.args.text.now in
-    let split = bracket_split text c.in-Some.end (bracket_at text c.in-Some.end (sym c.in-Some.ensures)) in
+    let split = bracket_split text c.in-Some.end
+    (bracket_at text c.in-Some.end (sym c.in-Some.ensures)) in
     let rest = drop (c.in-Some.end + 1) text in
     record {
       spelled = ap (λ x. byte "[" ∷ x) split
           ∙ ap (λ x. byte "[" ∷ x) (sym (append_assoc (take c.in-Some.end text) (codes "]") rest))
           ∙ ap (λ x. x ++ rest) (sym c.in_ok-item.ensures.0)
-          ∙ ap (λ x. item_text (item_view c.in_ok-item.item) ++ x) (sym (take_rest text (c.in-Some.end + 1)));
+          ∙ ap (λ x. item_text (item_view c.in_ok-item.item) ++ x)
+          (sym (take_rest text (c.in-Some.end + 1)));
       is_item = c.in_ok-item.ensures.1;
     }

@@ -2,7 +2,8 @@ use Rattle.std.proofs.Common.{◌≡◌, false, ◌∷◌, refl, sym, ap, ◌∙
 use Rattle.std.specs.Prelude.{◌&&◌}
 use Rattle.news_terms.specs.Pattern.{matches}
 use Rattle.uwild.specs.declared.item.Item.{Item}
-use Rattle.uwild.specs.declared.item.Item.TheVariants.{Star, AnyOctet, Literal, Escaped, OneOf, NoneOf}
+use Rattle.uwild.specs.declared.item.Item.TheVariants.{Star, AnyOctet, Literal, Escaped, OneOf}
+use Rattle.uwild.specs.declared.item.Item.TheVariants.{NoneOf}
 use Rattle.uwild.specs.Expression.{item_view}
 use Rattle.uwild.specs.Walks.{is_star}
 use Rattle.uwild.proofs.Stars.{item_step}
@@ -32,7 +33,8 @@ returns-in-Some-split_first c =
       no_star = plain;
       items = items_are;
       name = name_is;
-      same = ap (λ x. matches x c.args.at.name.now) items_are ∙ ap (λ x. matches (item ∷ rest) x) name_is
+      same = ap (λ x. matches x c.args.at.name.now) items_are
+          ∙ ap (λ x. matches (item ∷ rest) x) name_is
           ∙ item_step item rest octet name plain
           ∙ ap (λ b. b && matches rest name) (sym c.if-takes.ensures);
     }

@@ -11,10 +11,12 @@ returns-then-token-ne0 c = λ w σ one keeps.
 
 pub returns-then-not-is_live : goal.returns-then-not-is_live
 returns-then-not-is_live c = λ w σ one keeps.
-    sym (fetched-dead w σ c.args.self.now (token_view c.args.token) one keeps c.if-token-ne0.false (sym c.is_live.ensures ∙ c.if-not-is_live.true))
+    sym (fetched-dead w σ c.args.self.now (token_view c.args.token) one keeps c.if-token-ne0.false
+    (sym c.is_live.ensures ∙ c.if-not-is_live.true))
 
 pub returns : goal.returns
 returns c = λ w σ one keeps.
     let text = rw c.deref.ensures.value at c.find_text.ensures in
     text
-    ∙ sym (fetched-live w σ c.args.self.now (token_view c.args.token) one keeps c.if-token-ne0.false (sym c.is_live.ensures ∙ c.if-not-is_live.false))
+    ∙ sym (fetched-live w σ c.args.self.now (token_view c.args.token) one keeps c.if-token-ne0.false
+    (sym c.is_live.ensures ∙ c.if-not-is_live.false))

@@ -15,10 +15,12 @@ returns-then-not-is_reading c =
 pub returns-in-Ok : goal.returns-in-Ok
 returns-in-Ok c =
     fed_steps c.args.self.now c.args.number c.args.piece.now c.feed.new.self
-    (λ w x agrees. sym c.if-not-is_reading.false ∙ c.is_reading.ensures w x agrees) c.in-Ok.ensures.fed
+    (λ w x agrees. sym c.if-not-is_reading.false ∙ c.is_reading.ensures w x agrees)
+    c.in-Ok.ensures.fed
 
 pub returns-in-Err : goal.returns-in-Err
 returns-in-Err c =
-    subst (λ (s : Stream). Steps (run.Bytes c.args.number c.args.piece.now) c.args.self.now (outputs.Refused core.Memory) (with_cutter c.args.self.now s))
+    subst (λ (s : Stream). Steps (run.Bytes c.args.number c.args.piece.now) c.args.self.now
+    (outputs.Refused core.Memory) (with_cutter c.args.self.now s))
     (sym c.in-Err.ensures.refused.1)
     (memory_steps (run.Bytes c.args.number c.args.piece.now) c.args.self.now)

@@ -11,4 +11,5 @@ returns-in-Some c = λ w x core.
     ∙ ap (is_found_under w x) (c.in-Some.ensures x.state.claim core.claims)
 
 pub returns-in-None : goal.returns-in-None
-returns-in-None c = λ w x core. ap (is_found_under w x) (c.in-None.ensures x.state.claim core.claims)
+returns-in-None c = λ w x core. ap (is_found_under w x)
+    (c.in-None.ensures x.state.claim core.claims)

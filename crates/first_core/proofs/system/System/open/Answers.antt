@@ -5,11 +5,13 @@ use Rattle.first_core.proofs.system.System.open.Goals as goal
 
 pub returns-then-is_some : goal.returns-then-is_some
 returns-then-is_some c =
-    taken_steps c.args.self.now c.args.number c.args.peer (sym c.is_some.ensures ∙ c.if-is_some.true)
+    taken_steps c.args.self.now c.args.number c.args.peer
+    (sym c.is_some.ensures ∙ c.if-is_some.true)
 
 pub returns-then-peer-len : goal.returns-then-peer-len
 returns-then-peer-len c =
-    no_peer_steps c.args.self.now c.args.number c.args.peer (sym c.is_some.ensures ∙ c.if-is_some.false)
+    no_peer_steps c.args.self.now c.args.number c.args.peer
+    (sym c.is_some.ensures ∙ c.if-is_some.false)
     (subst (λ (n : ℕ). n ≤ c.args.peer) c.len.ensures c.if-peer-len.true)
 
 pub returns-in-Ok : goal.returns-in-Ok

@@ -1,4 +1,5 @@
-use Rattle.std.proofs.Common.{◌≡◌, ℕ, List, [], ◌∷◌, length, deque_len, arith, refl, sym, subst, ◌∙◌}
+use Rattle.std.proofs.Common.{◌≡◌, ℕ, List, [], ◌∷◌, length, deque_len, arith, refl, sym, subst}
+use Rattle.std.proofs.Common.{◌∙◌}
 use Rattle.std.specs.declared.alloc.Global.{Global}
 use Rattle.std.specs.declared.collections.VecDeque.{VecDeque}
 use Rattle.first_core.specs.Agreement.{Agrees}
@@ -10,7 +11,8 @@ use Rattle.first_model.specs.Pace as pace
 use Rattle.first_model.specs.Terms.{Terms}
 use Rattle.first_model.specs.World.{World}
 use Rattle.first_core.proofs.system.System.pop.Goals as goal
-use Rattle.first_core.proofs.system.System.pop.Goals.{in-Some+in-Popped-1, in-Some+in-Finished-1, in-Some+in-Idle-1, in_default}
+use Rattle.first_core.proofs.system.System.pop.Goals.{in-Some+in-Popped-1, in-Some+in-Finished-1}
+use Rattle.first_core.proofs.system.System.pop.Goals.{in-Some+in-Idle-1, in_default}
 
 -- the writer takes a job that was in the queue
 taken : (now : ℕ) (w : Terms) (x : World) (old popped new : System) (job : Job)
@@ -34,11 +36,20 @@ no_items queue none = without_length queue.items (sym queue.ok.0 ∙ none)
 pub returns : goal.returns
 returns c = λ now w x agrees.
     elim c.match-pop_front.branch [
-      | in-Some+in-Popped-1 b ↦ taken now w x c.args.self.now (record c.args.self.now { queue = c.pop_front.new.self }) c.match-pop_front.self b.in-Some.job agrees c.requires b.in-Some.ensures.items b.self-is
-      | in-Some+in-Finished-1 b ↦ taken now w x c.args.self.now (record c.args.self.now { queue = c.pop_front.new.self }) c.match-pop_front.self b.in-Some.job agrees c.requires b.in-Some.ensures.items b.self-is
-      | in-Some+in-Idle-1 b ↦ taken now w x c.args.self.now (record c.args.self.now { queue = c.pop_front.new.self }) c.match-pop_front.self b.in-Some.job agrees c.requires b.in-Some.ensures.items b.self-is
+      | in-Some+in-Popped-1 b ↦ taken now w x c.args.self.now
+          (record c.args.self.now { queue = c.pop_front.new.self }) c.match-pop_front.self
+          b.in-Some.job agrees c.requires b.in-Some.ensures.items b.self-is
+      | in-Some+in-Finished-1 b ↦ taken now w x c.args.self.now
+          (record c.args.self.now { queue = c.pop_front.new.self }) c.match-pop_front.self
+          b.in-Some.job agrees c.requires b.in-Some.ensures.items b.self-is
+      | in-Some+in-Idle-1 b ↦ taken now w x c.args.self.now
+          (record c.args.self.now { queue = c.pop_front.new.self }) c.match-pop_front.self
+          b.in-Some.job agrees c.requires b.in-Some.ensures.items b.self-is
       | in_default b ↦
           let none = no_items c.args.self.now.queue b.in_default.ensures.cases.0 in
-          let got = finds_none now w c.args.self.now (record c.args.self.now { queue = c.pop_front.new.self }) x c.args.self.now.newest c.requires none (sym b.in_default.ensures.items ∙ none) agrees in
-          subst (λ (s : System). (x' : World) × Agrees w s x' × pace.Writes w x 0 now x') (sym b.self-is) (x, got.0, got.1)
+          let got = finds_none now w c.args.self.now
+          (record c.args.self.now { queue = c.pop_front.new.self }) x c.args.self.now.newest
+          c.requires none (sym b.in_default.ensures.items ∙ none) agrees in
+          subst (λ (s : System). (x' : World) × Agrees w s x' × pace.Writes w x 0 now x')
+          (sym b.self-is) (x, got.0, got.1)
     ]

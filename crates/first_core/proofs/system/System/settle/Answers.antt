@@ -11,10 +11,14 @@ use Rattle.first_core.proofs.WriterLemmas.{settles, storing_there, core_by}
 use Rattle.first_model.specs.Pace as pace
 use Rattle.first_model.specs.World.{World}
 use Rattle.first_core.proofs.system.System.settle.Goals as goal
-use Rattle.first_core.proofs.system.System.settle.Goals.{in-Finished, in-Some, in-None, in_default+in-Popped-1, in_default+in-Finished-1, in_default+in-Idle-1}
+use Rattle.first_core.proofs.system.System.settle.Goals.{in-Finished, in-Some, in-None}
+use Rattle.first_core.proofs.system.System.settle.Goals.{in_default+in-Popped-1}
+use Rattle.first_core.proofs.system.System.settle.Goals.{in_default+in-Finished-1}
+use Rattle.first_core.proofs.system.System.settle.Goals.{in_default+in-Idle-1}
 
 -- a writer that has a whole text has no other arm
-no_other : (w found : Writer) → IsFinished w → found ≡ w → ((s : ℕ) (id : List ℕ) (token : Token) → found ≡ writer.Finished s id token → ⊥) → ⊥
+no_other : (w found : Writer) → IsFinished w → found ≡ w
+    → ((s : ℕ) (id : List ℕ) (token : Token) → found ≡ writer.Finished s id token → ⊥) → ⊥
 no_other writer.Idle found is same other = absurd is
 no_other (writer.Popped job) found is same other = absurd is
 no_other (writer.Finished s id token) found is same other = other s id token same
@@ -29,16 +33,32 @@ pub returns : goal.returns
 returns c = λ w x agrees.
     elim c.match-replace.branch [
       | in-Finished b ↦
-          let held : c.args.self.now.writer ≡ writer.Finished b.in-Finished.session b.in-Finished.id b.in-Finished.token = sym c.replace.ensures.value ∙ b.in-Finished.is in
-          let storing = b.settle.ensures.answer x.state.claim (core_by w c.args.self.now x c.args.self.now.newest agrees).claims ∙ storing_there w c.args.self.now x b.in-Finished.session b.in-Finished.id b.in-Finished.token c.args.self.now.newest held agrees in
+          let held : c.args.self.now.writer ≡ writer.Finished b.in-Finished.session b.in-Finished.id
+          b.in-Finished.token = sym c.replace.ensures.value ∙ b.in-Finished.is in
+          let storing = b.settle.ensures.answer x.state.claim
+          (core_by w c.args.self.now x c.args.self.now.newest agrees).claims
+          ∙ storing_there w c.args.self.now x b.in-Finished.session b.in-Finished.id
+          b.in-Finished.token c.args.self.now.newest held agrees in
           let kept : b.match-settle.outcome ≡ outcomes.Kept = elim b.match-settle.branch [
             | in-Some d ↦ d.outcome-is
             | in-None d ↦ absurd (none_is_none _ d.in-None.is storing)
           ] in
           subst (λ (s : System). (x' : World) × Agrees w s x' × pace.Writes w x 0 c.args.now x')
-          (sym (b.self-is ∙ ap (λ (o : Outcome). record c.args.self.now { shard = b.settle.new.self; writer = writer.Answering b.in-Finished.session o }) kept))
-          (settles c.args.now w c.args.self.now (record c.args.self.now { shard = b.settle.new.self }) x b.in-Finished.session b.in-Finished.id b.in-Finished.token c.args.self.now.newest held b.settle.ensures.claims agrees)
-      | in_default+in-Popped-1 b ↦ absurd (no_other c.args.self.now.writer c.replace.result c.requires c.replace.ensures.value b.in_default.not-Finished)
-      | in_default+in-Finished-1 b ↦ absurd (no_other c.args.self.now.writer c.replace.result c.requires c.replace.ensures.value b.in_default.not-Finished)
-      | in_default+in-Idle-1 b ↦ absurd (no_other c.args.self.now.writer c.replace.result c.requires c.replace.ensures.value b.in_default.not-Finished)
+          (sym (b.self-is ∙ ap (λ (o : Outcome). record c.args.self.now {
+            shard = b.settle.new.self;
+            writer = writer.Answering b.in-Finished.session o;
+          }) kept))
+          (settles c.args.now w c.args.self.now
+          (record c.args.self.now { shard = b.settle.new.self }) x b.in-Finished.session
+          b.in-Finished.id b.in-Finished.token c.args.self.now.newest held
+          b.settle.ensures.claims agrees)
+      | in_default+in-Popped-1 b ↦ absurd
+          (no_other c.args.self.now.writer c.replace.result c.requires c.replace.ensures.value
+          b.in_default.not-Finished)
+      | in_default+in-Finished-1 b ↦ absurd
+          (no_other c.args.self.now.writer c.replace.result c.requires c.replace.ensures.value
+          b.in_default.not-Finished)
+      | in_default+in-Idle-1 b ↦ absurd
+          (no_other c.args.self.now.writer c.replace.result c.requires c.replace.ensures.value
+          b.in_default.not-Finished)
     ]

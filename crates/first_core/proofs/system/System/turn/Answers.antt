@@ -10,13 +10,16 @@ returns-then-not-is_running c =
 pub returns-then-now-gt-LAST_MOMENT : goal.returns-then-now-gt-LAST_MOMENT
 returns-then-now-gt-LAST_MOMENT c =
     late_steps c.args.self.now c.args.number c.args.now
-    (λ w x agrees. sym c.if-not-is_running.false ∙ c.is_running.ensures w x agrees) c.if-now-gt-LAST_MOMENT.true
+    (λ w x agrees. sym c.if-not-is_running.false ∙ c.is_running.ensures w x agrees)
+    c.if-now-gt-LAST_MOMENT.true
 
 pub returns-in-Ok : goal.returns-in-Ok
 returns-in-Ok c =
-    turn_steps c.args.self.now c.plan.new.self c.in-Ok.plan c.args.number c.args.now c.carry_out.result c.carry_out.new.self
+    turn_steps c.args.self.now c.plan.new.self c.in-Ok.plan c.args.number c.args.now
+    c.carry_out.result c.carry_out.new.self
     (λ w x agrees. sym c.if-not-is_running.false ∙ c.is_running.ensures w x agrees)
-    c.plan.ensures.number c.plan.ensures.phase c.if-now-gt-LAST_MOMENT.false c.in-Ok.ensures.plan c.carry_out.ensures
+    c.plan.ensures.number c.plan.ensures.phase c.if-now-gt-LAST_MOMENT.false c.in-Ok.ensures.plan
+    c.carry_out.ensures
 
 pub returns-in-Err : goal.returns-in-Err
 returns-in-Err c =

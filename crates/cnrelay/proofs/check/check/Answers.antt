@@ -1,5 +1,0 @@
-use Rattle.cnrelay.proofs.Checks.{error_is_told}
-use Rattle.cnrelay.proofs.check.check.Goals as goal
-
-pub returns : goal.returns
-returns g c = error_is_told c.args.folder.now c.in-Err.error (g.W.Write.contents c.args.writer.now) c.in-Err.ensures

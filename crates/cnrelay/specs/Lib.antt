@@ -1,3 +1,0 @@
-pub mod Check
-pub mod CommandLine
-pub mod Tell

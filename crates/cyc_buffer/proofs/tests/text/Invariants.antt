@@ -1,6 +1,0 @@
-use Rattle.std.proofs.Common.{◌≡◌, length}
-use Rattle.cyc_buffer.proofs.tests.text.Given as goal
-
--- the text has as many octets as places were passed
-abbrev pub invariant-loop-place : goal.invariant-loop-place
-invariant-loop-place l = length l.text.items ≡ l.place

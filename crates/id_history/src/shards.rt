@@ -1,0 +1,133 @@
+ghost use Rattle.std.specs.Prelude.{◌≡◌, ◌≢◌, is_some, length, option_map};
+ghost use Rattle.std.specs.Prelude.{IsOk, IfOk, IfSome, OnOk, OnErr};
+ghost use Rattle.cyc_token.specs.Token.{token_view};
+ghost use Rattle.relay_model.specs.Claims.{Accepted, Unknown, offer_answer, after_offer};
+ghost use Rattle.relay_model.specs.Claims.{take_answer, after_take, after_refuse, after_release};
+ghost use Rattle.relay_model.specs.Claims.{after_forget, is_storing_for, after_settle, look_answer};
+ghost use Rattle.relay_model.specs.Run as run;
+ghost use Rattle.relay_model.specs.Terms.{shard_count};
+ghost use Rattle.id_history.specs.Answers.{offer_view, take_view, token_of};
+ghost use Rattle.id_history.specs.Changes.{OfClaim, ChangesClaim, KeepsClaims};
+
+use crate::claims::{Offer, Settled, Shard, Take};
+use cyc_token::Token;
+use nntp_text::MsgId;
+use std::alloc::{AllocError, Global};
+use std::hash::RandomState;
+use std::io;
+use std::random::RandomSource;
+
+/// How many shards the message-ids are spread over.
+pub const SHARD_COUNT: usize = 16;
+
+/// The shard of a message-id: the sum of its octets modulo 16.
+pub fn shard_of(id: &MsgId) -> usize
+    ensures { result ≡ run.shard_of id.now }
+{
+    let mut shard = 0;
+    for octet in id.as_bytes() {
+        shard = (shard + usize::from(*octet)) % SHARD_COUNT;
+    }
+    shard
+}
+
+/// What is known of all message-ids, spread over sixteen shards by `shard_of`: each call is that of
+/// the id's own shard, and says of all claims what `Shard` says of its own.
+#[derive(Drop)]
+pub struct Shards {
+    shards: Vec<Shard>,
+    ghost sixteen: { length shards.items ≡ shard_count },
+}
+
+impl Shards {
+    ghost use Rattle.id_history.specs.Shards.{KeepsAll};
+
+    /// Shards to which every message-id is unknown. The hashers are seeded anew, since peers choose
+    /// the message-ids; the error is that no seed was to be had, or memory.
+    pub fn new(rt: &impl RandomSource, alloc: Global) -> io::Result<Shards>
+        ensures { IfOk result (λ shards. KeepsAll shards (λ id. Unknown)) }
+    {
+        let mut shards = Vec::with_capacity(alloc, SHARD_COUNT)?;
+        for _ in 0..SHARD_COUNT {
+            shards.push_reserved(Shard::new(alloc, RandomState::new(rt)?));
+        }
+        Ok(Shards { shards })
+    }
+
+    /// See `Shard::offer`.
+    pub fn offer(&mut self, id: &MsgId, session: u64) -> Result<Offer, AllocError>
+        ensures answer { IfOk result (λ answer. OfClaim (KeepsAll self.old) id.now
+            (λ claim. offer_view answer ≡ offer_answer session claim)) }
+        ensures claims { OnOk result
+            (ChangesClaim (KeepsAll self.old) (KeepsAll self.new) id.now (after_offer session)) }
+        ensures err { OnErr result (KeepsClaims (KeepsAll self.old) (KeepsAll self.new)) }
+
+        // An id that is known takes no memory.
+        ensures known { OfClaim (KeepsAll self.old) id.now (λ claim. claim ≢ Unknown → IsOk result) }
+    {
+        self.shards[shard_of(id)].offer(id, session)
+    }
+
+    /// See `Shard::take`.
+    pub fn take(&mut self, id: &MsgId, session: u64) -> Result<Take, AllocError>
+        ensures answer { IfOk result (λ answer. OfClaim (KeepsAll self.old) id.now
+            (λ claim. take_view answer ≡ take_answer session claim)) }
+        ensures claims { OnOk result ((article : Accepted)
+            → ChangesClaim (KeepsAll self.old) (KeepsAll self.new) id.now
+            (after_take session article)) }
+        ensures err { OnErr result (KeepsClaims (KeepsAll self.old) (KeepsAll self.new)) }
+
+        // An id that is known takes no memory.
+        ensures known { OfClaim (KeepsAll self.old) id.now (λ claim. claim ≢ Unknown → IsOk result) }
+    {
+        self.shards[shard_of(id)].take(id, session)
+    }
+
+    /// See `Shard::refuse`.
+    pub fn refuse(&mut self, id: &MsgId, session: u64, now: u64) -> Result<(), AllocError>
+        ensures claims { OnOk result
+            (ChangesClaim (KeepsAll self.old) (KeepsAll self.new) id.now
+            (after_refuse session now)) }
+        ensures err { OnErr result (KeepsClaims (KeepsAll self.old) (KeepsAll self.new)) }
+
+        // An id that is known takes no memory.
+        ensures known { OfClaim (KeepsAll self.old) id.now (λ claim. claim ≢ Unknown → IsOk result) }
+    {
+        self.shards[shard_of(id)].refuse(id, session, now)
+    }
+
+    /// See `Shard::release`.
+    pub fn release(&mut self, id: &MsgId, session: u64)
+        ensures { ChangesClaim (KeepsAll self.old) (KeepsAll self.new) id.now
+            (after_release session) }
+    {
+        self.shards[shard_of(id)].release(id, session);
+    }
+
+    /// See `Shard::forget`.
+    pub fn forget(&mut self, id: &MsgId, session: u64)
+        ensures { ChangesClaim (KeepsAll self.old) (KeepsAll self.new) id.now
+            (after_forget session) }
+    {
+        self.shards[shard_of(id)].forget(id, session);
+    }
+
+    /// See `Shard::settle`.
+    pub fn settle(&mut self, id: &MsgId, session: u64, token: Token, now: u64) -> Option<Settled>
+        ensures answer { OfClaim (KeepsAll self.old) id.now
+            (λ claim. is_some result ≡ is_storing_for session claim) }
+        ensures token { IfSome result (λ settled. token_of settled ≡ token) }
+        ensures claims { ChangesClaim (KeepsAll self.old) (KeepsAll self.new) id.now
+            (after_settle session (token_view token) now) }
+    {
+        self.shards[shard_of(id)].settle(id, session, token, now)
+    }
+
+    /// See `Shard::look`.
+    pub fn look(&self, id: &MsgId) -> Option<Token>
+        ensures { OfClaim (KeepsAll self.now) id.now
+            (λ claim. option_map token_view result ≡ look_answer claim) }
+    {
+        self.shards[shard_of(id)].look(id)
+    }
+}

@@ -1,0 +1,51 @@
+-- What is told where a configuration has an error.
+use Rattle.std.proofs.Common.{inl, inr, ℕ, List, Option, None, Some, refl, Result, Err}
+use Rattle.std.specs.Io.KnownBytes.{Keeps}
+use Rattle.relay_conf.specs.declared.faults.ConfError.{ConfError}
+use Rattle.relay_conf.specs.declared.faults.ConfError.TheVariants as errors
+use Rattle.relay_conf.specs.RelayViews.{RelayGives}
+use Rattle.relay_command.specs.Check.{CheckGives, CycbuffReads, StorageReads, Fails, HasError}
+use Rattle.relay_command.specs.Check.{IsErrorIn}
+use Rattle.relay_command.specs.Check.{in_cycbuff, in_storage, in_relay}
+use Rattle.relay_command.specs.declared.check.CheckError.{CheckError}
+use Rattle.relay_command.specs.declared.check.CheckError.TheVariants.{Memory, Unreadable, Faulty}
+use Rattle.relay_command.specs.declared.check.CheckError.TheVariants.{Unwritten}
+use Rattle.relay_command.specs.declared.check.ConfFile.{ConfFile}
+use Rattle.relay_command.specs.declared.check.ConfFile.TheVariants as files
+
+-- A reader's fault is not the writer's.
+not_written : (file : ConfFile) (fault : ConfError) → IsErrorIn file fault Unwritten → ⊥
+not_written file errors.Memory e = cc
+not_written file (errors.Faulty at) e = e
+
+-- No file fails as the writer does.
+no_file_fails_so : {T : Type 0} (folder : List ℕ) (file : ConfFile)
+    (reads : Result T ConfError → List (List ℕ) → Type 0) → Fails folder file reads Unwritten → ⊥
+no_file_fails_so folder file reads fails = elim fails [
+  | inl unread ↦ elim unread [
+    | inl memory ↦ cc
+    | inr unreadable ↦ cc (unreadable.0)
+  ]
+  | inr read ↦ not_written file read.1 read.4
+]
+
+-- An error of a configuration is not the writer's.
+never_unwritten : (folder : List ℕ) → HasError folder Unwritten → ⊥
+never_unwritten folder (in_cycbuff fails) = no_file_fails_so folder files.Cycbuff CycbuffReads fails
+never_unwritten folder (in_storage buffers said fails) =
+    no_file_fails_so folder files.Storage (StorageReads buffers) fails
+never_unwritten folder (in_relay buffers methods said stored fails) =
+    no_file_fails_so folder files.Relay RelayGives fails
+
+-- A writer that isn't called holds what it held.
+keeps_same : (held : Option (List ℕ)) → Keeps held held
+keeps_same None = tt
+keeps_same (Some xs) = refl
+
+-- Where a configuration has an error, that is told and nothing is written.
+pub error_is_told : (folder : List ℕ) (error : CheckError) (held : Option (List ℕ))
+    → HasError folder error → CheckGives (Err error) folder held held
+error_is_told folder Memory held has = keeps_same held
+error_is_told folder (Unreadable file) held has = (has, keeps_same held)
+error_is_told folder (Faulty file line code name) held has = (has, keeps_same held)
+error_is_told folder Unwritten held has = absurd (never_unwritten folder has)

@@ -1,0 +1,21 @@
+use Rattle.std.proofs.Common.{rules, codes}
+use Rattle.clap.specs.Words.{new_app}
+use Rattle.relay_command.specs.CommandLine.{Reads}
+use Rattle.relay_command.proofs.CommandLines.{with_command}
+use Rattle.relay_command.proofs.command_line.command.Goals as goal
+
+pub returns : goal.returns
+returns c =
+    let start : Reads c.about-whole.result (new_app (codes "cnrelay")) = record {
+      words = search rules;
+      own = search rules;
+    } in
+    let checks = with_command c.about-whole.result c.in_ok-check.field-0
+    c.in_ok-subcommand.field-0 _ _ start c.in_ok-check.ensures c.in_ok-subcommand.ensures in
+    let drills = with_command c.in_ok-subcommand.field-0 c.in_ok-drill.field-0
+    c.in_ok-subcommand-2.field-0 _ _ checks c.in_ok-drill.ensures.3
+    c.in_ok-subcommand-2.ensures in
+    let tells = with_command c.in_ok-subcommand-2.field-0 c.in_ok-token.field-0
+    c.in_ok-subcommand-3.field-0 _ _ drills c.in_ok-token.ensures
+    c.in_ok-subcommand-3.ensures in
+    (c.in_ok-drill.ensures.0, c.in_ok-drill.ensures.1, c.in_ok-drill.ensures.2, tells)

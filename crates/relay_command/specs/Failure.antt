@@ -1,0 +1,71 @@
+-- How the program ends (docs/PROTOCOL.md, Statuses).
+use Rattle.std.specs.Prelude.{ℕ, List, ◌++◌, codes, Option, None, Some, Result, Ok, Err}
+use Rattle.std.specs.Prelude.{MatchOption, ⊤}
+use Rattle.std.specs.Io.KnownBytes.{Appends, Keeps}
+use Rattle.clap.specs.Words.{kind_of}
+use Rattle.clap.specs.declared.error.kind.ErrorKind.{ErrorKind}
+use Rattle.clap.specs.declared.error.kind.ErrorKind.TheVariants.{OutOfMemory}
+use Rattle.relay_drill.specs.Text.{text_of}
+use Rattle.relay_drill.specs.declared.fault.DrillError.TheVariants as drill
+use Rattle.relay_command.specs.Check.{check_text}
+use Rattle.relay_command.specs.Tell.{fault_text}
+use Rattle.relay_command.specs.declared.check.CheckError.TheVariants as check
+use Rattle.relay_command.specs.declared.failure.Failure.{Failure}
+use Rattle.relay_command.specs.declared.failure.Failure.TheVariants.{Unbegun, Words, Check}
+use Rattle.relay_command.specs.declared.failure.Failure.TheVariants.{Drill, Token}
+use Rattle.relay_command.specs.declared.failure.Unbegun.TheVariants as unbegun
+use Rattle.relay_command.specs.declared.failure.Unbegun as begin
+use Rattle.relay_command.specs.declared.token.TokenFault.TheVariants as token
+
+-- 5 where memory ran out while the words were read, else 1
+abbrev pub words_status : ErrorKind → ℕ
+words_status OutOfMemory = 5
+words_status kind = 1
+
+-- 1 for the command line, 2 for the configuration, 3 for the script or the token, 4 for the output,
+-- 5 for memory
+abbrev pub status_of : Failure → ℕ
+status_of (Unbegun unbegun.Memory) = 5
+status_of (Unbegun unbegun.NoText) = 1
+status_of (Words error) = words_status (kind_of error)
+status_of (Check check.Memory) = 5
+status_of (Check (check.Unreadable file)) = 2
+status_of (Check (check.Faulty file line code name)) = 2
+status_of (Check check.Unwritten) = 4
+status_of (Drill drill.Memory) = 5
+status_of (Drill (drill.Line number)) = 3
+status_of (Drill drill.Unreadable) = 3
+status_of (Drill drill.Unwritten) = 4
+status_of (Token token.Length) = 3
+status_of (Token token.Marks) = 3
+status_of (Token token.Digit) = 3
+status_of (Token token.LowerCase) = 3
+status_of (Token token.Unwritten) = 4
+
+-- 0 where all went well, else the failure's
+abbrev pub ends_with : Result (Unit {0}) Failure → ℕ
+ends_with (Ok done) = 0
+ends_with (Err failure) = status_of failure
+
+-- why the words could not be had, without the line's end
+abbrev pub unbegun_text : begin.Unbegun → List ℕ
+unbegun_text unbegun.Memory = codes "out of memory"
+unbegun_text unbegun.NoText = codes "a word is no UTF-8"
+
+-- a text and the line's end
+abbrev pub ended : List ℕ → List ℕ
+ended text = text ++ codes "\n"
+
+-- what is told of a failure; of the words it is clap's text, of which nothing is known
+abbrev pub told_of : Failure → Option (List ℕ)
+told_of (Unbegun unbegun) = Some (ended (unbegun_text unbegun))
+told_of (Words error) = None
+told_of (Check error) = Some (ended (check_text error))
+told_of (Drill error) = Some (ended (text_of error))
+told_of (Token fault) = Some (ended (fault_text fault))
+
+-- where all went well nothing was written, else what is told of the failure
+abbrev pub Tells : Result (Unit {0}) Failure → (before after : Option (List ℕ)) → Type 0
+Tells (Ok done) before after = Keeps before after
+Tells (Err failure) before after =
+    MatchOption (told_of failure) ⊤ (λ text. Appends before after text)

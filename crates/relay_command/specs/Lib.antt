@@ -1,0 +1,5 @@
+pub mod Check
+pub mod CommandLine
+pub mod Failure
+pub mod Run
+pub mod Tell

@@ -1,0 +1,142 @@
+//! Reading the program's words (docs/PROTOCOL.md, Commands).
+ghost use Rattle.std.specs.Prelude.{◌≡◌, false, map, string_bytes, Some, IfOk};
+ghost use Rattle.clap.specs.Words.{found_of, rows_of, rule_of, subcommand_rows_of};
+ghost use Rattle.clap.specs.declared.builder.ValueParser.{ValueParser};
+ghost use Rattle.relay_command.specs.CommandLine.{AreServed, Reads, ReadsWords, asked, asked_by};
+ghost use Rattle.relay_command.specs.CommandLine.{word_given, check_words, drill_words};
+ghost use Rattle.relay_command.specs.CommandLine.{token_words};
+ghost use Rattle.relay_command.specs.CommandLine.{needed, program_words};
+
+use clap::{Arg, ArgAction, ArgMatches, Command, Error};
+use std::alloc::{AllocError, Global};
+
+/// The configurations that a drill has today.
+const CONFIGURATIONS: &[&str] = &["K1"];
+
+/// The scripts that a drill has today: standard input.
+const SCRIPTS: &[&str] = &["stdin"];
+
+/// What the words ask for.
+#[derive(Debug, Drop)]
+pub enum Job {
+    /// To run the script on standard input with the built-in configuration.
+    Drill,
+    /// To read the configuration in this folder, or the built-in one, and say what it has.
+    Check(String),
+    /// To say what this text of a token stands for.
+    Token(String),
+}
+
+/// Reads the words, the program's name first. Without further words they ask for a drill.
+pub fn read_words(alloc: Global, words: &[String]) -> Result<Job, Error>
+    ensures { ReadsWords (map string_bytes words.now) result }
+{
+    match command(alloc)?.try_get_matches_from(words) {
+        Ok(matches) => Ok(job_of(alloc, &matches)?),
+        Err(error) => Err(error),
+    }
+}
+
+/// What the words that were matched ask for.
+fn job_of(alloc: Global, matches: &ArgMatches<'_>) -> Result<Job, AllocError>
+    ensures { IfOk result (λ job. asked job ≡ asked_by (subcommand_rows_of matches.now)) }
+{
+    match matches.subcommand() {
+        Some((name, given)) => job_named(alloc, name, given),
+        None => Ok(Job::Drill),
+    }
+}
+
+/// What the subcommand of this name asks for, with what was given for its words.
+fn job_named(alloc: Global, name: &str, given: &ArgMatches<'_>) -> Result<Job, AllocError>
+    ensures { IfOk result (λ job. asked job
+        ≡ asked_by (Some (name.now, rows_of (found_of given.now)))) }
+{
+    if name == "check" {
+        return Ok(Job::Check(word(alloc, given, "DIR")?));
+    }
+    if name == "token" {
+        return Ok(Job::Token(word(alloc, given, "TEXT")?));
+    }
+    Ok(Job::Drill)
+}
+
+/// The word that was given for a name, empty where none was.
+fn word(alloc: Global, given: &ArgMatches<'_>, name: &str) -> Result<String, AllocError>
+    ensures { IfOk result (λ word. string_bytes word
+        ≡ word_given name.now (rows_of (found_of given.now))) }
+{
+    match given.get_str(name) {
+        Some(word) => String::from_str(alloc, word),
+        None => Ok(String::new(alloc)),
+    }
+}
+
+/// The words that there are.
+fn command<'a>(alloc: Global) -> Result<Command<'a>, AllocError>
+    ensures { IfOk result (λ command. (folders scripts : ValueParser)
+        × AreServed folders scripts × Reads command (program_words folders scripts)) }
+{
+    let whole = Command::new(alloc, "cnrelay").about(
+        "The incoming side of a Netnews transit server",
+    );
+    Ok(
+        whole
+            .subcommand(check(alloc)?)?
+            .subcommand(drill(alloc)?)?
+            .subcommand(token(alloc)?)?,
+    )
+}
+
+/// `check DIR`.
+fn check<'a>(alloc: Global) -> Result<Command<'a>, AllocError>
+    ensures { IfOk result (λ command. Reads command check_words) }
+{
+    let folder = needed(alloc, "DIR").help(
+        "The folder of the configuration: K1 is the built-in one",
+    );
+    Ok(
+        Command::new(alloc, "check")
+            .about("Reads a configuration and says what it has")
+            .arg(folder)?,
+    )
+}
+
+/// `drill DIR SCRIPT`.
+fn drill<'a>(alloc: Global) -> Result<Command<'a>, AllocError>
+    ensures { IfOk result (λ command. (folders scripts : ValueParser)
+        × AreServed folders scripts × Reads command (drill_words folders scripts)) }
+{
+    let configuration = needed(alloc, "DIR")
+        .help("The configuration: K1 is the built-in one")
+        .value_parser(CONFIGURATIONS);
+    let script = needed(alloc, "SCRIPT")
+        .help("The script: stdin is standard input")
+        .value_parser(SCRIPTS);
+    Ok(
+        Command::new(alloc, "drill")
+            .about("Runs a script over memory")
+            .arg(configuration)?
+            .arg(script)?,
+    )
+}
+
+/// `token TEXT`.
+fn token<'a>(alloc: Global) -> Result<Command<'a>, AllocError>
+    ensures { IfOk result (λ command. Reads command token_words) }
+{
+    let text = needed(alloc, "TEXT").help("The text of the token");
+    Ok(
+        Command::new(alloc, "token")
+            .about("Says what a token stands for")
+            .arg(text)?,
+    )
+}
+
+/// A word that has to be there.
+fn needed<'a>(alloc: Global, name: &'a str) -> Arg<'a>
+    ensures rule { rule_of result ≡ needed name.entry.now }
+    ensures own { result.global ≡ false }
+{
+    Arg::new(alloc, name).required(true).action(ArgAction::Set)
+}

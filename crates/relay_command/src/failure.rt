@@ -1,0 +1,111 @@
+//! Why the program ends with a status other than 0 (docs/PROTOCOL.md, Statuses), and how it ends.
+ghost use Rattle.std.specs.Prelude.{◌≡◌, Some, OnOk};
+ghost use Rattle.std.specs.Process.{exit_status};
+ghost use Rattle.clap.specs.Words.{kind_of};
+ghost use Rattle.relay_command.specs.Failure.{ends_with, status_of, Tells, unbegun_text};
+ghost use Rattle.relay_command.specs.Failure.{words_status};
+
+use crate::check::CheckError;
+use crate::token::TokenFault;
+use clap::error::ErrorKind;
+use relay_drill::DrillError;
+use std::fmt::{Display, Formatter};
+use std::io::Write;
+use std::process::ExitCode;
+use std::{error, fmt, io};
+use thiserror::Error;
+
+/// Why the words could not be had.
+#[derive(Debug, Drop)]
+pub enum Unbegun {
+    /// Memory ran out.
+    Memory,
+    /// A word is no UTF-8.
+    NoText,
+}
+
+impl Display for Unbegun {
+    ghost output = { λ unbegun. Some (unbegun_text unbegun) };
+
+    fn fmt<W: fmt::Write>(&self, formatter: &mut Formatter<W>) -> fmt::Result {
+        formatter.write_str(match self {
+            Unbegun::Memory => "out of memory",
+            Unbegun::NoText => "a word is no UTF-8",
+        })
+    }
+}
+
+impl error::Error for Unbegun {}
+
+/// Why the program ends with a status other than 0. Its text is what the program prints.
+#[derive(Debug, Drop, Error)]
+pub enum Failure {
+    /// The words could not be had, or there was no memory for the output.
+    #[error(transparent)]
+    Unbegun(Unbegun),
+    /// The words are no command line, or ask for help.
+    #[error(transparent)]
+    Words(clap::Error),
+    /// A configuration is not told.
+    #[error(transparent)]
+    Check(CheckError),
+    /// A script did not run to its end.
+    #[error(transparent)]
+    Drill(DrillError),
+    /// A token is not told.
+    #[error(transparent)]
+    Token(TokenFault),
+}
+
+impl Failure {
+    /// The status that the program ends with (docs/PROTOCOL.md, Statuses).
+    pub fn status(&self) -> u8
+        ensures { result ≡ status_of self.now }
+    {
+        match self {
+            Failure::Unbegun(Unbegun::NoText) => 1,
+            Failure::Words(error) => words_status(error),
+            Failure::Check(CheckError::Unreadable(_) | CheckError::Faulty { .. }) => 2,
+            Failure::Drill(DrillError::Line(_) | DrillError::Unreadable) => 3,
+            Failure::Token(TokenFault::Unwritten) => 4,
+            Failure::Token(_) => 3,
+            Failure::Check(CheckError::Unwritten) | Failure::Drill(DrillError::Unwritten) => 4,
+            Failure::Unbegun(Unbegun::Memory) => 5,
+            Failure::Check(CheckError::Memory) | Failure::Drill(DrillError::Memory) => 5,
+        }
+    }
+}
+
+/// The status where the words were not read: they are no command line, unless memory ran out.
+fn words_status(error: &clap::Error) -> u8
+    ensures { result ≡ words_status (kind_of error.now) }
+{
+    match error.kind() {
+        ErrorKind::OutOfMemory => 5,
+        _ => 1,
+    }
+}
+
+/// Writes the text of the failure where there is one: what goes to standard error.
+pub fn print_failure<W: Write>(ran: &Result<(), Failure>, writer: &mut W) -> io::Result<()>
+    ensures { OnOk result (Tells ran.now (W.contents writer.old) (W.contents writer.new)) }
+{
+    match ran {
+        Ok(()) => Ok(()),
+        Err(Failure::Unbegun(unbegun)) => writeln!(writer, "{unbegun}"),
+        Err(Failure::Words(error)) => write!(writer, "{error}"),
+        Err(Failure::Check(error)) => writeln!(writer, "{error}"),
+        Err(Failure::Drill(error)) => writeln!(writer, "{error}"),
+        Err(Failure::Token(fault)) => writeln!(writer, "{fault}"),
+    }
+}
+
+/// How the program ends.
+pub fn exit_code(ran: &Result<(), Failure>) -> ExitCode
+    ensures { exit_status result ≡ ends_with ran.now }
+{
+    match ran {
+        Ok(()) => ExitCode::SUCCESS,
+        Err(failure) => ExitCode::from(failure.status()),
+    }
+}

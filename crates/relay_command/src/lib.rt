@@ -1,0 +1,17 @@
+//! What the program does with its words (docs/PROTOCOL.md, Program): it runs a drill, says what a
+//! configuration has, or what a token stands for; and why it ends where it fails, with the status.
+//!
+//! The words decide which of these is done, on which streams and with which failure (`run`). Where
+//! the words and the streams come from is the program's.
+#![tactic(auto)]
+
+mod check;
+mod command_line;
+mod failure;
+mod program;
+mod token;
+
+pub use check::{CheckError, ConfFile};
+pub use failure::{Failure, Unbegun, exit_code, print_failure};
+pub use program::{program_words, run};
+pub use token::TokenFault;

@@ -1,0 +1,97 @@
+//! What the text of a token stands for (docs/PROTOCOL.md, Program; docs/FORMATS.md, Tokens).
+ghost use Rattle.std.specs.Prelude.{◌≡◌, Some};
+ghost use Rattle.cyc_token.specs.Token.{token_view};
+ghost use Rattle.relay_drill.specs.Written.{Writes};
+ghost use Rattle.relay_command.specs.Tell.{TellGives, fault_view};
+ghost use Rattle.relay_command.specs.Tell as terms;
+
+use cyc_token::{Token, TokenError};
+use itoa::Buffer;
+use relay_drill::{Unwritten, put_all};
+use std::error::Error;
+use std::fmt;
+use std::fmt::{Display, Formatter};
+use std::io::Write;
+
+/// Why a text is not told as a token. Its text is what the program prints.
+#[derive(Debug, Drop)]
+pub enum TokenFault {
+    /// The text is not 30 octets.
+    Length,
+    /// The text has no `@` first, or none last.
+    Marks,
+    /// An octet between the marks is no hexadecimal digit.
+    Digit,
+    /// A digit is a lower case letter, and all else is right.
+    LowerCase,
+    /// The writer failed.
+    Unwritten,
+}
+
+impl Display for TokenFault {
+    ghost output = { λ fault. Some (terms.fault_text fault) };
+
+    fn fmt<W: fmt::Write>(&self, formatter: &mut Formatter<W>) -> fmt::Result {
+        formatter.write_str(match self {
+            TokenFault::Length => "token: 1 Length",
+            TokenFault::Marks => "token: 2 Marks",
+            TokenFault::Digit => "token: 3 Digit",
+            TokenFault::LowerCase => "token: 4 LowerCase",
+            TokenFault::Unwritten => "stdout: unwritten",
+        })
+    }
+}
+
+impl Error for TokenFault {}
+
+impl From<TokenError> for TokenFault {
+    ghost from_gives = { λ error fault. fault ≡ fault_view error };
+
+    fn from(error: TokenError) -> TokenFault {
+        match error {
+            TokenError::Length => TokenFault::Length,
+            TokenError::Marks => TokenFault::Marks,
+            TokenError::Digit => TokenFault::Digit,
+            TokenError::LowerCase => TokenFault::LowerCase,
+        }
+    }
+}
+
+/// Writes the parts of the token that has this text, in one line; of any other text nothing.
+pub fn tell<W: Write>(text: &[u8], writer: &mut W) -> Result<(), TokenFault>
+    ensures { TellGives result text.now (W.contents writer.old) (W.contents writer.new) }
+{
+    let token = Token::parse(text)?;
+    match print_parts(writer, &token) {
+        Ok(()) => Ok(()),
+        Err(_) => Err(TokenFault::Unwritten),
+    }
+}
+
+/// Prints the parts of a token in one line.
+fn print_parts<W: Write>(writer: &mut W, token: &Token) -> Result<(), Unwritten>
+    ensures { Writes result (terms.parts_line (token_view token.now))
+        (W.contents writer.old) (W.contents writer.new) }
+{
+    let mut class = Buffer::new();
+    let mut buffer = Buffer::new();
+    let mut cycle = Buffer::new();
+    let mut first = Buffer::new();
+    let mut length = Buffer::new();
+    put_all(
+        writer,
+        &[
+            b"class ",
+            class.format(token.class).as_bytes(),
+            b" buffer ",
+            buffer.format(token.buffer).as_bytes(),
+            b" cycle ",
+            cycle.format(token.cycle).as_bytes(),
+            b" first ",
+            first.format(token.first).as_bytes(),
+            b" length ",
+            length.format(token.length).as_bytes(),
+            b"\n",
+        ],
+    )
+}

@@ -1,0 +1,47 @@
+//! Rows of text, played. Standard input holds rows, each under a line `== what it shows`: the
+//! words of the program, one behind each `$`, and its standard input, most often a drill script.
+//! The line is printed again, with what `relay_command::run` wrote, and where it failed with the
+//! text of its failure and the status.
+//!
+//! The rows stand in the file `stdin` of this crate, what they have to print in `stdout`, and the
+//! configurations that they name in `data`.
+#![tactic(auto)]
+
+mod expand;
+mod row;
+mod streams;
+
+use relay_drill::read_all;
+use row::Row;
+use std::io;
+use std::io::{ErrorKind, Write};
+
+fn main(rt: HostRuntime) -> io::Result<()> {
+    let Ok(text) = read_all(rt.alloc(), &mut rt.reader()) else {
+        return Err(io::Error::from(ErrorKind::InvalidInput));
+    };
+    let mut row = Row::new(rt.alloc(), b"");
+    for line in text.as_slice().split(|octet| *octet == b'\n') {
+        match line.strip_prefix(b"== ".as_slice()) {
+            Some(title) => {
+                print(&rt, &row)?;
+                row = Row::new(rt.alloc(), title);
+            }
+            None => row.add(line)?,
+        }
+    }
+    print(&rt, &row)
+}
+
+/// Prints a row and what it gives. What stands before the first row is none.
+fn print(rt: &HostRuntime, row: &Row<'_>) -> io::Result<()> {
+    if row.title.is_empty() {
+        return Ok(());
+    }
+    let played = row.play(rt)?;
+    let mut output = io::writer(rt);
+    for part in [b"== ".as_slice(), row.title, b"\n", &played] {
+        output.write_all(part)?;
+    }
+    Ok(())
+}

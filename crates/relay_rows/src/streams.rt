@@ -1,0 +1,87 @@
+//! The streams of a row: octets in memory, and streams that give little, break off or fill up.
+use std::alloc::Global;
+use std::io;
+use std::io::{ErrorKind, Read, Write};
+
+/// Standard input of a row: all at once; by `octets` and `broken` an octet at a turn, each after an
+/// interrupted one; by `broken` it fails at its end.
+#[derive(Drop)]
+pub struct Input<'a> {
+    rest: &'a [u8],
+    by_octets: bool,
+    broken: bool,
+    interrupted: bool,
+}
+
+impl<'a> Input<'a> {
+    /// These octets, given in this manner.
+    pub fn new(rest: &'a [u8], manner: &[u8]) -> Input<'a> {
+        let broken = manner == b"broken".as_slice();
+        Input {
+            rest,
+            by_octets: broken || manner == b"octets".as_slice(),
+            broken,
+            interrupted: false,
+        }
+    }
+}
+
+impl<'a> Read for Input<'a> {
+    fn read(&mut self, room: &mut [u8]) -> io::Result<usize> {
+        self.interrupted = self.by_octets && !self.interrupted;
+        if self.interrupted {
+            return Err(io::Error::from(ErrorKind::Interrupted));
+        }
+        if self.broken && self.rest.is_empty() {
+            return Err(io::Error::from(ErrorKind::BrokenPipe));
+        }
+        let most = if self.by_octets { 1 } else { room.len() };
+        let count = most.min(room.len()).min(self.rest.len());
+        let (octets, rest) = self.rest.split_at(count);
+        room[..count].copy_from_slice(octets);
+        self.rest = rest;
+        Ok(count)
+    }
+}
+
+/// Standard output of a row: by `full` it fails once it holds 40 octets, by `closed` at once.
+#[derive(Drop)]
+pub struct Output {
+    pub written: Vec<u8>,
+    most: usize,
+}
+
+impl Output {
+    /// Nothing is written yet, and it is taken in this manner.
+    pub fn new(alloc: Global, manner: &[u8]) -> Output {
+        Output {
+            written: Vec::new(alloc),
+            most: most_of(manner),
+        }
+    }
+}
+
+/// How many octets are taken before it fails.
+fn most_of(manner: &[u8]) -> usize {
+    if manner == b"closed".as_slice() {
+        return 0;
+    }
+    if manner == b"full".as_slice() {
+        return 40;
+    }
+    usize::MAX
+}
+
+impl Write for Output {
+    fn write(&mut self, octets: &[u8]) -> io::Result<usize> {
+        if self.written.len() >= self.most {
+            return Err(io::Error::from(ErrorKind::StorageFull));
+        }
+        self.written.extend_from_slice(octets)?;
+        Ok(octets.len())
+    }
+
+    fn flush(&mut self) -> io::Result<()> {
+        Ok(())
+    }
+}

@@ -1,0 +1,13 @@
+//! Rows of text, played by a program: its standard input has rows, and it prints each with an
+//! answer behind it, so a test is a row and costs no proof. The other programs of tests stand on
+//! it; README.md has the form of a row.
+#![tactic(auto)]
+
+mod cell;
+mod piece;
+mod rows;
+mod written;
+
+pub use cell::octets_of;
+pub use rows::{Answers, play};
+pub use written::{put_number, put_octets};
