@@ -20,7 +20,7 @@ use Rattle.article_parse.proofs.HeaderCuts.{line_length, blank_of, begins_of, go
 use Rattle.article_parse.proofs.ContentCuts.{set_off_more}
 
 -- octets behind others are plain where all are
-plain_drop : (n : ℕ) (s : List ℕ) → is_plain s ≡ true → is_plain (drop n s) ≡ true
+pub plain_drop : (n : ℕ) (s : List ℕ) → is_plain s ≡ true → is_plain (drop n s) ≡ true
 plain_drop zero s h = h
 plain_drop (suc n) [] h = h
 plain_drop (suc n) (c ∷ s) h = plain_drop n s (and_parts _ (is_plain s) h).1
@@ -51,7 +51,7 @@ colon_within line n e le begins = ⊎_elim (λ lt. lt)
     (cases_lt n (length line))
 
 -- the parts of a line that begins a field
-begins_parts : (line : List ℕ) (n : ℕ) → n ≡ position_or_len is_colon line
+pub begins_parts : (line : List ℕ) (n : ℕ) → n ≡ position_or_len is_colon line
     → begins_field line ≡ true
     → (is_field_name (take n line) ≡ true) × (is_set_off (drop (n + 1) line) ≡ true)
 begins_parts line n e h =

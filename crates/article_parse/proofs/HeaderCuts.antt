@@ -41,7 +41,7 @@ blank_skips (c ∷ s) more h =
     rw (ne_eqb 13 c n) (blank_skips s more p.2)
 
 -- behind a line with something in it the first empty line is that of the text behind its CRLF
-blank_behind : (line rest : List ℕ) → 0 < length line → is_plain line ≡ true
+pub blank_behind : (line rest : List ℕ) → 0 < length line → is_plain line ≡ true
     → has_empty_line (line ++ 13 ∷ 10 ∷ rest) ≡ has_empty_line rest
 blank_behind [] rest some h = absurd (omega (arith, some))
 blank_behind (c ∷ line) rest some h =
@@ -58,7 +58,7 @@ plain_no_blank (c ∷ s) h =
     rw (ne_eqb 13 c n) (ap (occurs blank) (sym (append-nil s)) ∙ blank_skips s [] p.2)
 
 -- a line, and the lines behind it
-lines_behind : (line rest : List ℕ) → is_plain line ≡ true
+pub lines_behind : (line rest : List ℕ) → is_plain line ≡ true
     → text_lines (line ++ 13 ∷ 10 ∷ rest) ≡ line ∷ text_lines rest
 lines_behind [] rest h = refl
 lines_behind (c ∷ line) rest h =
@@ -68,7 +68,7 @@ lines_behind (c ∷ line) rest h =
     rw (ne_eqb c 10 no_lf, ne_eqb c 13 no_cr) (ap (onto_first c) (lines_behind line rest p.2))
 
 -- a line with something in it, and the header lines behind it
-header_behind : (line rest : List ℕ) → 0 < length line → is_plain line ≡ true
+pub header_behind : (line rest : List ℕ) → 0 < length line → is_plain line ≡ true
     → header_lines (line ++ 13 ∷ 10 ∷ rest) ≡ line ∷ header_lines rest
 header_behind [] rest some h = absurd (omega (arith, some))
 header_behind (c ∷ line) rest some h =

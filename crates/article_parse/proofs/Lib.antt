@@ -4,5 +4,7 @@ pub mod FieldCuts
 pub mod FieldLines
 pub mod FirstFaults
 pub mod HeaderCuts
+pub mod Layouts
 pub mod NamedFields
 pub mod Pairs
+pub mod Readings

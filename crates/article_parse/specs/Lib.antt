@@ -2,4 +2,5 @@ pub mod Article
 pub mod Content
 pub mod Faults
 pub mod Header
+pub mod Readings
 pub mod Reads

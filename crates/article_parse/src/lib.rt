@@ -7,6 +7,7 @@ mod content;
 mod faults;
 mod groups;
 mod header;
+pub mod laws;
 mod lines;
 
 pub use article::Article;
