@@ -2,7 +2,8 @@
 -- Sessions, Judging).
 use Rattle.std.specs.Prelude.{ℕ, List, Option, None, Some, Result, Ok, Err}
 use Rattle.news_terms.specs.Reply.{Reply, Rejected, IhaveRejected, IhaveLater, SyntaxError}
-use Rattle.relay_model.specs.Claims.{Accepted, after_refuse, after_take, take_answer, TakeAnswer, Mine, Held, Had}
+use Rattle.relay_model.specs.Claims.{Accepted, after_refuse, after_take, take_answer, TakeAnswer}
+use Rattle.relay_model.specs.Claims.{Mine, Held, Had}
 use Rattle.first_model.specs.Lines.{with_offers, without_offer}
 use Rattle.first_model.specs.Says.{goes_on, says}
 use Rattle.first_model.specs.State.{Session, Ready, Holds, Waits, Transfer, TakesThis, Has}

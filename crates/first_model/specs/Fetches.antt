@@ -1,5 +1,6 @@
 -- Look and Fetch: what an article's token gives (docs/PROTOCOL.md, Sessions, Store).
-use Rattle.std.specs.Prelude.{ℕ, ◌+◌, ◌==◌, ◌||◌, nat_lt, nat_le, List, [], ◌∷◌, ◌++◌, find, Option, None, Some, if◌then◌else◌}
+use Rattle.std.specs.Prelude.{ℕ, ◌+◌, ◌==◌, ◌||◌, nat_lt, nat_le, List, [], ◌∷◌, ◌++◌, find, Option}
+use Rattle.std.specs.Prelude.{None, Some, if◌then◌else◌}
 use Rattle.news_terms.specs.Places.{Buffer, Group, Extent, extents, front_after, on_line, size_of}
 use Rattle.news_terms.specs.Token.{Token, same_token}
 use Rattle.first_model.specs.State.{State, Kept}

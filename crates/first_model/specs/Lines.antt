@@ -1,11 +1,17 @@
 -- Line: what a session does with a command line (RFC 3977, RFC 4644; docs/PROTOCOL.md, Sessions).
-use Rattle.std.specs.Prelude.{ℕ, ◌++◌, ◌&&◌, not, nat_le, Bool, false, List, [], ◌∷◌, length, filter, bytes_eq, Option, None, Some, Result, Ok, Err, if◌then◌else◌}
+use Rattle.std.specs.Prelude.{ℕ, ◌++◌, ◌&&◌, not, nat_le, Bool, false, List, [], ◌∷◌, length}
+use Rattle.std.specs.Prelude.{filter, bytes_eq, Option, None, Some, Result, Ok, Err, if◌then◌else◌}
 use Rattle.std.specs.List.{list_any}
-use Rattle.news_terms.specs.Command.{Command, AskCapabilities, AskHelp, AskDate, Quit, ModeStream, ModeReader, Check, Ihave, TakeThis, Fetch, NeedsGroup, TakeQueue, FetchToken, WholeText, Header, BodyLines, OverviewLine, Presence, CommandFault, Syntax}
+use Rattle.news_terms.specs.Command.{Command, AskCapabilities, AskHelp, AskDate, Quit, ModeStream}
+use Rattle.news_terms.specs.Command.{ModeReader, Check, Ihave, TakeThis, Fetch, NeedsGroup}
+use Rattle.news_terms.specs.Command.{TakeQueue, FetchToken, WholeText, Header, BodyLines}
+use Rattle.news_terms.specs.Command.{OverviewLine, Presence, CommandFault, Syntax}
 use Rattle.news_terms.specs.Command as commands
-use Rattle.news_terms.specs.Reply.{Bye, SendIt, AskLater, NotWanted, NoArticle, NoGroup, Exists, UnknownCommand, SyntaxError}
+use Rattle.news_terms.specs.Reply.{Bye, SendIt, AskLater, NotWanted, NoArticle, NoGroup, Exists}
+use Rattle.news_terms.specs.Reply.{UnknownCommand, SyntaxError}
 use Rattle.news_terms.specs.Token.{Token}
-use Rattle.relay_model.specs.Claims.{offer_answer, after_offer, look_answer, OfferAnswer, Wanted, Later, Seen}
+use Rattle.relay_model.specs.Claims.{offer_answer, after_offer, look_answer, OfferAnswer, Wanted}
+use Rattle.relay_model.specs.Claims.{Later, Seen}
 use Rattle.first_model.specs.Fetches.{Fetched, Gone, NotKnown, Article, fetched}
 use Rattle.first_model.specs.Says.{goes_on, says, ends}
 use Rattle.first_model.specs.State.{Session, Owes, TakesThis, Whether, Asked}

@@ -1,15 +1,19 @@
 -- Run: what a list of events may be answered, and the world after it (docs/PROTOCOL.md, Events
 -- and outputs). Each case in which a Turn or a Write says nothing is one that turn_does or Writes
 -- lists.
-use Rattle.std.specs.Prelude.{◌≡◌, ℕ, ◌++◌, nat_lt, nat_le, Bool, true, false, List, [], ◌∷◌, length, Option, None, Some, if◌then◌else◌}
+use Rattle.std.specs.Prelude.{◌≡◌, ℕ, ◌++◌, nat_lt, nat_le, Bool, true, false, List, [], ◌∷◌}
+use Rattle.std.specs.Prelude.{length, Option, None, Some, if◌then◌else◌}
 use Rattle.news_terms.specs.Reply.{Greeting, reply_text}
 use Rattle.first_model.specs.Pace.{Writes}
-use Rattle.first_model.specs.State.{State, Session, Phase, Ready, Owes, Holds, Waits, Fetches, Leaving, Ended}
+use Rattle.first_model.specs.State.{State, Session, Phase, Ready, Owes, Holds, Waits, Fetches}
+use Rattle.first_model.specs.State.{Leaving, Ended}
 use Rattle.relay_model.specs.State.{put_at}
 use Rattle.first_model.specs.Terms.{Terms, last_moment}
 use Rattle.first_model.specs.Today.{is_number_taken}
 use Rattle.first_model.specs.Turns.{turn_does, with_unread}
-use Rattle.first_model.specs.World.{World, Output, Quiet, Sent, Refuses, Fault, Memory, NoSession, SessionTaken, NoGroup, NoPeer, BadMoment, Next, with_session, in_phase}
+use Rattle.first_model.specs.World.{World, Output, Quiet, Sent, Refuses, Fault, Memory, NoSession}
+use Rattle.first_model.specs.World.{SessionTaken, NoGroup, NoPeer, BadMoment, Next, with_session}
+use Rattle.first_model.specs.World.{in_phase}
 use Rattle.first_model.specs.World as world
 
 -- what happens to the relay

@@ -1,6 +1,7 @@
 -- What a Turn of a session does: it reads at most one line or one block, and takes at most one step
 -- (docs/PROTOCOL.md, Sessions).
-use Rattle.std.specs.Prelude.{ℕ, ◌++◌, nat_lt, Bool, true, false, List, [], ◌∷◌, length, Option, None, Some}
+use Rattle.std.specs.Prelude.{ℕ, ◌++◌, nat_lt, Bool, true, false, List, [], ◌∷◌, length, Option}
+use Rattle.std.specs.Prelude.{None, Some}
 use Rattle.news_terms.specs.Blocks.{NextBlock, Whole, Oversize, Unfinished, next_block}
 use Rattle.news_terms.specs.Command.{command_among, is_served}
 use Rattle.news_terms.specs.Lines.{NextLine, Cut, TooLong, Incomplete, next_line}
@@ -9,7 +10,8 @@ use Rattle.first_model.specs.Arrivals.{block_does, take_does}
 use Rattle.relay_model.specs.Claims.{after_release}
 use Rattle.first_model.specs.Lines.{line_does, fetch_does, with_offers}
 use Rattle.first_model.specs.Says.{goes_on, says, ends, rests}
-use Rattle.first_model.specs.State.{Session, Phase, Ready, Owes, Holds, Waits, Fetches, Leaving, Ended, Transfer, TakesThis, Has, Outcome, IsKept, HasFailed}
+use Rattle.first_model.specs.State.{Session, Phase, Ready, Owes, Holds, Waits, Fetches, Leaving}
+use Rattle.first_model.specs.State.{Ended, Transfer, TakesThis, Has, Outcome, IsKept, HasFailed}
 use Rattle.relay_model.specs.State.{put_at}
 use Rattle.first_model.specs.Terms.{Terms, queue_limit}
 use Rattle.first_model.specs.World.{World, Next, Quiet, Job, with_claim, in_phase}

@@ -1,6 +1,7 @@
 -- The verdict on an article as it is given today (docs/PROTOCOL.md, Judging): only its size, its
 -- being empty and its blocks count; the text is stored as it came.
-use Rattle.std.specs.Prelude.{ℕ, ◌==◌, nat_le, List, [], length, Option, None, Some, Result, Ok, Err, if◌then◌else◌}
+use Rattle.std.specs.Prelude.{ℕ, ◌==◌, nat_le, List, [], length, Option, None, Some, Result, Ok}
+use Rattle.std.specs.Prelude.{Err, if◌then◌else◌}
 use Rattle.news_terms.specs.Places.{size_of}
 use Rattle.relay_model.specs.Claims.{Accepted}
 use Rattle.first_model.specs.Terms.{Reason, Size, Grammar, TooLarge}

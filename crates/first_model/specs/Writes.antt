@@ -1,10 +1,13 @@
 -- Begin to Abandon: what a writer does to the state (docs/PROTOCOL.md, Store).
-use Rattle.std.specs.Prelude.{◌≡◌, ℕ, ◌≤◌, ◌<◌, nat_eq, List, [], ◌∷◌, ◌++◌, length, bytes_eq, slice_get, option_and_then, Option, None, Some, if◌then◌else◌}
+use Rattle.std.specs.Prelude.{◌≡◌, ℕ, ◌≤◌, ◌<◌, nat_eq, List, [], ◌∷◌, ◌++◌, length, bytes_eq}
+use Rattle.std.specs.Prelude.{slice_get, option_and_then, Option, None, Some, if◌then◌else◌}
 use Rattle.std.specs.List.{list_any}
 use Rattle.news_terms.specs.Places.{Place, next_place, size_of, last_cycle}
 use Rattle.news_terms.specs.Token.{Token}
-use Rattle.relay_model.specs.Claims.{Accepted, Claim, Unknown, Storing, Stored, Waiting, Begun, Failed, Whole}
-use Rattle.first_model.specs.State.{State, Session, Phase, Ready, Owes, Holds, Waits, Fetches, Leaving, Ended, Outcome, IsKept, HasFailed, Feed}
+use Rattle.relay_model.specs.Claims.{Accepted, Claim, Unknown, Storing, Stored, Waiting, Begun}
+use Rattle.relay_model.specs.Claims.{Failed, Whole}
+use Rattle.first_model.specs.State.{State, Session, Phase, Ready, Owes, Holds, Waits, Fetches}
+use Rattle.first_model.specs.State.{Leaving, Ended, Outcome, IsKept, HasFailed, Feed}
 use Rattle.relay_model.specs.State.{put_id, put_at}
 use Rattle.first_model.specs.Terms.{Terms}
 

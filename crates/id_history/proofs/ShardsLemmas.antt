@@ -89,7 +89,8 @@ put_back old new later k in_range is_set before after own keeps kept mine others
 }
 
 -- each message-id has one of the sixteen shards
-in_range : (shards : Shards) (k : ℕ) (id : List ℕ) → k ≡ shard_of id → k < length shards.shards.items
+in_range : (shards : Shards) (k : ℕ) (id : List ℕ) → k ≡ shard_of id
+    → k < length shards.shards.items
 in_range shards k id own = rw (own, shards.sixteen) (mod-lt (sum id) (search arith))
 
 -- where the test fails, the choice is the other one

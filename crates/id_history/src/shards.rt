@@ -63,7 +63,8 @@ impl Shards {
         ensures err { OnErr result (KeepsClaims (KeepsAll self.old) (KeepsAll self.new)) }
 
         // An id that is known takes no memory.
-        ensures known { OfClaim (KeepsAll self.old) id.now (λ claim. claim ≢ Unknown → IsOk result) }
+        ensures known { OfClaim (KeepsAll self.old) id.now
+            (λ claim. claim ≢ Unknown → IsOk result) }
     {
         self.shards[shard_of(id)].offer(id, session)
     }
@@ -78,7 +79,8 @@ impl Shards {
         ensures err { OnErr result (KeepsClaims (KeepsAll self.old) (KeepsAll self.new)) }
 
         // An id that is known takes no memory.
-        ensures known { OfClaim (KeepsAll self.old) id.now (λ claim. claim ≢ Unknown → IsOk result) }
+        ensures known { OfClaim (KeepsAll self.old) id.now
+            (λ claim. claim ≢ Unknown → IsOk result) }
     {
         self.shards[shard_of(id)].take(id, session)
     }
@@ -91,7 +93,8 @@ impl Shards {
         ensures err { OnErr result (KeepsClaims (KeepsAll self.old) (KeepsAll self.new)) }
 
         // An id that is known takes no memory.
-        ensures known { OfClaim (KeepsAll self.old) id.now (λ claim. claim ≢ Unknown → IsOk result) }
+        ensures known { OfClaim (KeepsAll self.old) id.now
+            (λ claim. claim ≢ Unknown → IsOk result) }
     {
         self.shards[shard_of(id)].refuse(id, session, now)
     }

@@ -5,7 +5,8 @@ use Rattle.std.proofs.Common.{length-append, take-append-drop, ◌⊎◌, inl, i
 use Rattle.std.proofs.lemmas.Bool.{cases_Bool, le-leb, leb-true, leb-false, lt-leb, le-ltb, lt-ltb}
 use Rattle.std.proofs.lemmas.Bool.{ltb-true, ltb-false, cond-true, cond-false, cases_lt}
 use Rattle.std.proofs.lemmas.List.{append_assoc, length-take-le}
-use Rattle.news_terms.specs.Lines.{crlf, first_line, next_line, next_line_by, NextLine, Cut, TooLong}
+use Rattle.news_terms.specs.Lines.{crlf, first_line, next_line, next_line_by, NextLine, Cut}
+use Rattle.news_terms.specs.Lines.{TooLong}
 use Rattle.news_terms.specs.Lines.{Incomplete}
 use Rattle.news_terms.specs.Blocks.{first_block, next_block, next_block_by, NextBlock, Whole}
 use Rattle.news_terms.specs.Blocks.{Oversize, Unfinished, unstuffed}
@@ -83,7 +84,8 @@ ends_past s more p none e =
     within fits =
         let n = length ended in
         let apart : s ++ more ≡ take n s ++ (drop n s ++ more) =
-        ap (λ l. l ++ more) (sym (take-append-drop n s)) ∙ append_assoc (take n s) (drop n s) more in
+        ap (λ l. l ++ more) (sym (take-append-drop n s))
+        ∙ append_assoc (take n s) (drop n s) more in
         let front = same_front (take n s) ended (drop n s ++ more) p.1 (sym apart ∙ whole)
         (length-take-le n s fits) in
         no_first_line s p.0 (drop n s) none

@@ -138,7 +138,8 @@ kept_from_others =
     ∷ Bytes 2 (codes "CHECK <o@x>\r\nCHECK <3@x>\r\nCHECK <4@x>\r\nSTAT <2@x>\r\n")
     ∷ Bytes 2 (codes "TAKETHIS <2@x>\r\n.\r\nSTAT <2@x>\r\n") ∷ turns 2 9
 
--- 431 of what is offered to another or being stored; 223 of what is stored, before and after the 439
+-- 431 of what is offered to another or being stored; 223 of what is stored, before and after
+-- the 439
 abbrev pub kept_from_others_replies : List Output
 kept_from_others_replies =
     Ended 1 [] ∷ quiet 10

@@ -66,8 +66,8 @@ pub fn open_offers()
         → AreAnswered k1 (offering failures 256) rows.open_again rows.open_again_replies }
 {}
 
-/// What a session that leaves, an Expire and a refusal leave alone: what is offered to another, what is
-/// being stored, what is stored and live.
+/// What a session that leaves, an Expire and a refusal leave alone: what is offered to another, what
+/// is being stored, what is stored and live.
 pub fn kept_from_others()
     ensures { (failures : ℕ → ℕ) (one two : List ℕ)
         → AreAnswered forgetting (sharing failures one two) rows.kept_from_others

@@ -1,6 +1,7 @@
 -- A block has one judgement at most, since a text is laid out as one article at most, and is never
 -- without one.
-use Rattle.std.proofs.Common.{◌≡◌, ◌∙◌, ℕ, List, Option, None, Some, Result, Err, refl, sym, ap, subst}
+use Rattle.std.proofs.Common.{◌≡◌, ◌∙◌, ℕ, List, Option, None, Some, Result, Err, refl, sym, ap}
+use Rattle.std.proofs.Common.{subst}
 use Rattle.std.proofs.lemmas.Option.{none-some, same_Some}
 use Rattle.news_terms.specs.Article.{Article, IsArticleText}
 use Rattle.news_terms.proofs.ArticleReadings.{one_article}
