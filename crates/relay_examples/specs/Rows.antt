@@ -334,6 +334,18 @@ for_first_replies =
     both_greeted ++ quiet 11 ++ Sent 2 (codes "239 <a@x>\r\n")
     ∷ Sent 1 (codes "290 Queue follows\r\n0\r\n.\r\n") ∷ []
 
+-- an article of the first peer, and the queue of the second
+abbrev pub classed : List Event
+classed =
+    both_open ++ Bytes 1 (codes "TAKETHIS <a@x>\r\n" ++ block_of (byte "a"))
+    ∷ Bytes 2 (codes "XTAKE 5\r\n") ∷ turns 1 3 ++ writes 6 ++ turns 1 1 ++ turns 2 1
+
+-- its token has the class of its entry
+abbrev pub classed_replies : List Output
+classed_replies =
+    both_greeted ++ quiet 11 ++ Sent 1 (codes "239 <a@x>\r\n")
+    ∷ Sent 2 (codes "290 Queue follows\r\n0\r\n1 @02000000000000000000000000A4@\r\n.\r\n") ∷ []
+
 -- one article
 abbrev pub one_article : (k : ℕ) → List Event
 one_article k =

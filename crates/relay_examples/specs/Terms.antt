@@ -76,3 +76,7 @@ one_block =
       buffers = record buffer_a { blocks = 1 } ∷ [];
       groups = record group_g { buffers = record buffer_a { blocks = 1 } ∷ [] } ∷ [];
     }
+
+-- the same with the one entry of class 2
+abbrev pub of_class_two : Terms
+of_class_two = record k1 { entries = record every_article { class = 2 } ∷ [] }

@@ -25,7 +25,8 @@ read_replies one =
     quiet 5 ++ Sent 2 (reply_text (ArticleFollows (codes "<1@x>") one)) ∷ Quiet ∷ []
 
 -- overwrite: the third article is stored, and STAT and XFETCH ask for what is gone, what is there,
--- and what never was: nothing began at that block, a cycle to come, no such buffer, no length
+-- and what never was: nothing began at that block, a cycle to come, no such buffer, no length,
+-- another class or one octet less than what is there
 abbrev pub overwrite : List Event
 overwrite =
     writes 8
@@ -35,13 +36,15 @@ overwrite =
     ∷ Bytes 2 (codes "XFETCH @01000000000200000000000005A0@\r\n")
     ∷ Bytes 2 (codes "XFETCH @01010000000000000003000005A0@\r\n")
     ∷ Bytes 2 (codes "XFETCH @0100000000000000000300000000@\r\n")
+    ∷ Bytes 2 (codes "XFETCH @02000000000000000003000005A0@\r\n")
+    ∷ Bytes 2 (codes "XFETCH @010000000000000000030000059F@\r\n")
     ∷ Bytes 2 (codes "XFETCH @01000000000100000000000005a0@\r\n")
-    ∷ turns 2 13
+    ∷ turns 2 15
 
 -- 430, 492; 223, 292 and the whole article; 493 of each that never was; 501 of a lower case letter
 abbrev pub overwrite_replies : List ℕ → List Output
 overwrite_replies two =
-    quiet 15 ++ Quiet ∷ Sent 2 (codes "430 No such article\r\n")
+    quiet 17 ++ Quiet ∷ Sent 2 (codes "430 No such article\r\n")
     ∷ Sent 2 (codes "492 @01000000000000000000000005A0@ gone\r\n") ∷ Quiet
     ∷ Sent 2 (codes "223 0 <2@x>\r\n") ∷ quiet 2
     ++ Sent 2 (reply_text (TokenFollows (three_blocks_at 0 3) two))
@@ -49,6 +52,8 @@ overwrite_replies two =
     ∷ Sent 2 (codes "493 @01000000000200000000000005A0@ unknown\r\n")
     ∷ Sent 2 (codes "493 @01010000000000000003000005A0@ unknown\r\n")
     ∷ Sent 2 (codes "493 @0100000000000000000300000000@ unknown\r\n")
+    ∷ Sent 2 (codes "493 @02000000000000000003000005A0@ unknown\r\n")
+    ∷ Sent 2 (codes "493 @010000000000000000030000059F@ unknown\r\n")
     ∷ Sent 2 (codes "501 Syntax error\r\n") ∷ []
 
 -- failed write: after the failure the third article is given up and session 1 told; its id may be
@@ -130,6 +135,21 @@ open_again = Bytes 1 (codes "CHECK <o@x>\r\n") ∷ turns 1 1
 -- 238
 abbrev pub open_again_replies : List Output
 open_again_replies = Quiet ∷ Sent 1 (codes "238 <o@x>\r\n") ∷ []
+
+-- a new id, an open one that is being stored for another session, the new one again and a second
+-- one; then an open one that is stored, and the second new one again
+abbrev pub outdated_offers : List Event
+outdated_offers =
+    Bytes 1 (codes "CHECK <n@x>\r\nCHECK <3@x>\r\nCHECK <n@x>\r\nCHECK <m@x>\r\n")
+    ∷ Bytes 1 (codes "CHECK <2@x>\r\nCHECK <m@x>\r\n") ∷ turns 1 6
+
+-- 431 and 438 end an offer: a new id has room after each
+abbrev pub outdated_replies : List Output
+outdated_replies =
+    quiet 2
+    ++ Sent 1 (codes "431 <n@x>\r\n") ∷ Sent 1 (codes "431 <3@x>\r\n")
+    ∷ Sent 1 (codes "238 <n@x>\r\n") ∷ Sent 1 (codes "431 <m@x>\r\n")
+    ∷ Sent 1 (codes "438 <2@x>\r\n") ∷ Sent 1 (codes "238 <m@x>\r\n") ∷ []
 
 -- session 1 leaves, ids are forgotten, and an article of a stored id is refused
 abbrev pub kept_from_others : List Event

@@ -186,6 +186,22 @@ offering failures n =
       };
     }
 
+-- session 1 has 256 offers open, two of them of ids that are by now being stored for session 3, and
+-- stored
+abbrev pub outdated : (failures : ℕ → ℕ) → World
+outdated failures =
+    record (empty_world failures) {
+      state = record empty_state {
+        claim = put_id (put_id (put_id (λ id. Unknown) (codes "<o@x>") (Offered 1))
+            (codes "<3@x>") (Storing 3 three_blocks Waiting)) (codes "<2@x>")
+            (Stored (three_blocks_at 0 3) now);
+        session = put_at (λ s. None) 1 (Some (record reading {
+          offers = codes "<3@x>" ∷ codes "<2@x>" ∷ replicate 254 (codes "<o@x>");
+        }));
+        newest = Some 1;
+      };
+    }
+
 -- session 1 has a job in its hand, and so many are queued
 abbrev pub pushing : (failures : ℕ → ℕ) → ℕ → World
 pushing failures n =

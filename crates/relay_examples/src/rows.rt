@@ -4,6 +4,7 @@ ghost use Rattle.relay_model.specs.World.{empty_world};
 ghost use Rattle.relay_examples.specs.Answered.{AreAnswered};
 ghost use Rattle.relay_examples.specs.Rows as rows;
 ghost use Rattle.relay_examples.specs.Terms.{k1, feeding_first, own_is_first, one_block};
+ghost use Rattle.relay_examples.specs.Terms.{of_class_two};
 
 /// CHECK, TAKETHIS of an article, STAT: 238, 239, 223.
 pub fn first_script()
@@ -115,6 +116,12 @@ pub fn from_second()
 pub fn for_first()
     ensures { (failures : ℕ → ℕ)
         → AreAnswered feeding_first (empty_world failures) rows.for_first rows.for_first_replies }
+{}
+
+/// The token of an article has the class of its entry.
+pub fn classed()
+    ensures { (failures : ℕ → ℕ)
+        → AreAnswered of_class_two (empty_world failures) rows.classed rows.classed_replies }
 {}
 
 /// An article whose Path has the own identity: 439.

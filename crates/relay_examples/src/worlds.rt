@@ -7,7 +7,7 @@ ghost use Rattle.relay_examples.specs.Terms.{k1, now};
 ghost use Rattle.relay_examples.specs.WorldRows as rows;
 ghost use Rattle.relay_examples.specs.Worlds.{two_stored, begun_world, failed_world, reading_last};
 ghost use Rattle.relay_examples.specs.Worlds.{third_job, fourth_job, forgetting, remembering};
-ghost use Rattle.relay_examples.specs.Worlds.{offering, sharing};
+ghost use Rattle.relay_examples.specs.Worlds.{offering, outdated, sharing};
 
 /// An article is lost while it is read, where the begin of another comes before its last block:
 /// 430, else 220 and the whole article.
@@ -56,7 +56,8 @@ pub fn forgotten_ids()
         → AreAnswered forgetting (remembering failures) rows.sixteen_expires rows.sixteen_replies }
 {}
 
-/// A session may have 256 offers open.
+/// A session may have 256 offers open. One of an id that another session has by now, or that is
+/// stored, ends where the id is offered again: 431, 438.
 pub fn open_offers()
     ensures full { (failures : ℕ → ℕ)
         → AreAnswered k1 (offering failures 256) rows.offers rows.full_replies }
@@ -64,10 +65,12 @@ pub fn open_offers()
         → AreAnswered k1 (offering failures 255) rows.offers rows.last_replies }
     ensures again { (failures : ℕ → ℕ)
         → AreAnswered k1 (offering failures 256) rows.open_again rows.open_again_replies }
+    ensures outdated { (failures : ℕ → ℕ)
+        → AreAnswered k1 (outdated failures) rows.outdated_offers rows.outdated_replies }
 {}
 
-/// What a session that leaves, an Expire and a refusal leave alone: what is offered to another, what
-/// is being stored, what is stored and live.
+/// What a session that leaves, an Expire and a refusal leave alone: what is offered to another,
+/// what is being stored, what is stored and live.
 pub fn kept_from_others()
     ensures { (failures : ℕ → ℕ) (one two : List ℕ)
         → AreAnswered forgetting (sharing failures one two) rows.kept_from_others

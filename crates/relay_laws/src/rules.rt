@@ -11,13 +11,15 @@ ghost use Rattle.relay_model.specs.Claims.{Mine};
 ghost use Rattle.relay_model.specs.Claims.{offer_answer, after_offer, take_answer, after_take};
 ghost use Rattle.relay_model.specs.Claims.{after_refuse, after_release, after_forget, after_settle};
 ghost use Rattle.relay_model.specs.Fetches as fetches;
-ghost use Rattle.relay_model.specs.Fetches.{Gone, fetched, front_of, text_under};
+ghost use Rattle.relay_model.specs.Fetches.{Gone, NotRead, fetched, front_of, text_under};
 ghost use Rattle.relay_model.specs.Hears.{outcome_heard};
 ghost use Rattle.relay_model.specs.Judging.{Judges, is_permitted, permitted};
-ghost use Rattle.relay_model.specs.Run.{Event, Step};
+ghost use Rattle.relay_model.specs.Run.{Event, Step, Write, Break, Expire};
+ghost use Rattle.relay_model.specs.Shares.{Reading, ToRead};
 ghost use Rattle.relay_model.specs.State.{State, Session, Transfer, Job, Waits, Leaving};
 ghost use Rattle.relay_model.specs.Terms.{Terms, Reason};
 ghost use Rattle.relay_model.specs.World.{World, Output, Outcome, IsKept, Speaks};
+ghost use Rattle.relay_model.specs.World.{Refuses, Memory};
 ghost use Rattle.relay_model.specs.Writers.{Stores, Fails, Accepts, Abandons};
 ghost use Rattle.relay_laws.specs.Calm.{IsCalm, CalmRun};
 ghost use Rattle.relay_laws.specs.Rules.{IsNotOf, IsGoneToken, IsLiveToken};
@@ -96,6 +98,22 @@ pub fn fetches_are_true()
     ensures found { (w : Terms) (σ : State) (token : Token) (text : List ℕ)
         → IsLiveToken w σ token → text_under σ.kept token ≡ Some text
         → fetched w σ token ≡ fetches.Article text }
+{}
+
+/// A read fails only of a token whose place is live: what the numbers decide, no device is asked.
+pub fn only_live_reads_fail()
+    ensures { (w : Terms) (x y : World) (token : Token) → Reading w x token (ToRead NotRead) y
+        → IsLiveToken w x.state token }
+{}
+
+/// A Write, a Break and an Expire are never answered that memory is wanted.
+pub fn memory_is_wanted_by_some()
+    ensures writes { (w : Terms) (x y : World) (group now : ℕ)
+        → ¬ Step w x (Write group now) (Refuses Memory) y }
+    ensures breaks { (w : Terms) (x y : World) (session : ℕ)
+        → ¬ Step w x (Break session) (Refuses Memory) y }
+    ensures expires { (w : Terms) (x y : World) (shard now : ℕ)
+        → ¬ Step w x (Expire shard now) (Refuses Memory) y }
 {}
 
 /// No front moves where a text becomes whole, fails, is accepted or is given up: a begin alone

@@ -1,7 +1,7 @@
 use Rattle.std.proofs.Common.{[], refl}
 use Rattle.relay_examples.specs.Terms.{k1}
 use Rattle.relay_examples.specs.WorldRows as rows
-use Rattle.relay_examples.specs.Worlds.{offering}
+use Rattle.relay_examples.specs.Worlds.{offering, outdated}
 use Rattle.relay_examples.proofs.Playing.{are_answered}
 use Rattle.relay_examples.proofs.worlds.open_offers.Goals as goal
 
@@ -16,3 +16,7 @@ returns-clause-last c = λ failures. are_answered k1 (offering failures 255) []
 pub returns-clause-again : goal.returns-clause-again
 returns-clause-again c = λ failures. are_answered k1 (offering failures 256) []
     rows.open_again rows.open_again_replies tt refl refl
+
+pub returns-clause-outdated : goal.returns-clause-outdated
+returns-clause-outdated c = λ failures. are_answered k1 (outdated failures) []
+    rows.outdated_offers rows.outdated_replies tt refl refl

@@ -14,16 +14,17 @@ use Rattle.relay_examples.proofs.Playing.{are_answered}
 use Rattle.relay_examples.proofs.worlds.overwrite.Goals as goal
 
 -- the tokens that are asked for
-fits : (buffer cycle first length : ℕ) → buffer < 2 → cycle < 3 → first < 8 → length < 1441
+fits : (class buffer cycle first length : ℕ) → class < 3 → buffer < 2 → cycle < 3 → first < 8
+    → length < 1441
     → IsToken (record {
-      class = 1;
+      class = class;
       buffer = buffer;
       cycle = cycle;
       first = first;
       length = length;
     })
-fits buffer cycle first length b c f l = record {
-  class = omega arith;
+fits class buffer cycle first length k b c f l = record {
+  class = omega (arith, k);
   buffer = omega (arith, b);
   cycle = omega (arith, c);
   first = omega (arith, f);
@@ -31,22 +32,36 @@ fits buffer cycle first length b c f l = record {
 }
 
 first_token : IsToken (three_blocks_at 0 0)
-first_token = fits 0 0 0 1440 (omega arith) (omega arith) (omega arith) (omega arith)
+first_token =
+    fits 1 0 0 0 1440 (omega arith) (omega arith) (omega arith) (omega arith) (omega arith)
 
 second_token : IsToken (three_blocks_at 0 3)
-second_token = fits 0 0 3 1440 (omega arith) (omega arith) (omega arith) (omega arith)
+second_token =
+    fits 1 0 0 3 1440 (omega arith) (omega arith) (omega arith) (omega arith) (omega arith)
 
 middle_token : IsToken (three_blocks_at 0 4)
-middle_token = fits 0 0 4 1440 (omega arith) (omega arith) (omega arith) (omega arith)
+middle_token =
+    fits 1 0 0 4 1440 (omega arith) (omega arith) (omega arith) (omega arith) (omega arith)
 
 future_token : IsToken (three_blocks_at 2 0)
-future_token = fits 0 2 0 1440 (omega arith) (omega arith) (omega arith) (omega arith)
+future_token =
+    fits 1 0 2 0 1440 (omega arith) (omega arith) (omega arith) (omega arith) (omega arith)
 
 other_token : IsToken (record (three_blocks_at 0 3) { buffer = 1 })
-other_token = fits 1 0 3 1440 (omega arith) (omega arith) (omega arith) (omega arith)
+other_token =
+    fits 1 1 0 3 1440 (omega arith) (omega arith) (omega arith) (omega arith) (omega arith)
 
 empty_token : IsToken (record (three_blocks_at 0 3) { length = 0 })
-empty_token = fits 0 0 3 0 (omega arith) (omega arith) (omega arith) (omega arith)
+empty_token =
+    fits 1 0 0 3 0 (omega arith) (omega arith) (omega arith) (omega arith) (omega arith)
+
+class_token : IsToken (record (three_blocks_at 0 3) { class = 2 })
+class_token =
+    fits 2 0 0 3 1440 (omega arith) (omega arith) (omega arith) (omega arith) (omega arith)
+
+shorter_token : IsToken (record (three_blocks_at 0 3) { length = 1439 })
+shorter_token =
+    fits 1 0 0 3 1439 (omega arith) (omega arith) (omega arith) (omega arith) (omega arith)
 
 -- no token is spelled with a lower case letter
 no_lower_case : (token : Token) → IsToken token
@@ -58,10 +73,12 @@ no_lower_case token is e =
 
 pub returns : goal.returns
 returns c = λ failures one two. are_answered k1 (two_stored failures one two)
-    (replicate 17 NoHint ++ NamesToken (three_blocks_at 0 0) ∷ NoHint ∷ NoHint
+    (replicate 19 NoHint ++ NamesToken (three_blocks_at 0 0) ∷ NoHint ∷ NoHint
     ∷ NamesToken (three_blocks_at 0 3) ∷ NoHint ∷ NoHint ∷ NamesToken (three_blocks_at 0 4)
     ∷ NamesToken (three_blocks_at 2 0) ∷ NamesToken (record (three_blocks_at 0 3) { buffer = 1 })
-    ∷ NamesToken (record (three_blocks_at 0 3) { length = 0 }) ∷ [])
+    ∷ NamesToken (record (three_blocks_at 0 3) { length = 0 })
+    ∷ NamesToken (record (three_blocks_at 0 3) { class = 2 })
+    ∷ NamesToken (record (three_blocks_at 0 3) { length = 1439 }) ∷ [])
     rows.overwrite (rows.overwrite_replies two) (
       refl,
       (
@@ -84,7 +101,7 @@ returns c = λ failures one two. are_answered k1 (two_stored failures one two)
                         (other_token, refl),
                         (
                           (empty_token, refl),
-                          (no_lower_case, tt),
+                          ((class_token, refl), ((shorter_token, refl), (no_lower_case, tt))),
                         ),
                       ),
                     ),
