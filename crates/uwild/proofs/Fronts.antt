@@ -1,5 +1,5 @@
 -- Each text within a pattern has a part, a comma, a fault or its end in front.
-use Rattle.std.proofs.Common.{◌≡◌, ℕ, ◌<◌, ◌≤◌, ◌+◌, true, false, not, List, [], ◌∷◌, ◌++◌, length}
+use Rattle.std.proofs.Common.{◌≡◌, ℕ, ◌<◌, ◌+◌, true, false, List, [], ◌∷◌, ◌++◌, length}
 use Rattle.std.proofs.Common.{Option, Some, None, refl, sym, ap, subst, ◌∙◌, inl, inr, arith, codes}
 use Rattle.std.proofs.Common.{take, drop, length-append}
 use Rattle.std.specs.Prelude.{◌==◌, ◌⊎◌, nat_eq, nat_lt, IsTrue, slice_get, filter_map}
