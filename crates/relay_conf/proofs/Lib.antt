@@ -1,5 +1,8 @@
 pub mod BuiltIn
 pub mod CycbuffReadings
+pub mod EachReading
+pub mod EachRelay
+pub mod EachStorage
 pub mod FileLines
 pub mod FirstFaults
 pub mod JoinedLines

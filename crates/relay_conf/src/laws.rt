@@ -10,6 +10,7 @@ ghost use Rattle.relay_conf.specs.Cycbuff.{Group, CycbuffSettings, cycbuff_of};
 ghost use Rattle.relay_conf.specs.K1.{k1_buffers, k1_entries, k1_relay};
 ghost use Rattle.relay_conf.specs.Lines.{lines_of, joined_by, is_line};
 ghost use Rattle.line_words.specs.Comments.{is_skipped};
+ghost use Rattle.relay_conf.specs.Readings.{RelayHasReading, StorageHasReading};
 ghost use Rattle.relay_conf.specs.Relay.{RelaySettings};
 ghost use Rattle.relay_conf.specs.RelayViews as relay;
 ghost use Rattle.relay_conf.specs.StorageViews as storage;
@@ -73,6 +74,16 @@ pub fn one_reading_of_storage_conf()
         → ¬ storage.HasFault groups lines fault }
     ensures fault { (groups : List Group) (lines : List (List ℕ)) (a b : LineFault)
         → storage.HasFault groups lines a → storage.HasFault groups lines b → a ≡ b }
+{}
+
+/// The lines of relay.conf, whatever they are, have settings or a fault.
+pub fn each_relay_conf_has_a_reading()
+    ensures { (lines : List (List ℕ)) → RelayHasReading lines }
+{}
+
+/// The lines of storage.conf, whatever they are and over whichever groups, have entries or a fault.
+pub fn each_storage_conf_has_a_reading()
+    ensures { (groups : List Group) (lines : List (List ℕ)) → StorageHasReading groups lines }
 {}
 
 /// The built-in texts say what K1 is.

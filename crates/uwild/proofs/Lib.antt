@@ -1,4 +1,6 @@
 pub mod Cuts
+pub mod EachText
+pub mod Fronts
 pub mod Ranges
 pub mod Readings
 pub mod SetFaults

@@ -22,7 +22,7 @@ fault_map P Q f errors.DanglingEscape h = f DanglingEscape h
 fault_map P Q f errors.NonAscii h = f NonAscii h
 
 -- the `]` behind a set
-closed : (set rest : List ℕ) → set ++ byte "]" ∷ rest ≡ (set ++ byte "]" ∷ []) ++ rest
+pub closed : (set rest : List ℕ) → set ++ byte "]" ∷ rest ≡ (set ++ byte "]" ∷ []) ++ rest
 closed set rest = sym (append_assoc set (codes "]") rest)
 
 -- a fault of a set

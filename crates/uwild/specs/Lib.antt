@@ -1,4 +1,5 @@
 pub mod Expression
+pub mod Readings
 pub mod Reads
 pub mod Sets
 pub mod Walks

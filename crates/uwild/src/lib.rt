@@ -4,6 +4,7 @@
 
 mod expression;
 mod item;
+pub mod laws;
 mod matching;
 mod pattern;
 mod set;
