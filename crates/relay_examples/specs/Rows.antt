@@ -173,7 +173,8 @@ abbrev pub refused_events : List Event
 refused_events =
     Open 1 0 ∷ Open 1 0 ∷ Open 0 0 ∷ Open 2 2 ∷ Turn 9 now ∷ Bytes 9 [] ∷ Break 9
     ∷ Turn 1 253370764800 ∷ Turn 1 253370764799 ∷ Write 1 now ∷ Write 0 253370764800
-    ∷ runs.Expire 16 now ∷ runs.Expire 15 253370764800 ∷ Break 1 ∷ Bytes 1 [] ∷ Break 1
+    ∷ runs.Expire 16 now ∷ runs.Expire 15 253370764800 ∷ Turn 9 253370764800
+    ∷ Write 1 253370764800 ∷ runs.Expire 16 253370764800 ∷ Open 1 2 ∷ Break 1 ∷ Bytes 1 [] ∷ Break 1
     ∷ Turn 1 now ∷ Turn 1 now ∷ []
 
 -- the first reason of each
@@ -181,7 +182,8 @@ abbrev pub refused_events_replies : List Output
 refused_events_replies =
     greeted 1 ∷ Refuses SessionTaken ∷ Refuses SessionTaken ∷ Refuses NoPeer ∷ Refuses NoSession
     ∷ Refuses NoSession ∷ Refuses NoSession ∷ Refuses BadMoment ∷ Quiet ∷ Refuses NoGroup
-    ∷ Refuses BadMoment ∷ Refuses NoShard ∷ Refuses BadMoment ∷ Ended 1 [] ∷ Refuses NoSession
+    ∷ Refuses BadMoment ∷ Refuses NoShard ∷ Refuses BadMoment ∷ Refuses NoSession
+    ∷ Refuses NoGroup ∷ Refuses NoShard ∷ Refuses SessionTaken ∷ Ended 1 [] ∷ Refuses NoSession
     ∷ Refuses NoSession ∷ Quiet ∷ Refuses NoSession ∷ []
 
 -- ring: three articles from the first peer, and the queue of the second, twice
