@@ -1,4 +1,7 @@
 pub mod ClaimSteps
+pub mod CountedRuns
+pub mod CountedSteps
+pub mod CountedWrites
 pub mod DueErrands
 pub mod Dues
 pub mod Errands
@@ -16,6 +19,7 @@ pub mod Sessions
 pub mod SoundExample
 pub mod StepErrands
 pub mod Steps
+pub mod Sums
 pub mod Taken
 pub mod TurnErrands
 pub mod Turning
