@@ -3,12 +3,12 @@ use Rattle.std.proofs.Common.{◌≡◌, ◌+◌, ◌-◌, ◌≤◌, ℕ, Bool,
 use Rattle.std.proofs.Common.{length, All, Option, None, Some, slice_get, refl, sym, ap}
 use Rattle.std.proofs.Common.{subst, arith, le_of_eq, nat_lt, zero-le}
 use Rattle.std.proofs.lemmas.List.Elements.{All-nil}
-use Rattle.news_terms.specs.Places.{Buffer, Extent, extents, last_cycle}
+use Rattle.news_terms.specs.Places.{Buffer, extents}
 use Rattle.news_terms.specs.Token.{Token}
 use Rattle.relay_model.specs.Asks.{Ask, Rests, GoesOn, Says, Leaves, Offers, Looks, Reads}
 use Rattle.relay_model.specs.Asks.{TakesQueue, Refuses, Takes, Pushes, LooksInSlot, Releases, Ends}
 use Rattle.relay_model.specs.Claims.{Passed}
-use Rattle.relay_model.specs.Counted.{IsCounted, to_settle, sum_below}
+use Rattle.relay_model.specs.Counted.{IsCounted, IsInTime, to_settle, sum_below}
 use Rattle.relay_model.specs.Run.{expired, reads_front, forgotten, Restarts, IsBusy, HasNoRoom}
 use Rattle.relay_model.specs.Run.{HasNot, restarted, Turns}
 use Rattle.relay_model.specs.Run as run
@@ -30,7 +30,7 @@ pub counted_as : (w : Terms) (x y : World) → ((g : ℕ) → y.state.begun g �
     → IsCounted w x → IsCounted w y
 counted_as w x y begun accepted gained fewer counted = record {
   in_time = λ g group there.
-      subst (λ sizes. All (λ (one : Extent). one.place.cycle ≤ last_cycle) (extents group sizes))
+      subst (λ sizes. All IsInTime (extents group sizes))
       (sym (begun g)) (counted.in_time g group there);
   settled = omega (
     arith,
@@ -55,7 +55,7 @@ counted_still w x y begun accepted gained writer counted =
 -- nothing is there to count before anything came
 pub empty_counted : (w : Terms) (failures : ℕ → ℕ) → IsCounted w (empty_world failures)
 empty_counted w failures = record {
-  in_time = λ g group there. All-nil (λ (one : Extent). one.place.cycle ≤ last_cycle);
+  in_time = λ g group there. All-nil IsInTime;
   settled = none (length w.groups);
   gained = λ f. omega arith;
 }

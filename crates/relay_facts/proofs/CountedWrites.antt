@@ -7,10 +7,10 @@ use Rattle.std.specs.List.{list_any}
 use Rattle.std.proofs.lemmas.Bool.{cond_both}
 use Rattle.std.proofs.lemmas.List.Elements.{All-push}
 use Rattle.std.proofs.lemmas.Option.{slice_get_within}
-use Rattle.news_terms.specs.Places.{Group, Extent, extents, next_place, last_cycle}
+use Rattle.news_terms.specs.Places.{Group, extents, next_place}
 use Rattle.news_terms.specs.Token.{Token}
 use Rattle.news_terms.proofs.Extents.{extents_push}
-use Rattle.relay_model.specs.Counted.{IsCounted, to_settle, sum_below}
+use Rattle.relay_model.specs.Counted.{IsCounted, IsInTime, to_settle, sum_below}
 use Rattle.relay_model.specs.Invariants.{IsAt, IsSoundArticle, job_at}
 use Rattle.relay_model.specs.State.{State, Feed, Job, put_at}
 use Rattle.relay_model.specs.Terms.{Terms}
@@ -25,6 +25,7 @@ use Rattle.relay_facts.proofs.Orderly.{IsOrderly}
 use Rattle.relay_facts.proofs.Places.{at_stage, IsStoredFor}
 use Rattle.relay_facts.proofs.Puts.{put_at_both, put_at_here, put_at_there}
 use Rattle.relay_facts.proofs.Sums.{sums_but}
+use Rattle.relay_facts.proofs.WriterStages.{at_phase}
 
 -- a writer with a job is of a group that is there
 pub writer_within : (w : Terms) (x : World) → IsOrderly w x → (g : ℕ) (job : Job)
@@ -83,10 +84,6 @@ beginning w begun g size within =
           (λ h other. ap length (put_at_there begun g (begun g ++ size ∷ []) h other)),
     )
 
--- the cycle of an article is one that a token has room for
-abbrev In_time : Extent → Type 0
-In_time one = one.place.cycle ≤ last_cycle
-
 -- it begins the job
 begun_counted : (w : Terms) (x : World) (g : ℕ) (job : Job) (token : Token) (τ : State)
     → x.work.writer g ≡ Popped job → Begins w x.state job token τ → IsOrderly w x
@@ -95,7 +92,7 @@ begun_counted w x g job token τ has begins orderly counted =
     subst (λ ρ. IsCounted w (writer_at x ρ g (Writing job token 0))) (sym begins.after)
     (record {
       in_time = λ h group there.
-          put_at_both (λ sizes. All In_time (extents group sizes)) x.state.begun group_of
+          put_at_both (λ sizes. All IsInTime (extents group sizes)) x.state.begun group_of
           (x.state.begun group_of ++ job_size job ∷ []) h
           (λ e. one_more group (ap (slice_get w.groups) (sym e) ∙ there))
           (λ other. counted.in_time h group there);
@@ -114,20 +111,20 @@ begun_counted w x g job token τ has begins orderly counted =
     group_of = job.article.group
 
     at : IsAt w x.state g (Popped job)
-    at = subst (IsAt w x.state g) has (orderly.placed.writer g)
+    at = at_phase w x orderly g (Popped job) has
 
     within : g < length w.groups
     within = writer_within w x orderly g job (ap job_at has)
 
     one_more : (group : Group) → slice_get w.groups group_of ≡ Some group
-        → All In_time (extents group (x.state.begun group_of ++ job_size job ∷ []))
+        → All IsInTime (extents group (x.state.begun group_of ++ job_size job ∷ []))
     one_more group there =
         let next : next_place group (x.state.begun group_of) (job_size job) ≡ Some begins.place =
         ap (option_and_then (λ one. next_place one (x.state.begun group_of) (job_size job)))
         (sym there) ∙ begins.next in
-        subst (All In_time)
+        subst (All IsInTime)
         (sym (extents_push group (x.state.begun group_of) (job_size job) begins.place next))
-        (All-push In_time (extents group (x.state.begun group_of))
+        (All-push IsInTime (extents group (x.state.begun group_of))
         (record { place = begins.place; size = job_size job })
         (counted.in_time group_of group there) begins.in_time)
 

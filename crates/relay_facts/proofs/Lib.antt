@@ -1,3 +1,5 @@
+pub mod BegunFronts
+pub mod BufferCount
 pub mod ClaimSteps
 pub mod CountedRuns
 pub mod CountedSteps
@@ -17,6 +19,7 @@ pub mod Runs
 pub mod SessionOrderly
 pub mod Sessions
 pub mod SoundExample
+pub mod ShortLists
 pub mod StepErrands
 pub mod Steps
 pub mod Sums

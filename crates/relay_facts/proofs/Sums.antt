@@ -48,6 +48,18 @@ sums_but f h g (suc n) within same =
         let last : f n ≡ h n = same n other in
         omega (arith, before, last)
 
+-- each term is at most the sum
+pub term_within : (f : ℕ → ℕ) (g n : ℕ) → g < n → f g ≤ sum_below f n
+term_within f g zero within = absurd (omega (arith, within))
+term_within f g (suc n) within =
+    by_place (λ below. term_within f g n below) (cases_eq n g)
+  where
+    by_place : (g < n → f g ≤ sum_below f n) → (n ≡ g) ⊎ (n ≡ g → ⊥) → f g ≤ sum_below f (suc n)
+    by_place below (inl last) = let of_f : f n ≡ f g = ap f last in omega (arith, of_f)
+    by_place below (inr other) =
+        let part : f g ≤ sum_below f n = below (omega (arith, within, other)) in
+        omega (arith, part)
+
 -- no term is larger, nor is the sum over the list
 list_ordered : {X : Type 0} (f h : X → ℕ) (xs : List X)
     → ((j : ℕ) (y : X) → slice_get xs j ≡ Some y → f y ≤ h y) → sum_by f xs ≤ sum_by h xs
