@@ -1,4 +1,9 @@
+pub mod BegunFronts
+pub mod BufferCount
 pub mod ClaimSteps
+pub mod CountedRuns
+pub mod CountedSteps
+pub mod CountedWrites
 pub mod DueErrands
 pub mod Dues
 pub mod Errands
@@ -14,8 +19,10 @@ pub mod Runs
 pub mod SessionOrderly
 pub mod Sessions
 pub mod SoundExample
+pub mod ShortLists
 pub mod StepErrands
 pub mod Steps
+pub mod Sums
 pub mod Taken
 pub mod TurnErrands
 pub mod Turning

@@ -1,6 +1,7 @@
--- What holds of every world, but for what is on its way to the sessions: it is kept for itself, and
--- what is on its way is kept where it holds.
+-- What holds of every world, but for what is on its way to the sessions and what is counted: it is
+-- kept for itself, and those are kept where it holds.
 use Rattle.relay_model.specs.Awaited.{IsAwaited}
+use Rattle.relay_model.specs.Counted.{IsCounted}
 use Rattle.relay_model.specs.Invariants.{IsNumbered, IsPlaced, IsSized, IsWell}
 use Rattle.relay_model.specs.Terms.{Terms}
 use Rattle.relay_model.specs.World.{World}
@@ -16,12 +17,13 @@ pub orderly_of : (w : Terms) (x : World) → IsWell w x → IsOrderly w x
 orderly_of w x well =
     record { numbered = well.numbered; placed = well.placed; sized = well.sized }
 
--- a world that is in order, and of which what is on its way holds, is well
-pub well_of : (w : Terms) (x : World) → IsOrderly w x → IsAwaited x → IsWell w x
-well_of w x orderly awaited =
+-- a world that is in order, of which what is on its way and what is counted hold, is well
+pub well_of : (w : Terms) (x : World) → IsOrderly w x → IsAwaited x → IsCounted w x → IsWell w x
+well_of w x orderly awaited counted =
     record {
       numbered = orderly.numbered;
       placed = orderly.placed;
       sized = orderly.sized;
       awaited = awaited;
+      counted = counted;
     }

@@ -3,15 +3,15 @@
 //! There is no code: each function has an empty body, and its contract is what is proved.
 #![tactic(auto)]
 
-ghost use Rattle.std.specs.Prelude.{◌≡◌, ◌++◌, ℕ, List, Some};
+ghost use Rattle.std.specs.Prelude.{◌≡◌, ◌++◌, ◌≤◌, ◌<◌, ◌^◌, ℕ, List, Some, length};
 ghost use Rattle.news_terms.specs.Token.{Token};
 ghost use Rattle.relay_model.specs.Awaited.{Errand, WaitsFor};
 ghost use Rattle.relay_model.specs.Fetches.{text_under};
 ghost use Rattle.relay_model.specs.Invariants.{IsWell};
 ghost use Rattle.relay_model.specs.Run.{Event, Run, Step};
-ghost use Rattle.relay_model.specs.State.{Kept, Session, Transfer, Waits};
+ghost use Rattle.relay_model.specs.State.{Job, Kept, Session, Transfer, Waits};
 ghost use Rattle.relay_model.specs.Terms.{Terms};
-ghost use Rattle.relay_model.specs.World.{World, Output, empty_world};
+ghost use Rattle.relay_model.specs.World.{World, Output, Finished, empty_world};
 ghost use Rattle.relay_facts.specs.Sound.{IsSound};
 ghost use Rattle.relay_facts.specs.SoundExample.{sound_terms};
 
@@ -39,6 +39,17 @@ pub fn one_errand()
 pub fn found_stays()
     ensures { (kept more : List Kept) (token : Token) (text : List ℕ)
         → text_under kept token ≡ Some text → text_under (kept ++ more) token ≡ Some text }
+{}
+
+/// How long a feed's list gets: at most 2^62 tokens, and fewer while an article is to be settled.
+/// Each is of an article begun, each of those has a block of a cycle to itself, and there are at
+/// most 256 buffers of 2^22 blocks and 2^32 cycles.
+pub fn lists_stay_short()
+    ensures at_most { (w : Terms) (x : World) (f : ℕ) → IsSound w → IsWell w x
+        → length (x.state.feed f).gained ≤ 2 ^ 62 }
+    ensures room { (w : Terms) (x : World) (f g : ℕ) (job : Job) (token : Token) → IsSound w
+        → IsWell w x → x.work.writer g ≡ Finished job token
+        → length (x.state.feed f).gained < 2 ^ 62 }
 {}
 
 /// There are sound terms.

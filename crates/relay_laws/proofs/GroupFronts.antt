@@ -5,7 +5,7 @@ use Rattle.std.proofs.Common.{add-zero, zero-add}
 use Rattle.std.proofs.lemmas.Bool.{cond-false, cases_eq, ne_eqb}
 use Rattle.std.proofs.lemmas.List.Sums.{fold-append}
 use Rattle.std.proofs.lemmas.Option.{same_Some, none-some}
-use Rattle.news_terms.specs.Fronts.{HasOwnNumbers, IsAmongBuffers}
+use Rattle.news_terms.specs.Fronts.{IsAmongBuffers}
 use Rattle.news_terms.specs.Places.{Buffer, Group, Place, next_place, with_extent, extents_after}
 use Rattle.news_terms.specs.Places.{extents, front_past, front_after, on_line}
 use Rattle.news_terms.proofs.Extents.{extents_after_push}
@@ -170,12 +170,3 @@ front_elsewhere w σ g size group place buffer there next other =
     same_Some other_place place
     (sym other_next ∙ ap (λ x. next_place x (σ.begun g) size) one_group ∙ next) in
     other (ap (λ (p : Place). p.buffer.number) (sym one_place) ∙ e))
-
--- the numbers of a group's buffers are its own
-pub own_numbers : (w : Terms) → IsSound w → (g : ℕ) (group : Group)
-    → slice_get w.groups g ≡ Some group → HasOwnNumbers group
-own_numbers w sound g group there = record {
-  own = λ i j a b at_i at_j same.
-      (sound.once g g i j a b (record { group = group; is_group = there; is_buffer = at_i })
-      (record { group = group; is_group = there; is_buffer = at_j }) same).1;
-}

@@ -17,8 +17,9 @@ use Rattle.relay_model.specs.State.{State, Job, put_at}
 use Rattle.relay_model.specs.Terms.{Terms}
 use Rattle.relay_model.specs.Writers.{Begins, job_size}
 use Rattle.relay_facts.specs.Sound.{IsBufferAt, IsSound}
+use Rattle.relay_facts.proofs.BufferCount.{own_numbers}
 use Rattle.relay_facts.proofs.Puts.{put_at_here}
-use Rattle.relay_laws.proofs.GroupFronts.{front_in_group, front_elsewhere, own_numbers}
+use Rattle.relay_laws.proofs.GroupFronts.{front_in_group, front_elsewhere}
 use Rattle.relay_laws.proofs.Moves.{Moves, SameStore}
 use Rattle.relay_laws.proofs.Moves as moves
 use Rattle.relay_laws.proofs.NamedBuffers.{Named, named_number, named_in_group}

@@ -9,6 +9,7 @@ use Rattle.relay_model.specs.Awaited.{IsAwaited}
 use Rattle.relay_model.specs.Claims.{Accepted, Claim, Unknown, Offered, Storing, Stored, Refused}
 use Rattle.relay_model.specs.Claims.{Stage, Waiting, Begun, Whole}
 use Rattle.relay_model.specs.Claims as claims
+use Rattle.relay_model.specs.Counted.{IsCounted}
 use Rattle.relay_model.specs.Run.{is_taken}
 use Rattle.relay_model.specs.State.{State, Session, Kept, Job}
 use Rattle.relay_model.specs.State as phases
@@ -138,3 +139,4 @@ pub record IsWell (w : Terms) (x : World) : Type 0 where
   pub placed : IsPlaced w x
   pub sized : IsSized w x.state
   pub awaited : IsAwaited x
+  pub counted : IsCounted w x

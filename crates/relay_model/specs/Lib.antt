@@ -1,6 +1,7 @@
 pub mod Asks
 pub mod Awaited
 pub mod Claims
+pub mod Counted
 pub mod Fetches
 pub mod Hears
 pub mod Invariants
