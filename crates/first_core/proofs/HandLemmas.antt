@@ -24,7 +24,7 @@ use Rattle.first_core.specs.declared.system.System.{System}
 use Rattle.relay_model.specs.Claims.{Claim, after_release}
 use Rattle.first_model.specs.Lines.{with_offers}
 use Rattle.first_model.specs.State as model
-use Rattle.relay_model.specs.State.{put_id, put_at}
+use Rattle.relay_model.specs.State.{put_at}
 use Rattle.first_model.specs.Terms.{Terms}
 use Rattle.first_model.specs.Turns.{pushed, push_by, slot_does, answer_does, release_does, untold}
 use Rattle.first_model.specs.World.{World, Next, Sent, Quiet, Ended, with_session, with_claim}

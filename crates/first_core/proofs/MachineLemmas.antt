@@ -4,8 +4,7 @@ use Rattle.news_terms.specs.Blocks.{NextBlock, Whole, Oversize, Unfinished}
 use Rattle.news_terms.specs.Command.{Command, AskCapabilities, AskHelp, AskDate, Quit, ModeStream}
 use Rattle.news_terms.specs.Command.{ModeReader, Check, Ihave, TakeThis, Fetch, NeedsGroup}
 use Rattle.news_terms.specs.Command.{TakeQueue, FetchToken, WholeText, Header, BodyLines}
-use Rattle.news_terms.specs.Command.{OverviewLine, Presence, CommandFault, Syntax, command_among}
-use Rattle.news_terms.specs.Command.{is_served}
+use Rattle.news_terms.specs.Command.{OverviewLine, Presence, CommandFault, Syntax, command_of}
 use Rattle.news_terms.specs.Command as commands
 use Rattle.news_terms.specs.Lines.{NextLine, Cut, TooLong, Incomplete, next_line}
 use Rattle.first_model.specs.Arrivals.{judged_does, block_does}
@@ -52,7 +51,7 @@ line_done w x s session after now (Err Syntax) = refl
 ready_done : (w : Terms) (x : World) (s : ℕ) (session : Session) (now : ℕ) (next : NextLine)
     → ready_does w x s session next ≡ done w x s session now (due_where_ready session next)
 ready_done w x s session now (Cut line rest) =
-    line_done w x s session (with_unread session rest) now (command_among is_served line)
+    line_done w x s session (with_unread session rest) now (command_of line)
 ready_done w x s session now TooLong = refl
 ready_done w x s session now Incomplete = refl
 

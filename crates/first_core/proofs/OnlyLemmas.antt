@@ -1,11 +1,11 @@
 -- At most one id is being stored: what each change of a claim does to that.
-use Rattle.std.proofs.Common.{◌≡◌, ℕ, Bool, true, false, cond, eqb, ◌||◌, List, Option, None, Some}
+use Rattle.std.proofs.Common.{◌≡◌, ℕ, Bool, true, false, cond, eqb, List, Option, None, Some}
 use Rattle.std.proofs.Common.{refl, sym, ap, ◌∙◌}
 use Rattle.std.specs.Prelude.{bytes_eq}
 use Rattle.std.proofs.lemmas.Slice.Eq.{bytes_eq-Decides}
 use Rattle.first_core.specs.Agreement.{OnlyStoring}
 use Rattle.relay_model.specs.Claims.{Accepted, Claim, Unknown, Offered, Storing, Stored, Refused}
-use Rattle.relay_model.specs.Claims.{Waiting, TakeAnswer, Mine, Held, Had, after_offer}
+use Rattle.relay_model.specs.Claims.{TakeAnswer, Mine, Held, Had, after_offer}
 use Rattle.relay_model.specs.Claims.{after_refuse, after_release, take_answer, after_take}
 use Rattle.relay_model.specs.Claims.{is_storing}
 use Rattle.relay_model.specs.State.{put_id}

@@ -7,7 +7,7 @@ use Rattle.std.proofs.lemmas.Bool.Decides.{nat_tests}
 use Rattle.std.specs.declared.alloc.Global.{Global}
 use Rattle.news_terms.specs.Blocks.{next_block}
 use Rattle.news_terms.specs.Blocks as blocks
-use Rattle.news_terms.specs.Command.{command_among, is_served}
+use Rattle.news_terms.specs.Command.{command_of}
 use Rattle.news_terms.specs.Lines.{next_line, Cut, TooLong, Incomplete}
 use Rattle.news_terms.specs.Places as places
 use Rattle.news_terms.specs.Reply.{LineTooLong, SyntaxError}
@@ -55,11 +55,11 @@ stands_offers w s m hand offers same stands = record {
 ready_due : (w : Terms) (m : model.Session) (hand : Option Job) (now : ℕ) (line rest : List ℕ)
     → m.phase ≡ model.Ready → next_line m.unread ≡ Cut line rest
     → due w m hand now ≡ due_of_line (in_phase (with_unread m rest) model.Ready)
-    (command_among is_served line)
+    (command_of line)
 ready_due w m hand now line rest ready cut =
     ap (λ (p : model.Phase). due_by w m hand now p) ready
     ∙ ap (due_where_ready m) cut
-    ∙ ap (λ (after : model.Session). due_of_line after (command_among is_served line))
+    ∙ ap (λ (after : model.Session). due_of_line after (command_of line))
     (phase_same (with_unread m rest) model.Ready ready)
 
 -- a plan of a line is what is due where that line was cut
@@ -122,7 +122,7 @@ pub cut_line_planned : (w : Terms) (s : Session) (m : model.Session) (hand : Opt
     → Stands w s m hand → s.phase ≡ phase.Ready → s.line ≡ Some line
     → vec_len s.offers + 1 ≤ vec_capacity s.offers
     → ((after : model.Session) → IsLinePlan after planned
-    (due_of_line after (command_among is_served line.items)))
+    (due_of_line after (command_of line.items)))
     → IsPlan w s m hand planned (due w m hand now)
 cut_line_planned w s m hand now line planned stands ready cut room asks =
     let at = ready_phase w s m hand stands ready in

@@ -1,5 +1,5 @@
 -- Turns of a session: how the core agrees with the state after each of them.
-use Rattle.std.proofs.Common.{◌≡◌, ℕ, List, [], ◌∷◌, Bool, true, false, cond, eqb, ◌||◌, Option}
+use Rattle.std.proofs.Common.{◌≡◌, ℕ, List, [], ◌∷◌, Bool, true, false, cond, eqb, Option}
 use Rattle.std.proofs.Common.{None, Some, refl, sym, ap, ◌∙◌, subst, arith}
 use Rattle.std.specs.Prelude.{nat_eq, is_some, option_copied}
 use Rattle.std.proofs.lemmas.Bool.Decides.{nat_tests}
@@ -28,7 +28,7 @@ use Rattle.first_core.specs.declared.session.Session.{Session}
 use Rattle.first_core.specs.declared.system.System.{System}
 use Rattle.relay_model.specs.Claims.{Accepted, Claim, Unknown, Offered, Storing, Stored, Refused}
 use Rattle.relay_model.specs.Claims.{Waiting, OfferAnswer, Wanted, Later, Seen, TakeAnswer, Mine}
-use Rattle.relay_model.specs.Claims.{Held, offer_answer, after_offer, after_refuse, look_answer}
+use Rattle.relay_model.specs.Claims.{offer_answer, after_offer, after_refuse, look_answer}
 use Rattle.relay_model.specs.Claims.{take_answer, after_take}
 use Rattle.first_model.specs.Arrivals.{taken_does, with_job}
 use Rattle.first_model.specs.Verdict.{accepted_text}

@@ -21,7 +21,7 @@ use Rattle.first_core.specs.declared.session.Phase.{Phase}
 use Rattle.first_core.specs.declared.session.Phase.TheVariants as phase
 use Rattle.first_core.specs.declared.session.Plan.{Plan}
 use Rattle.first_core.specs.declared.system.System.{System}
-use Rattle.relay_model.specs.Claims.{Claim, Unknown, Storing, Stored, Waiting, Whole, is_storing}
+use Rattle.relay_model.specs.Claims.{Claim, Storing, Waiting, Whole, is_storing}
 use Rattle.relay_model.specs.Claims.{look_answer}
 use Rattle.first_model.specs.Fetches.{fetched}
 use Rattle.news_terms.specs.Token as tokens

@@ -6,8 +6,7 @@ use Rattle.news_terms.specs.Blocks.{NextBlock, Whole, Oversize, Unfinished, next
 use Rattle.news_terms.specs.Command.{Command, AskCapabilities, AskHelp, AskDate, Quit, ModeStream}
 use Rattle.news_terms.specs.Command.{ModeReader, Check, Ihave, TakeThis, Fetch, NeedsGroup}
 use Rattle.news_terms.specs.Command.{TakeQueue, FetchToken, WholeText, Header, BodyLines}
-use Rattle.news_terms.specs.Command.{OverviewLine, Presence, CommandFault, Syntax, command_among}
-use Rattle.news_terms.specs.Command.{is_served}
+use Rattle.news_terms.specs.Command.{OverviewLine, Presence, CommandFault, Syntax, command_of}
 use Rattle.news_terms.specs.Command as commands
 use Rattle.news_terms.specs.Lines.{NextLine, Cut, TooLong, Incomplete, next_line}
 use Rattle.news_terms.specs.Reply.{Reply, Bye, NoGroup, UnknownCommand, SyntaxError, LineTooLong}
@@ -66,7 +65,7 @@ due_of_line session (Err Syntax) = Says SyntaxError session
 -- where a line is due
 abbrev pub due_where_ready : Session → NextLine → Due
 due_where_ready session (Cut line rest) =
-    due_of_line (with_unread session rest) (command_among is_served line)
+    due_of_line (with_unread session rest) (command_of line)
 due_where_ready session TooLong = Leaves LineTooLong session
 due_where_ready session Incomplete = Rests
 

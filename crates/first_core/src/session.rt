@@ -3,10 +3,11 @@
 //! shared, and both depend on the unread octets, the moment and the answers alone.
 ghost use Rattle.std.specs.Prelude.{◌≡◌, ◌+◌, ◌≤◌, ◌++◌, ℕ, List, [], ◌∷◌, false, true, Option};
 ghost use Rattle.std.specs.Prelude.{Some, None, IfOk, IfSome, OnOk, OnErr, vec_len, vec_capacity};
-ghost use Rattle.news_terms.specs.Command.{command_among, is_served};
-ghost use Rattle.news_terms.specs.Reply.{reply_text};
-ghost use Rattle.nntp_text.specs.Reply.{reply_view};
-ghost use Rattle.first_core.specs.Machine.{due_of_line};
+ghost use Rattle.news_terms.specs.Command.{command_of};
+ghost use Rattle.news_terms.specs.Reply.{UnknownCommand, reply_text};
+ghost use Rattle.nntp_text.specs.Command.{command_view};
+ghost use Rattle.nntp_text.specs.Reply.{reply_view, room_of};
+ghost use Rattle.first_core.specs.Machine.{due_of_command, due_of_line, Says};
 ghost use Rattle.first_core.specs.Config.{terms_of};
 ghost use Rattle.first_core.specs.Session.{IsRoom, IsLinePlan, IsBlockPlan, is_acceptable};
 ghost use Rattle.first_core.specs.Session.{is_block_acceptable, Stands, StandsAsBefore, Plans};
@@ -23,7 +24,7 @@ use crate::job::{Job, Outcome};
 use crate::store::size_of;
 use id_history::Offer;
 use line_words::Octets;
-use nntp_text::{CmdError, Command, MsgId, REPLY_ROOM, Reply, put_reply};
+use nntp_text::{CmdError, Command, MsgId, Part, REPLY_ROOM, Reply, put_reply};
 use std::alloc::{AllocError, Global};
 use std::mem;
 use stream_cut::{Block, CutError, Cutter};
@@ -99,7 +100,8 @@ fn reply_room(alloc: Global) -> Result<Vec<u8>, AllocError>
 
 /// A reply, in the room that was made for it.
 pub(crate) fn replied(mut room: Vec<u8>, reply: &Reply) -> Vec<u8>
-    requires { IsRoom room }
+    requires room { IsRoom room }
+    requires short { room_of reply.now ≡ REPLY_ROOM }
     ensures { result.items ≡ reply_text (reply_view reply.now) }
 {
     put_reply(&mut room, reply);
@@ -148,18 +150,49 @@ fn plan_command(alloc: Global, line: &[u8], room: Vec<u8>) -> Result<Plan, Alloc
     requires { IsRoom room }
     ensures { IfOk result
         (λ plan. (m : model.Session)
-        → IsLinePlan m plan (due_of_line m (command_among is_served line.now))) }
+        → IsLinePlan m plan (due_of_line m (command_of line.now))) }
 {
     match Command::parse(alloc, line) {
-        Ok(Command::Check(id)) => Ok(Plan::Offer(id, room)),
-        Ok(Command::TakeThis(id)) => Ok(Plan::Owe(id)),
-        Ok(Command::Stat(id)) => Ok(Plan::Look(id, room)),
-        Ok(Command::NeedsGroup) => Ok(Plan::Say(replied(room, &Reply::NoGroup))),
-        Ok(Command::Quit) => Ok(Plan::Leave(replied(room, &Reply::Bye))),
-        Err(CmdError::Unknown) => Ok(Plan::Say(replied(room, &Reply::UnknownCommand))),
+        Ok(command) => Ok(plan_asked(command, room)),
+        Err(CmdError::Unknown) => Ok(unknown(room)),
         Err(CmdError::Syntax) => Ok(Plan::Say(replied(room, &Reply::SyntaxError))),
         Err(CmdError::Memory) => Err(AllocError),
     }
+}
+
+/// What a command asks: the step that is due. Those that aren't served yet are unknown ones.
+fn plan_asked(command: Command<'_>, room: Vec<u8>) -> Plan
+    requires { IsRoom room }
+    ensures { (m : model.Session)
+        → IsLinePlan m result (due_of_command m (command_view command.entry)) }
+{
+    match command {
+        Command::Check(id) => Plan::Offer(id, room),
+        Command::TakeThis(id) => Plan::Owe(id),
+        Command::Fetch(Part::Presence, id) => Plan::Look(id, room),
+        Command::NeedsGroup => Plan::Say(replied(room, &Reply::NoGroup)),
+        Command::Quit => Plan::Leave(replied(room, &Reply::Bye)),
+        Command::Fetch(Part::WholeText, _) => unknown(room),
+        Command::Fetch(Part::Header, _) => unknown(room),
+        Command::Fetch(Part::BodyLines, _) => unknown(room),
+        Command::Fetch(Part::OverviewLine, _) => unknown(room),
+        Command::AskCapabilities => unknown(room),
+        Command::AskHelp => unknown(room),
+        Command::AskDate => unknown(room),
+        Command::ModeStream => unknown(room),
+        Command::ModeReader => unknown(room),
+        Command::Ihave(_) => unknown(room),
+        Command::TakeQueue(_) => unknown(room),
+        Command::FetchToken(_) => unknown(room),
+    }
+}
+
+/// That the command is unknown.
+fn unknown(room: Vec<u8>) -> Plan
+    requires { IsRoom room }
+    ensures { (m : model.Session) → IsLinePlan m result (Says UnknownCommand m) }
+{
+    Plan::Say(replied(room, &Reply::UnknownCommand))
 }
 
 /// Whether a text is accepted as an article: it isn't empty,

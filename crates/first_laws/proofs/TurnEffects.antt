@@ -7,8 +7,7 @@ use Rattle.news_terms.specs.Blocks.{NextBlock, Whole, Oversize, Unfinished, next
 use Rattle.news_terms.specs.Command.{Command, AskCapabilities, AskHelp, AskDate, Quit, ModeStream}
 use Rattle.news_terms.specs.Command.{ModeReader, Check, Ihave, TakeThis, Fetch, NeedsGroup}
 use Rattle.news_terms.specs.Command.{TakeQueue, FetchToken, WholeText, Header, BodyLines}
-use Rattle.news_terms.specs.Command.{OverviewLine, Presence, CommandFault, Syntax, command_among}
-use Rattle.news_terms.specs.Command.{is_served}
+use Rattle.news_terms.specs.Command.{OverviewLine, Presence, CommandFault, Syntax, command_of}
 use Rattle.news_terms.specs.Command as commands
 use Rattle.news_terms.specs.Lines.{NextLine, Cut, TooLong, Incomplete, next_line}
 use Rattle.news_terms.specs.Token.{Token}
@@ -154,7 +153,7 @@ line_effects w x s was rest (Err Syntax) there = reads_on w x s was rest there
 ready_effects : (w : Terms) (x : World) (s : ℕ) (was : Session) (line : NextLine)
     → x.state.session s ≡ Some was → Has_effects w x (ready_does w x s was line)
 ready_effects w x s was (Cut line rest) there =
-    line_effects w x s was rest (command_among is_served line) there
+    line_effects w x s was rest (command_of line) there
 ready_effects w x s was TooLong there =
     goes_on_effects w x s was (in_phase was Leaving) there refl
     (holds_nothing was.phase Leaving refl)

@@ -1,5 +1,5 @@
 -- The rules that stand today where the relay is to have others. More such rules are in Pace, in
--- Verdict, in look_does and the unserved commands of Lines, and in is_served of news_terms.
+-- Verdict, and in look_does and the unserved commands of Lines.
 use Rattle.std.specs.Prelude.{ℕ, Bool, is_some, Option, None}
 
 -- Open offers have no limit yet.

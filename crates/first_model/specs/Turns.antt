@@ -3,7 +3,7 @@
 use Rattle.std.specs.Prelude.{ℕ, ◌++◌, nat_lt, Bool, true, false, List, [], ◌∷◌, length, Option}
 use Rattle.std.specs.Prelude.{None, Some}
 use Rattle.news_terms.specs.Blocks.{NextBlock, Whole, Oversize, Unfinished, next_block}
-use Rattle.news_terms.specs.Command.{command_among, is_served}
+use Rattle.news_terms.specs.Command.{command_of}
 use Rattle.news_terms.specs.Lines.{NextLine, Cut, TooLong, Incomplete, next_line}
 use Rattle.news_terms.specs.Reply.{Kept, NotStored, IhaveKept, IhaveLater, LineTooLong}
 use Rattle.first_model.specs.Arrivals.{block_does, take_does}
@@ -23,7 +23,7 @@ with_unread session unread = record session { unread = unread }
 -- a session that is ready reads a line; it rests where none is whole
 abbrev pub ready_does : Terms → World → ℕ → Session → NextLine → Next
 ready_does w x s session (Cut line rest) =
-    line_does w x s (with_unread session rest) (command_among is_served line)
+    line_does w x s (with_unread session rest) (command_of line)
 ready_does w x s session TooLong = ends x s session LineTooLong
 ready_does w x s session Incomplete = rests x
 

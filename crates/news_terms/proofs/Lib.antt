@@ -22,6 +22,7 @@ pub mod RestLemmas
 pub mod RunPlaces
 pub mod SequentialFronts
 pub mod StuffLemmas
+pub mod StuffRoom
 pub mod UnfoldedLines
 pub mod UpdatedArticles
 pub mod UpdatedTexts

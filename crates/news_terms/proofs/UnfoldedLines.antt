@@ -1,7 +1,6 @@
 -- Of a content of an article no CR and no LF is left once it is unfolded.
 use Rattle.std.proofs.Common.{◌≡◌, ◌≢◌, ℕ, List, [], ◌∷◌, ◌++◌, refl, subst, inl, inr, arith}
-use Rattle.std.specs.Prelude.{◌==◌, ◌&&◌, IsTrue, IsFalse, flat_map}
-use Rattle.std.specs.Bool.{beq}
+use Rattle.std.specs.Prelude.{◌==◌, IsTrue, IsFalse, flat_map}
 use Rattle.std.specs.List.{list_any, AllByRecursion}
 use Rattle.std.specs.Str.{byte}
 use Rattle.std.proofs.lemmas.Bool.{and_parts, or_parts, cases_Bool, cases_eq, eq-eqb, ne_eqb}

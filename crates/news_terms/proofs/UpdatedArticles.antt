@@ -2,7 +2,7 @@
 use Rattle.std.proofs.Common.{◌≡◌, ℕ, not, ◌&&◌, List, [], ◌∷◌}
 use Rattle.std.proofs.Common.{◌++◌, map, reverse, length, codes, refl, sym, ap, subst, ◌∙◌, inl}
 use Rattle.std.proofs.Common.{inr, append_assoc, arith}
-use Rattle.std.specs.Prelude.{◌==◌, IsTrue, IsFalse, filter, flat_map, unwrap_or, slice_get}
+use Rattle.std.specs.Prelude.{◌==◌, IsTrue, IsFalse, flat_map, unwrap_or, slice_get}
 use Rattle.std.specs.List.{list_all, list_any, AllByRecursion}
 use Rattle.std.specs.Char.{is_ascii_graphic}
 use Rattle.std.specs.Str.{byte, str_eq_ignore_ascii_case}

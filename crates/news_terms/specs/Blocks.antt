@@ -1,5 +1,6 @@
 -- Blocks of lines and dot-stuffing (RFC 3977 section 3.1.1; docs/FORMATS.md, Blocks of text).
-use Rattle.std.specs.Prelude.{◌≡◌, ℕ, zero, suc, ◌==◌, nat_lt, false, List, [], ◌∷◌, ◌++◌, length}
+use Rattle.std.specs.Prelude.{◌≡◌, ℕ, zero, suc, ◌+◌, ◌/◌, ◌==◌, nat_lt, false, List, [], ◌∷◌, ◌++◌}
+use Rattle.std.specs.Prelude.{length}
 use Rattle.std.specs.Prelude.{bytes_eq, map, option_map, option_and_then, unwrap_or, Option, None}
 use Rattle.std.specs.Prelude.{Some, if◌then◌else◌}
 use Rattle.news_terms.specs.Lines.{crlf, first_line, IsLine, spelled}
@@ -85,3 +86,9 @@ text_lines text = text_lines_within (length text) text
 -- the block that sends a text: each line stuffed, then the lone dot
 abbrev pub stuffed : List ℕ → List ℕ
 stuffed text = spelled (map stuffed_line (text_lines text)) ++ dot ++ crlf
+
+-- the most octets of the block that sends a text of so many octets: a line that begins with a dot
+-- has three octets at least with its CRLF and gains one; six more end the last line, where no CRLF
+-- does, and close the block
+abbrev pub stuffed_room : ℕ → ℕ
+stuffed_room octets = octets + octets / 3 + 6

@@ -1,9 +1,10 @@
 -- Command lines (RFC 3977 section 3.1, RFC 4644; docs/FORMATS.md, Command lines). A line is taken
 -- without its CRLF.
-use Rattle.std.specs.Prelude.{ℕ, ◌+◌, ◌-◌, ◌*◌, ◌==◌, nat_le, ◌&&◌, ◌||◌, Bool, true, false}
-use Rattle.std.specs.Prelude.{List, [], ◌∷◌, length, fold, codes, Option, None, Some, is_none}
+use Rattle.std.specs.Prelude.{ℕ, ◌==◌, nat_le, ◌&&◌, ◌||◌, Bool, false}
+use Rattle.std.specs.Prelude.{List, [], ◌∷◌, length, codes, Option, None, Some, is_none}
 use Rattle.std.specs.Prelude.{Result, Ok, Err, if◌then◌else◌}
 use Rattle.std.specs.Str.{str_eq_ignore_ascii_case, all_ascii_digits}
+use Rattle.std.specs.Str.Parse.{digits_value}
 use Rattle.std.specs.List.{slice_split}
 use Rattle.news_terms.specs.MessageId.{id_fault}
 use Rattle.news_terms.specs.Lines.{is_white, words_between}
@@ -107,10 +108,6 @@ is_range_of (low ∷ high ∷ more ∷ mores) = false
 abbrev pub is_range : List ℕ → Bool
 is_range word = is_range_of (slice_split (λ c. c == 45) word)
 
--- what decimal digits stand for
-abbrev pub number_of : List ℕ → ℕ
-number_of digits = fold (λ n c. 10 * n + (c - 48)) 0 digits
-
 -- a command that takes no word
 abbrev pub alone : Command → List (List ℕ) → Result Command CommandFault
 alone command [] = Ok command
@@ -154,9 +151,9 @@ fetch_with part is_numeric (word ∷ another ∷ more) = Err Syntax
 abbrev pub xtake_with : List (List ℕ) → Result Command CommandFault
 xtake_with [] = Err Syntax
 xtake_with (word ∷ []) =
-    if nat_le 1 (length word) && all_ascii_digits word && nat_le 1 (number_of word)
-    && nat_le (number_of word) 1000
-    then Ok (TakeQueue (number_of word)) else Err Syntax
+    if nat_le 1 (length word) && all_ascii_digits word && nat_le 1 (digits_value 10 word)
+    && nat_le (digits_value 10 word) 1000
+    then Ok (TakeQueue (digits_value 10 word)) else Err Syntax
 xtake_with (word ∷ another ∷ more) = Err Syntax
 
 -- XFETCH: one word
@@ -183,40 +180,16 @@ command_with OVER after = fetch_with OverviewLine is_range after
 command_with XTAKE after = xtake_with after
 command_with XFETCH after = xfetch_with after
 
--- by the keyword, where it is one of those that are known
-abbrev pub command_by : (Keyword → Bool) → Option Keyword → List (List ℕ)
-    → Result Command CommandFault
-command_by known None after = Err Unknown
-command_by known (Some keyword) after =
-    if known keyword then command_with keyword after else Err Unknown
+-- by the keyword, where the word spells one
+abbrev pub command_by : Option Keyword → List (List ℕ) → Result Command CommandFault
+command_by None after = Err Unknown
+command_by (Some keyword) after = command_with keyword after
 
 -- by the words: the first is the keyword
-abbrev pub command_of_words : (Keyword → Bool) → List (List ℕ) → Result Command CommandFault
-command_of_words known [] = Err Unknown
-command_of_words known (word ∷ after) = command_by known (keyword_of word) after
-
--- what a line asks, where these keywords are known
-abbrev pub command_among : (Keyword → Bool) → List ℕ → Result Command CommandFault
-command_among known line = command_of_words known (words line)
+abbrev pub command_of_words : List (List ℕ) → Result Command CommandFault
+command_of_words [] = Err Unknown
+command_of_words (word ∷ after) = command_by (keyword_of word) after
 
 -- what a line asks
 abbrev pub command_of : List ℕ → Result Command CommandFault
-command_of line = command_among (λ keyword. true) line
-
--- the keywords that are served today: CHECK, TAKETHIS, STAT and QUIT
-abbrev pub is_served : Keyword → Bool
-is_served CHECK = true
-is_served TAKETHIS = true
-is_served STAT = true
-is_served QUIT = true
-is_served CAPABILITIES = false
-is_served HELP = false
-is_served DATE = false
-is_served MODE = false
-is_served IHAVE = false
-is_served ARTICLE = false
-is_served HEAD = false
-is_served BODY = false
-is_served OVER = false
-is_served XTAKE = false
-is_served XFETCH = false
+command_of line = command_of_words (words line)

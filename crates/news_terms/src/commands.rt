@@ -1,6 +1,6 @@
 //! Worked examples of command lines: each line of the table once, and each way to miss it.
 ghost use Rattle.std.specs.Prelude.{◌≡◌, codes, Some, None, Ok, Err, []};
-ghost use Rattle.news_terms.specs.Command.{command_of, command_among, is_served};
+ghost use Rattle.news_terms.specs.Command.{command_of};
 ghost use Rattle.news_terms.specs.Command as commands;
 
 /// Words are separated by SP and TAB, keywords are read without regard to case.
@@ -122,30 +122,4 @@ pub fn feed_examples()
     ensures xfetch { command_of (codes "XFETCH x") ≡ Ok (commands.FetchToken (codes "x")) }
     ensures xfetch_alone { command_of (codes "XFETCH") ≡ Err commands.Syntax }
     ensures xfetch_two { command_of (codes "XFETCH x y") ≡ Err commands.Syntax }
-{}
-
-/// The four keywords that are served today.
-pub fn served_examples()
-    ensures check { command_among is_served (codes "CHECK <a@x>")
-        ≡ Ok (commands.Check (codes "<a@x>")) }
-    ensures takethis { command_among is_served (codes "TAKETHIS")
-        ≡ Ok (commands.TakeThis None) }
-    ensures stat { command_among is_served (codes "STAT") ≡ Ok commands.NeedsGroup }
-    ensures quit { command_among is_served (codes "QUIT") ≡ Ok commands.Quit }
-{}
-
-/// Today every other keyword is unknown.
-pub fn unserved_examples()
-    ensures capabilities { command_among is_served (codes "CAPABILITIES")
-        ≡ Err commands.Unknown }
-    ensures help { command_among is_served (codes "HELP") ≡ Err commands.Unknown }
-    ensures date { command_among is_served (codes "DATE") ≡ Err commands.Unknown }
-    ensures mode { command_among is_served (codes "MODE STREAM") ≡ Err commands.Unknown }
-    ensures ihave { command_among is_served (codes "IHAVE <a@x>") ≡ Err commands.Unknown }
-    ensures article { command_among is_served (codes "ARTICLE") ≡ Err commands.Unknown }
-    ensures head { command_among is_served (codes "HEAD") ≡ Err commands.Unknown }
-    ensures body { command_among is_served (codes "BODY") ≡ Err commands.Unknown }
-    ensures over { command_among is_served (codes "OVER") ≡ Err commands.Unknown }
-    ensures xtake { command_among is_served (codes "XTAKE 1") ≡ Err commands.Unknown }
-    ensures xfetch { command_among is_served (codes "XFETCH x") ≡ Err commands.Unknown }
 {}

@@ -1,11 +1,11 @@
 //! Laws and worked examples of lines and blocks.
-ghost use Rattle.std.specs.Prelude.{◌≡◌, ◌↔◌, ℕ, ◌+◌, ◌++◌, List, [], ◌∷◌, replicate, length};
-ghost use Rattle.std.specs.Prelude.{codes, Some, None};
+ghost use Rattle.std.specs.Prelude.{◌≡◌, ◌↔◌, ℕ, ◌+◌, ◌≤◌, ◌++◌, List, [], ◌∷◌, replicate};
+ghost use Rattle.std.specs.Prelude.{length, codes, Some, None};
 ghost use Rattle.news_terms.specs.Lines.{first_line, next_line, crlf, spelled};
 ghost use Rattle.news_terms.specs.Lines.{CutsLine, IsLine, AreLines};
 ghost use Rattle.news_terms.specs.Lines as lines;
 ghost use Rattle.news_terms.specs.Blocks.{first_block, next_block, stuffed, unstuffed, dot};
-ghost use Rattle.news_terms.specs.Blocks.{CutsBlock};
+ghost use Rattle.news_terms.specs.Blocks.{CutsBlock, stuffed_room};
 ghost use Rattle.news_terms.specs.Blocks as blocks;
 
 /// The first line is the shortest that the stream begins with, and there is none only where no line
@@ -62,6 +62,11 @@ pub fn stuffing_law()
     ensures { (lines : List (List ℕ)) (rest : List ℕ) → AreLines lines → (sent : List (List ℕ))
         × (first_block (stuffed (spelled lines) ++ rest) ≡ Some (sent, rest))
         × (unstuffed sent ≡ spelled lines) }
+{}
+
+/// The block that sends a text is at most a third longer than the text, and six octets.
+pub fn stuffed_is_bounded()
+    ensures { (text : List ℕ) → length (stuffed text) ≤ stuffed_room (length text) }
 {}
 
 /// A line ends at the first CRLF; a bare LF or CR ends none.

@@ -7,7 +7,7 @@ ghost use Rattle.news_terms.specs.Dates.{seconds_ahead, prepared_date, date_faul
 ghost use Rattle.news_terms.specs.Dates.{BadDate, Future, TooOld, two_digits, four_digits};
 ghost use Rattle.news_terms.specs.Dates.{fourteen_digits};
 ghost use Rattle.news_terms.specs.Stamps.{IsStamp};
-ghost use Rattle.news_terms.specs.Command.{number_of};
+ghost use Rattle.std.specs.Str.Parse.{digits_value};
 
 /// A date has no fault from the cutoff before now to a day after it.
 pub fn window()
@@ -58,8 +58,8 @@ pub fn window_examples()
 
 /// The digits of a number stand for it.
 pub fn digits_stand_for_number()
-    ensures two { (n : ℕ) → n < 100 → number_of (two_digits n) ≡ n }
-    ensures four { (n : ℕ) → n < 10000 → number_of (four_digits n) ≡ n }
+    ensures two { (n : ℕ) → n < 100 → digits_value 10 (two_digits n) ≡ n }
+    ensures four { (n : ℕ) → n < 10000 → digits_value 10 (four_digits n) ≡ n }
 {}
 
 /// Fourteen digits.

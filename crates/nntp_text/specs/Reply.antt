@@ -1,33 +1,146 @@
--- What a session says, as the definitions have it (docs/FORMATS.md, Replies).
-use Rattle.std.specs.Prelude.{ℕ, List, ◌++◌, Option, None, Some}
-use Rattle.std.specs.Borrow.{Bor}
-use Rattle.news_terms.specs.Reply.{line_of}
+-- What a session says, as the definitions have it (docs/FORMATS.md, Replies), and room for it.
+use Rattle.std.specs.Prelude.{ℕ, ◌+◌, ◌*◌, List, ◌++◌, length, map, flat_map, codes, decimal}
+use Rattle.news_terms.specs.Blocks.{stuffed, stuffed_room}
+use Rattle.news_terms.specs.Reply.{line_of, queue_line}
 use Rattle.news_terms.specs.Reply as terms
+use Rattle.news_terms.specs.Token as token_terms
+use Rattle.news_terms.specs.Token.{token_text}
+use Rattle.cyc_token.specs.Token.{token_view}
+use Rattle.cyc_token.specs.declared.Token.{Token}
 use Rattle.nntp_text.specs.declared.reply.Reply.{Reply}
-use Rattle.nntp_text.specs.declared.reply.Reply.TheVariants.{Greeting, Bye, SendIt, AskLater}
-use Rattle.nntp_text.specs.declared.reply.Reply.TheVariants.{NotWanted, Kept, Rejected, NotStored}
-use Rattle.nntp_text.specs.declared.reply.Reply.TheVariants.{Exists, NoArticle, NoGroup}
-use Rattle.nntp_text.specs.declared.reply.Reply.TheVariants.{UnknownCommand, SyntaxError}
-use Rattle.nntp_text.specs.declared.reply.Reply.TheVariants.{LineTooLong}
+use Rattle.nntp_text.specs.declared.reply.Reply.TheVariants as replies
+use Rattle.nntp_text.specs.declared.reply.Named.{Named}
+use Rattle.nntp_text.specs.declared.reply.Named.TheVariants as named
+use Rattle.nntp_text.specs.declared.reply.Rest.{Rest}
+use Rattle.nntp_text.specs.declared.reply.Rest.TheVariants as rests
+use Rattle.nntp_text.specs.declared.reply.Parts.{Parts}
+
+-- an item of a queue as the definitions have it: its serial number and its token
+abbrev pub item_view : ℕ × Token → ℕ × token_terms.Token
+item_view item = (item.0, token_view item.1)
 
 -- a reply as the definitions have it
 abbrev pub reply_view : Reply → terms.Reply
-reply_view Greeting = terms.Greeting
-reply_view Bye = terms.Bye
-reply_view (SendIt id) = terms.SendIt id.now
-reply_view (AskLater id) = terms.AskLater id.now
-reply_view (NotWanted id) = terms.NotWanted id.now
-reply_view (Kept id) = terms.Kept id.now
-reply_view (Rejected id) = terms.Rejected id.now
-reply_view NotStored = terms.NotStored
-reply_view (Exists id) = terms.Exists id.now
-reply_view NoArticle = terms.NoArticle
-reply_view NoGroup = terms.NoGroup
-reply_view UnknownCommand = terms.UnknownCommand
-reply_view SyntaxError = terms.SyntaxError
-reply_view LineTooLong = terms.LineTooLong
+reply_view replies.Greeting = terms.Greeting
+reply_view replies.CapabilityList = terms.CapabilityList
+reply_view replies.HelpText = terms.HelpText
+reply_view (replies.DateIs digits) = terms.DateIs digits
+reply_view replies.Bye = terms.Bye
+reply_view replies.StreamingPermitted = terms.StreamingPermitted
+reply_view replies.PostingProhibited = terms.PostingProhibited
+reply_view (replies.SendIt id) = terms.SendIt id.now
+reply_view (replies.AskLater id) = terms.AskLater id.now
+reply_view (replies.NotWanted id) = terms.NotWanted id.now
+reply_view (replies.Kept id) = terms.Kept id.now
+reply_view (replies.Rejected id) = terms.Rejected id.now
+reply_view replies.NotStored = terms.NotStored
+reply_view replies.IhaveSend = terms.IhaveSend
+reply_view replies.IhaveNotWanted = terms.IhaveNotWanted
+reply_view replies.IhaveLater = terms.IhaveLater
+reply_view replies.IhaveKept = terms.IhaveKept
+reply_view replies.IhaveRejected = terms.IhaveRejected
+reply_view (replies.ArticleFollows id text) = terms.ArticleFollows id.now text.now
+reply_view (replies.HeaderFollows id text) = terms.HeaderFollows id.now text.now
+reply_view (replies.BodyFollows id text) = terms.BodyFollows id.now text.now
+reply_view (replies.Exists id) = terms.Exists id.now
+reply_view (replies.OverviewFollows line) = terms.OverviewFollows line.now
+reply_view replies.NoArticle = terms.NoArticle
+reply_view replies.NoGroup = terms.NoGroup
+reply_view replies.DeviceFault = terms.DeviceFault
+reply_view (replies.QueueFollows missed items) = terms.QueueFollows missed (map item_view items.now)
+reply_view replies.NoFeed = terms.NoFeed
+reply_view (replies.TokenFollows token text) = terms.TokenFollows (token_view token) text.now
+reply_view (replies.TokenGone token) = terms.TokenGone (token_view token)
+reply_view (replies.TokenUnknown token) = terms.TokenUnknown (token_view token)
+reply_view replies.UnknownCommand = terms.UnknownCommand
+reply_view replies.SyntaxError = terms.SyntaxError
+reply_view replies.LineTooLong = terms.LineTooLong
 
--- the octets of a reply of fixed words and, where one follows them, a message-id
-abbrev pub line_with : List ℕ → Option (Bor (List ℕ)) → List ℕ
-line_with words None = line_of words
-line_with words (Some id) = line_of (words ++ id.now)
+-- the most octets of a reply but for what it shows of an article or a queue
+abbrev pub reply_room : ℕ
+reply_room = 258
+
+-- the most octets of a line of a queue: 20 digits, SP, a token of 30 octets, CRLF
+abbrev pub item_room : ℕ
+item_room = 53
+
+-- the most octets of a reply, by the length of what it shows: the block that sends a text, an
+-- overview line, the items of a queue
+abbrev pub room_of : Reply → ℕ
+room_of (replies.ArticleFollows id text) = reply_room + stuffed_room (length text.now)
+room_of (replies.HeaderFollows id text) = reply_room + stuffed_room (length text.now)
+room_of (replies.BodyFollows id text) = reply_room + stuffed_room (length text.now)
+room_of (replies.TokenFollows token text) = reply_room + stuffed_room (length text.now)
+room_of (replies.OverviewFollows line) = reply_room + length line.now
+room_of (replies.QueueFollows missed items) = reply_room + item_room * length items.now
+room_of replies.Greeting = reply_room
+room_of replies.CapabilityList = reply_room
+room_of replies.HelpText = reply_room
+room_of (replies.DateIs digits) = reply_room
+room_of replies.Bye = reply_room
+room_of replies.StreamingPermitted = reply_room
+room_of replies.PostingProhibited = reply_room
+room_of (replies.SendIt id) = reply_room
+room_of (replies.AskLater id) = reply_room
+room_of (replies.NotWanted id) = reply_room
+room_of (replies.Kept id) = reply_room
+room_of (replies.Rejected id) = reply_room
+room_of replies.NotStored = reply_room
+room_of replies.IhaveSend = reply_room
+room_of replies.IhaveNotWanted = reply_room
+room_of replies.IhaveLater = reply_room
+room_of replies.IhaveKept = reply_room
+room_of replies.IhaveRejected = reply_room
+room_of (replies.Exists id) = reply_room
+room_of replies.NoArticle = reply_room
+room_of replies.NoGroup = reply_room
+room_of replies.DeviceFault = reply_room
+room_of replies.NoFeed = reply_room
+room_of (replies.TokenGone token) = reply_room
+room_of (replies.TokenUnknown token) = reply_room
+room_of replies.UnknownCommand = reply_room
+room_of replies.SyntaxError = reply_room
+room_of replies.LineTooLong = reply_room
+
+-- what a first line names, after its words
+abbrev pub named_after : List ℕ → Named → List ℕ
+named_after words named.Nothing = words
+named_after words (named.Id id) = words ++ id.now
+named_after words (named.Token token) = words ++ token_text (token_view token)
+named_after words (named.Gone token) = words ++ token_text (token_view token) ++ codes " gone"
+named_after words (named.Unknown token) =
+    words ++ token_text (token_view token) ++ codes " unknown"
+named_after words (named.Digits digits) = words ++ digits
+
+-- the most octets of what a first line names
+abbrev pub named_room : Named → ℕ
+named_room named.Nothing = 0
+named_room (named.Id id) = 250
+named_room (named.Token token) = 30
+named_room (named.Gone token) = 35
+named_room (named.Unknown token) = 38
+named_room (named.Digits digits) = 14
+
+-- what follows a first line, after it
+abbrev pub rest_after : List ℕ → Rest → List ℕ
+rest_after first rests.Nothing = first
+rest_after first (rests.Text text) = first ++ stuffed text.now
+rest_after first (rests.Line line) = first ++ line_of line.now ++ line_of (codes ".")
+rest_after first (rests.Queue missed items) =
+    first ++ line_of (decimal missed) ++ flat_map queue_line (map item_view items.now)
+    ++ line_of (codes ".")
+
+-- the most octets of what follows a first line
+abbrev pub rest_room : Rest → ℕ
+rest_room rests.Nothing = 0
+rest_room (rests.Text text) = stuffed_room (length text.now)
+rest_room (rests.Line line) = length line.now + 5
+rest_room (rests.Queue missed items) = item_room * length items.now + 25
+
+-- the octets of a reply by its parts
+abbrev pub text_of : Parts → List ℕ
+text_of parts = rest_after (line_of (named_after parts.words.now parts.named)) parts.rest
+
+-- the most octets of a first line
+abbrev pub first_room : Parts → ℕ
+first_room parts = length parts.words.now + named_room parts.named + 2

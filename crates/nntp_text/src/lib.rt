@@ -7,9 +7,10 @@
 
 mod command;
 mod id;
+mod keyword;
 mod reply;
 mod words;
 
-pub use command::{CmdError, Command};
+pub use command::{CmdError, Command, Part};
 pub use id::{IdError, MsgId};
-pub use reply::{REPLY_ROOM, Reply, put_reply, reply_bytes};
+pub use reply::{ITEM_ROOM, REPLY_ROOM, Reply, put_reply, reply_bytes};

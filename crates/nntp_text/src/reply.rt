@@ -1,37 +1,86 @@
-ghost use Rattle.std.specs.Prelude.{◌≡◌, ◌+◌, ◌≤◌, ◌++◌, length, IfOk, MatchOption, vec_len};
-ghost use Rattle.std.specs.Prelude.{vec_capacity};
-ghost use Rattle.news_terms.specs.Reply.{reply_text};
-ghost use Rattle.nntp_text.specs.Reply.{reply_view, line_with};
+//! What a session says, and its octets.
+ghost use Rattle.std.specs.Prelude.{◌≡◌, ◌+◌, ◌*◌, ◌^◌, ◌≤◌, ◌<◌, ◌++◌, length, map, flat_map};
+ghost use Rattle.std.specs.Prelude.{decimal, IfOk, vec_len, vec_capacity};
+ghost use Rattle.cyc_token.specs.Token.{token_view};
+ghost use Rattle.news_terms.specs.Blocks.{stuffed_room};
+ghost use Rattle.news_terms.specs.Reply.{line_of, queue_line, reply_text};
+ghost use Rattle.news_terms.specs.Token.{token_text};
+ghost use Rattle.nntp_text.specs.Reply as terms;
+ghost use Rattle.nntp_text.specs.Reply.{first_room, item_view, named_after, reply_view};
+ghost use Rattle.nntp_text.specs.Reply.{rest_after, room_of, text_of};
 
 use crate::id::MsgId;
+use cyc_token::Token;
+use itoa::Buffer;
 use std::alloc::{AllocError, Global};
+use stream_cut::put_stuffed;
 
 /// What a session says (docs/FORMATS.md, Replies).
 #[derive(Clone, Copy, Debug)]
 pub enum Reply<'a> {
-    /// The first line of a session.
+    /// The first line of a session (RFC 3977 section 5.1).
     Greeting,
-    /// QUIT: the last line of a session.
+    /// CAPABILITIES: what the server can do (RFC 3977 section 5.2).
+    CapabilityList,
+    /// HELP: which commands there are (RFC 3977 section 7.2).
+    HelpText,
+    /// DATE: the moment in UTC, as 14 digits (RFC 3977 section 7.1).
+    DateIs([u8; 14]),
+    /// QUIT: the last line of a session (RFC 3977 section 5.4).
     Bye,
-    /// CHECK: the article is to be sent.
+    /// MODE STREAM (RFC 4644 section 2.3).
+    StreamingPermitted,
+    /// MODE READER (RFC 3977 section 5.3).
+    PostingProhibited,
+    /// CHECK: the article is to be sent (RFC 4644 section 2.4).
     SendIt(&'a MsgId),
     /// CHECK: the peer is to ask again later.
     AskLater(&'a MsgId),
     /// CHECK: the article isn't wanted.
     NotWanted(&'a MsgId),
-    /// TAKETHIS: the article was kept.
+    /// TAKETHIS: the article was kept (RFC 4644 section 2.5).
     Kept(&'a MsgId),
     /// TAKETHIS: the article was refused.
     Rejected(&'a MsgId),
     /// TAKETHIS: the article couldn't be stored; the session ends.
     NotStored,
-    /// STAT: the article is there.
+    /// IHAVE: the article is to be sent (RFC 3977 section 6.3.2).
+    IhaveSend,
+    /// IHAVE: the article isn't wanted.
+    IhaveNotWanted,
+    /// IHAVE: the peer is to try again later.
+    IhaveLater,
+    /// IHAVE: the article was kept.
+    IhaveKept,
+    /// IHAVE: the article was refused.
+    IhaveRejected,
+    /// ARTICLE: the whole text (RFC 3977 section 6.2.1).
+    ArticleFollows(&'a MsgId, &'a [u8]),
+    /// HEAD: the lines of the header (RFC 3977 section 6.2.2).
+    HeaderFollows(&'a MsgId, &'a [u8]),
+    /// BODY: the lines of the body (RFC 3977 section 6.2.3).
+    BodyFollows(&'a MsgId, &'a [u8]),
+    /// STAT: the article is there (RFC 3977 section 6.2.4).
     Exists(&'a MsgId),
+    /// OVER: the overview line (RFC 3977 section 8.3).
+    OverviewFollows(&'a [u8]),
     /// No article of this message-id is there.
     NoArticle,
     /// The command wants a group, and none is selected.
     NoGroup,
-    /// The line is no command that is served.
+    /// The device failed while the article was read.
+    DeviceFault,
+    /// XTAKE: how many tokens were overwritten untaken, and the next ones with their serial numbers.
+    QueueFollows(u64, &'a [(u64, Token)]),
+    /// XTAKE: the peer has no feed.
+    NoFeed,
+    /// XFETCH: the article of a token.
+    TokenFollows(Token, &'a [u8]),
+    /// XFETCH: the article of this token was overwritten.
+    TokenGone(Token),
+    /// XFETCH: no article was stored under this token.
+    TokenUnknown(Token),
+    /// The line is no command.
     UnknownCommand,
     /// The keyword is followed by other words than it takes.
     SyntaxError,
@@ -39,54 +88,303 @@ pub enum Reply<'a> {
     LineTooLong,
 }
 
-/// The most octets that a reply has: `223 0 `, a message-id of 250 octets, and CRLF.
+/// The most octets of a reply but for what it shows of an article or a queue: `223 0 `, a
+/// message-id of 250 octets, and CRLF.
 pub const REPLY_ROOM: usize = 258;
+
+/// The most octets of a line of a queue: a serial number of 20 digits, SP, a token, and CRLF.
+pub const ITEM_ROOM: usize = 53;
+
+/// What the first line of a reply names after its words.
+#[derive(Drop)]
+enum Named<'a> {
+    Nothing,
+    Id(&'a MsgId),
+    Token(Token),
+    Gone(Token),
+    Unknown(Token),
+    Digits([u8; 14]),
+}
+
+/// What follows the first line of a reply.
+#[derive(Drop)]
+enum Rest<'a> {
+    Nothing,
+    /// A text, as a block.
+    Text(&'a [u8]),
+    /// A line and the end.
+    Line(&'a [u8]),
+    /// A number, a line for each item, and the end.
+    Queue(u64, &'a [(u64, Token)]),
+}
+
+/// The parts of a reply.
+#[derive(Drop)]
+struct Parts<'a> {
+    words: &'static [u8],
+    named: Named<'a>,
+    rest: Rest<'a>,
+}
 
 /// The octets of a reply (docs/FORMATS.md, Replies).
 pub fn reply_bytes(alloc: Global, reply: &Reply) -> Result<Vec<u8>, AllocError>
     ensures { IfOk result (λ octets. octets.items ≡ reply_text (reply_view reply.now)) }
 {
-    let mut octets = Vec::with_capacity(alloc, REPLY_ROOM)?;
-    put_reply(&mut octets, reply);
+    let parts = parts_of(reply);
+    let room = rest_room(&parts.rest)?;
+    let mut octets = Vec::with_capacity(alloc, REPLY_ROOM + room)?;
+    put_parts(&mut octets, &parts);
     Ok(octets)
 }
 
-/// Adds a reply where there is room for it, which takes no memory.
+/// Adds a reply where there is room for it: it doesn't fail, whatever memory there is.
 pub fn put_reply(out: &mut Vec<u8>, reply: &Reply)
-    requires { vec_len out.old + REPLY_ROOM ≤ vec_capacity out.old }
+    requires { vec_len out.old + room_of reply.now ≤ vec_capacity out.old }
     ensures items { out.new.items ≡ out.old.items ++ reply_text (reply_view reply.now) }
-    ensures room { length (reply_text (reply_view reply.now)) ≤ REPLY_ROOM }
-    ensures capacity { vec_capacity out.new ≡ vec_capacity out.old }
+    ensures room { length (reply_text (reply_view reply.now)) ≤ room_of reply.now }
+    ensures capacity { vec_capacity out.old ≤ vec_capacity out.new }
 {
-    let (words, id) = parts(reply);
-    put(out, words);
-    if let Some(id) = id {
-        put(out, id.as_bytes());
+    put_parts(out, &parts_of(reply));
+}
+
+/// The parts of a reply.
+fn parts_of<'a>(reply: &Reply<'a>) -> Parts<'a>
+    ensures text { reply_text (reply_view reply.now) ≡ text_of result }
+    ensures first { first_room result ≤ terms.reply_room }
+    ensures room { first_room result + terms.rest_room result.rest ≤ room_of reply.now }
+{
+    let (words, named, rest): (&'static [u8], _, _) = match *reply {
+        Reply::Greeting => (
+            b"201 cnrelay ready, posting prohibited",
+            Named::Nothing,
+            Rest::Nothing,
+        ),
+        Reply::CapabilityList => (CAPABILITIES, Named::Nothing, Rest::Nothing),
+        Reply::HelpText => (HELP, Named::Nothing, Rest::Nothing),
+        Reply::DateIs(digits) => (b"111 ", Named::Digits(digits), Rest::Nothing),
+        Reply::Bye => (b"205 Bye", Named::Nothing, Rest::Nothing),
+        Reply::StreamingPermitted => (b"203 Streaming permitted", Named::Nothing, Rest::Nothing),
+        Reply::PostingProhibited => (b"201 Posting prohibited", Named::Nothing, Rest::Nothing),
+        Reply::SendIt(id) => (b"238 ", Named::Id(id), Rest::Nothing),
+        Reply::AskLater(id) => (b"431 ", Named::Id(id), Rest::Nothing),
+        Reply::NotWanted(id) => (b"438 ", Named::Id(id), Rest::Nothing),
+        Reply::Kept(id) => (b"239 ", Named::Id(id), Rest::Nothing),
+        Reply::Rejected(id) => (b"439 ", Named::Id(id), Rest::Nothing),
+        Reply::NotStored => (b"400 Not stored, closing", Named::Nothing, Rest::Nothing),
+        Reply::IhaveSend => (b"335 Send it", Named::Nothing, Rest::Nothing),
+        Reply::IhaveNotWanted => (b"435 Not wanted", Named::Nothing, Rest::Nothing),
+        Reply::IhaveLater => (b"436 Try again later", Named::Nothing, Rest::Nothing),
+        Reply::IhaveKept => (b"235 Transferred", Named::Nothing, Rest::Nothing),
+        Reply::IhaveRejected => (b"437 Rejected", Named::Nothing, Rest::Nothing),
+        Reply::ArticleFollows(id, text) => (b"220 0 ", Named::Id(id), Rest::Text(text)),
+        Reply::HeaderFollows(id, text) => (b"221 0 ", Named::Id(id), Rest::Text(text)),
+        Reply::BodyFollows(id, text) => (b"222 0 ", Named::Id(id), Rest::Text(text)),
+        Reply::Exists(id) => (b"223 0 ", Named::Id(id), Rest::Nothing),
+        Reply::OverviewFollows(line) => (b"224 Overview follows", Named::Nothing, Rest::Line(line)),
+        Reply::NoArticle => (b"430 No such article", Named::Nothing, Rest::Nothing),
+        Reply::NoGroup => (b"412 No group selected", Named::Nothing, Rest::Nothing),
+        Reply::DeviceFault => (b"403 Device fault", Named::Nothing, Rest::Nothing),
+        Reply::QueueFollows(missed, items) => {
+            (
+                b"290 Queue follows",
+                Named::Nothing,
+                Rest::Queue(missed, items),
+            )
+        }
+        Reply::NoFeed => (b"490 No feed", Named::Nothing, Rest::Nothing),
+        Reply::TokenFollows(token, text) => (b"292 ", Named::Token(token), Rest::Text(text)),
+        Reply::TokenGone(token) => (b"492 ", Named::Gone(token), Rest::Nothing),
+        Reply::TokenUnknown(token) => (b"493 ", Named::Unknown(token), Rest::Nothing),
+        Reply::UnknownCommand => (b"500 Unknown command", Named::Nothing, Rest::Nothing),
+        Reply::SyntaxError => (b"501 Syntax error", Named::Nothing, Rest::Nothing),
+        Reply::LineTooLong => (b"501 Line too long", Named::Nothing, Rest::Nothing),
+    };
+    Parts { words, named, rest }
+}
+
+/// CAPABILITIES: all lines but the end of the last.
+const CAPABILITIES: &[u8] = b"101 Capability list:\r\n\
+    VERSION 2\r\n\
+    IMPLEMENTATION cnrelay\r\n\
+    IHAVE\r\n\
+    STREAMING\r\n\
+    XTAKE\r\n\
+    XFETCH\r\n\
+    .";
+
+/// HELP: all lines but the end of the last.
+const HELP: &[u8] = b"100 Help text follows\r\n\
+    CHECK TAKETHIS IHAVE STAT ARTICLE HEAD BODY OVER XTAKE XFETCH MODE DATE CAPABILITIES HELP QUIT\
+    \r\n.";
+
+/// The most octets of what follows the first line, where a `usize` has room for the number.
+fn rest_room(rest: &Rest<'_>) -> Result<usize, AllocError>
+    ensures { IfOk result (λ room. (room ≡ terms.rest_room rest.now) × (room + 258 < 2 ^ 64)) }
+{
+    match *rest {
+        Rest::Nothing => Ok(0),
+        Rest::Text(text) => Ok(text_room(text)),
+        Rest::Line(line) => Ok(line_room(line)),
+        Rest::Queue(_, items) => queue_room(items),
     }
+}
+
+/// The most octets of a text as a block.
+fn text_room(text: &[u8]) -> usize
+    ensures room { result ≡ stuffed_room (length text.now) }
+    ensures fits { result + 258 < 2 ^ 64 }
+{
+    stream_cut::stuffed_room(text.len())
+}
+
+/// The octets of a line and the end.
+fn line_room(line: &[u8]) -> usize
+    ensures room { result ≡ length line.now + 5 }
+    ensures fits { result + 258 < 2 ^ 64 }
+{
+    line.len() + 5
+}
+
+/// The most octets of a number, a line for each item, and the end. Memory has no room for as many
+/// items as a `usize` couldn't count the octets of.
+fn queue_room(items: &[(u64, Token)]) -> Result<usize, AllocError>
+    ensures { IfOk result (λ room.
+        (room ≡ terms.item_room * length items.now + 25) × (room + 258 < 2 ^ 64)) }
+{
+    if items.len() > 1 << 56 {
+        return Err(AllocError);
+    }
+    Ok(ITEM_ROOM * items.len() + 25)
+}
+
+/// Adds a reply by its parts.
+fn put_parts(out: &mut Vec<u8>, parts: &Parts<'_>)
+    requires { vec_len out.old + first_room parts.now + terms.rest_room parts.now.rest
+        ≤ vec_capacity out.old }
+    ensures items { out.new.items ≡ out.old.items ++ text_of parts.now }
+    ensures room { length (text_of parts.now)
+        ≤ first_room parts.now + terms.rest_room parts.now.rest }
+    ensures capacity { vec_capacity out.old ≤ vec_capacity out.new }
+{
+    put(out, parts.words);
+    put_named(out, &parts.named);
+    put(out, b"\r\n");
+    put_rest(out, &parts.rest);
+}
+
+/// Adds what a first line names.
+fn put_named(out: &mut Vec<u8>, named: &Named<'_>)
+    requires { vec_len out.old + terms.named_room named.now ≤ vec_capacity out.old }
+    ensures items { out.new.items ≡ named_after out.old.items named.now }
+    ensures len { vec_len out.new ≤ vec_len out.old + terms.named_room named.now }
+    ensures capacity { vec_capacity out.old ≤ vec_capacity out.new }
+{
+    match *named {
+        Named::Nothing => {}
+        Named::Id(id) => put(out, id.as_bytes()),
+        Named::Token(token) => put_token(out, &token),
+        Named::Gone(token) => {
+            put_token(out, &token);
+            put(out, b" gone");
+        }
+        Named::Unknown(token) => {
+            put_token(out, &token);
+            put(out, b" unknown");
+        }
+        Named::Digits(digits) => put_digits(out, &digits),
+    }
+}
+
+/// Adds what follows a first line.
+fn put_rest(out: &mut Vec<u8>, rest: &Rest<'_>)
+    requires { vec_len out.old + terms.rest_room rest.now ≤ vec_capacity out.old }
+    ensures items { out.new.items ≡ rest_after out.old.items rest.now }
+    ensures len { vec_len out.new ≤ vec_len out.old + terms.rest_room rest.now }
+    ensures capacity { vec_capacity out.old ≤ vec_capacity out.new }
+{
+    match *rest {
+        Rest::Nothing => {}
+        Rest::Text(text) => put_stuffed(out, text),
+        Rest::Line(line) => {
+            put_line(out, line);
+            put_line(out, b".");
+        }
+        Rest::Queue(missed, items) => {
+            put_number(out, missed);
+            put(out, b"\r\n");
+            put_items(out, items);
+            put_line(out, b".");
+        }
+    }
+}
+
+/// Adds a line for each item of a queue.
+fn put_items(out: &mut Vec<u8>, items: &[(u64, Token)])
+    requires { vec_len out.old + terms.item_room * length items.now ≤ vec_capacity out.old }
+    ensures items { out.new.items
+        ≡ out.old.items ++ flat_map queue_line (map item_view items.now) }
+    ensures len { vec_len out.new ≤ vec_len out.old + terms.item_room * length items.now }
+    ensures capacity { vec_capacity out.old ≤ vec_capacity out.new }
+{
+    for item in items {
+        put_item(out, item);
+    }
+}
+
+/// Adds a line of a queue: the serial number and the token.
+fn put_item(out: &mut Vec<u8>, item: &(u64, Token))
+    requires { vec_len out.old + terms.item_room ≤ vec_capacity out.old }
+    ensures items { out.new.items ≡ out.old.items ++ queue_line (item_view item.now) }
+    ensures len { vec_len out.new ≤ vec_len out.old + terms.item_room }
+    ensures capacity { vec_capacity out.old ≤ vec_capacity out.new }
+{
+    put_number(out, item.0);
+    put(out, b" ");
+    put_token(out, &item.1);
     put(out, b"\r\n");
 }
 
-/// The fixed words of a reply, and the message-id that follows them.
-fn parts<'a>(reply: &Reply<'a>) -> (&'static [u8], Option<&'a MsgId>)
-    ensures text { reply_text (reply_view reply.now) ≡ line_with result.0.now result.1 }
-    ensures room { MatchOption result.1 (length result.0.now ≤ 256) (λ _. length result.0.now ≤ 6) }
+/// Adds the text of a token.
+fn put_token(out: &mut Vec<u8>, token: &Token)
+    requires { vec_len out.old + 30 ≤ vec_capacity out.old }
+    ensures items { out.new.items ≡ out.old.items ++ token_text (token_view token.now) }
+    ensures len { vec_len out.new ≡ vec_len out.old + 30 }
+    ensures capacity { vec_capacity out.old ≤ vec_capacity out.new }
 {
-    match *reply {
-        Reply::Greeting => (b"201 cnrelay ready, posting prohibited", None),
-        Reply::Bye => (b"205 Bye", None),
-        Reply::SendIt(id) => (b"238 ", Some(id)),
-        Reply::AskLater(id) => (b"431 ", Some(id)),
-        Reply::NotWanted(id) => (b"438 ", Some(id)),
-        Reply::Kept(id) => (b"239 ", Some(id)),
-        Reply::Rejected(id) => (b"439 ", Some(id)),
-        Reply::NotStored => (b"400 Not stored, closing", None),
-        Reply::Exists(id) => (b"223 0 ", Some(id)),
-        Reply::NoArticle => (b"430 No such article", None),
-        Reply::NoGroup => (b"412 No group selected", None),
-        Reply::UnknownCommand => (b"500 Unknown command", None),
-        Reply::SyntaxError => (b"501 Syntax error", None),
-        Reply::LineTooLong => (b"501 Line too long", None),
-    }
+    let text = token.to_text();
+    put(out, &text);
+}
+
+/// Adds the digits of a moment.
+fn put_digits(out: &mut Vec<u8>, digits: &[u8; 14])
+    requires { vec_len out.old + 14 ≤ vec_capacity out.old }
+    ensures items { out.new.items ≡ out.old.items ++ digits.now }
+    ensures len { vec_len out.new ≡ vec_len out.old + 14 }
+    ensures capacity { vec_capacity out.old ≤ vec_capacity out.new }
+{
+    put(out, digits);
+}
+
+/// Adds a number in decimal.
+fn put_number(out: &mut Vec<u8>, number: u64)
+    requires { vec_len out.old + 20 ≤ vec_capacity out.old }
+    ensures items { out.new.items ≡ out.old.items ++ decimal number }
+    ensures len { vec_len out.new ≤ vec_len out.old + 20 }
+    ensures capacity { vec_capacity out.old ≤ vec_capacity out.new }
+{
+    let mut digits = Buffer::new();
+    put(out, digits.format(number).as_bytes());
+}
+
+/// Adds a line with its CRLF.
+fn put_line(out: &mut Vec<u8>, line: &[u8])
+    requires { vec_len out.old + length line.now + 2 ≤ vec_capacity out.old }
+    ensures items { out.new.items ≡ out.old.items ++ line_of line.now }
+    ensures len { vec_len out.new ≡ vec_len out.old + length line.now + 2 }
+    ensures capacity { vec_capacity out.old ≤ vec_capacity out.new }
+{
+    put(out, line);
+    put(out, b"\r\n");
 }
 
 /// Adds octets for which there is room.
@@ -94,9 +392,7 @@ fn put(out: &mut Vec<u8>, octets: &[u8])
     requires { vec_len out.old + length octets.now ≤ vec_capacity out.old }
     ensures items { out.new.items ≡ out.old.items ++ octets.now }
     ensures len { vec_len out.new ≡ vec_len out.old + length octets.now }
-    ensures capacity { vec_capacity out.new ≡ vec_capacity out.old }
+    ensures capacity { vec_capacity out.old ≤ vec_capacity out.new }
 {
-    for octet in octets {
-        out.push_reserved(*octet);
-    }
+    out.extend_from_slice(octets).unwrap();
 }

@@ -5,7 +5,7 @@ use Rattle.std.proofs.Common.{append-nil, length-append, length-drop}
 use Rattle.std.proofs.lemmas.List.{take_at, drop-drop, drop_all, append_cancel_left}
 use Rattle.std.proofs.lemmas.Bool.{cases_Bool, cases_lt, cond-true, cond-false}
 use Rattle.news_terms.specs.Lines.{crlf, first_line, spelled}
-use Rattle.news_terms.specs.Blocks.{text_lines, stuffed_line, unstuffed_line}
+use Rattle.news_terms.specs.Blocks.{dot, text_lines, stuffed, stuffed_line, unstuffed_line}
 use Rattle.news_terms.proofs.LineLemmas.{first_line_whole}
 use Rattle.news_terms.proofs.StuffLemmas.{text_lines-line, text_lines-last}
 use Rattle.stream_cut.specs.Look.{LineEnds}
@@ -107,3 +107,31 @@ whole_none t at none whole = ⊎_elim
     )))
     (λ past. past)
     (cases_lt at (length t))
+
+-- what closes a block, in another order
+closed_later : (x a : List ℕ) → x ++ ((a ++ dot) ++ crlf) ≡ ((x ++ a) ++ dot) ++ crlf
+closed_later x a =
+    sym (append_assoc x (a ++ dot) crlf) ∙ ap (λ (y : List ℕ). y ++ crlf) (sym (append_assoc x a dot))
+
+-- one line more is in the block that sends a text
+pub stuffed_more : (t before : List ℕ) (at end next : ℕ) → LineEnds (drop at t) end
+    → next ≡ at + end + 2
+    → (before ++ stuffed_line (take (next - at) (drop at t))) ++ stuffed (drop next t)
+    ≡ before ++ stuffed (drop at t)
+stuffed_more t before at end next ends e =
+    let line = stuffed_line (take (next - at) (drop at t)) in
+    closed_later (before ++ line) (sent stuffed_line (drop next t))
+    ∙ ap (λ (y : List ℕ). (y ++ dot) ++ crlf)
+    (sent_more stuffed_line stuffed_line-crlf t before (before ++ sent stuffed_line (drop at t)) at
+    end next ends e refl)
+    ∙ sym (closed_later before (sent stuffed_line (drop at t)))
+
+-- the octets of it
+pub stuffed_count : (t : List ℕ) (at end next : ℕ) → LineEnds (drop at t) end
+    → next ≡ at + end + 2
+    → length (stuffed_line (take (next - at) (drop at t))) + length (stuffed (drop next t))
+    ≡ length (stuffed (drop at t))
+stuffed_count t at end next ends e =
+    let line = stuffed_line (take (next - at) (drop at t)) in
+    sym (length-append line (stuffed (drop next t)))
+    ∙ ap length (stuffed_more t [] at end next ends e)

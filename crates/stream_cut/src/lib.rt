@@ -13,4 +13,4 @@ mod stuffing;
 
 pub use cutter::{Block, CutError, Cutter};
 pub use run::{Cut, Want, cut_all};
-pub use stuffing::stuff;
+pub use stuffing::{put_stuffed, stuff, stuffed_room};

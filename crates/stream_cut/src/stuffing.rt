@@ -1,40 +1,83 @@
 //! Dot-stuffing (RFC 3977 section 3.1.1).
-ghost use Rattle.std.specs.Prelude.{◌≡◌, ◌+◌, ◌++◌, [], ◌∷◌, length, List, ℕ, IfOk, OnOk};
-ghost use Rattle.news_terms.specs.Lines.{spelled};
+ghost use Rattle.std.specs.Prelude.{◌≡◌, ◌+◌, ◌^◌, ◌≤◌, ◌<◌, ◌++◌, [], ◌∷◌, length, List, ℕ};
+ghost use Rattle.std.specs.Prelude.{None, IfOk, OnOk, vec_len, vec_capacity};
+ghost use Rattle.news_terms.specs.Lines.{first_line, spelled};
 ghost use Rattle.news_terms.specs.Blocks.{stuffed, stuffed_line, text_lines};
 ghost use Rattle.news_terms.specs.Blocks.{unstuffed, unstuffed_line};
+ghost use Rattle.news_terms.specs.Blocks as terms;
 
 use crate::look::line_end;
 use std::alloc::{AllocError, Global};
+
+/// The most octets of the block that sends a text of so many: a third more and six.
+pub fn stuffed_room(octets: usize) -> usize
+    requires { octets < 2 ^ 63 }
+    ensures { result ≡ terms.stuffed_room octets }
+{
+    octets + octets / 3 + 6
+}
 
 /// The block that sends a text: each line that begins with a dot gets one more, a CRLF ends the
 /// last line where none did, and the line of a lone dot closes it (RFC 3977 section 3.1.1).
 pub fn stuff(alloc: Global, text: &[u8]) -> Result<Vec<u8>, AllocError>
     ensures { IfOk result (λ v. v.items ≡ stuffed text.now) }
 {
-    let mut block = Vec::new(alloc);
-    let mut at = 0;
-    while let Some(end) = line_end(&text[at..], 0) {
-        let next = at + end + 2;
-        push_stuffed(&mut block, &text[at..next])?;
-        at = next;
-    }
-    if at < text.len() {
-        push_stuffed(&mut block, &text[at..])?;
-        block.extend_from_slice(b"\r\n")?;
-    }
-    block.extend_from_slice(b".\r\n")?;
+    let mut block = Vec::with_capacity(alloc, stuffed_room(text.len()))?;
+    put_stuffed(&mut block, text);
     Ok(block)
 }
 
+/// Adds the block that sends a text, as `stuff` makes it, where there is room: it doesn't fail,
+/// whatever memory there is.
+pub fn put_stuffed(block: &mut Vec<u8>, text: &[u8])
+    requires { vec_len block.old + terms.stuffed_room (length text.now) ≤ vec_capacity block.old }
+    ensures items { block.new.items ≡ block.old.items ++ stuffed text.now }
+    ensures capacity { vec_capacity block.old ≤ vec_capacity block.new }
+{
+    let mut at = 0;
+    while let Some(end) = line_end(&text[at..], 0) {
+        let next = at + end + 2;
+        put_stuffed_line(block, &text[at..next]);
+        at = next;
+    }
+    put_last(block, &text[at..]);
+}
+
+/// Adds the block that sends octets among which no line ends.
+fn put_last(block: &mut Vec<u8>, rest: &[u8])
+    requires no_line { first_line rest.now ≡ None }
+    requires room { vec_len block.old + length (stuffed rest.now) ≤ vec_capacity block.old }
+    ensures items { block.new.items ≡ block.old.items ++ stuffed rest.now }
+    ensures capacity { vec_capacity block.old ≤ vec_capacity block.new }
+{
+    if !rest.is_empty() {
+        put_stuffed_line(block, rest);
+        put(block, b"\r\n");
+    }
+    put(block, b".\r\n");
+}
+
 /// Adds a line, with one more dot before it where it begins with one.
-fn push_stuffed(block: &mut Vec<u8>, line: &[u8]) -> Result<(), AllocError>
-    ensures { OnOk result (block.new.items ≡ block.old.items ++ stuffed_line line.now) }
+fn put_stuffed_line(block: &mut Vec<u8>, line: &[u8])
+    requires { vec_len block.old + length (stuffed_line line.now) ≤ vec_capacity block.old }
+    ensures items { block.new.items ≡ block.old.items ++ stuffed_line line.now }
+    ensures len { vec_len block.new ≡ vec_len block.old + length (stuffed_line line.now) }
+    ensures capacity { vec_capacity block.old ≤ vec_capacity block.new }
 {
     if line.first() == Some(&b'.') {
-        block.push(b'.')?;
+        put(block, b".");
     }
-    block.extend_from_slice(line)
+    put(block, line);
+}
+
+/// Adds octets for which there is room.
+fn put(block: &mut Vec<u8>, octets: &[u8])
+    requires { vec_len block.old + length octets.now ≤ vec_capacity block.old }
+    ensures items { block.new.items ≡ block.old.items ++ octets.now }
+    ensures len { vec_len block.new ≡ vec_len block.old + length octets.now }
+    ensures capacity { vec_capacity block.old ≤ vec_capacity block.new }
+{
+    block.extend_from_slice(octets).unwrap();
 }
 
 /// The text that whole lines of a block stand for, of `len` octets.

@@ -1,7 +1,6 @@
 use Rattle.std.proofs.Common.{◌∙◌}
 use Rattle.first_core.proofs.TurnLemmas.{moved, turn_leaves, leaving_none}
 use Rattle.first_model.specs.State as model
-use Rattle.relay_model.specs.State.{put_id}
 use Rattle.first_model.specs.World.{with_session, in_phase}
 use Rattle.first_core.proofs.system.System.leave.Goals as goal
 

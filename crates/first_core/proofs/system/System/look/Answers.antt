@@ -3,7 +3,6 @@ use Rattle.first_core.proofs.TurnLemmas.{moved, said_as, look_done, ready_none}
 use Rattle.first_core.specs.Absorb.{look_reply}
 use Rattle.first_core.specs.Session.{past}
 use Rattle.first_model.specs.State as model
-use Rattle.relay_model.specs.State.{put_id}
 use Rattle.first_model.specs.World.{Sent, with_session, in_phase}
 use Rattle.first_core.proofs.system.System.look.Goals as goal
 

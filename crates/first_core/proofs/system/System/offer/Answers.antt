@@ -7,7 +7,6 @@ use Rattle.id_history.specs.Answers.{offer_view}
 use Rattle.relay_model.specs.Claims.{after_offer}
 use Rattle.first_model.specs.Lines.{with_offers}
 use Rattle.first_model.specs.State as model
-use Rattle.relay_model.specs.State.{put_id}
 use Rattle.first_model.specs.World.{with_session, with_claim, in_phase}
 use Rattle.first_core.proofs.system.System.offer.Goals as goal
 

@@ -3,7 +3,6 @@ use Rattle.first_core.proofs.TurnLemmas.{moved, owes_none}
 use Rattle.first_core.specs.Machine.{done}
 use Rattle.first_core.specs.Session.{past}
 use Rattle.first_model.specs.State as model
-use Rattle.relay_model.specs.State.{put_id}
 use Rattle.first_model.specs.World.{with_session, in_phase}
 use Rattle.first_core.proofs.system.System.owe.Goals as goal
 

@@ -5,7 +5,6 @@ use Rattle.first_core.specs.Session.{arrived}
 use Rattle.news_terms.specs.Reply.{Rejected}
 use Rattle.relay_model.specs.Claims.{after_refuse}
 use Rattle.first_model.specs.State as model
-use Rattle.relay_model.specs.State.{put_id}
 use Rattle.first_model.specs.World.{with_session, with_claim, in_phase}
 use Rattle.first_core.proofs.system.System.refuse.Goals as goal
 

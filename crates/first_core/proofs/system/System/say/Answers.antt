@@ -2,7 +2,6 @@ use Rattle.std.proofs.Common.{◌∙◌}
 use Rattle.first_core.proofs.TurnLemmas.{moved, turn_says, ready_none}
 use Rattle.first_core.specs.Session.{past}
 use Rattle.first_model.specs.State as model
-use Rattle.relay_model.specs.State.{put_id}
 use Rattle.first_model.specs.World.{with_session, in_phase}
 use Rattle.first_core.proofs.system.System.say.Goals as goal
 

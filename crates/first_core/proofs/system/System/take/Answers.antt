@@ -6,7 +6,6 @@ use Rattle.news_terms.specs.Reply.{Rejected}
 use Rattle.relay_model.specs.Claims.{after_take, Held, Had, Mine}
 use Rattle.first_model.specs.Arrivals.{with_job}
 use Rattle.first_model.specs.State as model
-use Rattle.relay_model.specs.State.{put_id}
 use Rattle.first_model.specs.Verdict.{accepted_text}
 use Rattle.first_model.specs.World.{with_session, with_claim, in_phase}
 use Rattle.first_core.proofs.system.System.take.Goals as goal

@@ -1,0 +1,50 @@
+-- What was sent, line by line, and that there is room for each.
+use Rattle.std.proofs.Common.{◌+◌, ◌++◌, arith, refl, ap, subst, ◌∙◌, drop, length-drop, List, ℕ}
+use Rattle.std.proofs.lemmas.List.{take_rest}
+use Rattle.news_terms.specs.Blocks.{stuffed}
+use Rattle.news_terms.proofs.StuffRoom.{stuffed-bounded}
+use Rattle.stream_cut.specs.Look.{LineEnds}
+use Rattle.stream_cut.proofs.TextLemmas.{stuffed_more, stuffed_count}
+use Rattle.stream_cut.proofs.stuffing.put_stuffed.Goals as goal
+
+pub loop-end-init : goal.loop-end-init
+loop-end-init c =
+    let t = c.args.text.now in
+    record {
+      within = omega arith;
+      told = refl;
+      room = omega (arith, c.requires, stuffed-bounded t);
+      grows = omega arith;
+    }
+
+pub put_stuffed_line-requires : goal.put_stuffed_line-requires
+put_stuffed_line-requires c =
+    let t = c.args.text.now in
+    let at = c.loop-end.at in
+    let end = c.in-Some.end in
+    let ends : LineEnds (drop at t) end =
+    subst (λ (x : List ℕ). LineEnds x end) (take_rest t at) c.in-Some.ensures in
+    omega (arith, c.loop-end.invariant.room, stuffed_count t at end (at + end + 2) ends refl)
+
+pub loop-end-preserved : goal.loop-end-preserved
+loop-end-preserved c =
+    let t = c.args.text.now in
+    let at = c.loop-end.at in
+    let end = c.in-Some.end in
+    let ends : LineEnds (drop at t) end =
+    subst (λ (x : List ℕ). LineEnds x end) (take_rest t at) c.in-Some.ensures in
+    let put = c.put_stuffed_line.ensures in
+    record {
+      within = omega (arith, ends.fits, c.loop-end.invariant.within, length-drop at t);
+      told = ap (λ (x : List ℕ). x ++ stuffed (drop (at + end + 2) t)) put.items
+          ∙ stuffed_more t c.loop-end.block.items at end (at + end + 2) ends refl
+          ∙ c.loop-end.invariant.told;
+      room = omega (
+        arith,
+        c.loop-end.invariant.room,
+        put.len,
+        put.capacity,
+        stuffed_count t at end (at + end + 2) ends refl,
+      );
+      grows = omega (arith, c.loop-end.invariant.grows, put.capacity);
+    }

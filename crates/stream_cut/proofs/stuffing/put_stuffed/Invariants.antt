@@ -1,0 +1,15 @@
+-- What was sent and what is left to send are all that is to be sent, and there is room for it.
+use Rattle.std.proofs.Common.{◌≡◌, ◌+◌, ◌≤◌, ◌-◌, ◌++◌, length, drop, vec_len, vec_capacity}
+use Rattle.news_terms.specs.Blocks.{stuffed}
+use Rattle.stream_cut.proofs.stuffing.put_stuffed.Given as goal
+
+abbrev pub invariant-loop-end : goal.invariant-loop-end
+invariant-loop-end l = record {
+  within : l.at ≤ length l.text;
+  told : l.block.items ++ stuffed (drop l.at l.text) ≡ l.initial.block.items ++ stuffed l.text;
+  room : vec_len l.block + length (stuffed (drop l.at l.text)) ≤ vec_capacity l.block;
+  grows : vec_capacity l.initial.block ≤ vec_capacity l.block;
+}
+
+abbrev pub decreases-loop-end : goal.decreases-loop-end
+decreases-loop-end l = length l.text - l.at
