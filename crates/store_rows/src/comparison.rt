@@ -1,10 +1,10 @@
 //! A buffer of eight blocks beside a plain list of the articles that were begun in it.
-ghost use Rattle.std.specs.Prelude.{◌≡◌, ◌≤◌, ◌<◌, false, length};
+ghost use Rattle.std.specs.Prelude.{◌≡◌, ◌≤◌, ◌<◌, ◌^◌, false, length};
 ghost use Rattle.cyc_buffer.specs.Agreement.{Owns, is_broken, blocks_written, length_of};
 ghost use Rattle.cyc_buffer.specs.Agreement.{register_of};
 
-use crate::articles::text_of;
-use cyc_block::MemoryBlocks;
+use crate::buffers::{formatted, octet_at, text_of};
+use cyc_block::BlockStore;
 use cyc_buffer::{Buffer, Found, Open};
 use cyc_token::Token;
 use std::alloc::{AllocError, Global};
@@ -24,78 +24,125 @@ fn draw(state: &mut u64, bound: u64) -> u64
 }
 
 /// An article that was begun.
-#[derive(Clone, Copy, Debug)]
+#[derive(Clone, Copy)]
 struct Begun {
     token: Token,
-    fresh: bool,
     finished: bool,
     seed: u8,
 }
 
-/// Where the articles of a list lie in a buffer of eight blocks: cycle and block of the last, and
-/// the front.
-fn walk(begun: &[Begun]) -> (u32, u32, u64) {
-    let (mut cycle, mut first, mut used) = (0u32, 0u32, 0u32);
-    for article in begun {
-        let size = article.token.length.div_ceil(480);
-        let leaves = size.saturating_add(used) > 8 || article.fresh;
-        if leaves && used > 0 {
-            cycle = cycle.saturating_add(1);
-            used = 0;
-        }
-        first = used;
-        used = size.saturating_add(used);
-    }
-    (
-        cycle,
-        first,
-        u64::from(cycle)
-            .saturating_mul(8)
-            .saturating_add(u64::from(used)),
-    )
+/// The articles that were begun in a buffer of eight blocks, and where the last of them lies: its
+/// cycle, and the block behind it.
+#[derive(Drop)]
+struct Listed {
+    begun: Vec<Begun>,
+    cycle: u32,
+    used: u32,
 }
 
 /// What a list of articles says of a block of a token.
-fn listed(begun: &[Begun], front: u64, token: &Token, k: u32) -> Option<Option<u8>> {
-    let size = token.length.div_ceil(480);
-    let place = 8 * u64::from(token.cycle) + u64::from(token.first);
-    let numbered = token.buffer == 0 && token.length > 0 && k < size;
-    if !numbered || token.first > 8 || token.first + size > 8 || place >= front {
-        return Some(None);
+#[derive(Clone, Copy)]
+enum Said {
+    Gone,
+    Unknown,
+    /// A part of the text of this seed.
+    Stored(u8),
+}
+
+impl Listed {
+    /// The front.
+    fn front(&self) -> u64 {
+        (8 * u64::from(self.cycle)).saturating_add(u64::from(self.used))
     }
-    if place + 8 < front {
-        return None;
+
+    /// An article is begun behind the last, or at the front of the next cycle where it has to be.
+    fn begin(&mut self, class: u8, length: u32, fresh: bool, seed: u8) -> Result<(), AllocError> {
+        let size = length.div_ceil(480);
+        if (size.saturating_add(self.used) > 8 || fresh) && self.used > 0 {
+            self.cycle = self.cycle.saturating_add(1);
+            self.used = 0;
+        }
+        let token = Token {
+            class,
+            buffer: 0,
+            cycle: self.cycle,
+            first: self.used,
+            length,
+        };
+        self.used = size.saturating_add(self.used);
+        self.begun.push(Begun {
+            token,
+            finished: false,
+            seed,
+        })?;
+        Ok(())
     }
-    let found = begun
-        .iter()
-        .find(|article| article.finished && article.token == *token);
-    Some(found.map(|article| article.seed))
+
+    /// The last article is finished; whether its token is this one.
+    fn finish(&mut self, token: &Token) -> bool {
+        match self.begun.last_mut() {
+            Some(newest) => {
+                newest.finished = true;
+                newest.token == *token
+            }
+            None => false,
+        }
+    }
+
+    /// What is said of a block of a token.
+    fn said(&self, token: &Token, k: u32) -> Said {
+        let size = token.length.div_ceil(480);
+        let place = 8 * u64::from(token.cycle) + u64::from(token.first);
+        let numbered = token.buffer == 0 && token.length > 0 && k < size;
+        if !numbered || token.first > 8 || token.first + size > 8 || place >= self.front() {
+            return Said::Unknown;
+        }
+        if place + 8 < self.front() {
+            return Said::Gone;
+        }
+        self.found(token)
+    }
+
+    /// What is said of a token that is not gone.
+    fn found(&self, token: &Token) -> Said {
+        for article in &self.begun {
+            if article.finished && article.token == *token {
+                return Said::Stored(article.seed);
+            }
+        }
+        Said::Unknown
+    }
+}
+
+/// Whether octets are block k of the text of a seed, of so many octets.
+fn is_block(octets: &[u8], seed: u8, length: u32, k: u32) -> bool {
+    let mut place = (k as usize).saturating_mul(480);
+    if octets.len() != (length as usize).saturating_sub(place).min(480) {
+        return false;
+    }
+    for octet in octets {
+        if *octet != octet_at(seed, place) {
+            return false;
+        }
+        place = place.saturating_add(1);
+    }
+    true
 }
 
 /// Whether a read answers what the list of articles says.
-fn answers(
-    alloc: Global,
-    buffer: &mut Buffer<MemoryBlocks>,
-    begun: &[Begun],
-    token: &Token,
-    k: u32,
-) -> Result<bool, AllocError>
+fn answers<S: BlockStore>(buffer: &mut Buffer<S>, listed: &Listed, token: &Token, k: u32) -> bool
     ensures { register_of buffer.new ≡ register_of buffer.old }
 {
-    let (_, _, front) = walk(begun);
     let mut chunk = [0; 480];
     let found = buffer.read_block(token, k, &mut chunk);
-    Ok(match listed(begun, front, token, k) {
-        None => matches!(found, Ok(Found::Gone(passed)) if passed.front() == front),
-        Some(None) => matches!(found, Ok(Found::Unknown)),
-        Some(Some(seed)) => {
-            let text = text_of(alloc, seed, token.length as usize)?;
-            match (found, text.chunks(480).nth(k as usize)) {
-                (Ok(Found::Chunk(octets)), Some(expected)) => &chunk[..octets] == expected,
-                _ => false,
-            }
+    match (listed.said(token, k), found) {
+        (Said::Gone, Ok(Found::Gone(passed))) => passed.front() == listed.front(),
+        (Said::Unknown, Ok(Found::Unknown)) => true,
+        (Said::Stored(seed), Ok(Found::Chunk(octets))) => {
+            is_block(&chunk[..octets], seed, token.length, k)
         }
-    })
+        _ => false,
+    }
 }
 
 /// A token, changed in one part or in none.
@@ -132,34 +179,28 @@ fn varied(token: Token, state: &mut u64) -> Token {
 
 /// Whether each of the last articles is answered for as the list says, under a token that may be
 /// changed.
-fn last_answer(
-    alloc: Global,
-    buffer: &mut Buffer<MemoryBlocks>,
-    begun: &[Begun],
-    state: &mut u64,
-) -> Result<bool, AllocError>
+fn last_answer<S: BlockStore>(buffer: &mut Buffer<S>, listed: &Listed, state: &mut u64) -> bool
     ensures { register_of buffer.new ≡ register_of buffer.old }
 {
-    for article in begun.iter().rev().take(LAST) {
+    for article in listed.begun.iter().rev().take(LAST) {
         let token = varied(article.token, state);
         let k = draw(state, 9) as u32;
-        if !answers(alloc, buffer, begun, &token, k)? {
-            return Ok(false);
+        if !answers(buffer, listed, &token, k) {
+            return false;
         }
     }
-    Ok(true)
+    true
 }
 
 /// Writes some blocks of an open write and finishes or abandons it, with reads between the blocks;
 /// whether all is as the list says.
-fn write_out(
-    alloc: Global,
-    buffer: &mut Buffer<MemoryBlocks>,
-    begun: &mut Vec<Begun>,
+fn write_out<S: BlockStore>(
+    buffer: &mut Buffer<S>,
+    listed: &mut Listed,
     write: Open,
     text: &[u8],
     state: &mut u64,
-) -> Result<bool, AllocError>
+) -> bool
     requires open { Owns buffer.old write }
     requires whole { is_broken buffer.old ≡ false }
     requires none_written { blocks_written buffer.old ≡ 0 }
@@ -172,76 +213,79 @@ fn write_out(
     };
     let mut same = true;
     for k in 0..written {
-        match buffer.write_next(&write, text) {
-            Ok(last) => same = same && last == (k + 1 == blocks),
-            Err(_) => {
-                buffer.abandon(write);
-                return Ok(false);
-            }
-        }
+        let Ok(last) = buffer.write_next(&write, text) else {
+            buffer.abandon(write);
+            return false;
+        };
+        same = same && last == (k + 1 == blocks);
     }
-    let reads = last_answer(alloc, buffer, begun.as_slice(), state);
+    same = last_answer(buffer, listed, state) && same;
     if written < blocks || draw(state, 5) == 0 {
         buffer.abandon(write);
-        return Ok(same && reads?);
+        return same;
     }
-    let token = buffer.finish(write);
-    if let Some(newest) = begun.last_mut() {
-        same = same && newest.token == token;
-        newest.finished = true;
-    }
-    Ok(same && reads?)
+    listed.finish(&buffer.finish(write)) && same
 }
 
-/// Begins an article, writes it out and reads; whether all is as the list says.
-fn agrees(
+/// Begins the last article of the list, writes it out and reads; whether all is as the list says.
+fn follows<S: BlockStore>(
+    buffer: &mut Buffer<S>,
+    listed: &mut Listed,
+    class: u8,
+    fresh: bool,
+    text: &[u8],
+    state: &mut u64,
+) -> bool
+    requires some { 1 ≤ length text.now }
+    requires short { length text.now < 2 ^ 32 }
+{
+    let Ok(open) = buffer.begin(class, text.len() as u32, fresh) else {
+        return false;
+    };
+    let moved = buffer.front() == listed.front();
+    let same = write_out(buffer, listed, open, text, state);
+    moved && same && last_answer(buffer, listed, state)
+}
+
+/// Draws an article, begins it, writes it out and reads; whether all is as the list says.
+fn agrees<S: BlockStore>(
     alloc: Global,
-    buffer: &mut Buffer<MemoryBlocks>,
-    begun: &mut Vec<Begun>,
+    buffer: &mut Buffer<S>,
+    listed: &mut Listed,
     state: &mut u64,
 ) -> Result<bool, AllocError> {
     let length = draw(state, 480 * 8) as u32 + 1;
     let class = draw(state, 2) as u8;
     let fresh = draw(state, 5) == 0;
     let seed = draw(state, 256) as u8;
+    listed.begin(class, length, fresh, seed)?;
     let text = text_of(alloc, seed, length as usize)?;
-    let asked = Token {
-        class,
-        buffer: 0,
-        cycle: 0,
-        first: 0,
-        length,
-    };
-    begun.push(Begun {
-        token: asked,
-        fresh,
-        finished: false,
-        seed,
-    })?;
-    let (cycle, first, front) = walk(begun.as_slice());
-    if let Some(newest) = begun.last_mut() {
-        newest.token = Token {
-            cycle,
-            first,
-            ..asked
-        };
-    }
-    let Ok(open) = buffer.begin(class, length, fresh) else {
-        return Ok(false);
-    };
-    let moved = buffer.front() == front;
-    let same = write_out(alloc, buffer, begun, open, &text, state)?;
-    Ok(moved && same && last_answer(alloc, buffer, begun.as_slice(), state)?)
+    Ok(follows(buffer, listed, class, fresh, &text, state))
 }
 
 /// How many of so many articles, the one after the other, are stored and read as the list says,
 /// before the first that is not.
 pub fn agreeing(alloc: Global, articles: u32, seed: u64) -> Result<u32, AllocError> {
-    let mut buffer = Buffer::format(alloc, MemoryBlocks::new(alloc, 8)?, 0, 0)?;
-    let mut begun = Vec::new(alloc);
+    let mut listed = Listed {
+        begun: Vec::new(alloc),
+        cycle: 0,
+        used: 0,
+    };
+    let mut buffer = formatted(alloc, 0, 8, 0, 0)?;
+    agreeing_in(alloc, &mut buffer, &mut listed, articles, seed)
+}
+
+/// The same in this buffer, beside this list.
+fn agreeing_in<S: BlockStore>(
+    alloc: Global,
+    buffer: &mut Buffer<S>,
+    listed: &mut Listed,
+    articles: u32,
+    seed: u64,
+) -> Result<u32, AllocError> {
     let mut state = seed;
     for article in 0..articles {
-        if !agrees(alloc, &mut buffer, &mut begun, &mut state)? {
+        if !agrees(alloc, buffer, listed, &mut state)? {
             return Ok(article);
         }
     }

@@ -7,30 +7,26 @@
 //! the rows after it find: one store of blocks, one buffer, one shard of claims and sixteen more.
 #![tactic(auto)]
 
-mod articles;
+mod blocks;
 mod buffers;
 mod claims;
 mod comparison;
-mod images;
-mod shards;
-mod stores;
-mod tokens;
 mod words;
 
-use cyc_block::{FailAt, MemoryBlocks};
-use cyc_buffer::Buffer;
+use blocks::Blocks;
+use buffers::InMemory;
 use id_history::{Shard, Shards};
 use row_text::{Answers, play};
 use std::alloc::{AllocError, Global};
 use std::hash::RandomState;
-use std::io;
 use std::process::ExitCode;
+use std::{io, str};
 
 /// What the rows so far have left.
 #[derive(Drop)]
 struct Rows {
-    store: FailAt<MemoryBlocks>,
-    buffer: Buffer<FailAt<MemoryBlocks>>,
+    store: Option<Blocks>,
+    buffer: Option<InMemory>,
     shard: Shard,
     shards: Shards,
 }
@@ -42,14 +38,14 @@ fn main(rt: HostRuntime) -> ExitCode {
     }
 }
 
-/// A store and a buffer without blocks, and shards to which every message-id is unknown.
+/// No store and no buffer yet, and shards to which every message-id is unknown.
 fn first_rows(rt: &HostRuntime) -> io::Result<Rows> {
-    let alloc = rt.alloc();
+    let shard = Shard::new(rt.alloc(), RandomState::new(rt)?);
     Ok(Rows {
-        store: FailAt::new(MemoryBlocks::new(alloc, 0)?, 0),
-        buffer: buffers::formatted(alloc, 0, 0, 0, 0)?,
-        shard: Shard::new(alloc, RandomState::new(rt)?),
-        shards: Shards::new(rt, alloc)?,
+        shards: Shards::new(rt, rt.alloc())?,
+        store: None,
+        buffer: None,
+        shard,
     })
 }
 
@@ -61,21 +57,14 @@ impl Answers for Rows {
         cells: &[Vec<u8>],
         text: &mut Vec<u8>,
     ) -> Result<bool, AllocError> {
-        if tokens::answer(alloc, call, cells, text)? {
-            return Ok(true);
-        }
-        if images::answer(alloc, call, cells, text)? {
-            return Ok(true);
-        }
-        if stores::answer(alloc, &mut self.store, call, cells, text)? {
-            return Ok(true);
-        }
-        if buffers::answer(alloc, &mut self.buffer, call, cells, text)? {
-            return Ok(true);
-        }
-        if shards::answer(alloc, &mut self.shards, call, cells, text)? {
-            return Ok(true);
-        }
-        claims::answer(alloc, &mut self.shard, call, cells, text)
+        let Ok(call) = str::from_utf8(call) else {
+            return Ok(false);
+        };
+        Ok(
+            blocks::answer(alloc, &mut self.store, call, cells, text)?
+                || buffers::answer(alloc, &mut self.buffer, call, cells, text)?
+                || claims::answer_together(alloc, &mut self.shards, call, cells, text)?
+                || claims::answer(alloc, &mut self.shard, call, cells, text)?,
+        )
     }
 }

@@ -1,38 +1,18 @@
-//! The calls of `article_parse`.
+//! The calls of `article_parse`, `path_rules` and `date_rules`.
 
 use crate::names::joined;
-use crate::runs::Runs;
-use crate::values::{put_debug, put_fault, put_list, put_next, put_some, put_truth};
-use article_parse::{ArtError, Article, is_blank, unfolded};
+use crate::values::{Runs, number_of, put_debug, put_fault, put_list, put_next, put_some};
+use article_parse::{ArtError, Article};
+use date_rules::{judge, stamp};
+use path_rules::{Identity, identities, loops, updated};
 use row_text::{put_number, put_octets};
 use std::alloc::{AllocError, Global};
 
-/// Writes the answer of a call, or answers `false` where it is not known.
-pub fn answer(
-    alloc: Global,
-    call: &str,
-    cells: &[Vec<u8>],
-    text: &mut Vec<u8>,
-) -> Result<bool, AllocError> {
-    let put = match (call, cells) {
-        ("article", parts) => put_article(alloc, text, &joined(alloc, parts)?),
-        ("article_fault", parts) => put_fault_of(alloc, text, &joined(alloc, parts)?),
-        ("field", [name, parts @ ..]) => put_field(alloc, text, name, &joined(alloc, parts)?),
-        ("groups", parts) => put_groups(alloc, text, &joined(alloc, parts)?),
-        ("article_cuts", parts) => put_cuts(alloc, text, &joined(alloc, parts)?),
-        ("article_changes", [octet, parts @ ..]) => {
-            put_changes(alloc, text, octet, &joined(alloc, parts)?)
-        }
-        ("unfolded", [content]) => put_octets(text, &unfolded(alloc, content)?),
-        ("is_blank", [content]) => put_truth(text, is_blank(content)),
-        _ => return Ok(false),
-    };
-    put?;
-    Ok(true)
-}
+/// The last moment that has a stamp.
+const LAST_MOMENT: u64 = 253_370_764_799;
 
 /// Writes the message-id of an article, the place of its body, and the body, or the text's fault.
-fn put_article(alloc: Global, text: &mut Vec<u8>, octets: &[u8]) -> Result<(), AllocError> {
+pub fn put_article(alloc: Global, text: &mut Vec<u8>, octets: &[u8]) -> Result<(), AllocError> {
     match Article::parse(alloc, octets) {
         Ok(article) => put_read(
             text,
@@ -53,13 +33,22 @@ fn put_read(text: &mut Vec<u8>, id: &[u8], body_at: usize, body: &[u8]) -> Resul
 }
 
 /// Writes the fault of a text, `None` where it is an article.
-fn put_fault_of(alloc: Global, text: &mut Vec<u8>, octets: &[u8]) -> Result<(), AllocError> {
+pub fn put_fault_of(alloc: Global, text: &mut Vec<u8>, octets: &[u8]) -> Result<(), AllocError> {
     let fault = Article::parse(alloc, octets).err();
     put_debug(alloc, text, &fault)
 }
 
+/// Writes the content of the first field of the name that the first cell is, in the article of the
+/// others, or the text's fault.
+pub fn put_field(alloc: Global, text: &mut Vec<u8>, cells: &[Vec<u8>]) -> Result<(), AllocError> {
+    match cells {
+        [name, parts @ ..] => put_field_of(alloc, text, name, &joined(alloc, parts)?),
+        [] => put_fault(text),
+    }
+}
+
 /// Writes the content of the first field of this name, or the text's fault.
-fn put_field(
+fn put_field_of(
     alloc: Global,
     text: &mut Vec<u8>,
     name: &[u8],
@@ -72,11 +61,20 @@ fn put_field(
 }
 
 /// Writes the newsgroups of an article, or the text's fault.
-fn put_groups(alloc: Global, text: &mut Vec<u8>, octets: &[u8]) -> Result<(), AllocError> {
+pub fn put_groups(alloc: Global, text: &mut Vec<u8>, octets: &[u8]) -> Result<(), AllocError> {
     match Article::parse(alloc, octets) {
-        Ok(article) => put_list(text, &article.groups(alloc)?),
+        Ok(article) => put_groups_of(alloc, text, &article),
         Err(error) => put_debug(alloc, text, &error),
     }
+}
+
+/// Writes the newsgroups of an article.
+fn put_groups_of(
+    alloc: Global,
+    text: &mut Vec<u8>,
+    article: &Article<'_>,
+) -> Result<(), AllocError> {
+    put_list(text, &article.groups(alloc)?)
 }
 
 /// What a text gives.
@@ -104,7 +102,7 @@ fn said_of(alloc: Global, octets: &[u8]) -> Result<Vec<u8>, AllocError> {
 }
 
 /// Writes what a text gives that is cut after each count of its octets, from none to all.
-fn put_cuts(alloc: Global, text: &mut Vec<u8>, octets: &[u8]) -> Result<(), AllocError> {
+pub fn put_cuts(alloc: Global, text: &mut Vec<u8>, octets: &[u8]) -> Result<(), AllocError> {
     let mut runs = Runs::new(alloc);
     for end in 0..=octets.len() {
         runs.add(said_of(alloc, &octets[..end])?, text)?;
@@ -112,20 +110,139 @@ fn put_cuts(alloc: Global, text: &mut Vec<u8>, octets: &[u8]) -> Result<(), Allo
     runs.end(text)
 }
 
-/// Writes what a text gives with this octet at each of its places in turn.
-fn put_changes(
-    alloc: Global,
-    text: &mut Vec<u8>,
-    octet: &[u8],
-    octets: &[u8],
-) -> Result<(), AllocError> {
-    let [octet] = octet else {
+/// Writes what the text of the other cells gives with the octet of the first at each of its places
+/// in turn.
+pub fn put_changes(alloc: Global, text: &mut Vec<u8>, cells: &[Vec<u8>]) -> Result<(), AllocError> {
+    let [octet, parts @ ..] = cells else {
         return put_fault(text);
     };
+    match octet.as_slice() {
+        [octet] => put_changed(alloc, text, *octet, &joined(alloc, parts)?),
+        _ => put_fault(text),
+    }
+}
+
+/// Writes what a text gives with this octet at each of its places in turn.
+fn put_changed(
+    alloc: Global,
+    text: &mut Vec<u8>,
+    octet: u8,
+    octets: &[u8],
+) -> Result<(), AllocError> {
     let mut runs = Runs::new(alloc);
     for place in 0..octets.len() {
-        let changed = [&octets[..place], &[*octet], &octets[place + 1..]].concat(alloc)?;
+        let changed = [&octets[..place], &[octet], &octets[place + 1..]].concat(alloc)?;
         runs.add(said_of(alloc, &changed)?, text)?;
     }
     runs.end(text)
+}
+
+/// Writes the identities of a Path, or why it is refused.
+pub fn put_identities(alloc: Global, text: &mut Vec<u8>, path: &[u8]) -> Result<(), AllocError> {
+    match identities(alloc, path) {
+        Ok(list) => put_each(text, &list),
+        Err(error) => put_debug(alloc, text, &error),
+    }
+}
+
+/// Writes identities between square brackets.
+fn put_each(text: &mut Vec<u8>, list: &[Identity]) -> Result<(), AllocError> {
+    text.extend_from_slice(b"[")?;
+    for identity in list {
+        put_next(text, identity.as_bytes())?;
+    }
+    text.extend_from_slice(b" ]")
+}
+
+/// Writes what becomes of an article that comes to an agent from another, or the text's fault: the
+/// first two cells are their identities.
+pub fn put_arrived(alloc: Global, text: &mut Vec<u8>, cells: &[Vec<u8>]) -> Result<(), AllocError> {
+    match cells {
+        [own, expected, parts @ ..] => {
+            put_arrival(alloc, text, [own, expected], &joined(alloc, parts)?)
+        }
+        _ => put_fault(text),
+    }
+}
+
+/// Writes what becomes of the article of a text, or the text's fault.
+fn put_arrival(
+    alloc: Global,
+    text: &mut Vec<u8>,
+    agents: [&[u8]; 2],
+    octets: &[u8],
+) -> Result<(), AllocError> {
+    match Article::parse(alloc, octets) {
+        Ok(article) => put_taken(alloc, text, agents, &article),
+        Err(error) => put_debug(alloc, text, &error),
+    }
+}
+
+/// Writes that an article has been here, or as what it is stored.
+fn put_taken(
+    alloc: Global,
+    text: &mut Vec<u8>,
+    agents: [&[u8]; 2],
+    article: &Article<'_>,
+) -> Result<(), AllocError> {
+    match loops(article.field(b"Path").unwrap_or(b""), agents[0]) {
+        Ok(true) => text.extend_from_slice(b"Loop"),
+        Ok(false) => put_updated(alloc, text, agents, article),
+        Err(error) => put_debug(alloc, text, &error),
+    }
+}
+
+/// Writes the article with its Path updated, or why the Path is refused.
+fn put_updated(
+    alloc: Global,
+    text: &mut Vec<u8>,
+    agents: [&[u8]; 2],
+    article: &Article<'_>,
+) -> Result<(), AllocError> {
+    match updated(alloc, article, agents[0], agents[1]) {
+        Ok(octets) => put_stored(text, octets.capacity(), &octets),
+        Err(error) => put_debug(alloc, text, &error),
+    }
+}
+
+/// Writes how many octets are stored, for how many there is room, and the octets.
+fn put_stored(text: &mut Vec<u8>, room: usize, octets: &[u8]) -> Result<(), AllocError> {
+    put_number(text, octets.len() as u64)?;
+    text.extend_from_slice(b" ")?;
+    put_number(text, room as u64)?;
+    put_next(text, octets)
+}
+
+/// Writes whether the date of an article lies in the window, or the text's fault: the first two
+/// cells are now and the cutoff.
+pub fn put_judged(alloc: Global, text: &mut Vec<u8>, cells: &[Vec<u8>]) -> Result<(), AllocError> {
+    let [now, cutoff, parts @ ..] = cells else {
+        return put_fault(text);
+    };
+    match (number_of(now), number_of(cutoff)) {
+        (Some(now), Some(cutoff)) => put_date(alloc, text, now, cutoff, &joined(alloc, parts)?),
+        _ => put_fault(text),
+    }
+}
+
+/// Writes whether the date of the article of a text lies in the window, or the text's fault.
+fn put_date(
+    alloc: Global,
+    text: &mut Vec<u8>,
+    now: u64,
+    cutoff: u64,
+    octets: &[u8],
+) -> Result<(), AllocError> {
+    match Article::parse(alloc, octets) {
+        Ok(article) => put_debug(alloc, text, &judge(alloc, &article, now, cutoff)),
+        Err(error) => put_debug(alloc, text, &error),
+    }
+}
+
+/// Writes the stamp of a moment.
+pub fn put_stamp(text: &mut Vec<u8>, now: &[u8]) -> Result<(), AllocError> {
+    match number_of(now) {
+        Some(now) if now <= LAST_MOMENT => put_octets(text, &stamp(now)),
+        _ => put_fault(text),
+    }
 }

@@ -1,52 +1,35 @@
 //! The calls of `stream_cut`.
 
-use crate::runs::Runs;
-use crate::values::{number_of, put_fault, put_in, put_space};
-use row_text::put_octets;
+use crate::values::{Runs, number_of, put_fault, put_in, put_space};
 use std::alloc::{AllocError, Global};
-use stream_cut::{Block, Cut, CutError, Cutter, Want, cut_all, stuff};
+use stream_cut::{Block, Cut, CutError, Cutter, Want, cut_all};
 
-/// Writes the answer of a call, or answers `false` where it is not known.
-pub fn answer(
-    alloc: Global,
-    call: &str,
-    cells: &[Vec<u8>],
-    text: &mut Vec<u8>,
-) -> Result<bool, AllocError> {
-    let put = match (call, cells) {
-        ("stuff", [octets]) => put_octets(text, &stuff(alloc, octets)?),
-        ("cutter", [limit, size, stream, steps @ ..]) => {
-            put_cutter(alloc, text, [limit, size], stream, steps)
-        }
-        ("cut_all", [limit, wants, pieces @ ..]) => put_cut_all(alloc, text, limit, wants, pieces),
-        ("cut_in_two", [limit, wants, stream]) => put_cut_in_two(alloc, text, limit, wants, stream),
-        ("cut_in_octets", [limit, wants, stream]) => {
-            put_cut_all(alloc, text, limit, wants, &pieces_of(alloc, stream)?)
-        }
-        _ => return Ok(false),
+/// Writes what the steps give of a cutter that was fed a stream: the cells are the limit, the size
+/// of the pieces, the stream and the steps.
+pub fn put_cutter(alloc: Global, text: &mut Vec<u8>, cells: &[Vec<u8>]) -> Result<(), AllocError> {
+    let [limit, size, stream, steps @ ..] = cells else {
+        return put_fault(text);
     };
-    put?;
-    Ok(true)
-}
-
-/// Writes what the steps give of a cutter with a limit that was fed the stream in pieces of a size.
-fn put_cutter(
-    alloc: Global,
-    text: &mut Vec<u8>,
-    numbers: [&[u8]; 2],
-    stream: &[u8],
-    steps: &[Vec<u8>],
-) -> Result<(), AllocError> {
-    let [limit, size] = numbers;
     let (Some(limit), Some(size)) = (number_of(limit), number_of(size)) else {
         return put_fault(text);
     };
     let mut cutter = Cutter::new(alloc, limit as usize);
-    for piece in stream.chunks((size as usize).max(1)) {
-        feed(&mut cutter, piece)?;
+    take_steps(&mut cutter, text, size as usize, stream, steps)
+}
+
+/// Feeds the stream in pieces of a size, and takes the steps.
+fn take_steps(
+    cutter: &mut Cutter,
+    text: &mut Vec<u8>,
+    size: usize,
+    stream: &[u8],
+    steps: &[Vec<u8>],
+) -> Result<(), AllocError> {
+    for piece in stream.chunks(size.max(1)) {
+        feed(cutter, piece)?;
     }
     for step in steps {
-        take_step(&mut cutter, text, step)?;
+        take_step(cutter, text, step)?;
     }
     Ok(())
 }
@@ -107,20 +90,42 @@ fn put_whole(text: &mut Vec<u8>, block: &Block) -> Result<(), AllocError> {
     }
 }
 
+/// Writes what is cut off the pieces that follow the limit and what is wanted.
+pub fn put_cut_all(alloc: Global, text: &mut Vec<u8>, cells: &[Vec<u8>]) -> Result<(), AllocError> {
+    match cells {
+        [limit, wants, pieces @ ..] => put_cut_pieces(alloc, text, limit, wants, pieces),
+        _ => put_fault(text),
+    }
+}
+
 /// Writes what is cut off these pieces.
-fn put_cut_all(
+fn put_cut_pieces(
     alloc: Global,
     text: &mut Vec<u8>,
     limit: &[u8],
     wants: &[u8],
     pieces: &[Vec<u8>],
 ) -> Result<(), AllocError> {
-    let Some(limit) = number_of(limit) else {
-        return put_fault(text);
-    };
-    let wants = wants_of(alloc, wants)?;
+    match number_of(limit) {
+        Some(limit) => put_cuts(text, &cuts_of(alloc, limit as usize, wants, pieces)?),
+        None => put_fault(text),
+    }
+}
+
+/// What is cut off these pieces.
+fn cuts_of(
+    alloc: Global,
+    limit: usize,
+    wants: &[u8],
+    pieces: &[Vec<u8>],
+) -> Result<Vec<Cut>, AllocError> {
+    cut_all(alloc, limit, pieces, &wants_of(alloc, wants)?)
+}
+
+/// Writes what was cut, between square brackets.
+fn put_cuts(text: &mut Vec<u8>, cuts: &[Cut]) -> Result<(), AllocError> {
     text.extend_from_slice(b"[ ")?;
-    for cut in &cut_all(alloc, limit as usize, pieces, &wants)? {
+    for cut in cuts {
         put_one_cut(text, cut)?;
     }
     text.extend_from_slice(b"]")
@@ -156,8 +161,19 @@ fn pieces_of(alloc: Global, stream: &[u8]) -> Result<Vec<Vec<u8>>, AllocError> {
     Ok(pieces)
 }
 
+/// Writes what is cut off a stream that comes octet by octet.
+pub fn put_cut_in_octets(
+    alloc: Global,
+    text: &mut Vec<u8>,
+    limit: &[u8],
+    wants: &[u8],
+    stream: &[u8],
+) -> Result<(), AllocError> {
+    put_cut_pieces(alloc, text, limit, wants, &pieces_of(alloc, stream)?)
+}
+
 /// Writes what is cut off a stream of two pieces, wherever the first one ends.
-fn put_cut_in_two(
+pub fn put_cut_in_two(
     alloc: Global,
     text: &mut Vec<u8>,
     limit: &[u8],
@@ -166,12 +182,31 @@ fn put_cut_in_two(
 ) -> Result<(), AllocError> {
     let mut runs = Runs::new(alloc);
     for place in 0..=stream.len() {
-        let mut pieces = Vec::new(alloc);
-        pieces.push(Vec::from_slice(alloc, &stream[..place])?)?;
-        pieces.push(Vec::from_slice(alloc, &stream[place..])?)?;
-        let mut said = Vec::new(alloc);
-        put_cut_all(alloc, &mut said, limit, wants, &pieces)?;
-        runs.add(said, text)?;
+        runs.add(
+            said_of(alloc, limit, wants, [&stream[..place], &stream[place..]])?,
+            text,
+        )?;
     }
     runs.end(text)
+}
+
+/// What is cut off two pieces, as it is written.
+fn said_of(
+    alloc: Global,
+    limit: &[u8],
+    wants: &[u8],
+    halves: [&[u8]; 2],
+) -> Result<Vec<u8>, AllocError> {
+    let mut said = Vec::new(alloc);
+    put_cut_pieces(alloc, &mut said, limit, wants, &both(alloc, halves)?)?;
+    Ok(said)
+}
+
+/// Two pieces.
+fn both(alloc: Global, halves: [&[u8]; 2]) -> Result<Vec<Vec<u8>>, AllocError> {
+    let mut pieces = Vec::new(alloc);
+    for half in halves {
+        pieces.push(Vec::from_slice(alloc, half)?)?;
+    }
+    Ok(pieces)
 }

@@ -4,4 +4,4 @@ use Rattle.store_rows.proofs.comparison.last_answer.Given as goal
 
 -- reading changes nothing that the buffer keeps in memory
 abbrev pub invariant-loop-article : goal.invariant-loop-article
-invariant-loop-article l = register_of l.buffer ≡ register_of l.fn.buffer
+invariant-loop-article g l = register_of l.buffer ≡ register_of l.fn.buffer

@@ -1,6 +1,6 @@
 use Rattle.std.proofs.Common.{◌≡◌, false, length}
 use Rattle.cyc_buffer.specs.Agreement.{Owns, is_broken, blocks_written, length_of}
-use Rattle.store_rows.proofs.articles.store.Given as goal
+use Rattle.store_rows.proofs.buffers.store.Given as goal
 
 -- the write is still open, and as many blocks are written as were passed
 abbrev pub invariant-loop-block : goal.invariant-loop-block
