@@ -13,7 +13,7 @@ use articles::{put_arrived, put_changes, put_field, put_judged};
 use date_rules::seconds;
 use line_words::{Between, has_only_digits, is_skipped, is_white, trim};
 use names::{Names, joined};
-use nntp_text::{Command, MsgId, REPLY_ROOM};
+use nntp_text::{MsgId, REPLY_ROOM};
 use path_rules::loops;
 use row_text::{Answers, play, put_number, put_octets};
 use std::alloc::{AllocError, Global};
@@ -121,6 +121,7 @@ fn of_cells(
             "cut_in_two" => put_cut_in_two(alloc, text, limit, wants, stream),
             "cut_in_octets" => put_cut_in_octets(alloc, text, limit, wants, stream),
             "number_within" => lines::put_number_within(text, limit, wants, stream),
+            "reply_with" => lines::put_reply_with(alloc, text, limit, wants, stream),
             _ => put_fault(text),
         },
         [] if call == "reply_room" => put_number(text, REPLY_ROOM as u64),
@@ -140,7 +141,8 @@ fn of_line(alloc: Global, call: &str, line: &[u8], text: &mut Vec<u8>) -> Result
         "is_blank" => put_truth(text, is_blank(line)),
         "message_id" => put_debug(alloc, text, &MsgId::parse(alloc, line)),
         "copied" => lines::put_copied(alloc, text, line),
-        "command" => put_debug(alloc, text, &Command::parse(alloc, line)),
+        "command" => lines::put_command(alloc, text, line),
+        "command_cuts" => lines::put_command_cuts(alloc, text, line),
         _ => of_content(alloc, call, line, text),
     }
 }
@@ -174,6 +176,7 @@ fn of_two(
 ) -> Result<(), AllocError> {
     match call {
         "reply" => lines::put_reply(alloc, text, first, second),
+        "command_changes" => lines::put_command_changes(alloc, text, first, second),
         "loops" => put_debug(alloc, text, &loops(second, first)),
         "judge" => lines::put_verdict(alloc, text, first, second),
         _ => match second {
