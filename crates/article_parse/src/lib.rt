@@ -13,4 +13,5 @@ mod lines;
 pub use article::Article;
 pub use content::{is_blank, unfolded};
 pub use faults::{ArtError, FieldName};
-pub use header::Field;
+pub use header::{Field, Front, front_of};
+pub use lines::{has_nul, is_paired};
