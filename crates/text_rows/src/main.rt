@@ -6,6 +6,7 @@ mod articles;
 mod commands;
 mod dates;
 mod names;
+mod overviews;
 mod paths;
 mod patterns;
 mod runs;
@@ -97,6 +98,7 @@ fn answer(
         return Ok(true);
     }
     let known = paths::answer(alloc, call, cells, text)?
+        || overviews::answer(alloc, call, cells, text)?
         || dates::answer(alloc, call, cells, text)?
         || patterns::answer(alloc, call, cells, text)?;
     Ok(known)
