@@ -2,7 +2,7 @@
 ghost use Rattle.std.specs.Prelude.{◌≡◌, ◌↔◌, ◌+◌, ◌<◌, ◌≤◌, ◌++◌, IsTrue, length, vec_len};
 ghost use Rattle.std.specs.Prelude.{vec_capacity, Err, IfOk, OnOk, OnErr};
 ghost use Rattle.news_terms.specs.Article as terms;
-ghost use Rattle.news_terms.specs.Article.{IsLaidOut};
+ghost use Rattle.news_terms.specs.Article.{IsLaidOut, article_text};
 ghost use Rattle.news_terms.specs.Overview.{overview_line};
 ghost use Rattle.article_parse.specs.Article.{article_view};
 
@@ -26,9 +26,12 @@ pub enum PutError {
     NoRoom,
 }
 
-/// The overview line of an article, without a line end (RFC 3977, section 8.3.2).
+/// The overview line of an article, without a line end (RFC 3977, section 8.3.2). Memory is taken
+/// once, for as many octets as the header has, its empty line included, and `LINE_ROOM` more.
 pub fn line(alloc: Global, article: &Article<'_>) -> Result<Vec<u8>, AllocError>
-    ensures { IfOk result (λ line. line.items ≡ overview_line (article_view article.now)) }
+    ensures line { IfOk result (λ line. line.items ≡ overview_line (article_view article.now)) }
+    ensures room { IfOk result (λ line. vec_capacity line + length (article_view article.now).body
+        ≡ length (article_text (article_view article.now)) + LINE_ROOM) }
 {
     let parts = parts_of(article);
     let Some(octets) = parts.header_octets().checked_add(LINE_ROOM) else {
