@@ -8,12 +8,14 @@ use Rattle.std.specs.List.{list_any, position_or_len}
 use Rattle.std.specs.Str.{byte}
 use Rattle.std.proofs.lemmas.Bool.{and_parts, cases_lt, both_ways, eqb-true}
 use Rattle.std.proofs.lemmas.List.{drop-drop, drop-take, take-take, get_or-take, drop_more}
-use Rattle.news_terms.specs.Article.{field_text}
+use Rattle.std.specs.Prelude.{flat_map}
+use Rattle.news_terms.specs.Article.{Field, field_text}
 use Rattle.news_terms.specs.Lines.{crlf}
 use Rattle.news_terms.specs.Article.{begins_field, is_field_name, is_set_off, has_empty_line}
 use Rattle.news_terms.specs.Article.{are_header_lines, header_lines, is_paired}
 use Rattle.article_parse.specs.Header.{is_plain, goes_on, IsLineCut, IsWholeContent}
-use Rattle.article_parse.specs.Header.{IsFieldAt}
+use Rattle.article_parse.specs.Header.{IsFieldAt, IsEmptyLineAt, AreFieldsTo}
+use Rattle.article_parse.specs.Reads.{IsHeader}
 use Rattle.article_parse.proofs.Pairs.{at_first}
 use Rattle.article_parse.proofs.FieldLines.{is_colon, no_colon}
 use Rattle.article_parse.proofs.HeaderCuts.{line_length, blank_of, begins_of, goes_as_header}
@@ -174,3 +176,19 @@ pub no_field : (s : List ℕ) (first : ℕ) → IsLineCut s first → 0 < first
     → begins_field (take first s) ≡ false → are_header_lines (header_lines s) ≡ false
 no_field s first h some f =
     begins_of s first h some ∙ ap (λ b. b && goes_on (drop (first + 2) s)) f
+
+-- fields, and an empty line behind them, are a header
+pub header_ends : (s rest : List ℕ) (fields : List Field) (at : ℕ) → rest ≡ drop at s
+    → AreFieldsTo s fields at → IsEmptyLineAt rest → IsHeader s fields (at + 2)
+header_ends s rest fields at e h line =
+    let fits = line.fits in
+    let within = h.within in
+    let front = flat_map field_text fields in
+    let behind : drop at s ≡ crlf ++ drop (at + 2) s =
+    sym e ∙ line.spelled ∙ ap (λ x. crlf ++ x) (ap (drop 2) e ∙ drop-drop 2 at s) in
+    record {
+      within = omega (arith, fits, ap length e, length-drop at s);
+      spelled = h.spelled ∙ ap (λ x. front ++ x) behind
+          ∙ sym (append_assoc front crlf (drop (at + 2) s));
+      each_field = h.each_field;
+    }

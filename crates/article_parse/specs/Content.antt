@@ -1,4 +1,4 @@
--- Contents of fields, as far as they are cut. No public contract cites it.
+-- Contents of fields, as far as they are cut. Of this, public contracts cite `begins_white` alone.
 use Rattle.std.specs.Prelude.{ℕ, Bool, false, List, [], ◌∷◌}
 use Rattle.news_terms.specs.Article.{Field, is_white, unfolded}
 use Rattle.news_terms.specs.Article.{content_or_empty, name_of, Newsgroups}

@@ -1,4 +1,5 @@
--- How a header is cut into fields. Of this, public contracts cite `field_view` alone.
+-- How a header is cut into fields. Of this, public contracts cite `field_view`, and what stands at
+-- the front of a text: `IsFieldAt` and `IsEmptyLineAt`.
 use Rattle.std.specs.Prelude.{◌≡◌, ℕ, ◌+◌, ◌≤◌, ◌<◌, Bool, true, false, not, ◌||◌, ◌&&◌, List, ◌∷◌}
 use Rattle.std.specs.Prelude.{◌++◌}
 use Rattle.std.specs.Prelude.{length, take, drop, flat_map, IsTrue}
@@ -9,6 +10,7 @@ use Rattle.news_terms.specs.Article.{is_of_line_end, is_paired, is_folded, has_e
 use Rattle.news_terms.specs.Article.{begins_field, continues_field, are_header_lines, header_lines}
 use Rattle.news_terms.specs.Article.{is_field_name, is_set_off, IsField, field_text}
 use Rattle.news_terms.specs.Article as terms
+use Rattle.news_terms.specs.Lines.{crlf}
 use Rattle.article_parse.specs.declared.header.Field.{Field}
 
 -- a field as the definitions have it
@@ -67,6 +69,11 @@ pub record IsFieldAt (text : List ℕ) (field : terms.Field) (octets : ℕ) : Ty
   pub empty : has_empty_line text ≡ has_empty_line (drop octets text)
   pub good : are_header_lines (header_lines text)
       ≡ are_header_lines (header_lines (drop octets text))
+
+-- an empty line stands at the front of a text
+pub record IsEmptyLineAt (text : List ℕ) : Type 0 where
+  pub fits : 2 ≤ length text
+  pub spelled : text ≡ crlf ++ drop 2 text
 
 -- fields stand in front of a place of a text
 pub record AreFieldsTo (text : List ℕ) (fields : List terms.Field) (at : ℕ) : Type 0 where

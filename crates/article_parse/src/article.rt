@@ -2,6 +2,7 @@
 ghost use Rattle.std.specs.Prelude.{◌≡◌, [], ◌∷◌, map, false, IsTrue, IfOk, IfErr};
 ghost use Rattle.std.specs.Option.{option_copied};
 ghost use Rattle.news_terms.specs.Article.{first_content, message_id, BadId, BadGroups};
+ghost use Rattle.news_terms.specs.Article.{article_text};
 ghost use Rattle.news_terms.specs.Article as terms;
 ghost use Rattle.article_parse.specs.Content.{unfolded_newsgroups};
 ghost use Rattle.article_parse.specs.Reads.{IsHeader};
@@ -22,6 +23,7 @@ use std::alloc::{AllocError, Global};
 /// stand in it, and a copy of its Newsgroups in one line.
 #[derive(Drop)]
 pub struct Article<'a> {
+    text: &'a [u8],
     fields: Vec<Field<'a>>,
     body: &'a [u8],
     body_at: usize,
@@ -29,6 +31,8 @@ pub struct Article<'a> {
     newsgroups_line: Vec<u8>,
     ghost is_newsgroups_line: { newsgroups_line.items
         ≡ unfolded_newsgroups (map field_view fields.items) },
+    ghost is_text: { text.now
+        ≡ article_text (record { fields = map field_view fields.items; body = body.now }) },
 }
 
 /// What the contents of the fields say: the message-id, and the Newsgroups in one line.
@@ -78,6 +82,7 @@ impl<'a> Article<'a> {
     {
         match try_fields(alloc, &header.fields) {
             Ok(contents) => Ok(Article {
+                text,
                 fields: header.fields,
                 body: &text[header.body_at..],
                 body_at: header.body_at,
@@ -86,6 +91,13 @@ impl<'a> Article<'a> {
             }),
             Err(error) => Err(error),
         }
+    }
+
+    /// The octets of the article: its text (RFC 5536, section 2.1).
+    pub fn text(&self) -> &'a [u8]
+        ensures { result.now ≡ article_text (article_view self.now) }
+    {
+        self.text
     }
 
     /// The octets after the colon of the first field of that name, without regard to ASCII case.

@@ -37,7 +37,7 @@ fn without_crlf(alloc: Global, text: &[u8]) -> Result<Vec<u8>, AllocError>
 }
 
 /// Whether the first octet is SP or TAB.
-fn begins_white(text: &[u8]) -> bool
+pub fn begins_white(text: &[u8]) -> bool
     ensures { result ≡ begins_white text.now }
 {
     match text.first() {

@@ -6,7 +6,7 @@ ghost use Rattle.std.specs.Str.{byte};
 ghost use Rattle.news_terms.specs.Article.{has_empty_line, is_paired};
 ghost use Rattle.news_terms.specs.Article as terms;
 ghost use Rattle.article_parse.specs.Header.{IsLineCut, IsWholeContent};
-ghost use Rattle.article_parse.specs.Reads.{FieldGives, HeaderGives};
+ghost use Rattle.article_parse.specs.Reads.{FrontGives, HeaderGives};
 
 use crate::lines::line_end;
 use line_words::is_white;
@@ -23,11 +23,17 @@ pub struct Field<'a> {
     pub content: &'a [u8],
 }
 
-/// A field at the front of a text, and its octets with the CRLF that ends it.
-#[derive(Clone, Copy)]
-pub(crate) struct FieldCut<'a> {
-    pub(crate) field: Field<'a>,
-    pub(crate) octets: usize,
+/// What stands at the front of a text that is read as a header (RFC 5536, section 2.2).
+#[derive(Clone, Copy, Debug)]
+pub enum Front<'a> {
+    /// A field, and its octets with the CRLF that ends it.
+    Field(Field<'a>, usize),
+    /// The empty line, behind which the body stands.
+    EmptyLine,
+    /// The text has no empty line.
+    NoBlankLine,
+    /// A line before the empty line neither begins a field nor continues one.
+    BadHeader,
 }
 
 /// The fields of a header, and where the body begins.
@@ -54,44 +60,59 @@ pub(crate) fn read_header<'a>(alloc: Global, text: &'a [u8]) -> Result<Header<'a
 {
     let mut fields = Vec::new(alloc);
     let mut at = 0;
-    while let Some(first) = line_end(&text[at..]) {
-        if first == 0 {
-            return Ok(Header {
-                fields,
-                body_at: at + 2,
-            });
+    loop {
+        match front_of(&text[at..]) {
+            Front::Field(field, octets) => {
+                if fields.push(field).is_err() {
+                    return Err(HeaderFault::Memory);
+                }
+                at += octets;
+            }
+            Front::EmptyLine => {
+                return Ok(Header {
+                    fields,
+                    body_at: at + 2,
+                });
+            }
+            Front::NoBlankLine => return Err(HeaderFault::NoBlankLine),
+            Front::BadHeader => return Err(HeaderFault::BadHeader),
         }
-        let cut = next_field(&text[at..], first)?;
-        if fields.push(cut.field).is_err() {
-            return Err(HeaderFault::Memory);
-        }
-        at += cut.octets;
     }
-    Err(HeaderFault::NoBlankLine)
+}
+
+/// What stands at the front of a text whose line ends are pairs. It takes no memory: a header is
+/// gone over by asking again behind each field.
+pub fn front_of(text: &[u8]) -> Front<'_>
+    requires { IsTrue (is_paired text.now) }
+    ensures { FrontGives text.now result }
+{
+    match line_end(text) {
+        Some(first) if first > 0 => first_field(text, first),
+        Some(_) => Front::EmptyLine,
+        None => Front::NoBlankLine,
+    }
 }
 
 /// Reads the field at the front of a text whose first line ends at `first`.
-fn next_field(text: &[u8], first: usize) -> Result<FieldCut<'_>, HeaderFault>
+fn first_field(text: &[u8], first: usize) -> Front<'_>
     requires paired { IsTrue (is_paired text.now) }
     requires cut { IsLineCut text.now first }
     requires some { 0 < first }
-    ensures { FieldGives text.now result }
+    ensures { FrontGives text.now result }
 {
     let colon = colon_place(&text[..first]);
     if !begins_field(&text[..first], colon) {
-        return Err(HeaderFault::BadHeader);
+        return Front::BadHeader;
     }
     let content = &text[colon + 1..];
     let Some(end) = content_end(content, first - (colon + 1)) else {
-        return Err(HeaderFault::NoBlankLine);
+        return Front::NoBlankLine;
     };
-    Ok(FieldCut {
-        field: Field {
-            name: &text[..colon],
-            content: &content[..end],
-        },
-        octets: colon + 1 + end + 2,
-    })
+    let field = Field {
+        name: &text[..colon],
+        content: &content[..end],
+    };
+    Front::Field(field, colon + 1 + end + 2)
 }
 
 /// Where a content ends whose first line ends at `first`: at the first CRLF behind which no line

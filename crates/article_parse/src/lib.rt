@@ -11,6 +11,7 @@ pub mod laws;
 mod lines;
 
 pub use article::Article;
-pub use content::{is_blank, unfolded};
+pub use content::{begins_white, is_blank, unfolded};
 pub use faults::{ArtError, FieldName};
-pub use header::Field;
+pub use header::{Field, Front, front_of};
+pub use lines::{has_nul, is_paired};

@@ -6,14 +6,14 @@ ghost use Rattle.article_parse.specs.Header.{is_plain, IsLineCut};
 use memchr::{memchr, memchr2};
 
 /// Whether an octet 0 stands in the text (docs/FORMATS.md, Articles).
-pub(crate) fn has_nul(text: &[u8]) -> bool
+pub fn has_nul(text: &[u8]) -> bool
     ensures { result ≡ terms.has_nul text.now }
 {
     memchr(0, text).is_some()
 }
 
 /// Whether each CR is followed by LF and each LF preceded by CR (docs/FORMATS.md, Articles).
-pub(crate) fn is_paired(text: &[u8]) -> bool
+pub fn is_paired(text: &[u8]) -> bool
     ensures { result ≡ terms.is_paired text.now }
 {
     let mut at = 0;

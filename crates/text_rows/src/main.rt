@@ -5,6 +5,7 @@
 mod articles;
 mod lines;
 mod names;
+mod overviews;
 mod streams;
 mod values;
 
@@ -14,6 +15,7 @@ use date_rules::seconds;
 use line_words::{Between, has_only_digits, is_skipped, is_white, trim};
 use names::{Names, joined};
 use nntp_text::{MsgId, REPLY_ROOM};
+use overviews::put_behind;
 use path_rules::loops;
 use row_text::{Answers, play, put_number, put_octets};
 use std::alloc::{AllocError, Global};
@@ -83,9 +85,9 @@ fn answer(
     text: &mut Vec<u8>,
 ) -> Result<(), AllocError> {
     match call {
-        "octets" | "article" | "article_fault" | "article_cuts" | "groups" => {
-            of_text(alloc, call, &joined(alloc, cells)?, text)
-        }
+        "octets" | "article" | "article_fault" | "article_cuts" | "groups" | "overview"
+        | "overview_cuts" => of_text(alloc, call, &joined(alloc, cells)?, text),
+        "put_overview" => put_behind(alloc, text, cells),
         "field" => put_field(alloc, text, cells),
         "article_changes" => put_changes(alloc, text, cells),
         "arrived" => put_arrived(alloc, text, cells),
@@ -103,6 +105,8 @@ fn of_text(alloc: Global, call: &str, octets: &[u8], text: &mut Vec<u8>) -> Resu
         "article" => articles::put_article(alloc, text, octets),
         "article_fault" => articles::put_fault_of(alloc, text, octets),
         "article_cuts" => articles::put_cuts(alloc, text, octets),
+        "overview" => overviews::put_overview(alloc, text, octets),
+        "overview_cuts" => overviews::put_cuts(alloc, text, octets),
         _ => articles::put_groups(alloc, text, octets),
     }
 }

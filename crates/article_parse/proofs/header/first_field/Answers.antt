@@ -4,7 +4,7 @@ use Rattle.article_parse.specs.Header.{IsLineCut}
 use Rattle.article_parse.proofs.HeaderCuts.{line_length}
 use Rattle.article_parse.proofs.FieldCuts.{no_field, line_behind, colon_within, field_lost}
 use Rattle.article_parse.proofs.FieldCuts.{field_sliced}
-use Rattle.article_parse.proofs.header.next_field.Goals as goal
+use Rattle.article_parse.proofs.header.first_field.Goals as goal
 
 pub returns-then-not-begins_field : goal.returns-then-not-begins_field
 returns-then-not-begins_field c =

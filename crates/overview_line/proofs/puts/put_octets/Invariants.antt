@@ -1,0 +1,10 @@
+use Rattle.std.proofs.Common.{◌≡◌, ◌+◌, ◌++◌, take, vec_len, vec_capacity}
+use Rattle.overview_line.proofs.puts.put_octets.Given as goal
+
+-- the octets passed so far were put, and the room is as it was
+abbrev pub invariant-loop-octet : goal.invariant-loop-octet
+invariant-loop-octet l = record {
+  items : l.room.items ≡ l.fn.room.items ++ take l.octet-index l.octets;
+  len : vec_len l.room ≡ vec_len l.fn.room + l.octet-index;
+  capacity : vec_capacity l.room ≡ vec_capacity l.fn.room;
+}
