@@ -1,10 +1,26 @@
 //! Which entry an article falls to.
 use crate::settings::put_number_of;
 use line_words::number_within;
-use relay_conf::Method;
+use relay_conf::{Config, Method};
 use std::alloc::{AllocError, Global};
 use store_class::choose;
 use uwild::{Expr, WildError};
+
+/// `k1_chooses NEWSGROUP`: where the entries of the built-in configuration send an article of one
+/// octet in this newsgroup.
+pub fn k1_chooses(
+    alloc: Global,
+    cells: &[Vec<u8>],
+    text: &mut Vec<u8>,
+) -> Result<bool, AllocError> {
+    let [newsgroup] = cells else {
+        return Ok(false);
+    };
+    match Config::k1(alloc) {
+        Ok(config) => put_choice(text, choose(&config.methods, &[newsgroup.as_slice()], 1)),
+        Err(_) => Err(AllocError),
+    }
+}
 
 /// `choose SIZE NEWSGROUPS ENTRY..`: the class and the group of buffers of an article of this size
 /// in the newsgroups, which commas separate. An entry is six values: its class, its group of
@@ -16,23 +32,36 @@ pub fn choice(alloc: Global, cells: &[Vec<u8>], text: &mut Vec<u8>) -> Result<bo
     let Some(size) = number_of(size) else {
         return Ok(false);
     };
-    let newsgroups = newsgroups_of(alloc, newsgroups)?;
-    let Some(methods) = methods_of(alloc, entries)? else {
-        return Ok(false);
-    };
-    put_choice(text, choose(&methods, &newsgroups, size))?;
-    Ok(true)
+    match methods_of(alloc, entries)? {
+        Some(methods) => put_chosen(alloc, text, &methods, newsgroups, size),
+        None => Ok(false),
+    }
+}
+
+/// Puts which entry an article of this size in a list of newsgroups falls to.
+fn put_chosen(
+    alloc: Global,
+    text: &mut Vec<u8>,
+    methods: &[Method],
+    newsgroups: &[u8],
+    size: u64,
+) -> Result<bool, AllocError> {
+    put_choice(
+        text,
+        choose(methods, &newsgroups_of(alloc, newsgroups)?, size),
+    )
 }
 
 /// Puts a choice.
-pub fn put_choice(text: &mut Vec<u8>, chosen: Option<(u8, usize)>) -> Result<(), AllocError> {
+fn put_choice(text: &mut Vec<u8>, chosen: Option<(u8, usize)>) -> Result<bool, AllocError> {
     match chosen {
         Some((class, group)) => {
             put_number_of(text, b"class ", u64::from(class))?;
-            put_number_of(text, b" group ", group as u64)
+            put_number_of(text, b" group ", group as u64)?;
         }
-        None => text.extend_from_slice(b"none"),
+        None => text.extend_from_slice(b"none")?,
     }
+    Ok(true)
 }
 
 /// The newsgroups of a list that commas separate; an empty list has none.

@@ -30,20 +30,22 @@ fn put_word(text: &mut Vec<u8>, word: &[u8]) -> Result<(), AllocError> {
 }
 
 /// Puts a fault as `LINE: CODE NAME`.
-pub fn put_fault(text: &mut Vec<u8>, at: LineFault) -> Result<(), AllocError> {
+pub fn put_fault(text: &mut Vec<u8>, at: LineFault) -> Result<bool, AllocError> {
     put_number(text, at.line as u64)?;
     put_number_of(text, b": ", u64::from(at.fault.code()))?;
-    put_word(text, at.fault.name().as_bytes())
+    put_word(text, at.fault.name().as_bytes())?;
+    Ok(true)
 }
 
 /// Puts how much a cycbuff.conf has.
-pub fn put_buffer_counts(text: &mut Vec<u8>, settings: &Buffers) -> Result<(), AllocError> {
+pub fn put_buffer_counts(text: &mut Vec<u8>, settings: &Buffers) -> Result<bool, AllocError> {
     put_count(text, settings.buffers.len(), b" buffers, ")?;
-    put_count(text, settings.groups.len(), b" groups")
+    put_count(text, settings.groups.len(), b" groups")?;
+    Ok(true)
 }
 
 /// Puts the settings of cycbuff.conf.
-pub fn put_buffers(text: &mut Vec<u8>, settings: &Buffers) -> Result<(), AllocError> {
+pub fn put_buffers(text: &mut Vec<u8>, settings: &Buffers) -> Result<bool, AllocError> {
     put_buffer_counts(text, settings)?;
     for buffer in &settings.buffers {
         put_buffer(text, buffer)?;
@@ -51,7 +53,7 @@ pub fn put_buffers(text: &mut Vec<u8>, settings: &Buffers) -> Result<(), AllocEr
     for group in &settings.groups {
         put_group(text, group)?;
     }
-    Ok(())
+    Ok(true)
 }
 
 /// Puts a buffer: its name, its file and its blocks.
@@ -82,12 +84,12 @@ fn mode_name(mode: Mode) -> &'static [u8] {
 }
 
 /// Puts the settings of storage.conf.
-pub fn put_methods(text: &mut Vec<u8>, methods: &[Method]) -> Result<(), AllocError> {
+pub fn put_methods(text: &mut Vec<u8>, methods: &[Method]) -> Result<bool, AllocError> {
     put_count(text, methods.len(), b" entries")?;
     for method in methods {
         put_method(text, method)?;
     }
-    Ok(())
+    Ok(true)
 }
 
 /// Puts an entry: its class, its group and which articles it takes.
@@ -103,13 +105,14 @@ fn put_method(text: &mut Vec<u8>, method: &Method) -> Result<(), AllocError> {
 }
 
 /// Puts how much a relay.conf has.
-pub fn put_relay_counts(text: &mut Vec<u8>, relay: &Relay) -> Result<(), AllocError> {
+pub fn put_relay_counts(text: &mut Vec<u8>, relay: &Relay) -> Result<bool, AllocError> {
     put_count(text, relay.peers.len(), b" peers, ")?;
-    put_count(text, relay.feeds.len(), b" feeds")
+    put_count(text, relay.feeds.len(), b" feeds")?;
+    Ok(true)
 }
 
 /// Puts the settings of relay.conf.
-pub fn put_relay(text: &mut Vec<u8>, relay: &Relay) -> Result<(), AllocError> {
+pub fn put_relay(text: &mut Vec<u8>, relay: &Relay) -> Result<bool, AllocError> {
     put_relay_counts(text, relay)?;
     put_own(text, relay)?;
     for peer in &relay.peers {
@@ -118,7 +121,7 @@ pub fn put_relay(text: &mut Vec<u8>, relay: &Relay) -> Result<(), AllocError> {
     for feed in &relay.feeds {
         put_feed(text, feed)?;
     }
-    Ok(())
+    Ok(true)
 }
 
 /// Puts what a relay.conf says of the relay itself.

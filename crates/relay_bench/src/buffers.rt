@@ -15,31 +15,54 @@ const ARTICLE: usize = 64 * CHUNK_OCTETS;
 
 /// The seconds that writing the text to a buffer takes, or reading it from one.
 pub fn seconds(rt: &HostRuntime, work: Work, text: &[u8]) -> io::Result<f64> {
-    let blocks = u32::try_from(text.len().div_ceil(CHUNK_OCTETS)).unwrap_or(u32::MAX);
-    let store = MemoryBlocks::new(rt.alloc(), blocks)?;
-    let mut buffer = Buffer::format(rt.alloc(), store, 0, 0)?;
+    let mut buffer = empty(rt.alloc(), text.len())?;
+    let mut tokens = Vec::new(rt.alloc());
     let start = Instant::now(rt)?;
-    let tokens = write(rt.alloc(), &mut buffer, text)?;
-    if let Work::Write = work {
-        return Ok(start.elapsed(rt)?.as_secs_f64());
+    write(&mut buffer, &mut tokens, text)?;
+    match work {
+        Work::Write => since(rt, start),
+        _ => reading(rt, &mut buffer, &tokens),
     }
-    let start = Instant::now(rt)?;
-    for token in &tokens {
-        read_article(&mut buffer, token)?;
-    }
+}
+
+/// The seconds that went by since a moment.
+pub fn since(rt: &HostRuntime, start: Instant) -> io::Result<f64> {
     Ok(start.elapsed(rt)?.as_secs_f64())
 }
 
-/// Writes the articles of the text, and gives their tokens.
-fn write(alloc: Global, buffer: &mut Buffer<MemoryBlocks>, text: &[u8]) -> io::Result<Vec<Token>> {
-    let mut tokens = Vec::new(alloc);
+/// The seconds that reading the articles of these tokens takes.
+fn reading(
+    rt: &HostRuntime,
+    buffer: &mut Buffer<MemoryBlocks>,
+    tokens: &[Token],
+) -> io::Result<f64> {
+    let start = Instant::now(rt)?;
+    for token in tokens {
+        read_article(buffer, token)?;
+    }
+    since(rt, start)
+}
+
+/// A buffer without articles, with room for so many octets.
+fn empty(alloc: Global, octets: usize) -> io::Result<Buffer<MemoryBlocks>> {
+    let blocks = u32::try_from(octets.div_ceil(CHUNK_OCTETS)).unwrap_or(u32::MAX);
+    let store = MemoryBlocks::new(alloc, blocks)?;
+    Ok(Buffer::format(alloc, store, 0, 0)?)
+}
+
+/// Writes the articles of the text, and adds their tokens.
+fn write(
+    buffer: &mut Buffer<MemoryBlocks>,
+    tokens: &mut Vec<Token>,
+    text: &[u8],
+) -> io::Result<()> {
     for article in text.chunks(ARTICLE) {
         if article.is_empty() || article.len() > u32::MAX as usize {
             return Err(io::Error::from(ErrorKind::InvalidData));
         }
         tokens.push(write_article(buffer, article)?)?;
     }
-    Ok(tokens)
+    Ok(())
 }
 
 /// Writes an article.

@@ -6,18 +6,21 @@ use std::alloc::{AllocError, Global};
 /// stream how many octets.
 pub type Case = (&'static str, Work, Text, usize);
 
-/// The tables by the words that name them.
-pub const TABLES: [(&str, &[Case]); 6] = [
-    ("articles", &ARTICLES),
-    ("buffers", &BUFFERS),
-    ("cutting", &CUTTING),
-    ("paths", &PATHS),
-    ("patterns", &PATTERNS),
-    ("settings", &SETTINGS),
-];
+/// The table that the word names.
+pub fn table(word: &str) -> Option<&'static [Case]> {
+    match word {
+        "articles" => Some(&ARTICLES),
+        "buffers" => Some(&BUFFERS),
+        "cutting" => Some(&CUTTING),
+        "paths" => Some(&PATHS),
+        "patterns" => Some(&PATTERNS),
+        "settings" => Some(&SETTINGS),
+        _ => None,
+    }
+}
 
 /// Lines and blocks that come in pieces.
-const CUTTING: [Case; 6] = [
+static CUTTING: [Case; 6] = [
     (
         "lines of 60 octets, in pieces of 1",
         Work::Lines(1),
@@ -57,7 +60,7 @@ const CUTTING: [Case; 6] = [
 ];
 
 /// Articles that are read, and newsgroups of one.
-const ARTICLES: [Case; 6] = [
+static ARTICLES: [Case; 6] = [
     ("a header of a million fields", Work::Parse, FIELDS, MILLION),
     (
         "a field of a million lines",
@@ -82,7 +85,7 @@ const ARTICLES: [Case; 6] = [
 ];
 
 /// Paths of many pieces.
-const PATHS: [Case; 6] = [
+static PATHS: [Case; 6] = [
     (
         "`identities`, each piece an identity",
         Work::Identities,
@@ -117,7 +120,7 @@ const PATHS: [Case; 6] = [
 ];
 
 /// Patterns with many stars.
-const PATTERNS: [Case; 4] = [
+static PATTERNS: [Case; 4] = [
     ("reading 1,000,000 `*`", Work::Expression, STARS, MILLION),
     (
         "judging 1,000,001 octets by 1,000,000 `*`",
@@ -140,7 +143,7 @@ const PATTERNS: [Case; 4] = [
 ];
 
 /// Configuration files of many lines, and with long ones.
-const SETTINGS: [Case; 5] = [
+static SETTINGS: [Case; 5] = [
     (
         "cycbuff.conf of 100,000 comments",
         Work::Cycbuff,
@@ -174,7 +177,7 @@ const SETTINGS: [Case; 5] = [
 ];
 
 /// Blocks of a buffer, of 30 sixteens each.
-const BUFFERS: [Case; 3] = [
+static BUFFERS: [Case; 3] = [
     ("65,536 blocks written", Work::Write, BLOCKS, 30 << 16),
     ("65,536 blocks read", Work::Read, BLOCKS, 30 << 16),
     ("as many octets copied", Work::Copy, BLOCKS, 30 << 16),

@@ -6,7 +6,7 @@ mod buffers;
 mod cases;
 mod work;
 
-use cases::{Case, TABLES, Text};
+use cases::{Case, table};
 use std::process::ExitCode;
 use std::{env, io};
 use work::{Work, seconds};
@@ -36,12 +36,14 @@ fn run(rt: &HostRuntime) -> io::Result<ExitCode> {
 
 /// Runs the benchmark of this name.
 fn measure(rt: &HostRuntime, word: &str) -> io::Result<ExitCode> {
-    for (name, cases) in TABLES {
-        if name == word {
-            print_table(rt, cases)?;
-            return Ok(ExitCode::SUCCESS);
-        }
+    match table(word) {
+        Some(cases) => print_table(rt, cases),
+        None => print_words(rt),
     }
+}
+
+/// Says which benchmarks there are.
+fn print_words(rt: &HostRuntime) -> io::Result<ExitCode> {
     eprintln!(rt;
         "relay_bench: the benchmarks are articles, buffers, cutting, paths, patterns and settings"
     )?;
@@ -49,34 +51,46 @@ fn measure(rt: &HostRuntime, word: &str) -> io::Result<ExitCode> {
 }
 
 /// Times each case, and prints a table.
-fn print_table(rt: &HostRuntime, cases: &[Case]) -> io::Result<()> {
+fn print_table(rt: &HostRuntime, cases: &[Case]) -> io::Result<ExitCode> {
     println!(rt; "| Done | Octets | Seconds | MB a second | Twice the octets |")?;
     println!(rt; "|---|---:|---:|---:|---:|")?;
-    for (name, work, text, count) in cases.iter().copied() {
-        print_row(rt, name, work, text, count)?;
+    for case in cases {
+        print_row(rt, case)?;
     }
-    Ok(())
+    Ok(ExitCode::SUCCESS)
 }
 
-/// Times a case and the same with twice the count, in turn, and prints a row.
-fn print_row(
-    rt: &HostRuntime,
-    name: &str,
-    work: Work,
-    parts: Text,
-    count: usize,
-) -> io::Result<()> {
+/// Times a case and the same with twice the count, and prints a row.
+fn print_row(rt: &HostRuntime, case: &Case) -> io::Result<()> {
+    let (name, work, parts, count) = *case;
     let text = parts.made(rt.alloc(), count)?;
     let double = parts.made(rt.alloc(), count.saturating_mul(2))?;
+    let least = least(rt, work, &text, &double)?;
+    print_times(rt, name, text.len(), least)
+}
+
+/// Prints a row: what is done, how many octets the text has, and the least seconds for it and for
+/// twice the count.
+fn print_times(
+    rt: &HostRuntime,
+    name: &str,
+    octets: usize,
+    (once, twice): (f64, f64),
+) -> io::Result<()> {
+    let octets = u32::try_from(octets).unwrap_or(u32::MAX);
+    let rate = f64::from(octets) / once / 1e6;
+    let ratio = twice / once;
+    println!(rt; "| {name} | {octets} | {once:.6} | {rate:.1} | {ratio:.2} |")
+}
+
+/// The least seconds that the work on each of two texts takes, which are timed in turn.
+fn least(rt: &HostRuntime, work: Work, text: &[u8], double: &[u8]) -> io::Result<(f64, f64)> {
     let mut once = f64::MAX;
     let mut twice = f64::MAX;
     for run in 0..RUNS {
         let _run = run;
-        once = once.min(seconds(rt, work, &text)?);
-        twice = twice.min(seconds(rt, work, &double)?);
+        once = once.min(seconds(rt, work, text)?);
+        twice = twice.min(seconds(rt, work, double)?);
     }
-    let octets = u32::try_from(text.len()).unwrap_or(u32::MAX);
-    let rate = f64::from(octets) / once / 1e6;
-    let ratio = twice / once;
-    println!(rt; "| {name} | {octets} | {once:.6} | {rate:.1} | {ratio:.2} |")
+    Ok((once, twice))
 }

@@ -1,5 +1,6 @@
 //! What is done with a text, and how long it takes.
 use crate::buffers;
+use crate::buffers::since;
 use crate::cases::repeated;
 use article_parse::Article;
 use path_rules::{identities, loops, updated};
@@ -75,23 +76,17 @@ fn whole(rt: &HostRuntime, work: Work, text: &[u8]) -> io::Result<f64> {
         Work::Copy => buffers::copy(text) != 0,
         _ => configure(alloc, work, text),
     };
-    let seconds = start.elapsed(rt)?.as_secs_f64();
+    let seconds = since(rt, start);
     if !done {
         return Err(io::Error::from(ErrorKind::InvalidData));
     }
-    Ok(seconds)
+    seconds
 }
 
 /// Reads the text as a configuration file; a fault of it is none here.
 fn configure(alloc: Global, work: Work, text: &[u8]) -> bool {
     match work {
-        Work::Storage => match read_cycbuff(alloc, b"cycbuff:A:a:1\nmetacycbuff:G:A\n") {
-            Ok(buffers) => {
-                let _settings = read_storage(alloc, text, &buffers);
-                true
-            }
-            Err(_) => false,
-        },
+        Work::Storage => configure_storage(alloc, text),
         Work::Relay => {
             let _settings = read_relay(alloc, text);
             true
@@ -100,6 +95,17 @@ fn configure(alloc: Global, work: Work, text: &[u8]) -> bool {
             let _settings = read_cycbuff(alloc, text);
             true
         }
+    }
+}
+
+/// Reads the text as a storage.conf over one group; a fault of it is none here.
+fn configure_storage(alloc: Global, text: &[u8]) -> bool {
+    match read_cycbuff(alloc, b"cycbuff:A:a:1\nmetacycbuff:G:A\n") {
+        Ok(buffers) => {
+            let _settings = read_storage(alloc, text, &buffers);
+            true
+        }
+        Err(_) => false,
     }
 }
 
@@ -119,14 +125,14 @@ fn of_article(rt: &HostRuntime, work: Work, text: &[u8]) -> io::Result<f64> {
 fn groups(rt: &HostRuntime, article: &Article<'_>) -> io::Result<f64> {
     let start = Instant::now(rt)?;
     let _groups = article.groups(rt.alloc());
-    Ok(start.elapsed(rt)?.as_secs_f64())
+    since(rt, start)
 }
 
 /// The seconds that updating the Path of an article takes.
 fn update(rt: &HostRuntime, article: &Article<'_>) -> io::Result<f64> {
     let start = Instant::now(rt)?;
     let _update = updated(rt.alloc(), article, OWN, b"one.example");
-    Ok(start.elapsed(rt)?.as_secs_f64())
+    since(rt, start)
 }
 
 /// The seconds that work on a Path takes.
@@ -137,7 +143,7 @@ fn of_path(rt: &HostRuntime, work: Work, path: &[u8]) -> io::Result<f64> {
     } else {
         let _list = identities(rt.alloc(), path);
     }
-    Ok(start.elapsed(rt)?.as_secs_f64())
+    since(rt, start)
 }
 
 /// The seconds that judging a name of so many `a` and a `b` takes.
@@ -148,7 +154,7 @@ fn judging(rt: &HostRuntime, pattern: &[u8], count: usize) -> io::Result<f64> {
     };
     let start = Instant::now(rt)?;
     let _verdict = expression.judge(&name);
-    Ok(start.elapsed(rt)?.as_secs_f64())
+    since(rt, start)
 }
 
 /// Cuts the whole stream, which comes in pieces of this many octets.
