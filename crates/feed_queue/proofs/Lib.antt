@@ -1,0 +1,3 @@
+mod DeskLemmas
+mod KeepLemmas
+mod RingLemmas
