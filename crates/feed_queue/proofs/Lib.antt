@@ -1,3 +1,4 @@
 mod DeskLemmas
 mod KeepLemmas
+mod PermissionLemmas
 mod RingLemmas

@@ -1,2 +1,3 @@
 pub mod Feeds
+pub mod Permission
 pub mod Taking

@@ -6,6 +6,8 @@
 #![tactic(auto)]
 
 mod desk;
+mod permission;
 mod rings;
 
 pub use desk::{Counts, FeedDesk, Taken};
+pub use permission::permitted;
