@@ -2,3 +2,4 @@ mod DeskLemmas
 mod KeepLemmas
 mod PermissionLemmas
 mod RingLemmas
+mod SomeFeeds

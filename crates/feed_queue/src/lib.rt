@@ -6,6 +6,7 @@
 #![tactic(auto)]
 
 mod desk;
+pub mod laws;
 mod permission;
 mod rings;
 
