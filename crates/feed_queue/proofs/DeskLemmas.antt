@@ -1,6 +1,7 @@
 -- What a step of one ring does to all feeds.
 use Rattle.std.proofs.Common.{◌≡◌, ◌∙◌, ap, sym, subst, refl, ◌+◌, ◌<◌, ◌≤◌, ◌++◌, ◌∷◌, []}
-use Rattle.std.proofs.Common.{ℕ, Bool, true, false, ◌||◌, not, nat_eq, eqb, cond, map, take, List, length, arith}
+use Rattle.std.proofs.Common.{ℕ, Bool, true, false, ◌||◌, not, nat_eq, eqb, cond, map, take, List}
+use Rattle.std.proofs.Common.{length, arith}
 use Rattle.std.proofs.Common.{inl, inr}
 use Rattle.std.proofs.Math.ListN.{get_or, set, get_or-append}
 use Rattle.std.proofs.Math.Seq.{get_or-append_seam}
@@ -11,7 +12,8 @@ use Rattle.std.proofs.lemmas.List.{take_more, map-append}
 use Rattle.std.proofs.lemmas.List.Folds.{list_any-append, list_any_none}
 use Rattle.std.specs.List.{All, list_any}
 use Rattle.feed_queue.specs.declared.rings.Ring.{Ring}
-use Rattle.feed_queue.specs.Feeds.{KeepsFeed, KeepFeeds, CountBelow, no_feed, with_gained, ring_size}
+use Rattle.feed_queue.specs.Feeds.{KeepsFeed, KeepFeeds, CountBelow, no_feed, with_gained}
+use Rattle.feed_queue.specs.Feeds.{ring_size}
 use Rattle.relay_conf.specs.declared.relay.Feed as conf
 use Rattle.cyc_token.specs.Token.{token_view}
 use Rattle.cyc_token.specs.declared.Token as tokens

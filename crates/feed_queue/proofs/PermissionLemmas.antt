@@ -1,6 +1,7 @@
 -- The numbers of the feeds that may have an article, feed by feed.
 use Rattle.std.proofs.Common.{◌≡◌, ◌∙◌, ap, sym, refl, ◌+◌, ◌<◌, ◌≤◌, ◌++◌, ◌∷◌, [], ℕ, Bool}
-use Rattle.std.proofs.Common.{true, false, cond, List, length, map, take, filter, arith, zero-add, append-nil, min}
+use Rattle.std.proofs.Common.{true, false, cond, List, length, map, take, filter, arith, zero-add}
+use Rattle.std.proofs.Common.{append-nil, min}
 use Rattle.std.specs.Borrow.{Bor}
 use Rattle.std.specs.Option.{option_copied}
 use Rattle.std.specs.Prelude.{Option, None, Some, unwrap_or}

@@ -1,4 +1,4 @@
--- What a ring holds of a list, whatever its items: the laws of `news_terms`, for every type of them.
+-- What a ring holds of a list: the laws of `news_terms` (rings), for items of every type.
 use Rattle.std.proofs.Common.{◌≡◌, ◌≤◌, ◌+◌, ◌-◌, ◌++◌, ◌∷◌, [], ℕ, length, take, drop, arith}
 use Rattle.std.proofs.Common.{min}
 use Rattle.std.specs.List.{enumerate_from}

@@ -1,7 +1,6 @@
 //! All rings.
 ghost use Rattle.std.specs.Prelude.{◌≡◌, ◌+◌, ◌-◌, ◌^◌, ◌≤◌, ◌<◌, ◌↔◌, ℕ, List, map, slice_index};
-ghost use Rattle.std.specs.Prelude.{Ok, None, ◌++◌, ◌∷◌, []};
-ghost use Rattle.std.specs.Prelude.{IfOk, IfSome, OnErr, not, nat_eq};
+ghost use Rattle.std.specs.Prelude.{Ok, None, ◌++◌, ◌∷◌, [], IfOk, IfSome, OnErr, not, nat_eq};
 ghost use Rattle.std.specs.List.{All, list_any};
 ghost use Rattle.cyc_token.specs.Token.{token_view};
 ghost use Rattle.id_history.specs.Answers.{token_of};
@@ -77,7 +76,8 @@ impl FeedDesk {
     /// The feed gains the token, unless it is one of those before it, all of which are below
     /// `above`.
     fn gain_once(&mut self, before: &[u16], above: u32, feed: u16, token: Token)
-        ensures keeps { (sizes : List ℕ) (feeds : ℕ → Feed) → All (λ other. other < above) before.now
+        ensures keeps { (sizes : List ℕ) (feeds : ℕ → Feed)
+            → All (λ other. other < above) before.now
             → CountBelow self.old.rings.items (2 ^ 64 - 1)
             → KeepsFeeds self.old sizes (gaining feeds before.now (token_view token))
             → KeepsFeeds self.new sizes

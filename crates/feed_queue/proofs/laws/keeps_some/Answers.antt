@@ -3,4 +3,6 @@ use Rattle.feed_queue.proofs.laws.keeps_some.Goals as goal
 
 -- feeds that lost whatever doesn't wait
 pub returns : goal.returns
-returns c = (sizes_of c.args.desk.now.rings.items, (feeds_of c.args.desk.now.rings.items, keeps-some c.args.desk.now.rings.items))
+returns c =
+    let rings = c.args.desk.now.rings.items in
+    (sizes_of rings, (feeds_of rings, keeps-some rings))
