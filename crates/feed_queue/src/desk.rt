@@ -124,8 +124,8 @@ impl FeedDesk {
         ensures none { result ≡ Ok None → self.new ≡ self.old }
         ensures err { OnErr result (self.new ≡ self.old) }
 
-        // There is an answer for each ring.
-        ensures missing { IfOk result (λ answer. (answer ≡ None) ↔ (ring_count self.old ≤ feed)) }
+        // That there is no such feed is said whatever memory there is.
+        ensures missing { (result ≡ Ok None) ↔ (ring_count self.old ≤ feed) }
     {
         let place = usize::from(feed);
         if place >= self.rings.len() {
