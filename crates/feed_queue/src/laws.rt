@@ -1,10 +1,16 @@
 //! Laws of what a desk keeps, and the worked example *ring*: each is the contract of an empty body.
-ghost use Rattle.std.specs.Prelude.{◌≡◌, ◌<◌, ◌^◌, ◌∷◌, [], ℕ, List, length};
+ghost use Rattle.std.specs.Prelude.{◌≡◌, ◌<◌, ◌^◌, ◌∷◌, [], ℕ, List, length, map, slice_get};
+ghost use Rattle.std.specs.Prelude.{slice_index};
 ghost use Rattle.news_terms.specs.Ring.{missed, taken_items, ring};
-ghost use Rattle.relay_model.specs.Shares.{as_ring, after_take_of};
+ghost use Rattle.relay_conf.specs.declared.relay.Feed as conf;
+ghost use Rattle.relay_conf.specs.declared.relay.Peer.{Peer};
+ghost use Rattle.relay_model.specs.Shares.{as_ring, after_take_of, ring_of};
+ghost use Rattle.relay_model.specs.Terms.{Terms};
 ghost use Rattle.relay_model.specs.State.{Feed};
 ghost use Rattle.feed_queue.specs.Examples.{token_at, three_posted, gained_three, taken_two};
 ghost use Rattle.feed_queue.specs.Feeds.{KeepsFeeds, HasRoomToCount, no_feed, ring_count};
+ghost use Rattle.feed_queue.specs.Feeds.{ring_size};
+ghost use Rattle.feed_queue.specs.Permission.{HasFeeds};
 
 use crate::FeedDesk;
 
@@ -18,6 +24,13 @@ pub fn has_room(desk: &FeedDesk)
     ensures { (sizes : List ℕ) (feeds : ℕ → Feed) → KeepsFeeds desk.now sizes feeds
         → ((f : ℕ) → f < ring_count desk.now → length (feeds f).gained < 2 ^ 62)
         → HasRoomToCount desk.now }
+{}
+
+/// Where the terms have the feeds of the desk, the sizes of its rings are those of the terms.
+pub fn sizes_of_terms()
+    ensures { (w : Terms) (peers : List Peer) (feeds : List conf.Feed)
+        → HasFeeds w peers feeds → (f : ℕ)
+        → slice_index (map ring_size feeds) f ≡ ring_of (slice_get w.feeds f) }
 {}
 
 /// A ring of 2 after three posts, taken twice.
