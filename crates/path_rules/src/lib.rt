@@ -8,5 +8,5 @@ mod rules;
 mod update;
 mod words;
 
-pub use rules::{Identity, PathError, identities, loops};
+pub use rules::{Identity, PathError, has_identity, identities, loops};
 pub use update::{update_parses, updated};

@@ -114,8 +114,9 @@ pub fn loops(path: &[u8], own: &[u8]) -> Result<bool, PathError>
     Ok(has_identity(path, own))
 }
 
-/// Whether the own identity is among the identities of a Path, whatever its octets.
-fn has_identity(path: &[u8], own: &[u8]) -> bool
+/// Whether the identity is among the identities of a Path's content, without regard to ASCII case,
+/// whatever the octets of the Path (RFC 5537, section 3.6). It takes no memory.
+pub fn has_identity(path: &[u8], own: &[u8]) -> bool
     ensures { result ≡ terms.has_identity own.now path.now }
 {
     let mut rest = path;

@@ -1,0 +1,5 @@
+mod DeskLemmas
+mod KeepLemmas
+mod PermissionLemmas
+mod RingLemmas
+mod SomeFeeds

@@ -1,0 +1,4 @@
+pub mod Examples
+pub mod Feeds
+pub mod Permission
+pub mod Taking
