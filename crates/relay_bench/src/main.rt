@@ -4,9 +4,11 @@
 
 mod buffers;
 mod cases;
+mod desks;
 mod work;
 
 use cases::{Case, table};
+use desks::Calls;
 use std::process::ExitCode;
 use std::{env, io};
 use work::{Work, seconds};
@@ -38,6 +40,7 @@ fn run(rt: &HostRuntime) -> io::Result<ExitCode> {
 fn measure(rt: &HostRuntime, word: &str) -> io::Result<ExitCode> {
     match table(word) {
         Some(cases) => print_table(rt, cases),
+        None if word == "desks" => print_calls(rt),
         None => print_words(rt),
     }
 }
@@ -45,9 +48,51 @@ fn measure(rt: &HostRuntime, word: &str) -> io::Result<ExitCode> {
 /// Says which benchmarks there are.
 fn print_words(rt: &HostRuntime) -> io::Result<ExitCode> {
     eprintln!(rt;
-        "relay_bench: the benchmarks are articles, buffers, cutting, paths, patterns and settings"
+        "relay_bench: the benchmarks are articles, buffers, cutting, desks, paths, patterns and settings"
     )?;
     Ok(ExitCode::FAILURE)
+}
+
+/// Calls that are timed by their number: what is done, and how often.
+static CALLS: [(&str, Calls, usize); 6] = [
+    ("a command line read", Calls::Parse, 1_000_000),
+    ("a reply written", Calls::Reply, 1_000_000),
+    (
+        "a new message-id offered to a shard",
+        Calls::Offer,
+        1_000_000,
+    ),
+    ("a known one offered", Calls::OfferAgain, 1_000_000),
+    (
+        "an article settled, and posted to a ring of 65,536",
+        Calls::Post,
+        65_536,
+    ),
+    (
+        "a token taken of it, a thousand a call",
+        Calls::Take,
+        65_536,
+    ),
+];
+
+/// Times each kind of call, and prints a table.
+fn print_calls(rt: &HostRuntime) -> io::Result<ExitCode> {
+    println!(rt; "| Done | Calls | Seconds | Calls a second | Twice the calls |")?;
+    println!(rt; "|---|---:|---:|---:|---:|")?;
+    for (name, calls, count) in &CALLS {
+        print_call(rt, name, *calls, *count)?;
+    }
+    Ok(ExitCode::SUCCESS)
+}
+
+/// Times so many calls and twice as many, once each, and prints a row.
+fn print_call(rt: &HostRuntime, name: &str, calls: Calls, count: usize) -> io::Result<()> {
+    let once = desks::seconds(rt, calls, count)?;
+    let twice = desks::seconds(rt, calls, count.saturating_mul(2))?;
+    let number = u32::try_from(count).unwrap_or(u32::MAX);
+    let rate = f64::from(number) / once;
+    let ratio = twice / once;
+    println!(rt; "| {name} | {number} | {once:.6} | {rate:.0} | {ratio:.2} |")
 }
 
 /// Times each case, and prints a table.
