@@ -1,3 +1,4 @@
 mod ClaimLemmas
+mod CountLemmas
 mod MarkLemmas
 mod ShardsLemmas

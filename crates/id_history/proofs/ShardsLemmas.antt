@@ -17,10 +17,10 @@ use Rattle.relay_model.specs.State.{put_id}
 use Rattle.id_history.specs.Changes.{OfClaim, ChangesClaim, KeepsClaims}
 use Rattle.id_history.specs.declared.claims.Shard.{Shard}
 use Rattle.id_history.specs.declared.shards.Shards.{Shards}
-use Rattle.id_history.specs.Mark.{mark_of}
+use Rattle.id_history.specs.Mark.{mark_of, claim_of}
 use Rattle.id_history.specs.Shard.{mark_at, Keeps}
 use Rattle.id_history.specs.Shards.{KeepsAll}
-use Rattle.id_history.proofs.ClaimLemmas.{claim_of, mark_of-claim_of}
+use Rattle.id_history.proofs.ClaimLemmas.{mark_of-claim_of}
 
 -- these claims for the ids of this shard, and for every other id what the shard has of it
 claims_in : Shard → ℕ → (List ℕ → Claim) → List ℕ → Claim

@@ -1,5 +1,6 @@
 pub mod Answers
 pub mod Changes
+pub mod Counts
 pub mod Mark
 pub mod Marks
 pub mod Shard
