@@ -1,4 +1,6 @@
 mod ClaimLemmas
 mod CountLemmas
+mod JoinLemmas
 mod MarkLemmas
+mod OwnLemmas
 mod ShardsLemmas
