@@ -1,3 +1,6 @@
 mod ClaimLemmas
+mod CountLemmas
+mod JoinLemmas
 mod MarkLemmas
+mod OwnLemmas
 mod ShardsLemmas

@@ -17,13 +17,13 @@ use Rattle.relay_model.specs.State.{put_id}
 use Rattle.id_history.specs.Changes.{OfClaim, ChangesClaim, KeepsClaims}
 use Rattle.id_history.specs.declared.claims.Shard.{Shard}
 use Rattle.id_history.specs.declared.shards.Shards.{Shards}
-use Rattle.id_history.specs.Mark.{mark_of}
+use Rattle.id_history.specs.Mark.{mark_of, claim_of}
 use Rattle.id_history.specs.Shard.{mark_at, Keeps}
 use Rattle.id_history.specs.Shards.{KeepsAll}
-use Rattle.id_history.proofs.ClaimLemmas.{claim_of, mark_of-claim_of}
+use Rattle.id_history.proofs.ClaimLemmas.{mark_of-claim_of}
 
 -- these claims for the ids of this shard, and for every other id what the shard has of it
-claims_in : Shard → ℕ → (List ℕ → Claim) → List ℕ → Claim
+unfoldable pub claims_in : Shard → ℕ → (List ℕ → Claim) → List ℕ → Claim
 claims_in one k claims id = cond (eqb (shard_of id) k) (claims id) (claim_of (mark_at one id))
 
 -- a mark that is the claim's where it has to be is that of the choice
@@ -34,7 +34,7 @@ mark_of-choice one claims id true same = same refl
 mark_of-choice one claims id false same = sym (mark_of-claim_of (mark_at one id))
 
 -- a shard of the sixteen keeps these claims of its own ids
-Keeps-in : (shards : Shards) (one : Shard) (k : ℕ) (claims : List ℕ → Claim)
+pub Keeps-in : (shards : Shards) (one : Shard) (k : ℕ) (claims : List ℕ → Claim)
     → one ≡ get_or shards.shards.items k one → KeepsAll shards claims
     → Keeps one (claims_in one k claims)
 unfolding claims_in
@@ -89,7 +89,7 @@ put_back old new later k in_range is_set before after own keeps kept mine others
 }
 
 -- each message-id has one of the sixteen shards
-in_range : (shards : Shards) (k : ℕ) (id : List ℕ) → k ≡ shard_of id
+pub in_range : (shards : Shards) (k : ℕ) (id : List ℕ) → k ≡ shard_of id
     → k < length shards.shards.items
 in_range shards k id own = rw (own, shards.sixteen) (mod-lt (sum id) (search arith))
 

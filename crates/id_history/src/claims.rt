@@ -1,10 +1,11 @@
-ghost use Rattle.std.specs.Prelude.{◌≡◌, ◌≢◌, Some, is_some, option_map};
+ghost use Rattle.std.specs.Prelude.{◌≡◌, ◌≢◌, ◌^◌, ℕ, List, Some, is_some, option_map};
 ghost use Rattle.std.specs.Prelude.{IsOk, IfOk, IfSome, OnOk, OnErr};
 ghost use Rattle.cyc_token.specs.Token.{token_view};
-ghost use Rattle.relay_model.specs.Claims.{Accepted, Unknown, offer_answer, after_offer};
+ghost use Rattle.relay_model.specs.Claims.{Accepted, Claim, Unknown, offer_answer, after_offer};
 ghost use Rattle.relay_model.specs.Claims.{take_answer, after_take, after_refuse, after_release};
 ghost use Rattle.relay_model.specs.Claims.{after_forget, is_storing_for, after_settle, look_answer};
 
+use crate::counts::Counts;
 use cyc_token::Token;
 use nntp_text::MsgId;
 use std::alloc::{AllocError, Global};
@@ -69,6 +70,27 @@ enum Entry {
     Refused { moment: u64 },
 }
 
+impl Entry {
+    ghost use Rattle.std.specs.Prelude.{if◌then◌else◌};
+    ghost use Rattle.id_history.specs.Mark.{claim_of, entry_mark};
+    ghost use Rattle.id_history.specs.Counts.{Numbers};
+
+    /// The counts of the one message-id.
+    fn counts(&self) -> Counts
+        ensures { Numbers result
+            (λ test. if test (claim_of (entry_mark (Some self.now))) then 1 else 0) }
+    {
+        let mut counts = Counts::none();
+        match self {
+            Entry::Offered { .. } => counts.offered = 1,
+            Entry::Storing { .. } => counts.storing = 1,
+            Entry::Stored { .. } => counts.stored = 1,
+            Entry::Refused { .. } => counts.refused = 1,
+        }
+        counts
+    }
+}
+
 /// What is known of message-ids (docs/PROTOCOL.md, Claims). Sessions go by their numbers, moments
 /// are seconds since 1970-01-01 00:00:00 UTC. The hasher has random keys, since peers choose the
 /// message-ids.
@@ -85,6 +107,7 @@ impl Shard {
     ghost use Rattle.id_history.specs.Marks.{SetsMark, SameMarks};
     ghost use Rattle.id_history.specs.Changes.{OfClaim, ChangesClaim, KeepsClaims};
     ghost use Rattle.id_history.specs.Shard.{mark_at, Keeps};
+    ghost use Rattle.id_history.specs.Counts.{AtMost, CountsOf};
 
     /// A shard to which every message-id is unknown.
     pub fn new(alloc: Global, hasher: RandomState) -> Shard
@@ -212,6 +235,21 @@ impl Shard {
             Some(Entry::Stored { token, .. }) => Some(token),
             _ => None,
         }
+    }
+
+    /// How many message-ids are offered, being stored, stored and refused. It takes no memory.
+    pub fn counts(&self) -> Counts
+        ensures claims { (claims : List ℕ → Claim) → Keeps self.now claims
+            → CountsOf claims result }
+
+        // So those of many shards can be added.
+        ensures few { AtMost (2 ^ 63) result }
+    {
+        let mut counts = Counts::none();
+        for entry in self.entries.values() {
+            counts = counts.plus(entry.counts());
+        }
+        counts
     }
 
     /// The entry of the id.

@@ -8,8 +8,10 @@
 #![tactic(auto)]
 
 mod claims;
+mod counts;
 pub mod laws;
 mod shards;
 
 pub use claims::{Offer, Settled, Shard, Take};
+pub use counts::Counts;
 pub use shards::{SHARD_COUNT, Shards, shard_of};

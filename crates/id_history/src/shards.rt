@@ -1,15 +1,17 @@
-ghost use Rattle.std.specs.Prelude.{◌≡◌, ◌≢◌, is_some, length, option_map};
+ghost use Rattle.std.specs.Prelude.{◌≡◌, ◌≢◌, ℕ, List, is_some, length, option_map};
 ghost use Rattle.std.specs.Prelude.{IsOk, IfOk, IfSome, OnOk, OnErr};
 ghost use Rattle.cyc_token.specs.Token.{token_view};
-ghost use Rattle.relay_model.specs.Claims.{Accepted, Unknown, offer_answer, after_offer};
+ghost use Rattle.relay_model.specs.Claims.{Accepted, Claim, Unknown, offer_answer, after_offer};
 ghost use Rattle.relay_model.specs.Claims.{take_answer, after_take, after_refuse, after_release};
 ghost use Rattle.relay_model.specs.Claims.{after_forget, is_storing_for, after_settle, look_answer};
 ghost use Rattle.relay_model.specs.Run as run;
 ghost use Rattle.relay_model.specs.Terms.{shard_count};
 ghost use Rattle.id_history.specs.Answers.{offer_view, take_view, token_of};
+ghost use Rattle.id_history.specs.Own.{OwnIds};
 ghost use Rattle.id_history.specs.Changes.{OfClaim, ChangesClaim, KeepsClaims};
 
 use crate::claims::{Offer, Settled, Shard, Take};
+use crate::counts::Counts;
 use cyc_token::Token;
 use nntp_text::MsgId;
 use std::alloc::{AllocError, Global};
@@ -37,10 +39,12 @@ pub fn shard_of(id: &MsgId) -> usize
 pub struct Shards {
     shards: Vec<Shard>,
     ghost sixteen: { length shards.items ≡ shard_count },
+    ghost own: { OwnIds shards.items },
 }
 
 impl Shards {
     ghost use Rattle.id_history.specs.Shards.{KeepsAll};
+    ghost use Rattle.id_history.specs.Counts.{CountsOf};
 
     /// Shards to which every message-id is unknown. The hashers are seeded anew, since peers choose
     /// the message-ids; the error is that no seed was to be had, or memory.
@@ -132,5 +136,16 @@ impl Shards {
             (λ claim. option_map token_view result ≡ look_answer claim) }
     {
         self.shards[shard_of(id)].look(id)
+    }
+
+    /// See `Shard::counts`: it adds those of all shards.
+    pub fn counts(&self) -> Counts
+        ensures { (claims : List ℕ → Claim) → KeepsAll self.now claims → CountsOf claims result }
+    {
+        let mut counts = Counts::none();
+        for shard in &self.shards {
+            counts = counts.plus(shard.counts());
+        }
+        counts
     }
 }

@@ -70,7 +70,7 @@ pub enum Reply<'a> {
     NoGroup,
     /// The device failed while the article was read.
     DeviceFault,
-    /// XTAKE: how many tokens were overwritten untaken, and the next ones with their serial numbers.
+    /// XTAKE: how many tokens were overwritten untaken, and the next ones with their numbers.
     QueueFollows(u64, &'a [(u64, Token)]),
     /// XTAKE: the peer has no feed.
     NoFeed,

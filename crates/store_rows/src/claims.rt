@@ -18,7 +18,10 @@ pub fn answer(
     text: &mut Vec<u8>,
 ) -> Result<bool, AllocError> {
     let [id, words @ ..] = cells else {
-        return Ok(false);
+        return match call {
+            "counts" => put(alloc, text, &shard.counts()),
+            _ => Ok(false),
+        };
     };
     match MsgId::parse(alloc, id) {
         Ok(id) => answer_for(alloc, shard, call, &id, words, text),
@@ -136,6 +139,7 @@ pub fn answer_together(
 ) -> Result<bool, AllocError> {
     match one::<u32>(cells) {
         Some(ids) if call == "shards" => put(alloc, text, &kept(alloc, shards, ids)?),
+        None if call == "all_counts" => put(alloc, text, &shards.counts()),
         _ => Ok(false),
     }
 }

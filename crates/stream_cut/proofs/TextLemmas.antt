@@ -111,7 +111,8 @@ whole_none t at none whole = ⊎_elim
 -- what closes a block, in another order
 closed_later : (x a : List ℕ) → x ++ ((a ++ dot) ++ crlf) ≡ ((x ++ a) ++ dot) ++ crlf
 closed_later x a =
-    sym (append_assoc x (a ++ dot) crlf) ∙ ap (λ (y : List ℕ). y ++ crlf) (sym (append_assoc x a dot))
+    sym (append_assoc x (a ++ dot) crlf)
+    ∙ ap (λ (y : List ℕ). y ++ crlf) (sym (append_assoc x a dot))
 
 -- one line more is in the block that sends a text
 pub stuffed_more : (t before : List ℕ) (at end next : ℕ) → LineEnds (drop at t) end

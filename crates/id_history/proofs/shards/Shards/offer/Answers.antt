@@ -3,6 +3,7 @@ use Rattle.relay_model.specs.Claims.{Unknown, offer_answer, after_offer}
 use Rattle.id_history.specs.Answers.{offer_view}
 use Rattle.id_history.proofs.ShardsLemmas.{changes, if_ok_of_claim, keeps_claims, on_ok, on_err}
 use Rattle.id_history.proofs.ShardsLemmas.{of_claim}
+use Rattle.id_history.proofs.OwnLemmas.{OwnIds-set, others_by_change, others_kept, either_way}
 use Rattle.id_history.proofs.shards.Shards.offer.Goals as goal
 
 -- the answer is that of the id's own shard
@@ -29,3 +30,11 @@ pub returns-clause-known : goal.returns-clause-known
 returns-clause-known c =
     of_claim _ _ _ c.args.id.now (λ claim. claim ≢ Unknown → IsOk c.offer.result)
     c.shard_of.ensures c.index_mut.ensures.value c.offer.ensures.known
+
+-- of the ids of other shards there is still nothing
+pub invariant_of-self-clause-own : goal.invariant_of-self-clause-own
+invariant_of-self-clause-own c =
+    OwnIds-set _ _ _ _ c.args.id.now c.shard_of.ensures c.index_mut.ensures.value c.args.self.now.own
+    (either_way c.offer.result c.offer.ensures.claims c.offer.ensures.err
+    (λ change. others_by_change _ _ c.args.id.now (after_offer c.args.session) change)
+    (λ kept. others_kept _ _ c.args.id.now kept))

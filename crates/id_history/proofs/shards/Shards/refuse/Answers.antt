@@ -1,6 +1,7 @@
 use Rattle.std.proofs.Common.{◌≢◌, IsOk, refl}
 use Rattle.relay_model.specs.Claims.{Unknown, after_refuse}
 use Rattle.id_history.proofs.ShardsLemmas.{changes, keeps_claims, on_ok, on_err, of_claim}
+use Rattle.id_history.proofs.OwnLemmas.{OwnIds-set, others_by_change, others_kept, either_way}
 use Rattle.id_history.proofs.shards.Shards.refuse.Goals as goal
 
 -- the change is that of the id's own shard
@@ -20,3 +21,11 @@ pub returns-clause-known : goal.returns-clause-known
 returns-clause-known c =
     of_claim _ _ _ c.args.id.now (λ claim. claim ≢ Unknown → IsOk c.refuse.result)
     c.shard_of.ensures c.index_mut.ensures.value c.refuse.ensures.known
+
+-- of the ids of other shards there is still nothing
+pub invariant_of-self-clause-own : goal.invariant_of-self-clause-own
+invariant_of-self-clause-own c =
+    OwnIds-set _ _ _ _ c.args.id.now c.shard_of.ensures c.index_mut.ensures.value c.args.self.now.own
+    (either_way c.refuse.result c.refuse.ensures.claims c.refuse.ensures.err
+    (λ change. others_by_change _ _ c.args.id.now (after_refuse c.args.session c.args.now) change)
+    (λ kept. others_kept _ _ c.args.id.now kept))
