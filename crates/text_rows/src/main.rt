@@ -85,7 +85,12 @@ fn answer(
     text: &mut Vec<u8>,
 ) -> Result<(), AllocError> {
     match call {
-        "octets" | "article" | "article_fault" | "article_cuts" | "groups" | "overview"
+        "octets"
+        | "article"
+        | "article_fault"
+        | "article_cuts"
+        | "groups"
+        | "overview"
         | "overview_cuts" => of_text(alloc, call, &joined(alloc, cells)?, text),
         "put_overview" => put_behind(alloc, text, cells),
         "field" => put_field(alloc, text, cells),
