@@ -4,8 +4,7 @@ ghost use Rattle.std.specs.Prelude.{◌≡◌, ◌<◌, ℕ, List, ◌++◌, All
 ghost use Rattle.std.specs.Prelude.{false, [], ◌∷◌};
 ghost use Rattle.news_terms.specs.Fronts.{HasOwnNumbers, FitsGroup};
 ghost use Rattle.news_terms.specs.Places.{Buffer, Group, next_place, extents, front_after};
-ghost use Rattle.news_terms.specs.Picks.{Pick, pick_of, begins_in, place_of_pick, head_of};
-ghost use Rattle.news_terms.specs.Picks.{front_at};
+ghost use Rattle.news_terms.specs.Picks.{pick_of, begins_in, place_of_pick, head_of, front_at};
 ghost use Rattle.news_terms.specs.Positions.{position_of, pick_at, position_past};
 ghost use Rattle.news_terms.specs.PlaceExamples.{eight, six, eight_by_itself, eight_then_six};
 ghost use Rattle.news_terms.specs.PlaceExamples.{eight_and_six};
