@@ -4,7 +4,8 @@ use Rattle.std.proofs.Common.{ap, subst, arith, cond, ◌∷◌, length, Option,
 use Rattle.std.proofs.Math.Nat.{add-zero}
 use Rattle.std.proofs.lemmas.Bool.{cond-false, false≢true}
 use Rattle.news_terms.specs.Places.{Buffer, Head, size_of}
-use Rattle.cyc_buffer.specs.History.{Article, Begin, place_after, head_of, head_past, finished_at}
+use Rattle.cyc_buffer.specs.History.{Article, Begin, head_of, finished_at}
+use Rattle.news_terms.specs.Picks.{place_after, head_past}
 use Rattle.cyc_buffer.specs.Register.{IsStart, IsKept, IsUnpassed, Writes, Keeps, buffer_of}
 use Rattle.cyc_buffer.specs.Register.{line_head, is_passed, mark_passed}
 use Rattle.cyc_buffer.specs.History.{History, with_begin}

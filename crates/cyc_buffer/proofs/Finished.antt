@@ -5,8 +5,8 @@ use Rattle.std.specs.List.{AllByRecursion}
 use Rattle.std.proofs.lemmas.Bool.{and_parts, and_from, eqb-true, eq-eqb, cond-false}
 use Rattle.std.proofs.lemmas.Bool.{false_from_ne_true}
 use Rattle.news_terms.specs.Places.{Buffer, Head, size_of}
-use Rattle.cyc_buffer.specs.History.{Article, Begin, place_after, head_of, head_past, is_at}
-use Rattle.cyc_buffer.specs.History.{finished_at}
+use Rattle.cyc_buffer.specs.History.{Article, Begin, head_of, is_at, finished_at}
+use Rattle.news_terms.specs.Picks.{place_after, head_past}
 use Rattle.cyc_buffer.specs.Register.{IsSized, HasItsSize, IsOfSize}
 use Rattle.cyc_buffer.proofs.Places.{IsPlaced, placed, placed_within, chosen}
 

@@ -6,8 +6,9 @@ use Rattle.std.proofs.lemmas.Bool.{cond-true, cond-false, cases_Bool, and_parts,
 use Rattle.std.proofs.lemmas.Bool.{ltb-true, le-leb, lt-ltb}
 use Rattle.news_terms.specs.BlockImage.{chunk_size}
 use Rattle.news_terms.specs.Places.{Buffer, Head, size_of}
-use Rattle.cyc_buffer.specs.History.{Article, Begin, Writing, History, place_after, head_of, is_at}
-use Rattle.cyc_buffer.specs.History.{finished_at, with_finish, token_at}
+use Rattle.cyc_buffer.specs.History.{Article, Begin, Writing, History, head_of, is_at, finished_at}
+use Rattle.cyc_buffer.specs.History.{with_finish, token_at}
+use Rattle.news_terms.specs.Picks.{place_after}
 use Rattle.cyc_buffer.specs.Register.{IsStart, IsKept, IsUnpassed, Writes, Keeps, buffer_of}
 use Rattle.cyc_buffer.specs.Marks.{is_marked, is_among, marked_after}
 use Rattle.cyc_buffer.specs.Progress.{IsTheOpen, written_of}

@@ -3,7 +3,8 @@ use Rattle.std.proofs.Common.{◌≡◌, ◌∙◌, ℕ, ◌+◌, ◌<◌, inl, 
 use Rattle.std.proofs.Common.{false, refl, ap, arith, cond, List, ◌∷◌, length, None, Some}
 use Rattle.std.specs.List.{AllByRecursion}
 use Rattle.news_terms.specs.Places.{Buffer, Head, size_of}
-use Rattle.cyc_buffer.specs.History.{Article, Begin, place_after, head_of, finished_at}
+use Rattle.cyc_buffer.specs.History.{Article, Begin, head_of, finished_at}
+use Rattle.news_terms.specs.Picks.{place_after}
 use Rattle.cyc_buffer.specs.Register.{IsSized, Keeps, line_head}
 use Rattle.cyc_buffer.specs.History.{History}
 use Rattle.cyc_buffer.specs.declared.register.Register.{Register}

@@ -5,7 +5,7 @@ use Rattle.std.proofs.lemmas.Bool.{cases_lt, cond_both, le-ltb, lt-leb, leb-true
 use Rattle.std.proofs.lemmas.Bool.{ltb-false, eqb-true, eq-eqb, and_cases, and_left, and_right}
 use Rattle.std.proofs.lemmas.Bool.{or_parts, or_from, not-false, not_from_true}
 use Rattle.news_terms.specs.Places.{Head, place_in_runs}
-use Rattle.cyc_buffer.specs.History.{place_after}
+use Rattle.news_terms.specs.Picks.{place_after}
 use Rattle.cyc_buffer.specs.Marks.{is_among}
 
 -- a begin goes right behind the head, or to the front of the next run

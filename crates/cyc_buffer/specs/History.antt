@@ -1,9 +1,11 @@
 -- What a cyclic buffer was asked to keep: what was begun in it, and what became of each begin
 -- (docs/PROTOCOL.md, Store).
-use Rattle.std.specs.Prelude.{◌≡◌, ℕ, ◌+◌, ◌*◌, nat_lt, ◌==◌, ◌&&◌, Bool, true, false, List, []}
-use Rattle.std.specs.Prelude.{◌∷◌, ◌++◌, length, take, Option, None, Some, if◌then◌else◌}
+use Rattle.std.specs.Prelude.{◌≡◌, ℕ, ◌+◌, ◌*◌, ◌==◌, ◌&&◌, Bool, true, false, List, [], ◌∷◌}
+use Rattle.std.specs.Prelude.{◌++◌, length, map, take, Option, None, Some, if◌then◌else◌}
 use Rattle.news_terms.specs.BlockImage.{chunk_size}
-use Rattle.news_terms.specs.Places.{Buffer, Head, first_head, place_in_runs, size_of, on_line}
+use Rattle.news_terms.specs.Picks as picks
+use Rattle.news_terms.specs.Picks.{place_after, front_at}
+use Rattle.news_terms.specs.Places.{Buffer, Head, size_of}
 use Rattle.news_terms.specs.Token.{Token}
 
 -- an article that was finished: its class and its text
@@ -38,27 +40,13 @@ pub record History : Type 0 where
 abbrev pub new_history : Buffer → History
 new_history buffer = record { buffer = buffer; begins = []; writing = None }
 
--- where a begin goes: where it is fresh at the front of a run, which is the next one where some of
--- this one is used; else as the sizes are cut into runs (docs/PROTOCOL.md, Sizes and places)
-abbrev pub place_after : (blocks : ℕ) → Head → (fresh : Bool) → (size : ℕ) → Head
-place_after blocks head fresh size =
-    if fresh && nat_lt 0 head.used then record { run = head.run + 1; used = 0 }
-    else place_in_runs (λ (run : ℕ). blocks) head size
-
--- the head after one more begin, which was put here
-abbrev pub head_past : Head → (size : ℕ) → Head
-head_past at size = record { run = at.run; used = at.used + size }
+-- a begin as its place asks for it: its size, and whether it was fresh
+abbrev pub asked : Begin → ℕ × Bool
+asked b = (b.size, b.fresh)
 
 -- the head after these begins, the newest first
 abbrev pub head_of : (blocks : ℕ) → List Begin → Head
-head_of blocks [] = first_head
-head_of blocks (b ∷ earlier) =
-    head_past (place_after blocks (head_of blocks earlier) b.fresh b.size) b.size
-
--- the front: the place on the line after the newest begin, or the front of the first cycle where
--- nothing was begun (docs/PROTOCOL.md, Fronts and liveness)
-abbrev pub front_at : Buffer → Head → ℕ
-front_at buffer head = on_line buffer.blocks (buffer.first_cycle + head.run) head.used
+head_of blocks begins = picks.head_of blocks (map asked begins)
 
 -- the front of a history's buffer
 abbrev pub front_of : History → ℕ

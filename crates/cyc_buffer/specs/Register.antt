@@ -4,8 +4,9 @@ use Rattle.std.specs.Prelude.{◌⊎◌, ◌↔◌, min, Bool, true, false, List
 use Rattle.std.specs.Prelude.{Some}
 use Rattle.std.specs.List.{AllByRecursion}
 use Rattle.cyc_token.specs.Token.{token_view}
-use Rattle.cyc_buffer.specs.History.{Article, Begin, Writing, History, place_after, head_of}
-use Rattle.cyc_buffer.specs.History.{finished_at, token_at}
+use Rattle.cyc_buffer.specs.History.{Article, Begin, Writing, History, head_of, finished_at}
+use Rattle.cyc_buffer.specs.History.{token_at}
+use Rattle.news_terms.specs.Picks.{place_after}
 use Rattle.cyc_buffer.specs.Marks.{is_marked, is_among}
 use Rattle.cyc_buffer.specs.declared.line.Line.{Line}
 use Rattle.cyc_buffer.specs.declared.line.Place.{Place}

@@ -3,8 +3,8 @@ ghost use Rattle.std.specs.Prelude.{◌≡◌, ◌≤◌, ◌+◌, ℕ, Bool, fa
 ghost use Rattle.std.specs.List.{AllByRecursion};
 ghost use Rattle.news_terms.specs.Places.{Buffer, head_after, size_of};
 ghost use Rattle.cyc_buffer.specs.History.{Article, Begin, head_of, finished_at, is_at};
-ghost use Rattle.cyc_buffer.specs.History.{place_after, sizes_of};
-ghost use Rattle.cyc_buffer.specs.History.{IsPlain};
+ghost use Rattle.cyc_buffer.specs.History.{IsPlain, sizes_of};
+ghost use Rattle.news_terms.specs.Picks.{place_after};
 ghost use Rattle.cyc_buffer.specs.Register.{IsSized};
 
 /// Where no begin is fresh, the head is that of the sizes cut into runs.

@@ -29,7 +29,7 @@ pub(crate) struct Line {
 impl Line {
     ghost use Rattle.std.specs.Prelude.{◌≡◌, ◌≤◌, ◌<◌, ◌+◌, ◌^◌, IfSome, IfNone};
     ghost use Rattle.news_terms.specs.Places.{on_line, last_cycle};
-    ghost use Rattle.cyc_buffer.specs.History.{place_after};
+    ghost use Rattle.news_terms.specs.Picks.{place_after};
     ghost use Rattle.cyc_buffer.specs.Register.{line_head, place_view};
 
     /// The place after the newest article.

@@ -70,7 +70,7 @@ impl Register {
     ghost use Rattle.cyc_buffer.specs.Answers.{refusal, error_of, fault_of, front_view};
     ghost use Rattle.cyc_buffer.specs.Look.{look_of};
     ghost use Rattle.cyc_buffer.specs.History.{History, new_history, with_begin, with_finish};
-    ghost use Rattle.cyc_buffer.specs.History.{head_past};
+    ghost use Rattle.news_terms.specs.Picks.{head_past};
     ghost use Rattle.cyc_buffer.specs.Marks.{is_marked, marked_after};
     ghost use Rattle.cyc_buffer.specs.Progress.{IsTheOpen, written_of, has_failed, started};
     ghost use Rattle.cyc_buffer.specs.Progress.{counted, failed};

@@ -4,6 +4,7 @@ use Rattle.std.proofs.Common.{Bool, true, false, cond, List, ℕ, Option, None, 
 use Rattle.std.proofs.Common.{String, Global, length, map, if◌then◌else◌}
 use Rattle.std.proofs.lemmas.List.Sums.{count_by-le-length, sum_by-cons, sum_by_push}
 use Rattle.std.proofs.lemmas.Bool.{cond-true, cond-false}
+use Rattle.std.proofs.lemmas.List.{length-append}
 use Rattle.std.specs.HashMap.{IsUnique, values}
 use Rattle.std.specs.List.{AllByRecursion, IsDistinct, count_by}
 use Rattle.std.specs.Map.{lookup, keys_of, values_of}
@@ -49,7 +50,7 @@ Numbers-push before one after entries e o s t r so_far more = record {
         ∙ sym (sum_by_push (λ x. cond (test (claim_by x)) 1 0) entries e)
 
 -- no count is more than there are entries
-pub AtMost-from_Numbers : (counts : Counts) (entries : List Entry) (most : ℕ)
+AtMost-from_Numbers : (counts : Counts) (entries : List Entry) (most : ℕ)
     → Numbers counts (number_of entries) → length entries ≤ most → AtMost most counts
 AtMost-from_Numbers counts entries most are few = record {
   offered = within is_offered _ are.offered;
@@ -61,6 +62,14 @@ AtMost-from_Numbers counts entries most are few = record {
     within : (test : Claim → Bool) (n : ℕ) → n ≡ number_of entries test → n ≤ most
     within test n a =
         omega (arith, a, few, count_by-le-length (λ x. test (claim_by x)) entries)
+
+-- so it is of the entries so far, of which there are no more than of all
+pub AtMost-so_far : (counts : Counts) (entries rest all : List Entry) (most : ℕ)
+    → all ≡ entries ++ rest → length all ≤ most → Numbers counts (number_of entries)
+    → AtMost most counts
+AtMost-so_far counts entries rest all most split le are =
+    AtMost-from_Numbers counts entries most are
+    (omega (arith, le, ap length split, length-append entries rest))
 
 -- nor is that of one message-id more than one
 pub AtMost-one : (one : Counts) (c : Claim) (most : ℕ) → 1 ≤ most

@@ -1,6 +1,7 @@
 -- The counts of the shards added are those of all claims.
 use Rattle.std.proofs.Common.{◌≡◌, ◌≢◌, ◌≤◌, ◌<◌, ◌+◌, ◌∙◌, ◌||◌, ◌++◌, ◌∷◌, ◌⊎◌, [], ap, sym}
-use Rattle.std.proofs.Common.{arith, refl, subst, inl, inr, Bool, true, false, cond, List, ℕ, length}
+use Rattle.std.proofs.Common.{arith, refl, subst, inl, inr, Bool, true, false, cond, List, ℕ}
+use Rattle.std.proofs.Common.{length}
 use Rattle.std.proofs.Math.ListN.{get_or}
 use Rattle.std.proofs.Math.Dec.{ltb}
 use Rattle.std.proofs.lemmas.Bool.{cases_Bool, ltb-true, ltb-false, lt-ltb, le-ltb, true≢false}

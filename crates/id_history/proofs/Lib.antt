@@ -1,4 +1,5 @@
 mod ClaimLemmas
+mod CountLaws
 mod CountLemmas
 mod JoinLemmas
 mod MarkLemmas

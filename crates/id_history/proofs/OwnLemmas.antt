@@ -70,7 +70,8 @@ OwnIds-set shards one later k id own at had kept = record {
             ap (λ n. mark_at (get_or (set shards k later) n none) other) same.1
             ∙ ap (λ s. mark_at s other) (get_or-set_same shards k later none in_range)
             ∙ kept.same other (elim (cases_Bool (bytes_eq other id)) [
-              | inl equal ↦ absurd (far (ap shard_of ((bytes_eq-Decides other id).0 equal) ∙ sym own))
+              | inl equal ↦
+                  absurd (far (ap shard_of ((bytes_eq-Decides other id).0 equal) ∙ sym own))
               | inr not_same ↦ not_same
             ])
             ∙ ap (λ s. mark_at s other) at ∙ had.unknown k other one in_range far

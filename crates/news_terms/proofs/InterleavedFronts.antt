@@ -38,11 +38,11 @@ dealt_push m k i (first ∷ sizes) size =
     by_test false later = later
 
 -- the head of a buffer's own sizes
-abbrev Own_head : Buffer → ℕ → ℕ → List ℕ → Head
+abbrev pub Own_head : Buffer → ℕ → ℕ → List ℕ → Head
 Own_head buffer m k begun = head_after (λ r. buffer.blocks) (dealt m k 0 begun)
 
 -- its own size moves the head of a buffer
-own_head_here : (buffer : Buffer) (m k : ℕ) (begun : List ℕ) (size : ℕ) → length begun % m ≡ k
+pub own_head_here : (buffer : Buffer) (m k : ℕ) (begun : List ℕ) (size : ℕ) → length begun % m ≡ k
     → Own_head buffer m k (begun ++ size ∷ [])
     ≡ after_size (λ r. buffer.blocks) (Own_head buffer m k begun) size
 own_head_here buffer m k begun size turn =
@@ -54,7 +54,7 @@ own_head_here buffer m k begun size turn =
     ∙ head_push (λ r. buffer.blocks) (dealt m k 0 begun) size
 
 -- another buffer's size doesn't
-own_head_elsewhere : (buffer : Buffer) (m k : ℕ) (begun : List ℕ) (size : ℕ)
+pub own_head_elsewhere : (buffer : Buffer) (m k : ℕ) (begun : List ℕ) (size : ℕ)
     → (length begun % m ≡ k → ⊥)
     → Own_head buffer m k (begun ++ size ∷ []) ≡ Own_head buffer m k begun
 own_head_elsewhere buffer m k begun size other =

@@ -18,6 +18,10 @@ pub mod LinePairs
 pub mod Matching
 pub mod NextLemmas
 pub mod PathUpdates
+pub mod PickedBegins
+pub mod PickedPlaces
+pub mod PickedPositions
+pub mod PickedRuns
 pub mod RestLemmas
 pub mod RunPlaces
 pub mod SequentialFronts

@@ -9,8 +9,10 @@ pub mod MessageId
 pub mod Overview
 pub mod Path
 pub mod Pattern
+pub mod Picks
 pub mod PlaceExamples
 pub mod Places
+pub mod Positions
 pub mod Reply
 pub mod Ring
 pub mod Stamps

@@ -14,6 +14,10 @@ six = record { number = 1; blocks = 6; first_cycle = 0 }
 abbrev pub one_of_eight : Group
 one_of_eight = record { mode = Interleave; buffers = eight ∷ [] }
 
+-- the same buffer, filled one run after the other
+abbrev pub eight_by_itself : Group
+eight_by_itself = record { mode = Sequential; buffers = eight ∷ [] }
+
 -- a group that fills one buffer after the other
 abbrev pub eight_then_six : Group
 eight_then_six = record { mode = Sequential; buffers = eight ∷ six ∷ [] }

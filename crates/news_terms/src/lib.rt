@@ -18,6 +18,7 @@ pub mod images;
 pub mod overviews;
 pub mod paths;
 pub mod patterns;
+pub mod picks;
 pub mod places;
 pub mod replies;
 pub mod rings;

@@ -47,9 +47,7 @@ fn measure(rt: &HostRuntime, word: &str) -> io::Result<ExitCode> {
 
 /// Says which benchmarks there are.
 fn print_words(rt: &HostRuntime) -> io::Result<ExitCode> {
-    eprintln!(rt;
-        "relay_bench: the benchmarks are articles, buffers, cutting, desks, paths, patterns and settings"
-    )?;
+    eprintln!(rt; "relay_bench: articles, buffers, cutting, desks, paths, patterns or settings")?;
     Ok(ExitCode::FAILURE)
 }
 

@@ -1,7 +1,7 @@
 //! Rows for the crates of the store and of the claims: each line of standard input is a call of
-//! cyc_token, cyc_block, cyc_buffer or id_history, and is printed with its answer. The gate runs it
-//! with the file `stdin`, and compares what it prints with the file `stdout`, whose answers are
-//! those of docs/ and of the contracts, never this program's own.
+//! cyc_token, cyc_block, cyc_buffer, id_history or feed_queue, and is printed with its answer. The
+//! gate runs it with the file `stdin`, and compares what it prints with the file `stdout`, whose
+//! answers are those of docs/ and of the contracts, never this program's own.
 //!
 //! A row is the name of a call and its words, as README.md lists them. What a call leaves behind,
 //! the rows after it find: one store of blocks, one buffer, one shard of claims and sixteen more.
@@ -11,10 +11,12 @@ mod blocks;
 mod buffers;
 mod claims;
 mod comparison;
+mod feeds;
 mod words;
 
 use blocks::Blocks;
 use buffers::InMemory;
+use feeds::Feeds;
 use id_history::{Shard, Shards};
 use row_text::{Answers, play};
 use std::alloc::{AllocError, Global};
@@ -29,6 +31,7 @@ struct Rows {
     buffer: Option<InMemory>,
     shard: Shard,
     shards: Shards,
+    feeds: Feeds,
 }
 
 fn main(rt: HostRuntime) -> ExitCode {
@@ -41,7 +44,9 @@ fn main(rt: HostRuntime) -> ExitCode {
 /// No store and no buffer yet, and shards to which every message-id is unknown.
 fn first_rows(rt: &HostRuntime) -> io::Result<Rows> {
     let shard = Shard::new(rt.alloc(), RandomState::new(rt)?);
+    let settled = Shard::new(rt.alloc(), RandomState::new(rt)?);
     Ok(Rows {
+        feeds: Feeds::new(settled),
         shards: Shards::new(rt, rt.alloc())?,
         store: None,
         buffer: None,
@@ -64,7 +69,8 @@ impl Answers for Rows {
             blocks::answer(alloc, &mut self.store, call, cells, text)?
                 || buffers::answer(alloc, &mut self.buffer, call, cells, text)?
                 || claims::answer_together(alloc, &mut self.shards, call, cells, text)?
-                || claims::answer(alloc, &mut self.shard, call, cells, text)?,
+                || claims::answer(alloc, &mut self.shard, call, cells, text)?
+                || self.feeds.answer(alloc, call, cells, text)?,
         )
     }
 }

@@ -2,7 +2,8 @@
 use Rattle.std.proofs.Common.{◌≡◌, ◌∙◌, ℕ, Bool, List, [], ◌∷◌, ◌++◌, ap, sym, refl}
 use Rattle.std.specs.List.{AllByRecursion, fold}
 use Rattle.news_terms.specs.Places.{Head, head_after, after_size, first_head}
-use Rattle.cyc_buffer.specs.History.{Begin, IsPlain, head_of, head_past, place_after, sizes_of}
+use Rattle.cyc_buffer.specs.History.{Begin, IsPlain, head_of, sizes_of}
+use Rattle.news_terms.specs.Picks.{head_past, place_after}
 use Rattle.cyc_buffer.proofs.laws.plain_runs.Goals as goal
 
 -- one more size moves the head on

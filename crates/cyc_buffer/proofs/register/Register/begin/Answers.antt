@@ -1,6 +1,6 @@
 -- A begin that is not refused keeps the register's agreement with a history.
 use Rattle.std.proofs.Common.{◌∙◌, arith, refl, ap}
-use Rattle.cyc_buffer.specs.History.{place_after, head_past}
+use Rattle.news_terms.specs.Picks.{place_after, head_past}
 use Rattle.cyc_buffer.specs.Marks.{is_marked}
 use Rattle.cyc_buffer.specs.Register.{place_view, line_head, mark_passed}
 use Rattle.cyc_token.specs.declared.Token.{Token}

@@ -1,29 +1,28 @@
 use Rattle.std.proofs.Common.{◌∷◌, [], ◌∙◌, ap, sym, subst, arith, length, map}
-use Rattle.std.proofs.lemmas.List.{map-append, length-append}
+use Rattle.std.proofs.lemmas.List.{map-append}
 use Rattle.std.proofs.lemmas.Map.Iter.{rest_so_far, iter_end}
 use Rattle.std.specs.HashMap.{values}
 use Rattle.std.specs.Map.Iter.{deref}
 use Rattle.id_history.specs.Counts.{Numbers}
-use Rattle.id_history.proofs.CountLemmas.{claim_by, number_of, Numbers-push, AtMost-from_Numbers}
+use Rattle.id_history.proofs.CountLemmas.{claim_by, number_of, Numbers-push, AtMost-so_far}
 use Rattle.id_history.proofs.CountLemmas.{AtMost-one, CountsOf-from_entries}
 use Rattle.id_history.proofs.claims.Shard.counts.Goals as goal
 
 -- so far there are no more entries than the map has
 pub plus-counts-requires-clause-here : goal.plus-counts-requires-clause-here
 plus-counts-requires-clause-here c =
-    let split = rest_so_far deref c.loop-entry.yielded c.into_iter-entry-iterator.result
-    c.loop-entry.entry-iterator c.loop-entry.yielded_by in
-    AtMost-from_Numbers _ (map deref c.loop-entry.yielded) _ c.loop-entry.invariant
+    AtMost-so_far _ (map deref c.loop-entry.yielded) c.loop-entry.entry-iterator _ _
+    (rest_so_far deref c.loop-entry.yielded c.into_iter-entry-iterator.result
+    c.loop-entry.entry-iterator c.loop-entry.yielded_by)
     (omega (
       arith,
-      ap length split,
-      length-append (map deref c.loop-entry.yielded)
-          c.loop-entry.entry-iterator,
       ap length c.into_iter-entry-iterator.ensures.into_iter_gives,
       c.values-entry-items.ensures.len,
       c.values-entry-items.ensures.fits,
     ))
+    c.loop-entry.invariant
 
+-- an entry counts once
 pub plus-counts-requires-clause-there : goal.plus-counts-requires-clause-there
 plus-counts-requires-clause-there c =
     AtMost-one _ (claim_by c.in-Some.entry.now) _ (omega arith) c.counts.ensures
@@ -38,6 +37,7 @@ loop-entry-preserved c =
     c.plus-counts.ensures.stored c.plus-counts.ensures.refused c.loop-entry.invariant
     c.counts.ensures)
 
+-- at the end all entries are counted
 pub returns-clause-claims : goal.returns-clause-claims
 returns-clause-claims c =
     let all = iter_end deref (values c.args.self.now.entries) c.loop-entry.yielded
@@ -48,17 +48,16 @@ returns-clause-claims c =
     (subst (λ entries. Numbers c.loop-entry.counts (number_of entries)) all.0
     c.loop-entry.invariant)
 
+-- the map has fewer than 2 ^ 63 entries
 pub returns-clause-few : goal.returns-clause-few
 returns-clause-few c =
-    let split = rest_so_far deref c.loop-entry.yielded c.into_iter-entry-iterator.result
-    c.loop-entry.entry-iterator c.loop-entry.yielded_by in
-    AtMost-from_Numbers _ (map deref c.loop-entry.yielded) _ c.loop-entry.invariant
+    AtMost-so_far _ (map deref c.loop-entry.yielded) c.loop-entry.entry-iterator _ _
+    (rest_so_far deref c.loop-entry.yielded c.into_iter-entry-iterator.result
+    c.loop-entry.entry-iterator c.loop-entry.yielded_by)
     (omega (
       arith,
-      ap length split,
-      length-append (map deref c.loop-entry.yielded)
-          c.loop-entry.entry-iterator,
       ap length c.into_iter-entry-iterator.ensures.into_iter_gives,
       c.values-entry-items.ensures.len,
       c.values-entry-items.ensures.fits,
     ))
+    c.loop-entry.invariant

@@ -34,7 +34,8 @@ returns-clause-known c =
 -- of the ids of other shards there is still nothing
 pub invariant_of-self-clause-own : goal.invariant_of-self-clause-own
 invariant_of-self-clause-own c =
-    OwnIds-set _ _ _ _ c.args.id.now c.shard_of.ensures c.index_mut.ensures.value c.args.self.now.own
+    OwnIds-set _ _ _ _ c.args.id.now c.shard_of.ensures c.index_mut.ensures.value
+    c.args.self.now.own
     (either_way c.offer.result c.offer.ensures.claims c.offer.ensures.err
     (λ change. others_by_change _ _ c.args.id.now (after_offer c.args.session) change)
     (λ kept. others_kept _ _ c.args.id.now kept))

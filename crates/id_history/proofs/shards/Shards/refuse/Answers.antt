@@ -25,7 +25,8 @@ returns-clause-known c =
 -- of the ids of other shards there is still nothing
 pub invariant_of-self-clause-own : goal.invariant_of-self-clause-own
 invariant_of-self-clause-own c =
-    OwnIds-set _ _ _ _ c.args.id.now c.shard_of.ensures c.index_mut.ensures.value c.args.self.now.own
+    OwnIds-set _ _ _ _ c.args.id.now c.shard_of.ensures c.index_mut.ensures.value
+    c.args.self.now.own
     (either_way c.refuse.result c.refuse.ensures.claims c.refuse.ensures.err
     (λ change. others_by_change _ _ c.args.id.now (after_refuse c.args.session c.args.now) change)
     (λ kept. others_kept _ _ c.args.id.now kept))

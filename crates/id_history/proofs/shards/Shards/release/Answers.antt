@@ -13,5 +13,6 @@ returns c =
 -- of the ids of other shards there is still nothing
 pub invariant_of-self-clause-own : goal.invariant_of-self-clause-own
 invariant_of-self-clause-own c =
-    OwnIds-set _ _ _ _ c.args.id.now c.shard_of.ensures c.index_mut.ensures.value c.args.self.now.own
+    OwnIds-set _ _ _ _ c.args.id.now c.shard_of.ensures c.index_mut.ensures.value
+    c.args.self.now.own
     (others_by_change _ _ c.args.id.now (after_release c.args.session) c.release.ensures)

@@ -21,5 +21,7 @@ returns-clause-claims c =
 -- of the ids of other shards there is still nothing
 pub invariant_of-self-clause-own : goal.invariant_of-self-clause-own
 invariant_of-self-clause-own c =
-    OwnIds-set _ _ _ _ c.args.id.now c.shard_of.ensures c.index_mut.ensures.value c.args.self.now.own
-    (others_by_change _ _ c.args.id.now (after_settle c.args.session (token_view c.args.token) c.args.now) c.settle.ensures.claims)
+    OwnIds-set _ _ _ _ c.args.id.now c.shard_of.ensures c.index_mut.ensures.value
+    c.args.self.now.own
+    (others_by_change _ _ c.args.id.now
+    (after_settle c.args.session (token_view c.args.token) c.args.now) c.settle.ensures.claims)

@@ -36,7 +36,9 @@ returns-clause-known c =
 -- of the ids of other shards there is still nothing
 pub invariant_of-self-clause-own : goal.invariant_of-self-clause-own
 invariant_of-self-clause-own c =
-    OwnIds-set _ _ _ _ c.args.id.now c.shard_of.ensures c.index_mut.ensures.value c.args.self.now.own
+    OwnIds-set _ _ _ _ c.args.id.now c.shard_of.ensures c.index_mut.ensures.value
+    c.args.self.now.own
     (either_way c.take.result c.take.ensures.claims c.take.ensures.err
-    (λ change. others_by_change _ _ c.args.id.now (after_take c.args.session no_article) (change no_article))
+    (λ change. others_by_change _ _ c.args.id.now (after_take c.args.session no_article)
+    (change no_article))
     (λ kept. others_kept _ _ c.args.id.now kept))
