@@ -8,7 +8,7 @@ ghost use Rattle.overview_line.specs.Parts.{line_of, shown};
 
 use crate::parts::Parts;
 use article_parse::begins_white;
-use itoa::Buffer;
+use line_words::put_decimal;
 
 /// Puts an overview line (RFC 3977, section 8.3.2).
 pub(crate) fn put_parts(room: &mut Vec<u8>, parts: &Parts<'_>)
@@ -44,21 +44,8 @@ fn put_number(room: &mut Vec<u8>, number: usize)
     ensures len { vec_len room.new ≡ vec_len room.old + 1 + length (decimal number) }
     ensures capacity { vec_capacity room.new ≡ vec_capacity room.old }
 {
-    let mut digits = Buffer::new();
     room.push_reserved(b'\t');
-    put_octets(room, digits.format(number).as_bytes());
-}
-
-/// Puts octets as they are.
-fn put_octets(room: &mut Vec<u8>, octets: &[u8])
-    requires { vec_len room.old + length octets.now ≤ vec_capacity room.old }
-    ensures items { room.new.items ≡ room.old.items ++ octets.now }
-    ensures len { vec_len room.new ≡ vec_len room.old + length octets.now }
-    ensures capacity { vec_capacity room.new ≡ vec_capacity room.old }
-{
-    for octet in octets {
-        room.push_reserved(*octet);
-    }
+    put_decimal(room, number as u64);
 }
 
 /// Puts a text without its CRLF pairs, each TAB as an SP.

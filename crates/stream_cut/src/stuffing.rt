@@ -7,6 +7,7 @@ ghost use Rattle.news_terms.specs.Blocks.{unstuffed, unstuffed_line};
 ghost use Rattle.news_terms.specs.Blocks as terms;
 
 use crate::look::line_end;
+use line_words::put_octets;
 use std::alloc::{AllocError, Global};
 
 /// The most octets of the block that sends a text of so many: a third more and six.
@@ -32,7 +33,7 @@ pub fn stuff(alloc: Global, text: &[u8]) -> Result<Vec<u8>, AllocError>
 pub fn put_stuffed(block: &mut Vec<u8>, text: &[u8])
     requires { vec_len block.old + terms.stuffed_room (length text.now) ≤ vec_capacity block.old }
     ensures items { block.new.items ≡ block.old.items ++ stuffed text.now }
-    ensures capacity { vec_capacity block.old ≤ vec_capacity block.new }
+    ensures capacity { vec_capacity block.new ≡ vec_capacity block.old }
 {
     let mut at = 0;
     while let Some(end) = line_end(&text[at..], 0) {
@@ -48,13 +49,13 @@ fn put_last(block: &mut Vec<u8>, rest: &[u8])
     requires no_line { first_line rest.now ≡ None }
     requires room { vec_len block.old + length (stuffed rest.now) ≤ vec_capacity block.old }
     ensures items { block.new.items ≡ block.old.items ++ stuffed rest.now }
-    ensures capacity { vec_capacity block.old ≤ vec_capacity block.new }
+    ensures capacity { vec_capacity block.new ≡ vec_capacity block.old }
 {
     if !rest.is_empty() {
         put_stuffed_line(block, rest);
-        put(block, b"\r\n");
+        put_octets(block, b"\r\n");
     }
-    put(block, b".\r\n");
+    put_octets(block, b".\r\n");
 }
 
 /// Adds a line, with one more dot before it where it begins with one.
@@ -62,22 +63,12 @@ fn put_stuffed_line(block: &mut Vec<u8>, line: &[u8])
     requires { vec_len block.old + length (stuffed_line line.now) ≤ vec_capacity block.old }
     ensures items { block.new.items ≡ block.old.items ++ stuffed_line line.now }
     ensures len { vec_len block.new ≡ vec_len block.old + length (stuffed_line line.now) }
-    ensures capacity { vec_capacity block.old ≤ vec_capacity block.new }
+    ensures capacity { vec_capacity block.new ≡ vec_capacity block.old }
 {
     if line.first() == Some(&b'.') {
-        put(block, b".");
+        put_octets(block, b".");
     }
-    put(block, line);
-}
-
-/// Adds octets for which there is room.
-fn put(block: &mut Vec<u8>, octets: &[u8])
-    requires { vec_len block.old + length octets.now ≤ vec_capacity block.old }
-    ensures items { block.new.items ≡ block.old.items ++ octets.now }
-    ensures len { vec_len block.new ≡ vec_len block.old + length octets.now }
-    ensures capacity { vec_capacity block.old ≤ vec_capacity block.new }
-{
-    block.extend_from_slice(octets).unwrap();
+    put_octets(block, line);
 }
 
 /// The text that whole lines of a block stand for, of `len` octets.

@@ -14,7 +14,7 @@ loop-end-init c =
       within = omega arith;
       told = refl;
       room = omega (arith, c.requires, stuffed-bounded t);
-      grows = omega arith;
+      capacity = refl;
     }
 
 pub put_stuffed_line-requires : goal.put_stuffed_line-requires
@@ -46,5 +46,5 @@ loop-end-preserved c =
         put.capacity,
         stuffed_count t at end (at + end + 2) ends refl,
       );
-      grows = omega (arith, c.loop-end.invariant.grows, put.capacity);
+      capacity = put.capacity ∙ c.loop-end.invariant.capacity;
     }

@@ -8,7 +8,7 @@ invariant-loop-end l = record {
   within : l.at ≤ length l.text;
   told : l.block.items ++ stuffed (drop l.at l.text) ≡ l.initial.block.items ++ stuffed l.text;
   room : vec_len l.block + length (stuffed (drop l.at l.text)) ≤ vec_capacity l.block;
-  grows : vec_capacity l.initial.block ≤ vec_capacity l.block;
+  capacity : vec_capacity l.block ≡ vec_capacity l.initial.block;
 }
 
 abbrev pub decreases-loop-end : goal.decreases-loop-end

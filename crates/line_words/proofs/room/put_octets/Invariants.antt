@@ -1,5 +1,5 @@
 use Rattle.std.proofs.Common.{◌≡◌, ◌+◌, ◌++◌, take, vec_len, vec_capacity}
-use Rattle.overview_line.proofs.puts.put_octets.Given as goal
+use Rattle.line_words.proofs.room.put_octets.Given as goal
 
 -- the octets passed so far were put, and the room is as it was
 abbrev pub invariant-loop-octet : goal.invariant-loop-octet
