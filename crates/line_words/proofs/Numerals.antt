@@ -1,11 +1,12 @@
 -- Numerals: what the digits say, and that more of them say no less.
 use Rattle.std.proofs.Common.{◌≡◌, ℕ, ◌<◌, ◌≤◌, ◌+◌, ◌-◌, ◌*◌, ◌^◌, true, zero, suc, List, [], ◌∷◌}
 use Rattle.std.proofs.Common.{length, get_or, refl, ap, arith, rules, tests, take}
-use Rattle.std.specs.Prelude.{◌&&◌}
+use Rattle.std.specs.Prelude.{◌&&◌, decimal}
 use Rattle.std.specs.Char.{is_ascii_digit, digit_value}
 use Rattle.std.specs.Str.{all_ascii_digits}
 use Rattle.std.specs.List.{list_all}
 use Rattle.std.proofs.lemmas.Bool.{and_parts}
+use Rattle.std.proofs.lemmas.Fmt.{length-decimal-le}
 use Rattle.std.proofs.lemmas.Str.{digit_value_digit}
 use Rattle.std.proofs.lemmas.Int.Digits.{digits_value_more}
 use Rattle.std.proofs.lemmas.Str.Parse.{digits_value-take-le}
@@ -42,3 +43,7 @@ too_large ds i value digit h v d large =
     let whole = digits_value-take-le 10 ds (i + 1) (omega arith) in
     let least : 2 ^ 64 ≤ value * 10 + digit = omega (arith, large) in
     omega (arith, more, whole, least, v, d)
+
+-- A number of 64 bits has at most 20 digits.
+pub decimal_within : (n : ℕ) → n < 2 ^ 64 → length (decimal n) ≤ 20
+decimal_within n small = length-decimal-le 20 n (omega arith) (omega (arith, small)) small

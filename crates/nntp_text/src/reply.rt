@@ -11,7 +11,7 @@ ghost use Rattle.nntp_text.specs.Reply.{rest_after, room_of, text_of};
 
 use crate::id::MsgId;
 use cyc_token::Token;
-use itoa::Buffer;
+use line_words::{put_decimal, put_octets};
 use std::alloc::{AllocError, Global};
 use stream_cut::put_stuffed;
 
@@ -142,7 +142,7 @@ pub fn put_reply(out: &mut Vec<u8>, reply: &Reply)
     requires { vec_len out.old + room_of reply.now ≤ vec_capacity out.old }
     ensures items { out.new.items ≡ out.old.items ++ reply_text (reply_view reply.now) }
     ensures room { length (reply_text (reply_view reply.now)) ≤ room_of reply.now }
-    ensures capacity { vec_capacity out.old ≤ vec_capacity out.new }
+    ensures capacity { vec_capacity out.new ≡ vec_capacity out.old }
 {
     put_parts(out, &parts_of(reply));
 }
@@ -264,11 +264,11 @@ fn put_parts(out: &mut Vec<u8>, parts: &Parts<'_>)
     ensures items { out.new.items ≡ out.old.items ++ text_of parts.now }
     ensures room { length (text_of parts.now)
         ≤ first_room parts.now + terms.rest_room parts.now.rest }
-    ensures capacity { vec_capacity out.old ≤ vec_capacity out.new }
+    ensures capacity { vec_capacity out.new ≡ vec_capacity out.old }
 {
-    put(out, parts.words);
+    put_octets(out, parts.words);
     put_named(out, &parts.named);
-    put(out, b"\r\n");
+    put_octets(out, b"\r\n");
     put_rest(out, &parts.rest);
 }
 
@@ -277,30 +277,31 @@ fn put_named(out: &mut Vec<u8>, named: &Named<'_>)
     requires { vec_len out.old + terms.named_room named.now ≤ vec_capacity out.old }
     ensures items { out.new.items ≡ named_after out.old.items named.now }
     ensures len { vec_len out.new ≤ vec_len out.old + terms.named_room named.now }
-    ensures capacity { vec_capacity out.old ≤ vec_capacity out.new }
+    ensures capacity { vec_capacity out.new ≡ vec_capacity out.old }
 {
     match *named {
         Named::Nothing => {}
-        Named::Id(id) => put(out, id.as_bytes()),
+        Named::Id(id) => put_octets(out, id.as_bytes()),
         Named::Token(token) => put_token(out, &token),
         Named::Gone(token) => {
             put_token(out, &token);
-            put(out, b" gone");
+            put_octets(out, b" gone");
         }
         Named::Unknown(token) => {
             put_token(out, &token);
-            put(out, b" unknown");
+            put_octets(out, b" unknown");
         }
         Named::Digits(digits) => put_digits(out, &digits),
     }
 }
 
 /// Adds what follows a first line.
+#[tactic(auto, using(line_words::proofs::Numerals::decimal_within))]
 fn put_rest(out: &mut Vec<u8>, rest: &Rest<'_>)
     requires { vec_len out.old + terms.rest_room rest.now ≤ vec_capacity out.old }
     ensures items { out.new.items ≡ rest_after out.old.items rest.now }
     ensures len { vec_len out.new ≤ vec_len out.old + terms.rest_room rest.now }
-    ensures capacity { vec_capacity out.old ≤ vec_capacity out.new }
+    ensures capacity { vec_capacity out.new ≡ vec_capacity out.old }
 {
     match *rest {
         Rest::Nothing => {}
@@ -310,8 +311,8 @@ fn put_rest(out: &mut Vec<u8>, rest: &Rest<'_>)
             put_line(out, b".");
         }
         Rest::Queue(missed, items) => {
-            put_number(out, missed);
-            put(out, b"\r\n");
+            put_decimal(out, missed);
+            put_octets(out, b"\r\n");
             put_items(out, items);
             put_line(out, b".");
         }
@@ -324,7 +325,7 @@ fn put_items(out: &mut Vec<u8>, items: &[(u64, Token)])
     ensures items { out.new.items
         ≡ out.old.items ++ flat_map queue_line (map item_view items.now) }
     ensures len { vec_len out.new ≤ vec_len out.old + terms.item_room * length items.now }
-    ensures capacity { vec_capacity out.old ≤ vec_capacity out.new }
+    ensures capacity { vec_capacity out.new ≡ vec_capacity out.old }
 {
     for item in items {
         put_item(out, item);
@@ -332,16 +333,17 @@ fn put_items(out: &mut Vec<u8>, items: &[(u64, Token)])
 }
 
 /// Adds a line of a queue: the serial number and the token.
+#[tactic(auto, using(line_words::proofs::Numerals::decimal_within))]
 fn put_item(out: &mut Vec<u8>, item: &(u64, Token))
     requires { vec_len out.old + terms.item_room ≤ vec_capacity out.old }
     ensures items { out.new.items ≡ out.old.items ++ queue_line (item_view item.now) }
     ensures len { vec_len out.new ≤ vec_len out.old + terms.item_room }
-    ensures capacity { vec_capacity out.old ≤ vec_capacity out.new }
+    ensures capacity { vec_capacity out.new ≡ vec_capacity out.old }
 {
-    put_number(out, item.0);
-    put(out, b" ");
+    put_decimal(out, item.0);
+    put_octets(out, b" ");
     put_token(out, &item.1);
-    put(out, b"\r\n");
+    put_octets(out, b"\r\n");
 }
 
 /// Adds the text of a token.
@@ -349,10 +351,10 @@ fn put_token(out: &mut Vec<u8>, token: &Token)
     requires { vec_len out.old + 30 ≤ vec_capacity out.old }
     ensures items { out.new.items ≡ out.old.items ++ token_text (token_view token.now) }
     ensures len { vec_len out.new ≡ vec_len out.old + 30 }
-    ensures capacity { vec_capacity out.old ≤ vec_capacity out.new }
+    ensures capacity { vec_capacity out.new ≡ vec_capacity out.old }
 {
     let text = token.to_text();
-    put(out, &text);
+    put_octets(out, &text);
 }
 
 /// Adds the digits of a moment.
@@ -360,20 +362,9 @@ fn put_digits(out: &mut Vec<u8>, digits: &[u8; 14])
     requires { vec_len out.old + 14 ≤ vec_capacity out.old }
     ensures items { out.new.items ≡ out.old.items ++ digits.now }
     ensures len { vec_len out.new ≡ vec_len out.old + 14 }
-    ensures capacity { vec_capacity out.old ≤ vec_capacity out.new }
+    ensures capacity { vec_capacity out.new ≡ vec_capacity out.old }
 {
-    put(out, digits);
-}
-
-/// Adds a number in decimal.
-fn put_number(out: &mut Vec<u8>, number: u64)
-    requires { vec_len out.old + 20 ≤ vec_capacity out.old }
-    ensures items { out.new.items ≡ out.old.items ++ decimal number }
-    ensures len { vec_len out.new ≤ vec_len out.old + 20 }
-    ensures capacity { vec_capacity out.old ≤ vec_capacity out.new }
-{
-    let mut digits = Buffer::new();
-    put(out, digits.format(number).as_bytes());
+    put_octets(out, digits);
 }
 
 /// Adds a line with its CRLF.
@@ -381,18 +372,8 @@ fn put_line(out: &mut Vec<u8>, line: &[u8])
     requires { vec_len out.old + length line.now + 2 ≤ vec_capacity out.old }
     ensures items { out.new.items ≡ out.old.items ++ line_of line.now }
     ensures len { vec_len out.new ≡ vec_len out.old + length line.now + 2 }
-    ensures capacity { vec_capacity out.old ≤ vec_capacity out.new }
+    ensures capacity { vec_capacity out.new ≡ vec_capacity out.old }
 {
-    put(out, line);
-    put(out, b"\r\n");
-}
-
-/// Adds octets for which there is room.
-fn put(out: &mut Vec<u8>, octets: &[u8])
-    requires { vec_len out.old + length octets.now ≤ vec_capacity out.old }
-    ensures items { out.new.items ≡ out.old.items ++ octets.now }
-    ensures len { vec_len out.new ≡ vec_len out.old + length octets.now }
-    ensures capacity { vec_capacity out.old ≤ vec_capacity out.new }
-{
-    out.extend_from_slice(octets).unwrap();
+    put_octets(out, line);
+    put_octets(out, b"\r\n");
 }

@@ -9,5 +9,5 @@ invariant-loop-item l = record {
   items : l.out.items
       ≡ l.fn.out.items ++ flat_map queue_line (map item_view (take l.item-index l.items));
   len : vec_len l.out ≤ vec_len l.fn.out + item_room * l.item-index;
-  capacity : vec_capacity l.fn.out ≤ vec_capacity l.out;
+  capacity : vec_capacity l.out ≡ vec_capacity l.fn.out;
 }
