@@ -1,6 +1,6 @@
 -- What reading a command line gives (docs/FORMATS.md, Command lines).
-use Rattle.std.specs.Prelude.{◌≡◌, ℕ, Bool, List, Option, None, Some, Result, Ok, Err}
-use Rattle.std.specs.Prelude.{if◌then◌else◌}
+use Rattle.std.specs.Prelude.{◌≡◌, ℕ, Bool, true, false, List, Option, None, Some, Result, Ok, Err}
+use Rattle.std.specs.Prelude.{IsTrue, IsOkAnd, if◌then◌else◌}
 use Rattle.news_terms.specs.Command.{is_id, is_number, is_range, offer_with}
 use Rattle.news_terms.specs.Command as terms
 use Rattle.nntp_text.specs.declared.command.CmdError.{CmdError}
@@ -62,18 +62,39 @@ command_view commands.NeedsGroup = terms.NeedsGroup
 command_view (commands.TakeQueue most) = terms.TakeQueue most
 command_view (commands.FetchToken word) = terms.FetchToken word.now
 
--- the answer is the one that the grammar asks for, unless memory ran out
+-- the command has a message-id
+abbrev pub has_id : terms.Command → Bool
+has_id terms.AskCapabilities = false
+has_id terms.AskHelp = false
+has_id terms.AskDate = false
+has_id terms.Quit = false
+has_id terms.ModeStream = false
+has_id terms.ModeReader = false
+has_id (terms.Check id) = true
+has_id (terms.Ihave id) = true
+has_id (terms.TakeThis (Some id)) = true
+has_id (terms.TakeThis None) = false
+has_id (terms.Fetch part id) = true
+has_id terms.NeedsGroup = false
+has_id (terms.TakeQueue most) = false
+has_id (terms.FetchToken word) = false
+
+-- the answer is the one that the grammar asks for; memory ran out only where that is a command with
+-- a message-id
 abbrev pub CommandGives : Result Command CmdError → Result terms.Command terms.CommandFault → Type 0
 CommandGives (Ok command) asked = asked ≡ Ok (command_view command)
-CommandGives (Err Memory) asked = Unit {0}
+CommandGives (Err Memory) asked = IsOkAnd asked (λ command. IsTrue (has_id command))
 CommandGives (Err Unknown) asked = asked ≡ Err terms.Unknown
 CommandGives (Err Syntax) asked = asked ≡ Err terms.Syntax
 
--- the answer is the one message-id that an offer asks for after its keyword, unless memory ran out
+-- the answer is the one message-id that an offer asks for after its keyword; memory ran out only
+-- where there is one
 abbrev pub OneId : Result (List ℕ) CmdError → List (List ℕ) → Type 0
 OneId (Ok id) after =
     (command : List ℕ → terms.Command) → offer_with command after ≡ Ok (command id)
-OneId (Err Memory) after = Unit {0}
+OneId (Err Memory) after =
+    (id : List ℕ)
+    × ((command : List ℕ → terms.Command) → offer_with command after ≡ Ok (command id))
 OneId (Err Unknown) after = ⊥
 OneId (Err Syntax) after =
     (command : List ℕ → terms.Command) → offer_with command after ≡ Err terms.Syntax

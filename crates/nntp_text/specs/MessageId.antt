@@ -6,10 +6,11 @@ use Rattle.news_terms.specs.MessageId as ids
 use Rattle.nntp_text.specs.declared.id.IdError.{IdError}
 use Rattle.nntp_text.specs.declared.id.IdError.TheVariants.{Memory, Length, Brackets, Octet}
 
--- the answer is the one that the first fault of the text asks for, unless memory ran out
+-- the answer is the one that the first fault of the text asks for; memory ran out only where the
+-- text has none
 abbrev pub IdGives : {X : Type 0} → Result X IdError → Option IdFault → Type 0
 IdGives (Ok id) fault = fault ≡ None
-IdGives (Err Memory) fault = Unit {0}
+IdGives (Err Memory) fault = fault ≡ None
 IdGives (Err Length) fault = fault ≡ Some ids.Length
 IdGives (Err Brackets) fault = fault ≡ Some ids.Brackets
 IdGives (Err Octet) fault = fault ≡ Some ids.Octet

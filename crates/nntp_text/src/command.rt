@@ -1,7 +1,7 @@
 //! What a command line asks.
-ghost use Rattle.std.specs.Prelude.{◌≡◌, IfOk};
+ghost use Rattle.std.specs.Prelude.{◌≡◌, IfOk, IfErr, IsTrue};
 ghost use Rattle.news_terms.specs.Command.{alone, capabilities_with, command_of, command_with};
-ghost use Rattle.news_terms.specs.Command.{fetch_with, mode_with, takethis_with, words};
+ghost use Rattle.news_terms.specs.Command.{fetch_with, is_id, mode_with, takethis_with, words};
 ghost use Rattle.news_terms.specs.Command.{xfetch_with, xtake_with};
 ghost use Rattle.news_terms.specs.Command as terms;
 ghost use Rattle.nntp_text.specs.Command.{CommandGives, OneId, command_view, id_among};
@@ -65,7 +65,7 @@ pub enum Command<'a> {
 /// Why a line is no command, in the order of trial.
 #[derive(Clone, Copy, Debug, PartialEq, Eq)]
 pub enum CmdError {
-    /// Memory ran out, which says nothing of the line.
+    /// Memory ran out for the message-id of the command that the line asks.
     Memory,
     /// The line has no word, or its first word is no keyword.
     Unknown,
@@ -215,7 +215,8 @@ fn xfetch(rest: &[u8]) -> Result<Command<'_>, CmdError>
 
 /// The message-id that the word is, or `None` where it is none.
 fn id_of(alloc: Global, word: &[u8]) -> Result<Option<MsgId>, AllocError>
-    ensures { IfOk result (λ id. id ≡ id_among word.now) }
+    ensures id { IfOk result (λ id. id ≡ id_among word.now) }
+    ensures memory { IfErr result (λ _. IsTrue (is_id word.now)) }
 {
     match MsgId::parse(alloc, word) {
         Ok(id) => Ok(Some(id)),

@@ -20,7 +20,7 @@ const MOST_OCTETS: usize = 250;
 /// Why a text is no message-id, in the order of trial.
 #[derive(Clone, Copy, Debug, PartialEq, Eq)]
 pub enum IdError {
-    /// Memory ran out, which says nothing of the text.
+    /// Memory ran out for a text that is a message-id.
     Memory,
     /// The text has not 3 to 250 octets.
     Length,
@@ -58,7 +58,8 @@ impl Model for MsgId {
 }
 
 impl MsgId {
-    /// Reads a message-id; nothing may stand before or after it.
+    /// Reads a message-id; nothing may stand before or after it. A text that is none is told by its
+    /// fault, whatever memory there is.
     pub fn parse(alloc: Global, text: &[u8]) -> Result<MsgId, IdError>
         ensures text { IfOk result (λ id. id ≡ text.now) }
         ensures fault { IdGives result (id_fault text.now) }
