@@ -5,7 +5,6 @@ use Rattle.std.specs.Prelude.{codes, decimal, flat_map, unwrap_or, ◌==◌, ◌
 use Rattle.std.specs.List.{join_with_byte}
 use Rattle.std.specs.Str.{byte, str_eq_ignore_ascii_case, str_to_ascii_lowercase}
 use Rattle.std.proofs.lemmas.Bool.{cases_Bool, both_ways}
-use Rattle.std.proofs.lemmas.Fmt.{length-decimal-le}
 use Rattle.std.proofs.lemmas.List.{length-append, length-map}
 use Rattle.std.proofs.lemmas.List.Sums.{count_by-le-length}
 use Rattle.std.proofs.lemmas.Slice.Eq.{bytes_eq-Decides}
@@ -15,6 +14,7 @@ use Rattle.news_terms.specs.Article.{is_white, tab, line_feed, name_of}
 use Rattle.news_terms.specs.Article.{Subject, From, Date, MessageId}
 use Rattle.news_terms.specs.Lines.{crlf}
 use Rattle.news_terms.specs.Overview.{overview_line, overview_of, line_count}
+use Rattle.line_words.proofs.Numerals.{decimal_within}
 use Rattle.overview_line.specs.Parts.{shown}
 use Rattle.overview_line.proofs.FirstContents.{first_named, first_other}
 
@@ -169,6 +169,6 @@ line_within a small =
       shown_shorter (content (name_of Date)),
       shown_shorter (content (name_of MessageId)),
       shown_shorter (content (codes "References")),
-      length-decimal-le 20 (length text) (omega arith) (omega (arith, small)) small,
-      length-decimal-le 20 lines (omega arith) (omega (arith, small)) (omega (arith, small)),
+      decimal_within (length text) small,
+      decimal_within lines (omega (arith, small)),
     )
