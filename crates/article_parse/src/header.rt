@@ -8,6 +8,7 @@ ghost use Rattle.news_terms.specs.Article as terms;
 ghost use Rattle.article_parse.specs.Header.{IsLineCut, IsWholeContent};
 ghost use Rattle.article_parse.specs.Reads.{FrontGives, HeaderGives};
 
+use crate::content::begins_white;
 use crate::lines::line_end;
 use line_words::is_white;
 use memchr::memchr;
@@ -123,23 +124,13 @@ fn content_end(text: &[u8], first: usize) -> Option<usize>
         (IsWholeContent text.now first) }
 {
     let mut end = first;
-    while continues_field(&text[end + 2..]) {
+    while begins_white(&text[end + 2..]) {
         let Some(line) = line_end(&text[end + 2..]) else {
             return None;
         };
         end = end + 2 + line;
     }
     Some(end)
-}
-
-/// Whether a line with an SP or TAB at its front follows, which continues a field.
-fn continues_field(text: &[u8]) -> bool
-    ensures { result ≡ terms.continues_field text.now }
-{
-    match text.first() {
-        Some(octet) => is_white(*octet),
-        None => false,
-    }
 }
 
 /// Where the first colon stands, or the length where there is none.

@@ -1,5 +1,5 @@
 -- Which feeds a desk keeps (docs/PROTOCOL.md, Rings).
-use Rattle.std.specs.Prelude.{◌≡◌, ℕ, ◌≤◌, ◌<◌, ◌^◌, ◌++◌, List, [], ◌∷◌, length, map, slice_index}
+use Rattle.std.specs.Prelude.{◌≡◌, ℕ, ◌≤◌, ◌<◌, ◌^◌, List, [], ◌∷◌, length, map, slice_index}
 use Rattle.std.specs.Prelude.{slice_index_or}
 use Rattle.std.specs.List.{All}
 use Rattle.cyc_token.specs.Token.{token_view}
@@ -9,19 +9,20 @@ use Rattle.news_terms.specs.Ring as terms
 use Rattle.news_terms.specs.Token.{Token}
 use Rattle.relay_conf.specs.declared.relay.Feed as conf
 use Rattle.relay_model.specs.Shares.{as_ring}
-use Rattle.relay_model.specs.State.{Feed}
+use Rattle.relay_model.specs.State.{Feed, empty_state}
+use Rattle.relay_model.specs.Writers.{gaining}
 
 -- the tokens that a feed's ring holds at most
 abbrev pub ring_size : conf.Feed → ℕ
 ring_size feed = feed.ring
 
--- a feed that gained nothing
+-- a feed that gained nothing, as each is before anything came
 abbrev pub no_feed : Feed
-no_feed = record { gained = []; passed = 0; taken = 0 }
+no_feed = empty_state.feed 0
 
--- the feed with one token more at the end of its list
+-- the feed with one token more at the end of its list, as where it alone gains it
 abbrev pub with_gained : Feed → Token → Feed
-with_gained feed token = record feed { gained = feed.gained ++ token ∷ [] }
+with_gained feed token = gaining (λ f. feed) (0 ∷ []) token 0
 
 -- the ring keeps this feed: it has room for so many tokens, holds the end of the feed's list and
 -- counts the list; no more of the list is past taking than it has

@@ -3,5 +3,6 @@ mod Dues
 mod Moments
 mod Playing
 mod Premises
+mod RingArticles
 mod Turning
 mod Writing

@@ -9,5 +9,5 @@ mod rows;
 mod written;
 
 pub use cell::octets_of;
-pub use rows::{Answers, play};
+pub use rows::{Answers, failed, play};
 pub use written::{put_number, put_octets};

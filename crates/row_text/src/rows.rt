@@ -30,13 +30,16 @@ pub trait Answers {
 pub fn play<A: Answers>(rt: &HostRuntime, answers: &mut A) -> ExitCode {
     match play_all(rt, answers) {
         Ok(()) => ExitCode::SUCCESS,
-        Err(error) => {
-            let _unseen = eprintln!(rt; "{}", fault_text(error.kind()));
-            match error.kind() {
-                ErrorKind::OutOfMemory => ExitCode::from(MEMORY),
-                _ => ExitCode::FAILURE,
-            }
-        }
+        Err(error) => failed(rt, &error),
+    }
+}
+
+/// Says `memory`, or that it was not read or not written, and answers the status.
+pub fn failed(rt: &HostRuntime, error: &io::Error) -> ExitCode {
+    let _unseen = eprintln!(rt; "{}", fault_text(error.kind()));
+    match error.kind() {
+        ErrorKind::OutOfMemory => ExitCode::from(MEMORY),
+        _ => ExitCode::FAILURE,
     }
 }
 

@@ -7,7 +7,7 @@ use nntp_text::{IdError, MsgId};
 use std::alloc::{AllocError, Global};
 
 /// 1 January 2021, 00:00:00 UTC.
-const NOW: u64 = 1_609_459_200;
+pub const NOW: u64 = 1_609_459_200;
 
 /// Answers a call of a shard; false where it is none, or has other words.
 pub fn answer(
@@ -23,10 +23,18 @@ pub fn answer(
             _ => Ok(false),
         };
     };
-    match MsgId::parse(alloc, id) {
-        Ok(id) => answer_for(alloc, shard, call, &id, words, text),
+    match read_id(alloc, id)? {
+        Some(id) => answer_for(alloc, shard, call, &id, words, text),
+        None => Ok(false),
+    }
+}
+
+/// The message-id that a text is, if it is one.
+fn read_id(alloc: Global, text: &[u8]) -> Result<Option<MsgId>, AllocError> {
+    match MsgId::parse(alloc, text) {
+        Ok(id) => Ok(Some(id)),
         Err(IdError::Memory) => Err(AllocError),
-        Err(_) => Ok(false),
+        Err(_) => Ok(None),
     }
 }
 
@@ -160,7 +168,7 @@ fn kept(alloc: Global, shards: &mut Shards, ids: u32) -> Result<u32, AllocError>
 }
 
 /// The token of the article of this number.
-fn token_of(number: u32) -> Token {
+pub fn token_of(number: u32) -> Token {
     Token {
         class: 1,
         buffer: 0,
@@ -171,9 +179,9 @@ fn token_of(number: u32) -> Token {
 }
 
 /// The message-id of this number, of a host of this name.
-fn id_of(alloc: Global, number: u32, host: &str) -> Result<Option<MsgId>, AllocError> {
+pub fn id_of(alloc: Global, number: u32, host: &str) -> Result<Option<MsgId>, AllocError> {
     let text = format!(in alloc; "<{number}@{host}.example>")?;
-    Ok(MsgId::parse(alloc, text.as_bytes()).ok())
+    read_id(alloc, text.as_bytes())
 }
 
 /// Whether an id that is unknown is asked of session 1 alone, and its article is stored for it.

@@ -1,15 +1,12 @@
 //! The calls of the rings of the feeds (feed_queue), over a desk with one feed and a shard of its
 //! own.
+use crate::claims::{NOW, id_of, token_of};
 use crate::words::{one, put, say};
-use cyc_token::Token;
 use feed_queue::{FeedDesk, Taken};
 use id_history::Shard;
 use nntp_text::MsgId;
-use relay_conf::read_relay;
+use relay_conf::{ConfError, read_relay};
 use std::alloc::{AllocError, Global};
-
-/// 1 January 2021, 00:00:00 UTC.
-const NOW: u64 = 1_609_459_200;
 
 /// A desk, and a shard in which each article that is posted is settled.
 #[derive(Drop)]
@@ -56,6 +53,7 @@ fn desk_of(alloc: Global, cells: &[Vec<u8>]) -> Result<Option<FeedDesk>, AllocEr
     let text = format!(in alloc; "own relay.example\npeer p1 one.example 0\nfeed p1 {size} *\n")?;
     match read_relay(alloc, text.as_bytes()) {
         Ok(relay) => Ok(Some(FeedDesk::new(alloc, &relay.feeds)?)),
+        Err(ConfError::Memory) => Err(AllocError),
         Err(_) => Ok(None),
     }
 }
@@ -71,10 +69,9 @@ fn post(
     let Some(number) = one::<u32>(cells) else {
         return Ok(false);
     };
-    let id = format!(in alloc; "<{number}@feed.example>")?;
-    match MsgId::parse(alloc, id.as_bytes()) {
-        Ok(id) => post_stored(desk, shard, &id, number, text),
-        Err(_) => Ok(false),
+    match id_of(alloc, number, "feed")? {
+        Some(id) => post_stored(desk, shard, &id, number, text),
+        None => Ok(false),
     }
 }
 
@@ -86,15 +83,8 @@ fn post_stored(
     number: u32,
     text: &mut Vec<u8>,
 ) -> Result<bool, AllocError> {
-    let token = Token {
-        class: 1,
-        buffer: 0,
-        cycle: 0,
-        first: number,
-        length: 164,
-    };
     shard.take(id, 1)?;
-    match shard.settle(id, 1, token, NOW) {
+    match shard.settle(id, 1, token_of(number), NOW) {
         Some(settled) => {
             // Named twice, it is gained once.
             desk.post(&[0, 0], settled);

@@ -18,7 +18,7 @@ use blocks::Blocks;
 use buffers::InMemory;
 use feeds::Feeds;
 use id_history::{Shard, Shards};
-use row_text::{Answers, play};
+use row_text::{Answers, failed, play};
 use std::alloc::{AllocError, Global};
 use std::hash::RandomState;
 use std::process::ExitCode;
@@ -37,7 +37,7 @@ struct Rows {
 fn main(rt: HostRuntime) -> ExitCode {
     match first_rows(&rt) {
         Ok(mut rows) => play(&rt, &mut rows),
-        Err(_) => ExitCode::FAILURE,
+        Err(error) => failed(&rt, &error),
     }
 }
 
