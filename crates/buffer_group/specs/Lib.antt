@@ -1,0 +1,3 @@
+pub mod Groups
+pub mod Jobs
+pub mod Writers
