@@ -7,6 +7,7 @@
 
 mod group;
 mod job;
+pub mod laws;
 mod writer;
 
 pub use group::{Group, Pick};
