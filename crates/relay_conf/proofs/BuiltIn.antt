@@ -3,7 +3,7 @@ use Rattle.std.proofs.Common.{◌≡◌, ℕ, List, [], ◌∷◌, map, Result, 
 use Rattle.std.specs.Prelude.{codes, IfOk, IfErr}
 use Rattle.std.specs.Global.{Vec}
 use Rattle.news_terms.specs.Pattern.{IsExpressionText}
-use Rattle.relay_conf.specs.declared.cycbuff.Buffers.{Buffers}
+use Rattle.relay_conf.specs.declared.settings.Buffers.{Buffers}
 use Rattle.relay_conf.specs.declared.faults.ConfError.{ConfError}
 use Rattle.relay_conf.specs.declared.faults.ConfError.TheVariants.{Memory, Faulty}
 use Rattle.relay_conf.specs.declared.relay.Relay.{Relay}

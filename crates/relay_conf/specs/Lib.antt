@@ -6,6 +6,7 @@ pub mod Faults
 pub mod K1
 pub mod LineByLine
 pub mod Lines
+pub mod Places
 pub mod Readings
 pub mod Relay
 pub mod RelayDraft

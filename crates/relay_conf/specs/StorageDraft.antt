@@ -14,7 +14,7 @@ use Rattle.relay_conf.specs.declared.storage.StorageDraft.{StorageDraft}
 use Rattle.relay_conf.specs.Cycbuff.{Group}
 use Rattle.relay_conf.specs.Drafts.{ReadingGives, late_or}
 use Rattle.relay_conf.specs.Faults.{fault_or_later, first_fault, whole_fault, unless_fault}
-use Rattle.relay_conf.specs.Settings.{group_view}
+use Rattle.relay_conf.specs.Places.{group_view}
 use Rattle.relay_conf.specs.Storage.{entry_view}
 use Rattle.relay_conf.specs.StorageLines.{StorageLine, RawLine, SaidLine, RawSays, Skipped, Opens}
 use Rattle.relay_conf.specs.StorageLines.{Closes, Ends, ClassLine, NewsgroupsLine, OptionsLine}

@@ -5,9 +5,10 @@ ghost use Rattle.relay_conf.specs.RelayViews.{relay_view};
 ghost use Rattle.relay_conf.specs.Settings.{buffers_view};
 ghost use Rattle.relay_conf.specs.Storage.{entry_view};
 
-use crate::cycbuff::{Buffers, read_cycbuff};
+use crate::cycbuff::read_cycbuff;
 use crate::faults::ConfError;
 use crate::relay::{Relay, read_relay};
+use crate::settings::Buffers;
 use crate::storage::{Method, read_storage};
 use std::alloc::Global;
 

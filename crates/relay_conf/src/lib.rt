@@ -13,13 +13,15 @@ mod lines;
 mod names;
 mod relay;
 mod relay_lines;
+mod settings;
 mod storage;
 mod storage_lines;
 mod words;
 
 pub use config::{Config, K1_CYCBUFF, K1_RELAY, K1_STORAGE};
-pub use cycbuff::{BufferConf, Buffers, GroupConf, Mode, read_cycbuff};
+pub use cycbuff::{BufferConf, GroupConf, Mode, read_cycbuff};
 pub use faults::{ConfError, Fault, LineFault};
 pub use line_words::Octets;
 pub use relay::{Feed, Peer, Relay, read_relay};
+pub use settings::Buffers;
 pub use storage::{Method, read_storage};

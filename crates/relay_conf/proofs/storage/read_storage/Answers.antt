@@ -2,7 +2,7 @@ use Rattle.std.proofs.Common.{◌≡◌, ◌∙◌, ap, subst, map, List, ℕ, E
 use Rattle.std.specs.Global.{Vec}
 use Rattle.relay_conf.specs.Drafts.{DraftGives, IsDrawnFrom}
 use Rattle.relay_conf.specs.Lines.{lines_of}
-use Rattle.relay_conf.specs.Settings.{group_view}
+use Rattle.relay_conf.specs.Places.{group_view}
 use Rattle.relay_conf.specs.Storage.{entry_view}
 use Rattle.relay_conf.specs.StorageDraft.{draft_view, no_lines, IsDraftOf}
 use Rattle.relay_conf.specs.StorageFile.{LineSays, early_fault, storage_said}
