@@ -6,8 +6,8 @@ use Rattle.news_terms.specs.Pattern.{IsExpressionText}
 use Rattle.relay_conf.specs.declared.settings.Buffers.{Buffers}
 use Rattle.relay_conf.specs.declared.faults.ConfError.{ConfError}
 use Rattle.relay_conf.specs.declared.faults.ConfError.TheVariants.{Memory, Faulty}
-use Rattle.relay_conf.specs.declared.relay.Relay.{Relay}
-use Rattle.relay_conf.specs.declared.storage.Method.{Method}
+use Rattle.relay_conf.specs.declared.settings.Relay.{Relay}
+use Rattle.relay_conf.specs.declared.settings.Method.{Method}
 use Rattle.relay_conf.specs.Cycbuff.{CycbuffSettings, cycbuff_of}
 use Rattle.relay_conf.specs.Faults.{ConfGives}
 use Rattle.relay_conf.specs.K1.{k1_buffers, every_newsgroup, k1_entries, k1_relay}

@@ -1,5 +1,5 @@
 -- Lines without a fault: what each of them keeps holds of all.
-use Rattle.std.proofs.Common.{◌≡◌, ℕ, ◌+◌, ◌≤◌, Bool, true, cond, List, [], ◌∷◌, ◌++◌, length}
+use Rattle.std.proofs.Common.{◌≡◌, ℕ, ◌+◌, ◌≤◌, Bool, true, false, cond, List, [], ◌∷◌, ◌++◌, length}
 use Rattle.std.proofs.Common.{Option, Some, None, Result, Ok, Err, refl, sym, subst, append-nil}
 use Rattle.std.proofs.Common.{append_assoc}
 use Rattle.std.specs.Prelude.{◌&&◌, nat_le}
@@ -7,11 +7,12 @@ use Rattle.std.specs.Str.Parse.{digits_value}
 use Rattle.std.proofs.lemmas.Bool.{and_parts, cond_both, leb-true}
 use Rattle.line_words.specs.Numbers.{is_numeral, number_within}
 use Rattle.relay_conf.specs.declared.faults.Fault.{Fault}
+use Rattle.relay_conf.specs.declared.faults.Fault.TheVariants.{UnknownName}
 use Rattle.relay_conf.specs.declared.faults.LineFault.{LineFault}
 use Rattle.relay_conf.specs.Faults.{fault_or_later, first_fault, whole_fault, unless_fault}
 
 -- Where a line and those behind it have no fault, neither has.
-no_fault_parts : (n : ℕ) (here : Option Fault) (later : Option LineFault)
+pub no_fault_parts : (n : ℕ) (here : Option Fault) (later : Option LineFault)
     → fault_or_later n here later ≡ None → (here ≡ None) × (later ≡ None)
 no_fault_parts n None later e = (refl, e)
 no_fault_parts n (Some fault) later e = cc
@@ -41,6 +42,11 @@ behind_trial (Some fault) said settings h = cc
 pub no_whole_fault : (o : Option Fault) → whole_fault o ≡ None → o ≡ None
 no_whole_fault None e = refl
 no_whole_fault (Some fault) e = cc
+
+-- Where a test finds no unknown name, it passes.
+pub no_unknown : (b : Bool) → cond b None (Some UnknownName) ≡ None → b ≡ true
+no_unknown true e = refl
+no_unknown false e = cc
 
 -- a number, where there is one, is in this range
 abbrev pub IsIn : (least most : ℕ) → Option ℕ → Type 0

@@ -21,5 +21,7 @@ pub mod SkippedLines
 pub mod SkippedRelay
 pub mod SkippedStorage
 pub mod SoundCycbuff
+pub mod SoundRelay
+pub mod SoundStorage
 pub mod StorageReadings
 pub mod StorageWords

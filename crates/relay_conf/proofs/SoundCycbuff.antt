@@ -373,7 +373,7 @@ buffer_at buffers i b at =
         ∙ ap (λ n. numbered_buffer (n, one)) number)
 
 -- There are as many numbered buffers.
-as_many_numbered : (buffers : List BufferConf)
+pub as_many_numbered : (buffers : List BufferConf)
     → length (numbered_buffers buffers) ≡ length buffers
 as_many_numbered buffers =
     length-map (enumerate_from 0 buffers) numbered_buffer ∙ length-enumerate_from 0 buffers

@@ -12,6 +12,7 @@ pub mod Relay
 pub mod RelayDraft
 pub mod RelayViews
 pub mod Settings
+pub mod SoundRelay
 pub mod Storage
 pub mod StorageDraft
 pub mod StorageFile

@@ -18,10 +18,10 @@ mod storage;
 mod storage_lines;
 mod words;
 
-pub use config::{Config, K1_CYCBUFF, K1_RELAY, K1_STORAGE};
+pub use config::{K1_CYCBUFF, K1_RELAY, K1_STORAGE};
 pub use cycbuff::{BufferConf, GroupConf, Mode, read_cycbuff};
 pub use faults::{ConfError, Fault, LineFault};
 pub use line_words::Octets;
-pub use relay::{Feed, Peer, Relay, read_relay};
-pub use settings::Buffers;
-pub use storage::{Method, read_storage};
+pub use relay::{Feed, Peer, read_relay};
+pub use settings::{Buffers, Config, Method, Relay};
+pub use storage::read_storage;
