@@ -20,9 +20,8 @@ use Rattle.line_words.specs.Parts.{one_of, three_of}
 use Rattle.line_words.proofs.Cuts.{some_part}
 use Rattle.relay_conf.specs.declared.faults.Fault.{Fault}
 use Rattle.relay_conf.specs.declared.faults.Fault.TheVariants.{Syntax}
-use Rattle.relay_conf.specs.declared.faults.LineFault.{LineFault}
 use Rattle.relay_conf.specs.declared.relay.Peer.{Peer}
-use Rattle.relay_conf.specs.Faults.{first_fault, whole_fault, unless_fault}
+use Rattle.relay_conf.specs.Faults.{first_fault, whole_fault}
 use Rattle.relay_conf.specs.LineByLine.{SayEach}
 use Rattle.relay_conf.specs.Relay.{RelayLine, RawLine, SaidLine, Skipped, Own, MaxArticle, Cutoff}
 use Rattle.relay_conf.specs.Relay.{Remember, PeerLine, FeedLine, RawSays, LineSays, own_line}

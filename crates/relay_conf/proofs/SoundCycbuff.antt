@@ -1,20 +1,20 @@
 -- Buffers and groups that cycbuff.conf says are sound.
-use Rattle.std.proofs.Common.{◌≡◌, ℕ, zero, suc, ◌+◌, ◌*◌, ◌^◌, ◌<◌, ◌≤◌, Bool, true, false, cond}
+use Rattle.std.proofs.Common.{◌≡◌, ℕ, zero, suc, ◌+◌, ◌^◌, ◌<◌, ◌≤◌, Bool, true, false, cond}
 use Rattle.std.proofs.Common.{not, ◌⊎◌, inl, inr, List, [], ◌∷◌, ◌++◌, length, map, All, Option}
 use Rattle.std.proofs.Common.{None, Some, Result, Ok, Err, slice_get, get_or, refl, ap, ◌∙◌, sym}
 use Rattle.std.proofs.Common.{subst, append-nil, arith}
-use Rattle.std.specs.Prelude.{◌&&◌, ◌||◌, ◌==◌, filter_map, codes, bytes_eq, nat_le}
+use Rattle.std.specs.Prelude.{◌&&◌, ◌||◌, ◌==◌, codes, bytes_eq, nat_le}
 use Rattle.std.specs.List.{list_any, list_all, enumerate_from}
 use Rattle.std.specs.Option.{option_map, option_to_list}
 use Rattle.std.specs.Str.{byte}
-use Rattle.std.proofs.lemmas.Bool.{and_parts, cases_lt, cond_both, le-leb, ltb-true, or_parts, eq-eqb}
+use Rattle.std.proofs.lemmas.Bool.{cases_lt, cond_both, le-leb, ltb-true, or_parts, eq-eqb}
 use Rattle.std.proofs.lemmas.Bool.{both_ways}
 use Rattle.std.proofs.lemmas.List.{length-append, length-map}
 use Rattle.std.proofs.lemmas.List.Elements.{All-cons, All-nil, All-map, All-push, All-weaker}
 use Rattle.std.proofs.lemmas.List.FromFn.{length-enumerate_from, get_or-enumerate_from}
 use Rattle.std.proofs.lemmas.List.Folds.{list_any-append}
 use Rattle.std.proofs.lemmas.List.Sums.{AllPass-from_list_all}
-use Rattle.std.proofs.lemmas.Option.{same_Some, slice_get-map, slice_get_within}
+use Rattle.std.proofs.lemmas.Option.{same_Some, slice_get-map}
 use Rattle.news_terms.specs.Article.{without_outer_white}
 use Rattle.news_terms.specs.Places.{Buffer}
 use Rattle.news_terms.specs.Places as places
@@ -27,14 +27,13 @@ use Rattle.relay_conf.specs.declared.cycbuff.Mode.{Mode}
 use Rattle.relay_conf.specs.declared.cycbuff.Mode.TheVariants.{Interleave}
 use Rattle.relay_conf.specs.declared.faults.Fault.{Fault}
 use Rattle.relay_conf.specs.declared.faults.Fault.TheVariants.{Syntax, UnknownName, Shared, Number}
-use Rattle.relay_conf.specs.declared.faults.LineFault.{LineFault}
 use Rattle.relay_conf.specs.Cycbuff.{CycbuffLine, CycbuffSettings, Group, Skipped, BufferLine}
 use Rattle.relay_conf.specs.Cycbuff.{GroupLine, buffer_sized, buffer_line, group_moded, group_line}
 use Rattle.relay_conf.specs.Cycbuff.{ignored_line, cycbuff_parts, cycbuff_line, buffer_of}
 use Rattle.relay_conf.specs.Cycbuff.{buffers_of, group_name_of, group_names, name_fault, line_fault}
 use Rattle.relay_conf.specs.Cycbuff.{early_fault, number_of, is_known, group_of, groups_of}
-use Rattle.relay_conf.specs.Cycbuff.{is_listed, is_shared, list_fault, listed_fault, late_fault}
-use Rattle.relay_conf.specs.Cycbuff.{no_group_fault, cycbuff_said, cycbuff_of, mode_of, is_file, members_of}
+use Rattle.relay_conf.specs.Cycbuff.{is_listed, is_shared, listed_fault, late_fault}
+use Rattle.relay_conf.specs.Cycbuff.{no_group_fault, cycbuff_of, mode_of, is_file, members_of}
 use Rattle.relay_conf.specs.Faults.{first_fault, whole_fault}
 use Rattle.relay_conf.specs.Places.{numbered_buffer, numbered_buffers, group_over, groups_over}
 use Rattle.relay_conf.specs.Words.{is_name}
@@ -165,11 +164,12 @@ few_said said none =
     no_fault_keeps early_fault
     (λ before. (length (buffers_of before) ≤ 256) × (length (group_names before) ≤ 256))
     (λ before line e few.
-    let more = few_more (buffers_of before) (group_names before) line e few in
-    (subst (λ (bs : List BufferConf). length bs ≤ 256) (sym (filter_one buffer_of before line))
-    more.0,
-    subst (λ (ns : List (List ℕ)). length ns ≤ 256) (sym (filter_one group_name_of before line))
-    more.1))
+    let more = few_more (buffers_of before) (group_names before) line e few in (
+      subst (λ (bs : List BufferConf). length bs ≤ 256) (sym (filter_one buffer_of before line))
+          more.0,
+      subst (λ (ns : List (List ℕ)). length ns ≤ 256) (sym (filter_one group_name_of before line))
+          more.1,
+    ))
     [] said none (omega arith, omega arith)
 
 -- A group has a name, and a name a group.
@@ -368,9 +368,12 @@ buffer_at buffers i b at =
     by_there (Some one) e h =
         let k : option_map numbered_buffer (option_map (λ (x : BufferConf). (0 + i, x)) (Some one))
         ≡ Some b = rw e at h in
-        let number : 0 + i ≡ i = omega arith in
-        (one, e, sym (same_Some (numbered_buffer (0 + i, one)) b k)
-        ∙ ap (λ n. numbered_buffer (n, one)) number)
+        let number : 0 + i ≡ i = omega arith in (
+          one,
+          e,
+          sym (same_Some (numbered_buffer (0 + i, one)) b k)
+              ∙ ap (λ n. numbered_buffer (n, one)) number,
+        )
 
 -- There are as many numbered buffers.
 pub as_many_numbered : (buffers : List BufferConf)

@@ -1,14 +1,14 @@
 -- Settings that relay.conf says are sound.
-use Rattle.std.proofs.Common.{◌≡◌, ◌≢◌, ℕ, zero, suc, ◌+◌, ◌<◌, ◌≤◌, Bool, true, false, cond, not}
-use Rattle.std.proofs.Common.{List, [], ◌∷◌, ◌++◌, length, map, All, Option, None, Some, Result, Ok}
+use Rattle.std.proofs.Common.{◌≡◌, ◌≢◌, ℕ, zero, suc, ◌+◌, ◌<◌, ◌≤◌, Bool, true, false, cond}
+use Rattle.std.proofs.Common.{List, [], ◌∷◌, ◌++◌, length, All, Option, None, Some, Result, Ok}
 use Rattle.std.proofs.Common.{Err, slice_get, get_or, refl, ap, ◌∙◌, sym, subst, arith, append-nil}
-use Rattle.std.proofs.Common.{◌⊎◌, inl, inr}
+use Rattle.std.proofs.Common.{inl, inr}
 use Rattle.std.specs.Prelude.{IsTrue}
 use Rattle.std.specs.Prelude.{◌&&◌, filter_map, codes, bytes_eq, nat_le}
 use Rattle.std.specs.List.{list_any, position_or_len, cons_option}
 use Rattle.std.specs.Option.{ForSome, option_to_list}
-use Rattle.std.proofs.lemmas.Bool.{both_ways, cases_Bool, cases_lt, cond_both, le-leb, ltb-true}
-use Rattle.std.proofs.lemmas.List.{length-append, length-map}
+use Rattle.std.proofs.lemmas.Bool.{cases_lt, le-leb, ltb-true}
+use Rattle.std.proofs.lemmas.List.{length-append}
 use Rattle.std.proofs.lemmas.List.Elements.{All-append, All-cons, All-head, All-nil, All-push}
 use Rattle.std.proofs.lemmas.List.Elements.{All-tail}
 use Rattle.std.proofs.lemmas.Option.{same_Some, slice_get-get_or}
@@ -20,7 +20,6 @@ use Rattle.line_words.specs.Numbers.{number_within}
 use Rattle.line_words.specs.Parts.{one_of, three_of}
 use Rattle.relay_conf.specs.declared.faults.Fault.{Fault}
 use Rattle.relay_conf.specs.declared.faults.Fault.TheVariants.{Syntax, Duplicate, Number}
-use Rattle.relay_conf.specs.declared.faults.Fault.TheVariants.{UnknownName}
 use Rattle.relay_conf.specs.declared.relay.Feed.{Feed}
 use Rattle.relay_conf.specs.declared.relay.Peer.{Peer}
 use Rattle.relay_conf.specs.Faults.{first_fault, whole_fault}
@@ -28,11 +27,11 @@ use Rattle.relay_conf.specs.LineByLine.{SayEach}
 use Rattle.relay_conf.specs.Relay.{RelayLine, RawLine, SaidLine, Skipped, Own, MaxArticle, Cutoff}
 use Rattle.relay_conf.specs.Relay.{Remember, PeerLine, FeedLine, RawSays, LineSays, own_line}
 use Rattle.relay_conf.specs.Relay.{number_line, number_or_fault, with_number, peer_ported, peer_line}
-use Rattle.relay_conf.specs.Relay.{feed_ringed, feed_line, relay_words, relay_line, own_of, peer_of}
+use Rattle.relay_conf.specs.Relay.{feed_ringed, feed_line, relay_words, relay_line, peer_of}
 use Rattle.relay_conf.specs.Relay.{max_article_of, cutoff_of, remember_of, feed_name_of, feed_of}
 use Rattle.relay_conf.specs.Relay.{peer_number, is_peer, peer_fault, feed_fault, unknown_fault}
 use Rattle.relay_conf.specs.Relay.{line_fault, stand_of, early_fault, late_fault, no_own_fault}
-use Rattle.relay_conf.specs.Relay.{first_or, first_of, settings_of, relay_said, RelaySettings}
+use Rattle.relay_conf.specs.Relay.{first_or, first_of, settings_of, RelaySettings}
 use Rattle.relay_conf.specs.Relay.{Stand}
 use Rattle.relay_conf.specs.RelayViews.{HasSettings}
 use Rattle.relay_conf.specs.SoundRelay.{IsSoundRelay}

@@ -1,8 +1,8 @@
 -- Entries that storage.conf says name groups that are there.
-use Rattle.std.proofs.Common.{◌≡◌, ℕ, ◌+◌, ◌<◌, Bool, true, cond, List, [], ◌∷◌, ◌++◌, length, map}
-use Rattle.std.proofs.Common.{All, Option, None, Some, Result, Ok, Err, get_or, refl, ap, ◌∙◌, sym}
+use Rattle.std.proofs.Common.{◌≡◌, ℕ, ◌+◌, ◌<◌, List, [], ◌∷◌, ◌++◌, length, map}
+use Rattle.std.proofs.Common.{All, Option, None, Some, Result, Ok, Err, get_or, refl, sym}
 use Rattle.std.proofs.Common.{subst, arith}
-use Rattle.std.specs.Prelude.{filter_map, reverse, codes, bytes_eq, IfOk}
+use Rattle.std.specs.Prelude.{filter_map, reverse, IfOk}
 use Rattle.std.specs.List.{cons_option}
 use Rattle.std.specs.Global.{Vec}
 use Rattle.std.proofs.lemmas.Bool.{ltb-true}
@@ -13,7 +13,6 @@ use Rattle.std.proofs.lemmas.Option.{same_Some}
 use Rattle.news_terms.specs.StorageClass.{Entry}
 use Rattle.relay_conf.specs.declared.faults.ConfError.{ConfError}
 use Rattle.relay_conf.specs.declared.faults.Fault.{Fault}
-use Rattle.relay_conf.specs.declared.faults.Fault.TheVariants.{Syntax, UnknownName}
 use Rattle.relay_conf.specs.declared.settings.Buffers.{Buffers}
 use Rattle.relay_conf.specs.declared.settings.Method.{Method}
 use Rattle.relay_conf.specs.declared.storage_lines.Place.{Place}
@@ -28,7 +27,7 @@ use Rattle.relay_conf.specs.StorageLines.{NewsgroupsLine, OptionsLine, SizeLine,
 use Rattle.relay_conf.specs.StorageFile.{mark_of, up_to_mark, back_to_mark, entry_lines, group_number}
 use Rattle.relay_conf.specs.StorageFile.{is_group, group_of, Stand, stand_behind, needed, line_fault}
 use Rattle.relay_conf.specs.StorageFile.{early_fault, open_fault, place_behind, named_fault}
-use Rattle.relay_conf.specs.StorageFile.{late_fault, entry_of, closed_by, entries_of, storage_said}
+use Rattle.relay_conf.specs.StorageFile.{late_fault, entry_of, closed_by, entries_of}
 use Rattle.relay_conf.specs.StorageViews.{HasEntries, StorageGives}
 use Rattle.relay_conf.proofs.FaultlessLines.{behind_trial, no_fault_keeps, no_fault_parts}
 use Rattle.relay_conf.proofs.FaultlessLines.{no_unknown}

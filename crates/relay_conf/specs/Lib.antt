@@ -4,6 +4,7 @@ pub mod Drafts
 pub mod Expressions
 pub mod Faults
 pub mod K1
+pub mod K2
 pub mod LineByLine
 pub mod Lines
 pub mod Places

@@ -6,13 +6,16 @@ ghost use Rattle.std.specs.List.{list_all};
 ghost use Rattle.news_terms.specs.Article.{line_feed, without_outer_white};
 ghost use Rattle.news_terms.specs.Lines.{crlf};
 ghost use Rattle.news_terms.specs.Path.{is_agent, path_identities};
+ghost use Rattle.news_terms.specs.PlaceExamples.{eight, six, one_of_eight, eight_then_six};
 ghost use Rattle.news_terms.specs.Settings.{AreSound};
 ghost use Rattle.news_terms.specs.StorageClass.{Entry};
 ghost use Rattle.std.specs.Str.{byte};
 ghost use Rattle.relay_conf.specs.Cycbuff.{Group, CycbuffSettings, cycbuff_of};
 ghost use Rattle.relay_conf.specs.K1.{k1_buffers, k1_entries, k1_relay};
+ghost use Rattle.relay_conf.specs.K2.{k2_buffers, k2_cycbuff};
 ghost use Rattle.relay_conf.specs.Lines.{lines_of, joined_by, is_line};
 ghost use Rattle.line_words.specs.Comments.{is_skipped};
+ghost use Rattle.relay_conf.specs.Places.{groups_over, numbered_buffers};
 ghost use Rattle.relay_conf.specs.Readings.{RelayHasReading, StorageHasReading};
 ghost use Rattle.relay_conf.specs.Relay.{RelaySettings};
 ghost use Rattle.relay_conf.specs.RelayViews.{relay_view};
@@ -100,6 +103,19 @@ pub fn texts_of_k1()
     ensures cycbuff { cycbuff_of (lines_of K1_CYCBUFF.now) ≡ Ok k1_buffers }
     ensures storage { storage.HasEntries k1_buffers.groups (lines_of K1_STORAGE.now) k1_entries }
     ensures relay { relay.HasSettings (lines_of K1_RELAY.now) k1_relay }
+{}
+
+/// The buffer and the group of K1 as places have them.
+pub fn places_of_k1()
+    ensures buffers { numbered_buffers k1_buffers.buffers ≡ eight ∷ [] }
+    ensures groups { groups_over k1_buffers.buffers k1_buffers.groups ≡ one_of_eight ∷ [] }
+{}
+
+/// The text of cycbuff.conf in K2 says its buffers and its group, which places have in their order.
+pub fn places_of_k2()
+    ensures cycbuff { cycbuff_of k2_cycbuff ≡ Ok k2_buffers }
+    ensures buffers { numbered_buffers k2_buffers.buffers ≡ eight ∷ six ∷ [] }
+    ensures groups { groups_over k2_buffers.buffers k2_buffers.groups ≡ eight_then_six ∷ [] }
 {}
 
 /// The identities of relay.conf are such as an agent may put into a Path: not empty, without a dot

@@ -19,9 +19,8 @@ pub struct Buffers {
     pub buffers: Vec<BufferConf>,
     pub groups: Vec<GroupConf>,
     pub ghost sound: { AreSound (numbered_buffers buffers.items)
-        (groups_over buffers.items (map group_view groups.items)) }
-        by { AreSound-prop (numbered_buffers buffers.items)
-        (groups_over buffers.items (map group_view groups.items)) },
+        (groups_over buffers.items (map group_view groups.items)) } by { AreSound-prop (numbered_buffers buffers.items)
+            (groups_over buffers.items (map group_view groups.items)) },
     pub ghost few_buffers: { length buffers.items ≤ 256 },
     pub ghost few_groups: { length groups.items ≤ 256 },
 }

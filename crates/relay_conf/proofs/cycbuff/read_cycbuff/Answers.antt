@@ -85,6 +85,9 @@ invariant_of-result c =
     record {
       sound = sound.sound;
       few_buffers = sound.few_buffers;
-      few_groups = omega (arith, sound.few_groups,
-          length-map c.in_ok-groups.groups.items group_view);
+      few_groups = omega (
+        arith,
+        sound.few_groups,
+        length-map c.in_ok-groups.groups.items group_view,
+      );
     }

@@ -1,10 +1,9 @@
-use Rattle.std.proofs.Common.{◌≡◌, ◌∙◌, ◌∷◌, [], ℕ, List, map, Option, None, Some, Ok, refl, ap, sym}
+use Rattle.std.proofs.Common.{◌≡◌, ◌∙◌, ℕ, List, map, Option, None, Some, Ok, ap, sym}
 use Rattle.std.proofs.Common.{subst}
 use Rattle.std.specs.Prelude.{unwrap_or}
 use Rattle.relay_conf.specs.declared.faults.LineFault.{LineFault}
 use Rattle.relay_conf.specs.declared.relay.Feed.{Feed}
 use Rattle.relay_conf.specs.Faults.{unless_fault}
-use Rattle.relay_conf.specs.Relay.{RelaySettings}
 use Rattle.relay_conf.specs.RelayDraft.{Reading, draft_view, draft_said, first_unknown, named_said}
 use Rattle.relay_conf.specs.RelayDraft.{numbered_feed, reading_settings}
 use Rattle.relay_conf.specs.SoundRelay.{IsSoundRelay}

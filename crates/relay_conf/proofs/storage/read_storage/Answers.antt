@@ -1,4 +1,4 @@
-use Rattle.std.proofs.Common.{◌≡◌, ◌∙◌, ap, subst, map, List, ℕ, Err}
+use Rattle.std.proofs.Common.{◌≡◌, subst, map, List, ℕ, Err}
 use Rattle.std.specs.Global.{Vec}
 use Rattle.relay_conf.specs.Drafts.{DraftGives, IsDrawnFrom}
 use Rattle.relay_conf.specs.Lines.{lines_of}
