@@ -1,6 +1,5 @@
 -- That buffers and groups are sound holds in one way at most, so a type may keep it.
-use Rattle.std.proofs.Common.{◌≡◌, ℕ, ◌+◌, ◌<◌, ◌≤◌, ◌^◌, List, length, All, Option, Some, slice_get}
-use Rattle.std.proofs.Common.{refl}
+use Rattle.std.proofs.Common.{◌≡◌, ℕ, ◌≤◌, List, length, All, Some, slice_get, refl}
 use Rattle.std.proofs.Props.{props}
 use mathlib.Core.HLevel.{Σ_prop_path}
 use Rattle.news_terms.specs.Places.{Buffer, Group}

@@ -56,7 +56,8 @@ pub numbered_at : {X : Type 0} (n : ℕ) (xs : List X) (i : ℕ)
 numbered_at n [] i = refl
 numbered_at {X} n (x ∷ xs) zero = ap (λ k. Some (k, x)) (omega arith)
 numbered_at {X} n (x ∷ xs) (suc i) =
-    numbered_at (n + 1) xs i ∙ ap (λ k. option_map (λ (y : X). (k, y)) (slice_get xs i)) (omega arith)
+    numbered_at (n + 1) xs i
+    ∙ ap (λ k. option_map (λ (y : X). (k, y)) (slice_get xs i)) (omega arith)
 
 -- Elements that are looked up are each there, in their order.
 pub looked_up_at : {X : Type 0} (all : List X) (places : List ℕ)

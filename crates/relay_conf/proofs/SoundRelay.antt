@@ -26,12 +26,12 @@ use Rattle.relay_conf.specs.Faults.{first_fault, whole_fault}
 use Rattle.relay_conf.specs.LineByLine.{SayEach}
 use Rattle.relay_conf.specs.Relay.{RelayLine, RawLine, SaidLine, Skipped, Own, MaxArticle, Cutoff}
 use Rattle.relay_conf.specs.Relay.{Remember, PeerLine, FeedLine, RawSays, LineSays, own_line}
-use Rattle.relay_conf.specs.Relay.{number_line, number_or_fault, with_number, peer_ported, peer_line}
-use Rattle.relay_conf.specs.Relay.{feed_ringed, feed_line, relay_words, relay_line, peer_of}
-use Rattle.relay_conf.specs.Relay.{max_article_of, cutoff_of, remember_of, feed_name_of, feed_of}
-use Rattle.relay_conf.specs.Relay.{peer_number, is_peer, peer_fault, feed_fault, unknown_fault}
-use Rattle.relay_conf.specs.Relay.{line_fault, stand_of, early_fault, late_fault, no_own_fault}
-use Rattle.relay_conf.specs.Relay.{first_or, first_of, settings_of, RelaySettings}
+use Rattle.relay_conf.specs.Relay.{number_line, number_or_fault, with_number, peer_ported}
+use Rattle.relay_conf.specs.Relay.{peer_line, feed_ringed, feed_line, relay_words, relay_line}
+use Rattle.relay_conf.specs.Relay.{peer_of, max_article_of, cutoff_of, remember_of, feed_name_of}
+use Rattle.relay_conf.specs.Relay.{feed_of, peer_number, is_peer, peer_fault, feed_fault}
+use Rattle.relay_conf.specs.Relay.{unknown_fault, line_fault, stand_of, early_fault, late_fault}
+use Rattle.relay_conf.specs.Relay.{no_own_fault, first_or, first_of, settings_of, RelaySettings}
 use Rattle.relay_conf.specs.Relay.{Stand}
 use Rattle.relay_conf.specs.RelayViews.{HasSettings}
 use Rattle.relay_conf.specs.SoundRelay.{IsSoundRelay}
@@ -250,7 +250,8 @@ few_more stand (Ok (PeerLine name identity port)) e few =
     let room = not_full stand.peers name e in
     let one : Peer = record { name = name; identity = identity; port = port } in
     omega (arith, length-append stand.peers (one ∷ []), room)
-few_more stand (Ok (FeedLine name ring expression)) e few = omega (arith, length-append stand.peers [], few)
+few_more stand (Ok (FeedLine name ring expression)) e few =
+    omega (arith, length-append stand.peers [], few)
 
 -- There are at most 1,024.
 few_peers : (said : List SaidLine) → first_fault early_fault [] said ≡ None

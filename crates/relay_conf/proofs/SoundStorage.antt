@@ -24,10 +24,10 @@ use Rattle.relay_conf.specs.Settings.{buffers_view}
 use Rattle.relay_conf.specs.Storage.{entry_view}
 use Rattle.relay_conf.specs.StorageLines.{SaidLine, Skipped, Opens, Closes, Ends, ClassLine}
 use Rattle.relay_conf.specs.StorageLines.{NewsgroupsLine, OptionsLine, SizeLine, ExactLine}
-use Rattle.relay_conf.specs.StorageFile.{mark_of, up_to_mark, back_to_mark, entry_lines, group_number}
-use Rattle.relay_conf.specs.StorageFile.{is_group, group_of, Stand, stand_behind, needed, line_fault}
-use Rattle.relay_conf.specs.StorageFile.{early_fault, open_fault, place_behind, named_fault}
-use Rattle.relay_conf.specs.StorageFile.{late_fault, entry_of, closed_by, entries_of}
+use Rattle.relay_conf.specs.StorageFile.{mark_of, up_to_mark, back_to_mark, entry_lines}
+use Rattle.relay_conf.specs.StorageFile.{group_number, is_group, group_of, Stand, stand_behind}
+use Rattle.relay_conf.specs.StorageFile.{needed, line_fault, early_fault, open_fault, place_behind}
+use Rattle.relay_conf.specs.StorageFile.{named_fault, late_fault, entry_of, closed_by, entries_of}
 use Rattle.relay_conf.specs.StorageViews.{HasEntries, StorageGives}
 use Rattle.relay_conf.proofs.FaultlessLines.{behind_trial, no_fault_keeps, no_fault_parts}
 use Rattle.relay_conf.proofs.FaultlessLines.{no_unknown}

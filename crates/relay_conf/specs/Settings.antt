@@ -22,7 +22,8 @@ places_of_buffers settings = numbered_buffers settings.buffers.items
 
 -- the groups as the definitions of places have them, their buffers among those
 abbrev pub places_of_groups : Buffers → List places.Group
-places_of_groups settings = groups_over settings.buffers.items (map group_view settings.groups.items)
+places_of_groups settings =
+    groups_over settings.buffers.items (map group_view settings.groups.items)
 
 -- a line of cycbuff.conf as the definitions have it
 abbrev pub cycbuff_view : Line → CycbuffLine

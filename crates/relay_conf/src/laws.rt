@@ -1,5 +1,5 @@
-//! Laws of what the files say, and of the settings that are read of them. Nothing of the code stands
-//! on them; other crates take from them what holds of each value of the settings.
+//! Laws of what the files say, and of the settings that are read of them. Nothing of the code
+//! stands on them; other crates take from them what holds of each value of the settings.
 ghost use Rattle.std.specs.Prelude.{◌≡◌, ◌↔◌, ◌≤◌, ◌<◌, ◌^◌, ℕ, List, [], ◌∷◌, ◌++◌, Ok, IsTrue};
 ghost use Rattle.std.specs.Prelude.{All, length, map};
 ghost use Rattle.std.specs.List.{list_all};

@@ -1,5 +1,5 @@
-//! The settings of the configuration's files, with what holds of each value of them (docs/FORMATS.md,
-//! Configuration).
+//! The settings of the configuration's files, with what holds of each value of them
+//! (docs/FORMATS.md, Configuration).
 ghost use Rattle.std.specs.Prelude.{◌≤◌, ◌<◌, ◌^◌, All, length, map};
 ghost use Rattle.std.proofs.Props.{props};
 ghost use Rattle.news_terms.specs.Settings.{AreSound};
@@ -19,8 +19,7 @@ pub struct Buffers {
     pub buffers: Vec<BufferConf>,
     pub groups: Vec<GroupConf>,
     pub ghost sound: { AreSound (numbered_buffers buffers.items)
-        (groups_over buffers.items (map group_view groups.items)) } by { AreSound-prop (numbered_buffers buffers.items)
-            (groups_over buffers.items (map group_view groups.items)) },
+        (groups_over buffers.items (map group_view groups.items)) } by { AreSound-prop _ _ },
     pub ghost few_buffers: { length buffers.items ≤ 256 },
     pub ghost few_groups: { length groups.items ≤ 256 },
 }
