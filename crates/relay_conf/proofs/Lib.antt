@@ -9,6 +9,7 @@ pub mod FirstFaults
 pub mod JoinedLines
 pub mod LinesRead
 pub mod ListPlaces
+pub mod ListedOnce
 pub mod NameTexts
 pub mod Numbered
 pub mod OneReading
@@ -16,6 +17,7 @@ pub mod OneRelay
 pub mod OneStorage
 pub mod PathIdentities
 pub mod RelayReadings
+pub mod SizedBuffers
 pub mod SkippedCycbuff
 pub mod SkippedLines
 pub mod SkippedRelay
