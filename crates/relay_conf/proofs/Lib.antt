@@ -3,10 +3,13 @@ pub mod CycbuffReadings
 pub mod EachReading
 pub mod EachRelay
 pub mod EachStorage
+pub mod FaultlessLines
 pub mod FileLines
 pub mod FirstFaults
 pub mod JoinedLines
 pub mod LinesRead
+pub mod ListPlaces
+pub mod ListedOnce
 pub mod NameTexts
 pub mod Numbered
 pub mod OneReading
@@ -14,9 +17,13 @@ pub mod OneRelay
 pub mod OneStorage
 pub mod PathIdentities
 pub mod RelayReadings
+pub mod SizedBuffers
 pub mod SkippedCycbuff
 pub mod SkippedLines
 pub mod SkippedRelay
 pub mod SkippedStorage
+pub mod SoundCycbuff
+pub mod SoundRelay
+pub mod SoundStorage
 pub mod StorageReadings
 pub mod StorageWords

@@ -1,22 +1,34 @@
-//! Laws of what the files say: nothing of the code stands on them.
-ghost use Rattle.std.specs.Prelude.{◌≡◌, ◌↔◌, ℕ, List, [], ◌∷◌, ◌++◌, Ok, IsTrue, All};
+//! Laws of what the files say, and of the settings that are read of them. Nothing of the code
+//! stands on them; other crates take from them what holds of each value of the settings.
+ghost use Rattle.std.specs.Prelude.{◌≡◌, ◌↔◌, ◌≤◌, ◌<◌, ◌^◌, ℕ, List, [], ◌∷◌, ◌++◌, Ok, IsTrue};
+ghost use Rattle.std.specs.Prelude.{All, length, map};
 ghost use Rattle.std.specs.List.{list_all};
 ghost use Rattle.news_terms.specs.Article.{line_feed, without_outer_white};
 ghost use Rattle.news_terms.specs.Lines.{crlf};
 ghost use Rattle.news_terms.specs.Path.{is_agent, path_identities};
+ghost use Rattle.news_terms.specs.PlaceExamples.{eight, six, one_of_eight, eight_then_six};
+ghost use Rattle.news_terms.specs.Settings.{AreSound};
 ghost use Rattle.news_terms.specs.StorageClass.{Entry};
 ghost use Rattle.std.specs.Str.{byte};
 ghost use Rattle.relay_conf.specs.Cycbuff.{Group, CycbuffSettings, cycbuff_of};
 ghost use Rattle.relay_conf.specs.K1.{k1_buffers, k1_entries, k1_relay};
+ghost use Rattle.relay_conf.specs.K2.{k2_buffers, k2_cycbuff};
 ghost use Rattle.relay_conf.specs.Lines.{lines_of, joined_by, is_line};
 ghost use Rattle.line_words.specs.Comments.{is_skipped};
+ghost use Rattle.relay_conf.specs.Places.{groups_over, numbered_buffers};
 ghost use Rattle.relay_conf.specs.Readings.{RelayHasReading, StorageHasReading};
 ghost use Rattle.relay_conf.specs.Relay.{RelaySettings};
+ghost use Rattle.relay_conf.specs.RelayViews.{relay_view};
 ghost use Rattle.relay_conf.specs.RelayViews as relay;
+ghost use Rattle.relay_conf.specs.Settings.{places_of_buffers, places_of_groups};
+ghost use Rattle.relay_conf.specs.SoundRelay.{IsSoundRelay};
+ghost use Rattle.relay_conf.specs.Storage.{entry_view};
 ghost use Rattle.relay_conf.specs.StorageViews as storage;
 ghost use Rattle.relay_conf.specs.Words.{is_identity};
 ghost use Rattle.relay_conf.specs.declared.config.TheConstants.{K1_CYCBUFF, K1_STORAGE, K1_RELAY};
 ghost use Rattle.relay_conf.specs.declared.faults.LineFault.{LineFault};
+
+use crate::settings::{Buffers, Config, Relay};
 
 /// Lines joined by LF are the lines of that text.
 pub fn lines_joined_by_line_feeds()
@@ -93,6 +105,19 @@ pub fn texts_of_k1()
     ensures relay { relay.HasSettings (lines_of K1_RELAY.now) k1_relay }
 {}
 
+/// The buffer and the group of K1 as places have them.
+pub fn places_of_k1()
+    ensures buffers { numbered_buffers k1_buffers.buffers ≡ eight ∷ [] }
+    ensures groups { groups_over k1_buffers.buffers k1_buffers.groups ≡ one_of_eight ∷ [] }
+{}
+
+/// The text of cycbuff.conf in K2 says its buffers and its group, which places have in their order.
+pub fn places_of_k2()
+    ensures cycbuff { cycbuff_of k2_cycbuff ≡ Ok k2_buffers }
+    ensures buffers { numbered_buffers k2_buffers.buffers ≡ eight ∷ six ∷ [] }
+    ensures groups { groups_over k2_buffers.buffers k2_buffers.groups ≡ eight_then_six ∷ [] }
+{}
+
 /// The identities of relay.conf are such as an agent may put into a Path: not empty, without a dot
 /// in front, printable, without `!`.
 pub fn identities_are_of_agents()
@@ -107,4 +132,24 @@ pub fn identities_are_of_agents()
 pub fn identities_stand_in_paths()
     ensures { (identity more : List ℕ) → IsTrue (is_identity identity)
         → path_identities (identity ++ byte "!" ∷ more) ≡ identity ∷ path_identities more }
+{}
+
+/// The buffers and groups of cycbuff.conf are sound, whatever it says, and there are at most 256 of
+/// each.
+pub fn buffers_are_sound(buffers: &Buffers)
+    ensures sound { AreSound (places_of_buffers buffers.now) (places_of_groups buffers.now) }
+    ensures few_buffers { length (places_of_buffers buffers.now) ≤ 256 }
+    ensures few_groups { length (places_of_groups buffers.now) ≤ 256 }
+{}
+
+/// The settings of relay.conf are sound, whatever it says.
+pub fn relay_is_sound(relay: &Relay)
+    ensures { IsSoundRelay (relay_view relay.now) }
+{}
+
+/// A token has room for the class of each entry, and its group is one of the groups.
+pub fn entries_are_sound(config: &Config)
+    ensures classes { All (λ entry. entry.class < 2 ^ 8) (map entry_view config.now.methods.items) }
+    ensures groups { All (λ entry. entry.group < length (places_of_groups config.now.buffers))
+        (map entry_view config.now.methods.items) }
 {}
