@@ -6,6 +6,7 @@ use Rattle.cyc_block.specs.declared.store.BlockStore.{Ghosts}
 use Rattle.cyc_buffer.specs.History.{Article, Writing, History, finished_at}
 use Rattle.cyc_buffer.specs.Progress.{IsTheOpen, written_of, has_failed}
 use Rattle.cyc_buffer.specs.Register.{Keeps, IsUnpassed}
+use Rattle.cyc_token.specs.declared.Token.{Token}
 use Rattle.cyc_buffer.specs.declared.buffer.Buffer.{Buffer}
 use Rattle.cyc_buffer.specs.declared.register.Open.{Open}
 use Rattle.cyc_buffer.specs.declared.register.Progress.{Progress}
@@ -73,6 +74,10 @@ blocks_written buffer = written_of buffer.register.progress
 -- a write of a block of its open write has failed
 abbrev pub is_broken : {S : Type 0} {g : Ghosts S} → Buffer S g → Bool
 is_broken buffer = has_failed buffer.register.progress
+
+-- the token that the article of an open write is finished under
+abbrev pub token_of : Open → Token
+token_of write = write.token
 
 -- the octets of the article of an open write
 abbrev pub length_of : Open → ℕ

@@ -24,7 +24,8 @@ impl<S: BlockStore> Buffer<S> {
     ghost use Rattle.news_terms.specs.Places.{size_of};
     ghost use Rattle.cyc_token.specs.Token.{token_view};
     ghost use Rattle.cyc_buffer.specs.Agreement.{Agrees, Follows, Owns, store_of, register_of};
-    ghost use Rattle.cyc_buffer.specs.Agreement.{blocks_written, is_broken, length_of, Continues};
+    ghost use Rattle.cyc_buffer.specs.Agreement.{blocks_written, is_broken, length_of, token_of};
+    ghost use Rattle.cyc_buffer.specs.Agreement.{Continues};
     ghost use Rattle.cyc_buffer.specs.Answers.{refusal, error_of, IsDeviceFault, Shows, answer};
     ghost use Rattle.cyc_buffer.specs.Answers.{by_numbers, IsUnread, IsRead, IsOther, IsDecided};
     ghost use Rattle.cyc_buffer.specs.Answers.{HasRoom};
@@ -66,7 +67,10 @@ impl<S: BlockStore> Buffer<S> {
             → error_of result ≡ refusal h length fresh }
         ensures refused { OnErr result (register_of self.new ≡ register_of self.old) }
         ensures begun { OnOk result (Follows (with_begin class length fresh) self.old self.new) }
-        // The open write is this one, of which nothing is written.
+        // The open write is this one, of which nothing is written, and its token the history's.
+        ensures token { IfOk result (λ write. (trusted : Bool) (h : History)
+            → Agrees trusted self.old h → Some (token_view (token_of write))
+            ≡ open_token (with_begin class length fresh h)) }
         ensures open { IfOk result (λ write. Owns self.new write) }
         ensures length { IfOk result (λ write. length_of write ≡ length) }
         ensures none_written { OnOk result (blocks_written self.new ≡ 0) }

@@ -17,11 +17,20 @@ pub struct Open {
 }
 
 impl Open {
+    ghost use Rattle.cyc_buffer.specs.Agreement.{length_of, token_of};
+
     /// The octets of the article.
     pub fn length(&self) -> u32
-        ensures { result ≡ self.now.token.length }
+        ensures { result ≡ length_of self.now }
     {
         self.token.length
+    }
+
+    /// The token that the article is finished under.
+    pub fn token(&self) -> Token
+        ensures { result ≡ token_of self.now }
+    {
+        self.token
     }
 }
 
