@@ -4,7 +4,7 @@ use Rattle.std.specs.Prelude.{◌≡◌, ℕ, ◌+◌, ◌<◌, Bool, true, List
 use Rattle.cyc_block.specs.Store.{block_at}
 use Rattle.cyc_block.specs.declared.store.BlockStore.{Ghosts}
 use Rattle.cyc_buffer.specs.History.{Article, Writing, History, finished_at}
-use Rattle.cyc_buffer.specs.Progress.{IsTheOpen, written_of, has_failed}
+use Rattle.cyc_buffer.specs.Progress.{IsTheOpen, written_of, has_failed, CanWriteOn, CanFinishOn}
 use Rattle.cyc_buffer.specs.Register.{Keeps, IsUnpassed}
 use Rattle.cyc_token.specs.declared.Token.{Token}
 use Rattle.cyc_buffer.specs.declared.buffer.Buffer.{Buffer}
@@ -82,6 +82,14 @@ token_of write = write.token
 -- the octets of the article of an open write
 abbrev pub length_of : Open → ℕ
 length_of write = write.token.length
+
+-- the next block of the text can be written to the buffer's open write
+abbrev pub CanWrite : {S : Type 0} {g : Ghosts S} → Buffer S g → Open → List ℕ → Type 0
+CanWrite buffer write text = CanWriteOn buffer.register.progress write text
+
+-- the buffer's open write can be finished
+abbrev pub CanFinish : {S : Type 0} {g : Ghosts S} → Buffer S g → Open → Type 0
+CanFinish buffer write = CanFinishOn buffer.register.progress write
 
 -- the text begins with what is written of the open write
 abbrev pub ContinuesIn : List ℕ → Option Writing → Type 0
