@@ -83,6 +83,14 @@ token_of write = write.token
 abbrev pub length_of : Open → ℕ
 length_of write = write.token.length
 
+-- what the history says of its open write is so of the buffer's, and this is its handle
+pub record IsOpenAs {S : Type 0} {g : Ghosts S} (buffer : Buffer S g) (write : Open) (w : Writing)
+    : Type 0 where
+  pub owned : Owns buffer write
+  pub broken : is_broken buffer ≡ w.broken
+  pub blocks : blocks_written buffer ≡ w.blocks
+  pub octets : length_of write ≡ w.octets
+
 -- the next block of the text can be written to the buffer's open write
 abbrev pub CanWrite : {S : Type 0} {g : Ghosts S} → Buffer S g → Open → List ℕ → Type 0
 CanWrite buffer write text = CanWriteOn buffer.register.progress write text
