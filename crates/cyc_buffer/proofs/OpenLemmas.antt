@@ -1,6 +1,6 @@
 -- What is known of the open write of a register.
-use Rattle.std.proofs.Common.{◌≡◌, ◌∙◌, ◌+◌, ◌<◌, Bool, false, List, ◌∷◌, length, Option, None, Some}
-use Rattle.std.proofs.Common.{ap, sym, subst, arith, ℕ}
+use Rattle.std.proofs.Common.{◌≡◌, ◌∙◌, ◌+◌, ◌<◌, Bool, false, List, length, Option, None, Some}
+use Rattle.std.proofs.Common.{ap, sym, subst, arith, ℕ, refl}
 use Rattle.news_terms.specs.Places.{size_of}
 use Rattle.news_terms.specs.Token as tokens
 use Rattle.cyc_block.specs.declared.store.BlockStore.{Ghosts}
@@ -11,7 +11,7 @@ use Rattle.cyc_buffer.specs.History.{Begin, History, Writing, open_token, token_
 use Rattle.cyc_buffer.specs.Progress.{has_failed, written_of}
 use Rattle.cyc_buffer.specs.Register.{Writes}
 use Rattle.cyc_buffer.specs.declared.buffer.Buffer.{Buffer}
-use Rattle.cyc_buffer.specs.Progress.{IsTheOpen, end_of, start_of}
+use Rattle.cyc_buffer.specs.Progress.{IsTheOpen, end_of, start_of, open_count}
 use Rattle.cyc_buffer.specs.declared.register.Open.{Open}
 use Rattle.cyc_buffer.specs.declared.register.Progress.{Progress}
 use Rattle.cyc_buffer.proofs.Finished.{same_some}
@@ -28,8 +28,13 @@ pub open_start : (write : Open) (p : Option Progress) → IsTheOpen write p
 open_start write None h = absurd h
 open_start write (Some p) h = ap (λ (t : Token). t.first + 1) h
 
--- where the article of the open write lies
-pub ruleset open_place = (open_end, open_start)
+-- there is one
+pub open_one : (write : Open) (p : Option Progress) → IsTheOpen write p → open_count p ≡ 1
+open_one write None h = absurd h
+open_one write (Some p) h = refl
+
+-- where the article of the open write lies, and that it is one
+pub ruleset open_place = (open_end, open_start, open_one)
 
 -- the token that a definition's token stands for
 abbrev from_view : tokens.Token → Token

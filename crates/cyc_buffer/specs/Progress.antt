@@ -16,6 +16,11 @@ abbrev pub start_of : Option Progress → ℕ
 start_of None = 0
 start_of (Some p) = p.token.first + 1
 
+-- 1 where there is an open write, else 0
+abbrev pub open_count : Option Progress → ℕ
+open_count None = 0
+open_count (Some p) = 1
+
 -- this is the open write
 abbrev pub IsTheOpen : Open → Option Progress → Type 0
 IsTheOpen write None = ⊥

@@ -29,6 +29,7 @@ impl<S: BlockStore> Buffer<S> {
     ghost use Rattle.cyc_buffer.specs.Calls.{WritesNext, ReadsBlock};
     ghost use Rattle.cyc_buffer.specs.History.{History, new_history, with_begin, with_finish};
     ghost use Rattle.cyc_buffer.specs.History.{without_write, open_token, front_of, cycle_of};
+    ghost use Rattle.cyc_buffer.specs.History.{stored_count};
 
     /// A buffer over all blocks of a store, in which nothing was begun yet.
     /// All memory is taken here.
@@ -169,6 +170,22 @@ impl<S: BlockStore> Buffer<S> {
         ensures { (trusted : Bool) (h : History) → Agrees trusted self.now h → result ≡ cycle_of h }
     {
         self.register.line.cycle
+    }
+
+    /// How many articles were begun in the buffer.
+    pub fn begun(&self) -> u64
+        ensures { (trusted : Bool) (h : History) → Agrees trusted self.now h
+            → result ≡ length h.begins }
+    {
+        self.register.counts.begun
+    }
+
+    /// How many of the articles that were begun in the buffer were finished.
+    pub fn stored(&self) -> u64
+        ensures { (trusted : Bool) (h : History) → Agrees trusted self.now h
+            → result ≡ stored_count h.begins }
+    {
+        self.register.counts.stored
     }
 
     /// How many blocks the buffer has.
