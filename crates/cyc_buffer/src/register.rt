@@ -281,10 +281,12 @@ impl Register {
     pub(crate) fn can_finish(&self, write: &Open) -> bool
         ensures { IsTrue result ↔ CanFinishOn self.now.progress write.now }
     {
-        let Some(progress) = self.progress else {
-            return false;
-        };
-        self.owns(write) && !progress.broken && progress.written == size_of(write.token.length)
+        match self.progress {
+            Some(progress) if !progress.broken => {
+                self.owns(write) && progress.written == size_of(write.token.length)
+            }
+            _ => false,
+        }
     }
 
     /// The stamp of the next block of the open write.
