@@ -7,7 +7,8 @@ use Rattle.cyc_block.specs.declared.store.BlockStore.{Ghosts}
 use Rattle.cyc_token.specs.Token.{token_view}
 use Rattle.cyc_token.specs.declared.Token.{Token}
 use Rattle.cyc_buffer.specs.Agreement.{Agrees, IsOpenAs, CanWrite, CanFinish, token_of}
-use Rattle.cyc_buffer.specs.History.{Begin, History, Writing, open_token, token_of_open, newest_token}
+use Rattle.cyc_buffer.specs.History.{Begin, History, Writing, open_token, token_of_open}
+use Rattle.cyc_buffer.specs.History.{newest_token}
 use Rattle.cyc_buffer.specs.Progress.{has_failed, written_of}
 use Rattle.cyc_buffer.specs.Register.{Writes}
 use Rattle.cyc_buffer.specs.declared.buffer.Buffer.{Buffer}

@@ -17,6 +17,19 @@ use Rattle.cyc_buffer.specs.declared.buffer.Buffer.{Buffer}
 use Rattle.cyc_buffer.specs.declared.register.Open.{Open}
 use Rattle.news_terms.specs.Places.{size_of}
 
+-- what a call of the device leaves of it, and what its failure has to do with the result
+pub record LeavesDevice {S X : Type 0} {g : Ghosts S} (old : Buffer S g)
+    (result : Result X BufError) (new : Buffer S g)
+    : Type 0 where
+  -- With an error it has failed.
+  pub failed : OnErr result (g.failures (store_of old) < g.failures (store_of new))
+  -- With Ok it hasn't.
+  pub no_failure : OnOk result (g.failures (store_of new) ≡ g.failures (store_of old))
+  -- An honest one stays honest.
+  pub honest : g.honest (store_of old) → g.honest (store_of new)
+  -- It keeps its number of blocks.
+  pub blocks : length (g.blocks (store_of new)) ≡ length (g.blocks (store_of old))
+
 -- the next block of a text is written, or the device fails
 pub record WritesNext {S : Type 0} {g : Ghosts S} (old : Buffer S g) (write : Open)
     (text : List ℕ) (result : Result Bool BufError) (new : Buffer S g)
@@ -40,14 +53,8 @@ pub record WritesNext {S : Type 0} {g : Ghosts S} (old : Buffer S g) (write : Op
   pub owned : Owns new write
   -- The device. It is called once, whether it fails or not.
   pub calls : g.calls (store_of new) ≡ g.calls (store_of old) + 1
-  -- With an error it has failed.
-  pub failed : OnErr result (g.failures (store_of old) < g.failures (store_of new))
-  -- With Ok it hasn't.
-  pub no_failure : OnOk result (g.failures (store_of new) ≡ g.failures (store_of old))
-  -- An honest one stays honest.
-  pub honest : g.honest (store_of old) → g.honest (store_of new)
-  -- It keeps its number of blocks.
-  pub blocks : length (g.blocks (store_of new)) ≡ length (g.blocks (store_of old))
+  -- It failed or not, as the result says.
+  pub device : LeavesDevice old result new
 
 -- behind a chunk the slice is as it was, and where there is no chunk all of it is
 abbrev pub LeavesRest : Result Found BufError → List ℕ → List ℕ → Type 0
@@ -92,11 +99,5 @@ pub record ReadsBlock {S : Type 0} {g : Ghosts S} (old : Buffer S g) (token : To
   -- It is called where the block is one of a finished article's.
   pub read : (trusted : Bool) (h : History) → Agrees trusted old h
       → IsRead h (token_view token) k → g.calls (store_of new) ≡ g.calls (store_of old) + 1
-  -- With an error it has failed.
-  pub failed : OnErr result (g.failures (store_of old) < g.failures (store_of new))
-  -- With Ok it hasn't.
-  pub no_failure : OnOk result (g.failures (store_of new) ≡ g.failures (store_of old))
-  -- An honest one stays honest.
-  pub honest : g.honest (store_of old) → g.honest (store_of new)
-  -- It keeps its number of blocks.
-  pub blocks : length (g.blocks (store_of new)) ≡ length (g.blocks (store_of old))
+  -- It failed or not, as the result says.
+  pub device : LeavesDevice old result new

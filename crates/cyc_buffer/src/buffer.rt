@@ -20,7 +20,8 @@ pub struct Buffer<S: BlockStore> {
 }
 
 impl<S: BlockStore> Buffer<S> {
-    ghost use Rattle.std.specs.Prelude.{◌≡◌, ◌≤◌, length, Bool, true, false, Some, Ok, IfOk, OnOk, OnErr};
+    ghost use Rattle.std.specs.Prelude.{◌≡◌, ◌≤◌, length, Bool, true, false, Some, Ok, IfOk, OnOk};
+    ghost use Rattle.std.specs.Prelude.{OnErr};
     ghost use Rattle.cyc_token.specs.Token.{token_view};
     ghost use Rattle.cyc_buffer.specs.Agreement.{Agrees, Follows, Owns, store_of, register_of};
     ghost use Rattle.cyc_buffer.specs.Agreement.{blocks_written, is_broken, length_of, token_of};
@@ -78,9 +79,9 @@ impl<S: BlockStore> Buffer<S> {
         self.register.begin(class, length, fresh)
     }
 
-    /// Writes the next block of the open write's text, and says whether nothing of it is left. After
-    /// Device the write can only be abandoned. A call that can't be served writes nothing: the
-    /// handle is another buffer's, a write failed, all is written, or the text has another length.
+    /// Writes the next block of the open write's text, and says whether nothing of it is left.
+    /// After Device the write can only be abandoned. Where the handle is another buffer's, a write
+    /// failed, all is written, or the text has another length, nothing is left to write.
     pub fn write_next(&mut self, write: &Open, text: &[u8]) -> Result<bool, BufError>
         ensures written { CanWrite self.old write.now text.now
             → WritesNext self.old write.now text.now result self.new }
@@ -101,8 +102,8 @@ impl<S: BlockStore> Buffer<S> {
         Ok(self.register.count_block(write))
     }
 
-    /// Finishes the open write, all of which is written: from now on its text is given by the token.
-    /// A write that isn't open here, is broken or isn't all written is not finished.
+    /// Finishes the open write, all of which is written: from now on its text is given by the
+    /// token. A write that isn't open here, is broken or isn't all written is not finished.
     pub fn finish(&mut self, write: Open) -> Token
         ensures handle { result ≡ token_of write }
         ensures token { Owns self.old write → (trusted : Bool) (h : History)

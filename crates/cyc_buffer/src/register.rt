@@ -67,7 +67,7 @@ pub(crate) struct Register {
     ghost kept_room: { line.blocks ≤ 64 * length kept.words.items },
     ghost begins_within: { start_of progress ≤ line.blocks },
     ghost ends_within: { end_of progress ≤ line.blocks },
-    /// Each article has a block at least, so there are no more of them than blocks before the front.
+    /// Each article has a block at least, so there are no more of them than blocks up to the front.
     ghost begun_within: { counts.begun ≤ on_line line.blocks line.cycle line.used },
     ghost stored_within: { counts.stored + open_count progress ≤ counts.begun },
 }

@@ -32,10 +32,7 @@ returns-in-Unknown g c =
       uncalled = λ trusted h agrees unread. refl;
       read = λ trusted h agrees read. absurd
           (block_is_unknown (sym (is ∙ looked_up r h token k agrees.keeps r.line.within read)));
-      failed = search rules;
-      no_failure = search rules;
-      honest = search rules;
-      blocks = search rules;
+      device = search rules;
     }
 
 pub returns-in-Gone : goal.returns-in-Gone
@@ -59,10 +56,7 @@ returns-in-Gone g c =
       uncalled = λ trusted h agrees unread. refl;
       read = λ trusted h agrees read. absurd
           (block_is_gone (sym (is ∙ looked_up r h token k agrees.keeps r.line.within read)));
-      failed = search rules;
-      no_failure = search rules;
-      honest = search rules;
-      blocks = search rules;
+      device = search rules;
     }
 
 pub returns-then-is_err : goal.returns-then-is_err
@@ -86,10 +80,7 @@ returns-then-is_err g c =
       uncalled = λ trusted h agrees unread. absurd
           (not_unread r h token k agrees.keeps r.line.within block.0 block.1 unread);
       read = search rules;
-      failed = search rules;
-      no_failure = search rules;
-      honest = search rules;
-      blocks = search rules;
+      device = search rules;
     }
 
 pub returns-in-Some : goal.returns-in-Some
@@ -101,16 +92,16 @@ returns-in-Some g c =
     (sym c.in-Block.is ∙ c.look.ensures.look) in
     record {
       found = λ h agrees.
-          let t = there r h token k agrees.keeps r.line.within _ (agrees.holds refl) c.look.ensures.fits.0
-          c.look.ensures.fits.1 block.0 block.1 in
+          let t = there r h token k agrees.keeps r.line.within _ (agrees.holds refl)
+          c.look.ensures.fits.0 c.look.ensures.fits.1 block.0 block.1 in
           let image : c.read.new.octets ≡ block_image t.block =
           without_error c.read.result (sym c.is_err.ensures.value ∙ c.if-is_err.false)
           (c.read.ensures.octets (agrees.honest refl))
           ∙ ap (block_at (g.S.BlockStore.blocks c.args.self.now.store)) block.2 ∙ t.held in
           let same = c.in-Some.ensures.other t.block t.is_block image in
           let taken = c.in-Some.ensures.same t.block t.is_block image same in
-          shows_chunk c.in-Some.octets c.take_chunk.new.chunk t.block.payload _ (t.says same) taken.0
-          taken.1;
+          shows_chunk c.in-Some.octets c.take_chunk.new.chunk t.block.payload _ (t.says same)
+          taken.0 taken.1;
       unread = λ trusted h agrees unread. absurd
           (not_unread r h token k agrees.keeps r.line.within block.0 block.1 unread);
       other = search rules;
@@ -123,10 +114,7 @@ returns-in-Some g c =
       uncalled = λ trusted h agrees unread. absurd
           (not_unread r h token k agrees.keeps r.line.within block.0 block.1 unread);
       read = search rules;
-      failed = search rules;
-      no_failure = search rules;
-      honest = search rules;
-      blocks = search rules;
+      device = search rules;
     }
 
 pub returns-in-None : goal.returns-in-None
@@ -160,8 +148,5 @@ returns-in-None g c =
       uncalled = λ trusted h agrees unread. absurd
           (not_unread r h token k agrees.keeps r.line.within block.0 block.1 unread);
       read = search rules;
-      failed = search rules;
-      no_failure = search rules;
-      honest = search rules;
-      blocks = search rules;
+      device = search rules;
     }

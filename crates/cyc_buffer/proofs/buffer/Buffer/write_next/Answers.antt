@@ -51,10 +51,7 @@ returns-then-is_err-clause-written g c can = record {
       };
   owned = search rules;
   calls = search rules;
-  failed = search rules;
-  no_failure = search rules;
-  honest = search rules;
-  blocks = search rules;
+  device = search rules;
 }
 
 pub returns-clause-written : goal.returns-clause-written
@@ -89,8 +86,5 @@ returns-clause-written g c can = record {
   broken = search rules;
   owned = search rules;
   calls = search rules;
-  failed = search rules;
-  no_failure = search rules;
-  honest = search rules;
-  blocks = search rules;
+  device = search rules;
 }
