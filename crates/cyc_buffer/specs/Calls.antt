@@ -30,7 +30,7 @@ pub record LeavesDevice {S X : Type 0} {g : Ghosts S} (old : Buffer S g)
   -- It keeps its number of blocks.
   pub blocks : length (g.blocks (store_of new)) ≡ length (g.blocks (store_of old))
 
--- the next block of a text is written, or the device fails
+-- the next block of a text, which can be written, is written, or the device fails
 pub record WritesNext {S : Type 0} {g : Ghosts S} (old : Buffer S g) (write : Open)
     (text : List ℕ) (result : Result Bool BufError) (new : Buffer S g)
     : Type 0 where
@@ -53,8 +53,6 @@ pub record WritesNext {S : Type 0} {g : Ghosts S} (old : Buffer S g) (write : Op
   pub owned : Owns new write
   -- The device. It is called once, whether it fails or not.
   pub calls : g.calls (store_of new) ≡ g.calls (store_of old) + 1
-  -- It failed or not, as the result says.
-  pub device : LeavesDevice old result new
 
 -- behind a chunk the slice is as it was, and where there is no chunk all of it is
 abbrev pub LeavesRest : Result Found BufError → List ℕ → List ℕ → Type 0

@@ -27,7 +27,7 @@ impl<S: BlockStore> Buffer<S> {
     ghost use Rattle.cyc_buffer.specs.Agreement.{blocks_written, is_broken, length_of, token_of};
     ghost use Rattle.cyc_buffer.specs.Agreement.{CanWrite, CanFinish};
     ghost use Rattle.cyc_buffer.specs.Answers.{refusal, error_of};
-    ghost use Rattle.cyc_buffer.specs.Calls.{WritesNext, ReadsBlock};
+    ghost use Rattle.cyc_buffer.specs.Calls.{LeavesDevice, WritesNext, ReadsBlock};
     ghost use Rattle.cyc_buffer.specs.History.{History, new_history, with_begin, with_finish};
     ghost use Rattle.cyc_buffer.specs.History.{without_write, open_token, front_of, cycle_of};
     ghost use Rattle.cyc_buffer.specs.History.{stored_count};
@@ -87,6 +87,9 @@ impl<S: BlockStore> Buffer<S> {
             → WritesNext self.old write.now text.now result self.new }
         ensures refused { (CanWrite self.old write.now text.now → ⊥)
             → (result ≡ Ok true) × (self.new ≡ self.old) }
+        // Whether it can be written or not, an error says that it can, and that the device failed.
+        ensures error { OnErr result (CanWrite self.old write.now text.now) }
+        ensures device { LeavesDevice self.old result self.new }
     {
         if !self.register.can_write(write, text) {
             return Ok(true);

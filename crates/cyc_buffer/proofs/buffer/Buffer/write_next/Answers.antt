@@ -51,7 +51,6 @@ returns-then-is_err-clause-written g c can = record {
       };
   owned = search rules;
   calls = search rules;
-  device = search rules;
 }
 
 pub returns-clause-written : goal.returns-clause-written
@@ -86,5 +85,4 @@ returns-clause-written g c can = record {
   broken = search rules;
   owned = search rules;
   calls = search rules;
-  device = search rules;
 }
