@@ -1,4 +1,5 @@
-ghost use Rattle.std.specs.Prelude.{◌≡◌, ◌≤◌, List, ℕ, length, IfSome, IsSomeAnd};
+ghost use Rattle.std.specs.Prelude.{◌≡◌, ◌≤◌, ◌↔◌, List, ℕ, length, replicate, IfSome, IsSomeAnd};
+ghost use Rattle.std.specs.Prelude.{IsTrue};
 ghost use Rattle.news_terms.specs.BlockImage.{Block, IsBlock, block_image as image_of, block_head};
 ghost use Rattle.news_terms.specs.BlockImage.{chunk_size};
 ghost use Rattle.cyc_block.specs.Image.{stamped};
@@ -53,17 +54,31 @@ pub fn read_image(image: &[u8; BLOCK_OCTETS]) -> Option<Image<'_>>
     ensures read { (b : Block) → IsBlock b → image.now ≡ image_of b
         → IsSomeAnd result (λ read. stamped read.stamp read.payload.now ≡ b) }
 {
-    let used = usize::from(u16::from_be_bytes([image[20], image[21]]));
-    if used < 1 || used > CHUNK_OCTETS {
+    let used = u16::from_be_bytes([image[20], image[21]]);
+    if used < 1 || usize::from(used) > CHUNK_OCTETS {
         return None;
     }
-    let payload = &image[HEAD_OCTETS..HEAD_OCTETS + used];
+    let end = HEAD_OCTETS + usize::from(used);
     let stamp = read_stamp(image);
-    // What the head says is an image exactly where writing it again gives the same octets.
-    if block_image(&stamp, payload) != *image {
+    // The octets are an image exactly where the head is the one of this stamp, and zeros stand
+    // behind the payload.
+    if image[..HEAD_OCTETS] != head(&stamp, used)[..] {
         return None;
     }
-    Some(Image { stamp, payload })
+    if !are_zeros(&image[end..]) {
+        return None;
+    }
+    Some(Image {
+        stamp,
+        payload: &image[HEAD_OCTETS..end],
+    })
+}
+
+/// Whether all octets are 0.
+fn are_zeros(octets: &[u8]) -> bool
+    ensures { IsTrue result ↔ (octets.now ≡ replicate (length octets.now) 0) }
+{
+    octets.iter().all(|octet| *octet == 0)
 }
 
 /// The stamp that the octets of a block say.

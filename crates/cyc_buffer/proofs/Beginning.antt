@@ -53,6 +53,8 @@ module _ (old new : Register) (h : History) (class octets : ℕ) (fresh : Bool) 
     ≡ mark_passed old.line at (size_of octets) j (is_marked old.starts.words.items j))
     (kept : (j : ℕ) → is_marked new.kept.words.items j
     ≡ mark_passed old.line at (size_of octets) j (is_marked old.kept.words.items j))
+    (begun : new.counts.begun ≡ old.counts.begun + 1)
+    (stored : new.counts.stored ≡ old.counts.stored)
     (progress : new.progress ≡ started token)
     (token_is : token_view token ≡ token_of class old.line.number at.run at.used octets)
     (keeps : Keeps old h) where
@@ -238,6 +240,8 @@ module _ (old new : Register) (h : History) (class octets : ℕ) (fresh : Bool) 
     );
     starts = keeps_starts;
     kept = keeps_kept;
+    begun = omega (arith, begun, keeps.begun);
+    stored = stored ∙ keeps.stored;
     writing = subst (λ (p : Option Progress). Writes (with_begin class octets fresh h) p
         (with_begin class octets fresh h).writing) (sym progress) first_writing;
   }

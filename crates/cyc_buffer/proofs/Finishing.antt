@@ -7,7 +7,7 @@ use Rattle.std.proofs.lemmas.Bool.{ltb-true, le-leb, lt-ltb}
 use Rattle.news_terms.specs.BlockImage.{chunk_size}
 use Rattle.news_terms.specs.Places.{Buffer, Head, size_of}
 use Rattle.cyc_buffer.specs.History.{Article, Begin, Writing, History, head_of, is_at, finished_at}
-use Rattle.cyc_buffer.specs.History.{with_finish, token_at}
+use Rattle.cyc_buffer.specs.History.{with_finish, token_at, stored_count}
 use Rattle.news_terms.specs.Picks.{place_after}
 use Rattle.cyc_buffer.specs.Register.{IsStart, IsKept, IsUnpassed, Writes, Keeps, buffer_of}
 use Rattle.cyc_buffer.specs.Marks.{is_marked, is_among, marked_after}
@@ -107,6 +107,8 @@ module _ (old new : Register) (buffer : Buffer) (earlier : List Begin) (fresh : 
     ≡ marked_after (place buffer earlier fresh w).used
     ((place buffer earlier fresh w).used + size_of w.octets) true j
     (is_marked old.kept.words.items j))
+    (begun : new.counts.begun ≡ old.counts.begun)
+    (stored : new.counts.stored ≡ old.counts.stored + 1)
     (progress : new.progress ≡ None) where
   abbrev at : Head
   at = place buffer earlier fresh w
@@ -232,6 +234,10 @@ module _ (old new : Register) (buffer : Buffer) (earlier : List Begin) (fresh : 
     ]),
   )
 
+  -- one more is stored
+  stored_is : new.counts.stored ≡ stored_count (done buffer earlier fresh w ∷ earlier)
+  stored_is = omega (arith, stored, keeps.stored)
+
   pub keeps_finish : Keeps new now
   keeps_finish = record {
     buffer = keeps.buffer ∙ sym (ap buffer_of line);
@@ -251,6 +257,8 @@ module _ (old new : Register) (buffer : Buffer) (earlier : List Begin) (fresh : 
     );
     starts = keeps_starts;
     kept = keeps_kept;
+    begun = begun ∙ keeps.begun;
+    stored = stored_is;
     writing = subst (λ (p : Option Progress). Writes now p None) (sym progress) tt;
   }
 
@@ -263,6 +271,8 @@ module _ (old new : Register) (h : History) (write : Open) (keeps : Keeps old h)
     (kept : (j : ℕ) → is_marked new.kept.words.items j
     ≡ marked_after write.token.first (write.token.first + size_of write.token.length) true j
     (is_marked old.kept.words.items j))
+    (begun : new.counts.begun ≡ old.counts.begun)
+    (stored : new.counts.stored ≡ old.counts.stored + 1)
     (progress : new.progress ≡ None) where
   -- the progress and the open write, as they are
   finish_by : (p : Option Progress) (o : Option Writing) → h.writing ≡ o → Writes h p o
@@ -291,7 +301,7 @@ module _ (old new : Register) (h : History) (write : Open) (keeps : Keeps old h)
       ∙ ap (λ n. marked_after (place h.buffer writes.earlier writes.fresh w).used
       ((place h.buffer writes.earlier writes.fresh w).used + size_of n) true j
       (is_marked old.kept.words.items j)) octets)
-      progress)
+      begun stored progress)
 
   pub keeps_finish_of : IsTheOpen write old.progress
       → written_of old.progress ≡ size_of write.token.length → Keeps new (with_finish h)

@@ -23,6 +23,7 @@ use Rattle.cyc_buffer.specs.Register.{IsSized, IsUnpassed, IsWriting, Writes, Ke
 use Rattle.cyc_buffer.specs.Register.{buffer_of}
 use Rattle.cyc_buffer.specs.declared.line.Line.{Line}
 use Rattle.cyc_buffer.specs.declared.marks.Marks.{Marks}
+use Rattle.cyc_buffer.specs.declared.register.Counts.{Counts}
 use Rattle.cyc_buffer.specs.declared.register.Open.{Open}
 use Rattle.cyc_buffer.specs.declared.register.Progress.{Progress}
 use Rattle.cyc_buffer.specs.declared.register.Register.{Register}
@@ -100,6 +101,8 @@ keeps_stays old new h o stays writes keeps = record {
               unpassed = subst (λ (l : Line). IsUnpassed l s.cycle block) stays.line s.unpassed;
             })),
       );
+  begun = ap (λ (n : Counts). n.begun) stays.counts ∙ keeps.begun;
+  stored = ap (λ (n : Counts). n.stored) stays.counts ∙ keeps.stored;
   writing = writes;
 }
 

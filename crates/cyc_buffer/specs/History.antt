@@ -1,7 +1,8 @@
 -- What a cyclic buffer was asked to keep: what was begun in it, and what became of each begin
 -- (docs/PROTOCOL.md, Store).
 use Rattle.std.specs.Prelude.{◌≡◌, ℕ, ◌+◌, ◌*◌, ◌==◌, ◌&&◌, Bool, true, false, List, [], ◌∷◌}
-use Rattle.std.specs.Prelude.{◌++◌, length, map, take, Option, None, Some, if◌then◌else◌}
+use Rattle.std.specs.Prelude.{◌++◌, length, map, filter, take, Option, None, Some, is_some}
+use Rattle.std.specs.Prelude.{if◌then◌else◌}
 use Rattle.news_terms.specs.BlockImage.{chunk_size}
 use Rattle.news_terms.specs.Picks as picks
 use Rattle.news_terms.specs.Picks.{place_after, front_at}
@@ -39,6 +40,14 @@ pub record History : Type 0 where
 -- a buffer in which nothing was begun
 abbrev pub new_history : Buffer → History
 new_history buffer = record { buffer = buffer; begins = []; writing = None }
+
+-- the article of a begin was finished
+abbrev pub is_stored : Begin → Bool
+is_stored b = is_some b.finished
+
+-- how many of these begins have their article finished
+abbrev pub stored_count : List Begin → ℕ
+stored_count begins = length (filter is_stored begins)
 
 -- a begin as its place asks for it: its size, and whether it was fresh
 abbrev pub asked : Begin → ℕ × Bool

@@ -5,7 +5,7 @@ use Rattle.std.specs.Prelude.{Some}
 use Rattle.std.specs.List.{AllByRecursion}
 use Rattle.cyc_token.specs.Token.{token_view}
 use Rattle.cyc_buffer.specs.History.{Article, Begin, Writing, History, head_of, finished_at}
-use Rattle.cyc_buffer.specs.History.{token_at}
+use Rattle.cyc_buffer.specs.History.{token_at, stored_count}
 use Rattle.news_terms.specs.Picks.{place_after}
 use Rattle.cyc_buffer.specs.Marks.{is_marked, is_among}
 use Rattle.cyc_buffer.specs.declared.line.Line.{Line}
@@ -44,6 +44,7 @@ pub record Stays (old new : Register) : Type 0 where
   pub line : new.line ≡ old.line
   pub starts : new.starts ≡ old.starts
   pub kept : new.kept ≡ old.kept
+  pub counts : new.counts ≡ old.counts
 
 -- the front has not passed this block since it was in this cycle: it is behind the head in the
 -- cycle of the head, or before it in the cycle before
@@ -120,4 +121,6 @@ pub record Keeps (r : Register) (h : History) : Type 0 where
       → (is_marked r.starts.words.items block ≡ true) ↔ IsStart r.line h block
   pub kept : (block : ℕ) → block < r.line.blocks
       → (is_marked r.kept.words.items block ≡ true) ↔ IsKept r.line h block
+  pub begun : r.counts.begun ≡ length h.begins
+  pub stored : r.counts.stored ≡ stored_count h.begins
   pub writing : Writes h r.progress h.writing

@@ -55,6 +55,9 @@ impl Line {
         ensures none { IfNone result
             (last_cycle < (place_after self.now.blocks (line_head self.now) fresh size).run) }
         ensures within { IfSome result (λ place. place.first + size ≤ self.now.blocks) }
+        ensures ahead { IfSome result (λ place.
+            on_line self.now.blocks self.now.cycle self.now.used
+            ≤ on_line self.now.blocks place.cycle place.first) }
     {
         let stays = size <= self.blocks - self.used && !(fresh && self.used > 0);
         if stays {

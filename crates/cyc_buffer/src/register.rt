@@ -1,6 +1,7 @@
 ghost use Rattle.std.specs.Prelude.{◌≡◌, ◌≤◌, ◌*◌, length};
-ghost use Rattle.news_terms.specs.Places.{size_of};
-ghost use Rattle.cyc_buffer.specs.Progress.{start_of, end_of};
+ghost use Rattle.std.specs.Prelude.{◌+◌};
+ghost use Rattle.news_terms.specs.Places.{size_of, on_line};
+ghost use Rattle.cyc_buffer.specs.Progress.{start_of, end_of, open_count};
 
 use crate::answers::{BufError, Fault, FaultKind, Front};
 use crate::line::{Line, Place, size_of};
@@ -17,11 +18,20 @@ pub struct Open {
 }
 
 impl Open {
+    ghost use Rattle.cyc_buffer.specs.Agreement.{length_of, token_of};
+
     /// The octets of the article.
     pub fn length(&self) -> u32
-        ensures { result ≡ self.now.token.length }
+        ensures { result ≡ length_of self.now }
     {
         self.token.length
+    }
+
+    /// The token that the article is finished under.
+    pub fn token(&self) -> Token
+        ensures { result ≡ token_of self.now }
+    {
+        self.token
     }
 }
 
@@ -35,6 +45,13 @@ pub(crate) struct Progress {
     pub(crate) broken: bool,
 }
 
+/// How many articles were begun in a buffer, and how many of them were finished.
+#[derive(Clone, Copy, Debug)]
+pub(crate) struct Counts {
+    pub(crate) begun: u64,
+    pub(crate) stored: u64,
+}
+
 /// What a buffer keeps in memory.
 #[derive(Debug, Drop)]
 pub(crate) struct Register {
@@ -44,11 +61,15 @@ pub(crate) struct Register {
     /// The blocks of finished articles that the front hasn't passed. What such a block holds is
     /// known; any other may hold anything, an image of this very token too.
     pub(crate) kept: Marks,
+    pub(crate) counts: Counts,
     pub(crate) progress: Option<Progress>,
     ghost starts_room: { line.blocks ≤ 64 * length starts.words.items },
     ghost kept_room: { line.blocks ≤ 64 * length kept.words.items },
     ghost begins_within: { start_of progress ≤ line.blocks },
     ghost ends_within: { end_of progress ≤ line.blocks },
+    /// Each article has a block at least, so there are no more of them than blocks up to the front.
+    ghost begun_within: { counts.begun ≤ on_line line.blocks line.cycle line.used },
+    ghost stored_within: { counts.stored + open_count progress ≤ counts.begun },
 }
 
 /// What the register says of a block that is asked for.
@@ -63,8 +84,8 @@ pub(crate) enum Look {
 }
 
 impl Register {
-    ghost use Rattle.std.specs.Prelude.{◌≡◌, ◌≤◌, ◌<◌, ◌+◌, ◌^◌, ◌==◌, ℕ, false};
-    ghost use Rattle.std.specs.Prelude.{None, IfOk, OnOk, OnErr};
+    ghost use Rattle.std.specs.Prelude.{◌≡◌, ◌≤◌, ◌<◌, ◌+◌, ◌^◌, ◌==◌, ◌↔◌, ℕ, IsTrue, false, None};
+    ghost use Rattle.std.specs.Prelude.{IfOk, OnOk, OnErr};
     ghost use Rattle.news_terms.specs.Places.{size_of, on_line};
     ghost use Rattle.cyc_token.specs.Token.{token_view};
     ghost use Rattle.cyc_buffer.specs.Answers.{refusal, error_of, fault_of, front_view};
@@ -73,8 +94,7 @@ impl Register {
     ghost use Rattle.news_terms.specs.Picks.{head_past};
     ghost use Rattle.cyc_buffer.specs.Marks.{is_marked, marked_after};
     ghost use Rattle.cyc_buffer.specs.Progress.{IsTheOpen, written_of, has_failed, started};
-    ghost use Rattle.cyc_buffer.specs.Progress.{counted, failed};
-    ghost use Rattle.cyc_buffer.specs.Progress.{stamp_of};
+    ghost use Rattle.cyc_buffer.specs.Progress.{CanWriteOn, CanFinishOn, counted, failed, stamp_of};
     ghost use Rattle.cyc_buffer.specs.Register.{Keeps, buffer_of, mark_passed, line_head};
     ghost use Rattle.cyc_buffer.specs.Register.{place_view, Stays};
 
@@ -101,6 +121,10 @@ impl Register {
             },
             starts: Marks::new(alloc, blocks)?,
             kept: Marks::new(alloc, blocks)?,
+            counts: Counts {
+                begun: 0,
+                stored: 0,
+            },
             progress: None,
         })
     }
@@ -166,9 +190,12 @@ impl Register {
         Ok(Open { token })
     }
 
-    /// Moves the front past an article of so many blocks.
+    /// Moves the front past an article of so many blocks, and counts it.
     fn pass(&mut self, place: Place, size: u32)
-        requires { place.first + size ≤ self.old.line.blocks }
+        requires some { 1 ≤ size }
+        requires within { place.first + size ≤ self.old.line.blocks }
+        requires ahead { on_line self.old.line.blocks self.old.line.cycle self.old.line.used
+            ≤ on_line self.old.line.blocks place.cycle place.first }
         ensures head { line_head self.new.line ≡ head_past (place_view place) size }
         ensures buffer { buffer_of self.new.line ≡ buffer_of self.old.line }
         ensures starts { (j : ℕ) → is_marked self.new.starts.words.items j
@@ -177,6 +204,31 @@ impl Register {
         ensures kept { (j : ℕ) → is_marked self.new.kept.words.items j
             ≡ mark_passed self.old.line (place_view place) size j
             (is_marked self.old.kept.words.items j) }
+        ensures begun { self.new.counts.begun ≡ self.old.counts.begun + 1 }
+        ensures stored { self.new.counts.stored ≡ self.old.counts.stored }
+        ensures progress { self.new.progress ≡ self.old.progress }
+    {
+        let blocks = self.line.blocks;
+        let end = place.first + size;
+        prove!(end <= blocks);
+        self.unmark_passed(place, size);
+        self.line.cycle = place.cycle;
+        self.line.used = end;
+        prove!(self.counts.begun < self.line.front());
+        self.counts.begun += 1;
+    }
+
+    /// Clears the marks of the blocks that the front passes when an article is put there.
+    fn unmark_passed(&mut self, place: Place, size: u32)
+        requires { place.first + size ≤ self.old.line.blocks }
+        ensures starts { (j : ℕ) → is_marked self.new.starts.words.items j
+            ≡ mark_passed self.old.line (place_view place) size j
+            (is_marked self.old.starts.words.items j) }
+        ensures kept { (j : ℕ) → is_marked self.new.kept.words.items j
+            ≡ mark_passed self.old.line (place_view place) size j
+            (is_marked self.old.kept.words.items j) }
+        ensures line { self.new.line ≡ self.old.line }
+        ensures counts { self.new.counts ≡ self.old.counts }
         ensures progress { self.new.progress ≡ self.old.progress }
     {
         let blocks = self.line.blocks;
@@ -185,8 +237,6 @@ impl Register {
             self.unmark(self.line.used, blocks);
         }
         self.unmark(place.first, end);
-        self.line.cycle = place.cycle;
-        self.line.used = end;
     }
 
     /// Clears the marks of the blocks from one up to another.
@@ -197,10 +247,46 @@ impl Register {
         ensures kept { (j : ℕ) → is_marked self.new.kept.words.items j
             ≡ marked_after from to false j (is_marked self.old.kept.words.items j) }
         ensures line { self.new.line ≡ self.old.line }
+        ensures counts { self.new.counts ≡ self.old.counts }
         ensures progress { self.new.progress ≡ self.old.progress }
     {
         self.starts.change(from, to, false);
         self.kept.change(from, to, false);
+    }
+
+    /// Whether this is the open write.
+    pub(crate) fn owns(&self, write: &Open) -> bool
+        ensures { IsTrue result ↔ IsTheOpen write.now self.now.progress }
+    {
+        match self.progress {
+            Some(progress) => progress.token == write.token,
+            None => false,
+        }
+    }
+
+    /// Whether the next block of the text can be written.
+    pub(crate) fn can_write(&self, write: &Open, text: &[u8]) -> bool
+        ensures { IsTrue result ↔ CanWriteOn self.now.progress write.now text.now }
+    {
+        let Some(progress) = self.progress else {
+            return false;
+        };
+        self.owns(write)
+            && !progress.broken
+            && progress.written < size_of(write.token.length)
+            && text.len() == write.token.length as usize
+    }
+
+    /// Whether the open write can be finished.
+    pub(crate) fn can_finish(&self, write: &Open) -> bool
+        ensures { IsTrue result ↔ CanFinishOn self.now.progress write.now }
+    {
+        match self.progress {
+            Some(progress) if !progress.broken => {
+                self.owns(write) && progress.written == size_of(write.token.length)
+            }
+            _ => false,
+        }
     }
 
     /// The stamp of the next block of the open write.
@@ -270,16 +356,17 @@ impl Register {
         prove!(first < self.line.blocks);
         self.starts.change(first, first + 1, true);
         self.kept.change(first, first + size_of(length), true);
+        prove!(self.counts.stored < self.counts.begun);
+        self.counts.stored += 1;
         self.progress = None;
         token
     }
 
     /// Abandons the open write.
-    pub(crate) fn abandon(&mut self, write: Open)
+    pub(crate) fn abandon(&mut self)
         ensures progress { self.new.progress ≡ None }
         ensures rest { Stays self.old self.new }
     {
-        let Open { token: _ } = write;
         self.progress = None;
     }
 

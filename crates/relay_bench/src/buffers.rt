@@ -13,8 +13,11 @@ use std::time::Instant;
 /// The octets of an article of 64 blocks.
 const ARTICLE: usize = 64 * CHUNK_OCTETS;
 
-/// The seconds that writing the text to a buffer takes, or reading it from one.
+/// The seconds that writing the text to a buffer takes, or reading it from one, or copying it.
 pub fn seconds(rt: &HostRuntime, work: Work, text: &[u8]) -> io::Result<f64> {
+    if let Work::Copy = work {
+        return copying(rt, text);
+    }
     let mut buffer = empty(rt.alloc(), text.len())?;
     let mut tokens = Vec::new(rt.alloc());
     let start = Instant::now(rt)?;
@@ -95,13 +98,20 @@ fn read_article(buffer: &mut Buffer<MemoryBlocks>, token: &Token) -> io::Result<
     Ok(())
 }
 
-/// Copies the text, a block at a time, and sums up an octet of each.
-pub fn copy(text: &[u8]) -> u64 {
-    let mut sum = 0u64;
-    let mut chunk = [0; CHUNK_OCTETS];
-    for octets in text.chunks_exact(CHUNK_OCTETS) {
-        chunk.copy_from_slice(octets);
-        sum = sum.wrapping_add(u64::from(chunk[7]));
+/// The seconds that copying the text takes, 480 octets at a time, each to a place of its own that
+/// was written before.
+fn copying(rt: &HostRuntime, text: &[u8]) -> io::Result<f64> {
+    let mut copy = Vec::with_capacity(rt.alloc(), text.len())?;
+    copy.extend_from_slice(text)?;
+    copy.clear();
+    let start = Instant::now(rt)?;
+    for octets in text.chunks(CHUNK_OCTETS) {
+        copy.extend_from_slice(octets)?;
     }
-    sum
+    let seconds = since(rt, start);
+    // What was copied is asked for so that no copying can be left out.
+    if copy.as_slice() != text {
+        return Err(io::Error::from(ErrorKind::InvalidData));
+    }
+    seconds
 }

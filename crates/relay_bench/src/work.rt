@@ -58,7 +58,7 @@ pub fn seconds(rt: &HostRuntime, work: Work, text: &[u8]) -> io::Result<f64> {
     match work {
         Work::Groups | Work::Identities | Work::Loops | Work::Updated => of_article(rt, work, text),
         Work::Judge(count) => judging(rt, text, count),
-        Work::Write | Work::Read => buffers::seconds(rt, work, text),
+        Work::Write | Work::Read | Work::Copy => buffers::seconds(rt, work, text),
         _ => whole(rt, work, text),
     }
 }
@@ -73,7 +73,6 @@ fn whole(rt: &HostRuntime, work: Work, text: &[u8]) -> io::Result<f64> {
         Work::Blocks(piece) => cut(alloc, text, piece, true).is_ok(),
         Work::Parse => Article::parse(alloc, text).is_ok(),
         Work::Expression => Expr::parse(alloc, text).is_ok(),
-        Work::Copy => buffers::copy(text) != 0,
         _ => configure(alloc, work, text),
     };
     let seconds = since(rt, start);

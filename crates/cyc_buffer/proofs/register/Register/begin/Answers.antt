@@ -29,4 +29,4 @@ returns-clause-begun c h keeps =
     ∙ ap (λ n. mark_passed old.line at n j (is_marked old.starts.words.items j)) size)
     (λ j. c.pass.ensures.kept j
     ∙ ap (λ n. mark_passed old.line at n j (is_marked old.kept.words.items j)) size)
-    refl refl keeps
+    c.pass.ensures.begun c.pass.ensures.stored refl refl keeps

@@ -12,4 +12,4 @@ returns-clause-finished c h keeps =
     (λ j. c.change-2.ensures.changed j
     ∙ ap (λ n. marked_after first (first + n) true j (is_marked old.kept.words.items j))
     c.size_of.ensures)
-    refl c.requires.open c.requires.written
+    refl refl refl c.requires.open c.requires.written
