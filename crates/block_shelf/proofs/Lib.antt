@@ -1,0 +1,4 @@
+pub mod Begins
+pub mod Finishes
+pub mod Founds
+pub mod Writings
