@@ -4,7 +4,7 @@ mod Finished
 mod Keeping
 mod Beginning
 mod Finishing
-mod OpenLemmas
+pub mod OpenLemmas
 mod Contents
 mod Writes
 mod Numbers

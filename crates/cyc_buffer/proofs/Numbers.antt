@@ -134,6 +134,28 @@ no_chunk buffer front token k octets e =
     gone_chunk : {front : Front} {octets : List ℕ} → Some (Gone front) ≡ Some (Chunk octets) → ⊥
     gone_chunk e = cc
 
+-- what is gone by the numbers is behind this front
+pub gone_front : (buffer : Buffer) (front : ℕ) (token : tokens.Token) (k : ℕ) (passed : Front)
+    → by_numbers buffer front token k ≡ Some (Gone passed) → passed ≡ front_view buffer front
+gone_front buffer front token k passed e =
+    elim (chosen (is_beyond buffer front token k) (Some Unknown)
+    (cond (nat_lt (on_line buffer.blocks token.cycle token.first + buffer.blocks) front)
+    (Some (Gone (front_view buffer front))) None) (Some (Gone passed)) e) [
+      | inl p ↦ absurd (unknown_gone p.1)
+      | inr p ↦
+          elim (chosen (nat_lt (on_line buffer.blocks token.cycle token.first + buffer.blocks)
+          front) (Some (Gone (front_view buffer front))) None (Some (Gone passed)) p.1) [
+            | inl q ↦ same_gone q.1
+            | inr q ↦ absurd (none_is_none q.1)
+          ]
+    ]
+  where
+    unknown_gone : {passed : Front} → Some Unknown ≡ Some (Gone passed) → ⊥
+    unknown_gone e = cc
+
+    same_gone : {front passed : Front} → Some (Gone front) ≡ Some (Gone passed) → passed ≡ front
+    same_gone e = cc
+
 -- the front of a history is that of the register that agrees with it
 pub front_same : (r : Register) (h : History) → Keeps r h
     → front_of h ≡ on_line h.buffer.blocks r.line.cycle r.line.used

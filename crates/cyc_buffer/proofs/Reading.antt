@@ -12,7 +12,7 @@ use Rattle.cyc_block.specs.Store.{block_at}
 use Rattle.cyc_token.specs.Token.{token_view}
 use Rattle.cyc_token.specs.declared.Token.{Token}
 use Rattle.cyc_buffer.specs.Agreement.{Holds}
-use Rattle.cyc_buffer.specs.Answers.{Answer, Chunk, Gone, Unknown, by_text}
+use Rattle.cyc_buffer.specs.Answers.{Answer, Chunk, Gone, Unknown, by_text, front_view}
 use Rattle.cyc_buffer.specs.Answers.{or_by_text, answer, Shows, IsLiveBlock, IsUnread}
 use Rattle.cyc_buffer.specs.Answers.{IsRead}
 use Rattle.cyc_buffer.specs.History.{Article, History, finished_at, text_under}
@@ -27,7 +27,7 @@ use Rattle.cyc_buffer.specs.declared.register.Register.{Register}
 use Rattle.cyc_buffer.proofs.Places.{chosen, one_cycle}
 use Rattle.cyc_buffer.proofs.Finished.{none_is_none, same_some, lies}
 use Rattle.cyc_buffer.proofs.Numbers.{Undecided, undecided, numbers_same, no_chunk, front_same}
-use Rattle.cyc_buffer.proofs.Numbers.{live_place, live_unpassed}
+use Rattle.cyc_buffer.proofs.Numbers.{live_place, live_unpassed, gone_front}
 use Rattle.cyc_buffer.proofs.Writes.{block_with, chunk_length}
 
 -- what a text under a token is of
@@ -192,6 +192,28 @@ unknown_answer r h token k keeps room e =
     by_answer (Some Unknown) is m marks e =
         ap (λ (o : Option Answer). or_by_text o (by_text k (text_under h (token_view token))))
         (sym (numbers_same r h token k keeps) ∙ is)
+
+-- where the register says that an article is gone, that is the answer
+pub gone_answer : (r : Register) (h : History) (token : Token) (k : ℕ) → Keeps r h
+    → look.Gone ≡ look_of r token k
+    → answer h (token_view token) k
+    ≡ Gone (front_view (buffer_of r.line) (on_line r.line.blocks r.line.cycle r.line.used))
+gone_answer r h token k keeps e =
+    by_answer (numbers_of r token k) refl (has_marks r token k) e
+  where
+    by_answer : (o : Option Answer) → numbers_of r token k ≡ o → (m : Bool)
+        → look.Gone ≡ look_by o m (token.first + k)
+        → answer h (token_view token) k
+        ≡ Gone (front_view (buffer_of r.line) (on_line r.line.blocks r.line.cycle r.line.used))
+    by_answer None is true e = absurd cc
+    by_answer None is false e = absurd cc
+    by_answer (Some (Chunk octets)) is m e = absurd cc
+    by_answer (Some (Gone front)) is m e =
+        ap (λ (o : Option Answer). or_by_text o (by_text k (text_under h (token_view token))))
+        (sym (numbers_same r h token k keeps) ∙ is)
+        ∙ ap Gone (gone_front (buffer_of r.line)
+        (on_line r.line.blocks r.line.cycle r.line.used) (token_view token) k front is)
+    by_answer (Some Unknown) is m e = absurd cc
 
 -- the block of an article that lies in the buffer is one
 pub is_block : (cycle first k : ℕ) (a : Article) → cycle < 2 ^ 32 → first + k < 2 ^ 32

@@ -4,8 +4,9 @@ use Rattle.std.specs.Prelude.{◌≡◌, ℕ, ◌+◌, ◌<◌, Bool, true, List
 use Rattle.cyc_block.specs.Store.{block_at}
 use Rattle.cyc_block.specs.declared.store.BlockStore.{Ghosts}
 use Rattle.cyc_buffer.specs.History.{Article, Writing, History, finished_at}
-use Rattle.cyc_buffer.specs.Progress.{IsTheOpen, written_of, has_failed}
+use Rattle.cyc_buffer.specs.Progress.{IsTheOpen, written_of, has_failed, CanWriteOn, CanFinishOn}
 use Rattle.cyc_buffer.specs.Register.{Keeps, IsUnpassed}
+use Rattle.cyc_token.specs.declared.Token.{Token}
 use Rattle.cyc_buffer.specs.declared.buffer.Buffer.{Buffer}
 use Rattle.cyc_buffer.specs.declared.register.Open.{Open}
 use Rattle.cyc_buffer.specs.declared.register.Progress.{Progress}
@@ -74,9 +75,29 @@ blocks_written buffer = written_of buffer.register.progress
 abbrev pub is_broken : {S : Type 0} {g : Ghosts S} → Buffer S g → Bool
 is_broken buffer = has_failed buffer.register.progress
 
+-- the token that the article of an open write is finished under
+abbrev pub token_of : Open → Token
+token_of write = write.token
+
 -- the octets of the article of an open write
 abbrev pub length_of : Open → ℕ
 length_of write = write.token.length
+
+-- what the history says of its open write is so of the buffer's, and this is its handle
+pub record IsOpenAs {S : Type 0} {g : Ghosts S} (buffer : Buffer S g) (write : Open) (w : Writing)
+    : Type 0 where
+  pub owned : Owns buffer write
+  pub broken : is_broken buffer ≡ w.broken
+  pub blocks : blocks_written buffer ≡ w.blocks
+  pub octets : length_of write ≡ w.octets
+
+-- the next block of the text can be written to the buffer's open write
+abbrev pub CanWrite : {S : Type 0} {g : Ghosts S} → Buffer S g → Open → List ℕ → Type 0
+CanWrite buffer write text = CanWriteOn buffer.register.progress write text
+
+-- the buffer's open write can be finished
+abbrev pub CanFinish : {S : Type 0} {g : Ghosts S} → Buffer S g → Open → Type 0
+CanFinish buffer write = CanFinishOn buffer.register.progress write
 
 -- the text begins with what is written of the open write
 abbrev pub ContinuesIn : List ℕ → Option Writing → Type 0

@@ -1,5 +1,5 @@
 -- How far the open write of a buffer has come.
-use Rattle.std.specs.Prelude.{◌≡◌, ℕ, ◌+◌, Bool, true, false, Option, None, Some}
+use Rattle.std.specs.Prelude.{◌≡◌, ℕ, ◌+◌, ◌<◌, Bool, true, false, List, length, Option, None, Some}
 use Rattle.cyc_block.specs.declared.image.Stamp.{Stamp}
 use Rattle.cyc_token.specs.declared.Token.{Token}
 use Rattle.cyc_buffer.specs.declared.register.Open.{Open}
@@ -30,6 +30,20 @@ written_of (Some p) = p.written
 abbrev pub has_failed : Option Progress → Bool
 has_failed None = false
 has_failed (Some p) = p.broken
+
+-- The next block of a text can be written: the write is the open one, it isn't broken, a block of
+-- it is left, and the text has the article's length.
+pub record CanWriteOn (p : Option Progress) (write : Open) (text : List ℕ) : Type 0 where
+  pub owned : IsTheOpen write p
+  pub whole : has_failed p ≡ false
+  pub left : written_of p < size_of write.token.length
+  pub octets : length text ≡ write.token.length
+
+-- An open write can be finished: it is the open one, it isn't broken, and all of it is written.
+pub record CanFinishOn (p : Option Progress) (write : Open) : Type 0 where
+  pub owned : IsTheOpen write p
+  pub whole : has_failed p ≡ false
+  pub written : written_of p ≡ size_of write.token.length
 
 -- the progress of a write that is begun
 abbrev pub started : Token → Option Progress

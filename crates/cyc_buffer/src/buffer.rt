@@ -1,4 +1,5 @@
-ghost use Rattle.std.specs.Prelude.{◌≡◌, ◌≤◌, ◌<◌, ◌*◌, ℕ, length, take, IfSome, IsSomeAnd};
+ghost use Rattle.std.specs.Prelude.{◌≡◌, ◌≤◌, ◌<◌, ◌*◌, ℕ, length, take, drop, IfSome, IfNone};
+ghost use Rattle.std.specs.Prelude.{IsSomeAnd};
 ghost use Rattle.news_terms.specs.BlockImage.{Block, IsBlock, chunk, chunk_size};
 ghost use Rattle.news_terms.specs.BlockImage.{block_image as image_of};
 ghost use Rattle.cyc_block.specs.Image.{stamped};
@@ -19,19 +20,15 @@ pub struct Buffer<S: BlockStore> {
 }
 
 impl<S: BlockStore> Buffer<S> {
-    ghost use Rattle.std.specs.Prelude.{◌≡◌, ◌≤◌, ◌<◌, ◌+◌, ◌⊎◌, ◌==◌, length, Bool, false, true};
-    ghost use Rattle.std.specs.Prelude.{None, Some, IfOk, OnOk, OnErr, IfErr, IfSome, IsOk};
-    ghost use Rattle.news_terms.specs.Places.{size_of};
+    ghost use Rattle.std.specs.Prelude.{◌≡◌, ◌≤◌, length, Bool, true, false, Some, Ok, IfOk, OnOk, OnErr};
     ghost use Rattle.cyc_token.specs.Token.{token_view};
     ghost use Rattle.cyc_buffer.specs.Agreement.{Agrees, Follows, Owns, store_of, register_of};
-    ghost use Rattle.cyc_buffer.specs.Agreement.{blocks_written, is_broken, length_of, Continues};
-    ghost use Rattle.cyc_buffer.specs.Answers.{refusal, error_of, IsDeviceFault, Shows, answer};
-    ghost use Rattle.cyc_buffer.specs.Answers.{by_numbers, IsUnread, IsRead, IsOther, IsDecided};
-    ghost use Rattle.cyc_buffer.specs.Answers.{HasRoom};
+    ghost use Rattle.cyc_buffer.specs.Agreement.{blocks_written, is_broken, length_of, token_of};
+    ghost use Rattle.cyc_buffer.specs.Agreement.{CanWrite, CanFinish};
+    ghost use Rattle.cyc_buffer.specs.Answers.{refusal, error_of};
+    ghost use Rattle.cyc_buffer.specs.Calls.{WritesNext, ReadsBlock};
     ghost use Rattle.cyc_buffer.specs.History.{History, new_history, with_begin, with_finish};
-    ghost use Rattle.cyc_buffer.specs.History.{open_token};
-    ghost use Rattle.cyc_buffer.specs.History.{without_write, with_failure, with_block, front_of};
-    ghost use Rattle.cyc_buffer.specs.History.{cycle_of};
+    ghost use Rattle.cyc_buffer.specs.History.{without_write, open_token, front_of, cycle_of};
 
     /// A buffer over all blocks of a store, in which nothing was begun yet.
     /// All memory is taken here.
@@ -66,7 +63,10 @@ impl<S: BlockStore> Buffer<S> {
             → error_of result ≡ refusal h length fresh }
         ensures refused { OnErr result (register_of self.new ≡ register_of self.old) }
         ensures begun { OnOk result (Follows (with_begin class length fresh) self.old self.new) }
-        // The open write is this one, of which nothing is written.
+        // The open write is this one, of which nothing is written, and its token the history's.
+        ensures token { IfOk result (λ write. (trusted : Bool) (h : History)
+            → Agrees trusted self.old h → Some (token_view (token_of write))
+            ≡ open_token (with_begin class length fresh h)) }
         ensures open { IfOk result (λ write. Owns self.new write) }
         ensures length { IfOk result (λ write. length_of write ≡ length) }
         ensures none_written { OnOk result (blocks_written self.new ≡ 0) }
@@ -77,37 +77,18 @@ impl<S: BlockStore> Buffer<S> {
         self.register.begin(class, length, fresh)
     }
 
-    /// Writes the next block of the open write's text; whether it was the last. After Device the
-    /// write can only be abandoned.
+    /// Writes the next block of the open write's text, and says whether nothing of it is left. After
+    /// Device the write can only be abandoned. A call that can't be served writes nothing: the
+    /// handle is another buffer's, a write failed, all is written, or the text has another length.
     pub fn write_next(&mut self, write: &Open, text: &[u8]) -> Result<bool, BufError>
-        requires open { Owns self.old write.now }
-        requires whole { is_broken self.old ≡ false }
-        requires left { blocks_written self.old < size_of (length_of write.now) }
-        requires length { length text.now ≡ length_of write.now }
-        // One more block of the text is written, and it is known whether it was the last.
-        ensures written { OnOk result ((trusted : Bool) (h : History)
-            → Continues text.now h → Agrees trusted self.old h
-            → Agrees trusted self.new (with_block text.now h)) }
-        ensures count { OnOk result (blocks_written self.new ≡ blocks_written self.old + 1) }
-        ensures last { IfOk result (λ last.
-            last ≡ (blocks_written self.new == size_of (length_of write.now))) }
-        ensures whole { OnOk result (is_broken self.new ≡ false) }
-        // Or the device failed.
-        ensures broken { OnErr result (Follows with_failure self.old self.new) }
-        ensures fault { IfErr result (λ e. (trusted : Bool) (h : History)
-            → Agrees trusted self.old h
-            → IsDeviceFault h.buffer FaultKind.Write (length_of write.now) e) }
-        ensures failed { OnErr result
-            (S.failures (store_of self.old) < S.failures (store_of self.new)) }
-        ensures no_failure { OnOk result
-            (S.failures (store_of self.new) ≡ S.failures (store_of self.old)) }
-        // The device is called once, whether it fails or not.
-        ensures calls { S.calls (store_of self.new) ≡ S.calls (store_of self.old) + 1 }
-        ensures open { Owns self.new write.now }
-        ensures honest { S.honest (store_of self.old) → S.honest (store_of self.new) }
-        ensures blocks { length (S.blocks (store_of self.new))
-            ≡ length (S.blocks (store_of self.old)) }
+        ensures written { CanWrite self.old write.now text.now
+            → WritesNext self.old write.now text.now result self.new }
+        ensures refused { (CanWrite self.old write.now text.now → ⊥)
+            → (result ≡ Ok true) × (self.new ≡ self.old) }
     {
+        if !self.register.can_write(write, text) {
+            return Ok(true);
+        }
         let stamp = self.register.next_stamp(write);
         prove!(stamp.first < self.register.line.blocks);
         let image = block_image(&stamp, chunk_of(text, stamp.index));
@@ -119,29 +100,36 @@ impl<S: BlockStore> Buffer<S> {
         Ok(self.register.count_block(write))
     }
 
-    /// Finishes the open write, all of which is written:
-    /// from now on its text is given by the token.
+    /// Finishes the open write, all of which is written: from now on its text is given by the token.
+    /// A write that isn't open here, is broken or isn't all written is not finished.
     pub fn finish(&mut self, write: Open) -> Token
-        requires open { Owns self.old write }
-        requires whole { is_broken self.old ≡ false }
-        requires written { blocks_written self.old ≡ size_of (length_of write) }
-        ensures token { (trusted : Bool) (h : History) → Agrees trusted self.old h
-            → Some (token_view result) ≡ open_token h }
-        ensures finished { Follows with_finish self.old self.new }
+        ensures handle { result ≡ token_of write }
+        ensures token { Owns self.old write → (trusted : Bool) (h : History)
+            → Agrees trusted self.old h → Some (token_view result) ≡ open_token h }
+        ensures finished { CanFinish self.old write → Follows with_finish self.old self.new }
+        ensures refused { (CanFinish self.old write → ⊥) → self.new ≡ self.old }
         // The device isn't called.
         ensures store { store_of self.new ≡ store_of self.old }
     {
+        if !self.register.can_finish(&write) {
+            let Open { token } = write;
+            return token;
+        }
         self.register.finish(write)
     }
 
-    /// Abandons the open write. Its space stays lost.
+    /// Abandons the open write. Its space stays lost. Nothing is done to another buffer's.
     pub fn abandon(&mut self, write: Open)
-        requires { Owns self.old write }
-        ensures abandoned { Follows without_write self.old self.new }
+        ensures abandoned { Owns self.old write → Follows without_write self.old self.new }
+        ensures refused { (Owns self.old write → ⊥) → self.new ≡ self.old }
         // The device isn't called.
         ensures store { store_of self.new ≡ store_of self.old }
     {
-        self.register.abandon(write);
+        let owned = self.register.owns(&write);
+        let Open { token: _ } = write;
+        if owned {
+            self.register.abandon();
+        }
     }
 
     /// Reads block k of the article under a token.
@@ -151,41 +139,7 @@ impl<S: BlockStore> Buffer<S> {
         k: u32,
         chunk: &mut [u8; CHUNK_OCTETS],
     ) -> Result<Found, BufError>
-        // What is found is what the history says.
-        ensures found { (h : History) → Agrees true self.old h
-            → IfOk result (λ found. Shows found chunk.new (answer h (token_view token.now) k)) }
-        // What the numbers decide doesn't rest on the store.
-        ensures numbers { (trusted : Bool) (h : History) → Agrees trusted self.old h
-            → IsDecided result chunk.new
-            (by_numbers h.buffer (front_of h) (token_view token.now) k) }
-        ensures other { (trusted : Bool) (h : History) → Agrees trusted self.old h
-            → IfOk result (λ found. IsOther found
-            (by_numbers h.buffer (front_of h) (token_view token.now) k)) }
-        ensures room { IfOk result (λ found. HasRoom found) }
-        // The device is called once or not at all: not where the numbers or the marks decide, and
-        // else once, whether it fails or not.
-        ensures calls { (store_of self.new ≡ store_of self.old)
-            ⊎ (S.calls (store_of self.new) ≡ S.calls (store_of self.old) + 1) }
-        ensures unread { (trusted : Bool) (h : History) → Agrees trusted self.old h
-            → IsUnread h (token_view token.now) k
-            → IsOk result × (store_of self.new ≡ store_of self.old) }
-        ensures read { (trusted : Bool) (h : History) → Agrees trusted self.old h
-            → IsRead h (token_view token.now) k
-            → S.calls (store_of self.new) ≡ S.calls (store_of self.old) + 1 }
-        // It failed, or not.
-        ensures fault { IfErr result (λ e. (trusted : Bool) (h : History)
-            → Agrees trusted self.old h
-            → IsDeviceFault h.buffer FaultKind.Read token.now.length e) }
-        ensures failed { OnErr result
-            (S.failures (store_of self.old) < S.failures (store_of self.new)) }
-        ensures no_failure { OnOk result
-            (S.failures (store_of self.new) ≡ S.failures (store_of self.old)) }
-        // Reading changes no history.
-        ensures same { Follows (λ h. h) self.old self.new }
-        ensures register { register_of self.new ≡ register_of self.old }
-        ensures honest { S.honest (store_of self.old) → S.honest (store_of self.new) }
-        ensures blocks { length (S.blocks (store_of self.new))
-            ≡ length (S.blocks (store_of self.old)) }
+        ensures { ReadsBlock self.old token.now k chunk.old result chunk.new self.new }
     {
         let block = match self.register.look(token, k) {
             Look::Block(block) => block,
@@ -219,7 +173,9 @@ impl<S: BlockStore> Buffer<S> {
 
     /// How many blocks the buffer has.
     pub fn blocks(&self) -> u32
-        ensures { result ≡ length (S.blocks (store_of self.now)) }
+        ensures store { result ≡ length (S.blocks (store_of self.now)) }
+        ensures history { (trusted : Bool) (h : History) → Agrees trusted self.now h
+            → result ≡ h.buffer.blocks }
     {
         self.register.line.blocks
     }
@@ -250,6 +206,8 @@ fn take_chunk(
     ensures other { (b : Block) → IsBlock b → image.now ≡ image_of b
         → IfSome result (λ octets. stamped (stamp_of token.now k) b.payload ≡ b) }
     ensures room { IfSome result (λ octets. octets ≤ chunk_size) }
+    ensures rest { IfSome result (λ octets. drop octets chunk.new ≡ drop octets chunk.old) }
+    ensures none { IfNone result (chunk.new ≡ chunk.old) }
 {
     let read = read_image(image)?;
     let wanted = Stamp {

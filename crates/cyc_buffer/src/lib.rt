@@ -14,4 +14,5 @@ mod register;
 
 pub use answers::{BufError, Fault, FaultKind, Found, Front};
 pub use buffer::Buffer;
+pub use line::size_of;
 pub use register::Open;

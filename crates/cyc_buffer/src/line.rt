@@ -69,7 +69,7 @@ impl Line {
 }
 
 /// The blocks that an article of so many octets takes.
-pub(crate) fn size_of(length: u32) -> u32
+pub fn size_of(length: u32) -> u32
     ensures { result ≡ size_of length }
 {
     length.div_ceil(CHUNK_LENGTH)

@@ -17,11 +17,20 @@ pub struct Open {
 }
 
 impl Open {
+    ghost use Rattle.cyc_buffer.specs.Agreement.{length_of, token_of};
+
     /// The octets of the article.
     pub fn length(&self) -> u32
-        ensures { result ≡ self.now.token.length }
+        ensures { result ≡ length_of self.now }
     {
         self.token.length
+    }
+
+    /// The token that the article is finished under.
+    pub fn token(&self) -> Token
+        ensures { result ≡ token_of self.now }
+    {
+        self.token
     }
 }
 
@@ -63,8 +72,8 @@ pub(crate) enum Look {
 }
 
 impl Register {
-    ghost use Rattle.std.specs.Prelude.{◌≡◌, ◌≤◌, ◌<◌, ◌+◌, ◌^◌, ◌==◌, ℕ, false};
-    ghost use Rattle.std.specs.Prelude.{None, IfOk, OnOk, OnErr};
+    ghost use Rattle.std.specs.Prelude.{◌≡◌, ◌≤◌, ◌<◌, ◌+◌, ◌^◌, ◌==◌, ◌↔◌, ℕ, IsTrue, false, None};
+    ghost use Rattle.std.specs.Prelude.{IfOk, OnOk, OnErr};
     ghost use Rattle.news_terms.specs.Places.{size_of, on_line};
     ghost use Rattle.cyc_token.specs.Token.{token_view};
     ghost use Rattle.cyc_buffer.specs.Answers.{refusal, error_of, fault_of, front_view};
@@ -73,8 +82,7 @@ impl Register {
     ghost use Rattle.news_terms.specs.Picks.{head_past};
     ghost use Rattle.cyc_buffer.specs.Marks.{is_marked, marked_after};
     ghost use Rattle.cyc_buffer.specs.Progress.{IsTheOpen, written_of, has_failed, started};
-    ghost use Rattle.cyc_buffer.specs.Progress.{counted, failed};
-    ghost use Rattle.cyc_buffer.specs.Progress.{stamp_of};
+    ghost use Rattle.cyc_buffer.specs.Progress.{CanWriteOn, CanFinishOn, counted, failed, stamp_of};
     ghost use Rattle.cyc_buffer.specs.Register.{Keeps, buffer_of, mark_passed, line_head};
     ghost use Rattle.cyc_buffer.specs.Register.{place_view, Stays};
 
@@ -203,6 +211,39 @@ impl Register {
         self.kept.change(from, to, false);
     }
 
+    /// Whether this is the open write.
+    pub(crate) fn owns(&self, write: &Open) -> bool
+        ensures { IsTrue result ↔ IsTheOpen write.now self.now.progress }
+    {
+        match self.progress {
+            Some(progress) => progress.token == write.token,
+            None => false,
+        }
+    }
+
+    /// Whether the next block of the text can be written.
+    pub(crate) fn can_write(&self, write: &Open, text: &[u8]) -> bool
+        ensures { IsTrue result ↔ CanWriteOn self.now.progress write.now text.now }
+    {
+        let Some(progress) = self.progress else {
+            return false;
+        };
+        self.owns(write)
+            && !progress.broken
+            && progress.written < size_of(write.token.length)
+            && text.len() == write.token.length as usize
+    }
+
+    /// Whether the open write can be finished.
+    pub(crate) fn can_finish(&self, write: &Open) -> bool
+        ensures { IsTrue result ↔ CanFinishOn self.now.progress write.now }
+    {
+        let Some(progress) = self.progress else {
+            return false;
+        };
+        self.owns(write) && !progress.broken && progress.written == size_of(write.token.length)
+    }
+
     /// The stamp of the next block of the open write.
     #[tactic(auto, using(crate::proofs::OpenLemmas::open_end))]
     pub(crate) fn next_stamp(&self, write: &Open) -> Stamp
@@ -275,11 +316,10 @@ impl Register {
     }
 
     /// Abandons the open write.
-    pub(crate) fn abandon(&mut self, write: Open)
+    pub(crate) fn abandon(&mut self)
         ensures progress { self.new.progress ≡ None }
         ensures rest { Stays self.old self.new }
     {
-        let Open { token: _ } = write;
         self.progress = None;
     }
 

@@ -1,7 +1,5 @@
 //! A buffer of eight blocks beside a plain list of the articles that were begun in it.
-ghost use Rattle.std.specs.Prelude.{◌≡◌, ◌≤◌, ◌<◌, ◌^◌, false, length};
-ghost use Rattle.cyc_buffer.specs.Agreement.{Owns, is_broken, blocks_written, length_of};
-ghost use Rattle.cyc_buffer.specs.Agreement.{register_of};
+ghost use Rattle.std.specs.Prelude.{◌≤◌, ◌<◌, ◌^◌, length};
 
 use crate::buffers::{formatted, octet_at, text_of};
 use cyc_block::BlockStore;
@@ -130,9 +128,7 @@ fn is_block(octets: &[u8], seed: u8, length: u32, k: u32) -> bool {
 }
 
 /// Whether a read answers what the list of articles says.
-fn answers<S: BlockStore>(buffer: &mut Buffer<S>, listed: &Listed, token: &Token, k: u32) -> bool
-    ensures { register_of buffer.new ≡ register_of buffer.old }
-{
+fn answers<S: BlockStore>(buffer: &mut Buffer<S>, listed: &Listed, token: &Token, k: u32) -> bool {
     let mut chunk = [0; 480];
     let found = buffer.read_block(token, k, &mut chunk);
     match (listed.said(token, k), found) {
@@ -179,9 +175,7 @@ fn varied(token: Token, state: &mut u64) -> Token {
 
 /// Whether each of the last articles is answered for as the list says, under a token that may be
 /// changed.
-fn last_answer<S: BlockStore>(buffer: &mut Buffer<S>, listed: &Listed, state: &mut u64) -> bool
-    ensures { register_of buffer.new ≡ register_of buffer.old }
-{
+fn last_answer<S: BlockStore>(buffer: &mut Buffer<S>, listed: &Listed, state: &mut u64) -> bool {
     for article in listed.begun.iter().rev().take(LAST) {
         let token = varied(article.token, state);
         let k = draw(state, 9) as u32;
@@ -200,12 +194,7 @@ fn write_out<S: BlockStore>(
     write: Open,
     text: &[u8],
     state: &mut u64,
-) -> bool
-    requires open { Owns buffer.old write }
-    requires whole { is_broken buffer.old ≡ false }
-    requires none_written { blocks_written buffer.old ≡ 0 }
-    requires octets { length text.now ≡ length_of write }
-{
+) -> bool {
     let blocks = text.len().div_ceil(480);
     let written = match draw(state, 4) {
         0 => draw(state, 8) as usize % (blocks + 1),

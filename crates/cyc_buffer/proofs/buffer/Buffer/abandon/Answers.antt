@@ -8,8 +8,8 @@ use Rattle.cyc_buffer.proofs.Contents.{no_open}
 use Rattle.cyc_buffer.proofs.Writes.{keeps_stays}
 use Rattle.cyc_buffer.proofs.buffer.Buffer.abandon.Goals as goal
 
-pub returns-clause-abandoned : goal.returns-clause-abandoned
-returns-clause-abandoned g c trusted h agrees =
+pub returns-then-owned-clause-abandoned : goal.returns-then-owned-clause-abandoned
+returns-then-owned-clause-abandoned g c owned trusted h agrees =
     let new = c.abandon.new.self in
     record {
       keeps = keeps_stays c.args.self.now.register new h None c.abandon.ensures.rest

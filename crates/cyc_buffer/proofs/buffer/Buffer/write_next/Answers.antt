@@ -1,5 +1,5 @@
 -- A write of the next block, and what its failure leaves.
-use Rattle.std.proofs.Common.{◌≡◌, ◌∙◌, ◌+◌, true, length, arith, ap, subst, sym, refl}
+use Rattle.std.proofs.Common.{◌≡◌, ◌∙◌, ◌+◌, true, length, arith, ap, subst, sym, refl, rules}
 use Rattle.cyc_block.specs.Store.{ChangesOnly}
 use Rattle.cyc_block.specs.declared.image.Stamp.{Stamp}
 use Rattle.cyc_buffer.proofs.Writes.{chunk_length, fails_by, next_by, image_there, without_error}
@@ -8,13 +8,14 @@ use Rattle.cyc_buffer.proofs.buffer.Buffer.write_next.Goals as goal
 pub block_image-image-requires-clause-some : goal.block_image-image-requires-clause-some
 block_image-image-requires-clause-some g c =
     let stamp = c.next_stamp-stamp.result in
+    let can = c.can_write.ensures.0 c.if-not-can_write.false in
     omega (
       arith,
       ap length c.chunk_of.ensures,
       chunk_length stamp.index c.args.text.now,
       ap (λ (s : Stamp). s.index) c.next_stamp-stamp.ensures.stamp,
-      c.requires.left,
-      c.requires.length,
+      can.left,
+      can.octets,
     )
 
 pub block_image-image-requires-clause-room : goal.block_image-image-requires-clause-room
@@ -25,45 +26,71 @@ block_image-image-requires-clause-room g c =
       chunk_length c.next_stamp-stamp.result.index c.args.text.now,
     )
 
-pub returns-then-is_err-clause-broken : goal.returns-then-is_err-clause-broken
-returns-then-is_err-clause-broken g c trusted h agrees =
-    let old = c.args.self.now.register in
-    let here = ap (λ (s : Stamp). s.first + s.index) c.next_stamp-stamp.ensures.stamp in
-    let left = fails_by (trusted ≡ true) (g.S.BlockStore.blocks c.args.self.now.store)
-    (g.S.BlockStore.blocks c.write.new.self) old c.mark_broken.new.self h c.args.write.now
-    agrees.keeps agrees.holds c.mark_broken.ensures.rest old.progress h.writing refl refl
-    agrees.keeps.writing
-    c.requires.«open» c.requires.left c.mark_broken.ensures.progress
-    (λ is. subst (λ n. ChangesOnly n (g.S.BlockStore.blocks c.args.self.now.store)
-    (g.S.BlockStore.blocks c.write.new.self)) here (c.write.ensures.others (agrees.honest is)))
-    (λ is. (agrees.holds is).open_one) in
-    record {
-      keeps = left.0;
-      honest = λ is. c.write.ensures.honest (agrees.honest is);
-      holds = left.1;
-    }
+pub returns-then-is_err-clause-written : goal.returns-then-is_err-clause-written
+returns-then-is_err-clause-written g c can = record {
+  last = search rules;
+  fault = search rules;
+  written = search rules;
+  count = search rules;
+  whole = search rules;
+  broken = λ trusted h agrees.
+      let old = c.args.self.now.register in
+      let here = ap (λ (s : Stamp). s.first + s.index) c.next_stamp-stamp.ensures.stamp in
+      let left = fails_by (trusted ≡ true) (g.S.BlockStore.blocks c.args.self.now.store)
+      (g.S.BlockStore.blocks c.write.new.self) old c.mark_broken.new.self h c.args.write.now
+      agrees.keeps agrees.holds c.mark_broken.ensures.rest old.progress h.writing refl refl
+      agrees.keeps.writing
+      can.owned can.left c.mark_broken.ensures.progress
+      (λ is. subst (λ n. ChangesOnly n (g.S.BlockStore.blocks c.args.self.now.store)
+      (g.S.BlockStore.blocks c.write.new.self)) here (c.write.ensures.others (agrees.honest is)))
+      (λ is. (agrees.holds is).open_one) in
+      record {
+        keeps = left.0;
+        honest = λ is. c.write.ensures.honest (agrees.honest is);
+        holds = left.1;
+      };
+  owned = search rules;
+  calls = search rules;
+  failed = search rules;
+  no_failure = search rules;
+  honest = search rules;
+  blocks = search rules;
+}
 
 pub returns-clause-written : goal.returns-clause-written
-returns-clause-written g c trusted h continues agrees =
-    let old = c.args.self.now.register in
-    let here = ap (λ (s : Stamp). s.first + s.index) c.next_stamp-stamp.ensures.stamp in
-    let left = next_by (trusted ≡ true) (g.S.BlockStore.blocks c.args.self.now.store)
-    (g.S.BlockStore.blocks c.write.new.self) old c.count_block.new.self h c.args.write.now
-    agrees.keeps agrees.holds c.count_block.ensures.rest c.args.text.now c.requires.length
-    old.progress h.writing refl refl agrees.keeps.writing
-    c.requires.«open» continues c.requires.left c.count_block.ensures.progress
-    (λ is. subst (λ n. ChangesOnly n (g.S.BlockStore.blocks c.args.self.now.store)
-    (g.S.BlockStore.blocks c.write.new.self)) here (c.write.ensures.others (agrees.honest is)))
-    (λ is. (agrees.holds is).open_one)
-    (λ is. image_there (g.S.BlockStore.blocks c.args.self.now.store)
-    (g.S.BlockStore.blocks c.write.new.self) c.next_stamp-stamp.result c.args.write.now.token _
-    c.block_image-image.result c.chunk_of.result.now c.args.text.now
-    (without_error c.write.result (sym c.is_err.ensures.value ∙ c.if-is_err.false)
-    (c.write.ensures.written (agrees.honest is)))
-    (omega (arith, here, c.next_stamp-stamp.ensures.within, c.args.self.now.counted))
-    c.next_stamp-stamp.ensures.stamp c.block_image-image.ensures c.chunk_of.ensures) in
-    record {
-      keeps = left.0;
-      honest = λ is. c.write.ensures.honest (agrees.honest is);
-      holds = left.1;
-    }
+returns-clause-written g c can = record {
+  last = search rules;
+  fault = search rules;
+  written = λ trusted h continues agrees.
+      let old = c.args.self.now.register in
+      let here = ap (λ (s : Stamp). s.first + s.index) c.next_stamp-stamp.ensures.stamp in
+      let left = next_by (trusted ≡ true) (g.S.BlockStore.blocks c.args.self.now.store)
+      (g.S.BlockStore.blocks c.write.new.self) old c.count_block.new.self h c.args.write.now
+      agrees.keeps agrees.holds c.count_block.ensures.rest c.args.text.now can.octets
+      old.progress h.writing refl refl agrees.keeps.writing
+      can.owned continues can.left c.count_block.ensures.progress
+      (λ is. subst (λ n. ChangesOnly n (g.S.BlockStore.blocks c.args.self.now.store)
+      (g.S.BlockStore.blocks c.write.new.self)) here (c.write.ensures.others (agrees.honest is)))
+      (λ is. (agrees.holds is).open_one)
+      (λ is. image_there (g.S.BlockStore.blocks c.args.self.now.store)
+      (g.S.BlockStore.blocks c.write.new.self) c.next_stamp-stamp.result c.args.write.now.token _
+      c.block_image-image.result c.chunk_of.result.now c.args.text.now
+      (without_error c.write.result (sym c.is_err.ensures.value ∙ c.if-is_err.false)
+      (c.write.ensures.written (agrees.honest is)))
+      (omega (arith, here, c.next_stamp-stamp.ensures.within, c.args.self.now.counted))
+      c.next_stamp-stamp.ensures.stamp c.block_image-image.ensures c.chunk_of.ensures) in
+      record {
+        keeps = left.0;
+        honest = λ is. c.write.ensures.honest (agrees.honest is);
+        holds = left.1;
+      };
+  count = search rules;
+  whole = search rules;
+  broken = search rules;
+  owned = search rules;
+  calls = search rules;
+  failed = search rules;
+  no_failure = search rules;
+  honest = search rules;
+  blocks = search rules;
+}
