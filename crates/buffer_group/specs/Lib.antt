@@ -1,0 +1,4 @@
+pub mod Groups
+pub mod Jobs
+pub mod Steps
+pub mod Writers

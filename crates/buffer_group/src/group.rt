@@ -1,0 +1,121 @@
+ghost use Rattle.std.specs.Prelude.{◌<◌, length};
+
+use cyc_buffer::size_of;
+use news_terms::picks::positions_pick;
+use relay_conf::Mode;
+
+/// Where an article goes in its group.
+#[derive(Clone, Copy, Debug, PartialEq, Eq)]
+pub struct Pick {
+    /// The buffer, by its place in the group, counted from 0.
+    pub buffer: usize,
+    /// Whether it goes to the front of a cycle there.
+    pub fresh: bool,
+}
+
+/// A group of buffers, and where it is.
+#[derive(Debug, Drop)]
+pub struct Group {
+    mode: Mode,
+    /// How many blocks each buffer has.
+    blocks: Vec<u32>,
+    /// The buffer that is the current one, by its place in the group.
+    position: usize,
+    /// Where one buffer is filled after the other: the blocks used of the current one's run.
+    used: u32,
+    ghost within: { position < length blocks.items },
+}
+
+impl Group {
+    ghost use Rattle.std.specs.Prelude.{◌≡◌, ◌<◌, ℕ, List, [], ◌∷◌, ◌++◌, length, slice_get};
+    ghost use Rattle.buffer_group.specs.Groups.{KeepsPlaces, blocks_in, mode_view, pick_view};
+    ghost use Rattle.buffer_group.specs.Groups.{group_mode, group_blocks, buffer_count};
+    ghost use Rattle.news_terms.specs.Picks.{pick_of};
+    ghost use Rattle.news_terms.specs.Places as places;
+    ghost use Rattle.news_terms.specs.Places.{size_of};
+    ghost use Rattle.news_terms.specs.Positions.{index_after};
+
+    /// A group whose buffers have so many blocks, in order, before anything is begun.
+    pub fn new(mode: Mode, blocks: Vec<u32>) -> Group
+        requires { 0 < length blocks.items }
+        ensures places { (group : places.Group) → mode_view mode ≡ group.mode
+            → blocks.items ≡ blocks_in group.buffers → KeepsPlaces result group [] }
+        ensures mode { group_mode result ≡ mode }
+        ensures blocks { group_blocks result ≡ blocks.items }
+    {
+        Group {
+            mode,
+            blocks,
+            position: 0,
+            used: 0,
+        }
+    }
+
+    /// Where the next article of the group goes, which has so many octets.
+    pub fn pick(&self, length: u32) -> Pick
+        ensures places { (group : places.Group) (begun : List ℕ) → KeepsPlaces self.now group begun
+            → pick_view result ≡ pick_of group begun (size_of length) }
+        ensures within { result.buffer < buffer_count self.now }
+    {
+        positions_pick();
+        match self.mode {
+            Mode::Interleave => Pick {
+                buffer: self.position,
+                fresh: false,
+            },
+            Mode::Sequential => {
+                let used = u64::from(self.used) + u64::from(size_of(length));
+                if used <= u64::from(self.room()) {
+                    Pick {
+                        buffer: self.position,
+                        fresh: false,
+                    }
+                } else {
+                    Pick {
+                        buffer: self.next(),
+                        fresh: true,
+                    }
+                }
+            }
+        }
+    }
+
+    /// Goes on after an article of so many octets was begun where it was picked.
+    pub fn begun(&mut self, pick: &Pick, length: u32)
+        ensures places { (group : places.Group) (begun : List ℕ) → KeepsPlaces self.old group begun
+            → pick_view pick.now ≡ pick_of group begun (size_of length)
+            → KeepsPlaces self.new group (begun ++ size_of length ∷ []) }
+        ensures mode { group_mode self.new ≡ group_mode self.old }
+        ensures blocks { group_blocks self.new ≡ group_blocks self.old }
+    {
+        positions_pick();
+        match self.mode {
+            Mode::Interleave => self.position = self.next(),
+            Mode::Sequential => {
+                let size = size_of(length);
+                if pick.fresh {
+                    self.position = self.next();
+                    self.used = size;
+                } else {
+                    self.used = self.used.saturating_add(size).min(self.room());
+                }
+            }
+        }
+    }
+
+    /// How many blocks the current buffer has.
+    fn room(&self) -> u32
+        ensures { slice_get (group_blocks self.now) self.now.position ≡ Some result }
+    {
+        self.blocks[self.position]
+    }
+
+    /// The buffer after the current one, the first one after the last.
+    fn next(&self) -> usize
+        ensures after { result ≡ index_after (buffer_count self.now) self.now.position }
+        ensures within { result < buffer_count self.now }
+    {
+        let next = self.position + 1;
+        if next == self.blocks.len() { 0 } else { next }
+    }
+}
