@@ -1,5 +1,7 @@
 -- What a group picks, by what its code keeps.
-use Rattle.std.proofs.Common.{◌≡◌, ◌∙◌, ℕ, List, [], ◌∷◌, ◌++◌, length, get_or, slice_get, Option, None, Some, refl, sym, ap, arith, ◌+◌, ◌≤◌, nat_le, true, false, true≢false, ◌⊎◌, inl, inr}
+use Rattle.std.proofs.Common.{◌≡◌, ◌∙◌, ℕ, ◌+◌, ◌≤◌, nat_le, List, [], ◌∷◌, ◌++◌, length, get_or}
+use Rattle.std.proofs.Common.{slice_get, Option, None, Some, refl, sym, ap, arith, true, false}
+use Rattle.std.proofs.Common.{true≢false, ◌⊎◌, inl, inr}
 use Rattle.std.specs.Prelude.{option_map, unwrap_or}
 use Rattle.std.proofs.lemmas.Bool.{cases_Bool, cond-true, cond-false, leb-true}
 use Rattle.std.proofs.Math.Nat.{zero-mod}
@@ -21,7 +23,7 @@ same_count code group begun keeps =
     ap length keeps.blocks ∙ length-map group.buffers (λ (b : places.Buffer). b.blocks)
 
 -- the law of picks, at what the code keeps
-pub pick_here : (code : Group) (group : places.Group) (begun : List ℕ) (size : ℕ)
+pick_here : (code : Group) (group : places.Group) (begun : List ℕ) (size : ℕ)
     → KeepsPlaces code group begun
     → pick_of group begun size ≡ pick_at group.mode group.buffers (position_of group begun) size
     → pick_of group begun size
@@ -38,7 +40,7 @@ room_of_one None = refl
 room_of_one (Some buffer) = refl
 
 -- the room of a buffer is the code's
-pub room_here : (code : Group) (group : places.Group) (begun : List ℕ) (i : ℕ)
+room_here : (code : Group) (group : places.Group) (begun : List ℕ) (i : ℕ)
     → KeepsPlaces code group begun
     → blocks_of (slice_get group.buffers i) ≡ get_or code.blocks.items i 0
 room_here code group begun i keeps =
@@ -48,7 +50,8 @@ room_here code group begun i keeps =
     ∙ unwrap_or-slice_get (blocks_in group.buffers) i 0
     ∙ ap (λ bs. get_or bs i 0) (sym keeps.blocks)
 
--- Sequential, where the pick isn't fresh: the article fits the current run, and the position stays in it
+-- Sequential, where the pick isn't fresh: the article fits the current run, and the position stays
+-- in it
 pub stays_here : (code : Group) (group : places.Group) (begun : List ℕ) (size : ℕ)
     → KeepsPlaces code group begun → code.mode ≡ modes.Sequential
     → pick_of group begun size ≡ pick_at group.mode group.buffers (position_of group begun) size

@@ -107,7 +107,7 @@ fn without_fresh(words: &[Vec<u8>]) -> (&[Vec<u8>], bool) {
 }
 
 /// Writes what became of an article that was to be stored.
-fn put_stored(alloc: Global, text: &mut Vec<u8>, stored: Put) -> Result<bool, AllocError> {
+pub fn put_stored(alloc: Global, text: &mut Vec<u8>, stored: Put) -> Result<bool, AllocError> {
     match stored {
         Put::Stored(token) => say(text, &token.to_text()),
         refused => put(alloc, text, &refused),
@@ -218,7 +218,7 @@ fn compare(alloc: Global, cells: &[Vec<u8>], text: &mut Vec<u8>) -> Result<bool,
 
 /// What became of an article that was to be stored.
 #[derive(Debug, Drop)]
-enum Put {
+pub enum Put {
     Stored(Token),
     Refused(BufError),
     Failed(BufError),
@@ -253,7 +253,7 @@ pub fn text_of(alloc: Global, seed: u8, octets: usize) -> Result<Vec<u8>, AllocE
 }
 
 /// Stores an article whole.
-fn store<S: BlockStore>(buffer: &mut Buffer<S>, class: u8, text: &[u8], fresh: bool) -> Put
+pub fn store<S: BlockStore>(buffer: &mut Buffer<S>, class: u8, text: &[u8], fresh: bool) -> Put
     requires some { 1 ≤ length text.now }
     requires short { length text.now < 2 ^ 32 }
 {

@@ -1,10 +1,11 @@
 //! Rows for the crates of the store and of the claims: each line of standard input is a call of
-//! cyc_token, cyc_block, cyc_buffer, id_history or feed_queue, and is printed with its answer. The
-//! gate runs it with the file `stdin`, and compares what it prints with the file `stdout`, whose
-//! answers are those of docs/ and of the contracts, never this program's own.
+//! cyc_token, cyc_block, cyc_buffer, buffer_group, id_history or feed_queue, and is printed with
+//! its answer. The gate runs it with the file `stdin`, and compares what it prints with the file
+//! `stdout`, whose answers are those of docs/ and of the contracts, never this program's own.
 //!
 //! A row is the name of a call and its words, as README.md lists them. What a call leaves behind,
-//! the rows after it find: one store of blocks, one buffer, one shard of claims and sixteen more.
+//! the rows after it find: one store of blocks, one buffer, one group of buffers, one shard of
+//! claims and sixteen more.
 #![tactic(auto)]
 
 mod blocks;
@@ -12,11 +13,13 @@ mod buffers;
 mod claims;
 mod comparison;
 mod feeds;
+mod groups;
 mod words;
 
 use blocks::Blocks;
 use buffers::InMemory;
 use feeds::Feeds;
+use groups::Grouped;
 use id_history::{Shard, Shards};
 use row_text::{Answers, play};
 use std::alloc::{AllocError, Global};
@@ -29,6 +32,7 @@ use std::{io, str};
 struct Rows {
     store: Option<Blocks>,
     buffer: Option<InMemory>,
+    grouped: Option<Grouped>,
     shard: Shard,
     shards: Shards,
     feeds: Feeds,
@@ -50,6 +54,7 @@ fn first_rows(rt: &HostRuntime) -> io::Result<Rows> {
         shards: Shards::new(rt, rt.alloc())?,
         store: None,
         buffer: None,
+        grouped: None,
         shard,
     })
 }
@@ -68,6 +73,7 @@ impl Answers for Rows {
         Ok(
             blocks::answer(alloc, &mut self.store, call, cells, text)?
                 || buffers::answer(alloc, &mut self.buffer, call, cells, text)?
+                || groups::answer(alloc, &mut self.grouped, call, cells, text)?
                 || claims::answer_together(alloc, &mut self.shards, call, cells, text)?
                 || claims::answer(alloc, &mut self.shard, call, cells, text)?
                 || self.feeds.answer(alloc, call, cells, text)?,
