@@ -1,4 +1,6 @@
 pub mod Begins
+pub mod Ending
 pub mod Finishes
 pub mod Founds
+pub mod Shelving
 pub mod Writings

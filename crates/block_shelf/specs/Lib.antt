@@ -1,2 +1,6 @@
+pub mod Calls
 pub mod Histories
+pub mod Keeping
 pub mod Openings
+pub mod Reading
+pub mod Settings

@@ -1,9 +1,8 @@
-//! All buffers with their groups: the store of the relay in the relay's own words.
+//! All buffers with their groups: the store of the relay, in the relay's own words. What is above
+//! speaks of sizes begun, of texts that are whole and of tokens, and never of blocks, stamps or
+//! rings.
 #![tactic(auto)]
 
-ghost use Rattle.std.specs.Prelude.{◌≡◌, ℕ};
+mod shelf;
 
-/// A law.
-pub fn law()
-    ensures { (n : ℕ) → n ≡ n }
-{}
+pub use shelf::{Begun, Shelf};
