@@ -2,5 +2,8 @@ pub mod Begins
 pub mod Ending
 pub mod Finishes
 pub mod Founds
+pub mod Fronts
+pub mod OpenWrites
+pub mod ShelfReads
 pub mod Shelving
 pub mod Writings
