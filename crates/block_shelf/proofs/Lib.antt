@@ -1,4 +1,5 @@
 pub mod Begins
+pub mod BegunShelf
 pub mod Ending
 pub mod Finishes
 pub mod Founds

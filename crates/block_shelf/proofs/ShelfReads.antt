@@ -45,7 +45,7 @@ use Rattle.block_shelf.specs.Reading.{HasNotFound, IsFrontAt}
 use Rattle.block_shelf.specs.declared.shelf.Shelf.{Shelf}
 
 -- a place within a list has something
-some_there : {X : Type 0} (xs : List X) (i : ℕ) → i < length xs
+pub some_there : {X : Type 0} (xs : List X) (i : ℕ) → i < length xs
     → (x : X) × (slice_get xs i ≡ Some x)
 some_there [] i within = absurd (omega (arith, within))
 some_there (first ∷ rest) zero within = (first, refl)

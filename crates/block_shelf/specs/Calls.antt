@@ -52,14 +52,14 @@ token_at class octets place =
       length = octets;
     }
 
--- a begin at this place: where a token has room for its cycle the article is begun, else nothing is
--- changed
+-- a begin at this place: where a token has room for its cycle the article is begun, else nothing
+-- that is kept changes
 abbrev pub BegunAs : {S : Type 0} {g : Ghosts S} → (trusted : Bool) → Terms → (h class octets : ℕ)
-    → (ℕ → List ℕ) → List Kept → (ℕ → Option Opening) → (ℕ → ℕ) → Place
-    → (old : Shelf S g) → Option Begun → (new : Shelf S g) → Type 0
-BegunAs trusted w h class octets begun kept openings failures place old None new =
-    (last_cycle < place.cycle) × (new ≡ old)
-BegunAs trusted w h class octets begun kept openings failures place old (Some one) new =
+    → (ℕ → List ℕ) → List Kept → (ℕ → Option Opening) → (ℕ → ℕ) → Place → Option Begun
+    → (new : Shelf S g) → Type 0
+BegunAs trusted w h class octets begun kept openings failures place None new =
+    (last_cycle < place.cycle) × KeepsTexts trusted new w begun kept openings failures
+BegunAs trusted w h class octets begun kept openings failures place (Some one) new =
     (place.cycle ≤ last_cycle) × (token_of one ≡ token_at class octets place)
     × ((text : List ℕ) → length text ≡ octets
     → KeepsTexts trusted new w (put_at begun h (begun h ++ size_of octets ∷ [])) kept
@@ -74,7 +74,7 @@ BeginsOn h class octets old result new =
     → KeepsTexts trusted old w begun kept openings failures
     → CanBegin w h (size_of octets) openings
     → (place : Place) × (place_in w h (begun h) (size_of octets) ≡ Some place)
-    × BegunAs trusted w h class octets begun kept openings failures place old result new
+    × BegunAs trusted w h class octets begun kept openings failures place result new
 
 -- an error is a fault of this kind of the device of the token's buffer, at an article of its length
 abbrev pub IsFaultAt : FaultKind → Token → BufError → Type 0
