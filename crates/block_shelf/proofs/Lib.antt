@@ -5,6 +5,7 @@ pub mod Finishes
 pub mod Founds
 pub mod Fronts
 pub mod OpenWrites
+pub mod ShelfCalls
 pub mod ShelfReads
 pub mod Shelving
 pub mod Writings

@@ -18,6 +18,7 @@ use Rattle.news_terms.specs.Token.{Token}
 use Rattle.relay_model.specs.State.{Kept, put_at}
 use Rattle.relay_model.specs.Terms.{Terms}
 use Rattle.relay_model.specs.World.{HasFailedAt}
+use Rattle.block_shelf.specs.Devices.{calls_at}
 use Rattle.block_shelf.specs.Keeping.{KeepsTexts}
 use Rattle.block_shelf.specs.Openings.{Opening, IsOpen, IsBroken, token_in}
 use Rattle.block_shelf.specs.declared.shelf.Begun.{Begun}
@@ -93,7 +94,8 @@ WrittenAs trusted w h token text written begun kept openings failures (Err e) ne
     × ((later : ℕ → ℕ) × HasFailedAt token.buffer failures later
     × KeepsTexts trusted new w begun kept (put_at openings h (Some (IsBroken token))) later)
 
--- the next block of the open write under this token is written, whichever group has it
+-- the next block of the open write under this token is written, whichever group has it, by one call
+-- of its buffer's device
 abbrev pub WritesOn : {S : Type 0} {g : Ghosts S} → Token → (text : List ℕ) → (old : Shelf S g)
     → Result Bool BufError → (new : Shelf S g) → Type 0
 WritesOn token text old result new =
@@ -103,6 +105,7 @@ WritesOn token text old result new =
     → (h written : ℕ) → openings h ≡ Some (IsOpen token text written)
     → written < size_of (length text)
     → WrittenAs trusted w h token text written begun kept openings failures result new
+    × (calls_at new token.buffer ≡ calls_at old token.buffer + 1)
 
 -- the open write under this token, all of which is written, becomes whole
 abbrev pub FinishesOn : {S : Type 0} {g : Ghosts S} → Token → (old new : Shelf S g) → Type 0

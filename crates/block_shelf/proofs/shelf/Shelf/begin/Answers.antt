@@ -15,13 +15,13 @@ use Rattle.block_shelf.proofs.BegunShelf.{unchanged, same_agrees, token_is, has_
 use Rattle.block_shelf.specs.Keeping.{KeepsRack}
 use Rattle.block_shelf.proofs.shelf.Shelf.begin.Goals as goal
 
-pub returns-in_err-rack : goal.returns-in_err-rack
-returns-in_err-rack g c = λ trusted w begun kept openings failures keeps can.
+pub returns-in_err-rack-clause-begun : goal.returns-in_err-rack-clause-begun
+returns-in_err-rack-clause-begun g c = λ trusted w begun kept openings failures keeps can.
     absurd (rack_there trusted c.args.self.now w begun kept openings failures keeps c.args.group
     c.args.class c.args.length can c.from.result c.from.ensures c.in_err-rack.ensures.item.0)
 
-pub returns-in_err-number : goal.returns-in_err-number
-returns-in_err-number g c = λ trusted w begun kept openings failures keeps can.
+pub returns-in_err-number-clause-begun : goal.returns-in_err-number-clause-begun
+returns-in_err-number-clause-begun g c = λ trusted w begun kept openings failures keeps can.
     let rack =
         rack_keeps trusted c.args.self.now w begun kept openings failures keeps c.args.group
         c.args.class c.args.length can c.from.result c.in_ok-rack.rack.now c.from.ensures
@@ -34,8 +34,8 @@ returns-in_err-number g c = λ trusted w begun kept openings failures keeps can.
     (subst (λ items. false ≡ nat_lt c.pick-pick.result.buffer (length items)) c.deref.ensures.value
     c.in_err-number.ensures.lookup.0))
 
-pub returns-in_err-buffer : goal.returns-in_err-buffer
-returns-in_err-buffer g c = λ trusted w begun kept openings failures keeps can.
+pub returns-in_err-buffer-clause-begun : goal.returns-in_err-buffer-clause-begun
+returns-in_err-buffer-clause-begun g c = λ trusted w begun kept openings failures keeps can.
     let rack =
         rack_keeps trusted c.args.self.now w begun kept openings failures keeps c.args.group
         c.args.class c.args.length can c.from.result c.in_ok-rack.rack.now c.from.ensures
@@ -55,8 +55,8 @@ returns-in_err-buffer g c = λ trusted w begun kept openings failures keeps can.
     c.args.class c.args.length can c.in_ok-number.field-0.now number
     c.in_err-buffer.ensures.item.0)
 
-pub returns-in_default : goal.returns-in_default
-returns-in_default g c = λ trusted w begun kept openings failures keeps can.
+pub returns-in_default-clause-begun : goal.returns-in_default-clause-begun
+returns-in_default-clause-begun g c = λ trusted w begun kept openings failures keeps can.
     let rack =
         rack_keeps trusted c.args.self.now w begun kept openings failures keeps c.args.group
         c.args.class c.args.length can c.from.result c.in_ok-rack.rack.now c.from.ensures
@@ -100,8 +100,8 @@ returns-in_default g c = λ trusted w begun kept openings failures keeps can.
     c.in_default.ensures.store)
     c.in_default.ensures.store))
 
-pub returns : goal.returns
-returns g c = λ trusted w begun kept openings failures keeps can.
+pub returns-clause-begun : goal.returns-clause-begun
+returns-clause-begun g c = λ trusted w begun kept openings failures keeps can.
     let rack =
         rack_keeps trusted c.args.self.now w begun kept openings failures keeps c.args.group
         c.args.class c.args.length can c.from.result c.in_ok-rack.rack.now c.from.ensures
