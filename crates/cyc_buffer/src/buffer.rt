@@ -26,7 +26,7 @@ impl<S: BlockStore> Buffer<S> {
     ghost use Rattle.cyc_buffer.specs.Agreement.{Agrees, Follows, Owns, store_of, register_of};
     ghost use Rattle.cyc_buffer.specs.Agreement.{blocks_written, is_broken, length_of, token_of};
     ghost use Rattle.cyc_buffer.specs.Agreement.{CanWrite, CanFinish};
-    ghost use Rattle.cyc_buffer.specs.Answers.{refusal, error_of};
+    ghost use Rattle.cyc_buffer.specs.Answers.{refusal, error_of, front_view};
     ghost use Rattle.cyc_buffer.specs.Calls.{LeavesDevice, WritesNext, ReadsBlock};
     ghost use Rattle.cyc_buffer.specs.History.{History, new_history, with_begin, with_finish};
     ghost use Rattle.cyc_buffer.specs.History.{without_write, open_token, front_of, cycle_of};
@@ -167,6 +167,14 @@ impl<S: BlockStore> Buffer<S> {
         ensures { (trusted : Bool) (h : History) → Agrees trusted self.now h → result ≡ front_of h }
     {
         self.register.line.front()
+    }
+
+    /// The front as a value, which a buffer alone makes.
+    pub fn passed(&self) -> Front
+        ensures { (trusted : Bool) (h : History) → Agrees trusted self.now h
+            → result ≡ front_view h.buffer (front_of h) }
+    {
+        self.register.front()
     }
 
     /// The cycle that the newest article is in; the first one where there is none.

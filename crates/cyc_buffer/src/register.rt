@@ -33,6 +33,14 @@ impl Open {
     {
         self.token
     }
+
+    /// Gives the handle up, and nothing else: an open write that is its own stays open.
+    pub fn into_token(self) -> Token
+        ensures { result ≡ self.token }
+    {
+        let Open { token } = self;
+        token
+    }
 }
 
 /// How far the open write has come.

@@ -21,6 +21,7 @@ pub mod Sessions
 pub mod SoundExample
 pub mod ShortLists
 pub mod StepErrands
+pub mod Skipping
 pub mod Steps
 pub mod Sums
 pub mod Taken

@@ -3,15 +3,17 @@
 //! There is no code: each function has an empty body, and its contract is what is proved.
 #![tactic(auto)]
 
-ghost use Rattle.std.specs.Prelude.{◌≡◌, ◌++◌, ◌≤◌, ◌<◌, ◌^◌, ℕ, List, Some, length};
+ghost use Rattle.std.specs.Prelude.{◌≡◌, ◌++◌, ◌≤◌, ◌<◌, ◌^◌, ℕ, List, Some, length, slice_get};
+ghost use Rattle.news_terms.specs.Places.{Buffer, Group, extents, front_after, on_line};
 ghost use Rattle.news_terms.specs.Token.{Token};
 ghost use Rattle.relay_model.specs.Awaited.{Errand, WaitsFor};
-ghost use Rattle.relay_model.specs.Fetches.{text_under};
+ghost use Rattle.relay_model.specs.Fetches.{text_under, extents_from};
 ghost use Rattle.relay_model.specs.Invariants.{IsWell};
 ghost use Rattle.relay_model.specs.Run.{Event, Run, Step};
 ghost use Rattle.relay_model.specs.State.{Job, Kept, Session, Transfer, Waits};
 ghost use Rattle.relay_model.specs.Terms.{Terms};
 ghost use Rattle.relay_model.specs.World.{World, Output, Finished, empty_world};
+ghost use Rattle.relay_facts.specs.Apart.{HasNone};
 ghost use Rattle.relay_facts.specs.Sound.{IsSound};
 ghost use Rattle.relay_facts.specs.SoundExample.{sound_terms};
 
@@ -50,6 +52,22 @@ pub fn lists_stay_short()
     ensures room { (w : Terms) (x : World) (f g : ℕ) (job : Job) (token : Token) → IsSound w
         → IsWell w x → x.work.writer g ≡ Finished job token
         → length (x.state.feed f).gained < 2 ^ 62 }
+{}
+
+/// The front of a buffer is moved by the group that has it, and by no other: a buffer that no group
+/// has is where its first cycle begins.
+pub fn fronts_stay_apart()
+    ensures one { (groups : List Group) (begun : ℕ → List ℕ) (g : ℕ) (group : Group)
+        (buffer : Buffer) → slice_get groups g ≡ Some group
+        → ((h : ℕ) (other : Group) → slice_get groups h ≡ Some other → (h ≡ g → ⊥)
+        → HasNone other buffer.number)
+        → front_after buffer (extents_from 0 groups begun)
+        ≡ front_after buffer (extents group (begun g)) }
+    ensures none { (groups : List Group) (begun : ℕ → List ℕ) (buffer : Buffer)
+        → ((h : ℕ) (other : Group) → slice_get groups h ≡ Some other
+        → HasNone other buffer.number)
+        → front_after buffer (extents_from 0 groups begun)
+        ≡ on_line buffer.blocks buffer.first_cycle 0 }
 {}
 
 /// There are sound terms.

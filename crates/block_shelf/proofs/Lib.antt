@@ -1,0 +1,11 @@
+pub mod Begins
+pub mod BegunShelf
+pub mod Ending
+pub mod Finishes
+pub mod Founds
+pub mod Fronts
+pub mod OpenWrites
+pub mod ShelfCalls
+pub mod ShelfReads
+pub mod Shelving
+pub mod Writings

@@ -1,0 +1,84 @@
+-- What the shelf keeps, in the relay's own words: the sizes begun, the texts that are whole, the open
+-- writes, and how often each device has failed (docs/PROTOCOL.md, Store).
+use Rattle.std.specs.Prelude.{◌≡◌, ℕ, Bool, List, map, length, Option, Some, slice_get, All}
+use Rattle.buffer_group.specs.Groups.{KeepsPlaces}
+use Rattle.cyc_block.specs.declared.store.BlockStore.{Ghosts}
+use Rattle.cyc_buffer.specs.Agreement.{Agrees, store_of}
+use Rattle.cyc_buffer.specs.History.{History}
+use Rattle.cyc_buffer.specs.declared.buffer.Buffer.{Buffer}
+use Rattle.news_terms.specs.Fronts.{FitsGroup}
+use Rattle.news_terms.specs.Places as places
+use Rattle.news_terms.specs.Places.{Group}
+use Rattle.relay_model.specs.State.{Kept}
+use Rattle.relay_model.specs.Terms.{Terms}
+use Rattle.block_shelf.specs.Histories.{IsHistoryOf}
+use Rattle.block_shelf.specs.Openings.{Opening, IsOpen, IsBroken, token_in}
+use Rattle.block_shelf.specs.Settings.{IsBufferAt, AreSound}
+use Rattle.block_shelf.specs.declared.shelf.Rack.{Rack}
+use Rattle.block_shelf.specs.declared.shelf.Shelf.{Shelf}
+
+-- the text of an open write is as long as its token says
+abbrev pub HasItsLength : Opening → Type 0
+HasItsLength (IsOpen token text written) = length text ≡ token.length
+HasItsLength (IsBroken token) = Unit {0}
+
+-- the open write of a group is in one of its buffers
+pub record IsOpenIn (groups : List Group) (g : ℕ) (one : Opening) : Type 0 where
+  pub index : ℕ
+  pub buffer : places.Buffer
+  pub is_at : IsBufferAt groups g index buffer
+  pub named : buffer.number ≡ (token_in one).buffer
+  pub whole : HasItsLength one
+
+-- the code's buffer agrees with a history that is what the relay's state says of this buffer, and
+-- its device has failed as often as is said
+pub record KeepsBuffer {S : Type 0} {g : Ghosts S} (trusted : Bool) (code : Buffer S g)
+    (groups : List Group) (begun : ℕ → List ℕ) (kept : List Kept) (openings : ℕ → Option Opening)
+    (failures : ℕ → ℕ) (buffer : places.Buffer)
+    : Type 0 where
+  pub history : History
+  pub is_of_buffer : history.buffer ≡ buffer
+  pub agrees : Agrees trusted code history
+  pub is_said : IsHistoryOf groups begun kept openings history
+  pub failed : failures buffer.number ≡ g.failures (store_of code)
+
+-- the buffer at this place of the shelf keeps what is said of this buffer
+pub record HasBuffer {S : Type 0} {g : Ghosts S} (trusted : Bool) (codes : List (Buffer S g))
+    (groups : List Group) (begun : ℕ → List ℕ) (kept : List Kept) (openings : ℕ → Option Opening)
+    (failures : ℕ → ℕ) (b : ℕ) (buffer : places.Buffer)
+    : Type 0 where
+  pub code : Buffer S g
+  pub there : slice_get codes b ≡ Some code
+  pub keeps : KeepsBuffer trusted code groups begun kept openings failures buffer
+
+-- the code's group is where these sizes have brought the group, and has the numbers of its buffers
+pub record KeepsRack (code : Rack) (group : Group) (begun : List ℕ) : Type 0 where
+  pub position : KeepsPlaces code.group group begun
+  pub numbers : code.numbers.items ≡ map (λ (buffer : places.Buffer). buffer.number) group.buffers
+
+-- the group at this place of the shelf keeps what is said of this group
+pub record HasRack (codes : List Rack) (begun : List ℕ) (h : ℕ) (group : Group) : Type 0 where
+  pub code : Rack
+  pub there : slice_get codes h ≡ Some code
+  pub keeps : KeepsRack code group begun
+
+-- The shelf keeps, with these buffers and groups, these sizes begun, texts, open writes and counts
+-- of failures; where its stores are trusted, they are honest.
+pub record KeepsTexts {S : Type 0} {g : Ghosts S} (trusted : Bool) (shelf : Shelf S g) (w : Terms)
+    (begun : ℕ → List ℕ) (kept : List Kept) (openings : ℕ → Option Opening) (failures : ℕ → ℕ)
+    : Type 0 where
+  -- buffers and groups are sound, and the buffers numbered in their order
+  pub sound : AreSound w.buffers w.groups
+  pub numbered : (b : ℕ) (buffer : places.Buffer) → slice_get w.buffers b ≡ Some buffer
+      → buffer.number ≡ b
+  -- each size fits each buffer of its group
+  pub fit : (h : ℕ) (group : Group) → slice_get w.groups h ≡ Some group
+      → All (FitsGroup group) (begun h)
+  -- each open write is in a buffer of its group
+  pub opened : (h : ℕ) (one : Opening) → openings h ≡ Some one → IsOpenIn w.groups h one
+  -- each buffer and each group of the shelf keeps what is said of it
+  pub count : length shelf.buffers.items ≡ length w.buffers
+  pub buffers : (b : ℕ) (buffer : places.Buffer) → slice_get w.buffers b ≡ Some buffer
+      → HasBuffer trusted shelf.buffers.items w.groups begun kept openings failures b buffer
+  pub racks : (h : ℕ) (group : Group) → slice_get w.groups h ≡ Some group
+      → HasRack shelf.racks.items (begun h) h group
