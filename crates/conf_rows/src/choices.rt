@@ -53,11 +53,11 @@ fn put_chosen(
 }
 
 /// Puts a choice.
-fn put_choice(text: &mut Vec<u8>, chosen: Option<(u8, usize)>) -> Result<bool, AllocError> {
+fn put_choice(text: &mut Vec<u8>, chosen: Option<(u8, u16)>) -> Result<bool, AllocError> {
     match chosen {
         Some((class, group)) => {
             put_number_of(text, b"class ", u64::from(class))?;
-            put_number_of(text, b" group ", group as u64)?;
+            put_number_of(text, b" group ", u64::from(group))?;
         }
         None => text.extend_from_slice(b"none")?,
     }
@@ -110,7 +110,7 @@ fn method(
     exactmatch: &[u8],
 ) -> Option<Method> {
     let class = number_within(0, 255, class)? as u8;
-    let group = number_of(group)? as usize;
+    let group = number_within(0, 65_535, group)? as u16;
     let smallest = number_of(smallest)?;
     Some(Method {
         class,

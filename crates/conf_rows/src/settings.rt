@@ -95,7 +95,7 @@ pub fn put_methods(text: &mut Vec<u8>, methods: &[Method]) -> Result<bool, Alloc
 /// Puts an entry: its class, its group and which articles it takes.
 fn put_method(text: &mut Vec<u8>, method: &Method) -> Result<(), AllocError> {
     put_number_of(text, b"; class ", u64::from(method.class))?;
-    put_number_of(text, b" group ", method.group as u64)?;
+    put_number_of(text, b" group ", u64::from(method.group))?;
     put_number_of(text, b" from ", method.smallest)?;
     put_optional(text, b" to ", method.largest)?;
     if method.exactmatch {

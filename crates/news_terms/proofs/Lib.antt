@@ -17,6 +17,7 @@ pub mod LineLemmas
 pub mod LinePairs
 pub mod Matching
 pub mod NextLemmas
+pub mod OneSoundness
 pub mod PathUpdates
 pub mod PickedBegins
 pub mod PickedPlaces

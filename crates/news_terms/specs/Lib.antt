@@ -15,6 +15,7 @@ pub mod Places
 pub mod Positions
 pub mod Reply
 pub mod Ring
+pub mod Settings
 pub mod Stamps
 pub mod StorageClass
 pub mod Token

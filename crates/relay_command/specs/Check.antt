@@ -9,12 +9,12 @@ use Rattle.relay_conf.specs.Lines.{lines_of}
 use Rattle.relay_conf.specs.RelayViews.{RelayGives}
 use Rattle.relay_conf.specs.Settings.{buffers_view}
 use Rattle.relay_conf.specs.StorageViews.{StorageGives}
-use Rattle.relay_conf.specs.declared.config.Config.{Config}
+use Rattle.relay_conf.specs.declared.settings.Config.{Config}
 use Rattle.relay_conf.specs.declared.config.TheConstants.{K1_CYCBUFF, K1_STORAGE, K1_RELAY}
-use Rattle.relay_conf.specs.declared.cycbuff.Buffers.{Buffers}
+use Rattle.relay_conf.specs.declared.settings.Buffers.{Buffers}
 use Rattle.relay_conf.specs.declared.faults.ConfError.{ConfError}
 use Rattle.relay_conf.specs.declared.faults.ConfError.TheVariants as errors
-use Rattle.relay_conf.specs.declared.storage.Method.{Method}
+use Rattle.relay_conf.specs.declared.settings.Method.{Method}
 use Rattle.relay_drill.specs.Written.{GainsFront}
 use Rattle.relay_command.specs.declared.check.CheckError.{CheckError}
 use Rattle.relay_command.specs.declared.check.CheckError.TheVariants.{Memory, Unreadable, Faulty}

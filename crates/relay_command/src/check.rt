@@ -148,11 +148,7 @@ fn load<R: Files>(rt: &R, alloc: Global, folder: &str) -> Result<Config, CheckEr
         Err(error) => return Err(error),
     };
     match load_relay(rt, alloc, folder) {
-        Ok(relay) => Ok(Config {
-            buffers,
-            methods,
-            relay,
-        }),
+        Ok(relay) => Ok(Config::new(buffers, methods, relay)),
         Err(error) => Err(error),
     }
 }

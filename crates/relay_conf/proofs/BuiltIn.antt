@@ -3,11 +3,11 @@ use Rattle.std.proofs.Common.{◌≡◌, ℕ, List, [], ◌∷◌, map, Result, 
 use Rattle.std.specs.Prelude.{codes, IfOk, IfErr}
 use Rattle.std.specs.Global.{Vec}
 use Rattle.news_terms.specs.Pattern.{IsExpressionText}
-use Rattle.relay_conf.specs.declared.cycbuff.Buffers.{Buffers}
+use Rattle.relay_conf.specs.declared.settings.Buffers.{Buffers}
 use Rattle.relay_conf.specs.declared.faults.ConfError.{ConfError}
 use Rattle.relay_conf.specs.declared.faults.ConfError.TheVariants.{Memory, Faulty}
-use Rattle.relay_conf.specs.declared.relay.Relay.{Relay}
-use Rattle.relay_conf.specs.declared.storage.Method.{Method}
+use Rattle.relay_conf.specs.declared.settings.Relay.{Relay}
+use Rattle.relay_conf.specs.declared.settings.Method.{Method}
 use Rattle.relay_conf.specs.Cycbuff.{CycbuffSettings, cycbuff_of}
 use Rattle.relay_conf.specs.Faults.{ConfGives}
 use Rattle.relay_conf.specs.K1.{k1_buffers, every_newsgroup, k1_entries, k1_relay}

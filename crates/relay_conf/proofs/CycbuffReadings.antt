@@ -22,7 +22,8 @@ use Rattle.relay_conf.specs.CycbuffDraft.{LineSays, HasBuffers, HasGroups}
 use Rattle.relay_conf.specs.Drafts.{StepGives, IsDrawnFrom, DraftGives}
 use Rattle.relay_conf.specs.Faults.{first_fault, whole_fault, unless_fault, ConfGives, LineGives}
 use Rattle.relay_conf.specs.LineByLine.{SayEach, HasEarlyFault}
-use Rattle.relay_conf.specs.Settings.{buffers_view, group_view}
+use Rattle.relay_conf.specs.Places.{group_view}
+use Rattle.relay_conf.specs.Settings.{buffers_view}
 use Rattle.relay_conf.proofs.FirstFaults.{fault_stays, filter_one}
 
 -- WHAT LINES SAY

@@ -3,10 +3,12 @@ pub mod CycbuffReadings
 pub mod EachReading
 pub mod EachRelay
 pub mod EachStorage
+pub mod FaultlessLines
 pub mod FileLines
 pub mod FirstFaults
 pub mod JoinedLines
 pub mod LinesRead
+pub mod ListPlaces
 pub mod NameTexts
 pub mod Numbered
 pub mod OneReading
@@ -18,5 +20,8 @@ pub mod SkippedCycbuff
 pub mod SkippedLines
 pub mod SkippedRelay
 pub mod SkippedStorage
+pub mod SoundCycbuff
+pub mod SoundRelay
+pub mod SoundStorage
 pub mod StorageReadings
 pub mod StorageWords

@@ -32,6 +32,7 @@ use Rattle.relay_conf.specs.Relay.{early_fault, late_fault, no_own_fault, first_
 use Rattle.relay_conf.specs.Relay.{relay_said, RelaySettings}
 use Rattle.relay_conf.specs.RelayViews.{HasSettings}
 use Rattle.relay_conf.specs.Words.{words, is_name, is_name_octet, is_identity}
+use Rattle.relay_conf.proofs.FaultlessLines.{behind_trial, no_whole_fault}
 
 -- IDENTITIES OF PATHS
 
@@ -227,12 +228,6 @@ peers_pass (Ok (PeerLine name identity port) ∷ said) h =
     and_from _ _ (identity_is_agent identity h.0) (peers_pass said h.1)
 peers_pass (Ok (FeedLine name ring expression) ∷ said) h = peers_pass said h.1
 
--- Settings behind a trial are there where it finds no fault.
-behind_trial : {S : Type 0} (fault : Option LineFault) (said : Result S LineFault) (settings : S)
-    → unless_fault fault said ≡ Ok settings → (fault ≡ None) × (said ≡ Ok settings)
-behind_trial None said settings h = (refl, h)
-behind_trial (Some fault) said settings h = cc
-
 -- The settings that lines say together are theirs, and one of them says the own identity.
 of_settings : (said : List SaidLine) (settings : RelaySettings) → relay_said said ≡ Ok settings
     → (no_own_fault (stand_of said).owns ≡ None) × (settings_of said ≡ settings)
@@ -241,11 +236,7 @@ of_settings said settings h =
     let whole = behind_trial (whole_fault (no_own_fault (stand_of said).owns)) _ settings early.1 in
     let late = behind_trial (first_fault (late_fault (stand_of said).peers) [] said)
     (Ok (settings_of said)) settings whole.1 in
-    (some_own (no_own_fault (stand_of said).owns) whole.0, cc)
-  where
-    some_own : (o : Option Fault) → whole_fault o ≡ None → o ≡ None
-    some_own None e = refl
-    some_own (Some fault) e = cc
+    (no_whole_fault (no_own_fault (stand_of said).owns) whole.0, cc)
 
 -- The own identity is an agent's.
 pub own_is_agent : (lines : List (List ℕ)) (settings : RelaySettings) → HasSettings lines settings

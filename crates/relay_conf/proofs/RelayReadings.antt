@@ -32,7 +32,7 @@ use Rattle.relay_conf.specs.Expressions.{ExpressionGives}
 use Rattle.relay_conf.specs.RelayViews.{relay_view, RelayGives}
 use Rattle.relay_conf.specs.RelayDraft.{nothing}
 use Rattle.relay_conf.specs.declared.faults.ConfError.{ConfError}
-use Rattle.relay_conf.specs.declared.relay.Relay.{Relay}
+use Rattle.relay_conf.specs.declared.settings.Relay.{Relay}
 use Rattle.relay_conf.proofs.FirstFaults.{filter_one}
 use Rattle.relay_conf.proofs.LinesRead.{draft_answers}
 

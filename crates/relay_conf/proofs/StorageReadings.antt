@@ -16,7 +16,7 @@ use Rattle.relay_conf.specs.declared.storage_lines.Place.TheVariants.{Outside}
 use Rattle.relay_conf.specs.declared.storage_lines.Sizes.{Sizes}
 use Rattle.relay_conf.specs.Cycbuff.{Group}
 use Rattle.relay_conf.specs.declared.faults.ConfError.{ConfError}
-use Rattle.relay_conf.specs.declared.storage.Method.{Method}
+use Rattle.relay_conf.specs.declared.settings.Method.{Method}
 use Rattle.std.specs.Global.{Vec}
 use Rattle.relay_conf.specs.Drafts.{StepGives, IsDrawnFrom, late_or}
 use Rattle.relay_conf.specs.Expressions.{ExpressionGives}

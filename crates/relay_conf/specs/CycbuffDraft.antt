@@ -5,7 +5,7 @@ use Rattle.relay_conf.specs.declared.cycbuff.BufferDraft.{BufferDraft}
 use Rattle.relay_conf.specs.declared.cycbuff.GroupDraft.{GroupDraft}
 use Rattle.relay_conf.specs.declared.faults.Fault.{Fault}
 use Rattle.relay_conf.specs.Cycbuff.{CycbuffLine, cycbuff_line, buffers_of, group_names, groups_of}
-use Rattle.relay_conf.specs.Settings.{group_view}
+use Rattle.relay_conf.specs.Places.{group_view}
 
 -- a line says what it says alone, whatever stands before it
 abbrev pub LineSays : (before : List (Result CycbuffLine Fault)) → (line : List ℕ)

@@ -2,7 +2,7 @@
 use Rattle.std.specs.Prelude.{◌≡◌, List, [], ◌∷◌, map, codes, false, None}
 use Rattle.news_terms.specs.Pattern.{Marked, Match, Star}
 use Rattle.news_terms.specs.StorageClass.{Entry}
-use Rattle.relay_conf.specs.declared.config.Config.{Config}
+use Rattle.relay_conf.specs.declared.settings.Config.{Config}
 use Rattle.relay_conf.specs.declared.cycbuff.Mode.TheVariants.{Interleave}
 use Rattle.relay_conf.specs.Cycbuff.{CycbuffSettings}
 use Rattle.relay_conf.specs.Relay.{RelaySettings}

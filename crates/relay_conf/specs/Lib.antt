@@ -6,11 +6,13 @@ pub mod Faults
 pub mod K1
 pub mod LineByLine
 pub mod Lines
+pub mod Places
 pub mod Readings
 pub mod Relay
 pub mod RelayDraft
 pub mod RelayViews
 pub mod Settings
+pub mod SoundRelay
 pub mod Storage
 pub mod StorageDraft
 pub mod StorageFile

@@ -5,7 +5,7 @@ use Rattle.relay_conf.specs.declared.relay_lines.Line.{Line}
 use Rattle.relay_conf.specs.declared.relay_lines.Line.TheVariants as lines
 use Rattle.relay_conf.specs.declared.faults.LineFault.{LineFault}
 use Rattle.relay_conf.specs.declared.faults.ConfError.{ConfError}
-use Rattle.relay_conf.specs.declared.relay.Relay.{Relay}
+use Rattle.relay_conf.specs.declared.settings.Relay.{Relay}
 use Rattle.relay_conf.specs.Words.{is_name}
 use Rattle.relay_conf.specs.LineByLine.{SayTogether, HaveFault, LinesGive}
 use Rattle.relay_conf.specs.Relay.{LineSays, RelaySettings, early_fault, relay_said, RelayLine}

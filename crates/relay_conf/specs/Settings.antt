@@ -1,21 +1,28 @@
 -- The settings that the readers answer, as the definitions have them.
-use Rattle.std.specs.Prelude.{map, Result, Ok, Err}
+use Rattle.std.specs.Prelude.{List, map, Result, Ok, Err}
+use Rattle.news_terms.specs.Places.{Buffer}
+use Rattle.news_terms.specs.Places as places
 use Rattle.relay_conf.specs.declared.faults.Fault.{Fault}
-use Rattle.relay_conf.specs.declared.cycbuff.Buffers.{Buffers}
-use Rattle.relay_conf.specs.declared.cycbuff.GroupConf.{GroupConf}
+use Rattle.relay_conf.specs.declared.settings.Buffers.{Buffers}
 use Rattle.relay_conf.specs.declared.cycbuff_lines.Line.{Line}
 use Rattle.relay_conf.specs.declared.cycbuff_lines.Line.TheVariants as lines
-use Rattle.relay_conf.specs.Cycbuff.{CycbuffLine, CycbuffSettings, Group, Skipped, BufferLine}
+use Rattle.relay_conf.specs.Cycbuff.{CycbuffLine, CycbuffSettings, Skipped, BufferLine}
 use Rattle.relay_conf.specs.Cycbuff.{GroupLine, members_of}
-
--- a group of buffers as the definitions have it
-abbrev pub group_view : GroupConf → Group
-group_view group = record { name = group.name; buffers = group.buffers.items; mode = group.mode }
+use Rattle.relay_conf.specs.Places.{group_view, numbered_buffers, groups_over}
 
 -- the settings of cycbuff.conf as the definitions have them
 abbrev pub buffers_view : Buffers → CycbuffSettings
 buffers_view settings =
     record { buffers = settings.buffers.items; groups = map group_view settings.groups.items }
+
+-- the buffers as the definitions of places have them: each with its number, its blocks, and its
+-- first begin in cycle 0
+abbrev pub places_of_buffers : Buffers → List Buffer
+places_of_buffers settings = numbered_buffers settings.buffers.items
+
+-- the groups as the definitions of places have them, their buffers among those
+abbrev pub places_of_groups : Buffers → List places.Group
+places_of_groups settings = groups_over settings.buffers.items (map group_view settings.groups.items)
 
 -- a line of cycbuff.conf as the definitions have it
 abbrev pub cycbuff_view : Line → CycbuffLine

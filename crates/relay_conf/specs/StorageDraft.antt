@@ -14,7 +14,7 @@ use Rattle.relay_conf.specs.declared.storage.StorageDraft.{StorageDraft}
 use Rattle.relay_conf.specs.Cycbuff.{Group}
 use Rattle.relay_conf.specs.Drafts.{ReadingGives, late_or}
 use Rattle.relay_conf.specs.Faults.{fault_or_later, first_fault, whole_fault, unless_fault}
-use Rattle.relay_conf.specs.Settings.{group_view}
+use Rattle.relay_conf.specs.Settings.{buffers_view}
 use Rattle.relay_conf.specs.Storage.{entry_view}
 use Rattle.relay_conf.specs.StorageLines.{StorageLine, RawLine, SaidLine, RawSays, Skipped, Opens}
 use Rattle.relay_conf.specs.StorageLines.{Closes, Ends, ClassLine, NewsgroupsLine, OptionsLine}
@@ -46,7 +46,7 @@ stand_view e =
 abbrev pub draft_view : StorageDraft → Reading
 draft_view d =
     record {
-      groups = map group_view d.groups.now;
+      groups = (buffers_view d.buffers.now).groups;
       entries = map entry_view d.methods.items;
       place = d.place;
       stand = stand_view d.entry;
@@ -139,7 +139,7 @@ pub record IsReadingOf (said : List SaidLine) (r : Reading) : Type 0 where
 
 -- a draft is that of these lines, over these groups
 pub record IsDraftOf (groups : List Group) (said : List SaidLine) (d : StorageDraft) : Type 0 where
-  pub over : map group_view d.groups.now ≡ groups
+  pub over : (buffers_view d.buffers.now).groups ≡ groups
   pub reading : IsReadingOf said (draft_view d)
 
 -- what a reading without early fault says

@@ -6,7 +6,7 @@ use Rattle.relay_conf.specs.declared.faults.LineFault.{LineFault}
 use Rattle.relay_conf.specs.declared.faults.ConfError.{ConfError}
 use Rattle.relay_conf.specs.declared.storage_lines.Line.{Line}
 use Rattle.relay_conf.specs.declared.storage_lines.Line.TheVariants as lines
-use Rattle.relay_conf.specs.declared.storage.Method.{Method}
+use Rattle.relay_conf.specs.declared.settings.Method.{Method}
 use Rattle.std.specs.Global.{Vec}
 use Rattle.relay_conf.specs.Cycbuff.{Group}
 use Rattle.relay_conf.specs.LineByLine.{SayTogether, HaveFault, LinesGive}

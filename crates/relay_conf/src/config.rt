@@ -1,23 +1,16 @@
 //! The whole configuration.
-ghost use Rattle.std.specs.Prelude.{◌≡◌, map, IfOk, IfErr};
+ghost use Rattle.std.specs.Prelude.{◌≡◌, ◌<◌, All, length, map, IfOk, IfErr};
 ghost use Rattle.relay_conf.specs.K1 as terms;
 ghost use Rattle.relay_conf.specs.RelayViews.{relay_view};
 ghost use Rattle.relay_conf.specs.Settings.{buffers_view};
 ghost use Rattle.relay_conf.specs.Storage.{entry_view};
 
-use crate::cycbuff::{Buffers, read_cycbuff};
+use crate::cycbuff::read_cycbuff;
 use crate::faults::ConfError;
-use crate::relay::{Relay, read_relay};
-use crate::storage::{Method, read_storage};
+use crate::relay::read_relay;
+use crate::settings::{Buffers, Config, Method, Relay};
+use crate::storage::read_storage;
 use std::alloc::Global;
-
-/// The settings of the three files.
-#[derive(Debug, Drop)]
-pub struct Config {
-    pub buffers: Buffers,
-    pub methods: Vec<Method>,
-    pub relay: Relay,
-}
 
 /// The text of cycbuff.conf in K1 (docs/FORMATS.md, K1).
 pub const K1_CYCBUFF: &[u8] = b"cycbuff:A:a.buf:4\nmetacycbuff:G:A\n";
@@ -41,6 +34,8 @@ fn k1_buffers(alloc: Global) -> Result<Buffers, ConfError>
 fn k1_methods(alloc: Global, buffers: &Buffers) -> Result<Vec<Method>, ConfError>
     requires { buffers_view buffers.now ≡ terms.k1_buffers }
     ensures gives { IfOk result (λ methods. map entry_view methods.items ≡ terms.k1_entries) }
+    ensures grouped { IfOk result (λ methods.
+        All (λ method. method.group < length buffers.now.groups.items) methods.items) }
     ensures memory { IfErr result (λ error. error ≡ ConfError.Memory) }
 {
     read_storage(alloc, K1_STORAGE, buffers)
@@ -57,6 +52,20 @@ fn k1_relay(alloc: Global) -> Result<Relay, ConfError>
 impl Config {
     ghost use Rattle.relay_conf.specs.K1.{IsK1};
 
+    /// The configuration of these settings, where each entry goes to one of the groups.
+    pub fn new(buffers: Buffers, methods: Vec<Method>, relay: Relay) -> Config
+        requires { All (λ method. method.group < length buffers.groups.items) methods.items }
+        ensures buffers { result.buffers ≡ buffers }
+        ensures methods { result.methods ≡ methods }
+        ensures relay { result.relay ≡ relay }
+    {
+        Config {
+            buffers,
+            methods,
+            relay,
+        }
+    }
+
     /// The configuration K1, which is built in. Its texts have no fault: what fails is memory.
     pub fn k1(alloc: Global) -> Result<Config, ConfError>
         ensures gives { IfOk result IsK1 }
@@ -65,10 +74,6 @@ impl Config {
         let buffers = k1_buffers(alloc)?;
         let methods = k1_methods(alloc, &buffers)?;
         let relay = k1_relay(alloc)?;
-        Ok(Config {
-            buffers,
-            methods,
-            relay,
-        })
+        Ok(Config::new(buffers, methods, relay))
     }
 }

@@ -10,13 +10,15 @@ ghost use Rattle.relay_conf.specs.Cycbuff as terms;
 ghost use Rattle.relay_conf.specs.CycbuffDraft.{HasBuffers, HasGroups};
 ghost use Rattle.relay_conf.specs.Faults.{ConfGives, LineGives};
 ghost use Rattle.relay_conf.specs.Lines.{lines_of};
-ghost use Rattle.relay_conf.specs.Settings.{buffers_view, group_view};
+ghost use Rattle.relay_conf.specs.Places.{group_view};
+ghost use Rattle.relay_conf.specs.Settings.{buffers_view};
 ghost use Rattle.line_words.specs.Parts.{parts};
 
 use crate::cycbuff_lines::{Line, cycbuff_line};
 use crate::drafts::{LineByLine, read_lines};
 use crate::faults::{ConfError, Fault, LineFault, Refusal};
 use crate::lines::lines_of;
+use crate::settings::Buffers;
 use line_words::{Octets, cut};
 use std::alloc::{AllocError, Global};
 
@@ -43,14 +45,6 @@ pub struct GroupConf {
     pub name: Octets,
     pub buffers: Vec<usize>,
     pub mode: Mode,
-}
-
-/// The settings of cycbuff.conf. Buffers and groups are numbered from 0, each in the order of their
-/// lines.
-#[derive(Debug, Drop)]
-pub struct Buffers {
-    pub buffers: Vec<BufferConf>,
-    pub groups: Vec<GroupConf>,
 }
 
 /// Reads the text of cycbuff.conf.

@@ -1,9 +1,12 @@
-//! Laws of what the files say: nothing of the code stands on them.
-ghost use Rattle.std.specs.Prelude.{◌≡◌, ◌↔◌, ℕ, List, [], ◌∷◌, ◌++◌, Ok, IsTrue, All};
+//! Laws of what the files say, and of the settings that are read of them. Nothing of the code stands
+//! on them; other crates take from them what holds of each value of the settings.
+ghost use Rattle.std.specs.Prelude.{◌≡◌, ◌↔◌, ◌≤◌, ◌<◌, ◌^◌, ℕ, List, [], ◌∷◌, ◌++◌, Ok, IsTrue};
+ghost use Rattle.std.specs.Prelude.{All, length, map};
 ghost use Rattle.std.specs.List.{list_all};
 ghost use Rattle.news_terms.specs.Article.{line_feed, without_outer_white};
 ghost use Rattle.news_terms.specs.Lines.{crlf};
 ghost use Rattle.news_terms.specs.Path.{is_agent, path_identities};
+ghost use Rattle.news_terms.specs.Settings.{AreSound};
 ghost use Rattle.news_terms.specs.StorageClass.{Entry};
 ghost use Rattle.std.specs.Str.{byte};
 ghost use Rattle.relay_conf.specs.Cycbuff.{Group, CycbuffSettings, cycbuff_of};
@@ -12,11 +15,17 @@ ghost use Rattle.relay_conf.specs.Lines.{lines_of, joined_by, is_line};
 ghost use Rattle.line_words.specs.Comments.{is_skipped};
 ghost use Rattle.relay_conf.specs.Readings.{RelayHasReading, StorageHasReading};
 ghost use Rattle.relay_conf.specs.Relay.{RelaySettings};
+ghost use Rattle.relay_conf.specs.RelayViews.{relay_view};
 ghost use Rattle.relay_conf.specs.RelayViews as relay;
+ghost use Rattle.relay_conf.specs.Settings.{places_of_buffers, places_of_groups};
+ghost use Rattle.relay_conf.specs.SoundRelay.{IsSoundRelay};
+ghost use Rattle.relay_conf.specs.Storage.{entry_view};
 ghost use Rattle.relay_conf.specs.StorageViews as storage;
 ghost use Rattle.relay_conf.specs.Words.{is_identity};
 ghost use Rattle.relay_conf.specs.declared.config.TheConstants.{K1_CYCBUFF, K1_STORAGE, K1_RELAY};
 ghost use Rattle.relay_conf.specs.declared.faults.LineFault.{LineFault};
+
+use crate::settings::{Buffers, Config, Relay};
 
 /// Lines joined by LF are the lines of that text.
 pub fn lines_joined_by_line_feeds()
@@ -107,4 +116,24 @@ pub fn identities_are_of_agents()
 pub fn identities_stand_in_paths()
     ensures { (identity more : List ℕ) → IsTrue (is_identity identity)
         → path_identities (identity ++ byte "!" ∷ more) ≡ identity ∷ path_identities more }
+{}
+
+/// The buffers and groups of cycbuff.conf are sound, whatever it says, and there are at most 256 of
+/// each.
+pub fn buffers_are_sound(buffers: &Buffers)
+    ensures sound { AreSound (places_of_buffers buffers.now) (places_of_groups buffers.now) }
+    ensures few_buffers { length (places_of_buffers buffers.now) ≤ 256 }
+    ensures few_groups { length (places_of_groups buffers.now) ≤ 256 }
+{}
+
+/// The settings of relay.conf are sound, whatever it says.
+pub fn relay_is_sound(relay: &Relay)
+    ensures { IsSoundRelay (relay_view relay.now) }
+{}
+
+/// A token has room for the class of each entry, and its group is one of the groups.
+pub fn entries_are_sound(config: &Config)
+    ensures classes { All (λ entry. entry.class < 2 ^ 8) (map entry_view config.now.methods.items) }
+    ensures groups { All (λ entry. entry.group < length (places_of_groups config.now.buffers))
+        (map entry_view config.now.methods.items) }
 {}

@@ -4,10 +4,11 @@ ghost use Rattle.std.specs.Prelude.{IsTrue, Ok, OnOk};
 ghost use Rattle.std.specs.List.{list_any};
 ghost use Rattle.relay_conf.specs.Faults.{ConfGives, LineGives};
 ghost use Rattle.relay_conf.specs.Lines.{lines_of};
-ghost use Rattle.relay_conf.specs.Relay.{peer_fault};
+ghost use Rattle.relay_conf.specs.Relay.{RelaySettings, peer_fault};
 ghost use Rattle.relay_conf.specs.RelayDraft.{RelayStep, FeedStep, Lists, nothing, draft_view};
 ghost use Rattle.relay_conf.specs.RelayDraft.{draft_said, named_said, known_number, with_peers};
 ghost use Rattle.relay_conf.specs.RelayViews.{relay_view, raw_view, IsNamed, RelayGives};
+ghost use Rattle.relay_conf.specs.SoundRelay.{IsSoundRelay};
 ghost use Rattle.relay_conf.specs.Words.{is_name};
 
 use crate::drafts::{LineByLine, read_lines, set_once};
@@ -16,6 +17,7 @@ use crate::faults::{ConfError, Fault, LineFault, Refusal};
 use crate::lines::lines_of;
 use crate::names::NameSet;
 use crate::relay_lines::{Line, relay_line};
+use crate::settings::Relay;
 use line_words::Octets;
 use std::alloc::Global;
 use uwild::Expr;
@@ -35,22 +37,6 @@ pub struct Feed {
     pub peer: u16,
     pub ring: u32,
     pub expression: Expr,
-}
-
-/// The settings of relay.conf. Peers and feeds are numbered from 0, each in the order of their
-/// lines.
-#[derive(Debug, Drop)]
-pub struct Relay {
-    /// The relay's own identity.
-    pub own: Octets,
-    /// The octets of the largest article that is received.
-    pub max_article: u32,
-    /// The age in seconds past which an article is refused.
-    pub cutoff: u64,
-    /// The seconds after which an id may be forgotten; without it none is.
-    pub remember: Option<u64>,
-    pub peers: Vec<Peer>,
-    pub feeds: Vec<Feed>,
 }
 
 /// The articles' largest size without `maxart`.
@@ -204,7 +190,9 @@ impl RelayDraft {
 
 /// The settings, or the first fault that is looked for after the last line.
 fn finished(alloc: Global, draft: RelayDraft) -> Result<Relay, ConfError>
-    requires { length draft.peers.items ≤ 1024 }
+    requires few { length draft.peers.items ≤ 1024 }
+    requires sound { (settings : RelaySettings) → draft_said (draft_view draft) ≡ Ok settings
+        → IsSoundRelay settings }
     ensures { ConfGives relay_view result (draft_said (draft_view draft)) }
 {
     let RelayDraft {

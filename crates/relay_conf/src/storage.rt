@@ -5,7 +5,8 @@ ghost use Rattle.relay_conf.specs.Drafts.{late_or};
 ghost use Rattle.relay_conf.specs.Faults.{ConfGives, LineGives};
 ghost use Rattle.relay_conf.specs.Lines.{lines_of};
 ghost use Rattle.relay_conf.specs.Relay.{once};
-ghost use Rattle.relay_conf.specs.Settings.{buffers_view, group_view};
+ghost use Rattle.relay_conf.specs.Places.{group_view};
+ghost use Rattle.relay_conf.specs.Settings.{buffers_view};
 ghost use Rattle.relay_conf.specs.Storage.{entry_view};
 ghost use Rattle.relay_conf.specs.StorageDraft.{StorageStep, NewsgroupsStep, draft_view};
 ghost use Rattle.relay_conf.specs.StorageDraft.{stand_view, nothing, no_lines, opened, closed};
@@ -14,27 +15,16 @@ ghost use Rattle.relay_conf.specs.StorageFile as terms;
 ghost use Rattle.relay_conf.specs.StorageLines.{Closes};
 ghost use Rattle.relay_conf.specs.StorageViews.{StorageGives, raw_view};
 
-use crate::cycbuff::{Buffers, GroupConf};
+use crate::cycbuff::GroupConf;
 use crate::drafts::{LineByLine, read_lines, set_once};
 use crate::expressions::expression_of;
 use crate::faults::{ConfError, Fault, LineFault, Refusal};
 use crate::lines::lines_of;
+use crate::settings::{Buffers, Method};
 use crate::storage_lines::{Line, Place, Sizes, storage_line};
 use std::alloc::Global;
 use std::mem;
 use uwild::Expr;
-
-/// An entry of storage.conf: the articles that it takes, their class, and the number of the group
-/// of buffers that they go to. Sizes are in octets, both ends included; no upper limit is `None`.
-#[derive(Debug, Drop)]
-pub struct Method {
-    pub class: u8,
-    pub newsgroups: Expr,
-    pub group: usize,
-    pub smallest: u64,
-    pub largest: Option<u64>,
-    pub exactmatch: bool,
-}
 
 /// The sizes without `size`.
 const EVERY_SIZE: Sizes = Sizes {
@@ -47,15 +37,15 @@ pub fn read_storage(alloc: Global, text: &[u8], buffers: &Buffers) -> Result<Vec
     ensures { StorageGives result (buffers_view buffers.now).groups (lines_of text.now) }
 {
     let lines = lines_of(alloc, text)?;
-    let draft = read_lines(alloc, StorageDraft::new(alloc, &buffers.groups), &lines)?;
+    let draft = read_lines(alloc, StorageDraft::new(alloc, buffers), &lines)?;
     finished(draft)
 }
 
 /// What the lines so far say.
 #[derive(Drop)]
 pub(crate) struct StorageDraft<'a> {
-    /// The groups of cycbuff.conf.
-    groups: &'a [GroupConf],
+    /// What cycbuff.conf says.
+    buffers: &'a Buffers,
     methods: Vec<Method>,
     /// Where the next line stands.
     place: Place,
@@ -70,7 +60,7 @@ pub(crate) struct StorageDraft<'a> {
 pub(crate) struct OpenEntry {
     class: Option<u8>,
     newsgroups: Option<Expr>,
-    group: Option<usize>,
+    group: Option<u16>,
     sizes: Option<Sizes>,
     exactmatch: Option<bool>,
 }
@@ -116,11 +106,11 @@ impl<'a> LineByLine for StorageDraft<'a> {
 }
 
 impl<'a> StorageDraft<'a> {
-    fn new(alloc: Global, groups: &'a [GroupConf]) -> StorageDraft<'a>
-        ensures { draft_view result ≡ no_lines (map group_view groups.now) }
+    fn new(alloc: Global, buffers: &'a Buffers) -> StorageDraft<'a>
+        ensures { draft_view result ≡ no_lines (buffers_view buffers.now).groups }
     {
         StorageDraft {
-            groups,
+            buffers,
             methods: Vec::new(alloc),
             place: Place::Outside,
             entry: OpenEntry::new(),
@@ -197,9 +187,9 @@ impl<'a> StorageDraft<'a> {
         ensures group { OnOk result (draft_view self.new
             ≡ grouped number (draft_view self.old) name.now) }
     {
-        let group = group_number(self.groups, name);
+        let group = group_number(self.buffers, name);
         set_once(&mut self.entry.group, group)?;
-        if group >= self.groups.len() {
+        if usize::from(group) >= self.buffers.groups.len() {
             self.note(number);
         }
         Ok(())
@@ -248,7 +238,14 @@ fn method_of(entry: OpenEntry) -> Result<Method, Refusal>
 }
 
 /// The number of the group of a name: how many stand before the first of that name.
-fn group_number(groups: &[GroupConf], name: &[u8]) -> usize
+fn group_number(buffers: &Buffers, name: &[u8]) -> u16
+    ensures { result ≡ terms.group_number (buffers_view buffers.now).groups name.now }
+{
+    place_of_group(&buffers.groups, name) as u16
+}
+
+/// The place of the first group of a name, or how many there are.
+fn place_of_group(groups: &[GroupConf], name: &[u8]) -> usize
     ensures { result ≡ terms.group_number (map group_view groups.now) name.now }
 {
     groups
@@ -263,7 +260,7 @@ fn finished(draft: StorageDraft<'_>) -> Result<Vec<Method>, ConfError>
         (draft_said (draft_view draft.entry)) }
 {
     let StorageDraft {
-        groups: _,
+        buffers: _,
         methods,
         place,
         entry: _,

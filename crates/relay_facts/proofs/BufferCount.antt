@@ -15,7 +15,8 @@ use Rattle.news_terms.specs.Fronts.{HasOwnNumbers}
 use Rattle.news_terms.specs.Places.{Buffer, Group}
 use Rattle.relay_model.specs.Counted.{sum_below}
 use Rattle.relay_model.specs.Terms.{Terms}
-use Rattle.relay_facts.specs.Sound.{IsBufferAt, IsSound, IsSoundBuffer}
+use Rattle.news_terms.specs.Settings.{IsBufferAt, IsSoundBuffer}
+use Rattle.relay_facts.specs.Sound.{IsSound}
 
 -- what is within a list is there
 pub there_within : {X : Type 0} (xs : List X) (i : ℕ) → i < length xs
@@ -35,18 +36,18 @@ holds_there P xs all i x there =
     subst P (get_or_from_slice_get xs i x x there) (all i x (slice_get_within xs i x there))
 
 -- a buffer of a group is sound
-pub buffer_sound : (w : Terms) → IsSound w → (g i : ℕ) (buffer : Buffer) → IsBufferAt w g i buffer
-    → IsSoundBuffer buffer
+pub buffer_sound : (w : Terms) → IsSound w → (g i : ℕ) (buffer : Buffer)
+    → IsBufferAt w.groups g i buffer → IsSoundBuffer buffer
 buffer_sound w sound g i buffer at =
-    let among = sound.named g i buffer at in
-    holds_there IsSoundBuffer w.buffers sound.buffers among.0 buffer among.1
+    let among = sound.places.named g i buffer at in
+    holds_there IsSoundBuffer w.buffers sound.places.buffers among.0 buffer among.1
 
 -- the numbers of a group's buffers are its own
 pub own_numbers : (w : Terms) → IsSound w → (g : ℕ) (group : Group)
     → slice_get w.groups g ≡ Some group → HasOwnNumbers group
 own_numbers w sound g group there = record {
   own = λ i j a b at_i at_j same.
-      (sound.once g g i j a b (record { group = group; is_group = there; is_buffer = at_i })
+      (sound.places.once g g i j a b (record { group = group; is_group = there; is_buffer = at_i })
       (record { group = group; is_group = there; is_buffer = at_j }) same).1;
 }
 
@@ -64,7 +65,7 @@ record Is_before (w : Terms) (n i number : ℕ) : Type 0 where
   g : ℕ
   j : ℕ
   buffer : Buffer
-  at : IsBufferAt w g j buffer
+  at : IsBufferAt w.groups g j buffer
   is : buffer.number ≡ number
   before : (g < n) ⊎ ((g ≡ n) × (j < i))
 
@@ -76,11 +77,11 @@ record Numbers_before (w : Terms) (n i : ℕ) : Type 0 where
   each : All (Is_before w n i) numbers
 
 -- a buffer's number isn't one of those before it
-is_new : (w : Terms) → IsSound w → (n i : ℕ) (buffer : Buffer) → IsBufferAt w n i buffer
+is_new : (w : Terms) → IsSound w → (n i : ℕ) (buffer : Buffer) → IsBufferAt w.groups n i buffer
     → (number : ℕ) → Is_before w n i number → nat_eq buffer.number number ≡ false
 is_new w sound n i buffer at number earlier =
     ne_eqb buffer.number number (λ e. by_place
-    (sound.once n earlier.g i earlier.j buffer earlier.buffer at earlier.at
+    (sound.places.once n earlier.g i earlier.j buffer earlier.buffer at earlier.at
     (e ∙ sym earlier.is)) earlier.before)
   where
     by_place : (n ≡ earlier.g) × (i ≡ earlier.j)
@@ -105,7 +106,7 @@ goes_on w n i number earlier = record {
     by_place (inr index) = inr (index.0, omega (arith, index.1))
 
 -- one more buffer of the group
-next_buffer : (w : Terms) → IsSound w → (n i : ℕ) (buffer : Buffer) → IsBufferAt w n i buffer
+next_buffer : (w : Terms) → IsSound w → (n i : ℕ) (buffer : Buffer) → IsBufferAt w.groups n i buffer
     → Numbers_before w n i → Numbers_before w n (i + 1)
 next_buffer w sound n i buffer at is = record {
   numbers = is.numbers ++ buffer.number ∷ [];

@@ -26,7 +26,8 @@ begun_below w sound x well (suc n) within =
       arith,
       begun_below w sound x well n (omega (arith, within)),
       begun_bounded one.0 (own_numbers w sound n one.0 one.1)
-          (holds_there (λ group. 1 ≤ length group.buffers) w.groups sound.filled n one.0 one.1)
+          (holds_there (λ group. 1 ≤ length group.buffers) w.groups sound.places.filled n one.0
+          one.1)
           (λ i buffer there. (buffer_sound w sound n i buffer
           (record { group = one.0; is_group = one.1; is_buffer = there })).most)
           (x.state.begun n) (well.sized.begun n one.0 one.1) (well.counted.in_time n one.0 one.1),

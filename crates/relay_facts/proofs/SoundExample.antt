@@ -6,9 +6,10 @@ use Rattle.std.proofs.lemmas.Option.{same_Some, slice_get_within}
 use Rattle.std.specs.Prelude.{IsTrue, codes}
 use Rattle.news_terms.specs.Path.{is_agent}
 use Rattle.news_terms.specs.Places.{Buffer, Group}
+use Rattle.news_terms.specs.Settings.{AreSound, IsBufferAt, IsSoundBuffer}
 use Rattle.news_terms.specs.StorageClass.{Entry}
 use Rattle.relay_model.specs.Terms.{FeedTerms}
-use Rattle.relay_facts.specs.Sound.{IsSound, IsBufferAt, IsSoundBuffer}
+use Rattle.relay_facts.specs.Sound.{IsSound}
 use Rattle.relay_facts.specs.SoundExample.{sound_terms, one_buffer, one_group, one_entry, one_feed}
 
 -- one element is at 0
@@ -24,7 +25,7 @@ one_of : {X : Type 0} (P : X → Type 0) (a : X) → P a → All P (a ∷ [])
 one_of P a p = All-cons P a [] p (All-nil P)
 
 -- where a buffer of a group is
-placed : (g i : ℕ) (buffer : Buffer) → IsBufferAt sound_terms g i buffer
+placed : (g i : ℕ) (buffer : Buffer) → IsBufferAt sound_terms.groups g i buffer
     → (g ≡ 0) × (i ≡ 0) × (one_buffer ≡ buffer)
 placed g i buffer at =
     let group = only one_group at.group g at.is_group in
@@ -36,9 +37,9 @@ placed g i buffer at =
           i here,
     )
 
--- the terms are sound
-pub are_sound : IsSound sound_terms
-are_sound = record {
+-- the buffers and groups are sound
+sound_places : AreSound sound_terms.buffers sound_terms.groups
+sound_places = record {
   buffers = one_of IsSoundBuffer one_buffer
       (record { number = omega arith; some = omega arith; most = omega arith });
   apart = λ i j a b at other same. first one_buffer a i at ∙ sym (first one_buffer b j other);
@@ -48,6 +49,12 @@ are_sound = record {
       let one = placed g i a at in
       let two = placed h j b other in
       (one.0 ∙ sym two.0, one.1 ∙ sym two.1);
+}
+
+-- the terms are sound
+pub are_sound : IsSound sound_terms
+are_sound = record {
+  places = sound_places;
   classes = one_of (λ (entry : Entry). entry.class < 2 ^ 8) one_entry (omega arith);
   rings = one_of (λ (feed : FeedTerms). 1 ≤ feed.ring) one_feed (omega arith);
   own_feed = λ i j a b at other same. first one_feed a i at ∙ sym (first one_feed b j other);

@@ -14,7 +14,8 @@ use Rattle.relay_model.specs.Fetches.{extents_from, front_of}
 use Rattle.relay_model.specs.State.{State}
 use Rattle.relay_model.specs.State.{put_at}
 use Rattle.relay_model.specs.Terms.{Terms}
-use Rattle.relay_facts.specs.Sound.{IsBufferAt, IsSound}
+use Rattle.news_terms.specs.Settings.{IsBufferAt}
+use Rattle.relay_facts.specs.Sound.{IsSound}
 use Rattle.relay_facts.proofs.Puts.{put_at_here, put_at_there}
 
 -- no buffer of the group has this number
@@ -91,15 +92,15 @@ only_group buffer i (first ∷ groups) begun front (suc j) group there others =
 
 -- the front of a buffer of a group, by what the group began
 pub front_in_group : (w : Terms) → IsSound w → (σ : State) (g i : ℕ) (buffer : Buffer)
-    → (at : IsBufferAt w g i buffer)
+    → (at : IsBufferAt w.groups g i buffer)
     → front_of w σ buffer ≡ front_after buffer (extents at.group (σ.begun g))
 front_in_group w sound σ g i buffer at =
     only_group buffer 0 w.groups σ.begun (on_line buffer.blocks buffer.first_cycle 0) g at.group
     at.is_group
     (λ h other there differs j one is same.
     differs
-    (sound.once h g j i one buffer (record { group = other; is_group = there; is_buffer = is }) at
-    same).0)
+    (sound.places.once h g j i one buffer
+    (record { group = other; is_group = there; is_buffer = is }) at same).0)
     ∙ ap (λ n. front_after buffer (extents at.group (σ.begun n))) (zero-add g)
 
 -- one more article elsewhere leaves the front of a buffer

@@ -5,7 +5,8 @@ use Rattle.std.proofs.Common.{eq-eqb}
 use Rattle.std.proofs.lemmas.Option.{none-some, same_Some}
 use Rattle.news_terms.specs.Places.{Buffer}
 use Rattle.relay_model.specs.Terms.{Terms}
-use Rattle.relay_facts.specs.Sound.{IsBufferAt, IsSound}
+use Rattle.news_terms.specs.Settings.{IsBufferAt}
+use Rattle.relay_facts.specs.Sound.{IsSound}
 
 -- what was found passes the test
 found_passes : {A : Type 0} (test : A → Bool) (xs : List A) (x : A) → find test xs ≡ Some x
@@ -51,11 +52,11 @@ named_number w number buffer named =
     (found_passes (λ (one : Buffer). one.number == number) w.buffers buffer named)
 
 -- a buffer of a group is the one that its number names
-pub named_in_group : (w : Terms) → IsSound w → (g i : ℕ) (buffer : Buffer) → IsBufferAt w g i buffer
-    → Named w buffer.number buffer
+pub named_in_group : (w : Terms) → IsSound w → (g i : ℕ) (buffer : Buffer)
+    → IsBufferAt w.groups g i buffer → Named w buffer.number buffer
 named_in_group w sound g i buffer at =
-    let there = sound.named g i buffer at in
+    let there = sound.places.named g i buffer at in
     only_found (λ (one : Buffer). one.number == buffer.number) w.buffers there.0 buffer there.1
     (eq-eqb buffer.number buffer.number refl)
     (λ j other is same.
-    sound.apart j there.0 other buffer is there.1 (eqb-true other.number buffer.number same))
+    sound.places.apart j there.0 other buffer is there.1 (eqb-true other.number buffer.number same))

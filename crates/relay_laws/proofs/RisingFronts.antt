@@ -16,7 +16,8 @@ use Rattle.relay_model.specs.Invariants.{IsSized, IsSoundArticle}
 use Rattle.relay_model.specs.State.{State, Job, put_at}
 use Rattle.relay_model.specs.Terms.{Terms}
 use Rattle.relay_model.specs.Writers.{Begins, job_size}
-use Rattle.relay_facts.specs.Sound.{IsBufferAt, IsSound}
+use Rattle.news_terms.specs.Settings.{IsBufferAt}
+use Rattle.relay_facts.specs.Sound.{IsSound}
 use Rattle.relay_facts.proofs.BufferCount.{own_numbers}
 use Rattle.relay_facts.proofs.Puts.{put_at_here}
 use Rattle.relay_laws.proofs.GroupFronts.{front_in_group, front_elsewhere}
@@ -49,7 +50,8 @@ begin_facts w σ τ job token begins sized =
 
 -- the buffer of the place
 abbrev place_at : (w : Terms) (σ : State) (job : Job) (place : Place)
-    → (facts : BeginFacts w σ job place) → IsBufferAt w job.article.group facts.index place.buffer
+    → (facts : BeginFacts w σ job place)
+    → IsBufferAt w.groups job.article.group facts.index place.buffer
 place_at w σ job place facts =
     record { group = facts.sound.group; is_group = facts.sound.there; is_buffer = facts.among }
 

@@ -5,7 +5,7 @@ use Rattle.std.specs.Prelude.{find}
 use Rattle.std.specs.Option.{option_map}
 use Rattle.std.proofs.lemmas.Bool.{cases_Bool}
 use Rattle.news_terms.specs.StorageClass.{takes, chosen_entry}
-use Rattle.relay_conf.specs.declared.storage.Method.{Method}
+use Rattle.relay_conf.specs.declared.settings.Method.{Method}
 use Rattle.relay_conf.specs.Storage.{entry_view}
 
 -- the first that passes among what a function gives

@@ -12,7 +12,7 @@ use uwild::Verdict;
 /// The class and the group of buffers of an article: those of the first entry whose conditions hold
 /// for its newsgroups and its size in octets (docs/FORMATS.md, Configuration). It takes no memory,
 /// and judges each newsgroup at most once for an entry.
-pub fn choose(methods: &[Method], groups: &[&[u8]], size: u64) -> Option<(u8, usize)>
+pub fn choose(methods: &[Method], groups: &[&[u8]], size: u64) -> Option<(u8, u16)>
     ensures { result ≡ option_map given
         (chosen_entry (map entry_view methods.now) (map octets_of groups.now) size) }
 {

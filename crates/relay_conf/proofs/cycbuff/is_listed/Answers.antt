@@ -2,7 +2,7 @@ use Rattle.std.proofs.Common.{rules, tests, ◌∙◌, sym, ◌==◌}
 use Rattle.std.specs.List.{list_any}
 use Rattle.std.proofs.lemmas.Iterator.{YieldsList-from_slice}
 use Rattle.std.proofs.lemmas.Iterator.Search.{any_from_yields_List}
-use Rattle.relay_conf.specs.Settings.{group_view}
+use Rattle.relay_conf.specs.Places.{group_view}
 use Rattle.relay_conf.proofs.Numbered.{list_any-map}
 use Rattle.relay_conf.proofs.cycbuff.is_listed.Goals as goal
 

@@ -1,5 +1,5 @@
 use Rattle.std.proofs.Common.{◌∙◌, sym, map}
-use Rattle.relay_conf.specs.Settings.{group_view}
+use Rattle.relay_conf.specs.Places.{group_view}
 use Rattle.relay_conf.proofs.Numbered.{shared_step}
 use Rattle.relay_conf.proofs.cycbuff.is_shared.Goals as goal
 

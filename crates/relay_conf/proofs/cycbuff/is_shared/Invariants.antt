@@ -1,6 +1,6 @@
 use Rattle.std.proofs.Common.{◌≡◌, [], map, take, drop}
 use Rattle.relay_conf.specs.Cycbuff.{is_shared}
-use Rattle.relay_conf.specs.Settings.{group_view}
+use Rattle.relay_conf.specs.Places.{group_view}
 use Rattle.relay_conf.proofs.cycbuff.is_shared.Given as goal
 
 -- none of the numbers passed is listed already

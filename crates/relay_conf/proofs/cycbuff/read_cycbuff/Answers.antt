@@ -1,13 +1,17 @@
-use Rattle.std.proofs.Common.{◌≡◌, map, subst, List, ℕ, Ok, Err, Vec, Global, vec_items}
-use Rattle.relay_conf.specs.Cycbuff.{cycbuff_line, cycbuff_said, buffers_said, groups_said}
+use Rattle.std.proofs.Common.{◌≡◌, map, subst, List, ℕ, Ok, Err, Vec, Global, vec_items, arith}
+use Rattle.std.proofs.lemmas.List.{length-map}
+use Rattle.relay_conf.specs.Cycbuff.{cycbuff_line, cycbuff_said, cycbuff_of, buffers_said}
+use Rattle.relay_conf.specs.Cycbuff.{Group, groups_said}
 use Rattle.relay_conf.specs.Faults.{ConfGives}
 use Rattle.relay_conf.specs.Lines.{lines_of}
-use Rattle.relay_conf.specs.Settings.{buffers_view, group_view}
+use Rattle.relay_conf.specs.Places.{group_view}
+use Rattle.relay_conf.specs.Settings.{buffers_view}
 use Rattle.relay_conf.specs.declared.cycbuff.BufferConf.{BufferConf}
 use Rattle.relay_conf.specs.declared.cycbuff.GroupConf.{GroupConf}
 use Rattle.relay_conf.proofs.CycbuffReadings.{buffers_fault, groups_fault, cycbuff_done}
 use Rattle.relay_conf.proofs.FirstFaults.{handed_on}
 use Rattle.relay_conf.proofs.LinesRead.{read_of}
+use Rattle.relay_conf.proofs.SoundCycbuff.{cycbuff_is_sound}
 use Rattle.relay_conf.proofs.cycbuff.read_cycbuff.Goals as goal
 
 pub returns-in_err-buffers : goal.returns-in_err-buffers
@@ -43,18 +47,44 @@ returns-in_err-groups c =
     (read_of c.in_ok-lines.lines.items c.deref-2.result.now lines c.deref-2.ensures.value
     c.in_ok-lines.ensures) c.in_err-groups.ensures)))
 
+-- Buffers and groups that were read of the same lines are what these say.
+said : (lines read again : List (List ℕ)) (buffers known : List BufferConf) (groups : List Group)
+    → read ≡ lines → again ≡ lines → known ≡ buffers
+    → buffers_said (map cycbuff_line read) ≡ Ok buffers
+    → groups_said known (map cycbuff_line again) ≡ Ok groups
+    → cycbuff_of lines ≡ Ok (record { buffers = buffers; groups = groups })
+said lines read again buffers known groups once twice over one two =
+    cycbuff_done (map cycbuff_line lines) buffers groups
+    (subst (λ (text : List (List ℕ)). buffers_said (map cycbuff_line text) ≡ Ok buffers) once one)
+    (subst (λ (all : List BufferConf). groups_said all (map cycbuff_line lines) ≡ Ok groups) over
+    (subst (λ (text : List (List ℕ)). groups_said known (map cycbuff_line text) ≡ Ok groups) twice
+    two))
+
 pub returns : goal.returns
 returns c =
     let lines = lines_of c.args.text.now in
-    let groups = map group_view c.in_ok-groups.groups.items in
-    cycbuff_done (map cycbuff_line lines) c.in_ok-buffers.buffers.items groups
-    (subst (λ (read : List (List ℕ)).
-    buffers_said (map cycbuff_line read) ≡ Ok c.in_ok-buffers.buffers.items)
+    said lines _ _ c.in_ok-buffers.buffers.items
+    c.deref-3.result.now (map group_view c.in_ok-groups.groups.items)
     (read_of c.in_ok-lines.lines.items c.deref.result.now lines c.deref.ensures.value
-    c.in_ok-lines.ensures) c.in_ok-buffers.ensures)
-    (subst (λ (known : List BufferConf). groups_said known (map cycbuff_line lines) ≡ Ok groups)
-    c.deref-3.ensures.value
-    (subst (λ (read : List (List ℕ)).
-    groups_said c.deref-3.result.now (map cycbuff_line read) ≡ Ok groups)
+    c.in_ok-lines.ensures)
     (read_of c.in_ok-lines.lines.items c.deref-2.result.now lines c.deref-2.ensures.value
-    c.in_ok-lines.ensures) c.in_ok-groups.ensures))
+    c.in_ok-lines.ensures)
+    c.deref-3.ensures.value c.in_ok-buffers.ensures c.in_ok-groups.ensures
+
+pub invariant_of-result : goal.invariant_of-result
+invariant_of-result c =
+    let lines = lines_of c.args.text.now in
+    let sound = cycbuff_is_sound lines _
+    (said lines _ _ c.in_ok-buffers.buffers.items
+    c.deref-3.result.now (map group_view c.in_ok-groups.groups.items)
+    (read_of c.in_ok-lines.lines.items c.deref.result.now lines c.deref.ensures.value
+    c.in_ok-lines.ensures)
+    (read_of c.in_ok-lines.lines.items c.deref-2.result.now lines c.deref-2.ensures.value
+    c.in_ok-lines.ensures)
+    c.deref-3.ensures.value c.in_ok-buffers.ensures c.in_ok-groups.ensures) in
+    record {
+      sound = sound.sound;
+      few_buffers = sound.few_buffers;
+      few_groups = omega (arith, sound.few_groups,
+          length-map c.in_ok-groups.groups.items group_view);
+    }

@@ -2,7 +2,7 @@ use Rattle.std.proofs.Common.{map, Vec, Global, List, ℕ}
 use Rattle.std.specs.Borrow.{Bor}
 use Rattle.relay_conf.specs.Cycbuff.{late_fault}
 use Rattle.relay_conf.specs.CycbuffDraft.{HasGroups}
-use Rattle.relay_conf.specs.Settings.{group_view}
+use Rattle.relay_conf.specs.Places.{group_view}
 use Rattle.relay_conf.specs.declared.cycbuff.GroupConf.{GroupConf}
 use Rattle.relay_conf.proofs.CycbuffReadings.{draft_error, groups_done}
 use Rattle.relay_conf.proofs.cycbuff.read_groups.Goals as goal

@@ -1,12 +1,13 @@
-use Rattle.std.proofs.Common.{subst, map, List, ℕ, Err}
+use Rattle.std.proofs.Common.{◌∙◌, subst, map, List, ℕ, Err}
 use Rattle.std.specs.Borrow.{Bor}
 use Rattle.relay_conf.specs.Drafts.{DraftGives, IsDrawnFrom}
 use Rattle.relay_conf.specs.Lines.{lines_of}
 use Rattle.relay_conf.specs.Relay.{LineSays, early_fault, relay_said}
-use Rattle.relay_conf.specs.RelayDraft.{IsDraftOf}
+use Rattle.relay_conf.specs.RelayDraft.{IsDraftOf, draft_view}
 use Rattle.relay_conf.specs.RelayViews.{relay_view}
 use Rattle.relay_conf.proofs.LinesRead.{read_of, draft_fails}
-use Rattle.relay_conf.proofs.RelayReadings.{no_draft, relay_gives}
+use Rattle.relay_conf.proofs.RelayReadings.{no_draft, reading_says, relay_gives}
+use Rattle.relay_conf.proofs.SoundRelay.{relay_is_sound}
 use Rattle.relay_conf.proofs.relay.read_relay.Goals as goal
 
 pub returns-in_err-draft : goal.returns-in_err-draft
@@ -28,7 +29,17 @@ drawn : (c : goal.In_ok-draft)
 drawn c = c.in_ok-draft.ensures tt (no_draft c.new.result c.new.ensures.stand c.new.ensures.listed)
 
 pub finished-requires : goal.finished-requires
-finished-requires c = (drawn c).draws.reading.few
+finished-requires c =
+    let from = drawn c in
+    record {
+      few = from.draws.reading.few;
+      sound = λ settings e. relay_is_sound _ settings (record {
+        said = from.said;
+        says = from.says;
+        gives = reading_says from.said (draft_view c.in_ok-draft.draft) from.none from.draws.reading
+            ∙ e;
+      });
+    }
 
 pub returns : goal.returns
 returns c =

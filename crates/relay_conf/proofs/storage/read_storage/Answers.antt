@@ -2,12 +2,11 @@ use Rattle.std.proofs.Common.{◌≡◌, ◌∙◌, ap, subst, map, List, ℕ, E
 use Rattle.std.specs.Global.{Vec}
 use Rattle.relay_conf.specs.Drafts.{DraftGives, IsDrawnFrom}
 use Rattle.relay_conf.specs.Lines.{lines_of}
-use Rattle.relay_conf.specs.Settings.{group_view}
+use Rattle.relay_conf.specs.Settings.{buffers_view}
 use Rattle.relay_conf.specs.Storage.{entry_view}
 use Rattle.relay_conf.specs.StorageDraft.{draft_view, no_lines, IsDraftOf}
 use Rattle.relay_conf.specs.StorageFile.{LineSays, early_fault, storage_said}
-use Rattle.relay_conf.specs.declared.cycbuff.GroupConf.{GroupConf}
-use Rattle.relay_conf.specs.declared.storage.Method.{Method}
+use Rattle.relay_conf.specs.declared.settings.Method.{Method}
 use Rattle.relay_conf.proofs.LinesRead.{read_of, draft_fails}
 use Rattle.relay_conf.proofs.StorageReadings.{no_draft, storage_gives}
 use Rattle.relay_conf.proofs.storage.read_storage.Goals as goal
@@ -15,13 +14,11 @@ use Rattle.relay_conf.proofs.storage.read_storage.Goals as goal
 pub returns-in_err-draft : goal.returns-in_err-draft
 returns-in_err-draft c =
     let error = c.in_err-draft.field-0.0 in
-    let groups = map group_view c.args.buffers.now.groups.items in
-    let known : draft_view c.new.result ≡ no_lines groups =
-    c.new.ensures ∙ ap (λ (gs : List GroupConf). no_lines (map group_view gs)) c.deref.ensures.value
-    in
+    let groups = (buffers_view c.args.buffers.now).groups in
+    let known : draft_view c.new.result ≡ no_lines groups = c.new.ensures in
     let lines =
-    read_of c.in_ok-lines.lines.items c.deref-2.result.now (lines_of c.args.text.now)
-    c.deref-2.ensures.value c.in_ok-lines.ensures in
+    read_of c.in_ok-lines.lines.items c.deref.result.now (lines_of c.args.text.now)
+    c.deref.ensures.value c.in_ok-lines.ensures in
     draft_fails (λ (methods : Vec Method). map entry_view methods.items) LineSays
     (early_fault groups) (IsDraftOf groups) (storage_said groups) (lines_of c.args.text.now) error
     c.from_residual-in_err-draft.result c.from_residual-in_err-draft.ensures.1
@@ -31,13 +28,11 @@ returns-in_err-draft c =
 
 pub returns : goal.returns
 returns c =
-    let groups = map group_view c.args.buffers.now.groups.items in
-    let known : draft_view c.new.result ≡ no_lines groups =
-    c.new.ensures ∙ ap (λ (gs : List GroupConf). no_lines (map group_view gs)) c.deref.ensures.value
-    in
+    let groups = (buffers_view c.args.buffers.now).groups in
+    let known : draft_view c.new.result ≡ no_lines groups = c.new.ensures in
     let lines =
-    read_of c.in_ok-lines.lines.items c.deref-2.result.now (lines_of c.args.text.now)
-    c.deref-2.ensures.value c.in_ok-lines.ensures in
+    read_of c.in_ok-lines.lines.items c.deref.result.now (lines_of c.args.text.now)
+    c.deref.ensures.value c.in_ok-lines.ensures in
     storage_gives groups (lines_of c.args.text.now) c.in_ok-draft.draft c.finished.result
     (subst (λ (read : List (List ℕ)).
     IsDrawnFrom LineSays (early_fault groups) (IsDraftOf groups) read c.in_ok-draft.draft) lines

@@ -1,0 +1,28 @@
+use Rattle.std.proofs.Common.{◌<◌, ◌^◌, arith, get_or, length, map}
+use Rattle.std.proofs.lemmas.List.{length-map}
+use Rattle.std.proofs.lemmas.List.Elements.{All-map}
+use Rattle.news_terms.specs.StorageClass.{Entry}
+use Rattle.relay_conf.specs.Places.{group_over, group_view, numbered_buffers}
+use Rattle.relay_conf.specs.Settings.{places_of_groups}
+use Rattle.relay_conf.specs.Storage.{entry_view}
+use Rattle.relay_conf.proofs.laws.entries_are_sound.Goals as goal
+
+pub returns-clause-classes : goal.returns-clause-classes
+returns-clause-classes c =
+    let methods = c.args.config.now.methods.items in
+    All-map (λ (entry : Entry). entry.class < 2 ^ 8) entry_view methods
+    (λ k d within. (get_or methods k d).fits)
+
+pub returns-clause-groups : goal.returns-clause-groups
+returns-clause-groups c =
+    let config = c.args.config.now in
+    let groups = map group_view config.buffers.groups.items in
+    All-map (λ (entry : Entry). entry.group < length (places_of_groups config.buffers)) entry_view
+    config.methods.items
+    (λ k d within.
+    omega (
+      arith,
+      config.grouped k d within,
+      length-map groups (group_over (numbered_buffers config.buffers.buffers.items)),
+      length-map config.buffers.groups.items group_view,
+    ))

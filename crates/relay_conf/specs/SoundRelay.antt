@@ -1,0 +1,24 @@
+-- What holds of the settings of relay.conf, whatever it says (docs/FORMATS.md, Configuration).
+use Rattle.std.specs.Prelude.{◌≡◌, ℕ, ◌≤◌, ◌<◌, length, All, slice_get, Some, IsTrue}
+use Rattle.std.specs.Option.{ForSome}
+use Rattle.news_terms.specs.Path.{is_agent}
+use Rattle.relay_conf.specs.declared.relay.Feed.{Feed}
+use Rattle.relay_conf.specs.Relay.{RelaySettings}
+
+-- identities, peers, feeds and limits are as they may be configured
+pub record IsSoundRelay (settings : RelaySettings) : Type 0 where
+  -- the own identity and those of the peers may stand in a Path
+  pub own : IsTrue (is_agent settings.own)
+  pub identities : All (λ peer. IsTrue (is_agent peer.identity)) settings.peers
+  -- there are at most 1,024 peers
+  pub few_peers : length settings.peers ≤ 1024
+  -- a ring holds 1 to 65,536 tokens, and is of one of the peers, which has no other
+  pub rings : All (λ feed. (1 ≤ feed.ring) × (feed.ring ≤ 65536)) settings.feeds
+  pub of_peers : All (λ feed. feed.peer < length settings.peers) settings.feeds
+  pub own_feed : (i j : ℕ) (a b : Feed) → slice_get settings.feeds i ≡ Some a
+      → slice_get settings.feeds j ≡ Some b → a.peer ≡ b.peer → i ≡ j
+  -- the limits are in their ranges
+  pub some_octets : 1 ≤ settings.max_article
+  pub most_octets : settings.max_article ≤ 16777216
+  pub cutoff : settings.cutoff ≤ 4000000000
+  pub remember : ForSome settings.remember (λ seconds. seconds ≤ 4000000000)

@@ -1,0 +1,74 @@
+//! The settings of the configuration's files, with what holds of each value of them (docs/FORMATS.md,
+//! Configuration).
+ghost use Rattle.std.specs.Prelude.{◌≤◌, ◌<◌, ◌^◌, All, length, map};
+ghost use Rattle.std.proofs.Props.{props};
+ghost use Rattle.news_terms.specs.Settings.{AreSound};
+ghost use Rattle.news_terms.proofs.OneSoundness.{AreSound-prop};
+ghost use Rattle.relay_conf.specs.Places.{group_view, groups_over, numbered_buffers};
+ghost use Rattle.relay_conf.specs.SoundRelay.{IsSoundRelay};
+
+use crate::cycbuff::{BufferConf, GroupConf};
+use crate::relay::{Feed, Peer};
+use line_words::Octets;
+use uwild::Expr;
+
+/// The settings of cycbuff.conf. Buffers and groups are numbered from 0, each in the order of their
+/// lines.
+#[derive(Debug, Drop)]
+pub struct Buffers {
+    pub buffers: Vec<BufferConf>,
+    pub groups: Vec<GroupConf>,
+    pub ghost sound: { AreSound (numbered_buffers buffers.items)
+        (groups_over buffers.items (map group_view groups.items)) }
+        by { AreSound-prop (numbered_buffers buffers.items)
+        (groups_over buffers.items (map group_view groups.items)) },
+    pub ghost few_buffers: { length buffers.items ≤ 256 },
+    pub ghost few_groups: { length groups.items ≤ 256 },
+}
+
+/// An entry of storage.conf: the articles that it takes, their class, and the number of the group
+/// of buffers that they go to. Sizes are in octets, both ends included; no upper limit is `None`.
+#[derive(Debug, Drop)]
+pub struct Method {
+    pub class: u8,
+    pub newsgroups: Expr,
+    pub group: u16,
+    pub smallest: u64,
+    pub largest: Option<u64>,
+    pub exactmatch: bool,
+    pub ghost fits: { class < 2 ^ 8 },
+}
+
+/// The settings of relay.conf. Peers and feeds are numbered from 0, each in the order of their
+/// lines.
+#[derive(Debug, Drop)]
+pub struct Relay {
+    /// The relay's own identity.
+    pub own: Octets,
+    /// The octets of the largest article that is received.
+    pub max_article: u32,
+    /// The age in seconds past which an article is refused.
+    pub cutoff: u64,
+    /// The seconds after which an id may be forgotten; without it none is.
+    pub remember: Option<u64>,
+    pub peers: Vec<Peer>,
+    pub feeds: Vec<Feed>,
+    pub ghost sound: { IsSoundRelay (record {
+      own = own;
+      max_article = max_article;
+      cutoff = cutoff;
+      remember = remember;
+      peers = peers.items;
+      feeds = feeds.items;
+    }) } by { Prim.hlevel props },
+}
+
+/// The settings of the three files.
+#[derive(Debug, Drop)]
+pub struct Config {
+    pub buffers: Buffers,
+    pub methods: Vec<Method>,
+    pub relay: Relay,
+    pub ghost grouped: { All (λ method. method.group < length buffers.groups.items)
+        methods.items },
+}
