@@ -3,4 +3,3 @@ pub mod Histories
 pub mod Keeping
 pub mod Openings
 pub mod Reading
-pub mod Settings
