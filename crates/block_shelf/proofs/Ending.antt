@@ -134,14 +134,14 @@ module _ {S : Type 0} {g : Ghosts S} (trusted : Bool) (old : Shelf S g) (w : Ter
       (ap (slice_get old.buffers.items) number ∙ had.there))))
 
   -- each open write is in a buffer of its group, where this group's has ended
-  ended_opened : (k : ℕ) (other : Opening) → put_at openings h None k ≡ Some other
+  pub ended_opened : (k : ℕ) (other : Opening) → put_at openings h None k ≡ Some other
       → IsOpenIn w.groups k other
   ended_opened k other at =
       put_at_both (λ each. each ≡ Some other → IsOpenIn w.groups k other) openings h None k
       (λ same e. absurd (none-some other e)) (λ apart e. keeps.opened k other e) at
 
   -- another buffer isn't the one of this token
-  apart_of : (j : ℕ) (buffer : places.Buffer) → slice_get w.buffers j ≡ Some buffer
+  pub apart_of : (j : ℕ) (buffer : places.Buffer) → slice_get w.buffers j ≡ Some buffer
       → (j ≡ (token_in one).buffer → ⊥) → IsApart buffer.number (openings h)
   apart_of j buffer there apart other at here =
       apart (sym (keeps.numbered j buffer there) ∙ sym here

@@ -2,7 +2,7 @@
 use Rattle.std.proofs.Common.{◌≡◌, ◌∙◌, ℕ, ◌+◌, ◌==◌, ◌&&◌, Bool, true, false, refl, sym, ap, length}
 use Rattle.std.proofs.Common.{List, [], ◌∷◌, ◌++◌, Option, None, Some, if◌then◌else◌}
 use Rattle.std.proofs.lemmas.Bool.{cond-true, cond-false, and_parts, and_from, true≢false, eqb-true}
-use Rattle.std.proofs.lemmas.Bool.{eq-eqb}
+use Rattle.std.proofs.lemmas.Bool.{eq-eqb, ne_eqb}
 use Rattle.std.proofs.lemmas.List.Folds.{find-append}
 use Rattle.std.specs.Prelude.{find, option_map}
 use Rattle.cyc_buffer.specs.History.{Article, Begin, head_of, is_at, finished_at, text_of, token_at}
@@ -28,6 +28,21 @@ another (first ∷ kept) one t other =
         (if b then Some first else find (λ (each : Kept). same_token each.token t) kept)
     by true later = refl
     by false later = later
+
+-- a token of another buffer is another
+pub other_buffer : (kept : List Kept) (one : Kept) (t : Token)
+    → (one.token.buffer ≡ t.buffer → ⊥) → text_under (kept ++ one ∷ []) t ≡ text_under kept t
+other_buffer kept one t apart =
+    another kept one t
+    (by (one.token.class == t.class) (one.token.buffer == t.buffer)
+    (one.token.cycle == t.cycle) (one.token.first == t.first) (one.token.length == t.length)
+    (ne_eqb one.token.buffer t.buffer apart))
+  where
+    by : (class number cycle first octets : Bool) → number ≡ false
+        → (class && number && cycle && first && octets) ≡ false
+    by false number cycle first octets e = refl
+    by true false cycle first octets e = refl
+    by true true cycle first octets e = absurd (true≢false e)
 
 -- where nothing was found before, it is found if the token is its own
 newest : (kept : List Kept) (one : Kept) (t : Token) → text_under kept t ≡ None
@@ -59,6 +74,12 @@ same_tests true b on back = sym (on refl)
 same_tests false true on back = back refl
 same_tests false false on back = refl
 
+-- what was finished under a token in a buffer, by its begins
+abbrev pub under : Buffer → List Begin → Token → Option (List ℕ)
+under buffer begins t =
+    if t.buffer == buffer.number
+    then text_of t.class t.length (finished_at buffer begins t.cycle t.first) else None
+
 module _ (buffer : Buffer) (earlier : List Begin) (fresh : Bool) (size : ℕ) (article : Article)
     (one : Kept)
     (named : one.token ≡ token_at buffer
@@ -76,12 +97,6 @@ module _ (buffer : Buffer) (earlier : List Begin) (fresh : Bool) (size : ℕ) (a
   -- and after
   abbrev pub finished : Begin
   finished = record { size = size; fresh = fresh; finished = Some article }
-
-  -- what was finished under a token of this buffer, in these begins
-  abbrev pub under : List Begin → Token → Option (List ℕ)
-  under begins t =
-      if t.buffer == buffer.number
-      then text_of t.class t.length (finished_at buffer begins t.cycle t.first) else None
 
   -- the token is that of the article, where it has its place, its class and its length
   own_token : (t : Token) → (t.buffer == buffer.number) ≡ true
@@ -125,8 +140,8 @@ module _ (buffer : Buffer) (earlier : List Begin) (fresh : Bool) (size : ℕ) (a
 
   -- what is found in the history after the finish is what the relay keeps then
   pub finished_texts : (kept : List Kept) (t : Token) → t.buffer ≡ buffer.number
-      → under (unfinished ∷ earlier) t ≡ text_under kept t
-      → under (finished ∷ earlier) t ≡ text_under (kept ++ one ∷ []) t
+      → under buffer (unfinished ∷ earlier) t ≡ text_under kept t
+      → under buffer (finished ∷ earlier) t ≡ text_under (kept ++ one ∷ []) t
   finished_texts kept t here before =
       by (is_at buffer place t.cycle t.first) refl
     where
@@ -134,7 +149,7 @@ module _ (buffer : Buffer) (earlier : List Begin) (fresh : Bool) (size : ℕ) (a
       number = eq-eqb t.buffer buffer.number here
 
       own : is_at buffer place t.cycle t.first ≡ true
-          → under (finished ∷ earlier) t
+          → under buffer (finished ∷ earlier) t
           ≡ (if same_token one.token t then Some one.text else None)
       own at =
           cond-true (t.buffer == buffer.number) _ None number
@@ -145,7 +160,7 @@ module _ (buffer : Buffer) (earlier : List Begin) (fresh : Bool) (size : ℕ) (a
           ∙ ap (λ text. if same_token one.token t then Some text else None) (sym whole)
 
       nothing : is_at buffer place t.cycle t.first ≡ true
-          → under (unfinished ∷ earlier) t ≡ None
+          → under buffer (unfinished ∷ earlier) t ≡ None
       nothing at =
           cond-true (t.buffer == buffer.number) _ None number
           ∙ ap (text_of t.class t.length)
@@ -153,7 +168,7 @@ module _ (buffer : Buffer) (earlier : List Begin) (fresh : Bool) (size : ℕ) (a
           (finished_at buffer earlier t.cycle t.first) at)
 
       as_before : is_at buffer place t.cycle t.first ≡ false
-          → under (finished ∷ earlier) t ≡ under (unfinished ∷ earlier) t
+          → under buffer (finished ∷ earlier) t ≡ under buffer (unfinished ∷ earlier) t
       as_before at =
           ap (λ found. if t.buffer == buffer.number then text_of t.class t.length found else None)
           (cond-false (is_at buffer place t.cycle t.first) (Some article)
@@ -162,6 +177,6 @@ module _ (buffer : Buffer) (earlier : List Begin) (fresh : Bool) (size : ℕ) (a
           (finished_at buffer earlier t.cycle t.first) at))
 
       by : (b : Bool) → is_at buffer place t.cycle t.first ≡ b
-          → under (finished ∷ earlier) t ≡ text_under (kept ++ one ∷ []) t
+          → under buffer (finished ∷ earlier) t ≡ text_under (kept ++ one ∷ []) t
       by true at = own at ∙ sym (newest kept one t (sym before ∙ nothing at))
       by false at = as_before at ∙ before ∙ sym (another kept one t (other_token t at))

@@ -2,6 +2,7 @@
 use Rattle.std.proofs.Common.{◌≡◌, ◌∙◌, ℕ, ◌+◌, ◌<◌, ◌≤◌, ◌==◌, ◌||◌, not, nat_lt, nat_le, max}
 use Rattle.std.proofs.Common.{Bool, true, false, refl, sym, ap, subst, arith, length, zero, suc}
 use Rattle.std.proofs.Common.{List, [], ◌∷◌, Option, None, Some, slice_get, if◌then◌else◌, unwrap_or}
+use Rattle.std.proofs.Common.{is_some}
 use Rattle.std.proofs.lemmas.Bool.{cond-true, cond-false, eq-eqb, ne_eqb, leb-true}
 use Rattle.std.proofs.lemmas.Bool.{true≢false}
 use Rattle.std.specs.Prelude.{find}
@@ -66,7 +67,32 @@ module _ (buffer : Buffer) (token : Token) (k front : ℕ) (here : token.buffer 
       by false false false true e p q = absurd (true≢false (sym (q refl)))
       by false false false false e p q = refl
 
-  -- the numbers decide the same
+  -- the numbers decide both, or neither
+  pub decides_same : is_some (by_numbers buffer front token k)
+      ≡ is_some (decided_at token buffer place front)
+  decides_same =
+      ap
+      (λ (b : Bool). is_some
+      (if b then Some answers.Unknown
+      else (if nat_lt (place + buffer.blocks) front
+      then Some (answers.Gone (front_view buffer front)) else None)))
+      beyond
+      ∙ by
+      (token.length == 0 || nat_lt buffer.blocks (token.first + size_of token.length)
+      || nat_le front place)
+      (nat_lt (place + buffer.blocks) front)
+    where
+      by : (b1 b2 : Bool)
+          → is_some
+          (if b1 then Some answers.Unknown
+          else (if b2 then Some (answers.Gone (front_view buffer front)) else None))
+          ≡ is_some
+          (if b1 then Some fetches.NotKnown else (if b2 then Some fetches.Gone else None))
+      by true b2 = refl
+      by false true = refl
+      by false false = refl
+
+  -- the history's answer is what is found
   pub answered : (text : Option (List ℕ))
       → IsAnswerFor (or_by_text (by_numbers buffer front token k) (by_text k text)) k
       (front_view buffer front)

@@ -1,7 +1,12 @@
 pub mod Begins
+pub mod BegunShelf
 pub mod Ending
 pub mod Finishes
 pub mod Founds
+pub mod Fronts
 pub mod NewShelf
+pub mod OpenWrites
+pub mod ShelfCalls
+pub mod ShelfReads
 pub mod Shelving
 pub mod Writings

@@ -18,6 +18,7 @@ use Rattle.news_terms.specs.Token.{Token}
 use Rattle.relay_model.specs.State.{Kept, put_at}
 use Rattle.relay_model.specs.Terms.{Terms}
 use Rattle.relay_model.specs.World.{HasFailedAt}
+use Rattle.block_shelf.specs.Devices.{calls_at}
 use Rattle.block_shelf.specs.Keeping.{KeepsTexts}
 use Rattle.block_shelf.specs.Openings.{Opening, IsOpen, IsBroken, token_in}
 use Rattle.block_shelf.specs.declared.shelf.Begun.{Begun}
@@ -52,14 +53,14 @@ token_at class octets place =
       length = octets;
     }
 
--- a begin at this place: where a token has room for its cycle the article is begun, else nothing is
--- changed
+-- a begin at this place: where a token has room for its cycle the article is begun, else nothing
+-- that is kept changes
 abbrev pub BegunAs : {S : Type 0} {g : Ghosts S} → (trusted : Bool) → Terms → (h class octets : ℕ)
-    → (ℕ → List ℕ) → List Kept → (ℕ → Option Opening) → (ℕ → ℕ) → Place
-    → (old : Shelf S g) → Option Begun → (new : Shelf S g) → Type 0
-BegunAs trusted w h class octets begun kept openings failures place old None new =
-    (last_cycle < place.cycle) × (new ≡ old)
-BegunAs trusted w h class octets begun kept openings failures place old (Some one) new =
+    → (ℕ → List ℕ) → List Kept → (ℕ → Option Opening) → (ℕ → ℕ) → Place → Option Begun
+    → (new : Shelf S g) → Type 0
+BegunAs trusted w h class octets begun kept openings failures place None new =
+    (last_cycle < place.cycle) × KeepsTexts trusted new w begun kept openings failures
+BegunAs trusted w h class octets begun kept openings failures place (Some one) new =
     (place.cycle ≤ last_cycle) × (token_of one ≡ token_at class octets place)
     × ((text : List ℕ) → length text ≡ octets
     → KeepsTexts trusted new w (put_at begun h (begun h ++ size_of octets ∷ [])) kept
@@ -74,7 +75,7 @@ BeginsOn h class octets old result new =
     → KeepsTexts trusted old w begun kept openings failures
     → CanBegin w h (size_of octets) openings
     → (place : Place) × (place_in w h (begun h) (size_of octets) ≡ Some place)
-    × BegunAs trusted w h class octets begun kept openings failures place old result new
+    × BegunAs trusted w h class octets begun kept openings failures place result new
 
 -- an error is a fault of this kind of the device of the token's buffer, at an article of its length
 abbrev pub IsFaultAt : FaultKind → Token → BufError → Type 0
@@ -93,7 +94,8 @@ WrittenAs trusted w h token text written begun kept openings failures (Err e) ne
     × ((later : ℕ → ℕ) × HasFailedAt token.buffer failures later
     × KeepsTexts trusted new w begun kept (put_at openings h (Some (IsBroken token))) later)
 
--- the next block of the open write under this token is written, whichever group has it
+-- the next block of the open write under this token is written, whichever group has it, by one call
+-- of its buffer's device
 abbrev pub WritesOn : {S : Type 0} {g : Ghosts S} → Token → (text : List ℕ) → (old : Shelf S g)
     → Result Bool BufError → (new : Shelf S g) → Type 0
 WritesOn token text old result new =
@@ -103,6 +105,7 @@ WritesOn token text old result new =
     → (h written : ℕ) → openings h ≡ Some (IsOpen token text written)
     → written < size_of (length text)
     → WrittenAs trusted w h token text written begun kept openings failures result new
+    × (calls_at new token.buffer ≡ calls_at old token.buffer + 1)
 
 -- the open write under this token, all of which is written, becomes whole
 abbrev pub FinishesOn : {S : Type 0} {g : Ghosts S} → Token → (old new : Shelf S g) → Type 0

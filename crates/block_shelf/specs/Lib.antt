@@ -1,4 +1,5 @@
 pub mod Calls
+pub mod Devices
 pub mod Filling
 pub mod Histories
 pub mod Keeping

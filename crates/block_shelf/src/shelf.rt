@@ -26,6 +26,7 @@ pub struct Shelf<S: BlockStore> {
 impl<S: BlockStore> Shelf<S> {
     ghost use Rattle.std.specs.Prelude.{◌≡◌, Bool, ℕ, Option, slice_get};
     ghost use Rattle.block_shelf.specs.Calls.{BeginsOn, WritesOn, FinishesOn, AbandonsOn, token_of};
+    ghost use Rattle.block_shelf.specs.Devices.{CallsNone, CallsOneAtMost, calls_at};
     ghost use Rattle.block_shelf.specs.Keeping.{KeepsTexts};
     ghost use Rattle.block_shelf.specs.Openings.{Opening};
     ghost use Rattle.block_shelf.specs.Reading.{ReadsOn, IsFrontAt};
@@ -38,7 +39,8 @@ impl<S: BlockStore> Shelf<S> {
     /// the cycle; also where there is no such group, a write is open in that buffer, or the article
     /// has no octets or doesn't fit. Takes no memory.
     pub fn begin(&mut self, group: u16, class: u8, length: u32) -> Option<Begun>
-        ensures { BeginsOn group class length self.old result self.new }
+        ensures begun { BeginsOn group class length self.old result self.new }
+        ensures calls { CallsNone self.old self.new }
     {
         if length == 0 {
             return None;
@@ -58,7 +60,10 @@ impl<S: BlockStore> Shelf<S> {
     /// of it is left to be written. After a fault of the device the article can only be abandoned.
     /// Takes no memory.
     pub fn write_next(&mut self, begun: &Begun, text: &[u8]) -> Result<bool, BufError>
-        ensures { WritesOn (token_of begun.now) text.now self.old result self.new }
+        ensures written { WritesOn (token_of begun.now) text.now self.old result self.new }
+        // No other device is called.
+        ensures calls { (number : ℕ) → (number ≡ (token_of begun.now).buffer → ⊥)
+            → calls_at self.new number ≡ calls_at self.old number }
     {
         match self.buffers.get_mut(usize::from(begun.open.token().buffer)) {
             Some(buffer) => buffer.write_next(&begun.open, text),
@@ -71,6 +76,7 @@ impl<S: BlockStore> Shelf<S> {
     pub fn finish(&mut self, begun: Begun) -> Token
         ensures token { token_view result ≡ token_of begun }
         ensures finished { FinishesOn (token_of begun) self.old self.new }
+        ensures calls { CallsNone self.old self.new }
     {
         let Begun { open } = begun;
         let token = open.token();
@@ -82,7 +88,8 @@ impl<S: BlockStore> Shelf<S> {
 
     /// Gives a begun article up. Its space stays lost. Takes no memory.
     pub fn abandon(&mut self, begun: Begun)
-        ensures { AbandonsOn (token_of begun) self.old self.new }
+        ensures abandoned { AbandonsOn (token_of begun) self.old self.new }
+        ensures calls { CallsNone self.old self.new }
     {
         let Begun { open } = begun;
         match self.buffers.get_mut(usize::from(open.token().buffer)) {
@@ -100,7 +107,8 @@ impl<S: BlockStore> Shelf<S> {
         k: u32,
         chunk: &mut [u8; CHUNK_OCTETS],
     ) -> Result<Found, BufError>
-        ensures { ReadsOn (token_view token.now) k self.old result chunk.new self.new }
+        ensures found { ReadsOn (token_view token.now) k self.old result chunk.new self.new }
+        ensures calls { CallsOneAtMost token.now.buffer self.old self.new }
     {
         match self.buffers.get_mut(usize::from(token.buffer)) {
             Some(buffer) => buffer.read_block(token, k, chunk),

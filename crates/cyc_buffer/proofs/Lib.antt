@@ -1,6 +1,6 @@
 mod MarkLemmas
-mod Places
-mod Finished
+pub mod Places
+pub mod Finished
 mod Keeping
 mod Beginning
 mod Finishing
