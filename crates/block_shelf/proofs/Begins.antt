@@ -15,7 +15,7 @@ use Rattle.news_terms.specs.Token.{Token}
 use Rattle.relay_facts.proofs.Puts.{put_at_here, put_at_both}
 use Rattle.relay_model.specs.State.{put_at, Kept}
 use Rattle.block_shelf.specs.Histories.{HasBegins, HasTexts}
-use Rattle.block_shelf.specs.Settings.{IsBufferAt}
+use Rattle.news_terms.specs.Settings.{IsBufferAt}
 
 -- the sizes begun, one more of them in a group
 abbrev pub begun_more : (ℕ → List ℕ) → (g size : ℕ) → ℕ → List ℕ

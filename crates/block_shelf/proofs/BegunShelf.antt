@@ -47,7 +47,7 @@ use Rattle.block_shelf.specs.Calls.{CanBegin, BegunAs, place_in, token_at}
 use Rattle.block_shelf.specs.Histories.{HasBegins}
 use Rattle.block_shelf.specs.Keeping.{KeepsTexts, KeepsBuffer, IsOpenIn, HasRack, KeepsRack}
 use Rattle.block_shelf.specs.Openings.{Opening, IsOpen, token_in}
-use Rattle.block_shelf.specs.Settings.{IsBufferAt}
+use Rattle.news_terms.specs.Settings.{IsBufferAt}
 use Rattle.block_shelf.specs.declared.shelf.Rack.{Rack}
 use Rattle.block_shelf.specs.declared.shelf.Shelf.{Shelf}
 

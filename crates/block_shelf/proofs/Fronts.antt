@@ -14,7 +14,7 @@ use Rattle.relay_model.specs.State.{State}
 use Rattle.relay_model.specs.Terms.{Terms}
 use Rattle.std.proofs.Common.{map, All}
 use Rattle.block_shelf.specs.Histories.{HasBegins}
-use Rattle.block_shelf.specs.Settings.{IsBufferAt, AreSound}
+use Rattle.news_terms.specs.Settings.{IsBufferAt, AreSound}
 use Rattle.news_terms.specs.Fronts.{FitsGroup}
 
 -- a buffer of this number in a list

@@ -4,6 +4,7 @@ pub mod Ending
 pub mod Finishes
 pub mod Founds
 pub mod Fronts
+pub mod NewShelf
 pub mod OpenWrites
 pub mod ShelfCalls
 pub mod ShelfReads

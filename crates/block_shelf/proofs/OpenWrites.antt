@@ -42,7 +42,7 @@ use Rattle.block_shelf.specs.Calls.{WrittenAs, IsFaultAt}
 use Rattle.block_shelf.specs.Histories.{HasBegins, HasTexts, IsWriting}
 use Rattle.block_shelf.specs.Keeping.{KeepsTexts, KeepsBuffer, IsOpenIn}
 use Rattle.block_shelf.specs.Openings.{Opening, IsOpen, IsBroken, token_in}
-use Rattle.block_shelf.specs.Settings.{IsBufferAt}
+use Rattle.news_terms.specs.Settings.{IsBufferAt}
 use Rattle.block_shelf.specs.declared.shelf.Shelf.{Shelf}
 
 -- so much of a text is the front of it that is as long

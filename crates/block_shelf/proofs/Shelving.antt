@@ -16,7 +16,7 @@ use Rattle.relay_model.specs.Terms.{Terms}
 use Rattle.block_shelf.proofs.Writings.{IsOnly}
 use Rattle.block_shelf.specs.Keeping.{KeepsTexts, KeepsBuffer, HasBuffer, HasRack, IsOpenIn}
 use Rattle.block_shelf.specs.Openings.{Opening, token_in}
-use Rattle.block_shelf.specs.Settings.{IsBufferAt}
+use Rattle.news_terms.specs.Settings.{IsBufferAt}
 use Rattle.block_shelf.specs.declared.shelf.Rack.{Rack}
 use Rattle.block_shelf.specs.declared.shelf.Shelf.{Shelf}
 

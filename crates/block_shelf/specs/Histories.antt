@@ -12,7 +12,7 @@ use Rattle.news_terms.specs.Token.{Token}
 use Rattle.relay_model.specs.Fetches as fetches
 use Rattle.relay_model.specs.State.{Kept}
 use Rattle.block_shelf.specs.Openings.{Opening, IsOpen, IsBroken, token_in}
-use Rattle.block_shelf.specs.Settings.{IsBufferAt}
+use Rattle.news_terms.specs.Settings.{IsBufferAt}
 
 -- what was begun in a buffer is what its group picked for it; in a buffer of no group nothing was
 pub record HasBegins (groups : List Group) (begun : ℕ → List ℕ) (h : History) : Type 0 where

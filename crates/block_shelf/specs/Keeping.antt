@@ -13,7 +13,7 @@ use Rattle.relay_model.specs.State.{Kept}
 use Rattle.relay_model.specs.Terms.{Terms}
 use Rattle.block_shelf.specs.Histories.{IsHistoryOf}
 use Rattle.block_shelf.specs.Openings.{Opening, IsOpen, IsBroken, token_in}
-use Rattle.block_shelf.specs.Settings.{IsBufferAt, AreSound}
+use Rattle.news_terms.specs.Settings.{IsBufferAt, AreSound}
 use Rattle.block_shelf.specs.declared.shelf.Rack.{Rack}
 use Rattle.block_shelf.specs.declared.shelf.Shelf.{Shelf}
 

@@ -3,6 +3,7 @@
 //! rings.
 #![tactic(auto)]
 
+mod filling;
 mod shelf;
 
 pub use shelf::{Begun, Shelf};

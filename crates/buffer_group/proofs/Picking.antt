@@ -7,8 +7,9 @@ use Rattle.std.proofs.lemmas.Bool.{cases_Bool, cond-true, cond-false, leb-true}
 use Rattle.std.proofs.Math.Nat.{zero-mod}
 use Rattle.std.proofs.lemmas.List.{length-map}
 use Rattle.std.proofs.lemmas.Option.{slice_get-map, unwrap_or-slice_get}
-use Rattle.buffer_group.specs.Groups.{KeepsPlaces, mode_view, position_view, blocks_in}
+use Rattle.buffer_group.specs.Groups.{KeepsPlaces, position_view, blocks_in}
 use Rattle.buffer_group.specs.declared.group.Group.{Group}
+use Rattle.relay_conf.specs.Places.{mode_view}
 use Rattle.relay_conf.specs.declared.cycbuff.Mode.TheVariants as modes
 use Rattle.news_terms.specs.Picks as picks
 use Rattle.news_terms.specs.Picks.{pick_of}

@@ -5,13 +5,8 @@ use Rattle.buffer_group.specs.declared.group.Pick.{Pick}
 use Rattle.news_terms.specs.Picks as picks
 use Rattle.news_terms.specs.Places as places
 use Rattle.news_terms.specs.Positions.{Position, position_of}
+use Rattle.relay_conf.specs.Places.{mode_view}
 use Rattle.relay_conf.specs.declared.cycbuff.Mode.{Mode}
-use Rattle.relay_conf.specs.declared.cycbuff.Mode.TheVariants as modes
-
--- a mode as the definitions have it
-abbrev pub mode_view : Mode → places.Mode
-mode_view modes.Interleave = places.Interleave
-mode_view modes.Sequential = places.Sequential
 
 -- a pick as the definitions have it
 abbrev pub pick_view : Pick → picks.Pick

@@ -28,12 +28,13 @@ pub struct Group {
 
 impl Group {
     ghost use Rattle.std.specs.Prelude.{◌≡◌, ◌<◌, ℕ, List, [], ◌∷◌, ◌++◌, length, slice_get};
-    ghost use Rattle.buffer_group.specs.Groups.{KeepsPlaces, blocks_in, mode_view, pick_view};
+    ghost use Rattle.buffer_group.specs.Groups.{KeepsPlaces, blocks_in, pick_view};
     ghost use Rattle.buffer_group.specs.Groups.{group_mode, group_blocks, buffer_count};
     ghost use Rattle.news_terms.specs.Picks.{pick_of};
     ghost use Rattle.news_terms.specs.Places as places;
     ghost use Rattle.news_terms.specs.Places.{size_of};
     ghost use Rattle.news_terms.specs.Positions.{index_after};
+    ghost use Rattle.relay_conf.specs.Places.{mode_view};
 
     /// A group whose buffers have so many blocks, in order, before anything is begun.
     pub fn new(mode: Mode, blocks: Vec<u32>) -> Group

@@ -1,9 +1,10 @@
 //! Laws of groups and of writers' steps: each is the contract of an empty body.
 ghost use Rattle.std.specs.Prelude.{◌≡◌, ℕ, List};
-ghost use Rattle.buffer_group.specs.Groups.{blocks_in, mode_view};
+ghost use Rattle.buffer_group.specs.Groups.{blocks_in};
 ghost use Rattle.buffer_group.specs.Steps.{step_tried};
 ghost use Rattle.buffer_group.specs.Writers.{step_of};
 ghost use Rattle.news_terms.specs.Places as places;
+ghost use Rattle.relay_conf.specs.Places.{mode_view};
 ghost use Rattle.relay_conf.specs.declared.cycbuff.Mode.{Mode};
 ghost use Rattle.relay_model.specs.Terms.{Terms};
 ghost use Rattle.relay_model.specs.World.{World};

@@ -228,7 +228,7 @@ pub enum Put {
 
 /// What reading an article whole gives.
 #[derive(Debug, Drop)]
-enum Whole {
+pub enum Whole {
     Same,
     Other,
     Gone(u64),

@@ -1,11 +1,12 @@
 //! Rows for the crates of the store and of the claims: each line of standard input is a call of
-//! cyc_token, cyc_block, cyc_buffer, buffer_group, id_history or feed_queue, and is printed with
-//! its answer. The gate runs it with the file `stdin`, and compares what it prints with the file
-//! `stdout`, whose answers are those of docs/ and of the contracts, never this program's own.
+//! cyc_token, cyc_block, cyc_buffer, buffer_group, block_shelf, id_history or feed_queue, and is
+//! printed with its answer. The gate runs it with the file `stdin`, and compares what it prints with
+//! the file `stdout`, whose answers are those of docs/ and of the contracts, never this program's
+//! own.
 //!
 //! A row is the name of a call and its words, as README.md lists them. What a call leaves behind,
-//! the rows after it find: one store of blocks, one buffer, one group of buffers, one shard of
-//! claims and sixteen more.
+//! the rows after it find: one store of blocks, one buffer, one group of buffers, one shelf, one
+//! shard of claims and sixteen more.
 #![tactic(auto)]
 
 mod blocks;
@@ -14,6 +15,7 @@ mod claims;
 mod comparison;
 mod feeds;
 mod groups;
+mod shelves;
 mod words;
 
 use blocks::Blocks;
@@ -33,6 +35,7 @@ struct Rows {
     store: Option<Blocks>,
     buffer: Option<InMemory>,
     grouped: Option<Grouped>,
+    shelf: Option<shelves::InMemory>,
     shard: Shard,
     shards: Shards,
     feeds: Feeds,
@@ -55,6 +58,7 @@ fn first_rows(rt: &HostRuntime) -> io::Result<Rows> {
         store: None,
         buffer: None,
         grouped: None,
+        shelf: None,
         shard,
     })
 }
@@ -74,6 +78,7 @@ impl Answers for Rows {
             blocks::answer(alloc, &mut self.store, call, cells, text)?
                 || buffers::answer(alloc, &mut self.buffer, call, cells, text)?
                 || groups::answer(alloc, &mut self.grouped, call, cells, text)?
+                || shelves::answer(alloc, &mut self.shelf, call, cells, text)?
                 || claims::answer_together(alloc, &mut self.shards, call, cells, text)?
                 || claims::answer(alloc, &mut self.shard, call, cells, text)?
                 || self.feeds.answer(alloc, call, cells, text)?,

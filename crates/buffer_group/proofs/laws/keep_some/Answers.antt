@@ -1,6 +1,6 @@
 use Rattle.std.proofs.Common.{refl}
 use Rattle.buffer_group.proofs.LawLemmas.{some_buffers, blocks_of_some}
-use Rattle.buffer_group.specs.Groups.{mode_view}
+use Rattle.relay_conf.specs.Places.{mode_view}
 use Rattle.buffer_group.proofs.laws.keep_some.Goals as goal
 
 pub returns : goal.returns

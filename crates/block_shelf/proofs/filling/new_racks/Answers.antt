@@ -1,0 +1,62 @@
+use Rattle.std.proofs.Common.{◌≡◌, ◌∙◌, ◌<◌, ◌≤◌, ◌+◌, ◌++◌, ◌∷◌, [], ap, arith, get_or, length, map}
+use Rattle.std.proofs.Common.{refl, subst, sym, take}
+use Rattle.std.proofs.lemmas.List.{length-append, length-map, take_all, length-take-le}
+use Rattle.std.proofs.lemmas.Option.{slice_get_read}
+use Rattle.relay_conf.specs.Places.{group_view, group_over, groups_over, numbered_buffers}
+use Rattle.block_shelf.specs.Filling.{AreNewRacks}
+use Rattle.block_shelf.specs.Keeping.{KeepsRack}
+use Rattle.block_shelf.proofs.NewShelf.{one_more_rack, group_filled, one_more_group}
+use Rattle.block_shelf.proofs.filling.new_racks.Goals as goal
+
+-- the group is the one at this place
+pub new-requires : goal.new-requires
+new-requires c =
+    subst
+    (λ all. 1 ≤ length (group_over (numbered_buffers all) (group_view c.group-item.result)).buffers)
+    (sym c.deref.ensures.value)
+    (group_filled c.args.settings.now c.loop-group.group-index c.group-item.result
+    (slice_get_read c.args.settings.now.groups.items (length c.args.settings.now.groups.items)
+    c.loop-group.group-index c.group-item.result refl
+    (omega (arith, c.loop-group-test.true, ap length c.deref-group-items.ensures.value))
+    (c.group-item.is ∙ ap (λ groups. get_or groups c.loop-group.group-index c.group-item.result)
+    c.deref-group-items.ensures.value)))
+
+pub loop-group-preserved : goal.loop-group-preserved
+loop-group-preserved c =
+    let settings = c.args.settings.now in
+    let k = c.loop-group.group-index in
+    let before = groups_over settings.buffers.items (map group_view (take k settings.groups.items)) in
+    let one = group_over (numbered_buffers settings.buffers.items) (group_view c.group-item.result) in
+    let within : k < length settings.groups.items =
+    omega (arith, c.loop-group-test.true, ap length c.deref-group-items.ensures.value) in
+    let count : length c.loop-group.racks.items ≡ length before =
+    c.loop-group.invariant.count
+    ∙ sym (length-map (map group_view (take k settings.groups.items))
+    (group_over (numbered_buffers settings.buffers.items))
+    ∙ length-map (take k settings.groups.items) group_view
+    ∙ length-take-le k settings.groups.items (omega (arith, within))) in
+    record {
+      count = ap length c.in_ok-push.ensures.items
+          ∙ length-append c.loop-group.racks.items (c.in_ok-new.field-0 ∷ [])
+          ∙ ap (λ n. n + 1) c.loop-group.invariant.count;
+      are = subst (λ racks. AreNewRacks (groups_over settings.buffers.items
+          (map group_view (take (k + 1) settings.groups.items))) racks)
+          (sym c.in_ok-push.ensures.items)
+          (subst (λ groups. AreNewRacks groups (c.loop-group.racks.items ++ c.in_ok-new.field-0 ∷ []))
+          (sym (one_more_group settings.buffers.items settings.groups.items k c.group-item.result
+          within (c.group-item.is
+          ∙ ap (λ groups. get_or groups k c.group-item.result) c.deref-group-items.ensures.value)))
+          (one_more_rack before c.loop-group.racks.items one c.in_ok-new.field-0 count
+          c.loop-group.invariant.are
+          (subst (λ all. KeepsRack c.in_ok-new.field-0
+          (group_over (numbered_buffers all) (group_view c.group-item.result)) [])
+          c.deref.ensures.value c.in_ok-new.ensures)));
+    }
+
+pub returns : goal.returns
+returns c =
+    subst (λ groups. AreNewRacks (groups_over c.args.settings.now.buffers.items
+    (map group_view groups)) c.loop-group.racks.items)
+    (take_all c.loop-group.group-index c.args.settings.now.groups.items
+    (omega (arith, c.loop-group-test.false, ap length c.deref-group-items.ensures.value)))
+    c.loop-group.invariant.are

@@ -1,0 +1,16 @@
+use Rattle.std.proofs.Common.{arith}
+use Rattle.block_shelf.proofs.NewShelf.{nothing_kept, same_count}
+use Rattle.block_shelf.proofs.shelf.Shelf.new.Goals as goal
+
+pub new_buffers-requires : goal.new_buffers-requires
+new_buffers-requires g c =
+    omega (
+      arith,
+      c.args.settings.now.few_buffers,
+      same_count g.S.BlockStore c.args.settings.now c.args.stores.items c.requires,
+    )
+
+pub returns : goal.returns
+returns g c = λ trusted honest w all groups.
+    nothing_kept c.args.settings.now c.args.stores.items _ trusted honest w all groups c.requires
+    c.in_ok-buffers.ensures c.args.settings.now.sound c.in_ok-racks.ensures
