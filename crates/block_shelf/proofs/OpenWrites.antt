@@ -9,7 +9,7 @@ use Rattle.cyc_block.specs.declared.store.BlockStore.{Ghosts}
 use Rattle.cyc_buffer.proofs.OpenLemmas.{can_write, can_finish}
 use Rattle.cyc_buffer.specs.Agreement as buffers
 use Rattle.cyc_buffer.specs.Agreement.{Agrees, Follows, CanWrite, CanFinish, ContinuesIn, store_of}
-use Rattle.cyc_buffer.specs.Calls.{WritesNext}
+use Rattle.cyc_buffer.specs.Calls.{LeavesDevice, WritesNext}
 use Rattle.cyc_buffer.specs.History.{History, Article, Begin, Writing, asked, finish_begins}
 use Rattle.cyc_buffer.specs.History.{token_of_open, token_at, with_block, with_failure, with_finish}
 use Rattle.cyc_buffer.specs.History.{head_of, text_of, finished_at}
@@ -222,9 +222,10 @@ module _ {S : Type 0} {g : Ghosts S} (trusted : Bool) (old : Shelf S g) (w : Ter
 
   -- the shelf after a write of a block
   pub wrote : (result : Result Bool BufError) → WritesNext code write text result code'
+      → LeavesDevice code result code'
       → WrittenAs trusted w h token text written begun kept openings failures result
       (record { buffers = with_item old.buffers i code'; racks = old.racks })
-  wrote (Ok last) does =
+  wrote (Ok last) does device =
       let next : Opening = IsOpen token text (written + 1) in
       replaced trusted old w begun kept openings failures keeps i code' old.racks begun kept
       (put_at openings h (Some next)) failures keeps.fit
@@ -241,11 +242,11 @@ module _ {S : Type 0} {g : Ghosts S} (trusted : Bool) (old : Shelf S g) (w : Ter
       (subst (ContinuesIn text) (sym writes) (front_of_text (chunk_size * written) text))
       at.keeps.agrees)
       (one_more_block now token text written at.this)
-      (ap failures (sym at.place.number) ∙ at.keeps.failed ∙ sym does.no_failure))
+      (ap failures (sym at.place.number) ∙ at.keeps.failed ∙ sym device.no_failure))
       (others (Some next)
       (λ other e. ap (λ (each : Opening). (token_in each).buffer) (same_Some other next (sym e)))
       kept (λ buffer t named_there away. refl) failures (λ k away. refl))
-  wrote (Err e) does = (fault_is e does, (later, rises does, keeps_after does))
+  wrote (Err e) does device = (fault_is e does, (later, rises device, keeps_after does))
     where
       later : ℕ → ℕ
       later = put_at failures token.buffer (g.failures (store_of code'))
@@ -263,17 +264,17 @@ module _ {S : Type 0} {g : Ghosts S} (trusted : Bool) (old : Shelf S g) (w : Ter
       counted : failures token.buffer ≡ g.failures (store_of code)
       counted = ap failures (sym at.place.number) ∙ at.keeps.failed
 
-      rises : WritesNext code write text (Err e) code' → HasFailedAt token.buffer failures later
-      rises does =
+      rises : LeavesDevice code (Err e) code' → HasFailedAt token.buffer failures later
+      rises device =
           record {
             rises = λ k.
                 put_at_both (λ n. failures k ≤ n) failures token.buffer
                 (g.failures (store_of code')) k
-                (λ same. omega (arith, does.failed, counted, ap failures same))
+                (λ same. omega (arith, device.failed, counted, ap failures same))
                 (λ apart. omega arith);
             here = omega (
               arith,
-              does.failed,
+              device.failed,
               counted,
               put_at_here failures token.buffer (g.failures (store_of code')) token.buffer refl,
             );

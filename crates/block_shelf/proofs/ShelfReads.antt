@@ -315,7 +315,7 @@ module _ {S : Type 0} {g : Ghosts S} (trusted : Bool) (old : Shelf S g) (w : Ter
     reads (Ok one) does =
         HasFound one refl
         (kept_after failures (does.same trusted now at.1.1.agrees)
-        (counted ∙ sym does.no_failure) (λ n apart. refl))
+        (counted ∙ sym does.device.no_failure) (λ n apart. refl))
         (λ honest. found_of one
         (does.found now (subst (λ b. Agrees b code now) honest at.1.1.agrees)))
         (λ what is. subst
@@ -334,11 +334,11 @@ module _ {S : Type 0} {g : Ghosts S} (trusted : Bool) (old : Shelf S g) (w : Ter
           rises = λ n.
               put_at_both (λ m. failures n ≤ m) failures token.buffer
               (g.failures (store_of code')) n
-              (λ same. omega (arith, does.failed, counted, ap failures same))
+              (λ same. omega (arith, does.device.failed, counted, ap failures same))
               (λ apart. omega arith);
           here = omega (
             arith,
-            does.failed,
+            does.device.failed,
             counted,
             put_at_here failures token.buffer (g.failures (store_of code')) token.buffer refl,
           );
