@@ -39,7 +39,7 @@ module _ (groups : List Group) (begun : ℕ → List ℕ) (g : ℕ) (group : Gro
       → begins ≡ begins_in other i (begun_more begun g size h)
   grown i begins is h other at same =
       let one : group ≡ other =
-          same_Some group other (sym there ∙ ap (slice_get groups) (sym same) ∙ at) in
+      same_Some group other (sym there ∙ ap (slice_get groups) (sym same) ∙ at) in
       is ∙ ap (λ sizes. begins_in group i sizes)
       (sym (put_at_here begun g (begun g ++ size ∷ []) h same))
       ∙ ap (λ each. begins_in each i (begun_more begun g size h)) one

@@ -262,7 +262,7 @@ module _ {S : Type 0} {g : Ghosts S} (trusted : Bool) (old : Shelf S g) (w : Ter
             let same : k ≡ h = eqb-true k h e in
             let had = keeps.racks h group can.there in
             let one : group ≡ each =
-                same_Some group each (sym can.there ∙ ap (slice_get w.groups) (sym same) ∙ there) in
+            same_Some group each (sym can.there ∙ ap (slice_get w.groups) (sym same) ∙ there) in
             record {
               code = rack;
               there = ap (slice_get (slice_set old.racks.items i rack)) (same ∙ sym is_place)
@@ -288,7 +288,7 @@ module _ {S : Type 0} {g : Ghosts S} (trusted : Bool) (old : Shelf S g) (w : Ter
         put_at_both (All (FitsGroup each)) begun h (begun h ++ size ∷ []) k
         (λ same.
         let one : group ≡ each =
-            same_Some group each (sym can.there ∙ ap (slice_get w.groups) (sym same) ∙ there) in
+        same_Some group each (sym can.there ∙ ap (slice_get w.groups) (sym same) ∙ there) in
         subst (λ (one : Group). All (FitsGroup one) (begun h ++ size ∷ [])) one
         (All-append (FitsGroup group) (begun h) (size ∷ [])
         (keeps.fit h group can.there)
@@ -380,7 +380,7 @@ module _ {S : Type 0} {g : Ghosts S} (trusted : Bool) (old : Shelf S g) (w : Ter
           (λ buffer there.
           let same : now.buffer ≡ buffer = same_target buffer there in
           let this : HasThis (with_begin class octets pick.fresh now) next =
-              just_begun now class octets pick.fresh token text token_is in
+          just_begun now class octets pick.fresh token text token_is in
           record {
             history = with_begin class octets pick.fresh now;
             is_of_buffer = same;
@@ -398,8 +398,8 @@ module _ {S : Type 0} {g : Ghosts S} (trusted : Bool) (old : Shelf S g) (w : Ter
           })
           (λ j buffer there apart each had.
           let away : buffer.number ≡ now.buffer.number → ⊥ =
-              λ e. apart (sym (keeps.numbered j buffer there) ∙ e
-              ∙ ap (λ (b : places.Buffer). b.number) at.is_of_buffer ∙ sym is) in
+          λ e. apart (sym (keeps.numbered j buffer there) ∙ e
+          ∙ ap (λ (b : places.Buffer). b.number) at.is_of_buffer ∙ sym is) in
           untouched trusted each w.groups begun (begun_more begun h size) kept kept openings h
           (Some next) failures failures buffer
           (record {

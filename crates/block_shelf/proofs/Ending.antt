@@ -48,7 +48,7 @@ pub untouched : {S : Type 0} {g : Ghosts S} (trusted : Bool) (code : Buffer S g)
 untouched trusted code groups begun begun' kept kept' openings h after failures failures' buffer is
     begins keeps =
     let number : buffer.number ≡ keeps.history.buffer.number =
-        ap (λ (b : places.Buffer). b.number) (sym keeps.is_of_buffer) in
+    ap (λ (b : places.Buffer). b.number) (sym keeps.is_of_buffer) in
     record {
       history = keeps.history;
       is_of_buffer = keeps.is_of_buffer;
@@ -102,14 +102,14 @@ module _ {S : Type 0} {g : Ghosts S} (trusted : Bool) (old : Shelf S g) (w : Ter
       let place = open_place trusted old w begun kept openings failures keeps h one is in
       let had = keeps.buffers (token_in one).buffer place.buffer place.there in
       let same : had.code ≡ code =
-          sym (read_here old.buffers.items i had.code code
-          (ap (slice_get old.buffers.items) number ∙ had.there) read) in
+      sym (read_here old.buffers.items i had.code code
+      (ap (slice_get old.buffers.items) number ∙ had.there) read) in
       let kept_here : KeepsBuffer trusted code w.groups begun kept openings failures place.buffer =
-          subst
-          (λ each. KeepsBuffer trusted each w.groups begun kept openings failures place.buffer) same
-          had.keeps in
+      subst
+      (λ each. KeepsBuffer trusted each w.groups begun kept openings failures place.buffer) same
+      had.keeps in
       let named : (token_in one).buffer ≡ kept_here.history.buffer.number =
-          sym place.number ∙ ap (λ (b : places.Buffer). b.number) (sym kept_here.is_of_buffer) in
+      sym place.number ∙ ap (λ (b : places.Buffer). b.number) (sym kept_here.is_of_buffer) in
       record {
         place = place;
         keeps = kept_here;
@@ -171,8 +171,8 @@ module _ {S : Type 0} {g : Ghosts S} (trusted : Bool) (old : Shelf S g) (w : Ter
         (put_at openings h None) failures keeps.fit ended_opened keeps.racks
         (λ buffer there.
         let same : f.place.buffer ≡ buffer =
-            same_Some f.place.buffer buffer
-            (sym f.place.there ∙ ap (slice_get w.buffers) (sym number) ∙ there) in
+        same_Some f.place.buffer buffer
+        (sym f.place.there ∙ ap (slice_get w.buffers) (sym number) ∙ there) in
         record {
           history = without_write f.keeps.history;
           is_of_buffer = f.keeps.is_of_buffer ∙ same;

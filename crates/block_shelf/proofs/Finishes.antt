@@ -105,9 +105,9 @@ module _ (buffer : Buffer) (earlier : List Begin) (fresh : Bool) (size : ℕ) (a
       ≡ ((article.class == t.class) && (length article.text == t.length))
   own_token t here at =
       let cycle_and_first =
-          and_parts (buffer.first_cycle + place.run == t.cycle) (place.used == t.first) at in
+      and_parts (buffer.first_cycle + place.run == t.cycle) (place.used == t.first) at in
       let number : (buffer.number == t.buffer) ≡ true =
-          eq-eqb buffer.number t.buffer (sym (eqb-true t.buffer buffer.number here)) in
+      eq-eqb buffer.number t.buffer (sym (eqb-true t.buffer buffer.number here)) in
       ap (λ (each : Token). same_token each t) named
       ∙ by (article.class == t.class) (buffer.number == t.buffer)
       (buffer.first_cycle + place.run == t.cycle) (place.used == t.first)

@@ -125,9 +125,9 @@ module _ (w : Terms) (σ : State) (h : History) (sound : AreSound w.buffers w.gr
           → histories.front_of h ≡ fetches.front_of w σ h.buffer
       begun_by g i group one at is_there is =
           let at_place : IsBufferAt w.groups g i one =
-              record { group = group; is_group = at; is_buffer = is_there } in
+          record { group = group; is_group = at; is_buffer = is_there } in
           let here : slice_get group.buffers i ≡ Some h.buffer =
-              is_there ∙ ap Some (same_there g i one at_place is) in
+          is_there ∙ ap Some (same_there g i one at_place is) in
           ap (λ (begins : List (ℕ × Bool)). front_at h.buffer (head_of h.buffer.blocks begins))
           (has.picked g i group at here)
           ∙ sym (picked_fronts group

@@ -169,7 +169,7 @@ module _ {S : Type 0} {g : Ghosts S} (trusted : Bool) (old : Shelf S g) (w : Ter
       → KeepsBuffer trusted each w.groups begun kept' (put_at openings h next) failures' buffer
   others next named_next kept' texts failures' failed j buffer there apart each had =
       let away : buffer.number ≡ token.buffer → ⊥ =
-          λ e. apart (sym (keeps.numbered j buffer there) ∙ e ∙ sym number) in
+      λ e. apart (sym (keeps.numbered j buffer there) ∙ e ∙ sym number) in
       untouched trusted each w.groups begun begun kept kept' openings h next failures failures'
       buffer
       (record {

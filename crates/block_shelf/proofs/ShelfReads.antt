@@ -123,11 +123,15 @@ module _ {S : Type 0} {g : Ghosts S} (trusted : Bool) (old : Shelf S g) (w : Ter
       × KeepsBuffer trusted code w.groups σ.begun σ.kept openings failures buffer)
   at_place i code within read =
       let there = some_there w.buffers i (omega (arith, within, keeps.count)) in
-      let had = keeps.buffers i there.0 there.1 in
-      (there.0, (there.1,
-      subst
-      (λ each. KeepsBuffer trusted each w.groups σ.begun σ.kept openings failures there.0)
-      (sym (read_here old.buffers.items i had.code code had.there read)) had.keeps))
+      let had = keeps.buffers i there.0 there.1 in (
+        there.0,
+        (
+          there.1,
+          subst
+              (λ each. KeepsBuffer trusted each w.groups σ.begun σ.kept openings failures there.0)
+              (sym (read_here old.buffers.items i had.code code had.there read)) had.keeps,
+        ),
+      )
 
   -- there is no buffer past the last
   pub past_last : (i : ℕ) → false ≡ nat_lt i (length old.buffers.items)
@@ -165,10 +169,10 @@ module _ {S : Type 0} {g : Ghosts S} (trusted : Bool) (old : Shelf S g) (w : Ter
       → BlockRead trusted w σ openings failures token k (Ok found.Unknown) slice old
   no_buffer token k i slice number missing =
       let nothing : decided w σ token ≡ Some fetches.NotKnown =
-          ap (decided_in w σ token)
-          (named_buffer token ∙ ap (slice_get w.buffers) (sym number) ∙ past_last i missing) in
+      ap (decided_in w σ token)
+      (named_buffer token ∙ ap (slice_get w.buffers) (sym number) ∙ past_last i missing) in
       let found_nothing : fetched w σ token ≡ fetches.NotKnown =
-          ap (λ o. unwrap_or o (article_of (fetches.text_under σ.kept token))) nothing in
+      ap (λ o. unwrap_or o (article_of (fetches.text_under σ.kept token))) nothing in
       HasFound found.Unknown refl keeps
       (λ honest. subst (IsFoundOf w σ token k found.Unknown slice) (sym found_nothing) tt)
       (λ what is. subst (IsFoundOf w σ token k found.Unknown slice)
@@ -260,7 +264,7 @@ module _ {S : Type 0} {g : Ghosts S} (trusted : Bool) (old : Shelf S g) (w : Ter
         by None is = is
         by (Some article) is =
             let own : Token =
-                record (token_view token) { class = article.class; length = length article.text } in
+            record (token_view token) { class = article.class; length = length article.text } in
             absurd (none-some article.text
             (sym (nowhere article.class (length article.text))
             ∙ sym (at.1.1.is_said.texts own number_is)

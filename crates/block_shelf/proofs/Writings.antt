@@ -58,8 +58,8 @@ module _ (openings : ℕ → Option Opening) (g : ℕ) (h : History) where
   has_this one is here only (IsFree free apart) = absurd (apart g one is here)
   has_this one is here only (IsBusy k other at token writing) =
       let same : other ≡ one =
-          same_Some other one
-          (sym at ∙ ap openings (only k other at (open_token_here h (token_in other) token)) ∙ is)
+      same_Some other one
+      (sym at ∙ ap openings (only k other at (open_token_here h (token_in other) token)) ∙ is)
       in
       record {
         token = token ∙ ap (λ each. Some (token_in each)) same;

@@ -20,7 +20,7 @@ CallsNone old new = (number : ℕ) → calls_at new number ≡ calls_at old numb
 
 -- no other device is called than that of this buffer, and that once or not at all
 pub record CallsOneAtMost {S : Type 0} {g : Ghosts S} (number : ℕ) (old new : Shelf S g) : Type 0
-    where
-  pub here : (calls_at new number ≡ calls_at old number)
-      ⊎ (calls_at new number ≡ calls_at old number + 1)
-  pub others : (k : ℕ) → (k ≡ number → ⊥) → calls_at new k ≡ calls_at old k
+  where
+    pub here : (calls_at new number ≡ calls_at old number)
+        ⊎ (calls_at new number ≡ calls_at old number + 1)
+    pub others : (k : ℕ) → (k ≡ number → ⊥) → calls_at new k ≡ calls_at old k

@@ -12,18 +12,19 @@ returns-in-Some-clause-written g c = λ trusted w begun kept openings failures k
     left.
     let number = c.from.ensures ∙ ap (λ (t : code.Token). t.buffer) c.token.ensures in
     let does =
-        c.write_next.ensures.written
-        (can_be_written trusted c.args.self.now w begun kept openings failures keeps h
-        (token_of c.args.begun.now) c.args.text.now written is c.from.result c.in-Some.buffer.now
-        c.write_next.new.self number c.in-Some.ensures.value c.args.begun.now.open refl left)
-    in
-    (wrote trusted c.args.self.now w begun kept openings failures keeps h
+    c.write_next.ensures.written
+    (can_be_written trusted c.args.self.now w begun kept openings failures keeps h
     (token_of c.args.begun.now) c.args.text.now written is c.from.result c.in-Some.buffer.now
-    c.write_next.new.self number c.in-Some.ensures.value c.args.begun.now.open refl
-    c.write_next.result does c.write_next.ensures.device,
-    called_once c.args.self.now c.from.result c.in-Some.buffer.now c.write_next.new.self
-    c.args.self.now.racks c.in-Some.ensures.item.3.0 c.in-Some.ensures.value
-    (token_of c.args.begun.now).buffer number does.calls)
+    c.write_next.new.self number c.in-Some.ensures.value c.args.begun.now.open refl left)
+    in (
+      wrote trusted c.args.self.now w begun kept openings failures keeps h
+          (token_of c.args.begun.now) c.args.text.now written is c.from.result c.in-Some.buffer.now
+          c.write_next.new.self number c.in-Some.ensures.value c.args.begun.now.open refl
+          c.write_next.result does c.write_next.ensures.device,
+      called_once c.args.self.now c.from.result c.in-Some.buffer.now c.write_next.new.self
+          c.args.self.now.racks c.in-Some.ensures.item.3.0 c.in-Some.ensures.value
+          (token_of c.args.begun.now).buffer number does.calls,
+    )
 
 pub returns-in-None-clause-written : goal.returns-in-None-clause-written
 returns-in-None-clause-written g c = λ trusted w begun kept openings failures keeps h written is
