@@ -78,21 +78,14 @@ fn shelf_by(alloc: Global, cells: &[Vec<u8>]) -> Result<Option<InMemory>, AllocE
 }
 
 /// A store in memory for each buffer, of as many blocks.
-fn stores_of(
-    alloc: Global,
-    settings: &Buffers,
-    failing: u64,
-) -> Result<Vec<Store>, AllocError>
+fn stores_of(alloc: Global, settings: &Buffers, failing: u64) -> Result<Vec<Store>, AllocError>
     ensures { IfOk result (λ stores.
         map (λ store. length (⟦<FailAt<MemoryBlocks> as BlockStore>⟧.blocks store)) stores.items
         ≡ map (λ buffer. buffer.blocks) settings.now.buffers.items) }
 {
     let mut stores = Vec::with_capacity(alloc, settings.buffers.len())?;
     for buffer in &settings.buffers {
-        stores.push(FailAt::new(
-            MemoryBlocks::new(alloc, buffer.blocks)?,
-            failing,
-        ))?;
+        stores.push(FailAt::new(MemoryBlocks::new(alloc, buffer.blocks)?, failing))?;
     }
     Ok(stores)
 }
@@ -118,8 +111,7 @@ fn store_article(
     let [group, rest @ ..] = cells else {
         return Ok(false);
     };
-    let (Some(group), Some((class, octets, seed))) =
-        (u8::read(group), three::<u8, u32, u8>(rest))
+    let (Some(group), Some((class, octets, seed))) = (u8::read(group), three::<u8, u32, u8>(rest))
     else {
         return Ok(false);
     };
@@ -214,16 +206,22 @@ fn abandon(
     let [group, octets, rest @ ..] = cells else {
         return Ok(false);
     };
-    let (Some(group), Some(octets), Some((place, block))) =
-        (u8::read(group), u32::read(octets), two::<Token, u32>(rest))
-    else {
+    let (Some(group), Some(octets), Some((place, block))) = (
+        u8::read(group),
+        u32::read(octets),
+        two::<Token, u32>(rest),
+    ) else {
         return Ok(false);
     };
-    put(alloc, text, &abandoned(shelf, u16::from(group), octets, &place, block))
+    put(
+        alloc,
+        text,
+        &abandoned(shelf, u16::from(group), octets, &place, block),
+    )
 }
 
-/// What reading a block of a token gives while an article is open that is abandoned then; none where
-/// it can't be begun.
+/// What reading a block of a token gives while an article is open, which is abandoned then; none
+/// where it can't be begun.
 fn abandoned(
     shelf: &mut InMemory,
     group: u16,
