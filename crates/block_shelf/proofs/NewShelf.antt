@@ -5,10 +5,12 @@ use Rattle.std.proofs.Common.{take, get_or, append-nil}
 use Rattle.std.proofs.Common.{zero, suc, refl, sym, ap, subst, arith, if◌then◌else◌}
 use Rattle.std.specs.List.{cons_option, enumerate_from}
 use Rattle.std.specs.Prelude.{filter_map, option_map, unwrap_or}
-use Rattle.std.proofs.lemmas.List.{length-append, length-map, map-append, take_more}
+use Rattle.std.proofs.lemmas.List.{length-append, length-map, map-append, take_all}
+use Rattle.std.proofs.lemmas.List.{take_more}
 use Rattle.std.proofs.lemmas.List.Elements.{All-nil, filter_map-append}
 use Rattle.std.proofs.lemmas.List.FromFn.{length-enumerate_from}
-use Rattle.std.proofs.lemmas.Option.{none-some, same_Some, slice_get-map, slice_get_past, slice_get_within}
+use Rattle.std.proofs.lemmas.Option.{none-some, same_Some, slice_get-map, slice_get_past}
+use Rattle.std.proofs.lemmas.Option.{slice_get_within}
 use Rattle.buffer_group.specs.Groups.{blocks_in}
 use Rattle.cyc_block.specs.declared.store.BlockStore.{Ghosts}
 use Rattle.cyc_buffer.specs.Agreement.{Agrees}
@@ -150,12 +152,26 @@ one_more all list k numbers blocks conf within at are =
     let grown = members_more all list k (get_or list k 0) (Some conf) within refl at in
     record {
       numbers = ap (λ ns. ns ++ get_or list k 0 ∷ []) are.numbers
-          ∙ sym (map-append (λ (b : places.Buffer). b.number) (members all (take k list)) (one ∷ []))
+          ∙ sym (map-append (λ (b : places.Buffer). b.number) (members all (take k list))
+          (one ∷ []))
           ∙ ap (map (λ (b : places.Buffer). b.number)) (sym grown);
       blocks = ap (λ ns. ns ++ conf.blocks ∷ []) are.blocks
-          ∙ sym (map-append (λ (b : places.Buffer). b.blocks) (members all (take k list)) (one ∷ []))
+          ∙ sym (map-append (λ (b : places.Buffer). b.blocks) (members all (take k list))
+          (one ∷ []))
           ∙ ap blocks_in (sym grown);
     }
+
+-- past the end of the list all are named
+pub all_named : (all : List BufferConf) (list : List ℕ) (k : ℕ) (numbers blocks : List ℕ)
+    → length list ≤ k → IsNamed all (take k list) numbers blocks → IsNamed all list numbers blocks
+all_named all list k numbers blocks past are =
+    subst (λ named. IsNamed all named numbers blocks) (take_all k list past) are
+
+-- there are as many as buffers
+pub named_count : (all : List BufferConf) (list numbers blocks : List ℕ)
+    → IsNamed all list numbers blocks → length blocks ≡ length (members all list)
+named_count all list numbers blocks are =
+    ap length are.blocks ∙ length-map (members all list) (λ (b : places.Buffer). b.blocks)
 
 -- the racks of these groups and one more
 pub one_more_rack : (groups : List places.Group) (racks : List Rack) (group : places.Group)

@@ -58,7 +58,8 @@ fn new_racks(alloc: Global, settings: &Buffers) -> Result<Vec<Rack>, AllocError>
 impl Rack {
     /// The rack of a group over all buffers, before anything is begun.
     fn new(alloc: Global, all: &[BufferConf], group: &GroupConf) -> Result<Rack, AllocError>
-        requires { 1 ≤ length (group_over (numbered_buffers all.now) (group_view group.now)).buffers }
+        requires { 1 ≤ length
+            (group_over (numbered_buffers all.now) (group_view group.now)).buffers }
         ensures { IfOk result (λ rack. KeepsRack rack
             (group_over (numbered_buffers all.now) (group_view group.now)) []) }
     {

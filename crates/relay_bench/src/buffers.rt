@@ -11,7 +11,7 @@ use std::io::ErrorKind;
 use std::time::Instant;
 
 /// The octets of an article of 64 blocks.
-const ARTICLE: usize = 64 * CHUNK_OCTETS;
+pub const ARTICLE: usize = 64 * CHUNK_OCTETS;
 
 /// The seconds that writing the text to a buffer takes, or reading it from one, or copying it.
 pub fn seconds(rt: &HostRuntime, work: Work, text: &[u8]) -> io::Result<f64> {

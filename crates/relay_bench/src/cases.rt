@@ -177,9 +177,21 @@ static SETTINGS: [Case; 5] = [
 ];
 
 /// Blocks of a buffer, of 30 sixteens each.
-static BUFFERS: [Case; 3] = [
+static BUFFERS: [Case; 5] = [
     ("65,536 blocks written", Work::Write, BLOCKS, 30 << 16),
+    (
+        "the same through a shelf",
+        Work::WriteShelf,
+        BLOCKS,
+        30 << 16,
+    ),
     ("65,536 blocks read", Work::Read, BLOCKS, 30 << 16),
+    (
+        "the same through a shelf",
+        Work::ReadShelf,
+        BLOCKS,
+        30 << 16,
+    ),
     ("as many octets copied", Work::Copy, BLOCKS, 30 << 16),
 ];
 

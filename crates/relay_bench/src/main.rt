@@ -5,6 +5,7 @@
 mod buffers;
 mod cases;
 mod desks;
+mod shelves;
 mod work;
 
 use cases::{Case, table};

@@ -1,7 +1,7 @@
 //! What is done with a text, and how long it takes.
-use crate::buffers;
 use crate::buffers::since;
 use crate::cases::repeated;
+use crate::{buffers, shelves};
 use article_parse::Article;
 use path_rules::{identities, loops, updated};
 use relay_conf::{read_cycbuff, read_relay, read_storage};
@@ -49,6 +49,10 @@ pub enum Work {
     Write,
     /// read from one,
     Read,
+    /// written to the one buffer of a shelf,
+    WriteShelf,
+    /// read from that,
+    ReadShelf,
     /// or copied, a block at a time.
     Copy,
 }
@@ -59,6 +63,7 @@ pub fn seconds(rt: &HostRuntime, work: Work, text: &[u8]) -> io::Result<f64> {
         Work::Groups | Work::Identities | Work::Loops | Work::Updated => of_article(rt, work, text),
         Work::Judge(count) => judging(rt, text, count),
         Work::Write | Work::Read | Work::Copy => buffers::seconds(rt, work, text),
+        Work::WriteShelf | Work::ReadShelf => shelves::seconds(rt, work, text),
         _ => whole(rt, work, text),
     }
 }

@@ -1,1 +1,2 @@
 mod Refusals
+pub mod StoreBlocks

@@ -220,8 +220,8 @@ fn abandon(
     )
 }
 
-/// What reading a block of a token gives while an article is open that is abandoned then; none where
-/// it can't be begun.
+/// What reading a block of a token gives while an article is open, which is abandoned then; none
+/// where it can't be begun.
 fn abandoned(
     shelf: &mut InMemory,
     group: u16,

@@ -1,4 +1,5 @@
-use Rattle.std.proofs.Common.{◌≡◌, ◌∙◌, ◌<◌, ◌≤◌, ◌+◌, ◌++◌, ◌∷◌, [], ap, arith, get_or, length, map}
+use Rattle.std.proofs.Common.{◌≡◌, ◌∙◌, ◌<◌, ◌≤◌, ◌+◌, ◌++◌, ◌∷◌, [], ap, arith, get_or, length}
+use Rattle.std.proofs.Common.{map}
 use Rattle.std.proofs.Common.{refl, subst, sym, take}
 use Rattle.std.proofs.lemmas.List.{length-append, length-map, take_all, length-take-le}
 use Rattle.std.proofs.lemmas.Option.{slice_get_read}
@@ -25,8 +26,9 @@ pub loop-group-preserved : goal.loop-group-preserved
 loop-group-preserved c =
     let settings = c.args.settings.now in
     let k = c.loop-group.group-index in
-    let before = groups_over settings.buffers.items (map group_view (take k settings.groups.items)) in
-    let one = group_over (numbered_buffers settings.buffers.items) (group_view c.group-item.result) in
+    let all = settings.buffers.items in
+    let before = groups_over all (map group_view (take k settings.groups.items)) in
+    let one = group_over (numbered_buffers all) (group_view c.group-item.result) in
     let within : k < length settings.groups.items =
     omega (arith, c.loop-group-test.true, ap length c.deref-group-items.ensures.value) in
     let count : length c.loop-group.racks.items ≡ length before =
@@ -42,7 +44,8 @@ loop-group-preserved c =
       are = subst (λ racks. AreNewRacks (groups_over settings.buffers.items
           (map group_view (take (k + 1) settings.groups.items))) racks)
           (sym c.in_ok-push.ensures.items)
-          (subst (λ groups. AreNewRacks groups (c.loop-group.racks.items ++ c.in_ok-new.field-0 ∷ []))
+          (subst
+          (λ groups. AreNewRacks groups (c.loop-group.racks.items ++ c.in_ok-new.field-0 ∷ []))
           (sym (one_more_group settings.buffers.items settings.groups.items k c.group-item.result
           within (c.group-item.is
           ∙ ap (λ groups. get_or groups k c.group-item.result) c.deref-group-items.ensures.value)))

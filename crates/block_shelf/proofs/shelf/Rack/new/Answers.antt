@@ -1,38 +1,31 @@
-use Rattle.std.proofs.Common.{◌∙◌, ◌+◌, ◌≤◌, ◌++◌, ◌∷◌, [], ap, arith, get_or, length, map, refl}
+use Rattle.std.proofs.Common.{◌∙◌, ◌+◌, ◌≤◌, ◌++◌, ◌∷◌, [], ap, arith, get_or, length, refl}
 use Rattle.std.proofs.Common.{slice_get, subst, sym, take}
 use Rattle.std.proofs.lemmas.Bool.{ltb-true, ltb-false}
 use Rattle.std.proofs.lemmas.Option.{slice_get_read}
-use Rattle.std.proofs.lemmas.List.{length-map, take_all}
-use Rattle.buffer_group.specs.Groups.{blocks_in}
-use Rattle.news_terms.specs.Places as places
 use Rattle.relay_conf.specs.Places.{group_view, group_over, numbered_buffers}
-use Rattle.block_shelf.proofs.NewShelf.{IsNamed, members, none_more, one_more}
+use Rattle.block_shelf.proofs.NewShelf.{IsNamed, all_named, named_count, none_more, one_more}
 use Rattle.block_shelf.proofs.shelf.Rack.new.Goals as goal
 
--- all numbers of the list
 pub new-requires : goal.new-requires
 new-requires c =
-    let all = take_all c.loop-number.number-index c.args.group.now.buffers.items
-    (omega (arith, c.loop-number-test.false, ap length c.deref-number-items.ensures.value)) in
-    let named = members c.args.all.now c.args.group.now.buffers.items in
-    omega (
-      arith,
-      c.requires,
-      ap length (c.loop-number.invariant.blocks ∙ ap (λ numbers. blocks_in (members c.args.all.now numbers)) all),
-      length-map named (λ (b : places.Buffer). b.blocks),
-    )
+    let list = c.args.group.now.buffers.items in
+    let named = all_named c.args.all.now list c.loop-number.number-index c.loop-number.numbers.items
+        _ (omega (arith, c.loop-number-test.false, ap length c.deref-number-items.ensures.value))
+        c.loop-number.invariant in
+    omega (arith, c.requires,
+    named_count c.args.all.now list c.loop-number.numbers.items c.loop-number.blocks.items named)
 
 pub returns : goal.returns
 returns c =
-    let all = take_all c.loop-number.number-index c.args.group.now.buffers.items
-    (omega (arith, c.loop-number-test.false, ap length c.deref-number-items.ensures.value)) in
+    let list = c.args.group.now.buffers.items in
+    let named = all_named c.args.all.now list c.loop-number.number-index c.loop-number.numbers.items
+        _ (omega (arith, c.loop-number-test.false, ap length c.deref-number-items.ensures.value))
+        c.loop-number.invariant in
     record {
       position = c.new.ensures.places
           (group_over (numbered_buffers c.args.all.now) (group_view c.args.group.now)) refl
-          (c.loop-number.invariant.blocks
-          ∙ ap (λ numbers. blocks_in (members c.args.all.now numbers)) all);
-      numbers = c.loop-number.invariant.numbers
-          ∙ ap (λ numbers. map (λ (b : places.Buffer). b.number) (members c.args.all.now numbers)) all;
+          named.blocks;
+      numbers = named.numbers;
     }
 
 pub loop-number-preserved-in_default : goal.loop-number-preserved-in_default
