@@ -227,6 +227,7 @@ module _ {S : Type 0} {g : Ghosts S} (trusted : Bool) (old : Shelf S g) (w : Ter
       (record { buffers = with_item old.buffers i code'; racks = old.racks })
   wrote (Ok last) does device =
       let next : Opening = IsOpen token text (written + 1) in
+      (last_is last does,
       replaced trusted old w begun kept openings failures keeps i code' old.racks begun kept
       (put_at openings h (Some next)) failures keeps.fit
       (still_opened next (record {
@@ -245,7 +246,15 @@ module _ {S : Type 0} {g : Ghosts S} (trusted : Bool) (old : Shelf S g) (w : Ter
       (ap failures (sym at.place.number) ∙ at.keeps.failed ∙ sym device.no_failure))
       (others (Some next)
       (λ other e. ap (λ (each : Opening). (token_in each).buffer) (same_Some other next (sym e)))
-      kept (λ buffer t named_there away. refl) failures (λ k away. refl))
+      kept (λ buffer t named_there away. refl) failures (λ k away. refl)))
+    where
+      last_is : (last : Bool) → WritesNext code write text (Ok last) code'
+          → last ≡ (written + 1 == size_of (length text))
+      last_is last does =
+          does.last
+          ∙ ap (λ n. n == size_of (buffers.length_of write))
+          (does.count ∙ ap (λ n. n + 1) open_as.blocks)
+          ∙ ap (λ n. written + 1 == size_of n) (open_as.octets ∙ sym whole_length)
   wrote (Err e) does device = (fault_is e does, (later, rises device, keeps_after does))
     where
       later : ℕ → ℕ
@@ -264,7 +273,7 @@ module _ {S : Type 0} {g : Ghosts S} (trusted : Bool) (old : Shelf S g) (w : Ter
       counted : failures token.buffer ≡ g.failures (store_of code)
       counted = ap failures (sym at.place.number) ∙ at.keeps.failed
 
-      rises : LeavesDevice code (Err e) code' → HasFailedAt token.buffer failures later
+      rises : LeavesDevice {X = Bool} code (Err e) code' → HasFailedAt token.buffer failures later
       rises device =
           record {
             rises = λ k.

@@ -1,6 +1,6 @@
 -- What a begin, a write of a block, a finish and an abandon do to what the shelf keeps. The calls are
 -- total: what each needs stands as a premise, in the relay's own words.
-use Rattle.std.specs.Prelude.{◌≡◌, ℕ, ◌+◌, ◌≤◌, ◌<◌, Bool, List, [], ◌∷◌, ◌++◌, length, slice_get}
+use Rattle.std.specs.Prelude.{◌≡◌, ℕ, ◌+◌, ◌==◌, ◌≤◌, ◌<◌, Bool, List, [], ◌∷◌, ◌++◌, length, slice_get}
 use Rattle.std.specs.Prelude.{Option, None, Some, option_and_then, Result, Ok, Err}
 use Rattle.cyc_block.specs.declared.store.BlockStore.{Ghosts}
 use Rattle.cyc_buffer.specs.Agreement as buffers
@@ -82,12 +82,14 @@ abbrev pub IsFaultAt : FaultKind → Token → BufError → Type 0
 IsFaultAt kind token e =
     e ≡ Device (record { kind = kind; buffer = token.buffer; length = token.length })
 
--- a write of a block of group h's open write: one more is written, or the device failed
+-- a write of a block of group h's open write: one more is written, and whether it was the last is
+-- said; or the device failed
 abbrev pub WrittenAs : {S : Type 0} {g : Ghosts S} → (trusted : Bool) → Terms → (h : ℕ) → Token
     → (text : List ℕ) → (written : ℕ) → (ℕ → List ℕ) → List Kept → (ℕ → Option Opening) → (ℕ → ℕ)
     → Result Bool BufError → (new : Shelf S g) → Type 0
 WrittenAs trusted w h token text written begun kept openings failures (Ok last) new =
-    KeepsTexts trusted new w begun kept
+    (last ≡ (written + 1 == size_of (length text)))
+    × KeepsTexts trusted new w begun kept
     (put_at openings h (Some (IsOpen token text (written + 1)))) failures
 WrittenAs trusted w h token text written begun kept openings failures (Err e) new =
     IsFaultAt kinds.Write token e
