@@ -1,21 +1,20 @@
 -- A begin of a group, in the histories of the buffers.
-use Rattle.std.proofs.Common.{◌≡◌, ◌≢◌, ◌∙◌, ℕ, Bool, true, false, refl, sym, ap, subst, length, map}
+use Rattle.std.proofs.Common.{◌≡◌, ◌∙◌, ℕ, Bool, true, false, refl, sym, ap}
+use Rattle.std.proofs.Common.{map}
 use Rattle.std.proofs.Common.{List, [], ◌∷◌, ◌++◌, Option, None, Some, slice_get, ◌==◌}
 use Rattle.std.proofs.Common.{if◌then◌else◌}
 use Rattle.std.specs.List.{AllByRecursion}
 use Rattle.std.proofs.lemmas.Bool.{cond-true, cond-false, true≢false}
-use Rattle.std.proofs.lemmas.Option.{same_Some, none-some}
+use Rattle.std.proofs.lemmas.Option.{same_Some}
 use Rattle.cyc_buffer.specs.History.{History, Begin, Article, asked, head_of, is_at, finished_at}
-use Rattle.cyc_buffer.specs.History.{text_under, text_of, with_begin}
+use Rattle.cyc_buffer.specs.History.{text_of, with_begin}
 use Rattle.cyc_buffer.specs.Register.{IsSized}
 use Rattle.news_terms.proofs.PickedBegins.{begins_here, begins_elsewhere}
 use Rattle.news_terms.specs.Picks.{pick_of, begins_in, place_after}
 use Rattle.news_terms.specs.Places.{Buffer, Group, Head, size_of}
-use Rattle.news_terms.specs.Token.{Token}
 use Rattle.relay_facts.proofs.Puts.{put_at_here, put_at_both}
 use Rattle.relay_model.specs.State.{put_at, Kept}
 use Rattle.block_shelf.specs.Histories.{HasBegins, HasTexts}
-use Rattle.news_terms.specs.Settings.{IsBufferAt}
 
 -- the sizes begun, one more of them in a group
 abbrev pub begun_more : (ℕ → List ℕ) → (g size : ℕ) → ℕ → List ℕ

@@ -1,23 +1,22 @@
 -- A begin, in what the shelf keeps.
-use Rattle.std.proofs.Common.{◌≡◌, ◌∙◌, ℕ, ◌<◌, ◌≤◌, nat_lt, Bool, true, false, refl, sym, ap, subst}
-use Rattle.std.proofs.Common.{arith, length, map, List, [], ◌∷◌, ◌++◌, Option, None, Some, All, slice_get}
+use Rattle.std.proofs.Common.{◌≡◌, ◌∙◌, ℕ, ◌<◌, ◌≤◌, nat_lt, Bool, true, false, refl, sym, ap}
+use Rattle.std.proofs.Common.{subst}
+use Rattle.std.proofs.Common.{arith, length, List, [], ◌∷◌, ◌++◌, Option, None, Some, All}
+use Rattle.std.proofs.Common.{slice_get}
 use Rattle.std.proofs.Common.{slice_index_or, slice_set, is_some, ◌==◌, if◌then◌else◌}
 use Rattle.std.proofs.lemmas.Bool.{cond-true, cond-false, ltb-true, ltb-false, lt-ltb, true≢false}
 use Rattle.std.proofs.lemmas.Bool.{eqb-true, eqb-false}
 use Rattle.std.proofs.lemmas.List.Elements.{All-append, All-cons, All-nil}
 use Rattle.std.proofs.lemmas.Option.{same_Some, none-some, slice_get-map, slice_get_within}
-use Rattle.std.specs.Global.{Vec}
 use Rattle.std.specs.Prelude.{option_map, option_and_then}
-use Rattle.std.specs.List.{AllByRecursion}
 use Rattle.std.specs.Vec.{with_item}
-use Rattle.buffer_group.specs.Groups.{KeepsPlaces, pick_view}
-use Rattle.buffer_group.specs.declared.group.Group as groups
+use Rattle.buffer_group.specs.Groups.{pick_view}
 use Rattle.buffer_group.specs.declared.group.Pick.{Pick}
 use Rattle.cyc_block.specs.declared.store.BlockStore.{Ghosts}
 use Rattle.cyc_buffer.proofs.Finished.{lies, not_at_next}
 use Rattle.cyc_buffer.specs.Agreement as buffers
 use Rattle.cyc_buffer.specs.Agreement.{Agrees, Holds, store_of, register_of}
-use Rattle.cyc_buffer.specs.Answers.{refusal, error_of, fault_of}
+use Rattle.cyc_buffer.specs.Answers.{refusal, fault_of}
 use Rattle.cyc_buffer.specs.History as histories
 use Rattle.cyc_buffer.specs.History.{History, with_begin, open_token, next_cycle}
 use Rattle.cyc_buffer.specs.Register.{Keeps}
@@ -38,13 +37,13 @@ use Rattle.relay_facts.proofs.Puts.{put_at_here, put_at_there, put_at_both}
 use Rattle.relay_facts.proofs.BufferCount.{holds_there}
 use Rattle.relay_model.specs.State.{Kept, put_at}
 use Rattle.relay_model.specs.Terms.{Terms}
-use Rattle.block_shelf.proofs.Begins.{HasOwnPlaces, begun_more, picked_begins, other_begins, begun_texts}
+use Rattle.block_shelf.proofs.Begins.{HasOwnPlaces, begun_more, picked_begins, other_begins}
+use Rattle.block_shelf.proofs.Begins.{begun_texts}
 use Rattle.block_shelf.proofs.Ending.{untouched}
 use Rattle.block_shelf.proofs.ShelfReads.{some_there}
 use Rattle.block_shelf.proofs.Shelving.{replaced, read_here, only_there, put_here, put_there}
 use Rattle.block_shelf.proofs.Writings.{HasThis, is_free, just_begun, writing_here}
-use Rattle.block_shelf.specs.Calls.{CanBegin, BegunAs, place_in, token_at}
-use Rattle.block_shelf.specs.Histories.{HasBegins}
+use Rattle.block_shelf.specs.Calls.{CanBegin, place_in, token_at}
 use Rattle.block_shelf.specs.Keeping.{KeepsTexts, KeepsBuffer, IsOpenIn, HasRack, KeepsRack}
 use Rattle.block_shelf.specs.Openings.{Opening, IsOpen, token_in}
 use Rattle.news_terms.specs.Settings.{IsBufferAt}
@@ -115,7 +114,8 @@ module _ {S : Type 0} {g : Ghosts S} (trusted : Bool) (old : Shelf S g) (w : Ter
       (ap (slice_get old.racks.items) is ∙ had.there) read))
       had.keeps
 
-  module _ (i : ℕ) (rack : Rack) (is : i ≡ h) (read_rack : rack ≡ slice_index_or old.racks.items i rack)
+  module _ (i : ℕ) (rack : Rack) (is : i ≡ h)
+      (read_rack : rack ≡ slice_index_or old.racks.items i rack)
       (picked : Pick) (picks_it : pick_view picked ≡ pick) where
     -- the number at the place that was picked
     number_there : slice_get rack.numbers.items picked.buffer ≡ Some target.0.number
@@ -346,7 +346,8 @@ module _ {S : Type 0} {g : Ghosts S} (trusted : Bool) (old : Shelf S g) (w : Ter
 
       -- each open write is in a buffer of its group, the new one too
       opened_after : (text : List ℕ) → length text ≡ octets → (k : ℕ) (other : Opening)
-          → put_at openings h (Some (IsOpen token text 0)) k ≡ Some other → IsOpenIn w.groups k other
+          → put_at openings h (Some (IsOpen token text 0)) k ≡ Some other
+          → IsOpenIn w.groups k other
       opened_after text long k other e =
           put_at_both (λ each. each ≡ Some other → IsOpenIn w.groups k other) openings h
           (Some (IsOpen token text 0)) k

@@ -1,6 +1,7 @@
 -- A write of a block and the end of a write, in what the shelf keeps.
-use Rattle.std.proofs.Common.{◌≡◌, ◌≢◌, ◌∙◌, ℕ, nat_lt, Bool, true, false, refl, sym, ap, subst, length}
-use Rattle.std.proofs.Common.{List, [], ◌∷◌, ◌++◌, Option, None, Some, slice_get, slice_index_or}
+use Rattle.std.proofs.Common.{◌≡◌, ◌∙◌, ℕ, nat_lt, Bool, false, refl, sym, ap, subst}
+use Rattle.std.proofs.Common.{length}
+use Rattle.std.proofs.Common.{List, Option, None, Some, slice_get, slice_index_or}
 use Rattle.std.proofs.lemmas.Bool.{true≢false, lt-ltb}
 use Rattle.std.proofs.lemmas.Option.{same_Some, none-some, slice_get_within}
 use Rattle.std.specs.Vec.{with_item}
@@ -8,7 +9,7 @@ use Rattle.cyc_block.specs.declared.store.BlockStore.{Ghosts}
 use Rattle.cyc_buffer.proofs.OpenLemmas.{is_open}
 use Rattle.cyc_buffer.specs.Agreement as buffers
 use Rattle.cyc_buffer.specs.Agreement.{Agrees, Follows, Owns, IsOpenAs, store_of}
-use Rattle.cyc_buffer.specs.History.{History, Writing, open_token, without_write, with_finish}
+use Rattle.cyc_buffer.specs.History.{History, Writing, without_write}
 use Rattle.cyc_buffer.specs.declared.buffer.Buffer.{Buffer}
 use Rattle.cyc_buffer.specs.declared.register.Open.{Open}
 use Rattle.cyc_token.specs.Token.{token_view}
@@ -22,8 +23,8 @@ use Rattle.relay_model.specs.Terms.{Terms}
 use Rattle.block_shelf.proofs.Shelving.{OpenPlace, open_place, only_there, replaced, read_here}
 use Rattle.block_shelf.proofs.Writings.{HasThis, has_this, writing_apart, writing_ended}
 use Rattle.block_shelf.proofs.Writings.{IsApart, IsOnly}
-use Rattle.block_shelf.specs.Histories.{IsHistoryOf, HasBegins, IsWriting}
-use Rattle.block_shelf.specs.Keeping.{KeepsTexts, KeepsBuffer, HasBuffer, IsOpenIn}
+use Rattle.block_shelf.specs.Histories.{HasBegins, IsWriting}
+use Rattle.block_shelf.specs.Keeping.{KeepsTexts, KeepsBuffer, IsOpenIn}
 use Rattle.block_shelf.specs.Openings.{Opening, token_in}
 use Rattle.block_shelf.specs.declared.shelf.Shelf.{Shelf}
 

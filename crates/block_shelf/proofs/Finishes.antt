@@ -1,9 +1,9 @@
 -- A finish, in the texts of a buffer's history and in those that the relay keeps.
-use Rattle.std.proofs.Common.{◌≡◌, ◌∙◌, ℕ, ◌+◌, ◌==◌, ◌&&◌, Bool, true, false, refl, sym, ap, length}
+use Rattle.std.proofs.Common.{◌≡◌, ◌∙◌, ℕ, ◌+◌, ◌==◌, ◌&&◌, Bool, true, false, refl, sym, ap}
+use Rattle.std.proofs.Common.{length}
 use Rattle.std.proofs.Common.{List, [], ◌∷◌, ◌++◌, Option, None, Some, if◌then◌else◌}
-use Rattle.std.proofs.lemmas.Bool.{cond-true, cond-false, and_parts, and_from, true≢false, eqb-true}
+use Rattle.std.proofs.lemmas.Bool.{cond-true, cond-false, and_parts, true≢false, eqb-true}
 use Rattle.std.proofs.lemmas.Bool.{eq-eqb, ne_eqb}
-use Rattle.std.proofs.lemmas.List.Folds.{find-append}
 use Rattle.std.specs.Prelude.{find, option_map}
 use Rattle.cyc_buffer.specs.History.{Article, Begin, head_of, is_at, finished_at, text_of, token_at}
 use Rattle.news_terms.specs.Picks.{place_after}
@@ -16,14 +16,16 @@ use Rattle.relay_model.specs.State.{Kept}
 another : (kept : List Kept) (one : Kept) (t : Token) → same_token one.token t ≡ false
     → text_under (kept ++ one ∷ []) t ≡ text_under kept t
 another [] one t other =
-    ap (option_map (λ (each : Kept). each.text)) (cond-false (same_token one.token t) (Some one) None
+    ap (option_map (λ (each : Kept). each.text))
+    (cond-false (same_token one.token t) (Some one) None
     other)
 another (first ∷ kept) one t other =
     by (same_token first.token t) (another kept one t other)
   where
     by : (b : Bool) → text_under (kept ++ one ∷ []) t ≡ text_under kept t
         → option_map (λ (each : Kept). each.text)
-        (if b then Some first else find (λ (each : Kept). same_token each.token t) (kept ++ one ∷ []))
+        (if b then Some first
+        else find (λ (each : Kept). same_token each.token t) (kept ++ one ∷ []))
         ≡ option_map (λ (each : Kept). each.text)
         (if b then Some first else find (λ (each : Kept). same_token each.token t) kept)
     by true later = refl
@@ -63,7 +65,8 @@ newest (first ∷ kept) one t none = by (same_token first.token t) (newest kept 
         → option_map (λ (each : Kept). each.text)
         (if b then Some first else find (λ (each : Kept). same_token each.token t) kept) ≡ None
         → option_map (λ (each : Kept). each.text)
-        (if b then Some first else find (λ (each : Kept). same_token each.token t) (kept ++ one ∷ []))
+        (if b then Some first
+        else find (λ (each : Kept). same_token each.token t) (kept ++ one ∷ []))
         ≡ (if same_token one.token t then Some one.text else None)
     by true later e = absurd (cc)
     by false later e = later e

@@ -1,7 +1,8 @@
 -- What a buffer's history answers, and what the relay's state says is found.
-use Rattle.std.proofs.Common.{◌≡◌, ◌∙◌, ℕ, ◌+◌, ◌<◌, ◌≤◌, ◌==◌, ◌||◌, not, nat_lt, nat_le, max}
-use Rattle.std.proofs.Common.{Bool, true, false, refl, sym, ap, subst, arith, length, zero, suc}
-use Rattle.std.proofs.Common.{List, [], ◌∷◌, Option, None, Some, slice_get, if◌then◌else◌, unwrap_or}
+use Rattle.std.proofs.Common.{◌≡◌, ◌∙◌, ℕ, ◌+◌, ◌<◌, ◌==◌, ◌||◌, not, nat_lt, nat_le, max}
+use Rattle.std.proofs.Common.{Bool, true, false, refl, sym, ap, subst, arith, zero, suc}
+use Rattle.std.proofs.Common.{List, [], ◌∷◌, Option, None, Some, slice_get, if◌then◌else◌}
+use Rattle.std.proofs.Common.{unwrap_or}
 use Rattle.std.proofs.Common.{is_some}
 use Rattle.std.proofs.lemmas.Bool.{cond-true, cond-false, eq-eqb, ne_eqb, leb-true}
 use Rattle.std.proofs.lemmas.Bool.{true≢false}
@@ -57,7 +58,8 @@ module _ (buffer : Buffer) (token : Token) (k front : ℕ) (here : token.buffer 
       (nat_lt buffer.blocks (token.first + size_of token.length))
       (nat_le (size_of token.length) k) (nat_le front place)
       (ap not (eq-eqb token.buffer buffer.number here))
-      (λ past. eq-eqb token.length 0 (omega (arith, within, leb-true (size_of token.length) k past)))
+      (λ past. eq-eqb token.length 0
+      (omega (arith, within, leb-true (size_of token.length) k past)))
     where
       by : (a b c d e : Bool) → a ≡ false → (d ≡ true → b ≡ true)
           → (a || b || c || d || e) ≡ (b || c || e)

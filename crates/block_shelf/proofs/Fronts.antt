@@ -1,6 +1,8 @@
 -- The front of a buffer's history is the front that the relay's state says.
-use Rattle.std.proofs.Common.{◌≡◌, ◌∙◌, ℕ, zero, suc, ◌+◌, ◌⊎◌, inl, inr, ◌==◌, Bool, true, false, refl, sym}
-use Rattle.std.proofs.Common.{ap, subst, zero-add, arith, List, [], ◌∷◌, Option, None, Some, slice_get}
+use Rattle.std.proofs.Common.{◌≡◌, ◌∙◌, ℕ, zero, suc, ◌+◌, ◌⊎◌, inl, inr, ◌==◌, Bool, true, false}
+use Rattle.std.proofs.Common.{refl, sym}
+use Rattle.std.proofs.Common.{ap, zero-add, arith, List, [], ◌∷◌, Some}
+use Rattle.std.proofs.Common.{slice_get}
 use Rattle.std.proofs.lemmas.Bool.{eqb-true, eqb-false}
 use Rattle.std.proofs.lemmas.Option.{same_Some, none-some}
 use Rattle.cyc_buffer.specs.History as histories
@@ -12,7 +14,7 @@ use Rattle.relay_facts.proofs.Skipping.{groups_skipped, one_group}
 use Rattle.relay_model.specs.Fetches as fetches
 use Rattle.relay_model.specs.State.{State}
 use Rattle.relay_model.specs.Terms.{Terms}
-use Rattle.std.proofs.Common.{map, All}
+use Rattle.std.proofs.Common.{All}
 use Rattle.block_shelf.specs.Histories.{HasBegins}
 use Rattle.news_terms.specs.Settings.{IsBufferAt, AreSound}
 use Rattle.news_terms.specs.Fronts.{FitsGroup}
@@ -37,7 +39,12 @@ find_in (first ∷ rest) number = by (first.number == number) refl (find_in rest
         → Numbered (first ∷ rest) number
         ⊎ ((i : ℕ) (one : Buffer) → slice_get (first ∷ rest) i ≡ Some one → one.number ≡ number → ⊥)
     by true e later =
-        inl (record { index = 0; buffer = first; there = refl; is = eqb-true first.number number e })
+        inl (record {
+          index = 0;
+          buffer = first;
+          there = refl;
+          is = eqb-true first.number number e;
+        })
     by false e (inl found) =
         inl (record {
           index = suc found.index;
@@ -104,7 +111,8 @@ module _ (w : Terms) (σ : State) (h : History) (sound : AreSound w.buffers w.gr
     → All (FitsGroup group) (σ.begun g))
     (numbered : (b : ℕ) (buffer : Buffer) → slice_get w.buffers b ≡ Some buffer
     → buffer.number ≡ b)
-    (j : ℕ) (there : slice_get w.buffers j ≡ Some h.buffer) (has : HasBegins w.groups σ.begun h) where
+    (j : ℕ) (there : slice_get w.buffers j ≡ Some h.buffer)
+    (has : HasBegins w.groups σ.begun h) where
   -- a buffer of a group with this number is this one
   same_there : (g i : ℕ) (one : Buffer) → IsBufferAt w.groups g i one
       → one.number ≡ h.buffer.number → one ≡ h.buffer

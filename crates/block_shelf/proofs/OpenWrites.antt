@@ -1,6 +1,8 @@
 -- A write of a block and a finish of a group's open write, in what the shelf keeps.
-use Rattle.std.proofs.Common.{◌≡◌, ◌∙◌, ℕ, ◌+◌, ◌*◌, ◌<◌, ◌≤◌, min, Bool, true, false, refl, sym, ap}
-use Rattle.std.proofs.Common.{subst, arith, take, length, map, List, [], ◌∷◌, ◌++◌, Option, None, Some}
+use Rattle.std.proofs.Common.{◌≡◌, ◌∙◌, ℕ, ◌+◌, ◌*◌, ◌<◌, ◌≤◌, Bool, false, refl, sym}
+use Rattle.std.proofs.Common.{ap}
+use Rattle.std.proofs.Common.{subst, arith, take, length, map, List, [], ◌∷◌, ◌++◌, Option, None}
+use Rattle.std.proofs.Common.{Some}
 use Rattle.std.proofs.Common.{slice_get, slice_index_or, ◌==◌, if◌then◌else◌, Result, Ok, Err}
 use Rattle.std.proofs.lemmas.List.{length-take, take_min, take_all}
 use Rattle.std.proofs.lemmas.Option.{same_Some, none-some}
@@ -13,7 +15,6 @@ use Rattle.cyc_buffer.specs.Calls.{LeavesDevice, WritesNext}
 use Rattle.cyc_buffer.specs.History.{History, Article, Begin, Writing, asked, finish_begins}
 use Rattle.cyc_buffer.specs.History.{token_of_open, token_at, with_block, with_failure, with_finish}
 use Rattle.cyc_buffer.specs.History.{head_of, text_of, finished_at}
-use Rattle.cyc_buffer.specs.Register as registers
 use Rattle.cyc_buffer.specs.Register.{Writes}
 use Rattle.cyc_buffer.specs.declared.answers.BufError.{BufError}
 use Rattle.cyc_buffer.specs.declared.answers.BufError.TheVariants.{Device}
@@ -32,14 +33,14 @@ use Rattle.relay_model.specs.Fetches.{text_under}
 use Rattle.relay_model.specs.State.{Kept, put_at}
 use Rattle.relay_model.specs.Terms.{Terms}
 use Rattle.relay_model.specs.World.{HasFailedAt}
-use Rattle.block_shelf.proofs.Ending.{Found, found, handle_is_open, untouched, same_begins}
-use Rattle.block_shelf.proofs.Ending.{ended_opened, apart_of, writing_of}
+use Rattle.block_shelf.proofs.Ending.{Found, found, handle_is_open, untouched}
+use Rattle.block_shelf.proofs.Ending.{ended_opened, writing_of}
 use Rattle.block_shelf.proofs.Finishes.{finished_texts, other_buffer, under}
 use Rattle.block_shelf.proofs.Shelving.{replaced, only_there}
 use Rattle.block_shelf.proofs.Writings.{HasThis, IsOnly, one_more_block, failed_block, writing_here}
 use Rattle.block_shelf.proofs.Writings.{writing_ended}
 use Rattle.block_shelf.specs.Calls.{WrittenAs, IsFaultAt}
-use Rattle.block_shelf.specs.Histories.{HasBegins, HasTexts, IsWriting}
+use Rattle.block_shelf.specs.Histories.{IsWriting}
 use Rattle.block_shelf.specs.Keeping.{KeepsTexts, KeepsBuffer, IsOpenIn}
 use Rattle.block_shelf.specs.Openings.{Opening, IsOpen, IsBroken, token_in}
 use Rattle.news_terms.specs.Settings.{IsBufferAt}
@@ -207,7 +208,8 @@ module _ {S : Type 0} {g : Ghosts S} (trusted : Bool) (old : Shelf S g) (w : Ter
           texts = λ t named_there.
               ap (λ (b : places.Buffer).
               if t.buffer == b.number
-              then text_of t.class t.length (finished_at b history.begins t.cycle t.first) else None)
+              then text_of t.class t.length (finished_at b history.begins t.cycle t.first)
+              else None)
               same_buffer_there
               ∙ ap (λ begins. if t.buffer == now.buffer.number
               then text_of t.class t.length (finished_at now.buffer begins t.cycle t.first)
@@ -226,27 +228,29 @@ module _ {S : Type 0} {g : Ghosts S} (trusted : Bool) (old : Shelf S g) (w : Ter
       → WrittenAs trusted w h token text written begun kept openings failures result
       (record { buffers = with_item old.buffers i code'; racks = old.racks })
   wrote (Ok last) does device =
-      let next : Opening = IsOpen token text (written + 1) in
-      (last_is last does,
-      replaced trusted old w begun kept openings failures keeps i code' old.racks begun kept
-      (put_at openings h (Some next)) failures keeps.fit
-      (still_opened next (record {
-        index = at.place.index;
-        buffer = at.place.buffer;
-        is_at = at.place.is_at;
-        named = at.place.number;
-        whole = whole_length;
-      }))
-      keeps.racks
-      (here (with_block text now) next failures refl refl
-      (does.written trusted now
-      (subst (ContinuesIn text) (sym writes) (front_of_text (chunk_size * written) text))
-      at.keeps.agrees)
-      (one_more_block now token text written at.this)
-      (ap failures (sym at.place.number) ∙ at.keeps.failed ∙ sym device.no_failure))
-      (others (Some next)
-      (λ other e. ap (λ (each : Opening). (token_in each).buffer) (same_Some other next (sym e)))
-      kept (λ buffer t named_there away. refl) failures (λ k away. refl)))
+      let next : Opening = IsOpen token text (written + 1) in (
+        last_is last does,
+        replaced trusted old w begun kept openings failures keeps i code' old.racks begun kept
+            (put_at openings h (Some next)) failures keeps.fit
+            (still_opened next (record {
+              index = at.place.index;
+              buffer = at.place.buffer;
+              is_at = at.place.is_at;
+              named = at.place.number;
+              whole = whole_length;
+            }))
+            keeps.racks
+            (here (with_block text now) next failures refl refl
+            (does.written trusted now
+            (subst (ContinuesIn text) (sym writes) (front_of_text (chunk_size * written) text))
+            at.keeps.agrees)
+            (one_more_block now token text written at.this)
+            (ap failures (sym at.place.number) ∙ at.keeps.failed ∙ sym device.no_failure))
+            (others (Some next)
+            (λ other e. ap (λ (each : Opening). (token_in each).buffer)
+            (same_Some other next (sym e)))
+            kept (λ buffer t named_there away. refl) failures (λ k away. refl)),
+      )
     where
       last_is : (last : Bool) → WritesNext code write text (Ok last) code'
           → last ≡ (written + 1 == size_of (length text))
@@ -264,7 +268,8 @@ module _ {S : Type 0} {g : Ghosts S} (trusted : Bool) (old : Shelf S g) (w : Ter
           → IsFaultAt kinds.Write token e
       fault_is e does =
           does.fault trusted now at.keeps.agrees
-          ∙ ap (λ n. Device (record { kind = kinds.Write; buffer = n; length = write.token.length }))
+          ∙ ap
+          (λ n. Device (record { kind = kinds.Write; buffer = n; length = write.token.length }))
           (sym number_is)
           ∙ ap
           (λ (t : Token).
@@ -290,7 +295,8 @@ module _ {S : Type 0} {g : Ghosts S} (trusted : Bool) (old : Shelf S g) (w : Ter
           }
 
       keeps_after : WritesNext code write text (Err e) code'
-          → KeepsTexts trusted (record { buffers = with_item old.buffers i code'; racks = old.racks })
+          → KeepsTexts trusted
+          (record { buffers = with_item old.buffers i code'; racks = old.racks })
           w begun kept (put_at openings h (Some (IsBroken token))) later
       keeps_after does =
           replaced trusted old w begun kept openings failures keeps i code' old.racks begun kept

@@ -1,6 +1,7 @@
 -- How often the devices were called, once one of the buffers is another.
-use Rattle.std.proofs.Common.{◌≡◌, ◌∙◌, ◌⊎◌, inl, inr, ℕ, ◌+◌, ◌<◌, ◌==◌, Bool, true, false, refl, sym}
-use Rattle.std.proofs.Common.{ap, subst, length, List, Some, slice_get, slice_index_or, slice_set}
+use Rattle.std.proofs.Common.{◌≡◌, ◌∙◌, ◌⊎◌, inl, inr, ℕ, ◌+◌, ◌<◌, ◌==◌, Bool, true, false, refl}
+use Rattle.std.proofs.Common.{sym}
+use Rattle.std.proofs.Common.{ap, subst, length, List, Some, slice_get, slice_index_or}
 use Rattle.std.proofs.lemmas.Bool.{eqb-true, eqb-false}
 use Rattle.std.specs.Global.{Vec}
 use Rattle.std.specs.Vec.{with_item}

@@ -1,8 +1,9 @@
 -- A read of a block, and a front, in what the shelf keeps.
-use Rattle.std.proofs.Common.{◌≡◌, ◌∙◌, ℕ, ◌+◌, ◌<◌, ◌≤◌, ◌⊎◌, inl, inr, ◌==◌, nat_lt, max, zero, suc}
-use Rattle.std.proofs.Common.{Bool, true, false, refl, sym, ap, subst, arith, zero-add, length, take}
+use Rattle.std.proofs.Common.{◌≡◌, ◌∙◌, ℕ, ◌<◌, ◌≤◌, inl, inr, ◌==◌, nat_lt, max, zero}
+use Rattle.std.proofs.Common.{suc}
+use Rattle.std.proofs.Common.{Bool, true, false, refl, sym, ap, subst, arith, zero-add, length}
 use Rattle.std.proofs.Common.{List, [], ◌∷◌, Option, None, Some, is_some, slice_get, slice_index_or}
-use Rattle.std.proofs.Common.{Result, Ok, Err, unwrap_or, if◌then◌else◌}
+use Rattle.std.proofs.Common.{Result, Ok, Err, unwrap_or}
 use Rattle.std.proofs.lemmas.Bool.{cond-true, eq-eqb, ltb-false, and_from}
 use Rattle.std.proofs.lemmas.Option.{same_Some, none-some}
 use Rattle.std.specs.Prelude.{find, ◌&&◌}
@@ -32,7 +33,6 @@ use Rattle.relay_model.specs.Fetches.{Fetched, fetched, decided, decided_in, dec
 use Rattle.relay_model.specs.Fetches.{buffer_of}
 use Rattle.relay_model.specs.State.{State, put_at}
 use Rattle.relay_model.specs.Terms.{Terms}
-use Rattle.relay_model.specs.World.{HasFailedAt}
 use Rattle.block_shelf.proofs.Founds.{IsAnswerFor, answered, decides_same, find_numbered}
 use Rattle.block_shelf.proofs.Fronts.{fronts_agree}
 use Rattle.block_shelf.proofs.Shelving.{replaced, read_here}
@@ -66,8 +66,8 @@ shown_found w σ token k (found.Chunk n) slice (answers.Chunk octets) passed (fe
     (shows.0 ∙ ap length is, shows.1 ∙ is)
 shown_found w σ token k (found.Chunk n) slice (answers.Chunk octets) passed fetches.Gone shows is
     front = absurd is
-shown_found w σ token k (found.Chunk n) slice (answers.Chunk octets) passed fetches.NotKnown shows is
-    front = absurd is
+shown_found w σ token k (found.Chunk n) slice (answers.Chunk octets) passed fetches.NotKnown shows
+    is front = absurd is
 shown_found w σ token k (found.Chunk n) slice (answers.Chunk octets) passed fetches.NotRead shows is
     front = absurd is
 shown_found w σ token k (found.Chunk n) slice (answers.Gone f) passed what shows is front =
@@ -80,10 +80,10 @@ shown_found w σ token k (found.Gone f) slice (answers.Gone p) passed fetches.Go
     subst (IsFrontFor w σ token) (sym (shows ∙ is)) front
 shown_found w σ token k (found.Gone f) slice (answers.Gone p) passed (fetches.Article text) shows is
     front = absurd is
-shown_found w σ token k (found.Gone f) slice (answers.Gone p) passed fetches.NotKnown shows is
+shown_found w σ token k (found.Gone f) slice (answers.Gone p) passed fetches.NotKnown shows
+    is front = absurd is
+shown_found w σ token k (found.Gone f) slice (answers.Gone p) passed fetches.NotRead shows is
     front = absurd is
-shown_found w σ token k (found.Gone f) slice (answers.Gone p) passed fetches.NotRead shows is front =
-    absurd is
 shown_found w σ token k (found.Gone f) slice answers.Unknown passed what shows is front =
     absurd shows
 shown_found w σ token k found.Unknown slice (answers.Chunk octets) passed what shows is front =
@@ -96,8 +96,8 @@ shown_found w σ token k found.Unknown slice answers.Unknown passed fetches.Gone
     absurd is
 shown_found w σ token k found.Unknown slice answers.Unknown passed (fetches.Article text) shows is
     front = absurd is
-shown_found w σ token k found.Unknown slice answers.Unknown passed fetches.NotRead shows is front =
-    absurd is
+shown_found w σ token k found.Unknown slice answers.Unknown passed fetches.NotRead shows is
+    front = absurd is
 
 -- an option is some, or none
 is_some_of : {X : Type 0} (o : Option X) (x : X) → o ≡ Some x → is_some o ≡ true
@@ -281,8 +281,8 @@ module _ {S : Type 0} {g : Ghosts S} (trusted : Bool) (old : Shelf S g) (w : Ter
     kept_after : (failures' : ℕ → ℕ) → Agrees trusted code' now
         → failures' token.buffer ≡ g.failures (store_of code')
         → ((n : ℕ) → (n ≡ token.buffer → ⊥) → failures' n ≡ failures n)
-        → KeepsTexts trusted (record { buffers = with_item old.buffers i code'; racks = old.racks }) w
-        σ.begun σ.kept openings failures'
+        → KeepsTexts trusted (record { buffers = with_item old.buffers i code'; racks = old.racks })
+        w σ.begun σ.kept openings failures'
     kept_after failures' agrees here others =
         replaced trusted old w σ.begun σ.kept openings failures keeps i code' old.racks σ.begun
         σ.kept openings failures' keeps.fit keeps.opened keeps.racks

@@ -1,9 +1,10 @@
 -- What the shelf keeps once one of its buffers, or one of its groups, is another.
-use Rattle.std.proofs.Common.{◌≡◌, ◌∙◌, ℕ, ◌<◌, zero, suc, Bool, true, false, refl, sym, ap, subst}
-use Rattle.std.proofs.Common.{arith, length, List, [], ◌∷◌, Option, None, Some, All, slice_get, ◌==◌}
+use Rattle.std.proofs.Common.{◌≡◌, ◌∙◌, ℕ, zero, suc, Bool, true, false, refl, sym, ap}
+use Rattle.std.proofs.Common.{List, [], ◌∷◌, Option, Some, All, slice_get}
+use Rattle.std.proofs.Common.{◌==◌}
 use Rattle.std.proofs.Common.{slice_set, slice_index_or, length-set}
 use Rattle.std.proofs.lemmas.Bool.{eqb-true, eqb-false}
-use Rattle.std.proofs.lemmas.Option.{slice_get_within, none-some, same_Some}
+use Rattle.std.proofs.lemmas.Option.{none-some, same_Some}
 use Rattle.std.specs.Global.{Vec}
 use Rattle.std.specs.Vec.{with_item}
 use Rattle.cyc_block.specs.declared.store.BlockStore.{Ghosts}
@@ -88,8 +89,8 @@ module _ {S : Type 0} {g : Ghosts S} (trusted : Bool) (old : Shelf S g) (w : Ter
       → (each : Buffer S g)
       → KeepsBuffer trusted each w.groups begun kept openings failures buffer
       → KeepsBuffer trusted each w.groups begun' kept' openings' failures' buffer)
-      → KeepsTexts trusted (record { buffers = with_item old.buffers b code; racks = racks }) w begun'
-      kept' openings' failures'
+      → KeepsTexts trusted (record { buffers = with_item old.buffers b code; racks = racks }) w
+      begun' kept' openings' failures'
   replaced b code racks begun' kept' openings' failures' fit opened has_racks here others = record {
     sound = keeps.sound;
     numbered = keeps.numbered;

@@ -1,5 +1,5 @@
 -- The open write of a buffer's history, while groups begin, write and end theirs.
-use Rattle.std.proofs.Common.{◌≡◌, ◌≢◌, ◌∙◌, ℕ, ◌+◌, ◌*◌, refl, sym, ap, subst, take, List, [], ◌∷◌}
+use Rattle.std.proofs.Common.{◌≡◌, ◌≢◌, ◌∙◌, ℕ, ◌+◌, refl, sym, ap, subst, List, [], ◌∷◌}
 use Rattle.std.proofs.Common.{Option, None, Some, Bool, false}
 use Rattle.std.proofs.lemmas.Option.{same_Some, none-some}
 use Rattle.cyc_buffer.specs.History.{History, Begin, Writing, open_token, token_of_open}

@@ -1,17 +1,15 @@
--- What a begin, a write of a block, a finish and an abandon do to what the shelf keeps. The calls are
--- total: what each needs stands as a premise, in the relay's own words.
-use Rattle.std.specs.Prelude.{◌≡◌, ℕ, ◌+◌, ◌==◌, ◌≤◌, ◌<◌, Bool, List, [], ◌∷◌, ◌++◌, length, slice_get}
+-- What a begin, a write of a block, a finish and an abandon do to what the shelf keeps. The calls
+-- are total: what each needs stands as a premise, in the relay's own words.
+use Rattle.std.specs.Prelude.{◌≡◌, ℕ, ◌+◌, ◌==◌, ◌≤◌, ◌<◌, Bool, List, [], ◌∷◌, ◌++◌, length}
+use Rattle.std.specs.Prelude.{slice_get}
 use Rattle.std.specs.Prelude.{Option, None, Some, option_and_then, Result, Ok, Err}
 use Rattle.cyc_block.specs.declared.store.BlockStore.{Ghosts}
 use Rattle.cyc_buffer.specs.Agreement as buffers
-use Rattle.cyc_buffer.specs.Answers.{fault_of}
 use Rattle.cyc_buffer.specs.declared.answers.BufError.{BufError}
 use Rattle.cyc_buffer.specs.declared.answers.BufError.TheVariants.{Device}
-use Rattle.cyc_buffer.specs.declared.answers.Fault.{Fault}
 use Rattle.cyc_buffer.specs.declared.answers.FaultKind.{FaultKind}
 use Rattle.cyc_buffer.specs.declared.answers.FaultKind.TheVariants as kinds
 use Rattle.cyc_token.specs.Token.{token_view}
-use Rattle.cyc_token.specs.declared.Token as code
 use Rattle.news_terms.specs.Fronts.{FitsGroup}
 use Rattle.news_terms.specs.Places.{Group, Place, next_place, size_of, last_cycle}
 use Rattle.news_terms.specs.Token.{Token}

@@ -1,13 +1,13 @@
 -- What the relay's state says of the history of one buffer: what its group picked for it was begun
 -- there, what is whole under its tokens was finished there, and the open write of its group that is
 -- in it is the history's (docs/PROTOCOL.md, Store).
-use Rattle.std.specs.Prelude.{◌≡◌, ◌≢◌, ℕ, ◌*◌, Bool, true, false, List, [], map, length, take}
-use Rattle.std.specs.Prelude.{Option, None, Some, slice_get, All}
+use Rattle.std.specs.Prelude.{◌≡◌, ◌≢◌, ℕ, ◌*◌, true, false, List, [], map, take}
+use Rattle.std.specs.Prelude.{Option, None, Some, slice_get}
 use Rattle.cyc_buffer.specs.History as histories
 use Rattle.cyc_buffer.specs.History.{History, Writing, asked, open_token}
 use Rattle.news_terms.specs.BlockImage.{chunk_size}
 use Rattle.news_terms.specs.Picks.{begins_in}
-use Rattle.news_terms.specs.Places.{Buffer, Group}
+use Rattle.news_terms.specs.Places.{Group}
 use Rattle.news_terms.specs.Token.{Token}
 use Rattle.relay_model.specs.Fetches as fetches
 use Rattle.relay_model.specs.State.{Kept}

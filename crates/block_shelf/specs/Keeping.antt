@@ -1,5 +1,5 @@
--- What the shelf keeps, in the relay's own words: the sizes begun, the texts that are whole, the open
--- writes, and how often each device has failed (docs/PROTOCOL.md, Store).
+-- What the shelf keeps, in the relay's own words: the sizes begun, the texts that are whole, the
+-- open writes, and how often each device has failed (docs/PROTOCOL.md, Store).
 use Rattle.std.specs.Prelude.{◌≡◌, ℕ, Bool, List, map, length, Option, Some, slice_get, All}
 use Rattle.buffer_group.specs.Groups.{KeepsPlaces}
 use Rattle.cyc_block.specs.declared.store.BlockStore.{Ghosts}

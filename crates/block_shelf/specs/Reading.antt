@@ -1,6 +1,6 @@
 -- What a read of a block finds, in the words of the relay's fetches (docs/PROTOCOL.md, Reading).
 use Rattle.std.specs.Prelude.{◌≡◌, ℕ, ◌<◌, max, Bool, true, List, length, take, None, Some}
-use Rattle.std.specs.Prelude.{Option, Result, Ok, Err, slice_get}
+use Rattle.std.specs.Prelude.{Option, Result, Ok, Err}
 use Rattle.cyc_block.specs.declared.store.BlockStore.{Ghosts}
 use Rattle.cyc_buffer.specs.declared.answers.BufError.{BufError}
 use Rattle.cyc_buffer.specs.declared.answers.FaultKind.TheVariants as kinds
@@ -47,8 +47,8 @@ pub data BlockRead {S : Type 0} {g : Ghosts S} (trusted : Bool) (w : Terms) (σ 
     (openings : ℕ → Option Opening) (failures : ℕ → ℕ) (token : Token) (k : ℕ)
     (result : Result Found BufError) (after : List ℕ) (new : Shelf S g)
     : Type 0 where
-  -- It finds what a fetch finds, over stores that are trusted; over any, where the numbers decide or
-  -- nothing whole begins there.
+  -- It finds what a fetch finds, over stores that are trusted; over any, where the numbers decide
+  -- or nothing whole begins there.
   HasFound : (one : Found) → result ≡ Ok one
       → KeepsTexts trusted new w σ.begun σ.kept openings failures
       → (trusted ≡ true → IsFoundOf w σ token k one after (fetched w σ token))

@@ -34,10 +34,10 @@ impl<S: BlockStore> Shelf<S> {
     ghost use Rattle.relay_model.specs.State.{State};
     ghost use Rattle.relay_model.specs.Terms.{Terms};
 
-    /// Begins an article of a class and of so many octets in the buffer that its group picks, at its
-    /// next place. From now on what the front passes is gone. `None` where no token has room for
-    /// the cycle; also where there is no such group, a write is open in that buffer, or the article
-    /// has no octets or doesn't fit. Takes no memory.
+    /// Begins an article of a class and of so many octets in the buffer that its group picks, at
+    /// its next place. From now on what the front passes is gone. `None` where no token has room
+    /// for the cycle; also where there is no such group, a write is open in that buffer, or the
+    /// article has no octets or doesn't fit. Takes no memory.
     pub fn begin(&mut self, group: u16, class: u8, length: u32) -> Option<Begun>
         ensures begun { BeginsOn group class length self.old result self.new }
         ensures calls { CallsNone self.old self.new }

@@ -1,8 +1,8 @@
 //! Rows for the crates of the store and of the claims: each line of standard input is a call of
 //! cyc_token, cyc_block, cyc_buffer, buffer_group, block_shelf, id_history or feed_queue, and is
-//! printed with its answer. The gate runs it with the file `stdin`, and compares what it prints with
-//! the file `stdout`, whose answers are those of docs/ and of the contracts, never this program's
-//! own.
+//! printed with its answer. The gate runs it with the file `stdin`, and compares what it prints
+//! with the file `stdout`, whose answers are those of docs/ and of the contracts, never this
+//! program's own.
 //!
 //! A row is the name of a call and its words, as README.md lists them. What a call leaves behind,
 //! the rows after it find: one store of blocks, one buffer, one group of buffers, one shelf, one

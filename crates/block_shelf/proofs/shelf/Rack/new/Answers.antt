@@ -10,17 +10,20 @@ pub new-requires : goal.new-requires
 new-requires c =
     let list = c.args.group.now.buffers.items in
     let named = all_named c.args.all.now list c.loop-number.number-index c.loop-number.numbers.items
-        _ (omega (arith, c.loop-number-test.false, ap length c.deref-number-items.ensures.value))
-        c.loop-number.invariant in
-    omega (arith, c.requires,
-    named_count c.args.all.now list c.loop-number.numbers.items c.loop-number.blocks.items named)
+    _ (omega (arith, c.loop-number-test.false, ap length c.deref-number-items.ensures.value))
+    c.loop-number.invariant in
+    omega (
+      arith,
+      c.requires,
+      named_count c.args.all.now list c.loop-number.numbers.items c.loop-number.blocks.items named,
+    )
 
 pub returns : goal.returns
 returns c =
     let list = c.args.group.now.buffers.items in
     let named = all_named c.args.all.now list c.loop-number.number-index c.loop-number.numbers.items
-        _ (omega (arith, c.loop-number-test.false, ap length c.deref-number-items.ensures.value))
-        c.loop-number.invariant in
+    _ (omega (arith, c.loop-number-test.false, ap length c.deref-number-items.ensures.value))
+    c.loop-number.invariant in
     record {
       position = c.new.ensures.places
           (group_over (numbered_buffers c.args.all.now) (group_view c.args.group.now)) refl

@@ -6,7 +6,8 @@ use Rattle.news_terms.specs.Token.{Token}
 use Rattle.block_shelf.proofs.shelf.Shelf.abandon.Goals as goal
 
 pub returns-in-Some-clause-abandoned : goal.returns-in-Some-clause-abandoned
-returns-in-Some-clause-abandoned g c = λ trusted w begun kept openings failures keeps h one is named.
+returns-in-Some-clause-abandoned g c =
+    λ trusted w begun kept openings failures keeps h one is named.
     abandoned trusted c.args.self.now w begun kept openings failures keeps h one is c.from.result
     c.in-Some.buffer.now c.abandon.new.self
     (c.from.ensures ∙ ap (λ (t : code.Token). t.buffer) c.token.ensures
@@ -15,7 +16,8 @@ returns-in-Some-clause-abandoned g c = λ trusted w begun kept openings failures
     c.abandon.ensures.store
 
 pub returns-in-None-clause-abandoned : goal.returns-in-None-clause-abandoned
-returns-in-None-clause-abandoned g c = λ trusted w begun kept openings failures keeps h one is named.
+returns-in-None-clause-abandoned g c =
+    λ trusted w begun kept openings failures keeps h one is named.
     absurd (not_missing trusted c.args.self.now w begun kept openings failures keeps h one is
     c.from.result
     (c.from.ensures ∙ ap (λ (t : code.Token). t.buffer) c.token.ensures

@@ -1,6 +1,6 @@
-use Rattle.std.proofs.Common.{◌≡◌, ap, subst, sym, length, slice_index_or, nat_lt, Some, None, false}
-use Rattle.std.proofs.Common.{Bool, List, [], ◌∷◌, ◌++◌}
-use Rattle.buffer_group.specs.declared.group.Pick.{Pick}
+use Rattle.std.proofs.Common.{◌≡◌, ap, subst, length, slice_index_or, nat_lt, Some, None}
+use Rattle.std.proofs.Common.{false}
+use Rattle.std.proofs.Common.{Bool, [], ◌∷◌, ◌++◌}
 use Rattle.cyc_buffer.specs.Agreement.{Agrees}
 use Rattle.cyc_buffer.specs.Answers.{refusal}
 use Rattle.cyc_buffer.specs.History.{History, with_begin, open_token}
@@ -84,8 +84,8 @@ returns-in_default-clause-begun g c = λ trusted w begun kept openings failures 
       place trusted c.args.self.now w begun kept openings failures keeps c.args.group c.args.class
           c.args.length can c.in_ok-number.field-0.now c.in_ok-buffer.buffer.now number
           c.in_ok-buffer.ensures.value,
-      place_is trusted c.args.self.now w begun kept openings failures keeps c.args.group c.args.class
-          c.args.length can c.in_ok-number.field-0.now c.in_ok-buffer.buffer.now number
+      place_is trusted c.args.self.now w begun kept openings failures keeps c.args.group
+          c.args.class c.args.length can c.in_ok-number.field-0.now c.in_ok-buffer.buffer.now number
           c.in_ok-buffer.ensures.value,
       (
         worn trusted c.args.self.now w begun kept openings failures keeps c.args.group c.args.class
@@ -93,10 +93,10 @@ returns-in_default-clause-begun g c = λ trusted w begun kept openings failures 
             c.in_ok-buffer.ensures.value c.in_default.field-0
             (subst (λ f. Some c.in_default.field-0 ≡ refusal history.history c.args.length f) fresh
             (c.in_default.ensures.refusal trusted history.history history.agrees)),
-        unchanged trusted c.args.self.now w begun kept openings failures keeps c.args.group c.args.class
-            c.args.length can c.in_ok-number.field-0.now c.in_ok-buffer.buffer.now number
-            c.in_ok-buffer.ensures.value c.begin.new.self c.in_ok-rack.rack.now c.from.result c.from.ensures
-            c.in_ok-rack.ensures.value
+        unchanged trusted c.args.self.now w begun kept openings failures keeps c.args.group
+            c.args.class c.args.length can c.in_ok-number.field-0.now c.in_ok-buffer.buffer.now
+            number c.in_ok-buffer.ensures.value c.begin.new.self c.in_ok-rack.rack.now c.from.result
+            c.from.ensures c.in_ok-rack.ensures.value
             (same_agrees c.in_ok-buffer.buffer.now c.begin.new.self c.in_default.ensures.refused
             c.in_default.ensures.store)
             c.in_default.ensures.store,
@@ -160,24 +160,24 @@ returns-clause-begun g c = λ trusted w begun kept openings failures keeps can.
       place trusted c.args.self.now w begun kept openings failures keeps c.args.group c.args.class
           c.args.length can c.in_ok-number.field-0.now c.in_ok-buffer.buffer.now number
           c.in_ok-buffer.ensures.value,
-      place_is trusted c.args.self.now w begun kept openings failures keeps c.args.group c.args.class
-          c.args.length can c.in_ok-number.field-0.now c.in_ok-buffer.buffer.now number
+      place_is trusted c.args.self.now w begun kept openings failures keeps c.args.group
+          c.args.class c.args.length can c.in_ok-number.field-0.now c.in_ok-buffer.buffer.now number
           c.in_ok-buffer.ensures.value,
       (
-        in_time trusted c.args.self.now w begun kept openings failures keeps c.args.group c.args.class
-            c.args.length can c.in_ok-number.field-0.now c.in_ok-buffer.buffer.now number
-            c.in_ok-buffer.ensures.value
+        in_time trusted c.args.self.now w begun kept openings failures keeps c.args.group
+            c.args.class c.args.length can c.in_ok-number.field-0.now c.in_ok-buffer.buffer.now
+            number c.in_ok-buffer.ensures.value
             (subst (λ f. None ≡ refusal history.history c.args.length f) fresh
             (c.in-Ok.ensures.refusal trusted history.history history.agrees)),
-        token_is trusted c.args.self.now w begun kept openings failures keeps c.args.group c.args.class
-            c.args.length can c.in_ok-number.field-0.now c.in_ok-buffer.buffer.now number
-            c.in_ok-buffer.ensures.value c.begin.new.self c.in_ok-rack.rack.now
-            (record { group = c.begun.new.self; numbers = c.in_ok-rack.rack.now.numbers }) c.from.result
-            c.from.ensures moved c.in-Ok.open agrees c.in-Ok.ensures.store named,
-        has_begun trusted c.args.self.now w begun kept openings failures keeps c.args.group c.args.class
-            c.args.length can c.in_ok-number.field-0.now c.in_ok-buffer.buffer.now number
-            c.in_ok-buffer.ensures.value c.begin.new.self c.in_ok-rack.rack.now
-            (record { group = c.begun.new.self; numbers = c.in_ok-rack.rack.now.numbers }) c.from.result
-            c.from.ensures moved c.in-Ok.open agrees c.in-Ok.ensures.store named,
+        token_is trusted c.args.self.now w begun kept openings failures keeps c.args.group
+            c.args.class c.args.length can c.in_ok-number.field-0.now c.in_ok-buffer.buffer.now
+            number c.in_ok-buffer.ensures.value c.begin.new.self c.in_ok-rack.rack.now
+            (record { group = c.begun.new.self; numbers = c.in_ok-rack.rack.now.numbers })
+            c.from.result c.from.ensures moved c.in-Ok.open agrees c.in-Ok.ensures.store named,
+        has_begun trusted c.args.self.now w begun kept openings failures keeps c.args.group
+            c.args.class c.args.length can c.in_ok-number.field-0.now c.in_ok-buffer.buffer.now
+            number c.in_ok-buffer.ensures.value c.begin.new.self c.in_ok-rack.rack.now
+            (record { group = c.begun.new.self; numbers = c.in_ok-rack.rack.now.numbers })
+            c.from.result c.from.ensures moved c.in-Ok.open agrees c.in-Ok.ensures.store named,
       ),
     )

@@ -1,4 +1,4 @@
-use Rattle.std.proofs.Common.{ap, subst, ◌<◌, ◌≡◌, length, slice_get, slice_index_or, Some}
+use Rattle.std.proofs.Common.{subst, ◌<◌, ◌≡◌, length, slice_get, slice_index_or, Some}
 use Rattle.block_shelf.proofs.ShelfReads.{fronts_are}
 use Rattle.block_shelf.specs.Reading.{IsFrontAt}
 use Rattle.block_shelf.proofs.shelf.Shelf.front.Goals as goal
