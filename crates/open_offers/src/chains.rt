@@ -12,8 +12,8 @@ use std::hash::{BuildHasher, Hasher, RandomState};
 /// How many buckets there are.
 const BUCKETS: usize = 512;
 
-/// How many places there are: twice as many as offers may be open, so that at least one in 256
-/// offers goes by until they have to be closed up.
+/// How many places there are: twice as many as offers may be open, so that 256 more can be opened
+/// before they have to be closed up again.
 pub(crate) const PLACES: usize = 512;
 
 /// Where an id was found.
