@@ -1,0 +1,2 @@
+pub mod GroupRoom
+pub mod SoundTerms
