@@ -1,6 +1,5 @@
 -- The terms of a configuration are sound.
-use Rattle.std.proofs.Common.{◌≡◌, ◌≤◌, ◌<◌, ◌^◌, ℕ, List, All, map, get_or, ap, sym, ◌∙◌, IsTrue}
-use Rattle.std.proofs.Common.{slice_get, Some}
+use Rattle.std.proofs.Common.{◌≤◌, ◌<◌, ◌^◌, ℕ, List, get_or, ap, sym, ◌∙◌, IsTrue}
 use Rattle.std.proofs.lemmas.List.Elements.{All-map}
 use Rattle.news_terms.specs.Path.{is_agent}
 use Rattle.news_terms.specs.StorageClass.{Entry}

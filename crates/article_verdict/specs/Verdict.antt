@@ -1,5 +1,5 @@
 -- Verdicts on articles, as the program's values show them (docs/PROTOCOL.md, Judging).
-use Rattle.std.specs.Prelude.{ℕ, List, length, not, is_some, Option, None, Some, Result, Ok, Err}
+use Rattle.std.specs.Prelude.{ℕ, List, length, map, not, is_some, Option, None, Some, Result, Ok, Err}
 use Rattle.std.specs.Prelude.{if◌then◌else◌}
 use Rattle.std.specs.List.{list_all}
 use Rattle.std.specs.Char.{is_ascii_graphic}
@@ -9,6 +9,8 @@ use Rattle.news_terms.specs.Article.{Article, newsgroups}
 use Rattle.news_terms.specs.Dates.{date_fault}
 use Rattle.news_terms.specs.Path.{has_identity, path_octets}
 use Rattle.news_terms.specs.StorageClass.{Entry, chosen_entry}
+use Rattle.relay_conf.specs.Storage.{entry_view}
+use Rattle.relay_conf.specs.declared.settings.Config.{Config}
 use Rattle.relay_model.specs.Claims as claims
 use Rattle.relay_model.specs.Judging.{classed, permitted, second_of, stored_text}
 use Rattle.relay_model.specs.Terms.{Terms}
@@ -39,6 +41,11 @@ abbrev pub path_reason : (own path : List ℕ) → Option terms.Reason
 path_reason own path =
     if not (list_all is_ascii_graphic (path_octets path)) then Some terms.BadPath
     else (if has_identity own path then Some terms.Loop else None)
+
+-- the entry of a configuration that an article of so many octets falls to
+abbrev pub chosen_for : Config → Article → (octets : ℕ) → Option Entry
+chosen_for config a octets =
+    chosen_entry (map entry_view config.methods.items) (newsgroups a.fields) octets
 
 -- the entry that an article falls to, by its newsgroups and the octets of the updated text
 abbrev pub class_of : Terms → (from : ℕ) → Article → Option Entry

@@ -1,5 +1,5 @@
 //! The verdict on a block.
-ghost use Rattle.std.specs.Prelude.{◌≡◌, bytes_eq, IfOk};
+ghost use Rattle.std.specs.Prelude.{◌≡◌, ◌≢◌, bytes_eq, IfOk};
 ghost use Rattle.std.specs.Option.{option_copied};
 ghost use Rattle.article_parse.specs.Article.{article_view, id_view};
 ghost use Rattle.article_verdict.specs.Config.{terms_of};
@@ -36,8 +36,29 @@ pub fn verdict(
     };
     match Article::parse(alloc, octets) {
         Ok(article) => judged(alloc, config, offered, peer, &article, now),
-        Err(ArtError::Memory) => Err(AllocError),
-        Err(_) => Ok(Err(Reason::Grammar)),
+        Err(error) => {
+            let reason = unread(error)?;
+            Ok(Err(reason))
+        }
+    }
+}
+
+/// The reason for a text that was not read as an article, whatever its fault.
+fn unread(error: ArtError) -> Result<Reason, AllocError>
+    ensures reason { IfOk result (λ reason. reason ≡ Reason.Grammar) }
+    ensures fault { IfOk result (λ reason. error ≢ ArtError.Memory) }
+{
+    match error {
+        ArtError::Memory => Err(AllocError),
+        ArtError::Nul => Ok(Reason::Grammar),
+        ArtError::BareCrLf => Ok(Reason::Grammar),
+        ArtError::NoBlankLine => Ok(Reason::Grammar),
+        ArtError::BadHeader => Ok(Reason::Grammar),
+        ArtError::Missing(_) => Ok(Reason::Grammar),
+        ArtError::Twice(_) => Ok(Reason::Grammar),
+        ArtError::EmptyField(_) => Ok(Reason::Grammar),
+        ArtError::BadId => Ok(Reason::Grammar),
+        ArtError::BadGroups => Ok(Reason::Grammar),
     }
 }
 

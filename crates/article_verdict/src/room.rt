@@ -17,9 +17,16 @@ pub(crate) fn has_room(settings: &Buffers, group: usize, octets: u64) -> bool
     ensures { result ≡ fits (slice_get (places_of_groups settings.now) group) (size_of octets) }
 {
     match settings.groups.get(group) {
-        Some(group) => have_room(&settings.buffers, &group.buffers, octets.div_ceil(CHUNK)),
+        Some(group) => have_room(&settings.buffers, &group.buffers, blocks_of(octets)),
         None => false,
     }
+}
+
+/// The blocks that an article of so many octets takes.
+fn blocks_of(octets: u64) -> u64
+    ensures { result ≡ size_of octets }
+{
+    octets.div_ceil(CHUNK)
 }
 
 /// Whether those of the buffers that have these numbers have so many blocks.

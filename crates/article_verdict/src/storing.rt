@@ -1,13 +1,14 @@
 //! What is stored of an article that has no fault: its class, its group, its feeds and its text.
 ghost use Rattle.std.specs.Prelude.{◌≡◌, ◌<◌, ◌^◌, [], length, map, slice_get, unwrap_or, IfOk};
+ghost use Rattle.std.specs.Option.{option_map};
 ghost use Rattle.article_parse.specs.Article.{article_view};
 ghost use Rattle.article_verdict.specs.Config.{terms_of};
-ghost use Rattle.article_verdict.specs.Verdict.{class_of, verdict_view, stored_as};
+ghost use Rattle.article_verdict.specs.Verdict.{chosen_for, class_of, verdict_view, stored_as};
 ghost use Rattle.buffer_group.specs.Jobs as jobs;
 ghost use Rattle.feed_queue.specs.Permission.{identity_view};
-ghost use Rattle.news_terms.specs.Article.{article_text};
-ghost use Rattle.news_terms.specs.Path.{updated_article};
-ghost use Rattle.relay_model.specs.Judging.{classed, stored_text};
+ghost use Rattle.relay_model.specs.Judging.{classed};
+ghost use Rattle.relay_model.specs.Judging as terms;
+ghost use Rattle.store_class.specs.Choice.{given};
 
 use crate::reasons::Reason;
 use crate::room::has_room;
@@ -31,10 +32,8 @@ pub(crate) fn classed(
         ≡ classed (terms_of config.now) peer (article_view article.now)
         (class_of (terms_of config.now) peer (article_view article.now))) }
 {
-    let source = identity_of(&config.relay.peers, peer);
-    let octets = stored_octets(article, config.relay.own.as_slice(), source)?;
-    let groups = article.groups(alloc)?;
-    let Some((class, group)) = choose(&config.methods, &groups, octets) else {
+    let octets = stored_octets(config, peer, article)?;
+    let Some((class, group)) = chosen_class(alloc, config, article, octets)? else {
         return Ok(Err(Reason::NoClass));
     };
     if !has_room(&config.buffers, usize::from(group), octets) {
@@ -42,6 +41,21 @@ pub(crate) fn classed(
     }
     let accepted = stored(alloc, config, peer, article, class, group)?;
     Ok(Ok(accepted))
+}
+
+/// The class and the group of an article whose updated text has so many octets.
+fn chosen_class(
+    alloc: Global,
+    config: &Config,
+    article: &Article<'_>,
+    octets: u64,
+) -> Result<Option<(u8, u16)>, AllocError>
+    ensures { IfOk result (λ class. class
+        ≡ option_map given (chosen_for config.now (article_view article.now) octets)) }
+{
+    let groups = article.groups(alloc)?;
+    let class = choose(&config.methods, &groups, octets);
+    Ok(class)
 }
 
 /// The article as it is stored in this class and group, for the feeds that may have it.
@@ -53,29 +67,58 @@ fn stored(
     class: u8,
     group: u16,
 ) -> Result<Accepted, AllocError>
-    requires { length (stored_text (terms_of config.now) peer (article_view article.now)) < 2 ^ 32 }
+    requires { length (terms.stored_text (terms_of config.now) peer (article_view article.now))
+        < 2 ^ 32 }
     ensures { IfOk result (λ accepted. jobs.article_view accepted
         ≡ stored_as (terms_of config.now) peer (article_view article.now) class group) }
 {
-    let relay = &config.relay;
-    let permitted = permitted(alloc, article, &relay.peers, &relay.feeds, peer)?;
-    let source = identity_of(&relay.peers, peer);
-    let text = updated_text(alloc, article, relay.own.as_slice(), source)?;
+    let feeds = feeds_of(alloc, config, peer, article)?;
+    let text = stored_text(alloc, config, peer, article)?;
     Ok(Accepted {
         class,
         group,
-        permitted,
+        permitted: feeds,
         text: Octets::new(text),
     })
 }
 
+/// The numbers of the feeds that may have the article.
+fn feeds_of(
+    alloc: Global,
+    config: &Config,
+    peer: usize,
+    article: &Article<'_>,
+) -> Result<Vec<u16>, AllocError>
+    ensures { IfOk result (λ numbers. numbers.items
+        ≡ terms.permitted (terms_of config.now) peer (article_view article.now)) }
+{
+    let relay = &config.relay;
+    let numbers = permitted(alloc, article, &relay.peers, &relay.feeds, peer)?;
+    Ok(numbers)
+}
+
+/// The updated text, in memory that is taken once.
+fn stored_text(
+    alloc: Global,
+    config: &Config,
+    peer: usize,
+    article: &Article<'_>,
+) -> Result<Vec<u8>, AllocError>
+    ensures { IfOk result (λ text. text.items
+        ≡ terms.stored_text (terms_of config.now) peer (article_view article.now)) }
+{
+    let source = identity_of(&config.relay.peers, peer);
+    updated_text(alloc, article, config.relay.own.as_slice(), source)
+}
+
 /// The octets of the updated text, told without building it. A text of more octets than a number
 /// can say is more than any memory has room for.
-fn stored_octets(article: &Article<'_>, own: &[u8], source: &[u8]) -> Result<u64, AllocError>
-    ensures { IfOk result (λ octets. octets ≡ length (article_text
-        (updated_article own.now source.now (article_view article.now)))) }
+fn stored_octets(config: &Config, peer: usize, article: &Article<'_>) -> Result<u64, AllocError>
+    ensures { IfOk result (λ octets. octets
+        ≡ length (terms.stored_text (terms_of config.now) peer (article_view article.now))) }
 {
-    let octets = updated_octets(article, own, source);
+    let source = identity_of(&config.relay.peers, peer);
+    let octets = updated_octets(article, config.relay.own.as_slice(), source);
     if octets == usize::MAX {
         return Err(AllocError);
     }
