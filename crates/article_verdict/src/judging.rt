@@ -1,5 +1,5 @@
 //! The verdict on a block.
-ghost use Rattle.std.specs.Prelude.{◌≡◌, ◌≢◌, bytes_eq, IfOk};
+ghost use Rattle.std.specs.Prelude.{◌≡◌, ◌≢◌, bytes_eq, IfOk, IfErr};
 ghost use Rattle.std.specs.Option.{option_copied};
 ghost use Rattle.article_parse.specs.Article.{article_view, id_view};
 ghost use Rattle.article_verdict.specs.Config.{terms_of};
@@ -47,6 +47,7 @@ pub fn verdict(
 fn unread(error: ArtError) -> Result<Reason, AllocError>
     ensures reason { IfOk result (λ reason. reason ≡ Reason.Grammar) }
     ensures fault { IfOk result (λ reason. error ≢ ArtError.Memory) }
+    ensures memory { IfErr result (λ none. error ≡ ArtError.Memory) }
 {
     match error {
         ArtError::Memory => Err(AllocError),

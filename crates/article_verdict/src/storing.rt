@@ -1,5 +1,6 @@
 //! What is stored of an article that has no fault: its class, its group, its feeds and its text.
-ghost use Rattle.std.specs.Prelude.{◌≡◌, ◌<◌, ◌^◌, [], length, map, slice_get, unwrap_or, IfOk};
+ghost use Rattle.std.specs.Prelude.{◌≡◌, ◌≤◌, ◌<◌, ◌-◌, ◌^◌, [], length, map};
+ghost use Rattle.std.specs.Prelude.{slice_get, unwrap_or, IfOk, IfErr};
 ghost use Rattle.std.specs.Option.{option_map};
 ghost use Rattle.article_parse.specs.Article.{article_view};
 ghost use Rattle.article_verdict.specs.Config.{terms_of};
@@ -114,8 +115,10 @@ fn stored_text(
 /// The octets of the updated text, told without building it. A text of more octets than a number
 /// can say is more than any memory has room for.
 fn stored_octets(config: &Config, peer: usize, article: &Article<'_>) -> Result<u64, AllocError>
-    ensures { IfOk result (λ octets. octets
+    ensures octets { IfOk result (λ octets. octets
         ≡ length (terms.stored_text (terms_of config.now) peer (article_view article.now))) }
+    ensures most { IfErr result (λ error. 2 ^ 64 - 1
+        ≤ length (terms.stored_text (terms_of config.now) peer (article_view article.now))) }
 {
     let source = identity_of(&config.relay.peers, peer);
     let octets = updated_octets(article, config.relay.own.as_slice(), source);
