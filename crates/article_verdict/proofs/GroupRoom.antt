@@ -1,6 +1,7 @@
 -- The room of the buffers of some numbers, buffer by buffer.
 use Rattle.std.proofs.Common.{◌≡◌, ◌∙◌, ℕ, Bool, false, List, ◌∷◌, map, ap, refl, nat_le}
-use Rattle.std.proofs.Common.{slice_get, Option, None, Some, zero-add, ◌≤◌, ◌+◌, ◌<◌, drop, get_or, length}
+use Rattle.std.proofs.Common.{slice_get, Option, None, Some, zero-add, ◌≤◌}
+use Rattle.std.proofs.Common.{◌+◌, ◌<◌, drop, get_or, length}
 use Rattle.std.proofs.lemmas.Bool.{le-leb, lt-leb}
 use Rattle.std.proofs.lemmas.Option.{slice_get-map}
 use Rattle.std.specs.List.{cons_option, enumerate_from, list_all}

@@ -1,5 +1,6 @@
 -- Verdicts on articles, as the program's values show them (docs/PROTOCOL.md, Judging).
-use Rattle.std.specs.Prelude.{ℕ, List, length, map, not, is_some, Option, None, Some, Result, Ok, Err}
+use Rattle.std.specs.Prelude.{ℕ, List, length, map, not, is_some}
+use Rattle.std.specs.Prelude.{Option, None, Some, Result, Ok, Err}
 use Rattle.std.specs.Prelude.{if◌then◌else◌}
 use Rattle.std.specs.List.{list_all}
 use Rattle.std.specs.Char.{is_ascii_graphic}
