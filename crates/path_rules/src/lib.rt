@@ -9,4 +9,4 @@ mod update;
 mod words;
 
 pub use rules::{Identity, PathError, has_identity, identities, loops};
-pub use update::{update_parses, updated};
+pub use update::{update_parses, updated, updated_octets, updated_text};

@@ -49,8 +49,9 @@ pub fn update_parses()
         × IsArticleText update (updated_article own expected received) }
 {}
 
-/// The octets of the updated article, whatever its Path.
-fn updated_text(
+/// The octets of the updated article, whatever its Path: what `updated` gives where the Path is
+/// not refused. The error is want of memory, which is taken once.
+pub fn updated_text(
     alloc: Global,
     article: &Article<'_>,
     own: &[u8],
@@ -110,8 +111,9 @@ fn write_path(
     text.extend_from_slice(without_leading_folding(content))
 }
 
-/// The octets of the updated article, or the most that a number can say.
-fn updated_octets(article: &Article<'_>, own: &[u8], expected: &[u8]) -> usize
+/// How many octets the updated article has, or the most that a number can say. It takes no memory,
+/// and goes over the header once.
+pub fn updated_octets(article: &Article<'_>, own: &[u8], expected: &[u8]) -> usize
     ensures { result ≡ min (length (article_text
         (updated_article own.now expected.now (article_view article.now)))) (2 ^ 64 - 1) }
 {

@@ -4,10 +4,12 @@
 #![tactic(auto)]
 
 mod cell;
+mod names;
 mod piece;
 mod rows;
 mod written;
 
 pub use cell::octets_of;
+pub use names::{Names, joined};
 pub use rows::{Answers, failed, play};
 pub use written::{put_number, put_octets};

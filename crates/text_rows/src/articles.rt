@@ -1,11 +1,10 @@
 //! The calls of `article_parse`, `path_rules` and `date_rules`.
 
-use crate::names::joined;
 use crate::values::{Runs, number_of, put_debug, put_fault, put_list, put_next, put_some};
 use article_parse::{ArtError, Article};
 use date_rules::{judge, stamp};
 use path_rules::{Identity, identities, loops, updated};
-use row_text::{put_number, put_octets};
+use row_text::{joined, put_number, put_octets};
 use std::alloc::{AllocError, Global};
 
 /// The last moment that has a stamp.

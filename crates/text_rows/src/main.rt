@@ -4,7 +4,6 @@
 
 mod articles;
 mod lines;
-mod names;
 mod overviews;
 mod streams;
 mod values;
@@ -13,11 +12,10 @@ use article_parse::{is_blank, unfolded};
 use articles::{put_arrived, put_changes, put_field, put_judged};
 use date_rules::seconds;
 use line_words::{Between, has_only_digits, is_skipped, is_white, trim};
-use names::{Names, joined};
 use nntp_text::{MsgId, REPLY_ROOM};
 use overviews::put_behind;
 use path_rules::loops;
-use row_text::{Answers, play, put_number, put_octets};
+use row_text::{Answers, Names, joined, play, put_number, put_octets};
 use std::alloc::{AllocError, Global};
 use std::process::ExitCode;
 use std::str;

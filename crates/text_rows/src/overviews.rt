@@ -1,10 +1,9 @@
 //! The calls of `overview_line`.
 
-use crate::names::joined;
 use crate::values::{Runs, number_of, put_debug, put_fault, put_in, put_next};
 use article_parse::Article;
 use overview_line::{LINE_ROOM, line, put_line};
-use row_text::put_octets;
+use row_text::{joined, put_octets};
 use std::alloc::{AllocError, Global};
 
 /// Writes the overview line of an article, or the text's fault.

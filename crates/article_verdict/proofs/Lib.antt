@@ -1,0 +1,5 @@
+pub mod FewFeeds
+pub mod GroupRoom
+pub mod Readings
+pub mod ShortTexts
+pub mod SoundTerms
