@@ -1,4 +1,3 @@
-pub mod CutLemmas
 pub mod NextLemmas
 pub mod PassLemmas
 pub mod PlaceLemmas

@@ -13,7 +13,8 @@ use Rattle.news_terms.proofs.LineLemmas.{first_line_whole}
 use Rattle.news_terms.proofs.RestLemmas.{IsLine-from_first}
 use Rattle.news_terms.proofs.BlockLemmas.{first_block-cuts, first_block-none}
 use Rattle.news_terms.proofs.StuffLemmas.{text_lines-spelled}
-use Rattle.stream_cut.specs.Look.{IsLooked, LineEnds, IsPassed, ClosesAt, dot_of, dots_of}
+use Rattle.stream_cut.specs.Look.{IsLooked, LineEnds, IsPassed, ClosesAt}
+use Rattle.stream_cut.specs.Dots.{dot_of, dots_of}
 use Rattle.stream_cut.proofs.PlaceLemmas.{looked_all}
 
 -- at the front nothing was looked at

@@ -3,7 +3,7 @@ use Rattle.std.specs.Prelude.{◌≡◌, ℕ, false, List, [], ◌∷◌, ◌++�
 use Rattle.stream_cut.specs.declared.run.Want.{Want}
 use Rattle.stream_cut.specs.declared.run.Cut.{Cut}
 use Rattle.stream_cut.specs.declared.run.Cut.TheVariants as cut
-use Rattle.stream_cut.specs.Stream.{Stream}
+use Rattle.stream_cut.specs.Stream.{Stream, with_dropped}
 use Rattle.stream_cut.specs.Cuts.{CutOff, OfTooLong, cut_off, want_and_later}
 
 -- What was cut is what the stream has next, however it goes on, and the new stream is what follows.
@@ -20,9 +20,9 @@ pub record Ends (old : Stream) (want : Want) (new : Stream) : Type 0 where
   pub cuts : (later : List ℕ → List CutOff) (more : List ℕ) →
       want_and_later old.limit want later (old.unread ++ more) ≡ OfTooLong ∷ []
 
--- What is wanted isn't whole so far.
+-- What is wanted isn't whole so far, and nothing changes but what is kept.
 pub record Waits (old : Stream) (want : Want) (new : Stream) : Type 0 where
-  pub same : new ≡ old
+  pub left : new ≡ with_dropped old new.dropped
   pub cuts : (later : List ℕ → List CutOff) → want_and_later old.limit want later old.unread ≡ []
 
 -- what a step cuts

@@ -98,13 +98,13 @@ fn cut_next(cutter: &mut Cutter, want: Want) -> Result<Option<Cut>, AllocError>
             Ok(Some(line)) => Ok(Some(Cut::Line(line))),
             Ok(None) => Ok(None),
             Err(CutError::LineTooLong) => Ok(Some(Cut::TooLong)),
-            Err(CutError::Memory) => Err(AllocError),
+            Err(CutError::Memory | CutError::Passing) => Err(AllocError),
         },
         Want::Block => match cutter.block() {
             Ok(Some(block)) => Ok(Some(Cut::Block(block))),
             Ok(None) => Ok(None),
             Err(CutError::LineTooLong) => Ok(Some(Cut::TooLong)),
-            Err(CutError::Memory) => Err(AllocError),
+            Err(CutError::Memory | CutError::Passing) => Err(AllocError),
         },
     }
 }

@@ -24,9 +24,9 @@ pub loop-piece-init : goal.loop-piece-init
 loop-piece-init c =
     let made : c.new-cutter.result ≡ record {
       unread = [];
+      dropped = 0;
       limit = c.args.max_block;
-      overlong =
-          false;
+      overlong = false;
     } = c.new-cutter.ensures in
     let wants = c.args.wants.now in
     let limit = c.args.max_block in
