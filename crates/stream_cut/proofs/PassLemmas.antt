@@ -62,7 +62,7 @@ dots_of-push [] l = omega arith
 dots_of-push (x ∷ ls) l = omega (arith, dots_of-push ls l)
 
 -- a dot of a line is one of its octets
-dot_of-unstuffed : (l : List ℕ) → length (unstuffed_line l) + dot_of l ≡ length l
+pub dot_of-unstuffed : (l : List ℕ) → length (unstuffed_line l) + dot_of l ≡ length l
 dot_of-unstuffed [] = refl
 dot_of-unstuffed (a ∷ l) = ⊎_elim
     (λ t. omega (arith, ap length (cond-true _ l (a ∷ l) t), cond-true {A = ℕ} (a == 46) 1 0 t))
