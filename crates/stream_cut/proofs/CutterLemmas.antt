@@ -155,11 +155,11 @@ awaits_past gone kept limit overlong count end after left h is rest =
     record {
       unfinished = h.unfinished;
       left = ap (λ (x : List ℕ). record {
-          unread = x;
-          dropped = length after;
-          limit = limit;
-          overlong = overlong;
-        }) all;
+        unread = x;
+        dropped = length after;
+        limit = limit;
+        overlong = overlong;
+      }) all;
       grows = omega (arith, grown);
       past = λ some. subst (IsPastLimit limit) (two_parts count gone kept) (h.drops).past;
       bounded = omega (arith, few);

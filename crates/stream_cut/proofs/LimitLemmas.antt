@@ -100,8 +100,7 @@ cuts_after (l ∷ lines) t (k ∷ ls) rest h cut =
     let more = cuts_after lines t ls rest h.2 (record {
       whole = ap (λ (p : List ℕ × List ℕ). p.1) same;
       unclosed = (cut.unclosed).2;
-    }) in
-    (
+    }) in (
       more.0,
       ap (λ (x : List ℕ). x ∷ ls) (sym (ap (λ (p : List ℕ × List ℕ). p.0) same))
           ∙ ap (λ (x : List (List ℕ)). l ∷ x) more.1,

@@ -174,11 +174,10 @@ EndsAt-add front kept k h =
 
 -- a place in the first part
 pub EndsAt-early : (s more : List ℕ) (k : ℕ) → k + 1 < length s → EndsAt (s ++ more) k → EndsAt s k
-EndsAt-early s more k within h =
-    (
-      sym (get_or_append_left s more 0 k (omega arith)) ∙ h.0,
-      sym (get_or_append_left s more 0 (k + 1) within) ∙ h.1,
-    )
+EndsAt-early s more k within h = (
+  sym (get_or_append_left s more 0 k (omega arith)) ∙ h.0,
+  sym (get_or_append_left s more 0 (k + 1) within) ∙ h.1,
+)
 
 -- what was looked at stays so
 pub IsLooked-append : (s more : List ℕ) (looked : ℕ) → IsLooked s looked
@@ -280,20 +279,20 @@ goes_further limit gone kept h none =
       some,
       ap (next_block limit) apart ∙ unfinished_after limit b (f ++ kept) h.lines none_yet,
       λ n count.
-      let fits : length (take n kept) ≡ n = length-take-le n kept (omega arith) in
-      let sum = length-append f (take n kept) in
-      let whole = length-append f kept in
-      let joined : (f ++ take n kept) ++ drop n kept ≡ f ++ kept = two_parts n f kept in
-      record {
-        before = b;
-        lines = h.lines;
-        front = f ++ take n kept;
-        whole = ap (λ (x : List ℕ). x ++ take n kept) h.whole
-            ∙ append_assoc b f (take n kept);
-        long = omega arith;
-        goes_on = subst (λ (x : List ℕ). IsLooked x (length (f ++ take n kept))) (sym joined)
-            (looked_all (f ++ kept) (length (f ++ take n kept)) none_yet (omega arith));
-      },
+          let fits : length (take n kept) ≡ n = length-take-le n kept (omega arith) in
+          let sum = length-append f (take n kept) in
+          let whole = length-append f kept in
+          let joined : (f ++ take n kept) ++ drop n kept ≡ f ++ kept = two_parts n f kept in
+          record {
+            before = b;
+            lines = h.lines;
+            front = f ++ take n kept;
+            whole = ap (λ (x : List ℕ). x ++ take n kept) h.whole
+                ∙ append_assoc b f (take n kept);
+            long = omega arith;
+            goes_on = subst (λ (x : List ℕ). IsLooked x (length (f ++ take n kept))) (sym joined)
+                (looked_all (f ++ kept) (length (f ++ take n kept)) none_yet (omega arith));
+          },
     )
 
 -- the lone dot behind more lines

@@ -36,6 +36,7 @@ pub advances_line : (old : Stream) (line : List ℕ) (new : Stream) → TakesLin
     → Advances old want.Line (OfLine line) new
 advances_line old line new h = record {
   sound = ap (λ (s : Stream). s.overlong) h.left ∙ h.sound;
+  kept = ap (λ (s : Stream). s.dropped) h.left ∙ h.kept;
   limit = ap (λ (s : Stream). s.limit) h.left;
   cuts = λ later more. ap (line_and_later later)
       (next_line-append old.unread line h.rest more h.cut)
@@ -47,6 +48,7 @@ pub advances_text : (old : Stream) (text : List ℕ) (new : Stream) → TakesTex
     → Advances old want.Block (OfText text) new
 advances_text old text new h = record {
   sound = ap (λ (s : Stream). s.overlong) h.left ∙ h.sound;
+  kept = ap (λ (s : Stream). s.dropped) h.left ∙ h.kept;
   limit = ap (λ (s : Stream). s.limit) h.left;
   cuts = λ later more. ap (block_and_later later)
       (whole-append old.limit old.unread text h.rest more h.cut)
@@ -58,6 +60,7 @@ pub advances_oversize : (old new : Stream) → PassesOversize old new
     → Advances old want.Block OfOversize new
 advances_oversize old new h = record {
   sound = ap (λ (s : Stream). s.overlong) h.left ∙ h.sound;
+  kept = ap (λ (s : Stream). s.dropped) h.left;
   limit = ap (λ (s : Stream). s.limit) h.left;
   cuts = λ later more. ap (block_and_later later)
       (oversize-append old.limit old.unread h.rest more h.cut)

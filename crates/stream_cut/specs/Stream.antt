@@ -79,12 +79,11 @@ pub record ShowsBlock (stream : Stream) (octets dots : ℕ) : Type 0 where
   pub count : length (unstuffed (shown_lines stream octets)) + dots ≡ octets
   pub plain : dots ≡ 0 → unstuffed (shown_lines stream octets) ≡ take octets stream.unread
 
--- The first block is past the limit, so many of the octets that are kept belong to it, and the new
--- stream is the old one.
-pub record ShowsOversize (old : Stream) (count : ℕ) : Type 0 where
-  pub within : count ≤ length (kept_octets old)
-  pub cut : next_block old.limit old.unread
-      ≡ blocks.Oversize (drop (old.dropped + count) old.unread)
+-- The first block is past the limit, and so many of the octets that are kept belong to it.
+pub record ShowsOversize (stream : Stream) (count : ℕ) : Type 0 where
+  pub within : count ≤ length (kept_octets stream)
+  pub cut : next_block stream.limit stream.unread
+      ≡ blocks.Oversize (drop (stream.dropped + count) stream.unread)
 
 -- Whatever more comes, the block that the octets begin with won't be whole within the limit.
 abbrev pub IsPastLimit : ℕ → List ℕ → Type 0
@@ -108,16 +107,19 @@ BlockFound old (block.Whole octets dots) new = ShowsBlock old octets dots × (ne
 BlockFound old (block.Oversize count) new = ShowsOversize old count × (new ≡ old)
 BlockFound old block.Unfinished new = AwaitsEnd old new
 
--- The line is the first of the old stream's unread octets, and the new stream has what follows it.
+-- The line is the first of the old stream's unread octets, all of which are kept, and the new
+-- stream has what follows it.
 pub record TakesLine (old : Stream) (line : List ℕ) (new : Stream) : Type 0 where
   pub sound : old.overlong ≡ false
+  pub kept : old.dropped ≡ 0
   pub rest : List ℕ
   pub cut : next_line old.unread ≡ lines.Cut line rest
   pub left : new ≡ with_unread old rest
 
--- Less than a line is unread so far, and nothing changes.
+-- Less than a line is unread so far, all of it is kept, and nothing changes.
 pub record AwaitsLine (old new : Stream) : Type 0 where
   pub sound : old.overlong ≡ false
+  pub kept : old.dropped ≡ 0
   pub incomplete : next_line old.unread ≡ lines.Incomplete
   pub same : new ≡ old
 
@@ -140,10 +142,11 @@ LineCut old (Err Memory) new = new ≡ old
 LineCut old (Err LineTooLong) new = RefusesLine old new
 LineCut old (Err Passing) new = PassesOn old new
 
--- The text is that of the first block of the old stream's unread octets and within the limit, and
--- the new stream has what follows the block.
+-- The text is that of the first block of the old stream's unread octets, all of which are kept, and
+-- within the limit, and the new stream has what follows the block.
 pub record TakesText (old : Stream) (text : List ℕ) (new : Stream) : Type 0 where
   pub sound : old.overlong ≡ false
+  pub kept : old.dropped ≡ 0
   pub rest : List ℕ
   pub cut : next_block old.limit old.unread ≡ blocks.Whole text rest
   pub left : new ≡ with_unread old rest

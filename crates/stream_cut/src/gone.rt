@@ -1,6 +1,6 @@
 //! Octets that are dropped, which contracts alone see.
-use std::mem;
 use std::marker::Model;
+use std::mem;
 use std::snapshot::Snapshot;
 
 /// Octets of a stream that aren't kept any more. It takes no bytes: the last ones stand on a
@@ -37,8 +37,13 @@ impl Model for Gone {
 
     ghost size = { length };
 
-    ghost size_decreases = { λ g h. Prim.grind (arith, length-append, length-take,
-        length-drop, h) };
+    ghost size_decreases = { λ g h. Prim.grind (
+      arith,
+      length-append,
+      length-take,
+      length-drop,
+      h,
+    ) };
 }
 
 impl Gone {
