@@ -137,7 +137,8 @@ shows_oversize gone kept limit overlong count h = record {
 -- octets go
 pub awaits_past : (gone kept : List ℕ) (limit : ℕ) (overlong : Bool) (count : ℕ) (end : Within)
     (after left : List ℕ)
-    → StandsPast limit gone kept count end → after ≡ gone ++ take count kept → left ≡ drop count kept
+    → StandsPast limit gone kept count end → after ≡ gone ++ take count kept
+    → left ≡ drop count kept
     → AwaitsEnd (stream_of gone kept limit overlong) (stream_of after left limit overlong)
 awaits_past gone kept limit overlong count end after left h is rest =
     let all : after ++ left ≡ gone ++ kept =

@@ -1,16 +1,19 @@
 -- When a block is past its limit, and how much is kept of one that isn't.
-use Rattle.std.proofs.Common.{◌≡◌, ℕ, ◌+◌, ◌-◌, ◌*◌, ◌<◌, ◌≤◌, ◌==◌, true, false, List, [], ◌∷◌, ◌++◌}
+use Rattle.std.proofs.Common.{◌≡◌, ℕ, ◌+◌, ◌-◌, ◌*◌, ◌<◌, ◌≤◌}
+use Rattle.std.proofs.Common.{◌==◌, true, false, List, [], ◌∷◌, ◌++◌}
 use Rattle.std.proofs.Common.{length, take, drop, bytes_eq, cond, ltb, Some, None, refl, sym, ap}
 use Rattle.std.proofs.Common.{subst, ◌∙◌, arith, ⊎_elim, append_assoc, append-nil, length-append}
 use Rattle.std.proofs.Common.{length-drop, rules}
 use Rattle.std.proofs.Math.Seq.{take-add}
-use Rattle.std.proofs.lemmas.Bool.{cases_Bool, cases_lt, cond-true, cond-false, ltb-true, ltb-false, le-ltb}
+use Rattle.std.proofs.lemmas.Bool.{cases_Bool, cases_lt, cond-true}
+use Rattle.std.proofs.lemmas.Bool.{cond-false, ltb-true, ltb-false, le-ltb}
 use Rattle.std.proofs.lemmas.Bool.{false≢true, true≢false}
 use Rattle.std.proofs.lemmas.List.{drop-drop, length-take-le}
 use Rattle.std.proofs.lemmas.Option.{same_Some}
 use Rattle.std.proofs.lemmas.Slice.Eq.{bytes_eq-Decides}
 use Rattle.news_terms.specs.Lines.{crlf, first_line, spelled}
-use Rattle.news_terms.specs.Blocks.{dot, AreOpenLines, CutsBlock, first_block, next_block, unstuffed}
+use Rattle.news_terms.specs.Blocks.{dot, AreOpenLines, CutsBlock}
+use Rattle.news_terms.specs.Blocks.{first_block, next_block, unstuffed}
 use Rattle.news_terms.specs.Blocks.{unstuffed_line, stuffed_room, text_lines}
 use Rattle.news_terms.specs.Blocks as blocks
 use Rattle.news_terms.proofs.RestLemmas.{first_line-line}
@@ -194,7 +197,8 @@ part_goes limit gone kept at fits lines none past some =
     let long : 2 < n = ltb-true 2 n t in
     let m = n - 1 in
     let place : at + m ≡ length kept - 1 = omega (arith, long) in
-    let goes = goes_into before tail m lines none (omega (arith, long, left)) (omega (arith, long)) in
+    let goes = goes_into before tail m lines none (omega (arith, long, left))
+    (omega (arith, long)) in
     let first : before ++ take m tail ≡ gone ++ take (length kept - 1) kept =
     append_assoc gone (take at kept) (take m tail)
     ∙ ap (λ (x : List ℕ). gone ++ x) (sym (take-add at m kept))

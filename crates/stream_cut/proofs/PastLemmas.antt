@@ -1,6 +1,7 @@
 -- A block whose front is gone.
 use Rattle.std.proofs.Common.{◌≡◌, ℕ, ◌+◌, ◌-◌, ◌*◌, ◌<◌, ◌≤◌, true, false, List, [], ◌∷◌, ◌++◌}
-use Rattle.std.proofs.Common.{length, take, drop, bytes_eq, Option, Some, None, refl, sym, ap, subst}
+use Rattle.std.proofs.Common.{length, take, drop, bytes_eq, Option}
+use Rattle.std.proofs.Common.{Some, None, refl, sym, ap, subst}
 use Rattle.std.proofs.Common.{◌∙◌, arith, ⊎_elim, append_assoc, append-nil, length-append}
 use Rattle.std.proofs.Common.{length-drop, take-append-drop, get_or}
 use Rattle.std.proofs.Math.Seq.{drop-append-add, take-append-add, take-add}
@@ -10,7 +11,8 @@ use Rattle.std.proofs.lemmas.Grind.{flat_map-append}
 use Rattle.std.proofs.lemmas.Bool.{cases_Bool, cases_lt}
 use Rattle.std.proofs.lemmas.Slice.Eq.{bytes_eq-Decides}
 use Rattle.news_terms.specs.Lines.{crlf, first_line, spelled}
-use Rattle.news_terms.specs.Blocks.{dot, AreOpenLines, CutsBlock, first_block, next_block, unstuffed}
+use Rattle.news_terms.specs.Blocks.{dot, AreOpenLines, CutsBlock}
+use Rattle.news_terms.specs.Blocks.{first_block, next_block, unstuffed}
 use Rattle.news_terms.specs.Blocks.{stuffed_room, text_lines}
 use Rattle.news_terms.specs.Blocks as blocks
 use Rattle.news_terms.proofs.LineLemmas.{first_line_whole}
@@ -164,7 +166,8 @@ EndsAt-later front kept k late h =
           ∙ ap (λ (n : ℕ). get_or (front ++ kept) n 0) next ∙ h.1,
     )
 
-EndsAt-add : (front kept : List ℕ) (k : ℕ) → EndsAt kept k → EndsAt (front ++ kept) (length front + k)
+EndsAt-add : (front kept : List ℕ) (k : ℕ) → EndsAt kept k
+    → EndsAt (front ++ kept) (length front + k)
 EndsAt-add front kept k h =
     let next : length front + k + 1 ≡ length front + (k + 1) = omega arith in (
       get_or-append-add front kept k 0 ∙ h.0,
@@ -220,7 +223,8 @@ line_joins gone kept end h ends =
     let over : LineEnds (f ++ kept) n = line_over f kept end h.goes_on ends in
     let left : drop (length b) s ≡ f ++ kept =
     ap (λ (k : ℕ). drop k s) (omega arith) ∙ drop-append-add b (f ++ kept) 0 in
-    let there : LineEnds (drop (length b) s) n = subst (λ (x : List ℕ). LineEnds x n) (sym left) over in
+    let there : LineEnds (drop (length b) s) n =
+    subst (λ (x : List ℕ). LineEnds x n) (sym left) over in
     let open_line : bytes_eq (take n (drop (length b) s)) dot ≡ false = ⊎_elim
     (λ t. absurd (omega (
       arith,

@@ -40,7 +40,8 @@ advances_line old line new h = record {
   limit = ap (λ (s : Stream). s.limit) h.left;
   cuts = λ later more. ap (line_and_later later)
       (next_line-append old.unread line h.rest more h.cut)
-      ∙ ap (λ (x : List ℕ). OfLine line ∷ later x) (after_step old new (with_unread old h.rest) more h.left);
+      ∙ ap (λ (x : List ℕ). OfLine line ∷ later x)
+      (after_step old new (with_unread old h.rest) more h.left);
 }
 
 -- a text is cut
@@ -52,7 +53,8 @@ advances_text old text new h = record {
   limit = ap (λ (s : Stream). s.limit) h.left;
   cuts = λ later more. ap (block_and_later later)
       (whole-append old.limit old.unread text h.rest more h.cut)
-      ∙ ap (λ (x : List ℕ). OfText text ∷ later x) (after_step old new (with_unread old h.rest) more h.left);
+      ∙ ap (λ (x : List ℕ). OfText text ∷ later x)
+      (after_step old new (with_unread old h.rest) more h.left);
 }
 
 -- an oversize block is cut
@@ -64,7 +66,8 @@ advances_oversize old new h = record {
   limit = ap (λ (s : Stream). s.limit) h.left;
   cuts = λ later more. ap (block_and_later later)
       (oversize-append old.limit old.unread h.rest more h.cut)
-      ∙ ap (λ (x : List ℕ). OfOversize ∷ later x) (after_step old new (cut_to old h.rest) more h.left);
+      ∙ ap (λ (x : List ℕ). OfOversize ∷ later x)
+      (after_step old new (cut_to old h.rest) more h.left);
 }
 
 -- what `line` gives is a step

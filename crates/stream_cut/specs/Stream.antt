@@ -1,5 +1,6 @@
 -- A stream that is cut into lines and blocks, what each step answers, and what it leaves.
-use Rattle.std.specs.Prelude.{◌≡◌, ◌⊎◌, ℕ, ◌+◌, ◌<◌, ◌≤◌, length, take, drop, Bool, true, false, List}
+use Rattle.std.specs.Prelude.{◌≡◌, ◌⊎◌, ℕ, ◌+◌, ◌<◌, ◌≤◌}
+use Rattle.std.specs.Prelude.{length, take, drop, Bool, true, false, List}
 use Rattle.std.specs.Prelude.{◌++◌, Option, Some, None, Result, Ok, Err, Vec}
 use Rattle.std.specs.declared.alloc.Global.{Global}
 use Rattle.news_terms.specs.Lines.{next_line, spelled}
@@ -91,8 +92,8 @@ IsPastLimit limit octets = (more text rest : List ℕ)
     → ¬ next_block limit (octets ++ more) ≡ blocks.Whole text rest
 
 -- No block is whole so far. Nothing changes, but that octets may be dropped of a block that is past
--- the limit, whatever more comes. No more are kept than a block within the limit takes, and two of a
--- block that is past it.
+-- the limit, whatever more comes. No more are kept than a block within the limit takes, and two of
+-- a block that is past it.
 pub record AwaitsEnd (old new : Stream) : Type 0 where
   pub unfinished : next_block old.limit old.unread ≡ blocks.Unfinished
   pub left : new ≡ with_dropped old new.dropped

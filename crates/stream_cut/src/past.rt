@@ -70,7 +70,8 @@ fn look_at_front(kept: &[u8], progress: Progress, limit: usize) -> BlockStand
 }
 
 /// The least that a line adds to the text once so many octets of it came, among which no CRLF
-/// begins: none where it may be the lone dot; else it gains a CRLF and loses a dot and a CR at most.
+/// begins: none where it may be the lone dot; else it gains a CRLF, and loses a dot and a CR at
+/// most.
 fn sure(tail: usize) -> usize
     ensures { result ≡ (if nat_lt 2 tail then tail else 0) }
 {

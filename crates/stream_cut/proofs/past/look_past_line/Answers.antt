@@ -1,5 +1,6 @@
 -- What stands behind more lines.
-use Rattle.std.proofs.Common.{◌≡◌, ◌<◌, ◌≤◌, ◌+◌, ◌-◌, ◌++◌, arith, refl, sym, ap, subst, ◌∙◌, length}
+use Rattle.std.proofs.Common.{◌≡◌, ◌<◌, ◌≤◌, ◌+◌, ◌-◌, ◌++◌}
+use Rattle.std.proofs.Common.{arith, refl, sym, ap, subst, ◌∙◌, length}
 use Rattle.std.proofs.Common.{take, drop, None, ℕ, List}
 use Rattle.std.proofs.lemmas.List.{take_rest, drop-drop}
 use Rattle.news_terms.specs.Lines.{first_line}
