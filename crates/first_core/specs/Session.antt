@@ -252,6 +252,7 @@ CutsLine w old (Err cut_error.LineTooLong) new =
     (m : model.Session) (hand : Option Job) → Stands w old m hand → old.phase ≡ phase.Ready
     → IsLeft w new m × (next_line m.unread ≡ TooLong)
 CutsLine w old (Err cut_error.Memory) new = StandsAsBefore w old new
+CutsLine w old (Err cut_error.Passing) new = StandsAsBefore w old new
 
 -- what cutting a block gives: a block or none so far, whichever session it stood for
 abbrev pub CutsBlock : Terms → Session → Result (Unit {0}) CutError → Session → Type 0

@@ -315,6 +315,8 @@ impl Session {
                 return Ok(Plan::Leave(replied(room, &Reply::LineTooLong)));
             }
             Err(CutError::Memory) => return Err(AllocError),
+            // No block is open where a command is read.
+            Err(CutError::Passing) => return Err(AllocError),
         }
         match &self.line {
             Some(line) => plan_command(alloc, line, room),

@@ -13,7 +13,8 @@ use Rattle.news_terms.proofs.LineLemmas.{first_line_whole}
 use Rattle.news_terms.proofs.RestLemmas.{IsLine-from_first}
 use Rattle.news_terms.proofs.BlockLemmas.{first_block-cuts, first_block-none}
 use Rattle.news_terms.proofs.StuffLemmas.{text_lines-spelled}
-use Rattle.stream_cut.specs.Look.{IsLooked, LineEnds, IsPassed, ClosesAt, dot_of, dots_of}
+use Rattle.stream_cut.specs.Look.{IsLooked, LineEnds, IsPassed, ClosesAt}
+use Rattle.stream_cut.specs.Dots.{dot_of, dots_of}
 use Rattle.stream_cut.proofs.PlaceLemmas.{looked_all}
 
 -- at the front nothing was looked at
@@ -61,7 +62,7 @@ dots_of-push [] l = omega arith
 dots_of-push (x ∷ ls) l = omega (arith, dots_of-push ls l)
 
 -- a dot of a line is one of its octets
-dot_of-unstuffed : (l : List ℕ) → length (unstuffed_line l) + dot_of l ≡ length l
+pub dot_of-unstuffed : (l : List ℕ) → length (unstuffed_line l) + dot_of l ≡ length l
 dot_of-unstuffed [] = refl
 dot_of-unstuffed (a ∷ l) = ⊎_elim
     (λ t. omega (arith, ap length (cond-true _ l (a ∷ l) t), cond-true {A = ℕ} (a == 46) 1 0 t))

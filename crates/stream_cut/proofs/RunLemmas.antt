@@ -17,7 +17,7 @@ use Rattle.stream_cut.specs.declared.cutter.CutError.{CutError}
 use Rattle.stream_cut.specs.declared.cutter.CutError.TheVariants.{LineTooLong}
 use Rattle.stream_cut.specs.declared.run.Want.TheVariants as want
 use Rattle.stream_cut.specs.Stream.{Stream, with_unread, TakesLine, TakesText, PassesOversize}
-use Rattle.stream_cut.specs.Stream.{RefusesLine, LineCut, BlockCut}
+use Rattle.stream_cut.specs.Stream.{RefusesLine, LineCut, BlockCut, cut_to}
 use Rattle.stream_cut.specs.Cuts.{CutOff, OfLine, OfText, OfOversize, cut_off, line_and_later}
 use Rattle.stream_cut.specs.Cuts.{block_and_later, cuts_of, CutsUp}
 use Rattle.stream_cut.specs.Steps.{Advances, Ends}
@@ -27,19 +27,21 @@ use Rattle.news_terms.proofs.NextLemmas.{too_long-append, whole-append, oversize
 use Rattle.stream_cut.proofs.NextLemmas.{IsNextLine, next_line-is}
 
 -- what a step leaves, with more octets
-after_step : (old new : Stream) (rest more : List ℕ) → new ≡ with_unread old rest
-    → rest ++ more ≡ new.unread ++ more
-after_step old new rest more left = ap (λ (s : Stream). s.unread ++ more) (sym left)
+after_step : (old new left : Stream) (more : List ℕ) → new ≡ left
+    → left.unread ++ more ≡ new.unread ++ more
+after_step old new left more e = ap (λ (s : Stream). s.unread ++ more) (sym e)
 
 -- a line is cut
 pub advances_line : (old : Stream) (line : List ℕ) (new : Stream) → TakesLine old line new
     → Advances old want.Line (OfLine line) new
 advances_line old line new h = record {
   sound = ap (λ (s : Stream). s.overlong) h.left ∙ h.sound;
+  kept = ap (λ (s : Stream). s.dropped) h.left ∙ h.kept;
   limit = ap (λ (s : Stream). s.limit) h.left;
   cuts = λ later more. ap (line_and_later later)
       (next_line-append old.unread line h.rest more h.cut)
-      ∙ ap (λ (x : List ℕ). OfLine line ∷ later x) (after_step old new h.rest more h.left);
+      ∙ ap (λ (x : List ℕ). OfLine line ∷ later x)
+      (after_step old new (with_unread old h.rest) more h.left);
 }
 
 -- a text is cut
@@ -47,10 +49,12 @@ pub advances_text : (old : Stream) (text : List ℕ) (new : Stream) → TakesTex
     → Advances old want.Block (OfText text) new
 advances_text old text new h = record {
   sound = ap (λ (s : Stream). s.overlong) h.left ∙ h.sound;
+  kept = ap (λ (s : Stream). s.dropped) h.left ∙ h.kept;
   limit = ap (λ (s : Stream). s.limit) h.left;
   cuts = λ later more. ap (block_and_later later)
       (whole-append old.limit old.unread text h.rest more h.cut)
-      ∙ ap (λ (x : List ℕ). OfText text ∷ later x) (after_step old new h.rest more h.left);
+      ∙ ap (λ (x : List ℕ). OfText text ∷ later x)
+      (after_step old new (with_unread old h.rest) more h.left);
 }
 
 -- an oversize block is cut
@@ -58,10 +62,12 @@ pub advances_oversize : (old new : Stream) → PassesOversize old new
     → Advances old want.Block OfOversize new
 advances_oversize old new h = record {
   sound = ap (λ (s : Stream). s.overlong) h.left ∙ h.sound;
+  kept = ap (λ (s : Stream). s.dropped) h.left;
   limit = ap (λ (s : Stream). s.limit) h.left;
   cuts = λ later more. ap (block_and_later later)
       (oversize-append old.limit old.unread h.rest more h.cut)
-      ∙ ap (λ (x : List ℕ). OfOversize ∷ later x) (after_step old new h.rest more h.left);
+      ∙ ap (λ (x : List ℕ). OfOversize ∷ later x)
+      (after_step old new (cut_to old h.rest) more h.left);
 }
 
 -- what `line` gives is a step

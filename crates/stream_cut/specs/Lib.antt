@@ -1,4 +1,7 @@
 pub mod Cuts
+pub mod Dots
+pub mod Gone
 pub mod Look
+pub mod Past
 pub mod Steps
 pub mod Stream

@@ -1,10 +1,11 @@
 -- How far a stream was looked through, so that nothing is looked at twice. No public contract
 -- cites it.
-use Rattle.std.specs.Prelude.{◌≡◌, ℕ, ◌+◌, ◌-◌, ◌<◌, ◌≤◌, ◌==◌, if◌then◌else◌, List, [], ◌∷◌, ◌++◌}
+use Rattle.std.specs.Prelude.{◌≡◌, ℕ, ◌+◌, ◌-◌, ◌<◌, ◌≤◌, List, [], ◌∷◌, ◌++◌}
 use Rattle.std.specs.Prelude.{length, take, drop, slice_index, Some, None}
 use Rattle.news_terms.specs.Lines.{first_line, next_line, spelled}
 use Rattle.news_terms.specs.Lines as lines
 use Rattle.news_terms.specs.Blocks.{AreOpenLines}
+use Rattle.stream_cut.specs.Dots.{dots_of}
 use Rattle.stream_cut.specs.declared.look.LineLook.{LineLook}
 use Rattle.stream_cut.specs.declared.look.LineLook.TheVariants.{Ends, TooLong, Incomplete}
 use Rattle.stream_cut.specs.declared.look.BlockLook.{BlockLook}
@@ -23,16 +24,6 @@ pub record IsLooked (octets : List ℕ) (looked : ℕ) : Type 0 where
 pub record LineEnds (octets : List ℕ) (k : ℕ) : Type 0 where
   pub fits : k + 2 ≤ length octets
   pub first : first_line octets ≡ Some (take k octets, drop (k + 2) octets)
-
--- one where a line begins with a dot, else none
-abbrev pub dot_of : List ℕ → ℕ
-dot_of [] = 0
-dot_of (a ∷ line) = if a == 46 then 1 else 0
-
--- how many lines begin with a dot
-abbrev pub dots_of : List (List ℕ) → ℕ
-dots_of [] = 0
-dots_of (line ∷ lines) = dot_of line + dots_of lines
 
 -- The octets begin with whole lines of a block, of so many octets, so many of them with a dot at
 -- their front, and of what follows those so many octets were looked at.

@@ -3,11 +3,16 @@ ghost use Rattle.std.specs.Prelude.{◌≡◌, ◌++◌, ◌≤◌, [], length, 
 ghost use Rattle.std.specs.Prelude.{IfOk, IfErr, OnOk};
 ghost use Rattle.news_terms.specs.Lines.{spelled};
 ghost use Rattle.news_terms.specs.Blocks.{text_lines, unstuffed};
-ghost use Rattle.stream_cut.specs.Stream.{Stream, with_unread, LineCut, BlockCut, IsBlockOf};
-ghost use Rattle.stream_cut.specs.Look.{IsPassed, dots_of};
+ghost use Rattle.stream_cut.specs.Stream.{Stream, with_unread, kept_octets, after_pass};
+ghost use Rattle.stream_cut.specs.Stream.{LineFound, BlockFound, LineCut, BlockCut};
+ghost use Rattle.stream_cut.specs.Dots.{dots_of};
+ghost use Rattle.stream_cut.specs.Past.{KeepsStream};
 ghost use Rattle.stream_cut.specs.declared.cutter.CutError.TheVariants.{Memory};
 
-use crate::look::{BlockLook, LineLook, Progress, look_for_block, look_for_line};
+use crate::found::{FoundBlock, FoundLine};
+use crate::gone::Gone;
+use crate::look::{LineLook, Progress, look_for_line};
+use crate::past::{BlockStand, Within, look_at_block};
 use crate::stuffing::unstuff;
 use std::alloc::{AllocError, Global};
 use std::marker::Model;
@@ -20,6 +25,8 @@ pub enum CutError {
     /// The next 512 octets hold no CRLF, now or when a line was wanted before (RFC 3977 section
     /// 3.1).
     LineTooLong,
+    /// A line was wanted, and the rest of a block that is past its limit comes first.
+    Passing,
 }
 
 impl From<AllocError> for CutError {
@@ -41,16 +48,23 @@ pub enum Block {
 
 /// Cuts a stream that comes in pieces into lines and blocks (RFC 3977 section 3.1).
 ///
-/// It keeps all that was fed and not cut yet, so a block with no end takes memory until memory is
-/// refused. What was looked through for a line or a block isn't looked through again for it, so the
-/// work is linear in the octets; only a line that is cut where a block was awaited makes the next
-/// look for a block begin anew.
+/// `find_line` and `find_block` say what stands at the front, `kept` shows the octets, and `pass`
+/// cuts them off; `line` and `block` do this and give a copy. A cutter keeps what was fed and not
+/// cut yet. Of a block whose text is past the limit the octets are dropped as they come, so that
+/// after each `find_block` no more are kept than a block within the limit may have. What was looked
+/// through for a line or a block isn't looked through again for it, so the work is linear in the
+/// octets; only a line that is cut where a block was awaited makes the next look for a block begin
+/// anew.
 #[derive(Drop)]
 pub struct Cutter {
     alloc: Global,
-    /// What was fed. The octets before `start` are cut.
+    /// What was fed. The octets before `start` are cut, or gone.
     octets: Vec<u8>,
     start: usize,
+    /// The unread octets before those, which aren't kept.
+    gone: Gone,
+    /// Where those end, if there are any.
+    passing: Option<Within>,
     /// How far the octets from `start` on were looked through.
     progress: Progress,
     max_block: usize,
@@ -61,26 +75,33 @@ impl Model for Cutter {
     ghost Value = { Stream };
 
     ghost view = { λ c. record {
-      unread = drop c.start c.octets.items;
+      unread = c.gone ++ drop c.start c.octets.items;
+      dropped = length c.gone;
       limit = c.max_block;
       overlong = c.overlong;
     } };
 
-    ghost invariant = { λ c. (c.start ≤ vec_len c.octets)
-        × IsPassed (drop c.start c.octets.items) c.progress.passed c.progress.looked
-        c.progress.dots };
+    ghost invariant = { λ c. KeepsStream c.octets.items c.start c.max_block c.passing c.gone
+        c.progress.passed c.progress.looked c.progress.dots };
 }
 
 impl Cutter {
     /// A cutter that was fed nothing, for blocks with texts of up to `max_block` octets. It takes
     /// no memory.
     pub fn new(alloc: Global, max_block: usize) -> Cutter
-        ensures { result ≡ record { unread = []; limit = max_block; overlong = false } }
+        ensures { result ≡ record {
+          unread = [];
+          dropped = 0;
+          limit = max_block;
+          overlong = false;
+        } }
     {
         Cutter {
             alloc,
             octets: Vec::new(alloc),
             start: 0,
+            gone: Gone::none(),
+            passing: None,
             progress: Progress::none(),
             max_block,
             overlong: false,
@@ -98,6 +119,82 @@ impl Cutter {
         Ok(())
     }
 
+    /// Says what stands at the front where a line is wanted. Nothing is copied or cut, and a line
+    /// that is too long is found so again.
+    pub fn find_line(&mut self) -> FoundLine
+        ensures found { LineFound self.old result }
+        ensures same { self.new ≡ self.old }
+    {
+        if self.passing.is_some() {
+            return FoundLine::Passing;
+        }
+        let start = self.start;
+        match look_for_line(&self.octets[start..], self.progress) {
+            LineLook::Ends(end) => FoundLine::Whole(end),
+            LineLook::TooLong => FoundLine::TooLong,
+            LineLook::Incomplete(progress) => {
+                self.progress = progress;
+                FoundLine::Incomplete
+            }
+        }
+    }
+
+    /// Says what stands at the front where a block is wanted. Nothing is copied or cut, but of a
+    /// block that is past the limit and not whole so far the octets are dropped. It takes no
+    /// memory.
+    pub fn find_block(&mut self) -> FoundBlock
+        ensures found { BlockFound self.old result self.new }
+    {
+        let start = self.start;
+        match look_at_block(
+            &self.octets[start..],
+            self.passing,
+            self.progress,
+            self.max_block,
+        ) {
+            BlockStand::Whole(progress) => {
+                self.progress = progress;
+                FoundBlock::Whole {
+                    octets: progress.passed,
+                    dots: progress.dots,
+                }
+            }
+            BlockStand::Oversize(count, progress) => {
+                self.progress = progress;
+                FoundBlock::Oversize(count)
+            }
+            BlockStand::Open(progress) => {
+                self.progress = progress;
+                FoundBlock::Unfinished
+            }
+            BlockStand::Past(count, within) => {
+                self.gone.add(&self.octets, start, count);
+                self.start = start + count;
+                self.passing = Some(within);
+                self.progress = Progress::none();
+                FoundBlock::Unfinished
+            }
+        }
+    }
+
+    /// The unread octets that are kept: all of them, unless a block past the limit is being passed.
+    pub fn kept(&self) -> &[u8]
+        ensures { result.now ≡ kept_octets self.now }
+    {
+        &self.octets[self.start..]
+    }
+
+    /// Cuts so many of the octets that are kept off the front, and with them those that were
+    /// dropped; all that are kept, where they are fewer. It moves no octets.
+    pub fn pass(&mut self, count: usize)
+        ensures { self.new ≡ after_pass self.old count }
+    {
+        self.start += count.min(self.octets.len() - self.start);
+        self.gone = Gone::none();
+        self.passing = None;
+        self.progress = Progress::none();
+    }
+
     /// The first line that is unread, without its CRLF, or `None` as long as it isn't whole. Once a
     /// line was too long there is none.
     pub fn line(&mut self) -> Result<Option<Vec<u8>>, CutError>
@@ -106,22 +203,18 @@ impl Cutter {
         if self.overlong {
             return Err(CutError::LineTooLong);
         }
-        let start = self.start;
-        let unread = &self.octets[start..];
-        match look_for_line(unread, self.progress) {
-            LineLook::Ends(end) => {
-                let line = Vec::from_slice(self.alloc, &unread[..end])?;
-                self.advance(end + 2);
+        match self.find_line() {
+            FoundLine::Whole(end) => {
+                let line = Vec::from_slice(self.alloc, &self.kept()[..end])?;
+                self.pass(end + 2);
                 Ok(Some(line))
             }
-            LineLook::TooLong => {
+            FoundLine::TooLong => {
                 self.overlong = true;
                 Err(CutError::LineTooLong)
             }
-            LineLook::Incomplete(progress) => {
-                self.progress = progress;
-                Ok(None)
-            }
+            FoundLine::Incomplete => Ok(None),
+            FoundLine::Passing => Err(CutError::Passing),
         }
     }
 
@@ -134,20 +227,17 @@ impl Cutter {
         if self.overlong {
             return Err(CutError::LineTooLong);
         }
-        let start = self.start;
-        let unread = &self.octets[start..];
-        match look_for_block(unread, self.progress) {
-            BlockLook::Open(progress) => {
-                self.progress = progress;
-                Ok(None)
+        match self.find_block() {
+            FoundBlock::Whole { octets, dots } => {
+                let text = text_of(self.alloc, &self.kept()[..octets], dots)?;
+                self.pass(octets + 3);
+                Ok(Some(Block::Whole(text)))
             }
-            BlockLook::Closed(progress) => {
-                self.progress = progress;
-                let lines = &unread[..progress.passed];
-                let block = block_of(self.alloc, lines, progress.dots, self.max_block)?;
-                self.advance(progress.passed + 3);
-                Ok(Some(block))
+            FoundBlock::Oversize(count) => {
+                self.pass(count);
+                Ok(Some(Block::Oversize))
             }
+            FoundBlock::Unfinished => Ok(None),
         }
     }
 
@@ -159,15 +249,6 @@ impl Cutter {
             drop_front(&mut self.octets, self.start);
             self.start = 0;
         }
-    }
-
-    /// Cuts so many octets off the front.
-    fn advance(&mut self, count: usize)
-        requires { count ≤ length self.old.unread }
-        ensures { self.new ≡ with_unread self.old (drop count self.old.unread) }
-    {
-        self.start += count;
-        self.progress = Progress::none();
     }
 }
 
@@ -181,18 +262,14 @@ fn drop_front(octets: &mut Vec<u8>, count: usize)
     octets.truncate(left);
 }
 
-/// The block of these whole lines, so many of them with a dot at their front.
-fn block_of(alloc: Global, lines: &[u8], dots: usize, max_block: usize) -> Result<Block, AllocError>
+/// The text of these whole lines, so many of them with a dot at their front.
+fn text_of(alloc: Global, lines: &[u8], dots: usize) -> Result<Vec<u8>, AllocError>
     requires whole { spelled (text_lines lines.now) ≡ lines.now }
     requires dotted { dots_of (text_lines lines.now) ≡ dots }
-    ensures { IfOk result (IsBlockOf max_block (unstuffed (text_lines lines.now))) }
+    ensures { IfOk result (λ v. v.items ≡ unstuffed (text_lines lines.now)) }
 {
-    let len = lines.len() - dots;
-    if len > max_block {
-        return Ok(Block::Oversize);
-    }
     if dots == 0 {
-        return Ok(Block::Whole(Vec::from_slice(alloc, lines)?));
+        return Vec::from_slice(alloc, lines);
     }
-    Ok(Block::Whole(unstuff(alloc, lines, len)?))
+    unstuff(alloc, lines, lines.len() - dots)
 }

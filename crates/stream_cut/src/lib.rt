@@ -6,11 +6,15 @@
 #![tactic(auto)]
 
 mod cutter;
+mod found;
+mod gone;
 pub mod laws;
 mod look;
+mod past;
 mod run;
 mod stuffing;
 
 pub use cutter::{Block, CutError, Cutter};
+pub use found::{FoundBlock, FoundLine};
 pub use run::{Cut, Want, cut_all};
-pub use stuffing::{put_stuffed, stuff, stuffed_room};
+pub use stuffing::{put_stuffed, stuff, stuffed_room, unstuff};

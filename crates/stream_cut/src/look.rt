@@ -1,7 +1,8 @@
 //! How far the unread octets were looked through for the end of a line and of a block.
 ghost use Rattle.std.specs.Prelude.{◌≡◌, None, MatchOption};
 ghost use Rattle.news_terms.specs.Lines.{first_line};
-ghost use Rattle.stream_cut.specs.Look.{IsLooked, LineEnds, IsPassed, dot_of};
+ghost use Rattle.stream_cut.specs.Look.{IsLooked, LineEnds, IsPassed};
+ghost use Rattle.stream_cut.specs.Dots.{dot_of};
 ghost use Rattle.stream_cut.specs.Look.{FindsLine, FindsBlock};
 
 use memchr::memmem;

@@ -1,8 +1,8 @@
 //! A whole run over pieces: what is cut depends on the joined octets alone.
-ghost use Rattle.std.specs.Prelude.{◌≡◌, ◌++◌, ◌<◌, [], List, ℕ, length, drop, map, flat_map};
+ghost use Rattle.std.specs.Prelude.{◌≡◌, ◌++◌, [], List, ℕ, length, drop, map, flat_map};
 ghost use Rattle.std.specs.Prelude.{false, IfOk};
 ghost use Rattle.stream_cut.specs.Cuts.{cut_off, cuts_of, CutsUp};
-ghost use Rattle.stream_cut.specs.Steps.{CutsNext};
+ghost use Rattle.stream_cut.specs.Steps.{CutsNext, GoesOn, KeepsLine};
 
 use crate::cutter::{Block, CutError, Cutter};
 use std::alloc::{AllocError, Global};
@@ -61,8 +61,8 @@ fn cut_ready(
     next: usize,
     cuts: &mut Vec<Cut>,
 ) -> Result<usize, AllocError>
-    requires sound { next < length wants.now → cutter.old.overlong ≡ false }
-    ensures sound { IfOk result (λ at. at < length wants.now → cutter.new.overlong ≡ false) }
+    requires sound { GoesOn (drop next wants.now) cutter.old }
+    ensures sound { IfOk result (λ at. GoesOn (drop at wants.now) cutter.new) }
     ensures limit { IfOk result (λ at. cutter.new.limit ≡ cutter.old.limit) }
     ensures waits { IfOk result (λ at.
         cuts_of cutter.old.limit (drop at wants.now) cutter.new.unread ≡ []) }
@@ -90,7 +90,8 @@ fn cut_ready(
 
 /// Cuts what is wanted, if it is whole.
 fn cut_next(cutter: &mut Cutter, want: Want) -> Result<Option<Cut>, AllocError>
-    requires { cutter.old.overlong ≡ false }
+    requires sound { cutter.old.overlong ≡ false }
+    requires kept { KeepsLine want cutter.old }
     ensures { IfOk result (λ cut. CutsNext cutter.old want cut cutter.new) }
 {
     match want {
@@ -99,12 +100,14 @@ fn cut_next(cutter: &mut Cutter, want: Want) -> Result<Option<Cut>, AllocError>
             Ok(None) => Ok(None),
             Err(CutError::LineTooLong) => Ok(Some(Cut::TooLong)),
             Err(CutError::Memory) => Err(AllocError),
+            Err(CutError::Passing) => unreachable!(),
         },
         Want::Block => match cutter.block() {
             Ok(Some(block)) => Ok(Some(Cut::Block(block))),
             Ok(None) => Ok(None),
             Err(CutError::LineTooLong) => Ok(Some(Cut::TooLong)),
             Err(CutError::Memory) => Err(AllocError),
+            Err(CutError::Passing) => unreachable!(),
         },
     }
 }

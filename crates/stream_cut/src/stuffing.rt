@@ -71,8 +71,9 @@ fn put_stuffed_line(block: &mut Vec<u8>, line: &[u8])
     put_octets(block, line);
 }
 
-/// The text that whole lines of a block stand for, of `len` octets.
-pub(crate) fn unstuff(alloc: Global, lines: &[u8], len: usize) -> Result<Vec<u8>, AllocError>
+/// The text that whole lines of a block stand for: each without the dot that it begins with (RFC
+/// 3977 section 3.1.1). Room for `len` octets is made first, best as many as the text has.
+pub fn unstuff(alloc: Global, lines: &[u8], len: usize) -> Result<Vec<u8>, AllocError>
     requires { spelled (text_lines lines.now) ≡ lines.now }
     ensures { IfOk result (λ v. v.items ≡ unstuffed (text_lines lines.now)) }
 {

@@ -1,8 +1,9 @@
 //! The calls of `stream_cut`.
 
 use crate::values::{Runs, number_of, put_fault, put_in, put_space};
+use row_text::put_number;
 use std::alloc::{AllocError, Global};
-use stream_cut::{Block, Cut, CutError, Cutter, Want, cut_all};
+use stream_cut::{Block, Cut, CutError, Cutter, FoundBlock, FoundLine, Want, cut_all};
 
 /// Writes what the steps give of a cutter that was fed a stream: the cells are the limit, the size
 /// of the pieces, the stream and the steps.
@@ -34,12 +35,15 @@ fn take_steps(
     Ok(())
 }
 
-/// Takes a step: `line` wants a line, `block` a block, and octets behind `+` are fed.
+/// Takes a step: `line` wants a line, `block` a block, `find_line` and `find_block` say what stands
+/// at the front, and octets behind `+` are fed.
 fn take_step(cutter: &mut Cutter, text: &mut Vec<u8>, step: &[u8]) -> Result<(), AllocError> {
     match step {
         [b'+', piece @ ..] => feed(cutter, piece),
         b"line" => put_line(cutter, text),
         b"block" => put_block(cutter, text),
+        b"find_line" => put_found_line(cutter, text),
+        b"find_block" => put_found_block(cutter, text),
         _ => put_fault(text),
     }
 }
@@ -63,6 +67,7 @@ fn put_line(cutter: &mut Cutter, text: &mut Vec<u8>) -> Result<(), AllocError> {
         Ok(Some(line)) => put_in(text, b"Line", &line),
         Ok(None) => text.extend_from_slice(b"None"),
         Err(CutError::LineTooLong) => text.extend_from_slice(b"LineTooLong"),
+        Err(CutError::Passing) => text.extend_from_slice(b"Passing"),
         Err(CutError::Memory) => Err(AllocError),
     }
 }
@@ -78,8 +83,44 @@ fn put_block(cutter: &mut Cutter, text: &mut Vec<u8>) -> Result<(), AllocError> 
         Ok(Some(block)) => put_whole(text, &block),
         Ok(None) => text.extend_from_slice(b"None"),
         Err(CutError::LineTooLong) => text.extend_from_slice(b"LineTooLong"),
+        Err(CutError::Passing) => text.extend_from_slice(b"Passing"),
         Err(CutError::Memory) => Err(AllocError),
     }
+}
+
+/// Writes what stands where a line is wanted, and passes the line.
+fn put_found_line(cutter: &mut Cutter, text: &mut Vec<u8>) -> Result<(), AllocError> {
+    put_space(text)?;
+    match cutter.find_line() {
+        FoundLine::Whole(end) => {
+            put_in(text, b"Found", &cutter.kept()[..end])?;
+            cutter.pass(end + 2);
+        }
+        FoundLine::TooLong => text.extend_from_slice(b"TooLong")?,
+        FoundLine::Incomplete => text.extend_from_slice(b"Incomplete")?,
+        FoundLine::Passing => text.extend_from_slice(b"Passing")?,
+    }
+    Ok(())
+}
+
+/// Writes what stands where a block is wanted, its lines and how many of them begin with a dot, and
+/// passes it; or what is kept as long as none is whole.
+fn put_found_block(cutter: &mut Cutter, text: &mut Vec<u8>) -> Result<(), AllocError> {
+    put_space(text)?;
+    match cutter.find_block() {
+        FoundBlock::Whole { octets, dots } => {
+            put_in(text, b"Found", &cutter.kept()[..octets])?;
+            put_space(text)?;
+            put_number(text, dots as u64)?;
+            cutter.pass(octets + 3);
+        }
+        FoundBlock::Oversize(count) => {
+            put_in(text, b"Oversize", &cutter.kept()[..count])?;
+            cutter.pass(count);
+        }
+        FoundBlock::Unfinished => put_in(text, b"Unfinished", cutter.kept())?,
+    }
+    Ok(())
 }
 
 /// Writes a block.

@@ -4,7 +4,8 @@ use Rattle.std.proofs.Common.{bytes_eq, List, ℕ}
 use Rattle.std.proofs.lemmas.List.{take_rest}
 use Rattle.news_terms.specs.Blocks.{dot}
 use Rattle.news_terms.specs.Lines.{first_line}
-use Rattle.stream_cut.specs.Look.{LineEnds, IsPassed, dot_of}
+use Rattle.stream_cut.specs.Look.{LineEnds, IsPassed}
+use Rattle.stream_cut.specs.Dots.{dot_of}
 use Rattle.stream_cut.proofs.PassLemmas.{pass_line, dot_closes, look_stops, passed-bounds}
 use Rattle.stream_cut.proofs.PassLemmas.{dot_of-bound}
 use Rattle.stream_cut.proofs.look.look_for_block.Goals as goal

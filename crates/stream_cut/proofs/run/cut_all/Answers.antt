@@ -1,12 +1,15 @@
 -- The cutter was fed the pieces so far, joined.
 use Rattle.std.proofs.Common.{◌≡◌, ◌++◌, ◌+◌, ℕ, List, [], ◌∷◌, drop, map, false, Vec, OnOk, Result}
-use Rattle.std.proofs.Common.{Ok, Err, sym, ap, subst, ◌∙◌, append_assoc, append-nil}
+use Rattle.std.proofs.Common.{Ok, Err, refl, sym, ap, subst, ◌∙◌, append_assoc, append-nil}
 use Rattle.std.specs.List.{flat_map}
 use Rattle.std.specs.Result.{is_err}
 use Rattle.std.proofs.lemmas.Bool.{true≢false}
 use Rattle.std.proofs.lemmas.List.{drop_more, drop_all}
 use Rattle.std.specs.declared.alloc.Global.{Global}
+use Rattle.stream_cut.specs.declared.run.Want.{Want}
+use Rattle.stream_cut.specs.declared.run.Want.TheVariants as want
 use Rattle.stream_cut.specs.Stream.{Stream, with_unread}
+use Rattle.stream_cut.specs.Steps.{GoesOn}
 use Rattle.stream_cut.specs.Cuts.{CutOff, cut_off, cuts_of, CutsUp}
 use Rattle.stream_cut.proofs.RunLemmas.{cuts_of-nil, cuts_up}
 use Rattle.stream_cut.proofs.run.cut_all.Goals as goal
@@ -16,6 +19,24 @@ on_no_error : {T E : Type 0} (r : Result T E) (P : Type 0) → is_err r ≡ fals
 on_no_error (Ok x) P e h = h
 on_no_error (Err y) P e h = absurd (true≢false e)
 
+-- a stream that was fed nothing is sound
+goes_on_new : (wants : List Want) (limit : ℕ) → GoesOn wants (record {
+  unread = [];
+  dropped = 0;
+  limit = limit;
+  overlong = false;
+})
+goes_on_new [] limit = tt
+goes_on_new (want.Line ∷ wants) limit = (refl, refl)
+goes_on_new (want.Block ∷ wants) limit = (refl, tt)
+
+-- more octets leave it so
+goes_on_more : (wants : List Want) (s : Stream) (octets : List ℕ) → GoesOn wants s
+    → GoesOn wants (with_unread s octets)
+goes_on_more [] s octets h = tt
+goes_on_more (want.Line ∷ wants) s octets h = h
+goes_on_more (want.Block ∷ wants) s octets h = h
+
 -- the pieces joined
 abbrev joined : List (Vec ℕ Global) → List ℕ
 joined pieces = flat_map (λ piece. piece.items) pieces
@@ -24,15 +45,15 @@ pub loop-piece-init : goal.loop-piece-init
 loop-piece-init c =
     let made : c.new-cutter.result ≡ record {
       unread = [];
+      dropped = 0;
       limit = c.args.max_block;
-      overlong =
-          false;
+      overlong = false;
     } = c.new-cutter.ensures in
     let wants = c.args.wants.now in
     let limit = c.args.max_block in
     let all = joined c.args.pieces.now in
     record {
-      sound = λ _. ap (λ (s : Stream). s.overlong) made;
+      sound = subst (GoesOn wants) (sym made) (goes_on_new wants limit);
       limit = ap (λ (s : Stream). s.limit) made;
       waits = ap (λ (s : Stream). cuts_of limit wants s.unread) made ∙ cuts_of-nil limit wants;
       cut = ap (λ (s : Stream). map cut_off c.new-cuts.result.items ++ cuts_of limit wants

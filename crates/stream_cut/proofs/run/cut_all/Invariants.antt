@@ -2,11 +2,12 @@
 use Rattle.std.proofs.Common.{◌≡◌, ◌++◌, ◌<◌, [], length, drop, map, false}
 use Rattle.std.specs.List.{flat_map}
 use Rattle.stream_cut.specs.Cuts.{cut_off, cuts_of}
+use Rattle.stream_cut.specs.Steps.{GoesOn}
 use Rattle.stream_cut.proofs.run.cut_all.Given as goal
 
 abbrev pub invariant-loop-piece : goal.invariant-loop-piece
 invariant-loop-piece l = record {
-  sound : l.next < length l.wants → l.cutter.overlong ≡ false;
+  sound : GoesOn (drop l.next l.wants) l.cutter;
   limit : l.cutter.limit ≡ l.max_block;
   waits : cuts_of l.max_block (drop l.next l.wants) l.cutter.unread ≡ [];
   cut : map cut_off l.cuts.items

@@ -10,7 +10,7 @@ returns-in-Ok-Some c =
 pub returns-in-Err-LineTooLong : goal.returns-in-Err-LineTooLong
 returns-in-Err-LineTooLong c =
     step_end c.args.cutter.now c.line.new.self c.args.want c.in-Err-LineTooLong.field-0 c.in-Line.is
-    c.in-Err-LineTooLong.field-0-is c.requires c.in-Err-LineTooLong.ensures.cut
+    c.in-Err-LineTooLong.field-0-is c.requires.sound c.in-Err-LineTooLong.ensures.cut
 
 pub returns-in-Ok-Some-block : goal.returns-in-Ok-Some-block
 returns-in-Ok-Some-block c =

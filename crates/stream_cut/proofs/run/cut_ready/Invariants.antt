@@ -1,11 +1,12 @@
 -- What was cut and what is to be cut are what was to be cut, however the stream goes on.
 use Rattle.std.proofs.Common.{◌≡◌, ◌++◌, ◌<◌, ◌-◌, ℕ, List, length, drop, map, false}
 use Rattle.stream_cut.specs.Cuts.{cut_off, cuts_of}
+use Rattle.stream_cut.specs.Steps.{GoesOn}
 use Rattle.stream_cut.proofs.run.cut_ready.Given as goal
 
 abbrev pub invariant-loop-at : goal.invariant-loop-at
 invariant-loop-at l = record {
-  sound : l.at < length l.wants → l.cutter.overlong ≡ false;
+  sound : GoesOn (drop l.at l.wants) l.cutter;
   limit : l.cutter.limit ≡ l.fn.cutter.limit;
   cut : (more : List ℕ) → map cut_off l.cuts.items ++ cuts_of l.fn.cutter.limit (drop l.at l.wants)
       (l.cutter.unread ++ more)

@@ -25,6 +25,12 @@ returns-in-Err-Memory-clause-err c = λ w m hand stands.
     cut m hand (stands_offers w c.args.self.now m hand _ c.in_ok-make_offer_room.ensures.same
     stands)
 
+pub returns-in-Err-Passing-clause-err : goal.returns-in-Err-Passing-clause-err
+returns-in-Err-Passing-clause-err c = λ w m hand stands.
+    let cut = rw c.in-Err-Passing.field-0-is at (c.in-Err-Passing.ensures.cut w) in
+    cut m hand (stands_offers w c.args.self.now m hand _ c.in_ok-make_offer_room.ensures.same
+    stands)
+
 pub returns-in-Some-clause-plan : goal.returns-in-Some-clause-plan
 returns-in-Some-clause-plan c =
     let room = subst (λ (offers : Vec (List ℕ) Global). vec_len offers + 1 ≤ vec_capacity offers)
