@@ -132,12 +132,16 @@ fn overview_reply(mut room: Vec<u8>, text: &[u8]) -> Vec<u8>
     ensures some { 1 ≤ length result.items }
 {
     put_octets(&mut room, b"224 Overview follows\r\n");
-    if put_line(&mut room, text).is_err() {
-        room.clear();
-        return said(room, &Reply::DeviceFault);
+    match put_line(&mut room, text) {
+        Ok(()) => {
+            put_octets(&mut room, b"\r\n.\r\n");
+            room
+        }
+        Err(_) => {
+            room.clear();
+            said(room, &Reply::DeviceFault)
+        }
     }
-    put_octets(&mut room, b"\r\n.\r\n");
-    room
 }
 
 /// The octets of a reply, in the room that was made for it.

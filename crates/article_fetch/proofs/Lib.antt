@@ -1,0 +1,3 @@
+mod EmptyLinePlaces
+mod FaultReplies
+mod Overviews
