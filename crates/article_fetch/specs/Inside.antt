@@ -1,5 +1,5 @@
 -- What holds of the parts of every fetch in progress. No public contract cites it.
-use Rattle.std.specs.Prelude.{◌≡◌, ◌≤◌, ◌<◌, ℕ, ◌+◌, ◌*◌, ◌==◌, Bool, true, List, [], length}
+use Rattle.std.specs.Prelude.{◌≡◌, ◌≤◌, ◌<◌, ℕ, ◌+◌, ◌*◌, ◌==◌, Bool, true, []}
 use Rattle.std.specs.Prelude.{vec_len, vec_capacity, if◌then◌else◌}
 use Rattle.std.specs.Global.{Vec}
 use Rattle.news_terms.specs.Blocks.{stuffed_room}

@@ -1,9 +1,6 @@
-use Rattle.std.proofs.Common.{refl, sym, subst}
+use Rattle.std.proofs.Common.{sym, subst}
 use Rattle.cyc_token.specs.Token.{token_view}
-use Rattle.news_terms.specs.Reply.{DeviceFault}
-use Rattle.relay_model.specs.Fetches as fetches
-use Rattle.relay_model.specs.State.{Asked, OfId, OfToken}
-use Rattle.article_fetch.specs.Fetch.{asked_view, Replies}
+use Rattle.article_fetch.specs.Fetch.{asked_view}
 use Rattle.article_fetch.specs.Shown.{SaysLast}
 use Rattle.article_fetch.specs.declared.chunk.Chunk.{Chunk}
 use Rattle.article_fetch.proofs.FaultReplies.{fault_said}

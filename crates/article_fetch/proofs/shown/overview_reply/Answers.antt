@@ -1,4 +1,4 @@
-use Rattle.std.proofs.Common.{arith, length, ap, ◌∙◌}
+use Rattle.std.proofs.Common.{arith, length, ap}
 use Rattle.article_fetch.proofs.Overviews.{rest_fits}
 use Rattle.article_fetch.proofs.shown.overview_reply.Goals as goal
 
