@@ -85,3 +85,10 @@ HearsBlock fetch found None new =
 HearsBlock fetch found (Some octets) new =
     (goes_on fetch.asked fetch.token fetch.had found ≡ false)
     × Replies fetch.asked fetch.token found octets.items × (new ≡ ended fetch)
+
+-- whatever was read: where nothing is said, the fetch has had one Turn more; else something is
+-- said, and it has ended; what it asks, and of which token, stays
+abbrev pub StaysSame : Fetch → Option (Vec ℕ) → Fetch → Type 0
+StaysSame fetch None new =
+    new ≡ record fetch { had = fetch.had + 1; gathered = new.gathered; prepared = false }
+StaysSame fetch (Some octets) new = (1 ≤ length octets.items) × (new ≡ ended fetch)

@@ -1,13 +1,13 @@
 //! A fetch in progress.
 ghost use Rattle.std.specs.Prelude.{◌≡◌, ◌+◌, ◌<◌, ◌≤◌, ◌*◌, ◌++◌, true, max, take};
-ghost use Rattle.std.specs.Prelude.{IfOk, OnOk, OnErr, vec_len, vec_capacity};
+ghost use Rattle.std.specs.Prelude.{IfOk, IsOk, OnOk, OnErr, vec_len, vec_capacity};
 ghost use Rattle.cyc_token.specs.Token.{token_view};
 ghost use Rattle.news_terms.specs.BlockImage.{chunk_size};
 ghost use Rattle.news_terms.specs.Places.{size_of};
 ghost use Rattle.relay_model.specs.Fetches.{Fetched};
 ghost use Rattle.relay_model.specs.Hears.{turns_of};
 ghost use Rattle.article_fetch.specs.Fetch.{asked_view, FoundAs, HearsBlock, new_fetch};
-ghost use Rattle.article_fetch.specs.Fetch.{prepared_fetch};
+ghost use Rattle.article_fetch.specs.Fetch.{prepared_fetch, StaysSame};
 ghost use Rattle.article_fetch.specs.Inside.{most_due};
 ghost use Rattle.article_fetch.specs.Inside as terms;
 
@@ -91,10 +91,11 @@ impl Reading {
 
     /// Takes all the memory that hearing the next block can need: for its octets behind those
     /// gathered, and where it is the last for the whole reply. What a token says of its length
-    /// takes no memory before blocks are found.
+    /// takes no memory before blocks are found. A fetch that is prepared takes none.
     pub fn prepare(&mut self) -> Result<(), AllocError>
         ensures ok { OnOk result (self.new ≡ prepared_fetch self.old) }
         ensures err { OnErr result (self.new ≡ self.old) }
+        ensures again { self.old.prepared ≡ true → IsOk result }
     {
         if self.prepared {
             return Ok(());
@@ -110,8 +111,9 @@ impl Reading {
     /// reply (docs/FORMATS.md, Replies). It takes no memory.
     pub fn hear(&mut self, chunk: Chunk) -> Option<Vec<u8>>
         requires { self.old.prepared ≡ true }
-        ensures { (found : Fetched) → FoundAs self.old chunk found
+        ensures heard { (found : Fetched) → FoundAs self.old chunk found
             → HearsBlock self.old found result self.new }
+        ensures same { StaysSame self.old result self.new }
     {
         self.prepared = false;
         let mut text = mem::replace(&mut self.gathered, Vec::new(self.alloc));

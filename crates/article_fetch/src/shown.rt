@@ -31,7 +31,9 @@ pub(crate) fn last_reply(
 ) -> Vec<u8>
     requires empty { room.items ≡ [] }
     requires room { most_by chunk.now text.now ≤ vec_capacity room }
-    ensures { SaysLast (asked_view asked.now) (token_view token) chunk.now text.now result.items }
+    ensures says { SaysLast (asked_view asked.now) (token_view token) chunk.now text.now
+        result.items }
+    ensures some { 1 ≤ length result.items }
 {
     match chunk {
         Chunk::Found(_) => found_reply(room, asked, token, text),
@@ -45,7 +47,8 @@ pub(crate) fn last_reply(
 fn gone_reply(room: Vec<u8>, asked: &Asked, token: Token) -> Vec<u8>
     requires empty { room.items ≡ [] }
     requires room { reply_room ≤ vec_capacity room }
-    ensures { Replies (asked_view asked.now) (token_view token) fetches.Gone result.items }
+    ensures says { Replies (asked_view asked.now) (token_view token) fetches.Gone result.items }
+    ensures some { 1 ≤ length result.items }
 {
     match asked {
         Asked::OfId(_, _) => said(room, &Reply::NoArticle),
@@ -57,7 +60,9 @@ fn gone_reply(room: Vec<u8>, asked: &Asked, token: Token) -> Vec<u8>
 fn unknown_reply(room: Vec<u8>, asked: &Asked, token: Token) -> Vec<u8>
     requires empty { room.items ≡ [] }
     requires room { reply_room ≤ vec_capacity room }
-    ensures { Replies (asked_view asked.now) (token_view token) fetches.NotKnown result.items }
+    ensures says { Replies (asked_view asked.now) (token_view token) fetches.NotKnown
+        result.items }
+    ensures some { 1 ≤ length result.items }
 {
     match asked {
         Asked::OfId(_, _) => said(room, &Reply::NoArticle),
@@ -69,7 +74,8 @@ fn unknown_reply(room: Vec<u8>, asked: &Asked, token: Token) -> Vec<u8>
 fn found_reply(room: Vec<u8>, asked: &Asked, token: Token, text: &[u8]) -> Vec<u8>
     requires empty { room.items ≡ [] }
     requires room { reply_room + stuffed_room (length text.now) ≤ vec_capacity room }
-    ensures { ShowsArticle (asked_view asked.now) (token_view token) text.now result.items }
+    ensures says { ShowsArticle (asked_view asked.now) (token_view token) text.now result.items }
+    ensures some { 1 ≤ length result.items }
 {
     match asked {
         Asked::OfId(part, id) => part_reply(room, *part, id, text),
@@ -81,7 +87,8 @@ fn found_reply(room: Vec<u8>, asked: &Asked, token: Token, text: &[u8]) -> Vec<u
 fn part_reply(room: Vec<u8>, part: Part, id: &MsgId, text: &[u8]) -> Vec<u8>
     requires empty { room.items ≡ [] }
     requires room { reply_room + stuffed_room (length text.now) ≤ vec_capacity room }
-    ensures { ShowsPart (part_view part) id.now text.now result.items }
+    ensures says { ShowsPart (part_view part) id.now text.now result.items }
+    ensures some { 1 ≤ length result.items }
 {
     match part {
         Part::WholeText => said(room, &Reply::ArticleFollows(id, text)),

@@ -10,12 +10,15 @@ pub returns-in-OfToken : goal.returns-in-OfToken
 returns-in-OfToken c =
     let token = token_view c.args.token in
     let said = c.said in
-    subst (λ (asked : Asked).
-    ShowsArticle (asked_view asked) token c.args.text.now said.result.items)
-    (sym c.in-OfToken.is)
-    (λ text a is same. (
-      TokenFollows token text,
-      refl,
-      said.ensures.octets ∙ ap (λ (x : List ℕ). reply_text (TokenFollows token x)) same,
-      said.ensures.some,
-    ))
+    record {
+      says = subst (λ (asked : Asked).
+          ShowsArticle (asked_view asked) token c.args.text.now said.result.items)
+          (sym c.in-OfToken.is)
+          (λ text a is same. (
+            TokenFollows token text,
+            refl,
+            said.ensures.octets ∙ ap (λ (x : List ℕ). reply_text (TokenFollows token x)) same,
+            said.ensures.some,
+          ));
+      some = said.ensures.some;
+    }

@@ -8,13 +8,22 @@ use Rattle.article_fetch.proofs.shown.gone_reply.Goals as goal
 
 pub returns-in-OfId : goal.returns-in-OfId
 returns-in-OfId c =
-    subst (λ (asked : Asked).
-    Replies (asked_view asked) (token_view c.args.token) fetches.Gone c.said.result.items)
-    (sym c.in-OfId.is) (NoArticle, refl, c.said.ensures.octets, c.said.ensures.some)
+    let token = token_view c.args.token in
+    let said = c.said in
+    record {
+      says = subst (λ (asked : Asked).
+          Replies (asked_view asked) token fetches.Gone said.result.items)
+          (sym c.in-OfId.is) (NoArticle, refl, said.ensures.octets, said.ensures.some);
+      some = said.ensures.some;
+    }
 
 pub returns-in-OfToken : goal.returns-in-OfToken
 returns-in-OfToken c =
     let token = token_view c.args.token in
     let said = c.said-in-OfToken in
-    subst (λ (asked : Asked). Replies (asked_view asked) token fetches.Gone said.result.items)
-    (sym c.in-OfToken.is) (TokenGone token, refl, said.ensures.octets, said.ensures.some)
+    record {
+      says = subst (λ (asked : Asked).
+          Replies (asked_view asked) token fetches.Gone said.result.items)
+          (sym c.in-OfToken.is) (TokenGone token, refl, said.ensures.octets, said.ensures.some);
+      some = said.ensures.some;
+    }

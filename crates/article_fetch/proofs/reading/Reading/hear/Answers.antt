@@ -1,10 +1,11 @@
 use Rattle.std.proofs.Common.{◌≡◌, ◌+◌, ◌<◌, ◌≤◌, ◌++◌, ◌∙◌, ap, subst, take, List, ℕ, [], None}
-use Rattle.std.proofs.Common.{arith, false, Vec}
+use Rattle.std.proofs.Common.{arith, false, length, refl, Vec}
 use Rattle.std.specs.Global.{Global}
 use Rattle.cyc_token.specs.Token.{token_view}
 use Rattle.relay_model.specs.Fetches.{Fetched}
 use Rattle.relay_model.specs.Hears.{goes_on, turns_of}
 use Rattle.article_fetch.specs.Fetch.{asked_view, ended, Fetch, FoundAs, HearsBlock, Replies}
+use Rattle.article_fetch.specs.Fetch.{StaysSame}
 use Rattle.article_fetch.specs.Inside.{most_due}
 use Rattle.article_fetch.specs.Shown.{SaysLast}
 use Rattle.article_fetch.specs.contracts.reading.Reading.{the_view}
@@ -25,15 +26,19 @@ returns-then-self-turns c =
     ∙ ap (λ (x : List ℕ). inside.gathered.items ++ take due x) c.as_slice.ensures.octets in
     let more : inside.had + 1 < turns_of (asked_view inside.asked) (token_view inside.token) =
     omega (arith, c.if-self-turns.true, c.turns-turns.ensures) in
-    subst (λ (fetch : Fetch). (found : Fetched) → FoundAs fetch c.args.chunk found
-    → HearsBlock fetch found None (the_view (record inside {
+    let after : Fetch = the_view (record inside {
       had = inside.had + 1;
       gathered = c.gather.new.text;
       prepared = false;
-    })))
-    c.self.view_is
-    (λ found h. heard_on (the_view inside) octets c.gather.new.text.items found now more
-    (subst (λ (chunk : Chunk). FoundAs (the_view inside) chunk found) c.in-Found.is h))
+    }) in
+    record {
+      heard = subst (λ (fetch : Fetch). (found : Fetched) → FoundAs fetch c.args.chunk found
+          → HearsBlock fetch found None after)
+          c.self.view_is
+          (λ found h. heard_on (the_view inside) octets c.gather.new.text.items found now more
+          (subst (λ (chunk : Chunk). FoundAs (the_view inside) chunk found) c.in-Found.is h));
+      same = subst (λ (fetch : Fetch). StaysSame fetch None after) c.self.view_is refl;
+    }
 
 pub returns : goal.returns
 returns c =
@@ -44,12 +49,16 @@ returns c =
     let said = c.last_reply.result.items in
     let nothing : c.replace-text.new.dest.items ≡ [] =
     ap (λ (v : Vec ℕ Global). v.items) c.replace-text.ensures.after ∙ c.new.ensures.items in
-    let after : record fetch { gathered = c.replace-text.new.dest.items; prepared = false }
-    ≡ ended fetch =
+    let after : Fetch = the_view (record inside {
+      gathered = c.replace-text.new.dest;
+      room = c.replace-room.new.dest;
+      prepared = false;
+    }) in
+    let over : after ≡ ended fetch =
     ap (λ (x : List ℕ). record fetch { gathered = x; prepared = false }) nothing in
     let says : SaysLast asked token c.args.chunk c.match-chunk.text.items said =
     subst (λ (x : List ℕ). SaysLast asked token c.args.chunk x said) c.deref.ensures.value
-    c.last_reply.ensures in
+    c.last_reply.ensures.says in
     let heard : (found : Fetched) → FoundAs fetch c.args.chunk found
     → (goes_on asked token inside.had found ≡ false) × Replies asked token found said =
     elim c.match-chunk.branch [
@@ -71,13 +80,12 @@ returns c =
       | in_default w ↦ λ found h. heard_nothing fetch c.args.chunk c.match-chunk.text.items said
           found w.in_default.not-Found says h
     ] in
-    subst (λ (fetch : Fetch). (found : Fetched) → FoundAs fetch c.args.chunk found
-    → (goes_on fetch.asked fetch.token fetch.had found ≡ false)
-    × Replies fetch.asked fetch.token found said
-    × (the_view (record inside {
-      gathered = c.replace-text.new.dest;
-      room = c.replace-room.new.dest;
-      prepared = false;
-    }) ≡ ended fetch))
-    c.self.view_is
-    (λ found h. ((heard found h).0, (heard found h).1, after))
+    record {
+      heard = subst (λ (fetch : Fetch). (found : Fetched) → FoundAs fetch c.args.chunk found
+          → (goes_on fetch.asked fetch.token fetch.had found ≡ false)
+          × Replies fetch.asked fetch.token found said × (after ≡ ended fetch))
+          c.self.view_is
+          (λ found h. ((heard found h).0, (heard found h).1, over));
+      same = subst (λ (fetch : Fetch). (1 ≤ length said) × (after ≡ ended fetch)) c.self.view_is
+          (c.last_reply.ensures.some, over);
+    }
