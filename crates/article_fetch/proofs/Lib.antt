@@ -1,0 +1,4 @@
+mod EmptyLinePlaces
+mod FaultReplies
+mod Hearing
+mod Overviews

@@ -1,0 +1,91 @@
+use Rattle.std.proofs.Common.{◌≡◌, ◌+◌, ◌<◌, ◌≤◌, ◌++◌, ◌∙◌, ap, subst, take, List, ℕ, [], None}
+use Rattle.std.proofs.Common.{arith, false, length, refl, Vec}
+use Rattle.std.specs.Global.{Global}
+use Rattle.cyc_token.specs.Token.{token_view}
+use Rattle.relay_model.specs.Fetches.{Fetched}
+use Rattle.relay_model.specs.Hears.{goes_on, turns_of}
+use Rattle.article_fetch.specs.Fetch.{asked_view, ended, Fetch, FoundAs, HearsBlock, Replies}
+use Rattle.article_fetch.specs.Fetch.{StaysSame}
+use Rattle.article_fetch.specs.Inside.{most_due}
+use Rattle.article_fetch.specs.Shown.{SaysLast}
+use Rattle.article_fetch.specs.contracts.reading.Reading.{the_view}
+use Rattle.article_fetch.specs.declared.chunk.Chunk.{Chunk}
+use Rattle.article_fetch.proofs.Hearing.{heard_on, heard_last, heard_nothing}
+use Rattle.article_fetch.proofs.reading.Reading.hear.Goals as goal
+use Rattle.article_fetch.proofs.reading.Reading.hear.Goals.{in-Found+else-self-turns, in_default}
+
+pub returns-then-self-turns : goal.returns-then-self-turns
+returns-then-self-turns c =
+    let inside = c.self.inside in
+    let octets = c.in-Found.octets in
+    let due = most_due (asked_view inside.asked) in
+    let now : c.gather.new.text.items ≡ inside.gathered.items ++ take due octets =
+    c.gather.ensures.items
+    ∙ ap (λ (v : Vec ℕ Global). v.items ++ take due c.as_slice.result.now)
+    c.replace-text.ensures.value
+    ∙ ap (λ (x : List ℕ). inside.gathered.items ++ take due x) c.as_slice.ensures.octets in
+    let more : inside.had + 1 < turns_of (asked_view inside.asked) (token_view inside.token) =
+    omega (arith, c.if-self-turns.true, c.turns-turns.ensures) in
+    let after : Fetch = the_view (record inside {
+      had = inside.had + 1;
+      gathered = c.gather.new.text;
+      prepared = false;
+    }) in
+    record {
+      heard = subst (λ (fetch : Fetch). (found : Fetched) → FoundAs fetch c.args.chunk found
+          → HearsBlock fetch found None after)
+          c.self.view_is
+          (λ found h. heard_on (the_view inside) octets c.gather.new.text.items found now more
+          (subst (λ (chunk : Chunk). FoundAs (the_view inside) chunk found) c.in-Found.is h));
+      same = subst (λ (fetch : Fetch). StaysSame fetch None after) c.self.view_is refl;
+    }
+
+pub returns : goal.returns
+returns c =
+    let inside = c.self.inside in
+    let fetch = the_view inside in
+    let asked = asked_view inside.asked in
+    let token = token_view inside.token in
+    let said = c.last_reply.result.items in
+    let nothing : c.replace-text.new.dest.items ≡ [] =
+    ap (λ (v : Vec ℕ Global). v.items) c.replace-text.ensures.after ∙ c.new.ensures.items in
+    let after : Fetch = the_view (record inside {
+      gathered = c.replace-text.new.dest;
+      room = c.replace-room.new.dest;
+      prepared = false;
+    }) in
+    let over : after ≡ ended fetch =
+    ap (λ (x : List ℕ). record fetch { gathered = x; prepared = false }) nothing in
+    let says : SaysLast asked token c.args.chunk c.match-chunk.text.items said =
+    subst (λ (x : List ℕ). SaysLast asked token c.args.chunk x said) c.deref.ensures.value
+    c.last_reply.ensures.says in
+    let heard : (found : Fetched) → FoundAs fetch c.args.chunk found
+    → (goes_on asked token inside.had found ≡ false) × Replies asked token found said =
+    elim c.match-chunk.branch [
+      | in-Found+else-self-turns w ↦ λ found h.
+          let octets = w.in-Found.octets in
+          let due = most_due asked in
+          let now : c.match-chunk.text.items ≡ inside.gathered.items ++ take due octets =
+          ap (λ (v : Vec ℕ Global). v.items) w.text-is
+          ∙ w.gather.ensures.items
+          ∙ ap (λ (v : Vec ℕ Global). v.items ++ take due w.as_slice.result.now)
+          c.replace-text.ensures.value
+          ∙ ap (λ (x : List ℕ). inside.gathered.items ++ take due x) w.as_slice.ensures.octets in
+          let last : turns_of asked token ≤ inside.had + 1 =
+          omega (arith, w.if-self-turns.false, w.turns-turns.ensures) in
+          heard_last fetch octets c.match-chunk.text.items said found now last
+          (subst (λ (chunk : Chunk). SaysLast asked token chunk c.match-chunk.text.items said)
+          w.in-Found.is says)
+          (subst (λ (chunk : Chunk). FoundAs fetch chunk found) w.in-Found.is h)
+      | in_default w ↦ λ found h. heard_nothing fetch c.args.chunk c.match-chunk.text.items said
+          found w.in_default.not-Found says h
+    ] in
+    record {
+      heard = subst (λ (fetch : Fetch). (found : Fetched) → FoundAs fetch c.args.chunk found
+          → (goes_on fetch.asked fetch.token fetch.had found ≡ false)
+          × Replies fetch.asked fetch.token found said × (after ≡ ended fetch))
+          c.self.view_is
+          (λ found h. ((heard found h).0, (heard found h).1, over));
+      same = subst (λ (fetch : Fetch). (1 ≤ length said) × (after ≡ ended fetch)) c.self.view_is
+          (c.last_reply.ensures.some, over);
+    }

@@ -1,0 +1,24 @@
+use Rattle.std.proofs.Common.{refl, sym, subst, ap, ◌∙◌, List, ℕ}
+use Rattle.cyc_token.specs.Token.{token_view}
+use Rattle.news_terms.specs.Reply.{TokenFollows, reply_text}
+use Rattle.article_fetch.specs.Fetch.{asked_view}
+use Rattle.article_fetch.specs.Shown.{ShowsArticle}
+use Rattle.article_fetch.specs.declared.asked.Asked.{Asked}
+use Rattle.article_fetch.proofs.shown.found_reply.Goals as goal
+
+pub returns-in-OfToken : goal.returns-in-OfToken
+returns-in-OfToken c =
+    let token = token_view c.args.token in
+    let said = c.said in
+    record {
+      says = subst (λ (asked : Asked).
+          ShowsArticle (asked_view asked) token c.args.text.now said.result.items)
+          (sym c.in-OfToken.is)
+          (λ text a is same. (
+            TokenFollows token text,
+            refl,
+            said.ensures.octets ∙ ap (λ (x : List ℕ). reply_text (TokenFollows token x)) same,
+            said.ensures.some,
+          ));
+      some = said.ensures.some;
+    }

@@ -1,0 +1,18 @@
+use Rattle.std.proofs.Common.{sym, subst}
+use Rattle.cyc_token.specs.Token.{token_view}
+use Rattle.article_fetch.specs.Fetch.{asked_view}
+use Rattle.article_fetch.specs.Shown.{SaysLast}
+use Rattle.article_fetch.specs.declared.chunk.Chunk.{Chunk}
+use Rattle.article_fetch.proofs.FaultReplies.{fault_said}
+use Rattle.article_fetch.proofs.shown.last_reply.Goals as goal
+
+pub returns-in-Device : goal.returns-in-Device
+returns-in-Device c =
+    let asked = asked_view c.args.asked.now in
+    let token = token_view c.args.token in
+    record {
+      says = subst (λ (chunk : Chunk). SaysLast asked token chunk c.args.text.now c.said.result.items)
+          (sym c.in-Device.is)
+          (fault_said asked token c.said.result.items c.said.ensures.octets c.said.ensures.some);
+      some = c.said.ensures.some;
+    }

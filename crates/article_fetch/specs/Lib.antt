@@ -1,0 +1,4 @@
+pub mod Fetch
+pub mod Inside
+pub mod Layout
+pub mod Shown
