@@ -1,6 +1,6 @@
 //! A fetch in progress.
-ghost use Rattle.std.specs.Prelude.{◌≡◌, ◌+◌, ◌<◌, ◌≤◌, ◌*◌, ◌++◌, true, max, take};
-ghost use Rattle.std.specs.Prelude.{IfOk, IsOk, OnOk, OnErr, vec_len, vec_capacity};
+ghost use Rattle.std.specs.Prelude.{◌≡◌, ◌+◌, ◌<◌, ◌≤◌, ◌*◌, ◌++◌, true, max, take, false, None};
+ghost use Rattle.std.specs.Prelude.{IsOk, OnOk, OnErr, vec_len, vec_capacity};
 ghost use Rattle.cyc_token.specs.Token.{token_view};
 ghost use Rattle.news_terms.specs.BlockImage.{chunk_size};
 ghost use Rattle.news_terms.specs.Places.{size_of};
@@ -58,20 +58,19 @@ impl Model for Reading {
 }
 
 impl Reading {
-    /// A fetch of which nothing is read yet.
-    pub fn new(alloc: Global, asked: Asked, token: Token) -> Result<Reading, AllocError>
-        ensures { IfOk result (λ r. r ≡ new_fetch (asked_view asked) (token_view token)) }
+    /// A fetch of which nothing is read yet. It takes no memory.
+    pub fn new(alloc: Global, asked: Asked, token: Token) -> Reading
+        ensures { result ≡ new_fetch (asked_view asked) (token_view token) }
     {
-        let room = Vec::with_capacity(alloc, REPLY_ROOM)?;
-        Ok(Reading {
+        Reading {
             alloc,
             asked,
             token,
             had: 0,
             gathered: Vec::new(alloc),
-            room,
+            room: Vec::new(alloc),
             prepared: false,
-        })
+        }
     }
 
     /// The token whose article is read.
@@ -108,8 +107,23 @@ impl Reading {
     }
 
     /// Hears what was read of the next block: None where the fetch goes on, else the octets of its
-    /// reply (docs/FORMATS.md, Replies). It takes no memory.
+    /// reply (docs/FORMATS.md, Replies). It takes no memory. A fetch that isn't prepared hears
+    /// nothing.
     pub fn hear(&mut self, chunk: Chunk) -> Option<Vec<u8>>
+        ensures heard { (found : Fetched) → self.old.prepared ≡ true → FoundAs self.old chunk found
+            → HearsBlock self.old found result self.new }
+        ensures same { self.old.prepared ≡ true → StaysSame self.old result self.new }
+        ensures deaf { self.old.prepared ≡ false → (result ≡ None) × (self.new ≡ self.old) }
+    {
+        if self.prepared {
+            self.hear_prepared(chunk)
+        } else {
+            None
+        }
+    }
+
+    /// The same of a fetch that is prepared.
+    fn hear_prepared(&mut self, chunk: Chunk) -> Option<Vec<u8>>
         requires { self.old.prepared ≡ true }
         ensures heard { (found : Fetched) → FoundAs self.old chunk found
             → HearsBlock self.old found result self.new }

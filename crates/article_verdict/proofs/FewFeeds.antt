@@ -36,7 +36,7 @@ abbrev pub peer_of : Feed → ℕ
 peer_of feed = feed.peer
 
 -- a peer has at most one feed, so there are no more feeds than peers
-few_feeds : (config : Config) → length config.relay.feeds.items ≤ 1024
+pub few_feeds : (config : Config) → length config.relay.feeds.items ≤ 1024
 few_feeds config =
     let feeds = config.relay.feeds.items in
     let peers = map peer_of feeds in
