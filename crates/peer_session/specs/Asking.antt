@@ -1,0 +1,168 @@
+-- What the parts of a plan are. No public contract cites it.
+use Rattle.std.specs.Prelude.{◌≡◌, ℕ, ◌+◌, ◌≤◌, List, [], ◌∷◌, take, drop, length, Bool, true}
+use Rattle.std.specs.Prelude.{Option, None, Some, Result, Ok, Err}
+use Rattle.std.specs.Global.{Vec}
+use Rattle.article_fetch.specs.Fetch.{Fetch, prepared_fetch}
+use Rattle.buffer_group.specs.Jobs.{article_view, job_view}
+use Rattle.buffer_group.specs.declared.job.Accepted.{Accepted}
+use Rattle.buffer_group.specs.declared.job.Job.{Job}
+use Rattle.cyc_token.specs.Token.{token_view}
+use Rattle.cyc_token.specs.declared.Token.{Token}
+use Rattle.news_terms.specs.Blocks.{next_block, text_lines, unstuffed}
+use Rattle.news_terms.specs.Blocks as blocks
+use Rattle.news_terms.specs.Command.{Command, CommandFault}
+use Rattle.news_terms.specs.Lines.{next_line}
+use Rattle.news_terms.specs.Lines as lines
+use Rattle.news_terms.specs.Reply.{Reply, SyntaxError}
+use Rattle.nntp_text.specs.declared.command.Part.{Part}
+use Rattle.relay_model.specs.Asks.{Due, IsDueOfLine, TokenAsked}
+use Rattle.relay_model.specs.Asks as asks
+use Rattle.relay_model.specs.Claims as claims
+use Rattle.relay_model.specs.Judging.{Judges}
+use Rattle.relay_model.specs.State as model
+use Rattle.relay_model.specs.Terms.{Terms, Reason}
+use Rattle.stream_cut.specs.Stream.{Stream}
+use Rattle.peer_session.specs.Answers.{AsksOf, IsStepOf}
+use Rattle.peer_session.specs.Planning.{DueIs, FitsPhase, block_passed}
+use Rattle.peer_session.specs.Said.{IsReply}
+use Rattle.peer_session.specs.Session.{HasAll, passed, session_view}
+use Rattle.peer_session.specs.declared.phase.Due.{Due as CodeDue}
+use Rattle.peer_session.specs.declared.phase.Phase.{Phase}
+use Rattle.peer_session.specs.declared.phase.Phase.TheVariants as phases
+use Rattle.peer_session.specs.declared.phase.Todo.{Todo}
+use Rattle.peer_session.specs.declared.phase.Todo.TheVariants as todos
+use Rattle.peer_session.specs.declared.phase.Transfer.{Transfer}
+use Rattle.peer_session.specs.declared.room.Room.{Room}
+use Rattle.peer_session.specs.declared.session.Session.{Session}
+use Rattle.peer_session.specs.declared.steps.Step.{Step}
+use Rattle.peer_session.specs.declared.steps.Step.TheVariants as steps
+
+-- What a command asks of a session that reads one, where so many octets hold its line: what is
+-- planned for it, with its step.
+pub record AskedFor (w : Terms) (now read : ℕ) (session : Session)
+    (asked : Result Command CommandFault) (one : Todo × Step) : Type 0 where
+  pub due : Due
+  pub is_due : IsDueOfLine w (passed read session) now asked due
+  pub due_is : DueIs one.0 read session due
+  pub fits : FitsPhase one.0 session.phase
+  pub is_step : IsStepOf one.1 due.ask
+  pub asks_of : AsksOf (session_view session) [] due.ask
+
+abbrev pub IsAskedBy : Terms → ℕ → Session → Result Command CommandFault → Todo × Step → Type 0
+IsAskedBy w now session asked one =
+    (read : ℕ) → session.phase ≡ phases.Ready → AskedFor w now read session asked one
+
+-- this is said, and nothing is shared
+pub record IsSaying (reply : Reply) (one : Todo × Step) : Type 0 where
+  pub octets : Vec ℕ
+  pub said : IsReply octets.items reply
+  pub is : one ≡ (todos.Say octets, steps.Nothing)
+
+-- this is said, and the session leaves
+pub record IsLeaving (reply : Reply) (one : Todo × Step) : Type 0 where
+  pub octets : Vec ℕ
+  pub said : IsReply octets.items reply
+  pub is : one ≡ (todos.Leave octets, steps.Nothing)
+
+-- the id is looked up for this part
+pub record IsLooking (part : Part) (id : List ℕ) (one : Todo × Step) : Type 0 where
+  pub room : Room
+  pub is : one ≡ (todos.Look part id room, steps.Look id)
+
+-- the word is a token whose first block is read, or none
+pub data IsFetching (word : List ℕ) (one : Todo × Step) : Type 0 where
+  IsToken : (token : Token) → (reading : Fetch)
+      → TokenAsked word (asks.Reads model.OfToken (token_view token) 0)
+      → reading ≡ record {
+        asked = model.OfToken;
+        token = token_view token;
+        had = 0;
+        gathered = [];
+        prepared = true;
+      } → one ≡ (todos.Fetch reading, steps.Read token 0) → IsFetching word one
+  IsNone : TokenAsked word (asks.Says SyntaxError) → IsSaying SyntaxError one
+      → IsFetching word one
+
+-- a block is owed
+abbrev pub OwesBlock : Phase → Type 0
+OwesBlock phase = (transfer : Transfer) × (id : Option (List ℕ)) × (phase ≡ phases.Owes transfer id)
+
+-- what stands at the front of a stream is a block with this text, None where it is oversize
+abbrev pub next_text : Option (List ℕ) → List ℕ → blocks.NextBlock
+next_text None rest = blocks.Oversize rest
+next_text (Some text) rest = blocks.Whole text rest
+
+-- the first block's text is this, None where it is oversize, and so many of the octets that are kept
+-- belong to it
+abbrev pub TextAt : ℕ → Option (List ℕ) → Stream → Type 0
+TextAt read text stream =
+    next_block stream.limit stream.unread
+    ≡ next_text text (drop (stream.dropped + read) stream.unread)
+
+-- what is asked of a text that was judged: it is refused, or taken
+pub data IsJudged (w : Terms) (from now : ℕ) (id : List ℕ) (text : Option (List ℕ))
+    (one : Todo × Step) : Type 0 where
+  IsRefused : (reason : Reason) → (room : Room) → Judges w from id now text (Err reason)
+      → one ≡ (todos.Refuse room, steps.Refuse id) → IsJudged w from now id text one
+  IsAccepted : (article : Accepted) → (room : Room)
+      → Judges w from id now text (Ok (article_view article))
+      → one ≡ (todos.Take id article room, steps.Take id) → IsJudged w from now id text one
+
+-- what is asked of a block that was owed under this id; where there is none, that is said
+abbrev pub IsOwedAsked : Terms → (from now : ℕ) → Option (List ℕ) → Option (List ℕ) → Todo × Step
+    → Type 0
+IsOwedAsked w from now None text one = IsSaying SyntaxError one
+IsOwedAsked w from now (Some id) text one = IsJudged w from now id text one
+
+-- What a session gives that owed the block of an id: it is ready, the octets count as read, and the
+-- open offer of the id has ended.
+pub record Owed (read : ℕ) (old : Session) (id : List ℕ) (new : Session) : Type 0 where
+  pub is : session_view new ≡ block_passed read old id
+  pub ready : new.phase ≡ phases.Ready
+  pub kept : new.cutter.dropped ≡ 0
+  pub limit : new.cutter.limit ≡ old.cutter.limit
+
+-- what was owed is given; where none was, nothing changes
+abbrev pub TakesOwed : ℕ → Session → Option (Transfer × List ℕ) → Session → Type 0
+TakesOwed read old None new =
+    (new ≡ old)
+    × ((transfer : Transfer) (id : List ℕ) → ¬ (old.phase ≡ phases.Owes transfer (Some id)))
+TakesOwed read old (Some owed) new =
+    (old.phase ≡ phases.Owes owed.0 (Some owed.1))
+    × Owed read old owed.1 new
+
+-- the held article of this id is tried again
+abbrev pub IsHeldAsked : List ℕ → CodeDue → Type 0
+IsHeldAsked id one =
+    one ≡ record { todo = todos.TakeHeld id; read = 0; step = steps.Take id }
+
+-- the job is pushed
+abbrev pub IsPushOf : Job → CodeDue → Type 0
+IsPushOf job one =
+    one ≡ record { todo = todos.Push; read = 0; step = steps.Push job.article.group }
+
+-- the job in hand is pushed, or the outcome is looked for
+abbrev pub IsWaitingAsked : Option Job → CodeDue → Type 0
+IsWaitingAsked (Some job) one = IsPushOf job one
+IsWaitingAsked None one = one ≡ record { todo = todos.Slot; read = 0; step = steps.Slot }
+
+-- the job in hand is pushed, or the oldest open offer is released, or nothing is left
+abbrev pub IsLeavingAsked : Option Job → List (List ℕ) → CodeDue → Type 0
+IsLeavingAsked (Some job) offers one = IsPushOf job one
+IsLeavingAsked None [] one = one ≡ record { todo = todos.End; read = 0; step = steps.Nothing }
+IsLeavingAsked None (id ∷ offers) one =
+    one ≡ record { todo = todos.Release; read = 0; step = steps.Release id }
+
+-- the next block of the fetch is read, which is prepared for it
+pub record IsReadingAsked (old new : Fetch) (one : CodeDue) : Type 0 where
+  pub prepared : new ≡ prepared_fetch old
+  pub token : Token
+  pub token_is : token_view token ≡ old.token
+  pub asked : one ≡ record { todo = todos.ReadOn; read = 0; step = steps.Read token old.had }
+
+-- the fetch that is under way is given, and the session is ready; where none is, nothing changes
+abbrev pub TakesReading : Session → Option Fetch → Session → Type 0
+TakesReading old None new =
+    (new ≡ old) × ((reading : Fetch) → ¬ (old.phase ≡ phases.Fetches reading))
+TakesReading old (Some reading) new =
+    (old.phase ≡ phases.Fetches reading) × (new ≡ record old { phase = phases.Ready })

@@ -1,0 +1,6 @@
+pub mod Answers
+pub mod Asking
+pub mod Hearing
+pub mod Planning
+pub mod Said
+pub mod Session

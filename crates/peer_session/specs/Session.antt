@@ -1,0 +1,132 @@
+-- The session of the definitions that a session of the code stands for.
+use Rattle.std.specs.Prelude.{◌≡◌, ℕ, ◌+◌, ◌++◌, Bool, true, false, List, [], drop, option_map, Option}
+use Rattle.article_fetch.specs.Fetch.{Fetch}
+use Rattle.buffer_group.specs.Jobs.{article_view, job_view}
+use Rattle.relay_model.specs.Run.{new_session}
+use Rattle.relay_model.specs.State as model
+use Rattle.relay_model.specs.State.{in_phase, with_unread}
+use Rattle.relay_model.specs.Terms.{Terms}
+use Rattle.relay_model.specs.World as world
+use Rattle.peer_session.specs.declared.phase.Phase.{Phase}
+use Rattle.peer_session.specs.declared.phase.Phase.TheVariants as phases
+use Rattle.peer_session.specs.declared.phase.Transfer.{Transfer}
+use Rattle.peer_session.specs.declared.phase.Transfer.TheVariants as transfers
+use Rattle.peer_session.specs.declared.session.Session.{Session}
+use Rattle.peer_session.specs.declared.steps.Outcome.{Outcome}
+use Rattle.peer_session.specs.declared.steps.Outcome.TheVariants as outcomes
+
+-- how the storing of an article ended
+abbrev pub outcome_view : Outcome → world.Outcome
+outcome_view outcomes.Kept = world.IsKept
+outcome_view outcomes.Failed = world.HasFailed
+
+-- how a peer sends an article
+abbrev pub transfer_view : Transfer → model.Transfer
+transfer_view transfers.TakesThis = model.TakesThis
+transfer_view transfers.Has = model.Has
+
+-- what a session does next
+abbrev pub phase_view : Phase → model.Phase
+phase_view phases.Ready = model.Ready
+phase_view (phases.Owes transfer id) = model.Owes (transfer_view transfer) id
+phase_view (phases.Holds id article room) = model.Holds id (article_view article)
+phase_view (phases.Waits transfer id room) = model.Waits (transfer_view transfer) id
+phase_view (phases.Fetches reading) = model.Fetches reading.asked reading.token reading.had
+phase_view phases.Leaving = model.Leaving
+phase_view phases.Ended = model.Ended
+
+-- the session of the definitions
+abbrev pub session_view : Session → model.Session
+session_view session =
+    record {
+      peer = session.peer;
+      unread = session.cutter.unread;
+      offers = session.offers;
+      phase = phase_view session.phase;
+      hand = option_map job_view session.hand;
+    }
+
+-- the octets that an open fetch has gathered
+abbrev pub gathered_of : Phase → List ℕ
+gathered_of phases.Ready = []
+gathered_of (phases.Owes transfer id) = []
+gathered_of (phases.Holds id article room) = []
+gathered_of (phases.Waits transfer id room) = []
+gathered_of (phases.Fetches reading) = reading.gathered
+gathered_of phases.Leaving = []
+gathered_of phases.Ended = []
+
+-- where a command comes next, no unread octet was dropped
+abbrev pub HasAll : Phase → (dropped : ℕ) → Type 0
+HasAll phases.Ready dropped = dropped ≡ 0
+HasAll (phases.Owes transfer id) dropped = Unit {0}
+HasAll (phases.Holds id article room) dropped = dropped ≡ 0
+HasAll (phases.Waits transfer id room) dropped = dropped ≡ 0
+HasAll (phases.Fetches reading) dropped = dropped ≡ 0
+HasAll phases.Leaving dropped = Unit {0}
+HasAll phases.Ended dropped = Unit {0}
+
+-- a fetch of this phase has only begun: it has read nothing
+abbrev pub HasReadNone : Phase → Type 0
+HasReadNone phases.Ready = Unit {0}
+HasReadNone (phases.Owes transfer id) = Unit {0}
+HasReadNone (phases.Holds id article room) = Unit {0}
+HasReadNone (phases.Waits transfer id room) = Unit {0}
+HasReadNone (phases.Fetches reading) = (reading.gathered ≡ []) × (reading.had ≡ 0)
+HasReadNone phases.Leaving = Unit {0}
+HasReadNone phases.Ended = Unit {0}
+
+-- The session stands for that of the definitions under these terms, and has gathered these octets
+-- of the text that it fetches.
+pub record Stands (w : Terms) (session : Session) (m : model.Session) (gathered : List ℕ)
+    : Type 0 where
+  pub is : m ≡ session_view session
+  pub gathers : gathered ≡ gathered_of session.phase
+  pub limit : session.cutter.limit ≡ w.max_article
+  pub has_all : HasAll session.phase session.cutter.dropped
+
+-- the session goes on standing for what it stood for
+abbrev pub StandsAsBefore : Session → Session → Type 0
+StandsAsBefore old new =
+    (w : Terms) (m : model.Session) (gathered : List ℕ) → Stands w old m gathered
+    → Stands w new m gathered
+
+-- the answer is the test of the phase
+abbrev pub Reports : (model.Phase → Bool) → Session → Bool → Type 0
+Reports test session answer =
+    (w : Terms) (m : model.Session) (gathered : List ℕ) → Stands w session m gathered
+    → answer ≡ test m.phase
+
+-- it has said its last reply
+abbrev pub leaves : Phase → Bool
+leaves phases.Ready = false
+leaves (phases.Owes transfer id) = false
+leaves (phases.Holds id article room) = false
+leaves (phases.Waits transfer id room) = false
+leaves (phases.Fetches reading) = false
+leaves phases.Leaving = true
+leaves phases.Ended = false
+
+abbrev pub has_parted : Session → Bool
+has_parted session = leaves session.phase
+
+-- nothing has come to the session, and nothing is open
+abbrev pub NewStands : Terms → Session → ℕ → Type 0
+NewStands w session peer = Stands w session (new_session peer) []
+
+-- the octets came, and nothing else changed
+abbrev pub Fed : Session → List ℕ → Session → Type 0
+Fed old piece new =
+    (w : Terms) (m : model.Session) (gathered : List ℕ) → Stands w old m gathered
+    → Stands w new (with_unread m (m.unread ++ piece)) gathered
+
+-- the session leaves, and what was gathered is let go
+abbrev pub BrokenOff : Session → Session → Type 0
+BrokenOff old new =
+    (w : Terms) (m : model.Session) (gathered : List ℕ) → Stands w old m gathered
+    → Stands w new (in_phase m model.Leaving) []
+
+-- the session once so many of the unread octets that it keeps count as read, and those before them
+abbrev pub passed : ℕ → Session → model.Session
+passed read session =
+    with_unread (session_view session) (drop (session.cutter.dropped + read) session.cutter.unread)

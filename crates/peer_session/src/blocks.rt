@@ -1,0 +1,234 @@
+//! Blocks: the article of one is judged, and what is made of the answer.
+ghost use Rattle.std.specs.Prelude.{◌≡◌, ◌≤◌, Option, Some, None, IfOk, OnErr};
+ghost use Rattle.std.specs.Option.{option_copied};
+ghost use Rattle.article_verdict.specs.Config.{terms_of};
+ghost use Rattle.buffer_group.specs.Jobs.{article_view};
+ghost use Rattle.id_history.specs.Answers.{take_view};
+ghost use Rattle.nntp_text.specs.Reply.{reply_room, reply_view, room_of};
+ghost use Rattle.relay_model.specs.Hears as hears;
+ghost use Rattle.relay_model.specs.Hears.{says, take_heard};
+ghost use Rattle.relay_model.specs.Terms.{last_moment};
+ghost use Rattle.stream_cut.specs.Stream.{ShowsBlock};
+ghost use Rattle.peer_session.specs.Asking.{IsJudged, IsOwedAsked, OwesBlock, TakesOwed, TextAt};
+ghost use Rattle.peer_session.specs.Hearing.{HeardIs};
+ghost use Rattle.peer_session.specs.Planning.{Plans, block_passed};
+ghost use Rattle.peer_session.specs.Session.{HasAll, StandsAsBefore, session_view, transfer_view};
+
+use crate::lines::said;
+use crate::phase::{Due, Phase, Todo, Transfer};
+use crate::room::Room;
+use crate::session::Session;
+use crate::steps::{Answer, Step};
+use article_verdict::verdict;
+use buffer_group::{Accepted, Job};
+use id_history::Take;
+use nntp_text::{MsgId, Reply};
+use relay_conf::Config;
+use std::alloc::{AllocError, Global};
+use std::mem;
+use stream_cut::{FoundBlock, unstuff};
+
+impl Session {
+    /// What is due where a block is owed: nothing until one is whole.
+    pub(crate) fn block_due(&mut self, config: &Config, now: u64) -> Result<Due, AllocError>
+        requires { OwesBlock self.old.phase }
+        ensures due { IfOk result (λ due. Plans (terms_of config.now) self.old now due self.new) }
+        ensures err { OnErr result (StandsAsBefore self.old self.new) }
+    {
+        match self.cutter.find_block() {
+            FoundBlock::Whole { octets, dots } => self.due_of_block(config, now, octets, dots),
+            FoundBlock::Oversize(read) => self.due_of_text(config, now, read, None),
+            FoundBlock::Unfinished => Ok(Due::rest()),
+        }
+    }
+
+    /// What is due of a block whose lines take so many octets, and so many of them begin with a dot.
+    /// A text without such lines isn't copied.
+    fn due_of_block(
+        &self,
+        config: &Config,
+        now: u64,
+        octets: usize,
+        dots: usize,
+    ) -> Result<Due, AllocError>
+        requires owes { OwesBlock self.now.phase }
+        requires shown { ShowsBlock self.now.cutter octets dots }
+        ensures { IfOk result (λ due. Plans (terms_of config.now) self.now now due self.now) }
+    {
+        let lines = &self.cutter.kept()[..octets];
+        if dots == 0 {
+            return self.due_of_text(config, now, octets + 3, Some(lines));
+        }
+        let text = unstuff(self.alloc, lines, octets - dots)?;
+        self.due_of_text(config, now, octets + 3, Some(&text))
+    }
+
+    /// What is due of a block of so many octets with this text, `None` where it was oversize.
+    fn due_of_text(
+        &self,
+        config: &Config,
+        now: u64,
+        read: usize,
+        text: Option<&[u8]>,
+    ) -> Result<Due, AllocError>
+        requires owes { OwesBlock self.now.phase }
+        requires text { TextAt read (option_copied text) self.now.cutter }
+        ensures { IfOk result (λ due. Plans (terms_of config.now) self.now now due self.now) }
+    {
+        match &self.phase {
+            Phase::Owes(_, id) => {
+                let (todo, step) = self.owed_asked(config, now, id, text)?;
+                Ok(Due { todo, read, step })
+            }
+            _ => Ok(Due::rest()),
+        }
+    }
+
+    /// What is asked of a block that was owed under this id; where there is none, that is said.
+    fn owed_asked(
+        &self,
+        config: &Config,
+        now: u64,
+        id: &Option<MsgId>,
+        text: Option<&[u8]>,
+    ) -> Result<(Todo, Step), AllocError>
+        ensures { IfOk result (IsOwedAsked (terms_of config.now) self.now.peer now id.now
+            (option_copied text.entry)) }
+    {
+        match id {
+            Some(id) => self.judged(config, now, id, text),
+            None => said(self.alloc, &Reply::SyntaxError),
+        }
+    }
+
+    /// What is asked once the text of an id is judged.
+    fn judged(
+        &self,
+        config: &Config,
+        now: u64,
+        id: &MsgId,
+        text: Option<&[u8]>,
+    ) -> Result<(Todo, Step), AllocError>
+        ensures { IfOk result
+            (IsJudged (terms_of config.now) self.now.peer now id.now (option_copied text.entry)) }
+    {
+        let room = Room::new(self.alloc)?;
+        match verdict(self.alloc, config, id, self.peer, text, now)? {
+            Ok(article) => {
+                let copy = id.copied(self.alloc)?;
+                let step = Step::Take(id.copied(self.alloc)?);
+                Ok((Todo::Take(copy, article, room), step))
+            }
+            Err(_) => Ok((Todo::Refuse(room), Step::Refuse(id.copied(self.alloc)?))),
+        }
+    }
+
+    /// The block counts as read, and the open offer of its id ends: what was owed.
+    fn take_owed(&mut self, read: usize) -> Option<(Transfer, MsgId)>
+        ensures { TakesOwed read self.old result self.new }
+    {
+        match mem::replace(&mut self.phase, Phase::Ready) {
+            Phase::Owes(transfer, Some(id)) => {
+                self.cutter.pass(read);
+                self.offers.close(&id);
+                Some((transfer, id))
+            }
+            other => {
+                self.phase = other;
+                None
+            }
+        }
+    }
+
+    /// The answer to a refusal.
+    pub(crate) fn hear_refused(&mut self, read: usize, room: Room, answer: Answer) -> Vec<u8>
+        ensures heard { (transfer : Transfer) (id : MsgId) → answer ≡ Answer.Nothing
+            → self.old.phase ≡ Phase.Owes transfer (Some id)
+            → HeardIs result.items self.old (says (block_passed read self.old id)
+            (hears.rejected (transfer_view transfer) id)) self.new }
+        ensures memory { answer ≡ Answer.Memory → self.new ≡ self.old }
+    {
+        match answer {
+            Answer::Nothing => match self.take_owed(read) {
+                Some((transfer, id)) => room.say(&rejected(transfer, &id)),
+                None => Vec::new(self.alloc),
+            },
+            _ => Vec::new(self.alloc),
+        }
+    }
+
+    /// The answer to an accepted article.
+    pub(crate) fn hear_taken(
+        &mut self,
+        number: u64,
+        read: usize,
+        copy: MsgId,
+        article: Accepted,
+        room: Room,
+        answer: Answer,
+    ) -> Vec<u8>
+        ensures heard { (transfer : Transfer) (told : Take) → answer ≡ Answer.Take told
+            → self.old.phase ≡ Phase.Owes transfer (Some copy)
+            → HeardIs result.items self.old (take_heard number (block_passed read self.old copy)
+            (transfer_view transfer) copy (article_view article) (take_view told)) self.new }
+        ensures memory { answer ≡ Answer.Memory → self.new ≡ self.old }
+    {
+        match answer {
+            Answer::Take(told) => match self.take_owed(read) {
+                Some((transfer, id)) => {
+                    self.hear_take(number, transfer, id, copy, article, room, told)
+                }
+                None => Vec::new(self.alloc),
+            },
+            _ => Vec::new(self.alloc),
+        }
+    }
+
+    /// The article in the session's hand is to be stored, or the id is remembered, or another
+    /// article of the id is being stored.
+    pub(crate) fn hear_take(
+        &mut self,
+        number: u64,
+        transfer: Transfer,
+        id: MsgId,
+        copy: MsgId,
+        article: Accepted,
+        room: Room,
+        told: Take,
+    ) -> Vec<u8>
+        ensures { copy ≡ id → self.old.phase ≡ Phase.Ready → self.old.cutter.dropped ≡ 0
+            → HeardIs result.items self.old (take_heard number (session_view self.old)
+            (transfer_view transfer) id (article_view article) (take_view told)) self.new }
+    {
+        match told {
+            Take::Mine => {
+                self.hand = Some(Job {
+                    session: number,
+                    id: copy,
+                    article,
+                });
+                self.phase = Phase::Waits(transfer, id, room);
+                Vec::new(self.alloc)
+            }
+            Take::Seen => room.say(&rejected(transfer, &id)),
+            Take::Held => match transfer {
+                Transfer::TakesThis => {
+                    self.phase = Phase::Holds(id, article, room);
+                    Vec::new(self.alloc)
+                }
+                Transfer::Has => room.say(&Reply::IhaveLater),
+            },
+        }
+    }
+}
+
+/// What is said of an article that isn't taken.
+fn rejected(transfer: Transfer, id: &MsgId) -> Reply<'_>
+    ensures reply { reply_view result ≡ hears.rejected (transfer_view transfer) id.now }
+    ensures room { room_of result ≡ reply_room }
+{
+    match transfer {
+        Transfer::TakesThis => Reply::Rejected(id),
+        Transfer::Has => Reply::IhaveRejected,
+    }
+}

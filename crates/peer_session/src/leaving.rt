@@ -1,0 +1,67 @@
+//! A session that leaves gives up what it had, one thing a turn.
+ghost use Rattle.std.specs.Prelude.{◌≡◌, ℕ, List, ◌∷◌, IfOk};
+ghost use Rattle.relay_model.specs.Hears.{silent};
+ghost use Rattle.relay_model.specs.State as model;
+ghost use Rattle.relay_model.specs.State.{in_phase, with_offers};
+ghost use Rattle.peer_session.specs.Asking.{IsLeavingAsked};
+ghost use Rattle.peer_session.specs.Hearing.{HeardIs};
+ghost use Rattle.peer_session.specs.Session.{session_view};
+
+use crate::phase::{Due, Phase, Todo};
+use crate::session::Session;
+use crate::steps::{Answer, Step};
+use crate::waiting::push_due;
+use buffer_group::Job;
+use open_offers::OpenOffers;
+use std::alloc::{AllocError, Global};
+
+/// What is due where a session leaves: the job in hand is pushed, then the oldest open offer ends,
+/// then the session.
+pub(crate) fn leaving_due(
+    alloc: Global,
+    hand: &Option<Job>,
+    offers: &OpenOffers,
+) -> Result<Due, AllocError>
+    ensures { IfOk result (IsLeavingAsked hand.now offers.now) }
+{
+    if let Some(job) = hand {
+        return Ok(push_due(job));
+    }
+    let (todo, step) = match offers.oldest() {
+        Some(id) => (Todo::Release, Step::Release(id.copied(alloc)?)),
+        None => (Todo::End, Step::Nothing),
+    };
+    Ok(Due {
+        todo,
+        read: 0,
+        step,
+    })
+}
+
+impl Session {
+    /// The oldest open offer was released.
+    pub(crate) fn hear_released(&mut self, answer: Answer) -> Vec<u8>
+        ensures heard { (id : List ℕ) (later : List (List ℕ)) → answer ≡ Answer.Nothing
+            → self.old.phase ≡ Phase.Leaving → self.old.offers ≡ id ∷ later
+            → HeardIs result.items self.old (silent (with_offers (session_view self.old) later))
+            self.new }
+        ensures memory { answer ≡ Answer.Memory → self.new ≡ self.old }
+    {
+        if let Answer::Nothing = answer {
+            let _ = self.offers.close_oldest();
+        }
+        Vec::new(self.alloc)
+    }
+
+    /// Nothing was left.
+    pub(crate) fn hear_ended(&mut self, answer: Answer) -> Vec<u8>
+        ensures heard { answer ≡ Answer.Nothing → HeardIs result.items self.old
+            (silent (in_phase (session_view self.old) model.Ended)) self.new }
+        ensures memory { answer ≡ Answer.Memory → self.new ≡ self.old }
+    {
+        if let Answer::Nothing = answer {
+            self.phase = Phase::Ended;
+        }
+        Vec::new(self.alloc)
+    }
+}

@@ -1,0 +1,295 @@
+//! Command lines: what each asks, and what is made of the answer to an offer.
+ghost use Rattle.std.specs.Prelude.{◌≡◌, ◌≤◌, ◌<◌, ◌==◌, ℕ, false, Ok, IfOk, IfSome, OnErr};
+ghost use Rattle.std.specs.Prelude.{length, map, position};
+ghost use Rattle.article_verdict.specs.Config.{terms_of};
+ghost use Rattle.feed_queue.specs.Permission.{feed_view};
+ghost use Rattle.id_history.specs.Answers.{offer_view};
+ghost use Rattle.news_terms.specs.Command.{command_of};
+ghost use Rattle.news_terms.specs.Command as commands;
+ghost use Rattle.nntp_text.specs.Command.{command_view};
+ghost use Rattle.nntp_text.specs.Reply.{reply_room, reply_view, room_of};
+ghost use Rattle.relay_model.specs.Asks.{feed_of, is_full};
+ghost use Rattle.relay_model.specs.Hears.{offer_heard};
+ghost use Rattle.relay_model.specs.State as model;
+ghost use Rattle.relay_model.specs.Terms.{FeedTerms, Terms, last_moment};
+ghost use Rattle.stream_cut.specs.Stream.{ShowsLine};
+ghost use Rattle.peer_session.specs.Asking.{IsAskedBy, IsFetching, IsLeaving, IsLooking, IsSaying};
+ghost use Rattle.peer_session.specs.Hearing.{HeardIs};
+ghost use Rattle.peer_session.specs.Planning.{Plans};
+ghost use Rattle.peer_session.specs.Session.{StandsAsBefore, passed};
+
+use crate::phase::{Due, Phase, Todo, Transfer};
+use crate::room::Room;
+use crate::session::Session;
+use crate::steps::{Answer, Step};
+use article_fetch::{Asked, Reading};
+use cyc_token::Token;
+use date_rules::stamp;
+use id_history::Offer;
+use nntp_text::{CmdError, Command, MsgId, Part, Reply};
+use relay_conf::{Config, Feed};
+use std::alloc::{AllocError, Global};
+use stream_cut::FoundLine;
+
+impl Session {
+    /// What is due where a command is read: nothing until a line is whole.
+    pub(crate) fn line_due(&mut self, config: &Config, now: u64) -> Result<Due, AllocError>
+        requires moment { now ≤ last_moment }
+        requires ready { self.old.phase ≡ Phase.Ready }
+        ensures due { IfOk result (λ due. Plans (terms_of config.now) self.old now due self.new) }
+        ensures err { OnErr result (StandsAsBefore self.old self.new) }
+    {
+        match self.cutter.find_line() {
+            FoundLine::Whole(end) => self.due_of_line(config, now, end),
+            FoundLine::TooLong => {
+                let (todo, step) = left(self.alloc, &Reply::LineTooLong)?;
+                Ok(Due {
+                    todo,
+                    read: 0,
+                    step,
+                })
+            }
+            FoundLine::Incomplete => Ok(Due::rest()),
+            // no command comes in the middle of a block
+            FoundLine::Passing => Ok(Due::rest()),
+        }
+    }
+
+    /// What the line of so many octets asks that is unread.
+    fn due_of_line(&self, config: &Config, now: u64, end: usize) -> Result<Due, AllocError>
+        requires moment { now ≤ last_moment }
+        requires ready { self.now.phase ≡ Phase.Ready }
+        requires shown { ShowsLine self.now.cutter end }
+        ensures { IfOk result (λ due. Plans (terms_of config.now) self.now now due self.now) }
+    {
+        let line = &self.cutter.kept()[..end];
+        let (todo, step) = self.line_asked(config, now, line)?;
+        Ok(Due {
+            todo,
+            read: end + 2,
+            step,
+        })
+    }
+
+    /// What a line asks.
+    fn line_asked(
+        &self,
+        config: &Config,
+        now: u64,
+        line: &[u8],
+    ) -> Result<(Todo, Step), AllocError>
+        requires { now ≤ last_moment }
+        ensures { IfOk result (λ one.
+            IsAskedBy (terms_of config.now) now self.now (command_of line.now) one) }
+    {
+        match Command::parse(self.alloc, line) {
+            Ok(command) => self.asked(config, now, command),
+            Err(CmdError::Unknown) => said(self.alloc, &Reply::UnknownCommand),
+            Err(CmdError::Syntax) => said(self.alloc, &Reply::SyntaxError),
+            Err(CmdError::Memory) => Err(AllocError),
+        }
+    }
+
+    /// What a command asks.
+    fn asked(
+        &self,
+        config: &Config,
+        now: u64,
+        command: Command<'_>,
+    ) -> Result<(Todo, Step), AllocError>
+        requires { now ≤ last_moment }
+        ensures { IfOk result (λ one.
+            IsAskedBy (terms_of config.now) now self.now (Ok (command_view command.entry)) one) }
+    {
+        match command {
+            Command::Check(id) => self.check_asked(id),
+            Command::Ihave(id) => self.ihave_asked(id),
+            Command::TakeThis(id) => Ok((Todo::Owe(id), Step::Nothing)),
+            Command::Fetch(part, id) => look_asked(self.alloc, part, id),
+            Command::FetchToken(word) => token_asked(self.alloc, word),
+            Command::TakeQueue(most) => self.queue_asked(config, most),
+            Command::NeedsGroup => said(self.alloc, &Reply::NoGroup),
+            Command::Quit => left(self.alloc, &Reply::Bye),
+            Command::AskDate => said(self.alloc, &Reply::DateIs(stamp(now))),
+            Command::AskCapabilities => said(self.alloc, &Reply::CapabilityList),
+            Command::AskHelp => said(self.alloc, &Reply::HelpText),
+            Command::ModeStream => said(self.alloc, &Reply::StreamingPermitted),
+            Command::ModeReader => said(self.alloc, &Reply::PostingProhibited),
+        }
+    }
+
+    /// CHECK of an id.
+    fn check_asked(&self, id: MsgId) -> Result<(Todo, Step), AllocError>
+        ensures { IfOk result (λ one. (w : Terms) (now : ℕ)
+            → IsAskedBy w now self.now (Ok (commands.Check id)) one) }
+    {
+        if self.offers.is_full(&id) {
+            return said(self.alloc, &Reply::AskLater(&id));
+        }
+        let room = Room::new(self.alloc)?;
+        let step = Step::Offer(id.copied(self.alloc)?);
+        Ok((Todo::Check(id, room), step))
+    }
+
+    /// IHAVE of an id.
+    fn ihave_asked(&self, id: MsgId) -> Result<(Todo, Step), AllocError>
+        ensures { IfOk result (λ one. (w : Terms) (now : ℕ)
+            → IsAskedBy w now self.now (Ok (commands.Ihave id)) one) }
+    {
+        if self.offers.is_full(&id) {
+            return said(self.alloc, &Reply::IhaveLater);
+        }
+        let room = Room::new(self.alloc)?;
+        let copy = id.copied(self.alloc)?;
+        let step = Step::Offer(id.copied(self.alloc)?);
+        Ok((Todo::Ihave(id, copy, room), step))
+    }
+
+    /// XTAKE of at most so many.
+    fn queue_asked(&self, config: &Config, most: u16) -> Result<(Todo, Step), AllocError>
+        ensures { IfOk result (λ one. (now : ℕ) → IsAskedBy (terms_of config.now) now self.now
+            (Ok (commands.TakeQueue most)) one) }
+    {
+        match feed_number(config, self.peer) {
+            Some(feed) => {
+                let most = usize::from(most);
+                let room = Room::for_items(self.alloc, most)?;
+                Ok((Todo::Queue(room), Step::TakeQueue(feed, most)))
+            }
+            None => said(self.alloc, &Reply::NoFeed),
+        }
+    }
+
+    /// The answer to CHECK.
+    pub(crate) fn hear_check(
+        &mut self,
+        read: usize,
+        id: MsgId,
+        room: Room,
+        answer: Answer,
+    ) -> Vec<u8>
+        ensures heard { (told : Offer) → answer ≡ Answer.Offer told
+            → is_full self.old.offers id ≡ false → self.old.phase ≡ Phase.Ready
+            → HeardIs result.items self.old
+            (offer_heard (passed read self.old) model.TakesThis id (offer_view told)) self.new }
+        ensures memory { answer ≡ Answer.Memory → self.new ≡ self.old }
+    {
+        match answer {
+            Answer::Offer(told) => {
+                self.cutter.pass(read);
+                match told {
+                    Offer::Wanted => {
+                        let octets = room.say(&Reply::SendIt(&id));
+                        self.offers.open(id);
+                        octets
+                    }
+                    Offer::Later => {
+                        self.offers.close(&id);
+                        room.say(&Reply::AskLater(&id))
+                    }
+                    Offer::Seen => {
+                        self.offers.close(&id);
+                        room.say(&Reply::NotWanted(&id))
+                    }
+                }
+            }
+            _ => Vec::new(self.alloc),
+        }
+    }
+
+    /// The answer to IHAVE.
+    pub(crate) fn hear_ihave(
+        &mut self,
+        read: usize,
+        id: MsgId,
+        copy: MsgId,
+        room: Room,
+        answer: Answer,
+    ) -> Vec<u8>
+        ensures heard { (told : Offer) → answer ≡ Answer.Offer told → copy ≡ id
+            → is_full self.old.offers id ≡ false → self.old.phase ≡ Phase.Ready
+            → HeardIs result.items self.old
+            (offer_heard (passed read self.old) model.Has id (offer_view told)) self.new }
+        ensures memory { answer ≡ Answer.Memory → self.new ≡ self.old }
+    {
+        match answer {
+            Answer::Offer(told) => {
+                self.cutter.pass(read);
+                match told {
+                    Offer::Wanted => {
+                        self.offers.open(id);
+                        self.phase = Phase::Owes(Transfer::Has, Some(copy));
+                        room.say(&Reply::IhaveSend)
+                    }
+                    Offer::Later => {
+                        self.offers.close(&id);
+                        room.say(&Reply::IhaveLater)
+                    }
+                    Offer::Seen => {
+                        self.offers.close(&id);
+                        room.say(&Reply::IhaveNotWanted)
+                    }
+                }
+            }
+            _ => Vec::new(self.alloc),
+        }
+    }
+}
+
+/// These words are said, and nothing is shared.
+pub(crate) fn said(alloc: Global, reply: &Reply) -> Result<(Todo, Step), AllocError>
+    requires { room_of reply.now ≡ reply_room }
+    ensures { IfOk result (IsSaying (reply_view reply.now)) }
+{
+    let octets = Room::new(alloc)?.say(reply);
+    Ok((Todo::Say(octets), Step::Nothing))
+}
+
+/// These words are said, and the session leaves.
+fn left(alloc: Global, reply: &Reply) -> Result<(Todo, Step), AllocError>
+    requires { room_of reply.now ≡ reply_room }
+    ensures { IfOk result (IsLeaving (reply_view reply.now)) }
+{
+    let octets = Room::new(alloc)?.say(reply);
+    Ok((Todo::Leave(octets), Step::Nothing))
+}
+
+/// ARTICLE, HEAD, BODY, OVER or STAT of an id.
+fn look_asked(alloc: Global, part: Part, id: MsgId) -> Result<(Todo, Step), AllocError>
+    ensures { IfOk result (IsLooking part id) }
+{
+    let room = Room::new(alloc)?;
+    let step = Step::Look(id.copied(alloc)?);
+    Ok((Todo::Look(part, id, room), step))
+}
+
+/// XFETCH of a word.
+fn token_asked(alloc: Global, word: &[u8]) -> Result<(Todo, Step), AllocError>
+    ensures { IfOk result (IsFetching word.now) }
+{
+    match Token::parse(word) {
+        Ok(token) => {
+            let mut reading = Reading::new(alloc, Asked::OfToken, token);
+            reading.prepare()?;
+            Ok((Todo::Fetch(reading), Step::Read(token, 0)))
+        }
+        Err(_) => said(alloc, &Reply::SyntaxError),
+    }
+}
+
+/// The number of a peer's feed, where it has one.
+fn feed_number(config: &Config, peer: usize) -> Option<u16>
+    ensures { result ≡ feed_of (terms_of config.now) peer }
+{
+    let place = feed_place(&config.relay.feeds, peer)?;
+    Some(place as u16)
+}
+
+/// The place of a peer's feed.
+fn feed_place(feeds: &[Feed], peer: usize) -> Option<usize>
+    ensures place { result
+        ≡ position (λ (feed : FeedTerms). feed.peer == peer) (map feed_view feeds.now) }
+    ensures within { IfSome result (λ place. place < length feeds.now) }
+{
+    feeds.iter().position(|feed| usize::from(feed.peer) == peer)
+}

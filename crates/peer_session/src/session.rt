@@ -1,0 +1,242 @@
+//! The session: what it plans, what it makes of an answer, and what comes to it.
+ghost use Rattle.std.specs.Prelude.{◌≡◌, ◌≤◌, IfOk, OnErr};
+ghost use Rattle.article_verdict.specs.Config.{terms_of};
+ghost use Rattle.news_terms.specs.Reply.{Reply};
+ghost use Rattle.relay_model.specs.Hears.{parts, says, silent};
+ghost use Rattle.relay_model.specs.Run as run;
+ghost use Rattle.relay_model.specs.State as model;
+ghost use Rattle.relay_model.specs.State.{in_phase};
+ghost use Rattle.relay_model.specs.Terms.{last_moment};
+ghost use Rattle.peer_session.specs.Hearing.{Forgets, HeardIs, Heeds};
+ghost use Rattle.peer_session.specs.Planning.{DueGiven, HandsOver, Plans};
+ghost use Rattle.peer_session.specs.Said.{IsReply};
+ghost use Rattle.peer_session.specs.Session.{BrokenOff, Fed, NewStands, Reports};
+ghost use Rattle.peer_session.specs.Session.{StandsAsBefore, has_parted, passed};
+ghost use Rattle.peer_session.specs.declared.steps.Answer.TheVariants as answers;
+
+use crate::fetches::reading_due;
+use crate::leaving::leaving_due;
+use crate::phase::{Due, Phase, Planned, Todo, Transfer};
+use crate::steps::{Answer, Step};
+use crate::waiting::{held_due, waiting_due};
+use buffer_group::Job;
+use nntp_text::MsgId;
+use open_offers::OpenOffers;
+use relay_conf::Config;
+use std::alloc::{AllocError, Global};
+use std::hash::RandomState;
+use std::mem;
+use stream_cut::Cutter;
+
+/// A session of a peer (RFC 3977, RFC 4644; docs/PROTOCOL.md, Sessions). It is the same machine for
+/// every command, and touches nothing that is shared: `plan` names one step of that, somebody does
+/// it, and `absorb` is told the answer.
+#[derive(Drop)]
+pub struct Session {
+    pub(crate) alloc: Global,
+    pub(crate) peer: usize,
+    pub(crate) cutter: Cutter,
+    pub(crate) offers: OpenOffers,
+    pub(crate) phase: Phase,
+    /// The accepted article that isn't pushed yet.
+    pub(crate) hand: Option<Job>,
+    pub(crate) planned: Planned,
+}
+
+impl Session {
+    /// A session of the peer of this number. It takes the memory for all open offers that it may
+    /// ever have.
+    pub fn open(
+        alloc: Global,
+        hasher: RandomState,
+        config: &Config,
+        peer: usize,
+    ) -> Result<Session, AllocError>
+        ensures { IfOk result (λ session. NewStands (terms_of config.now) session peer) }
+    {
+        Ok(Session {
+            alloc,
+            peer,
+            cutter: Cutter::new(alloc, config.relay.max_article as usize),
+            offers: OpenOffers::new(alloc, hasher)?,
+            phase: Phase::Ready,
+            hand: None,
+            planned: Planned {
+                todo: Todo::Rest,
+                read: 0,
+            },
+        })
+    }
+
+    /// Whether it has turns: it isn't closed.
+    pub fn is_running(&self) -> bool
+        ensures { Reports run.is_running self.now result }
+    {
+        match &self.phase {
+            Phase::Ended => false,
+            _ => true,
+        }
+    }
+
+    /// Whether it reads: octets may come, and the connection may break.
+    pub fn is_reading(&self) -> bool
+        ensures { Reports run.is_reading self.now result }
+    {
+        match &self.phase {
+            Phase::Leaving | Phase::Ended => false,
+            _ => true,
+        }
+    }
+
+    /// Whether it has said its last reply.
+    pub fn has_parted(&self) -> bool
+        ensures { result ≡ has_parted self.now }
+    {
+        match &self.phase {
+            Phase::Leaving => true,
+            _ => false,
+        }
+    }
+
+    /// What is due in a turn at this moment, in seconds since the first of 1970: at most one line
+    /// or one block is read, and at most one step of what is shared is named. All memory that the
+    /// answer can need is taken here; where none is given the session stays as it is.
+    pub fn plan(&mut self, config: &Config, now: u64) -> Result<Step, AllocError>
+        requires { now ≤ last_moment }
+        ensures due { IfOk result (λ step. DueGiven (terms_of config.now) self.old now step self.new) }
+        ensures err { OnErr result (StandsAsBefore self.old self.new) }
+    {
+        let due = self.due(config, now)?;
+        self.planned = Planned {
+            todo: due.todo,
+            read: due.read,
+        };
+        Ok(due.step)
+    }
+
+    /// What is due by the phase.
+    fn due(&mut self, config: &Config, now: u64) -> Result<Due, AllocError>
+        requires { now ≤ last_moment }
+        ensures due { IfOk result (λ due. Plans (terms_of config.now) self.old now due self.new) }
+        ensures err { OnErr result (StandsAsBefore self.old self.new) }
+    {
+        match &mut self.phase {
+            Phase::Ready => self.line_due(config, now),
+            Phase::Owes(_, _) => self.block_due(config, now),
+            Phase::Holds(id, _, _) => held_due(self.alloc, id),
+            Phase::Waits(_, _, _) => Ok(waiting_due(&self.hand)),
+            Phase::Fetches(reading) => reading_due(reading),
+            Phase::Leaving => leaving_due(self.alloc, &self.hand, &self.offers),
+            Phase::Ended => Ok(Due::rest()),
+        }
+    }
+
+    /// The session of this number hears the answer to the step that it planned: what it says, in
+    /// octets. It takes no memory. The answer `Memory`, or one to another step, leaves the session
+    /// as it was before the plan.
+    pub fn absorb(&mut self, number: u64, answer: Answer) -> Vec<u8>
+        ensures heard { Heeds number self.old answer result.items self.new }
+        ensures memory { answer ≡ answers.Memory → Forgets self.old self.new }
+    {
+        let rest = Planned {
+            todo: Todo::Rest,
+            read: 0,
+        };
+        let Planned { todo, read } = mem::replace(&mut self.planned, rest);
+        match todo {
+            Todo::Rest => Vec::new(self.alloc),
+            Todo::Owe(id) => self.hear_owed(read, id, answer),
+            Todo::Say(octets) => self.hear_said(read, octets, answer),
+            Todo::Leave(octets) => self.hear_left(read, octets, answer),
+            Todo::Check(id, room) => self.hear_check(read, id, room, answer),
+            Todo::Ihave(id, copy, room) => self.hear_ihave(read, id, copy, room, answer),
+            Todo::Look(part, id, room) => self.hear_look(read, part, id, room, answer),
+            Todo::Fetch(reading) => self.hear_first(read, reading, answer),
+            Todo::ReadOn => self.hear_next(answer),
+            Todo::Queue(room) => self.hear_queue(read, room, answer),
+            Todo::Refuse(room) => self.hear_refused(read, room, answer),
+            Todo::Take(copy, article, room) => {
+                self.hear_taken(number, read, copy, article, room, answer)
+            }
+            Todo::TakeHeld(copy) => self.hear_held(number, copy, answer),
+            Todo::Push => Vec::new(self.alloc),
+            Todo::Slot => self.hear_slot(answer),
+            Todo::Release => self.hear_released(answer),
+            Todo::End => self.hear_ended(answer),
+        }
+    }
+
+    /// Nothing is said, and a block of this id follows.
+    fn hear_owed(&mut self, read: usize, id: Option<MsgId>, answer: Answer) -> Vec<u8>
+        ensures heard { answer ≡ answers.Nothing
+            → HeardIs result.items self.old (silent (in_phase (passed read self.old)
+            (model.Owes model.TakesThis id))) self.new }
+        ensures memory { answer ≡ answers.Memory → self.new ≡ self.old }
+    {
+        if let Answer::Nothing = answer {
+            self.cutter.pass(read);
+            self.phase = Phase::Owes(Transfer::TakesThis, id);
+        }
+        Vec::new(self.alloc)
+    }
+
+    /// This is said.
+    fn hear_said(&mut self, read: usize, octets: Vec<u8>, answer: Answer) -> Vec<u8>
+        ensures heard { (reply : Reply) → answer ≡ answers.Nothing → IsReply octets.items reply
+            → HeardIs result.items self.old
+            (says (in_phase (passed read self.old) model.Ready) reply) self.new }
+        ensures memory { answer ≡ answers.Memory → self.new ≡ self.old }
+    {
+        match answer {
+            Answer::Nothing => {
+                self.cutter.pass(read);
+                self.phase = Phase::Ready;
+                octets
+            }
+            _ => Vec::new(self.alloc),
+        }
+    }
+
+    /// This is said, and the session leaves.
+    fn hear_left(&mut self, read: usize, octets: Vec<u8>, answer: Answer) -> Vec<u8>
+        ensures heard { (reply : Reply) → answer ≡ answers.Nothing → IsReply octets.items reply
+            → HeardIs result.items self.old
+            (parts (passed read self.old) reply) self.new }
+        ensures memory { answer ≡ answers.Memory → self.new ≡ self.old }
+    {
+        match answer {
+            Answer::Nothing => {
+                self.cutter.pass(read);
+                self.phase = Phase::Leaving;
+                octets
+            }
+            _ => Vec::new(self.alloc),
+        }
+    }
+
+    /// The job whose push is planned: it is in the session's hand no more. The answer to hear is
+    /// `Pushed(true)` then.
+    pub fn hand_over(&mut self) -> Option<Job>
+        ensures { HandsOver self.old result self.new }
+    {
+        self.hand.take()
+    }
+
+    /// Octets come.
+    pub fn feed(&mut self, piece: &[u8]) -> Result<(), AllocError>
+        ensures fed { IfOk result (λ _. Fed self.old piece.now self.new) }
+        ensures err { OnErr result (StandsAsBefore self.old self.new) }
+    {
+        match self.cutter.feed(piece) {
+            Ok(()) => Ok(()),
+            Err(_) => Err(AllocError),
+        }
+    }
+
+    /// The connection is gone: the session leaves, and what it gathered of a fetch is let go.
+    pub fn break_off(&mut self)
+        ensures { BrokenOff self.old self.new }
+    {
+        self.phase = Phase::Leaving;
+    }
+}

@@ -1,0 +1,57 @@
+//! What a session asks of what is shared, and what it is answered.
+use article_fetch::Chunk;
+use cyc_token::Token;
+use feed_queue::Taken;
+use id_history::{Offer, Take};
+use nntp_text::MsgId;
+
+/// The one step of what is shared that a turn takes (docs/PROTOCOL.md, Atomic steps).
+#[derive(Drop)]
+pub enum Step {
+    /// None.
+    Nothing,
+    /// The id is offered.
+    Offer(MsgId),
+    /// The token of the id is looked up.
+    Look(MsgId),
+    /// The block of this number, counted from 0, is read of the token's article.
+    Read(Token, u32),
+    /// At most so many tokens are taken of this feed's ring.
+    TakeQueue(u16, usize),
+    /// The article of the id was refused.
+    Refuse(MsgId),
+    /// The article of the id was accepted.
+    Take(MsgId),
+    /// The job in hand is pushed to the queue of this group, if that has room: then
+    /// `Session::hand_over` gives it, and the answer is `Pushed(true)`.
+    Push(u16),
+    /// The outcome is taken out of the session's slot.
+    Slot,
+    /// The session's own offer of the id is released.
+    Release(MsgId),
+}
+
+/// How the storing of an article ended.
+#[derive(Clone, Copy, Debug, PartialEq, Eq)]
+pub enum Outcome {
+    /// It is stored.
+    Kept,
+    /// It couldn't be stored.
+    Failed,
+}
+
+/// What the step was answered.
+#[derive(Drop)]
+pub enum Answer {
+    /// Memory was refused, and nothing was done.
+    Memory,
+    /// It is done: the answer to `Nothing`, `Refuse` and `Release`.
+    Nothing,
+    Offer(Offer),
+    Look(Option<Token>),
+    Chunk(Chunk),
+    Queue(Taken),
+    Take(Take),
+    Pushed(bool),
+    Slot(Option<Outcome>),
+}
