@@ -10,8 +10,9 @@ pub returns-in-Device : goal.returns-in-Device
 returns-in-Device c =
     let asked = asked_view c.args.asked.now in
     let token = token_view c.args.token in
+    let given = c.args.text.now in
     record {
-      says = subst (λ (chunk : Chunk). SaysLast asked token chunk c.args.text.now c.said.result.items)
+      says = subst (λ (chunk : Chunk). SaysLast asked token chunk given c.said.result.items)
           (sym c.in-Device.is)
           (fault_said asked token c.said.result.items c.said.ensures.octets c.said.ensures.some);
       some = c.said.ensures.some;

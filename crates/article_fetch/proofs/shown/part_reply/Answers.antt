@@ -12,9 +12,10 @@ use Rattle.article_fetch.proofs.shown.part_reply.Goals as goal
 pub returns-in-WholeText : goal.returns-in-WholeText
 returns-in-WholeText c =
     let id = c.args.id.now in
+    let given = c.args.text.now in
     let said = c.said in
     record {
-      says = subst (λ (part : Part). ShowsPart (part_view part) id c.args.text.now said.result.items)
+      says = subst (λ (part : Part). ShowsPart (part_view part) id given said.result.items)
           (sym c.in-WholeText.is)
           (λ text a is same. (
             ArticleFollows id text,
@@ -28,9 +29,10 @@ returns-in-WholeText c =
 pub returns-in-Header : goal.returns-in-Header
 returns-in-Header c =
     let id = c.args.id.now in
+    let given = c.args.text.now in
     let said = c.header_reply in
     record {
-      says = subst (λ (part : Part). ShowsPart (part_view part) id c.args.text.now said.result.items)
+      says = subst (λ (part : Part). ShowsPart (part_view part) id given said.result.items)
           (sym c.in-Header.is)
           (λ text a is same. (
             HeaderFollows id (flat_map field_text a.fields),
@@ -44,9 +46,10 @@ returns-in-Header c =
 pub returns-in-BodyLines : goal.returns-in-BodyLines
 returns-in-BodyLines c =
     let id = c.args.id.now in
+    let given = c.args.text.now in
     let said = c.body_reply in
     record {
-      says = subst (λ (part : Part). ShowsPart (part_view part) id c.args.text.now said.result.items)
+      says = subst (λ (part : Part). ShowsPart (part_view part) id given said.result.items)
           (sym c.in-BodyLines.is)
           (λ text a is same. (
             BodyFollows id a.body,
@@ -60,9 +63,10 @@ returns-in-BodyLines c =
 pub returns-in-OverviewLine : goal.returns-in-OverviewLine
 returns-in-OverviewLine c =
     let id = c.args.id.now in
+    let given = c.args.text.now in
     let said = c.overview_reply in
     record {
-      says = subst (λ (part : Part). ShowsPart (part_view part) id c.args.text.now said.result.items)
+      says = subst (λ (part : Part). ShowsPart (part_view part) id given said.result.items)
           (sym c.in-OverviewLine.is)
           (λ text a is same. (
             OverviewFollows (overview_line a),
@@ -76,9 +80,10 @@ returns-in-OverviewLine c =
 pub returns-in-Presence : goal.returns-in-Presence
 returns-in-Presence c =
     let id = c.args.id.now in
+    let given = c.args.text.now in
     let said = c.said-in-Presence in
     record {
-      says = subst (λ (part : Part). ShowsPart (part_view part) id c.args.text.now said.result.items)
+      says = subst (λ (part : Part). ShowsPart (part_view part) id given said.result.items)
           (sym c.in-Presence.is)
           (λ text a is same. (Exists id, refl, said.ensures.octets, said.ensures.some));
       some = said.ensures.some;
