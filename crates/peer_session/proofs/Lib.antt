@@ -1,1 +1,2 @@
+mod HearLemmas
 mod PlanLemmas

@@ -117,6 +117,7 @@ pub record HasHandedOver (w : Terms) (session : Session) (m : model.Session) (d 
   pub held : m.hand ≡ Some job
   pub stands : Stands w session (record m { hand = None }) gathered
   pub pushes : session.planned.todo ≡ todos.Push
+  pub begins : HasReadNone session.phase
   pub due_is : d ≡ due_as (asks.Pushes job) m
 
 -- the session has planned this for m; `handed` tells whether the job of a push was handed over

@@ -113,7 +113,7 @@ impl Session {
                 Some(reading) => self.hear_block(reading, chunk),
                 None => Vec::new(self.alloc),
             },
-            _ => Vec::new(self.alloc),
+            _other => Vec::new(self.alloc),
         }
     }
 

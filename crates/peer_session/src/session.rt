@@ -1,5 +1,5 @@
 //! The session: what it plans, what it makes of an answer, and what comes to it.
-ghost use Rattle.std.specs.Prelude.{◌≡◌, ◌≤◌, IfOk, OnErr};
+ghost use Rattle.std.specs.Prelude.{◌≡◌, ◌≤◌, [], IfOk, OnErr};
 ghost use Rattle.article_verdict.specs.Config.{terms_of};
 ghost use Rattle.news_terms.specs.Reply.{Reply};
 ghost use Rattle.relay_model.specs.Hears.{parts, says, silent};
@@ -137,12 +137,16 @@ impl Session {
     pub fn absorb(&mut self, number: u64, answer: Answer) -> Vec<u8>
         ensures heard { Heeds number self.old answer result.items self.new }
         ensures memory { answer ≡ answers.Memory → Forgets self.old self.new }
+        ensures quiet { answer ≡ answers.Memory → result.items ≡ [] }
     {
         let rest = Planned {
             todo: Todo::Rest,
             read: 0,
         };
         let Planned { todo, read } = mem::replace(&mut self.planned, rest);
+        if let Answer::Memory = answer {
+            return Vec::new(self.alloc);
+        }
         match todo {
             Todo::Rest => Vec::new(self.alloc),
             Todo::Owe(id) => self.hear_owed(read, id, answer),

@@ -1,0 +1,145 @@
+use Rattle.std.proofs.Common.{subst, sym}
+use Rattle.peer_session.specs.Hearing.{Heeds}
+use Rattle.peer_session.proofs.HearLemmas.{checks, ends, leaves_with, looks, looks_in_slot}
+use Rattle.peer_session.proofs.HearLemmas.{offers, owes, pushes, reads_first, reads_on, refuses}
+use Rattle.peer_session.proofs.HearLemmas.{releases, replies, rests, takes, takes_held}
+use Rattle.peer_session.proofs.HearLemmas.{takes_queue, was_planned, with_planned}
+use Rattle.peer_session.proofs.session.Session.absorb.Goals as goal
+
+pub returns-in-Rest-clause-heard : goal.returns-in-Rest-clause-heard
+returns-in-Rest-clause-heard c =
+    subst (λ said. Heeds c.args.number c.args.self.now c.args.answer said
+    (with_planned c.args.self.now c.replace-todo.new.dest)) (sym c.new-in-Rest.ensures.items)
+    (rests c.args.number c.args.self.now c.args.answer c.replace-todo.new.dest
+    c.replace-todo.result.read
+    (was_planned c.args.self.now c.replace-todo.result _ c.replace-todo.ensures.value c.in-Rest.is))
+
+pub returns-in-Push-clause-heard : goal.returns-in-Push-clause-heard
+returns-in-Push-clause-heard c =
+    subst (λ said. Heeds c.args.number c.args.self.now c.args.answer said
+    (with_planned c.args.self.now c.replace-todo.new.dest)) (sym c.new-in-Push.ensures.items)
+    (pushes c.args.number c.args.self.now c.args.answer c.replace-todo.new.dest
+    c.replace-todo.result.read
+    (was_planned c.args.self.now c.replace-todo.result _ c.replace-todo.ensures.value c.in-Push.is))
+
+pub returns-in-Owe-clause-heard : goal.returns-in-Owe-clause-heard
+returns-in-Owe-clause-heard c =
+    owes c.args.number c.args.self.now c.hear_owed.new.self c.args.answer c.hear_owed.result.items
+    c.replace-todo.new.dest c.replace-todo.result.read c.in-Owe.id
+    (was_planned c.args.self.now c.replace-todo.result _ c.replace-todo.ensures.value c.in-Owe.is)
+    c.hear_owed.ensures.heard
+
+pub returns-in-Say-clause-heard : goal.returns-in-Say-clause-heard
+returns-in-Say-clause-heard c =
+    replies c.args.number c.args.self.now c.hear_said.new.self c.args.answer
+    c.hear_said.result.items
+    c.replace-todo.new.dest c.replace-todo.result.read c.in-Say.octets
+    (was_planned c.args.self.now c.replace-todo.result _ c.replace-todo.ensures.value c.in-Say.is)
+    c.hear_said.ensures.heard
+
+pub returns-in-Leave-clause-heard : goal.returns-in-Leave-clause-heard
+returns-in-Leave-clause-heard c =
+    leaves_with c.args.number c.args.self.now c.hear_left.new.self c.args.answer
+    c.hear_left.result.items
+    c.replace-todo.new.dest c.replace-todo.result.read c.in-Leave.octets
+    (was_planned c.args.self.now c.replace-todo.result _ c.replace-todo.ensures.value c.in-Leave.is)
+    c.hear_left.ensures.heard
+
+pub returns-in-Check-clause-heard : goal.returns-in-Check-clause-heard
+returns-in-Check-clause-heard c =
+    checks c.args.number c.args.self.now c.hear_check.new.self c.args.answer
+    c.hear_check.result.items
+    c.replace-todo.new.dest c.replace-todo.result.read c.in-Check.id c.in-Check.room
+    (was_planned c.args.self.now c.replace-todo.result _ c.replace-todo.ensures.value c.in-Check.is)
+    c.hear_check.ensures.heard
+
+pub returns-in-Ihave-clause-heard : goal.returns-in-Ihave-clause-heard
+returns-in-Ihave-clause-heard c =
+    offers c.args.number c.args.self.now c.hear_ihave.new.self c.args.answer
+    c.hear_ihave.result.items
+    c.replace-todo.new.dest c.replace-todo.result.read c.in-Ihave.id c.in-Ihave.copy c.in-Ihave.room
+    (was_planned c.args.self.now c.replace-todo.result _ c.replace-todo.ensures.value c.in-Ihave.is)
+    c.hear_ihave.ensures.heard
+
+pub returns-in-Look-clause-heard : goal.returns-in-Look-clause-heard
+returns-in-Look-clause-heard c =
+    looks c.args.number c.args.self.now c.hear_look.new.self c.args.answer c.hear_look.result.items
+    c.replace-todo.new.dest c.replace-todo.result.read c.in-Look.part c.in-Look.id c.in-Look.room
+    (was_planned c.args.self.now c.replace-todo.result _ c.replace-todo.ensures.value c.in-Look.is)
+    c.hear_look.ensures.heard
+
+pub returns-in-Fetch-clause-heard : goal.returns-in-Fetch-clause-heard
+returns-in-Fetch-clause-heard c =
+    reads_first c.args.number c.args.self.now c.hear_first.new.self c.args.answer
+    c.hear_first.result.items
+    c.replace-todo.new.dest c.replace-todo.result.read c.in-Fetch.reading
+    (was_planned c.args.self.now c.replace-todo.result _ c.replace-todo.ensures.value c.in-Fetch.is)
+    c.hear_first.ensures.heard
+
+pub returns-in-ReadOn-clause-heard : goal.returns-in-ReadOn-clause-heard
+returns-in-ReadOn-clause-heard c =
+    reads_on c.args.number c.args.self.now c.hear_next.new.self c.args.answer
+    c.hear_next.result.items
+    c.replace-todo.new.dest c.replace-todo.result.read
+    (was_planned c.args.self.now c.replace-todo.result _ c.replace-todo.ensures.value
+    c.in-ReadOn.is)
+    c.hear_next.ensures.heard
+
+pub returns-in-Queue-clause-heard : goal.returns-in-Queue-clause-heard
+returns-in-Queue-clause-heard c =
+    takes_queue c.args.number c.args.self.now c.hear_queue.new.self c.args.answer
+    c.hear_queue.result.items
+    c.replace-todo.new.dest c.replace-todo.result.read c.in-Queue.room
+    (was_planned c.args.self.now c.replace-todo.result _ c.replace-todo.ensures.value c.in-Queue.is)
+    c.hear_queue.ensures.heard
+
+pub returns-in-Refuse-clause-heard : goal.returns-in-Refuse-clause-heard
+returns-in-Refuse-clause-heard c =
+    refuses c.args.number c.args.self.now c.hear_refused.new.self c.args.answer
+    c.hear_refused.result.items
+    c.replace-todo.new.dest c.replace-todo.result.read c.in-Refuse.room
+    (was_planned c.args.self.now c.replace-todo.result _ c.replace-todo.ensures.value
+    c.in-Refuse.is)
+    c.hear_refused.ensures.heard
+
+pub returns-in-Take-clause-heard : goal.returns-in-Take-clause-heard
+returns-in-Take-clause-heard c =
+    takes c.args.number c.args.self.now c.hear_taken.new.self c.args.answer
+    c.hear_taken.result.items
+    c.replace-todo.new.dest c.replace-todo.result.read c.in-Take.copy c.in-Take.article
+    c.in-Take.room
+    (was_planned c.args.self.now c.replace-todo.result _ c.replace-todo.ensures.value c.in-Take.is)
+    c.hear_taken.ensures.heard
+
+pub returns-in-TakeHeld-clause-heard : goal.returns-in-TakeHeld-clause-heard
+returns-in-TakeHeld-clause-heard c =
+    takes_held c.args.number c.args.self.now c.hear_held.new.self c.args.answer
+    c.hear_held.result.items
+    c.replace-todo.new.dest c.replace-todo.result.read c.in-TakeHeld.copy
+    (was_planned c.args.self.now c.replace-todo.result _ c.replace-todo.ensures.value
+    c.in-TakeHeld.is)
+    c.hear_held.ensures.heard
+
+pub returns-in-Slot-clause-heard : goal.returns-in-Slot-clause-heard
+returns-in-Slot-clause-heard c =
+    looks_in_slot c.args.number c.args.self.now c.hear_slot.new.self c.args.answer
+    c.hear_slot.result.items
+    c.replace-todo.new.dest c.replace-todo.result.read
+    (was_planned c.args.self.now c.replace-todo.result _ c.replace-todo.ensures.value c.in-Slot.is)
+    c.hear_slot.ensures.heard
+
+pub returns-in-Release-clause-heard : goal.returns-in-Release-clause-heard
+returns-in-Release-clause-heard c =
+    releases c.args.number c.args.self.now c.hear_released.new.self c.args.answer
+    c.hear_released.result.items
+    c.replace-todo.new.dest c.replace-todo.result.read
+    (was_planned c.args.self.now c.replace-todo.result _ c.replace-todo.ensures.value
+    c.in-Release.is)
+    c.hear_released.ensures.heard
+
+pub returns-in-End-clause-heard : goal.returns-in-End-clause-heard
+returns-in-End-clause-heard c =
+    ends c.args.number c.args.self.now c.hear_ended.new.self c.args.answer c.hear_ended.result.items
+    c.replace-todo.new.dest c.replace-todo.result.read
+    (was_planned c.args.self.now c.replace-todo.result _ c.replace-todo.ensures.value c.in-End.is)
+    c.hear_ended.ensures.heard
