@@ -6,6 +6,7 @@ pub mod Founds
 pub mod Fronts
 pub mod NewShelf
 pub mod OpenWrites
+pub mod Refusals
 pub mod ShelfCalls
 pub mod ShelfReads
 pub mod Shelving

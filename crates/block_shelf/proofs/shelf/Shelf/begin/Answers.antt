@@ -12,6 +12,9 @@ use Rattle.news_terms.specs.Places.{size_of}
 use Rattle.block_shelf.proofs.BegunShelf.{rack_there, rack_keeps, number_found, number_is}
 use Rattle.block_shelf.proofs.BegunShelf.{buffer_found, at, place, place_is, worn, in_time}
 use Rattle.block_shelf.proofs.BegunShelf.{unchanged, same_agrees, token_is, has_begun}
+use Rattle.block_shelf.proofs.Refusals.{if_none, keeps_rack, keeps_all}
+use Rattle.block_shelf.proofs.ShelfCalls.{calls_none}
+use Rattle.std.specs.Vec.{with_item}
 use Rattle.block_shelf.specs.Keeping.{KeepsRack}
 use Rattle.block_shelf.proofs.shelf.Shelf.begin.Goals as goal
 
@@ -181,3 +184,33 @@ returns-clause-begun g c = λ trusted w begun kept openings failures keeps can.
             c.from.result c.from.ensures moved c.in-Ok.open agrees c.in-Ok.ensures.store named,
       ),
     )
+
+pub returns-in_err-number-clause-refused : goal.returns-in_err-number-clause-refused
+returns-in_err-number-clause-refused g c =
+    if_none c.from_residual-in_err-number.result
+    (keeps_rack c.args.self.now c.from.result c.in_ok-rack.rack.now c.in_ok-rack.ensures.value)
+
+pub returns-in_err-buffer-clause-refused : goal.returns-in_err-buffer-clause-refused
+returns-in_err-buffer-clause-refused g c =
+    if_none c.from_residual-in_err-buffer.result
+    (keeps_rack c.args.self.now c.from.result c.in_ok-rack.rack.now c.in_ok-rack.ensures.value)
+
+pub returns-in_default-clause-refused : goal.returns-in_default-clause-refused
+returns-in_default-clause-refused g c =
+    keeps_all c.args.self.now c.from.result c.in_ok-rack.rack.now c.in_ok-rack.ensures.value
+    c.in_ok-number.field-0.now c.in_ok-buffer.buffer.now c.begin.new.self
+    c.in_ok-buffer.ensures.value c.in_default.ensures.refused c.in_default.ensures.store
+
+pub returns-in_default-clause-calls : goal.returns-in_default-clause-calls
+returns-in_default-clause-calls g c =
+    calls_none c.args.self.now c.in_ok-number.field-0.now c.in_ok-buffer.buffer.now
+    c.begin.new.self (with_item c.args.self.now.racks c.from.result c.in_ok-rack.rack.now)
+    c.in_ok-buffer.ensures.item.3.0 c.in_ok-buffer.ensures.value c.in_default.ensures.store
+
+pub returns-clause-calls : goal.returns-clause-calls
+returns-clause-calls g c =
+    calls_none c.args.self.now c.in_ok-number.field-0.now c.in_ok-buffer.buffer.now
+    c.begin.new.self
+    (with_item c.args.self.now.racks c.from.result
+    (record { group = c.begun.new.self; numbers = c.in_ok-rack.rack.now.numbers }))
+    c.in_ok-buffer.ensures.item.3.0 c.in_ok-buffer.ensures.value c.in-Ok.ensures.store
