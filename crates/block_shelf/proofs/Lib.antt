@@ -1,5 +1,6 @@
 pub mod Begins
 pub mod BegunShelf
+pub mod CodeBegins
 pub mod Ending
 pub mod Finishes
 pub mod Founds
