@@ -1,11 +1,13 @@
 pub mod Begins
 pub mod BegunShelf
+pub mod CodeBegins
 pub mod Ending
 pub mod Finishes
 pub mod Founds
 pub mod Fronts
 pub mod NewShelf
 pub mod OpenWrites
+pub mod Refusals
 pub mod ShelfCalls
 pub mod ShelfReads
 pub mod Shelving

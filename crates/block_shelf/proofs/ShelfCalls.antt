@@ -15,7 +15,7 @@ use Rattle.block_shelf.specs.declared.shelf.Rack.{Rack}
 use Rattle.block_shelf.specs.declared.shelf.Shelf.{Shelf}
 
 -- what was read within a list stands there
-read_there : {X : Type 0} (xs : List X) (i : ℕ) (read : X) → i < length xs
+pub read_there : {X : Type 0} (xs : List X) (i : ℕ) (read : X) → i < length xs
     → read ≡ slice_index_or xs i read → slice_get xs i ≡ Some read
 read_there xs i read within e =
     let there = some_there xs i within in

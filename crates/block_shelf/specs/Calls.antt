@@ -64,6 +64,14 @@ BegunAs trusted w h class octets begun kept openings failures place (Some one) n
     → KeepsTexts trusted new w (put_at begun h (begun h ++ size_of octets ∷ [])) kept
     (put_at openings h (Some (IsOpen (token_of one) text 0))) failures)
 
+-- all that the shelf keeps, with whatever state, it still keeps
+abbrev pub KeepsAll : {S : Type 0} {g : Ghosts S} → (old new : Shelf S g) → Type 0
+KeepsAll old new =
+    (trusted : Bool) (w : Terms) (begun : ℕ → List ℕ) (kept : List Kept)
+    (openings : ℕ → Option Opening) (failures : ℕ → ℕ)
+    → KeepsTexts trusted old w begun kept openings failures
+    → KeepsTexts trusted new w begun kept openings failures
+
 -- an article of this class and length is begun in group h
 abbrev pub BeginsOn : {S : Type 0} {g : Ghosts S} → (h class octets : ℕ) → (old : Shelf S g)
     → Option Begun → (new : Shelf S g) → Type 0

@@ -24,8 +24,9 @@ pub struct Shelf<S: BlockStore> {
 }
 
 impl<S: BlockStore> Shelf<S> {
-    ghost use Rattle.std.specs.Prelude.{◌≡◌, Bool, ℕ, Option, slice_get};
-    ghost use Rattle.block_shelf.specs.Calls.{BeginsOn, WritesOn, FinishesOn, AbandonsOn, token_of};
+    ghost use Rattle.std.specs.Prelude.{◌≡◌, Bool, ℕ, ◌+◌, Option, slice_get, IfNone, OnErr};
+    ghost use Rattle.block_shelf.specs.Calls.{BeginsOn, KeepsAll, WritesOn, FinishesOn, AbandonsOn};
+    ghost use Rattle.block_shelf.specs.Calls.{token_of};
     ghost use Rattle.block_shelf.specs.Devices.{CallsNone, CallsOneAtMost, calls_at};
     ghost use Rattle.block_shelf.specs.Keeping.{KeepsTexts};
     ghost use Rattle.block_shelf.specs.Openings.{Opening};
@@ -40,6 +41,8 @@ impl<S: BlockStore> Shelf<S> {
     /// article has no octets or doesn't fit. Takes no memory.
     pub fn begin(&mut self, group: u16, class: u8, length: u32) -> Option<Begun>
         ensures begun { BeginsOn group class length self.old result self.new }
+        // Where nothing is begun, whatever the reason, all that was kept still is.
+        ensures refused { IfNone result (KeepsAll self.old self.new) }
         ensures calls { CallsNone self.old self.new }
     {
         if length == 0 {
@@ -61,6 +64,9 @@ impl<S: BlockStore> Shelf<S> {
     /// Takes no memory.
     pub fn write_next(&mut self, begun: &Begun, text: &[u8]) -> Result<bool, BufError>
         ensures written { WritesOn (token_of begun.now) text.now self.old result self.new }
+        // An error comes of a call of the device alone, and of one.
+        ensures error { OnErr result (calls_at self.new (token_of begun.now).buffer
+            ≡ calls_at self.old (token_of begun.now).buffer + 1) }
         // No other device is called.
         ensures calls { (number : ℕ) → (number ≡ (token_of begun.now).buffer → ⊥)
             → calls_at self.new number ≡ calls_at self.old number }

@@ -2,6 +2,8 @@
 use Rattle.std.specs.Prelude.{ℕ, List, ◌++◌, codes, Option, None, Some, Result, Ok, Err}
 use Rattle.std.specs.Prelude.{MatchOption, ⊤}
 use Rattle.std.specs.Io.KnownBytes.{Appends, Keeps}
+use Rattle.std.specs.declared.io.ErrorKind as io
+use Rattle.std.specs.declared.io.ErrorKind.TheVariants as kinds
 use Rattle.clap.specs.Words.{kind_of}
 use Rattle.clap.specs.declared.error.kind.ErrorKind.{ErrorKind}
 use Rattle.clap.specs.declared.error.kind.ErrorKind.TheVariants.{OutOfMemory}
@@ -16,6 +18,11 @@ use Rattle.relay_command.specs.declared.failure.Failure.TheVariants.{Drill, Toke
 use Rattle.relay_command.specs.declared.failure.Unbegun.TheVariants as unbegun
 use Rattle.relay_command.specs.declared.failure.Unbegun as begin
 use Rattle.relay_command.specs.declared.token.TokenFault.TheVariants as token
+
+-- why the words can't be had: memory ran out, or one is no UTF-8 (docs/PROTOCOL.md, Statuses)
+abbrev pub unbegun_as : io.ErrorKind → begin.Unbegun
+unbegun_as kinds.OutOfMemory = unbegun.Memory
+unbegun_as kind = unbegun.NoText
 
 -- 5 where memory ran out while the words were read, else 1
 abbrev pub words_status : ErrorKind → ℕ

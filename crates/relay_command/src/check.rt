@@ -1,12 +1,13 @@
 //! Reading a configuration and saying what it has (docs/PROTOCOL.md, Program; docs/FORMATS.md,
 //! Configuration).
-ghost use Rattle.std.specs.Prelude.{◌≡◌, ◌⊎◌, codes, IfOk, IfErr, Some};
+ghost use Rattle.std.specs.Prelude.{◌≡◌, ◌⊎◌, bytes_eq, codes, IfOk, IfErr, Some};
 ghost use Rattle.relay_conf.specs.RelayViews.{RelayGives};
 ghost use Rattle.relay_drill.specs.Written.{Writes};
 ghost use Rattle.relay_command.specs.Check.{CheckGives, CycbuffReads, FileGives, IsErrorIn};
 ghost use Rattle.relay_command.specs.Check.{IsTextOf};
 ghost use Rattle.relay_command.specs.Check.{IsUnread, LoadGives, StorageReads};
 ghost use Rattle.relay_command.specs.Check.{check_text, counted, file_name, k1_text};
+ghost use Rattle.relay_command.specs.Check.{unopened_as, unread_as};
 ghost use Rattle.relay_command.specs.declared.check.CheckError.TheVariants.{Memory, Unreadable};
 ghost use Rattle.relay_command.specs.declared.check.ConfFile.TheVariants as files;
 
@@ -201,11 +202,18 @@ fn text_of<R: Files>(
     ensures text { IfOk result (λ text. IsTextOf folder.now file text.items) }
     ensures error { IfErr result (IsUnread folder.now file) }
 {
-    if folder == "K1" {
+    if is_built_in(folder) {
         let text = Vec::from_slice(alloc, k1_text(file))?;
         return Ok(text);
     }
     read_file(rt, alloc, folder, file)
+}
+
+/// Whether the folder is the name of the built-in configuration.
+fn is_built_in(folder: &str) -> bool
+    ensures { result ≡ bytes_eq folder.now (codes "K1") }
+{
+    folder == "K1"
 }
 
 /// The text of a file of the built-in configuration.
@@ -235,17 +243,26 @@ fn read_file<R: Files>(
     };
     match read_all(alloc, &mut opened) {
         Ok(text) => Ok(text),
-        Err(DrillError::Memory) => Err(CheckError::Memory),
-        Err(_) => Err(CheckError::Unreadable(file)),
+        Err(error) => Err(unread(file, &error)),
     }
 }
 
 /// Why a file could not be opened.
 fn unopened(file: ConfFile, kind: ErrorKind) -> CheckError
-    ensures { (result ≡ Memory) ⊎ (result ≡ Unreadable file) }
+    ensures { result ≡ unopened_as file kind }
 {
     match kind {
         ErrorKind::OutOfMemory => CheckError::Memory,
+        _ => CheckError::Unreadable(file),
+    }
+}
+
+/// Why what a file has could not be had.
+fn unread(file: ConfFile, error: &DrillError) -> CheckError
+    ensures { result ≡ unread_as file error.now }
+{
+    match error {
+        DrillError::Memory => CheckError::Memory,
         _ => CheckError::Unreadable(file),
     }
 }

@@ -1,6 +1,8 @@
 //! Doing what the words ask for (docs/PROTOCOL.md, Program).
-ghost use Rattle.std.specs.Prelude.{◌≡◌, ◌⊎◌, map, string_bytes, IfErr};
+ghost use Rattle.std.specs.Prelude.{◌≡◌, ◌⊎◌, map, string_bytes, IfOk, IfErr};
 ghost use Rattle.relay_command.specs.CommandLine.{asked};
+ghost use Rattle.std.specs.Vec.Iter.{into_iter_items};
+ghost use Rattle.relay_command.specs.Failure.{unbegun_as};
 ghost use Rattle.relay_command.specs.Run.{DrillsK1, Performs, RunGives};
 ghost use Rattle.relay_command.specs.declared.failure.Failure.TheVariants as failures;
 ghost use Rattle.relay_command.specs.declared.failure.Unbegun.TheVariants as begin;
@@ -13,7 +15,7 @@ use first_core::Config;
 use relay_drill::{DrillError, drill};
 use std::alloc::Global;
 use std::env;
-use std::env::Env;
+use std::env::{Args, Env};
 use std::fs::Files;
 use std::io::{ErrorKind, Read, Write};
 use std::random::RandomSource;
@@ -27,14 +29,24 @@ pub fn program_words<E: Env + AllocGlobal>(rt: &E) -> Result<Vec<String>, Failur
         Ok(words) => words,
         Err(error) => return Err(Failure::Unbegun(unread(error.kind()))),
     };
-    match words.collect(rt.alloc()) {
+    collected(rt.alloc(), words)
+}
+
+/// The words in one list.
+fn collected(alloc: Global, words: Args) -> Result<Vec<String>, Failure>
+    ensures words { IfOk result (λ all. all.items ≡ into_iter_items words) }
+    ensures memory { IfErr result (λ failure. failure ≡ failures.Unbegun begin.Memory) }
+{
+    match words.collect(alloc) {
         Ok(words) => Ok(words),
         Err(_) => Err(Failure::Unbegun(Unbegun::Memory)),
     }
 }
 
 /// Why the words could not be had: memory ran out, or one is no UTF-8.
-fn unread(kind: ErrorKind) -> Unbegun {
+fn unread(kind: ErrorKind) -> Unbegun
+    ensures { result ≡ unbegun_as kind }
+{
     match kind {
         ErrorKind::OutOfMemory => Unbegun::Memory,
         _ => Unbegun::NoText,

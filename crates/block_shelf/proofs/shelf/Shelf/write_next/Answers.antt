@@ -1,6 +1,7 @@
 use Rattle.std.proofs.Common.{◌∙◌, ap, refl}
 use Rattle.block_shelf.proofs.Ending.{not_missing}
 use Rattle.block_shelf.proofs.OpenWrites.{can_be_written, wrote}
+use Rattle.block_shelf.proofs.Refusals.{on_error}
 use Rattle.block_shelf.proofs.ShelfCalls.{called_once, calls_no_other}
 use Rattle.block_shelf.specs.Calls.{token_of}
 use Rattle.block_shelf.specs.Openings.{IsOpen}
@@ -39,3 +40,12 @@ returns-in-Some-clause-calls g c = λ k apart.
     calls_no_other c.args.self.now c.from.result c.in-Some.buffer.now c.write_next.new.self
     c.args.self.now.racks c.in-Some.ensures.item.3.0 c.in-Some.ensures.value k
     (λ e. apart (e ∙ c.from.ensures ∙ ap (λ (t : code.Token). t.buffer) c.token.ensures))
+
+pub returns-in-Some-clause-error : goal.returns-in-Some-clause-error
+returns-in-Some-clause-error g c =
+    on_error c.write_next.result c.write_next.ensures.error (λ can.
+    called_once c.args.self.now c.from.result c.in-Some.buffer.now c.write_next.new.self
+    c.args.self.now.racks c.in-Some.ensures.item.3.0 c.in-Some.ensures.value
+    (token_of c.args.begun.now).buffer
+    (c.from.ensures ∙ ap (λ (t : code.Token). t.buffer) c.token.ensures)
+    (c.write_next.ensures.written can).calls)
