@@ -1,12 +1,15 @@
 -- The session of the definitions that a session of the code stands for.
-use Rattle.std.specs.Prelude.{◌≡◌, ℕ, ◌+◌, ◌++◌, Bool, true, false, List, [], drop, option_map, Option}
+use Rattle.std.specs.Prelude.{◌≡◌, ℕ, ◌+◌, ◌≤◌, ◌++◌, length, Bool, true, false, List, [], drop, option_map, Option}
 use Rattle.article_fetch.specs.Fetch.{Fetch}
 use Rattle.buffer_group.specs.Jobs.{article_view, job_view}
+use Rattle.news_terms.specs.Blocks.{Unfinished, next_block, stuffed_room}
+use Rattle.news_terms.specs.Lines.{Incomplete, next_line}
 use Rattle.relay_model.specs.Run.{new_session}
 use Rattle.relay_model.specs.State as model
 use Rattle.relay_model.specs.State.{in_phase, with_unread}
 use Rattle.relay_model.specs.Terms.{Terms}
 use Rattle.relay_model.specs.World as world
+use Rattle.stream_cut.specs.Stream.{Stream, kept_octets}
 use Rattle.peer_session.specs.declared.phase.Phase.{Phase}
 use Rattle.peer_session.specs.declared.phase.Phase.TheVariants as phases
 use Rattle.peer_session.specs.declared.phase.Transfer.{Transfer}
@@ -84,6 +87,23 @@ pub record Stands (w : Terms) (session : Session) (m : model.Session) (gathered 
   pub gathers : gathered ≡ gathered_of session.phase
   pub limit : session.cutter.limit ≡ w.max_article
   pub has_all : HasAll session.phase session.cutter.dropped
+
+-- Nothing is due: a session that reads a command has no whole line, and may still get one; one
+-- that owes a block has none that is whole; or it is closed.
+abbrev pub IsIdle : Phase → Stream → Type 0
+IsIdle phases.Ready stream = next_line stream.unread ≡ Incomplete
+IsIdle (phases.Owes transfer id) stream = next_block stream.limit stream.unread ≡ Unfinished
+IsIdle (phases.Holds id article room) stream = ⊥
+IsIdle (phases.Waits transfer id room) stream = ⊥
+IsIdle (phases.Fetches reading) stream = ⊥
+IsIdle phases.Leaving stream = ⊥
+IsIdle phases.Ended stream = Unit {0}
+
+-- where no block is whole, no more octets are kept than a block within the limit takes
+abbrev pub IsBounded : Stream → Type 0
+IsBounded stream =
+    next_block stream.limit stream.unread ≡ Unfinished
+    → length (kept_octets stream) ≤ stuffed_room stream.limit
 
 -- the session goes on standing for what it stood for
 abbrev pub StandsAsBefore : Session → Session → Type 0

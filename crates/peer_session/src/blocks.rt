@@ -1,9 +1,10 @@
 //! Blocks: the article of one is judged, and what is made of the answer.
-ghost use Rattle.std.specs.Prelude.{◌≡◌, ◌≤◌, Option, Some, None, IfOk, OnErr};
+ghost use Rattle.std.specs.Prelude.{◌≡◌, ◌≤◌, Option, Some, None, IfOk, IsOk, OnErr};
 ghost use Rattle.std.specs.Option.{option_copied};
 ghost use Rattle.article_verdict.specs.Config.{terms_of};
 ghost use Rattle.buffer_group.specs.Jobs.{article_view};
 ghost use Rattle.id_history.specs.Answers.{take_view};
+ghost use Rattle.news_terms.specs.Blocks.{Unfinished, next_block};
 ghost use Rattle.nntp_text.specs.Reply.{reply_room, reply_view, room_of};
 ghost use Rattle.relay_model.specs.Hears as hears;
 ghost use Rattle.relay_model.specs.Hears.{says, take_heard};
@@ -12,7 +13,7 @@ ghost use Rattle.stream_cut.specs.Stream.{ShowsBlock};
 ghost use Rattle.peer_session.specs.Asking.{IsJudged, IsOwedAsked, OwesBlock, TakesOwed, TextAt};
 ghost use Rattle.peer_session.specs.Hearing.{HeardIs};
 ghost use Rattle.peer_session.specs.Planning.{Plans, block_passed};
-ghost use Rattle.peer_session.specs.Session.{HasAll, StandsAsBefore, session_view, transfer_view};
+ghost use Rattle.peer_session.specs.Session.{HasAll, IsBounded, StandsAsBefore, session_view, transfer_view};
 
 use crate::lines::said;
 use crate::phase::{Due, Phase, Todo, Transfer};
@@ -34,6 +35,9 @@ impl Session {
         requires { OwesBlock self.old.phase }
         ensures due { IfOk result (λ due. Plans (terms_of config.now) self.old now due self.new) }
         ensures err { OnErr result (StandsAsBefore self.old self.new) }
+        ensures idle { next_block self.old.cutter.limit self.old.cutter.unread ≡ Unfinished
+            → IsOk result }
+        ensures bounded { IsBounded self.new.cutter }
     {
         match self.cutter.find_block() {
             FoundBlock::Whole { octets, dots } => self.due_of_block(config, now, octets, dots),

@@ -1,11 +1,12 @@
 //! Command lines: what each asks, and what is made of the answer to an offer.
-ghost use Rattle.std.specs.Prelude.{◌≡◌, ◌≤◌, ◌<◌, ◌==◌, ℕ, false, Ok, IfOk, IfSome, OnErr};
-ghost use Rattle.std.specs.Prelude.{length, map, position};
+ghost use Rattle.std.specs.Prelude.{◌≡◌, ◌≤◌, ◌<◌, ◌==◌, ℕ, false, Ok, IfOk, IfSome, IsOk};
+ghost use Rattle.std.specs.Prelude.{OnErr, length, map, position};
 ghost use Rattle.article_verdict.specs.Config.{terms_of};
 ghost use Rattle.feed_queue.specs.Permission.{feed_view};
 ghost use Rattle.id_history.specs.Answers.{offer_view};
 ghost use Rattle.news_terms.specs.Command.{command_of};
 ghost use Rattle.news_terms.specs.Command as commands;
+ghost use Rattle.news_terms.specs.Lines.{Incomplete, next_line};
 ghost use Rattle.nntp_text.specs.Command.{command_view};
 ghost use Rattle.nntp_text.specs.Reply.{reply_room, reply_view, room_of};
 ghost use Rattle.relay_model.specs.Asks.{feed_of, is_full};
@@ -38,6 +39,7 @@ impl Session {
         requires ready { self.old.phase ≡ Phase.Ready }
         ensures due { IfOk result (λ due. Plans (terms_of config.now) self.old now due self.new) }
         ensures err { OnErr result (StandsAsBefore self.old self.new) }
+        ensures idle { next_line self.old.cutter.unread ≡ Incomplete → IsOk result }
     {
         match self.cutter.find_line() {
             FoundLine::Whole(end) => self.due_of_line(config, now, end),

@@ -1,5 +1,5 @@
 //! The session: what it plans, what it makes of an answer, and what comes to it.
-ghost use Rattle.std.specs.Prelude.{◌≡◌, ◌≤◌, [], IfOk, OnErr};
+ghost use Rattle.std.specs.Prelude.{◌≡◌, ◌≤◌, [], IfOk, IsOk, OnErr};
 ghost use Rattle.article_verdict.specs.Config.{terms_of};
 ghost use Rattle.news_terms.specs.Reply.{Reply};
 ghost use Rattle.relay_model.specs.Hears.{parts, says, silent};
@@ -7,10 +7,11 @@ ghost use Rattle.relay_model.specs.Run as run;
 ghost use Rattle.relay_model.specs.State as model;
 ghost use Rattle.relay_model.specs.State.{in_phase};
 ghost use Rattle.relay_model.specs.Terms.{last_moment};
+ghost use Rattle.peer_session.specs.Asking.{OwesBlock};
 ghost use Rattle.peer_session.specs.Hearing.{Forgets, HeardIs, Heeds};
 ghost use Rattle.peer_session.specs.Planning.{DueGiven, HandsOver, Plans};
 ghost use Rattle.peer_session.specs.Said.{IsReply};
-ghost use Rattle.peer_session.specs.Session.{BrokenOff, Fed, NewStands, Reports};
+ghost use Rattle.peer_session.specs.Session.{BrokenOff, Fed, IsBounded, IsIdle, NewStands, Reports};
 ghost use Rattle.peer_session.specs.Session.{StandsAsBefore, has_parted, passed};
 ghost use Rattle.peer_session.specs.declared.steps.Answer.TheVariants as answers;
 
@@ -100,11 +101,16 @@ impl Session {
 
     /// What is due in a turn at this moment, in seconds since the first of 1970: at most one line
     /// or one block is read, and at most one step of what is shared is named. All memory that the
-    /// answer can need is taken here; where none is given the session stays as it is.
+    /// answer can need is taken here; where none is given the session stays as it is. Where nothing
+    /// is due none is taken, and of a block that isn't whole no more is kept than one within the
+    /// limit takes.
     pub fn plan(&mut self, config: &Config, now: u64) -> Result<Step, AllocError>
         requires { now ≤ last_moment }
-        ensures due { IfOk result (λ step. DueGiven (terms_of config.now) self.old now step self.new) }
+        ensures due { IfOk result (λ step.
+            DueGiven (terms_of config.now) self.old now step self.new) }
         ensures err { OnErr result (StandsAsBefore self.old self.new) }
+        ensures idle { IsIdle self.old.phase self.old.cutter → IsOk result }
+        ensures bounded { OwesBlock self.old.phase → IsBounded self.new.cutter }
     {
         let due = self.due(config, now)?;
         self.planned = Planned {
@@ -119,6 +125,8 @@ impl Session {
         requires { now ≤ last_moment }
         ensures due { IfOk result (λ due. Plans (terms_of config.now) self.old now due self.new) }
         ensures err { OnErr result (StandsAsBefore self.old self.new) }
+        ensures idle { IsIdle self.old.phase self.old.cutter → IsOk result }
+        ensures bounded { OwesBlock self.old.phase → IsBounded self.new.cutter }
     {
         match &mut self.phase {
             Phase::Ready => self.line_due(config, now),
@@ -132,8 +140,8 @@ impl Session {
     }
 
     /// The session of this number hears the answer to the step that it planned: what it says, in
-    /// octets. It takes no memory. The answer `Memory`, or one to another step, leaves the session
-    /// as it was before the plan.
+    /// octets. It takes no memory. The answer `Memory` leaves the session as it was before the
+    /// plan.
     pub fn absorb(&mut self, number: u64, answer: Answer) -> Vec<u8>
         ensures heard { Heeds number self.old answer result.items self.new }
         ensures memory { answer ≡ answers.Memory → Forgets self.old self.new }
