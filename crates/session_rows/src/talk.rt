@@ -173,8 +173,8 @@ impl Talk {
         put_octets(text, &said)
     }
 
-    /// Where the job is pushed it is handed over, and is written: the session's number, its id, class
-    /// and feeds, and the octets of its text or, where it is shown, the text.
+    /// Where the job is pushed it is handed over, and is written: the session's number, its class,
+    /// feeds and id, and the octets of its text or, where it is shown, the text.
     fn hand_over(&mut self, cells: &[Vec<u8>], text: &mut Vec<u8>) -> Result<(), AllocError> {
         let shows = is_first(cells, b"shown");
         if !shows && !is_first(cells, b"pushed") {

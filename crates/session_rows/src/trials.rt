@@ -1,5 +1,5 @@
-//! Rows that stand for many: a line for each number, a line cut at each octet, a line with each octet
-//! changed.
+//! Rows that stand for many: a line for each number, a line cut at each octet, a line with each
+//! octet changed.
 
 use crate::answers::{answer_of, plain_answer};
 use crate::counts::Counts;
@@ -33,8 +33,9 @@ struct Trial<'a> {
     answer: &'a [Vec<u8>],
 }
 
-/// `each FIRST LAST SENT STEP SAID ANSWER..`: for each number, which stands for `#`, the octets come
-/// and a turn is taken: `all` where each has this step and says this, else the first that doesn't.
+/// `each FIRST LAST SENT STEP SAID ANSWER..`: for each number, which stands for `#`, the octets
+/// come and a turn is taken: `all` where each has this step and says this, else the first that
+/// doesn't.
 fn each(talk: &mut Talk, cells: &[Vec<u8>], text: &mut Vec<u8>) -> Result<bool, AllocError> {
     let [first, last, sent, step, said, answer @ ..] = cells else {
         return Ok(false);
