@@ -60,12 +60,14 @@ block_said old fetch found octets later ready kept h =
     let ask : Ask = asks.Reads fetch.asked fetch.token fetch.had in
     let P : Bool → Type 0 =
     λ more. ReadHeard (session_view old) fetch.asked fetch.token fetch.had found more
-        (says (session_view old) reply) in
+    (says (session_view old) reply) in
     record {
       heard = says (session_view old) reply;
       hears = subst P (sym h.0) (reply, h.1.1, refl);
-      said_is = (record { text = h.1.2; some = h.1.3 },
-      subst (λ p. leaves p ≡ false) (sym ready) refl);
+      said_is = (
+        record { text = h.1.2; some = h.1.3 },
+        subst (λ p. leaves p ≡ false) (sym ready) refl,
+      );
       is = refl;
       limit = refl;
       has_all = subst (λ p. HasAll p old.cutter.dropped) (sym ready) kept;
@@ -90,11 +92,16 @@ block_read old fetch found later kept h =
       hears = subst P (sym h.0) refl;
       said_is = refl;
       is = ap (λ (one : Fetch). in_phase (session_view old)
-      (model.Fetches one.asked one.token one.had)) (sym is);
+          (model.Fetches one.asked one.token one.had)) (sym is);
       limit = refl;
       has_all = kept;
-      gathers = inr (fetch.had, text, refl, ap shares.ToRead h.2,
-      ap (λ (one : Fetch). one.gathered) is);
+      gathers = inr (
+        fetch.had,
+        text,
+        refl,
+        ap shares.ToRead h.2,
+        ap (λ (one : Fetch). one.gathered) is,
+      );
     }
 
 -- a session that has only begun to fetch has gathered nothing
@@ -156,7 +163,7 @@ read_of w s session fetch found told said old new told_is is limit =
         has_all = is.has_all;
       };
       gathers = subst (λ one. Gathers (asks.Reads fetch.asked fetch.token fetch.had) one
-      is.heard.session.phase (gathered_of new.phase)) (sym told_is) is.gathers;
+          is.heard.session.phase (gathered_of new.phase)) (sym told_is) is.gathers;
     }
 
 -- the old session with something else planned

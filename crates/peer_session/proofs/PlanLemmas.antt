@@ -1,5 +1,6 @@
 -- What is due of a session, by its phase and by what stands at the front of its unread octets.
-use Rattle.std.proofs.Common.{arith, ◌≡◌, ◌∙◌, ◌+◌, ◌<◌, ap, refl, sym, subst, inl, inr, take, drop, ℕ}
+use Rattle.std.proofs.Common.{arith, ◌≡◌, ◌∙◌, ◌+◌, ◌<◌, ap, refl, sym, subst, inl, inr, take, drop}
+use Rattle.std.proofs.Common.{ℕ}
 use Rattle.std.proofs.Common.{List, ◌∷◌, option_map, [], Option, None, Some, Result, Ok, Err, IfOk}
 use Rattle.article_fetch.specs.Fetch.{Fetch}
 use Rattle.buffer_group.specs.Jobs.{article_view, job_view}
@@ -21,8 +22,10 @@ use Rattle.relay_model.specs.State.{in_phase, with_offers, with_unread}
 use Rattle.relay_model.specs.Terms.{Terms}
 use Rattle.stream_cut.specs.Stream.{AwaitsEnd, ShowsBlock, ShowsLine, Stream, shown_lines}
 use Rattle.peer_session.specs.Answers.{AsksOf}
-use Rattle.peer_session.specs.Asking.{AskedFor, IsAskedBy, IsFetching, IsJudged, IsLeaving, IsLooking}
-use Rattle.peer_session.specs.Asking.{IsHeldAsked, IsLeavingAsked, IsOwedAsked, IsPushOf, IsReadingAsked, IsSaying}
+use Rattle.peer_session.specs.Asking.{AskedFor, IsAskedBy, IsFetching, IsJudged, IsLeaving}
+use Rattle.peer_session.specs.Asking.{IsLooking}
+use Rattle.peer_session.specs.Asking.{IsHeldAsked, IsLeavingAsked, IsOwedAsked, IsPushOf}
+use Rattle.peer_session.specs.Asking.{IsReadingAsked, IsSaying}
 use Rattle.peer_session.specs.Asking.{IsWaitingAsked, OwesBlock, TextAt, next_text}
 use Rattle.peer_session.specs.Asking.{IsAccepted, IsNone, IsRefused, IsToken}
 use Rattle.peer_session.specs.Planning.{DueGiven, DueIs, PlanFor, Plans, block_passed}
@@ -132,8 +135,11 @@ said_asked w now session asked reply one due saying read ready =
     subst (AskedFor w now read session asked) (sym saying.is) (record {
       due = due_as (asks.Says reply) (passed read session);
       is_due = due (passed read session);
-      due_is = (reply, saying.said,
-          ap (due_as (asks.Says reply)) (sym (ready_passed read session ready)));
+      due_is = (
+        reply,
+        saying.said,
+        ap (due_as (asks.Says reply)) (sym (ready_passed read session ready)),
+      );
       fits = tt;
       is_step = tt;
       asks_of = tt;
@@ -188,12 +194,15 @@ fetch_asked w now session word one (IsToken token reading asked is one_is) read 
     subst (AskedFor w now read session (Ok (commands.FetchToken word))) (sym one_is) (record {
       due = due_as (asks.Reads model.OfToken (token_view token) 0) (passed read session);
       is_due = (asks.Reads model.OfToken (token_view token) 0, asked, refl);
-      due_is = (ap (λ fetch. fetch.prepared) is, ap (λ fetch. fetch.had) is,
-          ap (λ fetch. fetch.gathered) is,
-          ap (due_as (asks.Reads model.OfToken (token_view token) 0))
-          (sym (ready_passed read session ready))
-          ∙ ap (λ fetch. due_as (asks.Reads fetch.asked fetch.token 0)
-          (in_phase (passed read session) model.Ready)) (sym is));
+      due_is = (
+        ap (λ fetch. fetch.prepared) is,
+        ap (λ fetch. fetch.had) is,
+        ap (λ fetch. fetch.gathered) is,
+        ap (due_as (asks.Reads model.OfToken (token_view token) 0))
+            (sym (ready_passed read session ready))
+            ∙ ap (λ fetch. due_as (asks.Reads fetch.asked fetch.token 0)
+            (in_phase (passed read session) model.Ready)) (sym is),
+      );
       fits = ready;
       is_step = (model.OfToken, refl);
       asks_of = inr (refl, refl);
@@ -246,7 +255,8 @@ plans_judged : (w : Terms) (session : Session) (now read : ℕ) (transfer : Tran
     → session.phase ≡ phases.Owes transfer (Some id) → TextAt read text session.cutter
     → IsJudged w session.peer now id text one
     → Plans w session now (record { todo = one.0; read = read; step = one.1 }) session
-plans_judged w session now read transfer id text one owes text_at (IsRefused reason room judges is) =
+plans_judged w session now read transfer id text one owes text_at
+    (IsRefused reason room judges is) =
     plan_of w session now _ session (λ limit has_all.
     subst (λ one. PlanFor w (session_view session) (gathered_of session.phase) now
     (record { todo = one.0; read = read; step = one.1 }) session) (sym is) (record {
@@ -332,9 +342,12 @@ plans_too_long w session now one ready kept too_long leaving =
       stands = stands_so w session limit has_all;
       due = due_as (asks.Leaves LineTooLong) (session_view session);
       is_due = due_where_ready w session now TooLong _ ready too_long refl;
-      due_is = (LineTooLong, leaving.said,
-          ap (λ dropped. due_as (asks.Leaves LineTooLong) (with_unread (session_view session)
-          (drop (dropped + 0) session.cutter.unread))) (sym kept));
+      due_is = (
+        LineTooLong,
+        leaving.said,
+        ap (λ dropped. due_as (asks.Leaves LineTooLong) (with_unread (session_view session)
+            (drop (dropped + 0) session.cutter.unread))) (sym kept),
+      );
       fits = tt;
       is_step = tt;
       asks_of = tt;
@@ -360,7 +373,7 @@ pub never_passing : (w : Terms) (session : Session) (now : ℕ) (one : CodeDue)
     → session.phase ≡ phases.Ready → 0 < session.cutter.dropped → Plans w session now one session
 never_passing w session now one ready passing m gathered stands =
     let kept : session.cutter.dropped ≡ 0 =
-        subst (λ phase. HasAll phase session.cutter.dropped) ready stands.has_all in
+    subst (λ phase. HasAll phase session.cutter.dropped) ready stands.has_all in
     absurd (omega (arith, kept, passing))
 
 -- what is due of a session in this phase
@@ -391,7 +404,8 @@ plans_held w session now id article room one holds asked =
 -- the job in hand is pushed, where that is due
 plans_push : (w : Terms) (session : Session) (now : ℕ) (job : Job) (one : CodeDue)
     → session.hand ≡ Some job → HasReadNone session.phase → IsPushOf job one
-    → IsDue w (session_view session) now (due_as (asks.Pushes (job_view job)) (session_view session))
+    → IsDue w (session_view session) now
+    (due_as (asks.Pushes (job_view job)) (session_view session))
     → Plans w session now one session
 plans_push w session now job one has none pushes due =
     plan_of w session now one session (λ limit has_all.
@@ -510,12 +524,18 @@ plans_reading w session now reading later one fetches asked =
       due = due_as (asks.Reads reading.asked reading.token reading.had)
           (in_phase (session_view session) model.Ready);
       is_due = due_in w session now (phases.Fetches reading) _ fetches refl;
-      due_is = (later, refl, ap (λ fetch. fetch.prepared) asked.prepared,
-          ap (λ fetch. due_as (asks.Reads fetch.asked fetch.token fetch.had)
-          (in_phase (session_view session) model.Ready)) (sym asked.prepared));
+      due_is = (
+        later,
+        refl,
+        ap (λ fetch. fetch.prepared) asked.prepared,
+        ap (λ fetch. due_as (asks.Reads fetch.asked fetch.token fetch.had)
+            (in_phase (session_view session) model.Ready)) (sym asked.prepared),
+      );
       fits = tt;
-      is_step = (reading.asked,
-          ap (λ token. asks.Reads reading.asked token reading.had) (sym asked.token_is));
+      is_step = (
+        reading.asked,
+        ap (λ token. asks.Reads reading.asked token reading.had) (sym asked.token_is),
+      );
       asks_of = inl (ap phase_view fetches);
     }))
   where
@@ -578,4 +598,5 @@ plan_given w old new now one plans m gathered stands =
 pub same_phase : (w : Terms) (old : Session) (now : ℕ) (one : CodeDue) (phase : Phase)
     → old.phase ≡ phase → Plans w old now one old
     → Plans w old now one (in_code_phase old phase)
-same_phase w old now one phase is = subst (λ phase. Plans w old now one (in_code_phase old phase)) is
+same_phase w old now one phase is =
+    subst (λ phase. Plans w old now one (in_code_phase old phase)) is

@@ -103,7 +103,8 @@ IsAnswerTo (asks.TakesQueue feed most) gathered answer told =
     (taken : Taken) × (answer ≡ answers.Queue taken) × (length taken.items.items ≤ most)
     × (told ≡ shares.ToTakeQueue taken.missed (map item_view taken.items.items))
 IsAnswerTo (asks.Takes transfer id article) gathered answer told =
-    (take_one : Take) × (answer ≡ answers.Take take_one) × (told ≡ shares.ToTake (take_view take_one))
+    (take_one : Take) × (answer ≡ answers.Take take_one)
+    × (told ≡ shares.ToTake (take_view take_one))
 IsAnswerTo (asks.Pushes job) gathered answer told =
     (has_room : Bool) × (answer ≡ answers.Pushed has_room) × (told ≡ shares.ToPush has_room)
 IsAnswerTo (asks.LooksInSlot transfer id) gathered answer told =

@@ -92,8 +92,8 @@ abbrev pub next_text : Option (List ℕ) → List ℕ → blocks.NextBlock
 next_text None rest = blocks.Oversize rest
 next_text (Some text) rest = blocks.Whole text rest
 
--- the first block's text is this, None where it is oversize, and so many of the octets that are kept
--- belong to it
+-- the first block's text is this, None where it is oversize, and so many of the octets that are
+-- kept belong to it
 abbrev pub TextAt : ℕ → Option (List ℕ) → Stream → Type 0
 TextAt read text stream =
     next_block stream.limit stream.unread

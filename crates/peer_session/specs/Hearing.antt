@@ -12,7 +12,8 @@ use Rattle.relay_model.specs.Terms.{Terms}
 use Rattle.peer_session.specs.Answers.{IsAnswerTo, handed}
 use Rattle.peer_session.specs.Planning.{Planned}
 use Rattle.peer_session.specs.Said.{IsSaid}
-use Rattle.peer_session.specs.Session.{HasAll, Stands, HasReadNone, gathered_of, has_parted, session_view}
+use Rattle.peer_session.specs.Session.{HasAll, Stands, HasReadNone, gathered_of, has_parted}
+use Rattle.peer_session.specs.Session.{session_view}
 use Rattle.peer_session.specs.declared.phase.Phase.{Phase}
 use Rattle.peer_session.specs.declared.phase.Phase.TheVariants as phases
 use Rattle.peer_session.specs.declared.session.Session.{Session}

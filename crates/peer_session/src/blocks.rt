@@ -13,7 +13,8 @@ ghost use Rattle.stream_cut.specs.Stream.{ShowsBlock};
 ghost use Rattle.peer_session.specs.Asking.{IsJudged, IsOwedAsked, OwesBlock, TakesOwed, TextAt};
 ghost use Rattle.peer_session.specs.Hearing.{HeardIs};
 ghost use Rattle.peer_session.specs.Planning.{Plans, block_passed};
-ghost use Rattle.peer_session.specs.Session.{HasAll, IsBounded, StandsAsBefore, session_view, transfer_view};
+ghost use Rattle.peer_session.specs.Session.{HasAll, IsBounded, StandsAsBefore, session_view};
+ghost use Rattle.peer_session.specs.Session.{transfer_view};
 
 use crate::lines::said;
 use crate::phase::{Due, Phase, Todo, Transfer};
@@ -46,8 +47,8 @@ impl Session {
         }
     }
 
-    /// What is due of a block whose lines take so many octets, and so many of them begin with a dot.
-    /// A text without such lines isn't copied.
+    /// What is due of a block whose lines take so many octets, and so many of them begin with a
+    /// dot. A text without such lines isn't copied.
     fn due_of_block(
         &self,
         config: &Config,

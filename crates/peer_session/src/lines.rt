@@ -74,12 +74,7 @@ impl Session {
     }
 
     /// What a line asks.
-    fn line_asked(
-        &self,
-        config: &Config,
-        now: u64,
-        line: &[u8],
-    ) -> Result<(Todo, Step), AllocError>
+    fn line_asked(&self, config: &Config, now: u64, line: &[u8]) -> Result<(Todo, Step), AllocError>
         requires { now ≤ last_moment }
         ensures { IfOk result (λ one.
             IsAskedBy (terms_of config.now) now self.now (command_of line.now) one) }

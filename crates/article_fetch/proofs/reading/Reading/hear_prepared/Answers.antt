@@ -12,7 +12,8 @@ use Rattle.article_fetch.specs.contracts.reading.Reading.{the_view}
 use Rattle.article_fetch.specs.declared.chunk.Chunk.{Chunk}
 use Rattle.article_fetch.proofs.Hearing.{heard_on, heard_last, heard_nothing}
 use Rattle.article_fetch.proofs.reading.Reading.hear_prepared.Goals as goal
-use Rattle.article_fetch.proofs.reading.Reading.hear_prepared.Goals.{in-Found+else-self-turns, in_default}
+use Rattle.article_fetch.proofs.reading.Reading.hear_prepared.Goals.{in-Found+else-self-turns}
+use Rattle.article_fetch.proofs.reading.Reading.hear_prepared.Goals.{in_default}
 
 pub returns-then-self-turns : goal.returns-then-self-turns
 returns-then-self-turns c =

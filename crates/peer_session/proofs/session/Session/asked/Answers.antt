@@ -5,7 +5,8 @@ use Rattle.nntp_text.specs.Command.{command_view}
 use Rattle.nntp_text.specs.declared.command.Command.TheVariants as lines
 use Rattle.article_verdict.specs.Config.{terms_of}
 use Rattle.peer_session.specs.Asking.{IsAskedBy, IsFetching, IsLeaving, IsLooking, IsSaying}
-use Rattle.peer_session.proofs.PlanLemmas.{fetch_asked, if_ok, left_asked, look_asked_so, said_asked}
+use Rattle.peer_session.proofs.PlanLemmas.{fetch_asked, if_ok, left_asked, look_asked_so}
+use Rattle.peer_session.proofs.PlanLemmas.{said_asked}
 use Rattle.peer_session.proofs.session.Session.asked.Goals as goal
 
 pub returns-in-Fetch : goal.returns-in-Fetch
@@ -46,7 +47,8 @@ returns-in-AskDate c =
     subst (λ command. IsAskedBy (terms_of c.args.config.now) c.args.now c.args.self.now
     (Ok (command_view command)) one) (sym c.in-AskDate.is)
     (said_asked (terms_of c.args.config.now) c.args.now c.args.self.now
-    (Ok commands.AskDate) (replies.DateIs c.stamp.result) one (λ m. (c.stamp.result, c.stamp.ensures, refl)) says)) c.said-in-AskDate.ensures
+    (Ok commands.AskDate) (replies.DateIs c.stamp.result) one
+    (λ m. (c.stamp.result, c.stamp.ensures, refl)) says)) c.said-in-AskDate.ensures
 
 pub returns-in-AskCapabilities : goal.returns-in-AskCapabilities
 returns-in-AskCapabilities c =
@@ -54,7 +56,8 @@ returns-in-AskCapabilities c =
     subst (λ command. IsAskedBy (terms_of c.args.config.now) c.args.now c.args.self.now
     (Ok (command_view command)) one) (sym c.in-AskCapabilities.is)
     (said_asked (terms_of c.args.config.now) c.args.now c.args.self.now
-    (Ok commands.AskCapabilities) replies.CapabilityList one (λ m. refl) says)) c.said-in-AskCapabilities.ensures
+    (Ok commands.AskCapabilities) replies.CapabilityList one (λ m. refl) says))
+    c.said-in-AskCapabilities.ensures
 
 pub returns-in-AskHelp : goal.returns-in-AskHelp
 returns-in-AskHelp c =
@@ -70,7 +73,8 @@ returns-in-ModeStream c =
     subst (λ command. IsAskedBy (terms_of c.args.config.now) c.args.now c.args.self.now
     (Ok (command_view command)) one) (sym c.in-ModeStream.is)
     (said_asked (terms_of c.args.config.now) c.args.now c.args.self.now
-    (Ok commands.ModeStream) replies.StreamingPermitted one (λ m. refl) says)) c.said-in-ModeStream.ensures
+    (Ok commands.ModeStream) replies.StreamingPermitted one (λ m. refl) says))
+    c.said-in-ModeStream.ensures
 
 pub returns-in-ModeReader : goal.returns-in-ModeReader
 returns-in-ModeReader c =
@@ -78,4 +82,5 @@ returns-in-ModeReader c =
     subst (λ command. IsAskedBy (terms_of c.args.config.now) c.args.now c.args.self.now
     (Ok (command_view command)) one) (sym c.in-ModeReader.is)
     (said_asked (terms_of c.args.config.now) c.args.now c.args.self.now
-    (Ok commands.ModeReader) replies.PostingProhibited one (λ m. refl) says)) c.said-in-ModeReader.ensures
+    (Ok commands.ModeReader) replies.PostingProhibited one (λ m. refl) says))
+    c.said-in-ModeReader.ensures

@@ -8,8 +8,8 @@ use Rattle.peer_session.proofs.session.Session.due_of_line.Goals as goal
 pub returns : goal.returns
 returns c =
     let kept : c.kept.result.now ≡ c.args.self.now.cutter.unread =
-        c.kept.ensures
-        ∙ ap (λ dropped. drop dropped c.args.self.now.cutter.unread) c.requires.shown.kept in
+    c.kept.ensures
+    ∙ ap (λ dropped. drop dropped c.args.self.now.cutter.unread) c.requires.shown.kept in
     plans_line (terms_of c.args.config.now) c.args.self.now c.args.now c.args.end
     (c.in_ok-todo.todo, c.in_ok-todo.step) c.requires.ready c.requires.shown
     (subst (λ octets. IsAskedBy (terms_of c.args.config.now) c.args.now c.args.self.now

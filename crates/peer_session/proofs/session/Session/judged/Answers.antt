@@ -14,8 +14,10 @@ returns-in_ok-copied-in-Ok c =
     (subst (λ verdict. Judges (terms_of c.args.config.now) c.args.self.now.peer c.args.id.now
     c.args.now (option_copied c.args.text) (verdict_view verdict)) c.in-Ok.is
     c.in_ok-article.ensures)
-    (ap (λ copy. (todos.Take copy c.in-Ok.article c.in_ok-room.room,
-    steps.Take c.in_ok-copied-in-Ok.field-0)) c.in_ok-copy-in-Ok.ensures
+    (ap (λ copy. (
+      todos.Take copy c.in-Ok.article c.in_ok-room.room,
+      steps.Take c.in_ok-copied-in-Ok.field-0,
+    )) c.in_ok-copy-in-Ok.ensures
     ∙ ap (λ copy. (todos.Take c.args.id.now c.in-Ok.article c.in_ok-room.room, steps.Take copy))
     c.in_ok-copied-in-Ok.ensures)
 

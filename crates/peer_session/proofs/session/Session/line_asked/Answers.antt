@@ -11,8 +11,8 @@ use Rattle.peer_session.proofs.session.Session.line_asked.Goals as goal
 pub returns-in-Err-Unknown : goal.returns-in-Err-Unknown
 returns-in-Err-Unknown c =
     let fault : command_of c.args.line.now ≡ Err commands.Unknown =
-        subst (λ result. CommandGives result (command_of c.args.line.now))
-        (c.in-Err-Unknown.is ∙ ap Err c.in-Err-Unknown.field-0-is) c.parse.ensures in
+    subst (λ result. CommandGives result (command_of c.args.line.now))
+    (c.in-Err-Unknown.is ∙ ap Err c.in-Err-Unknown.field-0-is) c.parse.ensures in
     if_ok _ _ c.said.result (λ one says.
     subst (λ asked. IsAskedBy (terms_of c.args.config.now) c.args.now c.args.self.now asked one)
     (sym fault) (said_asked (terms_of c.args.config.now) c.args.now c.args.self.now
@@ -21,8 +21,8 @@ returns-in-Err-Unknown c =
 pub returns-in-Err-Syntax : goal.returns-in-Err-Syntax
 returns-in-Err-Syntax c =
     let fault : command_of c.args.line.now ≡ Err commands.Syntax =
-        subst (λ result. CommandGives result (command_of c.args.line.now))
-        (c.in-Err-Syntax.is ∙ ap Err c.in-Err-Syntax.field-0-is) c.parse.ensures in
+    subst (λ result. CommandGives result (command_of c.args.line.now))
+    (c.in-Err-Syntax.is ∙ ap Err c.in-Err-Syntax.field-0-is) c.parse.ensures in
     if_ok _ _ c.said-in-Err-Syntax.result (λ one says.
     subst (λ asked. IsAskedBy (terms_of c.args.config.now) c.args.now c.args.self.now asked one)
     (sym fault) (said_asked (terms_of c.args.config.now) c.args.now c.args.self.now

@@ -10,7 +10,8 @@ use Rattle.peer_session.proofs.session.Session.line_due.Goals as goal
 pub returns-in_ok-todo-in-TooLong-clause-due : goal.returns-in_ok-todo-in-TooLong-clause-due
 returns-in_ok-todo-in-TooLong-clause-due c =
     let old = c.args.self.now in
-    let found = subst (λ found. LineFound old.cutter found) c.in-TooLong.is c.find_line.ensures.found
+    let found = subst (λ found. LineFound old.cutter found) c.in-TooLong.is
+    c.find_line.ensures.found
     in
     subst (λ stream. Plans (terms_of c.args.config.now) old c.args.now
     (record { todo = c.in_ok-todo-in-TooLong.todo; read = 0; step = c.in_ok-todo-in-TooLong.step })
@@ -23,7 +24,7 @@ pub returns-in-Incomplete-clause-due : goal.returns-in-Incomplete-clause-due
 returns-in-Incomplete-clause-due c =
     let old = c.args.self.now in
     let found = subst (λ found. LineFound old.cutter found) c.in-Incomplete.is
-        c.find_line.ensures.found in
+    c.find_line.ensures.found in
     subst (λ one. Plans (terms_of c.args.config.now) old c.args.now one
     (with_stream old c.find_line.new.self)) (sym c.rest.ensures)
     (subst (λ stream. Plans (terms_of c.args.config.now) old c.args.now
@@ -35,7 +36,7 @@ pub returns-in-Passing-clause-due : goal.returns-in-Passing-clause-due
 returns-in-Passing-clause-due c =
     let old = c.args.self.now in
     let found = subst (λ found. LineFound old.cutter found) c.in-Passing.is
-        c.find_line.ensures.found in
+    c.find_line.ensures.found in
     subst (λ stream. Plans (terms_of c.args.config.now) old c.args.now c.rest-in-Passing.result
     (with_stream old stream)) (sym c.find_line.ensures.same)
     (never_passing (terms_of c.args.config.now) old c.args.now c.rest-in-Passing.result
