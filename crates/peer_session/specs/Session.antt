@@ -112,12 +112,6 @@ StandsAsBefore old new =
     (w : Terms) (m : model.Session) (gathered : List ℕ) → Stands w old m gathered
     → Stands w new m gathered
 
--- the answer is the test of the phase
-abbrev pub Reports : (model.Phase → Bool) → Session → Bool → Type 0
-Reports test session answer =
-    (w : Terms) (m : model.Session) (gathered : List ℕ) → Stands w session m gathered
-    → answer ≡ test m.phase
-
 -- it has said its last reply
 abbrev pub leaves : Phase → Bool
 leaves phases.Ready = false

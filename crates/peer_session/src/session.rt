@@ -11,8 +11,8 @@ ghost use Rattle.peer_session.specs.Asking.{OwesBlock};
 ghost use Rattle.peer_session.specs.Hearing.{Forgets, HeardIs, Heeds};
 ghost use Rattle.peer_session.specs.Planning.{DueGiven, HandsOver, Plans};
 ghost use Rattle.peer_session.specs.Said.{IsReply};
-ghost use Rattle.peer_session.specs.Session.{BrokenOff, Fed, IsBounded, IsIdle, NewStands, Reports};
-ghost use Rattle.peer_session.specs.Session.{StandsAsBefore, has_parted, passed};
+ghost use Rattle.peer_session.specs.Session.{BrokenOff, Fed, IsBounded, IsIdle, NewStands};
+ghost use Rattle.peer_session.specs.Session.{StandsAsBefore, has_parted, passed, session_view};
 ghost use Rattle.peer_session.specs.declared.steps.Answer.TheVariants as answers;
 
 use crate::fetches::reading_due;
@@ -71,7 +71,7 @@ impl Session {
 
     /// Whether it has turns: it isn't closed.
     pub fn is_running(&self) -> bool
-        ensures { Reports run.is_running self.now result }
+        ensures { result ≡ run.is_running (session_view self.now).phase }
     {
         match &self.phase {
             Phase::Ended => false,
@@ -81,7 +81,7 @@ impl Session {
 
     /// Whether it reads: octets may come, and the connection may break.
     pub fn is_reading(&self) -> bool
-        ensures { Reports run.is_reading self.now result }
+        ensures { result ≡ run.is_reading (session_view self.now).phase }
     {
         match &self.phase {
             Phase::Leaving | Phase::Ended => false,
