@@ -326,7 +326,7 @@ plans_line w session now end one ready shows asked =
       due_is = so.due_is;
       fits = so.fits;
       is_step = so.is_step;
-      asks_of = subst (λ phase. AsksOf (session_view session) (gathered_of phase) so.due.ask)
+      asks_of = subst (λ phase. AsksOf w (session_view session) (gathered_of phase) so.due.ask)
           (sym ready) so.asks_of;
     })
 

@@ -1,6 +1,6 @@
 -- What the step of a session's plan is in the definitions, and what its answer is.
-use Rattle.std.specs.Prelude.{◌≡◌, ◌≢◌, ◌⊎◌, ℕ, ◌*◌, ◌≤◌, Bool, true, false, List, [], take, drop}
-use Rattle.std.specs.Prelude.{length, map, option_map, Option, Some}
+use Rattle.std.specs.Prelude.{◌≡◌, ◌≢◌, ◌⊎◌, ℕ, ◌*◌, ◌≤◌, ◌<◌, Bool, true, false, List, [], take}
+use Rattle.std.specs.Prelude.{drop, length, map, option_map, Option, Some}
 use Rattle.article_fetch.specs.Fetch.{Fetch, FoundAs}
 use Rattle.article_fetch.specs.declared.chunk.Chunk.{Chunk}
 use Rattle.cyc_token.specs.Token.{token_view}
@@ -17,6 +17,7 @@ use Rattle.relay_model.specs.Claims.{Accepted}
 use Rattle.relay_model.specs.Fetches.{Fetched}
 use Rattle.relay_model.specs.Shares as shares
 use Rattle.relay_model.specs.State as model
+use Rattle.relay_model.specs.Terms.{Terms}
 use Rattle.peer_session.specs.Session.{outcome_view}
 use Rattle.peer_session.specs.declared.steps.Answer.{Answer}
 use Rattle.peer_session.specs.declared.steps.Answer.TheVariants as answers
@@ -58,24 +59,24 @@ IsStepOf steps.Slot ask =
     (transfer : model.Transfer) × (id : List ℕ) × (ask ≡ asks.LooksInSlot transfer id)
 IsStepOf (steps.Release id) ask = ask ≡ asks.Releases id
 
--- what is asked is of the session's phase and hand: a fetch that is under way, or one that begins;
--- the job in hand
-abbrev pub AsksOf : model.Session → List ℕ → Ask → Type 0
-AsksOf m gathered (asks.Reads asked token had) =
+-- what is asked is of the session's phase and hand, and of the terms: a fetch that is under way, or
+-- one that begins; the job in hand; a feed that is there
+abbrev pub AsksOf : Terms → model.Session → List ℕ → Ask → Type 0
+AsksOf w m gathered (asks.Reads asked token had) =
     (m.phase ≡ model.Fetches asked token had) ⊎ (gathered ≡ [] × had ≡ 0)
-AsksOf m gathered (asks.Pushes job) = m.hand ≡ Some job
-AsksOf m gathered asks.Rests = Unit {0}
-AsksOf m gathered asks.GoesOn = Unit {0}
-AsksOf m gathered (asks.Says reply) = Unit {0}
-AsksOf m gathered (asks.Leaves reply) = Unit {0}
-AsksOf m gathered asks.Ends = Unit {0}
-AsksOf m gathered (asks.Offers transfer id) = Unit {0}
-AsksOf m gathered (asks.Looks part id) = Unit {0}
-AsksOf m gathered (asks.TakesQueue feed most) = Unit {0}
-AsksOf m gathered (asks.Refuses transfer id) = Unit {0}
-AsksOf m gathered (asks.Takes transfer id article) = Unit {0}
-AsksOf m gathered (asks.LooksInSlot transfer id) = Unit {0}
-AsksOf m gathered (asks.Releases id) = Unit {0}
+AsksOf w m gathered (asks.Pushes job) = m.hand ≡ Some job
+AsksOf w m gathered asks.Rests = Unit {0}
+AsksOf w m gathered asks.GoesOn = Unit {0}
+AsksOf w m gathered (asks.Says reply) = Unit {0}
+AsksOf w m gathered (asks.Leaves reply) = Unit {0}
+AsksOf w m gathered asks.Ends = Unit {0}
+AsksOf w m gathered (asks.Offers transfer id) = Unit {0}
+AsksOf w m gathered (asks.Looks part id) = Unit {0}
+AsksOf w m gathered (asks.TakesQueue feed most) = feed < length w.feeds
+AsksOf w m gathered (asks.Refuses transfer id) = Unit {0}
+AsksOf w m gathered (asks.Takes transfer id article) = Unit {0}
+AsksOf w m gathered (asks.LooksInSlot transfer id) = Unit {0}
+AsksOf w m gathered (asks.Releases id) = Unit {0}
 
 -- what was read of the next block of this fetch is what the definitions find
 abbrev pub ReadAnswer : Fetch → Answer → shares.Answer → Type 0

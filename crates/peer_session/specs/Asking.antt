@@ -46,7 +46,7 @@ pub record AskedFor (w : Terms) (now read : ℕ) (session : Session)
   pub due_is : DueIs one.0 read session due
   pub fits : FitsPhase one.0 session.phase
   pub is_step : IsStepOf one.1 due.ask
-  pub asks_of : AsksOf (session_view session) [] due.ask
+  pub asks_of : AsksOf w (session_view session) [] due.ask
 
 abbrev pub IsAskedBy : Terms → ℕ → Session → Result Command CommandFault → Todo × Step → Type 0
 IsAskedBy w now session asked one =

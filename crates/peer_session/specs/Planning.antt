@@ -133,7 +133,7 @@ pub record DuePlan (w : Terms) (m : model.Session) (gathered : List ℕ) (now : 
   pub is_due : IsDue w m now due
   pub is_step : IsStepOf step due.ask
   pub planned : Planned w new m due gathered false
-  pub asks_of : AsksOf m gathered due.ask
+  pub asks_of : AsksOf w m gathered due.ask
 
 abbrev pub DueGiven : Terms → Session → ℕ → Step → Session → Type 0
 DueGiven w old now step new =
@@ -149,7 +149,7 @@ pub record PlanFor (w : Terms) (m : model.Session) (gathered : List ℕ) (now : 
   pub due_is : DueIs one.todo one.read new due
   pub fits : FitsPhase one.todo new.phase
   pub is_step : IsStepOf one.step due.ask
-  pub asks_of : AsksOf m gathered due.ask
+  pub asks_of : AsksOf w m gathered due.ask
 
 abbrev pub Plans : Terms → Session → ℕ → CodeDue → Session → Type 0
 Plans w old now one new =

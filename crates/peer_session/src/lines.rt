@@ -276,7 +276,8 @@ fn token_asked(alloc: Global, word: &[u8]) -> Result<(Todo, Step), AllocError>
 
 /// The number of a peer's feed, where it has one.
 fn feed_number(config: &Config, peer: usize) -> Option<u16>
-    ensures { result ≡ feed_of (terms_of config.now) peer }
+    ensures number { result ≡ feed_of (terms_of config.now) peer }
+    ensures within { IfSome result (λ feed. feed < length (terms_of config.now).feeds) }
 {
     let place = feed_place(&config.relay.feeds, peer)?;
     Some(place as u16)
