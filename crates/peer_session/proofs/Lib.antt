@@ -1,2 +1,12 @@
-mod HearLemmas
-mod PlanLemmas
+mod HearBlocks
+mod HearCommon
+mod HearFetches
+mod HearLeaving
+mod HearLines
+mod HearWaiting
+mod PlanBlocks
+mod PlanCommon
+mod PlanFetches
+mod PlanLeaving
+mod PlanLines
+mod PlanWaiting

@@ -5,7 +5,7 @@ use Rattle.cyc_token.specs.declared.Token.{Token}
 use Rattle.news_terms.specs.Token as terms
 use Rattle.relay_model.specs.Asks as asks
 use Rattle.peer_session.specs.Asking as asking
-use Rattle.peer_session.proofs.PlanLemmas.{if_ok}
+use Rattle.peer_session.proofs.PlanCommon.{if_ok}
 use Rattle.peer_session.proofs.lines.token_asked.Goals as goal
 
 -- a token of the definitions as the code has it

@@ -1,9 +1,11 @@
 use Rattle.std.proofs.Common.{subst, sym}
 use Rattle.peer_session.specs.Hearing.{Heeds}
-use Rattle.peer_session.proofs.HearLemmas.{checks, ends, leaves_with, looks, looks_in_slot}
-use Rattle.peer_session.proofs.HearLemmas.{offers, owes, pushes, reads_first, reads_on, refuses}
-use Rattle.peer_session.proofs.HearLemmas.{releases, replies, rests, takes, takes_held}
-use Rattle.peer_session.proofs.HearLemmas.{takes_queue, was_planned, with_planned}
+use Rattle.peer_session.proofs.HearBlocks.{refuses, takes}
+use Rattle.peer_session.proofs.HearCommon.{rests, was_planned, with_planned}
+use Rattle.peer_session.proofs.HearFetches.{looks, reads_first, reads_on, takes_queue}
+use Rattle.peer_session.proofs.HearLeaving.{ends, releases}
+use Rattle.peer_session.proofs.HearLines.{checks, leaves_with, offers, owes, replies}
+use Rattle.peer_session.proofs.HearWaiting.{looks_in_slot, pushes, takes_held}
 use Rattle.peer_session.proofs.session.Session.absorb.Goals as goal
 
 pub returns-in-Rest-clause-heard : goal.returns-in-Rest-clause-heard

@@ -5,8 +5,8 @@ use Rattle.nntp_text.specs.Command.{command_view}
 use Rattle.nntp_text.specs.declared.command.Command.TheVariants as lines
 use Rattle.article_verdict.specs.Config.{terms_of}
 use Rattle.peer_session.specs.Asking.{IsAskedBy, IsFetching, IsLeaving, IsLooking, IsSaying}
-use Rattle.peer_session.proofs.PlanLemmas.{fetch_asked, if_ok, left_asked, look_asked_so}
-use Rattle.peer_session.proofs.PlanLemmas.{said_asked}
+use Rattle.peer_session.proofs.PlanCommon.{if_ok}
+use Rattle.peer_session.proofs.PlanLines.{fetch_asked, left_asked, look_asked_so, said_asked}
 use Rattle.peer_session.proofs.session.Session.asked.Goals as goal
 
 pub returns-in-Fetch : goal.returns-in-Fetch

@@ -2,7 +2,8 @@ use Rattle.std.proofs.Common.{sym, subst}
 use Rattle.article_verdict.specs.Config.{terms_of}
 use Rattle.stream_cut.specs.Stream.{BlockFound}
 use Rattle.peer_session.specs.Planning.{Plans}
-use Rattle.peer_session.proofs.PlanLemmas.{rests_owing, with_stream}
+use Rattle.peer_session.proofs.PlanBlocks.{rests_owing}
+use Rattle.peer_session.proofs.PlanCommon.{with_stream}
 use Rattle.peer_session.proofs.session.Session.block_due.Goals as goal
 
 pub returns-in-Unfinished-clause-due : goal.returns-in-Unfinished-clause-due

@@ -2,9 +2,10 @@ use Rattle.std.proofs.Common.{◌≡◌, refl, sym, subst}
 use Rattle.article_verdict.specs.Config.{terms_of}
 use Rattle.peer_session.specs.Planning.{Plans}
 use Rattle.peer_session.specs.declared.phase.Phase.TheVariants as phases
-use Rattle.peer_session.proofs.PlanLemmas.{if_ok, plans_held, plans_leaving, plans_reading}
-use Rattle.peer_session.proofs.PlanLemmas.{plans_waiting}
-use Rattle.peer_session.proofs.PlanLemmas.{rests_ended, same_phase}
+use Rattle.peer_session.proofs.PlanCommon.{if_ok, same_phase}
+use Rattle.peer_session.proofs.PlanFetches.{plans_reading}
+use Rattle.peer_session.proofs.PlanLeaving.{plans_leaving, rests_ended}
+use Rattle.peer_session.proofs.PlanWaiting.{plans_held, plans_waiting}
 use Rattle.peer_session.proofs.session.Session.due.Goals as goal
 
 pub returns-in-Holds-clause-due : goal.returns-in-Holds-clause-due

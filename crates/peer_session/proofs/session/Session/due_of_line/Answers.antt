@@ -2,7 +2,7 @@ use Rattle.std.proofs.Common.{◌≡◌, ◌∙◌, ap, subst, take, drop, List,
 use Rattle.news_terms.specs.Command.{command_of}
 use Rattle.article_verdict.specs.Config.{terms_of}
 use Rattle.peer_session.specs.Asking.{IsAskedBy}
-use Rattle.peer_session.proofs.PlanLemmas.{plans_line}
+use Rattle.peer_session.proofs.PlanLines.{plans_line}
 use Rattle.peer_session.proofs.session.Session.due_of_line.Goals as goal
 
 pub returns : goal.returns

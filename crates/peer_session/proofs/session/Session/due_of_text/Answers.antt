@@ -1,6 +1,6 @@
 use Rattle.std.specs.Option.{option_copied}
 use Rattle.article_verdict.specs.Config.{terms_of}
-use Rattle.peer_session.proofs.PlanLemmas.{plans_owed}
+use Rattle.peer_session.proofs.PlanBlocks.{plans_owed}
 use Rattle.peer_session.proofs.session.Session.due_of_text.Goals as goal
 
 pub returns-in_ok-todo-in-Owes : goal.returns-in_ok-todo-in-Owes

@@ -1,4 +1,4 @@
-use Rattle.peer_session.proofs.HearLemmas.{hands_over}
+use Rattle.peer_session.proofs.HearWaiting.{hands_over}
 use Rattle.peer_session.proofs.session.Session.hand_over.Goals as goal
 
 pub returns : goal.returns

@@ -2,7 +2,7 @@ use Rattle.std.proofs.Common.{subst, sym}
 use Rattle.peer_session.specs.Hearing.{ReadHeardIs}
 use Rattle.peer_session.specs.Session.{session_view}
 use Rattle.peer_session.specs.declared.phase.Phase.TheVariants as phases
-use Rattle.peer_session.proofs.HearLemmas.{block_read, block_said}
+use Rattle.peer_session.proofs.HearFetches.{block_read, block_said}
 use Rattle.peer_session.proofs.session.Session.hear_block.Goals as goal
 
 pub returns-in-Some : goal.returns-in-Some

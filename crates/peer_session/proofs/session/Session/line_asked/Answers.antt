@@ -5,7 +5,8 @@ use Rattle.news_terms.specs.Reply as replies
 use Rattle.nntp_text.specs.Command.{CommandGives}
 use Rattle.article_verdict.specs.Config.{terms_of}
 use Rattle.peer_session.specs.Asking.{IsAskedBy, IsSaying}
-use Rattle.peer_session.proofs.PlanLemmas.{if_ok, said_asked}
+use Rattle.peer_session.proofs.PlanCommon.{if_ok}
+use Rattle.peer_session.proofs.PlanLines.{said_asked}
 use Rattle.peer_session.proofs.session.Session.line_asked.Goals as goal
 
 pub returns-in-Err-Unknown : goal.returns-in-Err-Unknown

@@ -4,7 +4,8 @@ use Rattle.stream_cut.specs.Stream.{LineFound}
 use Rattle.peer_session.specs.Planning.{Plans}
 use Rattle.peer_session.specs.declared.phase.Todo.TheVariants as todos
 use Rattle.peer_session.specs.declared.steps.Step.TheVariants as steps
-use Rattle.peer_session.proofs.PlanLemmas.{never_passing, plans_too_long, rests_ready, with_stream}
+use Rattle.peer_session.proofs.PlanCommon.{with_stream}
+use Rattle.peer_session.proofs.PlanLines.{never_passing, plans_too_long, rests_ready}
 use Rattle.peer_session.proofs.session.Session.line_due.Goals as goal
 
 pub returns-in_ok-todo-in-TooLong-clause-due : goal.returns-in_ok-todo-in-TooLong-clause-due

@@ -1,5 +1,5 @@
 use Rattle.article_verdict.specs.Config.{terms_of}
-use Rattle.peer_session.proofs.PlanLemmas.{plan_given}
+use Rattle.peer_session.proofs.PlanCommon.{plan_given}
 use Rattle.peer_session.proofs.session.Session.plan.Goals as goal
 
 pub returns-clause-due : goal.returns-clause-due
