@@ -1,6 +1,6 @@
 -- What the step of a session's plan is in the definitions, and what its answer is.
-use Rattle.std.specs.Prelude.{◌≡◌, ◌≢◌, ◌⊎◌, ℕ, ◌*◌, ◌≤◌, ◌<◌, Bool, true, false, List, [], take}
-use Rattle.std.specs.Prelude.{drop, length, map, option_map, Option, Some}
+use Rattle.std.specs.Prelude.{◌≡◌, ◌⊎◌, ℕ, ◌≤◌, ◌<◌, Bool, true, false, List, []}
+use Rattle.std.specs.Prelude.{length, map, option_map, Option, Some}
 use Rattle.article_fetch.specs.Fetch.{Fetch, FoundAs}
 use Rattle.article_fetch.specs.declared.chunk.Chunk.{Chunk}
 use Rattle.cyc_token.specs.Token.{token_view}

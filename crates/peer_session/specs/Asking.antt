@@ -1,9 +1,9 @@
 -- What the parts of a plan are. No public contract cites it.
-use Rattle.std.specs.Prelude.{◌≡◌, ℕ, ◌+◌, ◌≤◌, List, [], ◌∷◌, take, drop, length, Bool, true}
+use Rattle.std.specs.Prelude.{◌≡◌, ℕ, ◌+◌, List, [], ◌∷◌, drop, true}
 use Rattle.std.specs.Prelude.{Option, None, Some, Result, Ok, Err}
 use Rattle.std.specs.Global.{Vec}
 use Rattle.article_fetch.specs.Fetch.{Fetch, prepared_fetch}
-use Rattle.buffer_group.specs.Jobs.{article_view, job_view}
+use Rattle.buffer_group.specs.Jobs.{article_view}
 use Rattle.buffer_group.specs.declared.job.Accepted.{Accepted}
 use Rattle.buffer_group.specs.declared.job.Job.{Job}
 use Rattle.cyc_token.specs.Token.{token_view}
@@ -11,13 +11,10 @@ use Rattle.cyc_token.specs.declared.Token.{Token}
 use Rattle.news_terms.specs.Blocks.{next_block, text_lines, unstuffed}
 use Rattle.news_terms.specs.Blocks as blocks
 use Rattle.news_terms.specs.Command.{Command, CommandFault}
-use Rattle.news_terms.specs.Lines.{next_line}
-use Rattle.news_terms.specs.Lines as lines
 use Rattle.news_terms.specs.Reply.{Reply, SyntaxError}
 use Rattle.nntp_text.specs.declared.command.Part.{Part}
 use Rattle.relay_model.specs.Asks.{Due, IsDueOfLine, TokenAsked}
 use Rattle.relay_model.specs.Asks as asks
-use Rattle.relay_model.specs.Claims as claims
 use Rattle.relay_model.specs.Judging.{Judges}
 use Rattle.relay_model.specs.State as model
 use Rattle.relay_model.specs.Terms.{Terms, Reason}
@@ -25,7 +22,7 @@ use Rattle.stream_cut.specs.Stream.{Stream}
 use Rattle.peer_session.specs.Answers.{AsksOf, IsStepOf}
 use Rattle.peer_session.specs.Planning.{DueIs, FitsPhase, block_passed}
 use Rattle.peer_session.specs.Said.{IsReply}
-use Rattle.peer_session.specs.Session.{HasAll, passed, session_view}
+use Rattle.peer_session.specs.Session.{passed, session_view}
 use Rattle.peer_session.specs.declared.phase.Due.{Due as CodeDue}
 use Rattle.peer_session.specs.declared.phase.Phase.{Phase}
 use Rattle.peer_session.specs.declared.phase.Phase.TheVariants as phases

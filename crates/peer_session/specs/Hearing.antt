@@ -1,5 +1,5 @@
 -- What a session makes of an answer, in the terms of the definitions.
-use Rattle.std.specs.Prelude.{◌≡◌, ◌⊎◌, ℕ, ◌*◌, Bool, true, false, List, [], take, Option, Some}
+use Rattle.std.specs.Prelude.{◌≡◌, ◌⊎◌, ℕ, ◌*◌, false, List, [], take}
 use Rattle.article_fetch.specs.Fetch.{Fetch}
 use Rattle.relay_model.specs.Asks as asks
 use Rattle.relay_model.specs.Asks.{Ask, Due}
@@ -14,8 +14,6 @@ use Rattle.peer_session.specs.Planning.{Planned}
 use Rattle.peer_session.specs.Said.{IsSaid}
 use Rattle.peer_session.specs.Session.{HasAll, Stands, HasReadNone, gathered_of, has_parted}
 use Rattle.peer_session.specs.Session.{session_view}
-use Rattle.peer_session.specs.declared.phase.Phase.{Phase}
-use Rattle.peer_session.specs.declared.phase.Phase.TheVariants as phases
 use Rattle.peer_session.specs.declared.session.Session.{Session}
 use Rattle.peer_session.specs.declared.steps.Answer.{Answer}
 

@@ -1,11 +1,9 @@
 -- What a session has planned, in the terms of the definitions.
-use Rattle.std.specs.Prelude.{◌≡◌, ℕ, ◌≤◌, Bool, true, false, List, [], ◌∷◌, length, Option, None}
-use Rattle.std.specs.Prelude.{Some, Result}
+use Rattle.std.specs.Prelude.{◌≡◌, ℕ, Bool, true, false, List, [], ◌∷◌, Option, None, Some}
 use Rattle.article_fetch.specs.Fetch.{Fetch}
 use Rattle.buffer_group.specs.Jobs.{article_view, job_view}
 use Rattle.buffer_group.specs.declared.job.Accepted.{Accepted}
 use Rattle.buffer_group.specs.declared.job.Job.{Job}
-use Rattle.news_terms.specs.Command.{Command, CommandFault}
 use Rattle.news_terms.specs.Reply.{Reply}
 use Rattle.nntp_text.specs.Command.{part_view}
 use Rattle.relay_model.specs.Asks as asks

@@ -1,7 +1,6 @@
 -- The session of the definitions that a session of the code stands for.
 use Rattle.std.specs.Prelude.{◌≡◌, ℕ, ◌+◌, ◌≤◌, ◌++◌, length, Bool, true, false, List, [], drop}
-use Rattle.std.specs.Prelude.{option_map, Option}
-use Rattle.article_fetch.specs.Fetch.{Fetch}
+use Rattle.std.specs.Prelude.{option_map}
 use Rattle.buffer_group.specs.Jobs.{article_view, job_view}
 use Rattle.news_terms.specs.Blocks.{Unfinished, next_block, stuffed_room}
 use Rattle.news_terms.specs.Lines.{Incomplete, next_line}

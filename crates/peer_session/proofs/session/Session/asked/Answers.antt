@@ -1,10 +1,9 @@
-use Rattle.std.proofs.Common.{◌≡◌, refl, sym, subst, Ok}
+use Rattle.std.proofs.Common.{refl, sym, subst, Ok}
 use Rattle.news_terms.specs.Command as commands
 use Rattle.news_terms.specs.Reply as replies
 use Rattle.nntp_text.specs.Command.{command_view}
-use Rattle.nntp_text.specs.declared.command.Command.TheVariants as lines
 use Rattle.article_verdict.specs.Config.{terms_of}
-use Rattle.peer_session.specs.Asking.{IsAskedBy, IsFetching, IsLeaving, IsLooking, IsSaying}
+use Rattle.peer_session.specs.Asking.{IsAskedBy}
 use Rattle.peer_session.proofs.PlanCommon.{if_ok}
 use Rattle.peer_session.proofs.PlanLines.{fetch_asked, left_asked, look_asked_so, said_asked}
 use Rattle.peer_session.proofs.session.Session.asked.Goals as goal

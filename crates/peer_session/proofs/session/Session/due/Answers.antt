@@ -1,4 +1,4 @@
-use Rattle.std.proofs.Common.{◌≡◌, refl, sym, subst}
+use Rattle.std.proofs.Common.{refl, sym, subst}
 use Rattle.article_verdict.specs.Config.{terms_of}
 use Rattle.peer_session.specs.Planning.{Plans}
 use Rattle.peer_session.specs.declared.phase.Phase.TheVariants as phases

@@ -1,4 +1,4 @@
-use Rattle.std.proofs.Common.{◌≡◌, ◌∙◌, ap, subst, take, drop, List, ℕ}
+use Rattle.std.proofs.Common.{◌≡◌, ◌∙◌, ap, subst, take, drop}
 use Rattle.news_terms.specs.Command.{command_of}
 use Rattle.article_verdict.specs.Config.{terms_of}
 use Rattle.peer_session.specs.Asking.{IsAskedBy}

@@ -1,4 +1,4 @@
-use Rattle.std.proofs.Common.{◌≡◌, ◌∙◌, ap, refl, sym, subst, Result, Ok, Err}
+use Rattle.std.proofs.Common.{◌∙◌, ap, subst}
 use Rattle.std.specs.Option.{option_copied}
 use Rattle.relay_model.specs.Judging.{Judges}
 use Rattle.article_verdict.specs.Config.{terms_of}

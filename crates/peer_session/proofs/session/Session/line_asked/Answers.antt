@@ -4,7 +4,7 @@ use Rattle.news_terms.specs.Command as commands
 use Rattle.news_terms.specs.Reply as replies
 use Rattle.nntp_text.specs.Command.{CommandGives}
 use Rattle.article_verdict.specs.Config.{terms_of}
-use Rattle.peer_session.specs.Asking.{IsAskedBy, IsSaying}
+use Rattle.peer_session.specs.Asking.{IsAskedBy}
 use Rattle.peer_session.proofs.PlanCommon.{if_ok}
 use Rattle.peer_session.proofs.PlanLines.{said_asked}
 use Rattle.peer_session.proofs.session.Session.line_asked.Goals as goal

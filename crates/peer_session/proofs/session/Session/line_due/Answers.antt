@@ -1,4 +1,4 @@
-use Rattle.std.proofs.Common.{◌≡◌, sym, subst}
+use Rattle.std.proofs.Common.{sym, subst}
 use Rattle.article_verdict.specs.Config.{terms_of}
 use Rattle.stream_cut.specs.Stream.{LineFound}
 use Rattle.peer_session.specs.Planning.{Plans}
