@@ -9,15 +9,16 @@ ghost use Rattle.news_terms.specs.Command as commands;
 ghost use Rattle.news_terms.specs.Lines.{Incomplete, next_line};
 ghost use Rattle.nntp_text.specs.Command.{command_view};
 ghost use Rattle.nntp_text.specs.Reply.{reply_room, reply_view, room_of};
-ghost use Rattle.relay_model.specs.Asks.{feed_of, is_full};
-ghost use Rattle.relay_model.specs.Hears.{offer_heard};
+ghost use Rattle.relay_model.specs.Asks.{feed_of, is_full, without_offer};
+ghost use Rattle.relay_model.specs.Hears.{offer_heard, says};
 ghost use Rattle.relay_model.specs.State as model;
+ghost use Rattle.relay_model.specs.State.{with_offers};
 ghost use Rattle.relay_model.specs.Terms.{FeedTerms, Terms, last_moment};
 ghost use Rattle.stream_cut.specs.Stream.{ShowsLine};
 ghost use Rattle.peer_session.specs.Asking.{IsAskedBy, IsFetching, IsLeaving, IsLooking, IsSaying};
 ghost use Rattle.peer_session.specs.Hearing.{HeardIs};
 ghost use Rattle.peer_session.specs.Planning.{Plans};
-ghost use Rattle.peer_session.specs.Session.{StandsAsBefore, passed};
+ghost use Rattle.peer_session.specs.Session.{StandsAsBefore, passed, session_view};
 
 use crate::phase::{Due, Phase, Todo, Transfer};
 use crate::room::Room;
@@ -180,14 +181,8 @@ impl Session {
                         self.offers.open(id);
                         octets
                     }
-                    Offer::Later => {
-                        self.offers.close(&id);
-                        room.say(&Reply::AskLater(&id))
-                    }
-                    Offer::Seen => {
-                        self.offers.close(&id);
-                        room.say(&Reply::NotWanted(&id))
-                    }
+                    Offer::Later => self.decline(&id, room, &Reply::AskLater(&id)),
+                    Offer::Seen => self.decline(&id, room, &Reply::NotWanted(&id)),
                 }
             }
             _ => Vec::new(self.alloc),
@@ -218,18 +213,23 @@ impl Session {
                         self.phase = Phase::Owes(Transfer::Has, Some(copy));
                         room.say(&Reply::IhaveSend)
                     }
-                    Offer::Later => {
-                        self.offers.close(&id);
-                        room.say(&Reply::IhaveLater)
-                    }
-                    Offer::Seen => {
-                        self.offers.close(&id);
-                        room.say(&Reply::IhaveNotWanted)
-                    }
+                    Offer::Later => self.decline(&id, room, &Reply::IhaveLater),
+                    Offer::Seen => self.decline(&id, room, &Reply::IhaveNotWanted),
                 }
             }
             _ => Vec::new(self.alloc),
         }
+    }
+
+    /// The id isn't sent now: it is no open offer, and this is said.
+    fn decline(&mut self, id: &MsgId, room: Room, reply: &Reply) -> Vec<u8>
+        requires { room_of reply.now ≡ reply_room }
+        ensures { self.old.phase ≡ Phase.Ready → self.old.cutter.dropped ≡ 0
+            → HeardIs result.items self.old (says (with_offers (session_view self.old)
+            (without_offer self.old.offers id.now)) (reply_view reply.now)) self.new }
+    {
+        self.offers.close(id);
+        room.say(reply)
     }
 }
 
