@@ -1,5 +1,5 @@
-//! Benchmarks: how fast the crates of texts, settings, store and sessions are. They promise nothing and are
-//! no tests; with no words the program does nothing.
+//! Benchmarks: how fast the crates of texts, settings, store and sessions are. They promise nothing
+//! and are no tests; with no words the program does nothing.
 #![tactic(auto)]
 
 mod buffers;
