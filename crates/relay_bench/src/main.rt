@@ -1,10 +1,13 @@
-//! Benchmarks: how fast the crates of texts, settings and store are. They promise nothing and are
-//! no tests; with no words the program does nothing.
+//! Benchmarks: how fast the crates of texts, settings, store and sessions are. They promise nothing
+//! and are no tests; with no words the program does nothing.
 #![tactic(auto)]
 
 mod buffers;
 mod cases;
 mod desks;
+mod player;
+mod scripts;
+mod sessions;
 mod shelves;
 mod work;
 
@@ -42,13 +45,16 @@ fn measure(rt: &HostRuntime, word: &str) -> io::Result<ExitCode> {
     match table(word) {
         Some(cases) => print_table(rt, cases),
         None if word == "desks" => print_calls(rt),
+        None if word == "sessions" => sessions::print_talks(rt),
         None => print_words(rt),
     }
 }
 
 /// Says which benchmarks there are.
 fn print_words(rt: &HostRuntime) -> io::Result<ExitCode> {
-    eprintln!(rt; "relay_bench: articles, buffers, cutting, desks, paths, patterns or settings")?;
+    eprintln!(rt;
+        "relay_bench: articles, buffers, cutting, desks, paths, patterns, sessions or settings"
+    )?;
     Ok(ExitCode::FAILURE)
 }
 
