@@ -16,6 +16,14 @@ pub struct Begun {
     pub(crate) open: Open,
 }
 
+impl Begun {
+    /// Lets the handle go. The article stays begun: its buffer begins no other.
+    pub fn let_go(self) {
+        let Begun { open } = self;
+        open.into_token();
+    }
+}
+
 /// All buffers, by their numbers, and the groups that they are in.
 #[derive(Debug, Drop)]
 pub struct Shelf<S: BlockStore> {
