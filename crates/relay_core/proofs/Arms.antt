@@ -1,0 +1,323 @@
+-- The arms of `share` that are one call of the shards, the feeds or the slot.
+use Rattle.std.proofs.Common.{◌≡◌, ◌<◌, ℕ, true, List, Option, None, Some}
+use Rattle.std.proofs.Common.{refl, sym, ap, subst}
+use Rattle.std.specs.Prelude.{IfSome, length, map, option_map, slice_get, slice_index}
+use Rattle.article_verdict.specs.Config.{terms_of}
+use Rattle.cyc_block.specs.declared.store.BlockStore.{Ghosts}
+use Rattle.cyc_token.specs.Token.{token_view}
+use Rattle.cyc_token.specs.declared.Token.{Token}
+use Rattle.feed_queue.specs.Feeds.{KeepsFeeds}
+use Rattle.feed_queue.specs.Taking.{IsTaken, item_view}
+use Rattle.feed_queue.specs.declared.desk.FeedDesk.{FeedDesk}
+use Rattle.feed_queue.specs.declared.desk.Taken.{Taken}
+use Rattle.id_history.specs.Answers.{offer_view, take_view}
+use Rattle.id_history.specs.Changes.{ChangesClaim, KeepsClaims, OfClaim}
+use Rattle.id_history.specs.Shards.{KeepsAll}
+use Rattle.id_history.specs.declared.claims.Offer.{Offer}
+use Rattle.id_history.specs.declared.claims.Take.{Take}
+use Rattle.id_history.specs.declared.shards.Shards.{Shards}
+use Rattle.peer_session.specs.Answers.{IsAnswerTo, IsStepOf, SharesNone}
+use Rattle.peer_session.specs.Session.{outcome_view}
+use Rattle.peer_session.specs.declared.steps.Answer.TheVariants as answers
+use Rattle.peer_session.specs.declared.steps.Outcome.{Outcome}
+use Rattle.peer_session.specs.declared.steps.Step.{Step}
+use Rattle.peer_session.specs.declared.steps.Step.TheVariants as steps
+use Rattle.relay_facts.proofs.Puts.{put_at_here, put_at_there}
+use Rattle.relay_model.specs.Asks as asks
+use Rattle.relay_model.specs.Asks.{Ask}
+use Rattle.relay_model.specs.Claims as claims
+use Rattle.relay_model.specs.Claims.{Accepted, Claim}
+use Rattle.relay_model.specs.Shares as shares
+use Rattle.relay_model.specs.Shares.{Shares, after_take_of, ring_of}
+use Rattle.relay_model.specs.State.{Feed, put_at, put_id}
+use Rattle.relay_model.specs.Terms.{Terms}
+use Rattle.relay_model.specs.World as world
+use Rattle.relay_model.specs.World.{World, with_claim}
+use Rattle.relay_peers.specs.Peers.{peer_at}
+use Rattle.relay_peers.specs.declared.peers.Peer.{Peer}
+use Rattle.relay_core.proofs.Feeds.{ring_at, few_items}
+use Rattle.relay_core.specs.Agreement.{AgreesBut, PeerIs, ring_sizes}
+use Rattle.relay_core.specs.Sharing.{AskFits, Gives, LeavesAll, SharesStep}
+use Rattle.relay_core.specs.declared.system.System.{System}
+
+-- nothing that is shared
+
+none_gives : (w : Terms) (x : World) (n now : ℕ) (gathered : List ℕ) (ask : Ask) → SharesNone ask
+    → Shares w x n now ask shares.Nothing x
+    × IsAnswerTo ask gathered answers.Nothing shares.Nothing
+none_gives w x n now gathered asks.Rests none = ((refl, refl), refl)
+none_gives w x n now gathered asks.GoesOn none = ((refl, refl), refl)
+none_gives w x n now gathered (asks.Says reply) none = ((refl, refl), refl)
+none_gives w x n now gathered (asks.Leaves reply) none = ((refl, refl), refl)
+none_gives w x n now gathered asks.Ends none = ((refl, refl), refl)
+none_gives w x n now gathered (asks.Offers transfer id) none = absurd none
+none_gives w x n now gathered (asks.Looks part id) none = absurd none
+none_gives w x n now gathered (asks.Reads asked token had) none = absurd none
+none_gives w x n now gathered (asks.TakesQueue feed most) none = absurd none
+none_gives w x n now gathered (asks.Refuses transfer id) none = absurd none
+none_gives w x n now gathered (asks.Takes transfer id article) none = absurd none
+none_gives w x n now gathered (asks.Pushes job) none = absurd none
+none_gives w x n now gathered (asks.LooksInSlot transfer id) none = absurd none
+none_gives w x n now gathered (asks.Releases id) none = absurd none
+
+-- the items are those that a take of the desk gives
+abbrev pub GivesItems : FeedDesk → (f most : ℕ) → Taken → Type 0
+GivesItems desk f most taken =
+    (sizes : List ℕ) (feeds : ℕ → Feed) → KeepsFeeds desk sizes feeds
+    → IsTaken taken (slice_index sizes f) most (feeds f)
+
+-- the desk after a take of a feed's ring
+abbrev pub TakesItems : FeedDesk → (f most : ℕ) → FeedDesk → Type 0
+TakesItems desk f most new =
+    (sizes : List ℕ) (feeds : ℕ → Feed) → KeepsFeeds desk sizes feeds
+    → KeepsFeeds new sizes (put_at feeds f (after_take_of (slice_index sizes f) most (feeds f)))
+
+module _ {S : Type 0} {g : Ghosts S} (n now : ℕ) (old : System S g) (peer : Peer) where
+  abbrev w : Terms
+  w = terms_of old.config
+
+  -- nothing is shared
+  pub none_shared : (step : Step) → step ≡ steps.Nothing
+      → SharesStep n now step old peer answers.Nothing old peer
+  none_shared step e = λ x m d gathered but slot fits planned asked some.
+      let none = subst (λ (one : Step). IsStepOf one d.ask) e asked in
+      let given = none_gives w x n now gathered d.ask none in (
+        record {
+          told = shares.Nothing;
+          between = x;
+          shares = given.0;
+          answers = given.1;
+          agrees = but;
+          slot_is = slot;
+        },
+        planned,
+      )
+
+  -- the claim of one id is changed
+  claim_but : (x : World) (new : Shards) (id : List ℕ) (claim : Claim) → AgreesBut true w n old x
+      → KeepsAll new (put_id x.state.claim id claim)
+      → AgreesBut true w n (record old { shards = new }) (with_claim x id claim)
+  claim_but x new id claim but keeps =
+      record {
+        core = record {
+          newest = but.core.newest;
+          claims = keeps;
+          count = but.core.count;
+          lanes = but.core.lanes;
+          desk = but.core.desk;
+          shelf = but.core.shelf;
+        };
+        peers = but.peers;
+      }
+
+  -- an id is offered
+  pub offer_shared : (id : List ℕ) (answer : Offer) (new : Shards)
+      → OfClaim (KeepsAll old.shards) id
+      (λ claim. offer_view answer ≡ claims.offer_answer n claim)
+      → ChangesClaim (KeepsAll old.shards) (KeepsAll new) id (claims.after_offer n)
+      → (step : Step) → step ≡ steps.Offer id
+      → SharesStep n now step old peer (answers.Offer answer) (record old { shards = new }) peer
+  offer_shared id answer new is changes step e =
+      λ x m d gathered but slot fits planned asked some.
+      let one = subst (λ (s : Step). IsStepOf s d.ask) e asked in
+      let P : Ask → Type 0 = λ ask. Gives w n now ask gathered x (answers.Offer answer)
+      (record old { shards = new }) peer.slot in (
+        subst P (sym one.1) (record {
+          told = shares.ToOffer (offer_view answer);
+          between = with_claim x id (claims.after_offer n (x.state.claim id));
+          shares = (ap shares.ToOffer (is x.state.claim but.core.claims), refl);
+          answers = (answer, refl, refl);
+          agrees = claim_but x new id _ but (changes x.state.claim but.core.claims);
+          slot_is = slot;
+        }),
+        planned,
+      )
+
+  -- an id's token is looked up
+  pub look_shared : (id : List ℕ) (answer : Option Token)
+      → OfClaim (KeepsAll old.shards) id
+      (λ claim. option_map token_view answer ≡ claims.look_answer claim)
+      → (step : Step) → step ≡ steps.Look id
+      → SharesStep n now step old peer (answers.Look answer) old peer
+  look_shared id answer is step e = λ x m d gathered but slot fits planned asked some.
+      let one = subst (λ (s : Step). IsStepOf s d.ask) e asked in
+      let P : Ask → Type 0 = λ ask. Gives w n now ask gathered x (answers.Look answer) old
+      peer.slot in (
+        subst P (sym one.1) (record {
+          told = shares.ToLook (option_map token_view answer);
+          between = x;
+          shares = (ap shares.ToLook (is x.state.claim but.core.claims), refl);
+          answers = (answer, refl, refl);
+          agrees = but;
+          slot_is = slot;
+        }),
+        planned,
+      )
+
+  -- an id's article was refused
+  pub refuse_shared : (id : List ℕ) (new : Shards)
+      → ChangesClaim (KeepsAll old.shards) (KeepsAll new) id (claims.after_refuse n now)
+      → (step : Step) → step ≡ steps.Refuse id
+      → SharesStep n now step old peer answers.Nothing (record old { shards = new }) peer
+  refuse_shared id new changes step e = λ x m d gathered but slot fits planned asked some.
+      let one = subst (λ (s : Step). IsStepOf s d.ask) e asked in
+      let P : Ask → Type 0 = λ ask. Gives w n now ask gathered x answers.Nothing
+      (record old { shards = new }) peer.slot in (
+        subst P (sym one.1) (record {
+          told = shares.Nothing;
+          between = with_claim x id (claims.after_refuse n now (x.state.claim id));
+          shares = (refl, refl);
+          answers = refl;
+          agrees = claim_but x new id _ but (changes x.state.claim but.core.claims);
+          slot_is = slot;
+        }),
+        planned,
+      )
+
+  -- an open offer ends
+  pub release_shared : (id : List ℕ) (new : Shards)
+      → ChangesClaim (KeepsAll old.shards) (KeepsAll new) id (claims.after_release n)
+      → (step : Step) → step ≡ steps.Release id
+      → SharesStep n now step old peer answers.Nothing (record old { shards = new }) peer
+  release_shared id new changes step e = λ x m d gathered but slot fits planned asked some.
+      let one = subst (λ (s : Step). IsStepOf s d.ask) e asked in
+      let P : Ask → Type 0 = λ ask. Gives w n now ask gathered x answers.Nothing
+      (record old { shards = new }) peer.slot in (
+        subst P (sym one) (record {
+          told = shares.Nothing;
+          between = with_claim x id (claims.after_release n (x.state.claim id));
+          shares = (refl, refl);
+          answers = refl;
+          agrees = claim_but x new id _ but (changes x.state.claim but.core.claims);
+          slot_is = slot;
+        }),
+        planned,
+      )
+
+  -- an id's article was accepted
+  pub take_shared : (id : List ℕ) (answer : Take) (new : Shards)
+      → OfClaim (KeepsAll old.shards) id (λ claim. take_view answer ≡ claims.take_answer n claim)
+      → ((article : Accepted)
+      → ChangesClaim (KeepsAll old.shards) (KeepsAll new) id (claims.after_take n article))
+      → (step : Step) → step ≡ steps.Take id
+      → SharesStep n now step old peer (answers.Take answer) (record old { shards = new }) peer
+  take_shared id answer new is changes step e =
+      λ x m d gathered but slot fits planned asked some.
+      let one = subst (λ (s : Step). IsStepOf s d.ask) e asked in
+      let P : Ask → Type 0 = λ ask. Gives w n now ask gathered x (answers.Take answer)
+      (record old { shards = new }) peer.slot in (
+        subst P (sym one.2) (record {
+          told = shares.ToTake (take_view answer);
+          between = with_claim x id (claims.after_take n one.1 (x.state.claim id));
+          shares = (ap shares.ToTake (is x.state.claim but.core.claims), refl);
+          answers = (answer, refl, refl);
+          agrees = claim_but x new id _ but (changes one.1 x.state.claim but.core.claims);
+          slot_is = slot;
+        }),
+        planned,
+      )
+
+  -- tokens are taken of a feed's ring
+  pub queue_shared : (f most : ℕ) (answer : Option Taken) (taken : Taken) (new : FeedDesk)
+      → answer ≡ Some taken → IfSome answer (GivesItems old.desk f most)
+      → IfSome answer (λ _. TakesItems old.desk f most new) → (step : Step)
+      → step ≡ steps.TakeQueue f most
+      → SharesStep n now step old peer (answers.Queue taken) (record old { desk = new }) peer
+  queue_shared f most answer taken new answered given kept_all step e =
+      λ x m d gathered but slot fits planned asked some.
+      let gives = subst (λ (o : Option Taken). IfSome o (GivesItems old.desk f most)) answered
+      given in
+      let keeps = subst (λ (o : Option Taken). IfSome o (λ _. TakesItems old.desk f most new))
+      answered kept_all in
+      let one = subst (λ (s : Step). IsStepOf s d.ask) e asked in
+      let there : f < length w.feeds = subst (λ (ask : Ask). AskFits w x ask gathered) one fits in
+      let ring : slice_index (ring_sizes w) f ≡ ring_of (slice_get w.feeds f) =
+      ring_at w.feeds f there in
+      let is = subst (λ (r : ℕ). IsTaken taken r most (x.state.feed f)) ring
+      (gives (ring_sizes w) x.state.feed but.core.desk) in
+      let kept = subst (λ (r : ℕ). KeepsFeeds new (ring_sizes w)
+      (put_at x.state.feed f (after_take_of r most (x.state.feed f)))) ring
+      (keeps (ring_sizes w) x.state.feed but.core.desk) in
+      let P : Ask → Type 0 = λ ask. Gives w n now ask gathered x (answers.Queue taken)
+      (record old { desk = new }) peer.slot in (
+        subst P (sym one) (record {
+          told = shares.ToTakeQueue taken.missed (map item_view taken.items.items);
+          between = shares.queue_taken x (ring_of (slice_get w.feeds f)) f most;
+          shares = (λ i. shares.ToTakeQueue (is.missed i) (is.items i), refl);
+          answers = (taken, refl, few_items taken _ most (x.state.feed f) is, refl);
+          agrees = record {
+            core = record {
+              newest = but.core.newest;
+              claims = but.core.claims;
+              count = but.core.count;
+              lanes = but.core.lanes;
+              desk = kept;
+              shelf = but.core.shelf;
+            };
+            peers = but.peers;
+          };
+          slot_is = slot;
+        }),
+        planned,
+      )
+
+  slot_taken : (step : Step) → step ≡ steps.Slot
+      → SharesStep n now step old peer (answers.Slot peer.slot) old (record peer { slot = None })
+  slot_taken step e = λ x m d gathered but slot fits planned asked some.
+      let one = subst (λ (s : Step). IsStepOf s d.ask) e asked in
+      let P : Ask → Type 0 = λ ask. Gives w n now ask gathered x (answers.Slot peer.slot) old
+      None in (
+        subst P (sym one.2) (record {
+          told = shares.InSlot (option_map outcome_view peer.slot);
+          between = shares.untold x n;
+          shares = (ap shares.InSlot (sym slot), refl);
+          answers = (peer.slot, refl, refl);
+          agrees = record {
+            core = record {
+              newest = but.core.newest;
+              claims = but.core.claims;
+              count = but.core.count;
+              lanes = but.core.lanes;
+              desk = but.core.desk;
+              shelf = but.core.shelf;
+            };
+            peers = λ s differ.
+                let Q : Option world.Outcome → Type 0 = λ told. PeerIs true w x.state.kept
+                (peer_at old.peers s) (x.state.session s) told in
+                subst Q (sym (put_at_there x.work.slot n None s differ)) (but.peers s differ);
+          };
+          slot_is = put_at_here x.work.slot n None n refl;
+        }),
+        planned,
+      )
+
+  -- the outcome is taken out of the slot
+  pub slot_shared : (taken left : Option Outcome) → taken ≡ peer.slot → left ≡ None
+      → (step : Step) → step ≡ steps.Slot
+      → SharesStep n now step old peer (answers.Slot taken) old (record peer { slot = left })
+  slot_shared taken left t l step e =
+      let P : Option Outcome → Type 0 = λ o. SharesStep n now step old peer (answers.Slot o) old
+      (record peer { slot = left }) in
+      let Q : Option Outcome → Type 0 = λ o. SharesStep n now step old peer
+      (answers.Slot peer.slot) old (record peer { slot = o }) in
+      subst P (sym t) (subst Q (sym l) (slot_taken step e))
+
+  -- memory was refused by the shards
+  pub claims_left : (new : Shards) → KeepsClaims (KeepsAll old.shards) (KeepsAll new)
+      → LeavesAll n old peer (record old { shards = new }) peer
+  claims_left new keeps =
+      record {
+        agrees = λ trusted v x but.
+            record {
+              core = record {
+                newest = but.core.newest;
+                claims = keeps x.state.claim but.core.claims;
+                count = but.core.count;
+                lanes = but.core.lanes;
+                desk = but.core.desk;
+                shelf = but.core.shelf;
+              };
+              peers = but.peers;
+            };
+        same_peer = refl;
+      }

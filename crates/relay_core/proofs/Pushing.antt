@@ -1,0 +1,153 @@
+-- The push of a job.
+use Rattle.std.proofs.Common.{◌≡◌, ◌<◌, ◌≤◌, ◌++◌, ◌∷◌, ℕ, Bool, true, false, List, []}
+use Rattle.std.proofs.Common.{Option, None, Some, refl, sym, ap, subst, ◌∙◌, arith}
+use Rattle.std.proofs.Math.ListN.{length-set}
+use Rattle.std.proofs.lemmas.Bool.Decides.{nat_tests}
+use Rattle.std.proofs.lemmas.List.{length-map, map-append}
+use Rattle.std.specs.Prelude.{nat_le, nat_lt, length, map, get_or}
+use Rattle.std.specs.Vec.{with_item}
+use Rattle.article_verdict.specs.Config.{terms_of}
+use Rattle.buffer_group.specs.Jobs.{job_view}
+use Rattle.buffer_group.specs.declared.job.Job.{Job}
+use Rattle.cyc_block.specs.declared.store.BlockStore.{Ghosts}
+use Rattle.peer_session.specs.Planning.{HandsOver}
+use Rattle.peer_session.specs.declared.session.Session.{Session}
+use Rattle.peer_session.specs.declared.steps.Answer.TheVariants as answers
+use Rattle.peer_session.specs.declared.steps.Step.TheVariants as steps
+use Rattle.relay_facts.proofs.Puts.{put_at_here, put_at_there}
+use Rattle.relay_model.specs.Asks.{Ask}
+use Rattle.relay_model.specs.Shares as shares
+use Rattle.relay_model.specs.Shares.{Pushing}
+use Rattle.relay_model.specs.State as model
+use Rattle.relay_model.specs.Terms.{Terms}
+use Rattle.relay_peers.specs.declared.peers.Peer.{Peer}
+use Rattle.relay_core.proofs.Lanes.{lane_at, lanes_put}
+use Rattle.relay_core.specs.Agreement.{LaneIs}
+use Rattle.relay_core.specs.Queues.{jobs_of}
+use Rattle.relay_core.specs.Sharing.{AskFits, Gives, SharesStep}
+use Rattle.relay_core.specs.declared.queue.Queue.{Queue}
+use Rattle.relay_core.specs.declared.system.Lane.{Lane}
+use Rattle.relay_core.specs.declared.system.System.{System}
+
+-- a lane's queue has as many jobs as that of the definitions
+queue_length : (lane : Lane) (q : List model.Job) → q ≡ map job_view (jobs_of lane.queue)
+    → length q ≡ length (jobs_of lane.queue)
+queue_length lane q e = ap length e ∙ length-map (jobs_of lane.queue) job_view
+
+same_job : (a b : Job) → Some a ≡ Some b → a ≡ b
+same_job a b e = cc
+
+module _ {S : Type 0} {g : Ghosts S} (group : ℕ) (old : System S g) (peer : Peer) (n now : ℕ)
+  where
+    abbrev w : Terms
+    w = terms_of old.config
+
+    -- there is no room
+    pub full_push : (lane : Lane) → group < length old.lanes.items
+        → lane ≡ get_or old.lanes.items group lane → nat_le 64 (length (jobs_of lane.queue)) ≡ true
+        → SharesStep n now (steps.Push group) old peer (answers.Pushed false) old peer
+    full_push lane inside at full = λ x m d gathered but slot fits planned asked some.
+        let job = asked.0 in
+        let here : LaneIs (Some lane) (x.work.queue group) (x.work.writer group) =
+        lane_at old.lanes.items group lane _ _ inside at (but.core.lanes group) in
+        let size : length (x.work.queue job.article.group) ≡ length (jobs_of lane.queue) =
+        ap (λ h. length (x.work.queue h)) asked.2
+        ∙ queue_length lane (x.work.queue group) here.0 in
+        let none : nat_lt (length (x.work.queue job.article.group)) 64 ≡ false =
+        grind (arith, nat_tests) in
+        let P : Ask → Type 0 = λ ask. Gives w n now ask gathered x (answers.Pushed false) old
+        peer.slot in (
+          subst P (sym asked.1) (record {
+            told = shares.ToPush false;
+            between = x;
+            shares = subst (λ (b : Bool). Pushing x job b (shares.ToPush false) x) (sym none)
+                (refl, refl);
+            answers = (false, refl, refl);
+            agrees = but;
+            slot_is = slot;
+          }),
+          planned,
+        )
+
+    -- the session had a job
+    pub no_job : (session : Session) (result : Option Job) → result ≡ None
+        → HandsOver peer.session result session
+        → SharesStep n now (steps.Push group) old peer (answers.Pushed false) old
+        (record peer { session = session })
+    no_job session result none hands = λ x m d gathered but slot fits planned asked some.
+        let over = hands w m d gathered asked.0 planned asked.1 in
+        absurd (let bad : Some over.one ≡ None = sym over.result_is ∙ none in cc)
+
+    -- the job joins its lane
+    pub job_pushed : (lane : Lane) (session : Session) (result : Option Job) (job : Job)
+        (queue : Queue) → group < length old.lanes.items
+        → lane ≡ get_or old.lanes.items group lane
+        → nat_le 64 (length (jobs_of lane.queue)) ≡ false → HandsOver peer.session result session
+        → result ≡ Some job → jobs_of queue ≡ jobs_of lane.queue ++ job ∷ []
+        → SharesStep n now (steps.Push group) old peer (answers.Pushed true)
+        (record old {
+          lanes = with_item old.lanes group (record { queue = queue; writer = lane.writer });
+        })
+        (record peer { session = session })
+    job_pushed lane session result job queue inside at room hands is joins =
+        λ x m d gathered but slot fits planned asked some.
+        let one = asked.0 in
+        let over = hands w m d gathered one planned asked.1 in
+        let same : job_view job ≡ one =
+        ap job_view (same_job job over.one (sym is ∙ over.result_is)) ∙ over.job_is in
+        let here : LaneIs (Some lane) (x.work.queue group) (x.work.writer group) =
+        lane_at old.lanes.items group lane _ _ inside at (but.core.lanes group) in
+        let size : length (x.work.queue one.article.group) ≡ length (jobs_of lane.queue) =
+        ap (λ h. length (x.work.queue h)) asked.2
+        ∙ queue_length lane (x.work.queue group) here.0 in
+        let has_room : nat_lt (length (x.work.queue one.article.group)) 64 ≡ true =
+        grind (arith, nat_tests) in
+        let new : System S g = record old {
+          lanes = with_item old.lanes group (record { queue = queue; writer = lane.writer });
+        } in
+        let P : Ask → Type 0 = λ ask. Gives w n now ask gathered x (answers.Pushed true) new
+        peer.slot in
+        let y = shares.pushed x one in
+        let G : ℕ → Type 0 = λ h. y.work.queue h ≡ map job_view (jobs_of queue) in
+        let joined : y.work.queue group ≡ map job_view (jobs_of queue) =
+        subst G asked.2 (put_at_here x.work.queue one.article.group _ one.article.group refl
+        ∙ ap (λ h. x.work.queue h ++ one ∷ []) asked.2
+        ∙ ap (λ q. q ++ one ∷ []) here.0
+        ∙ ap (λ j. map job_view (jobs_of lane.queue) ++ j ∷ []) (sym same)
+        ∙ sym (map-append job_view (jobs_of lane.queue) (job ∷ []))
+        ∙ ap (λ js. map job_view js) (sym joins)) in (
+          subst P (sym asked.1) (record {
+            told = shares.ToPush true;
+            between = y;
+            shares = subst (λ (b : Bool). Pushing x one b (shares.ToPush true) y) (sym has_room)
+                (refl, refl);
+            answers = (true, refl, refl);
+            agrees = record {
+              core = record {
+                newest = but.core.newest;
+                claims = but.core.claims;
+                count = length-set old.lanes.items group _ ∙ but.core.count;
+                lanes = lanes_put old.lanes.items group _ x.work.queue y.work.queue x.work.writer
+                    x.work.writer inside (joined, here.1)
+                    (λ h differ. put_at_there x.work.queue one.article.group _ h
+                    (λ e. differ (e ∙ asked.2)))
+                    (λ h differ. refl) but.core.lanes;
+                desk = but.core.desk;
+                shelf = but.core.shelf;
+              };
+              peers = but.peers;
+            };
+            slot_is = slot;
+          }),
+          over.planned,
+        )
+
+    -- a group that has no lane: no job goes there
+    pub past_push : length old.lanes.items ≤ group
+        → SharesStep n now (steps.Push group) old peer (answers.Pushed false) old peer
+    past_push past = λ x m d gathered but slot fits planned asked some.
+        let inside : asked.0.article.group < length w.groups =
+        subst (λ (ask : Ask). AskFits w x ask gathered) asked.1 fits in
+        let count : length old.lanes.items ≡ length w.groups = but.core.count in
+        let same : asked.0.article.group ≡ group = asked.2 in
+        absurd (omega arith)

@@ -1,0 +1,253 @@
+-- A Turn with its peer taken out: plan, share and hear are one Turn of the definitions.
+use Rattle.std.proofs.Common.{◌≡◌, ◌≢◌, ◌<◌, ◌+◌, ℕ, Bool, true, false, List}
+use Rattle.std.proofs.Common.{Some, refl, sym, ap, subst, ◌∙◌, ⊎_elim, arith}
+use Rattle.std.proofs.lemmas.Bool.Decides.{nat_tests}
+use Rattle.std.proofs.lemmas.Option.{slice_get_within}
+use Rattle.std.specs.Prelude.{length, nat_lt}
+use Rattle.article_verdict.specs.Config.{terms_of}
+use Rattle.cyc_block.specs.declared.store.BlockStore.{Ghosts}
+use Rattle.news_terms.specs.Command as commands
+use Rattle.news_terms.specs.Places.{size_of}
+use Rattle.news_terms.specs.Token as terms
+use Rattle.peer_session.specs.Answers.{AsksOf}
+use Rattle.peer_session.specs.Hearing.{Gathers}
+use Rattle.peer_session.specs.Planning.{DueGiven, Planned}
+use Rattle.peer_session.specs.declared.session.Session.{Session}
+use Rattle.peer_session.specs.declared.steps.Answer.{Answer}
+use Rattle.peer_session.specs.declared.steps.Answer.TheVariants as answers
+use Rattle.peer_session.specs.declared.steps.Step.{Step}
+use Rattle.relay_model.specs.Asks as asks
+use Rattle.relay_model.specs.Asks.{Ask, Due, IsDue}
+use Rattle.relay_model.specs.Claims as claims
+use Rattle.relay_model.specs.Fetches as fetches
+use Rattle.relay_model.specs.Fetches.{Fetched, text_under}
+use Rattle.relay_model.specs.Hears.{Heard, Hears, ReadHeard, goes_on, turns_of}
+use Rattle.relay_model.specs.Invariants.{IsWell}
+use Rattle.relay_model.specs.Shares as shares
+use Rattle.relay_model.specs.Shares.{Shares, Reading, Pushing}
+use Rattle.relay_model.specs.State as model
+use Rattle.relay_model.specs.State.{Kept}
+use Rattle.relay_model.specs.Terms.{Terms}
+use Rattle.relay_model.specs.World as world
+use Rattle.relay_model.specs.World.{World}
+use Rattle.relay_peers.specs.declared.peers.Peer.{Peer}
+use Rattle.relay_core.proofs.Dues.{after_read}
+use Rattle.relay_core.proofs.Found.{found_whole}
+use Rattle.relay_core.specs.Agreement.{IsFront, HasNone, HasSome, IsGathered}
+use Rattle.relay_core.specs.Sharing.{AskFits, LeavesAll, SharesStep}
+use Rattle.relay_core.specs.Turns.{HeardAs, HearsMemory, Serves, StandsStill}
+use Rattle.relay_core.specs.Views.{output_view}
+use Rattle.relay_core.specs.declared.event.CoreError.TheVariants as faults
+use Rattle.relay_core.specs.declared.event.Output.{Output}
+use Rattle.relay_core.specs.declared.event.Output.TheVariants as outputs
+use Rattle.relay_core.specs.declared.system.System.{System}
+
+-- the group of a job in a hand is there
+job_group : (w : Terms) (x : World) (n : ℕ) (m : model.Session) (job : model.Job) → IsWell w x
+    → x.state.session n ≡ Some m → m.hand ≡ Some job → job.article.group < length w.groups
+job_group w x n m job well there hand =
+    let claimed = (well.placed.hand n m job there hand).claimed in
+    let sound = well.sized.storing job.id job.session job.article claims.Waiting claimed in
+    slice_get_within w.groups job.article.group sound.group sound.there
+
+-- what is asked can be done
+ask_fits : (w : Terms) (x : World) (n : ℕ) (m : model.Session) (gathered : List ℕ) → IsWell w x
+    → x.state.session n ≡ Some m → IsGathered x.state.kept m.phase gathered
+    → (ask : Ask) → AsksOf w m gathered ask → AskFits w x ask gathered
+ask_fits w x n m gathered well there front (asks.Pushes job) of =
+    job_group w x n m job well there of
+ask_fits w x n m gathered well there front (asks.TakesQueue feed most) of = of
+ask_fits w x n m gathered well there front (asks.Reads asked token had) of = (
+  let P : model.Phase → Type 0 = λ phase. IsGathered x.state.kept phase gathered in
+      ⊎_elim (λ phase. subst P phase front) (λ none. HasNone none.0 none.1) of,
+  well.sized.kept,
+)
+ask_fits w x n m gathered well there front asks.Rests of = tt
+ask_fits w x n m gathered well there front asks.GoesOn of = tt
+ask_fits w x n m gathered well there front (asks.Says reply) of = tt
+ask_fits w x n m gathered well there front (asks.Leaves reply) of = tt
+ask_fits w x n m gathered well there front asks.Ends of = tt
+ask_fits w x n m gathered well there front (asks.Offers transfer id) of = tt
+ask_fits w x n m gathered well there front (asks.Looks part id) of = tt
+ask_fits w x n m gathered well there front (asks.Refuses transfer id) of = tt
+ask_fits w x n m gathered well there front (asks.Takes transfer id article) of = tt
+ask_fits w x n m gathered well there front (asks.LooksInSlot transfer id) of = tt
+ask_fits w x n m gathered well there front (asks.Releases id) of = tt
+
+-- a Turn makes no text whole
+push_kept : (x : World) (job : model.Job) (b : Bool) (told : shares.Answer) (y : World)
+    → Pushing x job b told y → y.state.kept ≡ x.state.kept
+push_kept x job true told y h = ap (λ (z : World). z.state.kept) h.1
+push_kept x job false told y h = ap (λ (z : World). z.state.kept) h.1
+
+read_kept : (w : Terms) (x : World) (token : terms.Token) (told : shares.Answer) (y : World)
+    → Reading w x token told y → y.state.kept ≡ x.state.kept
+read_kept w x token told y (shares.IsFound failures rises answer after) =
+    ap (λ (z : World). z.state.kept) after
+read_kept w x token told y (shares.HasNotRead failures undecided failed answer after) =
+    ap (λ (z : World). z.state.kept) after
+
+kept_stays : (w : Terms) (x : World) (n now : ℕ) (ask : Ask) (told : shares.Answer) (y : World)
+    → Shares w x n now ask told y → y.state.kept ≡ x.state.kept
+kept_stays w x n now asks.Rests told y h = ap (λ (z : World). z.state.kept) h.1
+kept_stays w x n now asks.GoesOn told y h = ap (λ (z : World). z.state.kept) h.1
+kept_stays w x n now (asks.Says reply) told y h = ap (λ (z : World). z.state.kept) h.1
+kept_stays w x n now (asks.Leaves reply) told y h = ap (λ (z : World). z.state.kept) h.1
+kept_stays w x n now asks.Ends told y h = ap (λ (z : World). z.state.kept) h.1
+kept_stays w x n now (asks.Offers transfer id) told y h = ap (λ (z : World). z.state.kept) h.1
+kept_stays w x n now (asks.Looks part id) told y h = ap (λ (z : World). z.state.kept) h.1
+kept_stays w x n now (asks.TakesQueue feed most) told y h = ap (λ (z : World). z.state.kept) h.1
+kept_stays w x n now (asks.Refuses transfer id) told y h = ap (λ (z : World). z.state.kept) h.1
+kept_stays w x n now (asks.Takes transfer id article) told y h =
+    ap (λ (z : World). z.state.kept) h.1
+kept_stays w x n now (asks.LooksInSlot transfer id) told y h =
+    ap (λ (z : World). z.state.kept) h.1
+kept_stays w x n now (asks.Releases id) told y h = ap (λ (z : World). z.state.kept) h.1
+kept_stays w x n now (asks.Pushes job) told y h = push_kept x job _ told y h
+kept_stays w x n now (asks.Reads asked token had) told y h = read_kept w x token told y h
+
+-- what was read is what is whole under the token
+read_whole : (w : Terms) (x : World) (token : terms.Token) (told : shares.Answer) (y : World)
+    (text : List ℕ) → Reading w x token told y → told ≡ shares.ToRead (fetches.Article text)
+    → text_under x.state.kept token ≡ Some text
+read_whole w x token told y text (shares.IsFound failures rises answer after) is =
+    found_whole w x.state token text
+    (let e : shares.ToRead (fetches.fetched w x.state token)
+    ≡ shares.ToRead (fetches.Article text) = sym answer ∙ is in cc)
+read_whole w x token told y text (shares.HasNotRead failures undecided failed answer after) is =
+    absurd (let e : shares.ToRead fetches.NotRead ≡ shares.ToRead (fetches.Article text) =
+    sym answer ∙ is in cc)
+
+-- a fetch takes no more Turns than the article has blocks, but one in any case
+few_turns : (asked : model.Asked) (token : terms.Token) (k : ℕ)
+    → nat_lt (k + 1) (turns_of asked token) ≡ true → k + 1 < size_of token.length
+few_turns model.OfToken token k h = grind (arith, nat_tests)
+few_turns (model.OfId commands.WholeText id) token k h = grind (arith, nat_tests)
+few_turns (model.OfId commands.Header id) token k h = grind (arith, nat_tests)
+few_turns (model.OfId commands.BodyLines id) token k h = grind (arith, nat_tests)
+few_turns (model.OfId commands.OverviewLine id) token k h = grind (arith, nat_tests)
+few_turns (model.OfId commands.Presence id) token k h = grind (arith, nat_tests)
+
+same_found : (a b : Fetched) → shares.ToRead a ≡ shares.ToRead b → a ≡ b
+same_found a b e = cc
+
+-- a fetch goes on exactly where it has more Turns
+goes_right : (s : model.Session) (asked : model.Asked) (token : terms.Token) (before had : ℕ)
+    (found : Fetched) (text : List ℕ) (b : Bool) (heard : Heard) → s.phase ≡ model.Ready
+    → found ≡ fetches.Article text → nat_lt (before + 1) (turns_of asked token) ≡ b
+    → ReadHeard s asked token before found b heard
+    → heard.session.phase ≡ model.Fetches asked token had → had < size_of token.length
+goes_right s asked token before had found text true heard ready is more h at =
+    let e : model.Fetches asked token (before + 1) ≡ model.Fetches asked token had =
+    ap (λ (one : Heard). one.session.phase) (sym h) ∙ at in
+    let same : before + 1 ≡ had = cc in
+    subst (λ (k : ℕ). k < size_of token.length) same (few_turns asked token before more)
+goes_right s asked token before had found text false heard ready is more h at =
+    absurd (let e : model.Ready ≡ model.Fetches asked token had =
+    sym ready ∙ ap (λ (one : Heard). one.session.phase) (sym h.2) ∙ at in cc)
+
+-- a fetch that goes on has a block left
+more_left : (w : Terms) (x : World) (n now : ℕ) (m : model.Session) (d : Due) (told : shares.Answer)
+    (y : World) (heard : Heard) (asked : model.Asked) (token : terms.Token) (before had : ℕ)
+    (text : List ℕ) → IsDue w m now d → d.ask ≡ asks.Reads asked token before
+    → told ≡ shares.ToRead (fetches.Article text) → Hears n d.after d.ask told heard
+    → heard.session.phase ≡ model.Fetches asked token had → had < size_of token.length
+more_left w x n now m d told y heard asked token before had text due is tells hears at =
+    let P : Ask → Type 0 = λ ask. Hears n d.after ask told heard in
+    let h = subst P is hears in
+    let found : h.0 ≡ fetches.Article text =
+    same_found h.0 (fetches.Article text) (sym h.1 ∙ tells) in
+    goes_right d.after asked token before had h.0 text (goes_on asked token before h.0) heard
+    (after_read w m now d due asked token before is) found
+    (ap (goes_on asked token before) (sym found)) h.2 at
+
+-- what was gathered is a front of the text under the token, also after the Turn
+fronts_after : (w : Terms) (x : World) (n now : ℕ) (m : model.Session) (d : Due)
+    (told : shares.Answer) (y : World) (heard : Heard) (later : List ℕ) → IsDue w m now d
+    → Shares w x n now d.ask told y → Hears n d.after d.ask told heard → (phase : model.Phase)
+    → heard.session.phase ≡ phase → Gathers d.ask told phase later
+    → IsGathered y.state.kept phase later
+fronts_after w x n now m d told y heard later due shares hears (model.Fetches asked token had) at
+    gathers =
+    ⊎_elim (λ none. HasNone none.0 none.1)
+    (λ some.
+    let P : Ask → Type 0 = λ one. Shares w x n now one told y in
+    let whole = read_whole w x token told y some.1 (subst P some.2 shares) some.3 in
+    let Q : List Kept → Type 0 = λ kept. IsFront kept token had later in
+    subst Q (sym (kept_stays w x n now d.ask told y shares))
+    (HasSome some.1 whole some.4
+    (more_left w x n now m d told y heard asked token some.0 had some.1 due some.2 some.3 hears
+    at))) gathers
+fronts_after w x n now m d told y heard later due shares hears model.Ready at gathers = gathers
+fronts_after w x n now m d told y heard later due shares hears (model.Owes transfer id) at gathers =
+    gathers
+fronts_after w x n now m d told y heard later due shares hears (model.Holds id article) at gathers =
+    gathers
+fronts_after w x n now m d told y heard later due shares hears (model.Waits transfer id) at
+    gathers = gathers
+fronts_after w x n now m d told y heard later due shares hears model.Leaving at gathers = gathers
+fronts_after w x n now m d told y heard later due shares hears model.Ended at gathers = gathers
+
+module _ {S : Type 0} {g : Ghosts S} (n now : ℕ) (old : System S g) (peer : Peer)
+    (session : Session) (step : Step) (answer : Answer) (new : System S g) (peer' : Peer)
+    (output : Output) (heard : Session) where
+  -- three clauses make a Turn
+  pub served : DueGiven (terms_of old.config) peer.session now step session
+      → SharesStep n now step old (record peer { session = session }) answer new peer'
+      → HeardAs n peer'.session answer output heard
+      → HearsMemory peer'.session answer output heard
+      → Serves n now old peer output new (record peer' { session = heard })
+  served due shared hears told = λ x m but there stands well other.
+      let w : Terms = terms_of old.config in
+      let some : answer ≢ answers.Memory = λ e. other (told.told e) in
+      let p = due m stands.gathered stands.stands in
+      let fits = ask_fits w x n m stands.gathered well there (stands.fronts refl) p.due.ask
+      p.asks_of in
+      let s = shared x m p.due stands.gathered but stands.slot_is fits p.planned p.is_step some in
+      let gives = s.0 in
+      let v = hears w m p.due stands.gathered gives.told some s.1 gives.answers in
+      record {
+        between = gives.between;
+        session = v.heard.session;
+        turns = record {
+          session = m;
+          there = there;
+          due = p.due;
+          is_due = p.is_due;
+          answer = gives.told;
+          between = gives.between;
+          shares = gives.shares;
+          heard = v.heard;
+          hears = v.hears;
+          output_is = v.output_is;
+          after = refl;
+        };
+        agrees = gives.agrees;
+        stands = record {
+          gathered = v.later;
+          stands = v.stands;
+          fronts = λ trusted. fronts_after w x n now m p.due gives.told gives.between v.heard
+              v.later p.is_due gives.shares v.hears v.heard.session.phase refl v.gathers;
+          slot_is = gives.slot_is;
+        };
+      }
+
+  -- want of memory leaves all as it was
+  pub stood_still : DueGiven (terms_of old.config) peer.session now step session
+      → (answer ≡ answers.Memory → LeavesAll n old (record peer { session = session }) new peer')
+      → HearsMemory peer'.session answer output heard
+      → output ≡ outputs.Refused faults.Memory
+      → StandsStill n old peer new (record peer' { session = heard })
+  stood_still due leaves told memory =
+      let is : answer ≡ answers.Memory = told.only world.Memory (ap output_view memory) in
+      let left = leaves is in
+      record {
+        agrees = left.agrees;
+        stands = λ m gathered stands.
+            let p = due m gathered stands in
+            let same : peer'.session ≡ session = ap (λ (one : Peer). one.session) left.same_peer in
+            told.forgets is (terms_of old.config) m p.due gathered
+            (subst (λ (one : Session). Planned (terms_of old.config) one m p.due gathered false)
+            (sym same) p.planned);
+        slot = ap (λ (one : Peer). one.slot) left.same_peer;
+      }

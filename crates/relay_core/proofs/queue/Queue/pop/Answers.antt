@@ -1,0 +1,7 @@
+use Rattle.std.proofs.Common.{rules}
+use Rattle.relay_core.specs.Queues.{jobs_of}
+use Rattle.relay_core.proofs.queue.Queue.pop.Goals as goal
+
+pub returns : goal.returns
+unfolding jobs_of
+returns c = search rules

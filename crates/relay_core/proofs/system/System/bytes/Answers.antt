@@ -1,0 +1,43 @@
+use Rattle.std.proofs.Common.{ℕ, List, refl, subst, true}
+use Rattle.peer_session.specs.Session.{Fed}
+use Rattle.relay_model.specs.Run as run
+use Rattle.relay_core.proofs.Refusing.{bytes_reason, memory_wanted}
+use Rattle.relay_core.proofs.SessionSteps.{fed, not_reading, unfed, wanted}
+use Rattle.relay_core.proofs.Turning.{place_of}
+use Rattle.relay_core.proofs.system.System.bytes.Goals as goal
+
+-- no such session reads
+pub returns-then-not-is_reading-clause-steps : goal.returns-then-not-is_reading-clause-steps
+returns-then-not-is_reading-clause-steps g c =
+    not_reading c.args.self.now c.args.number c.args.piece.now c.is_reading.result
+    c.is_reading.ensures c.if-not-is_reading.true
+
+-- the octets come to it
+pub returns-in-Ok-clause-steps : goal.returns-in-Ok-clause-steps
+returns-in-Ok-clause-steps g c =
+    let P : List ℕ → Type 0 = λ piece. Fed c.in-Some.peer.session piece c.feed-fed.new.self in
+    fed c.args.self.now c.args.number c.args.piece.now c.is_reading.result c.in-Some.peer
+    c.lend.result c.lend.new.self c.feed-fed.new.self c.give_back.new.self c.is_reading.ensures
+    c.if-not-is_reading.false c.lend.ensures c.in-Some.is
+    (subst P c.as_slice.ensures c.in-Ok.ensures.fed)
+    (c.give_back.ensures.given (place_of c.args.number c.args.self.now.peers c.lend.result
+    c.lend.new.self c.in-Some.peer c.lend.ensures c.in-Some.is))
+
+-- there is no memory for them
+pub returns-in-Err-clause-steps : goal.returns-in-Err-clause-steps
+returns-in-Err-clause-steps g c =
+    wanted c.args.self.now c.args.number (run.Bytes c.args.number c.args.piece.now) _ refl refl
+    (unfed c.args.self.now c.args.number c.in-Some.peer c.lend.result c.lend.new.self
+    c.feed-fed.new.self c.give_back.new.self c.lend.ensures c.in-Some.is c.in-Err.ensures.err
+    (c.give_back.ensures.given (place_of c.args.number c.args.self.now.peers c.lend.result
+    c.lend.new.self c.in-Some.peer c.lend.ensures c.in-Some.is)) true)
+
+pub returns-in-Err-clause-refused : goal.returns-in-Err-clause-refused
+returns-in-Err-clause-refused g c =
+    memory_wanted c.args.self.now (run.Bytes c.args.number c.args.piece.now) _
+    (λ laned. bytes_reason c.args.self.now c.args.number c.args.piece.now c.is_reading.result true
+    c.is_reading.ensures c.if-not-is_reading.false) refl
+    (unfed c.args.self.now c.args.number c.in-Some.peer c.lend.result c.lend.new.self
+    c.feed-fed.new.self c.give_back.new.self c.lend.ensures c.in-Some.is c.in-Err.ensures.err
+    (c.give_back.ensures.given (place_of c.args.number c.args.self.now.peers c.lend.result
+    c.lend.new.self c.in-Some.peer c.lend.ensures c.in-Some.is)))

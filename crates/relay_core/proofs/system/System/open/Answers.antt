@@ -1,0 +1,44 @@
+use Rattle.std.proofs.Common.{◌<◌, ◌≤◌, ℕ, refl, subst, true, ◌∙◌}
+use Rattle.relay_model.specs.Run as run
+use Rattle.relay_core.proofs.Refusing.{may_open, memory_wanted}
+use Rattle.relay_core.proofs.SessionSteps.{no_peer, opened_one, peers_count, unopened, wanted}
+use Rattle.relay_core.proofs.SessionSteps.{was_taken}
+use Rattle.relay_core.proofs.system.System.open.Goals as goal
+
+-- the number was had before
+pub returns-then-is_taken-clause-steps : goal.returns-then-is_taken-clause-steps
+returns-then-is_taken-clause-steps g c =
+    was_taken c.args.self.now c.args.number c.args.peer c.is_taken.result c.is_taken.ensures
+    c.if-is_taken.true
+
+-- there is no such peer
+pub returns-then-peer-len-clause-steps : goal.returns-then-peer-len-clause-steps
+returns-then-peer-len-clause-steps g c =
+    no_peer c.args.self.now c.args.number c.args.peer c.is_taken.result c.is_taken.ensures
+    c.if-is_taken.false
+    (subst (λ (k : ℕ). k ≤ c.args.peer)
+    (c.len.ensures ∙ peers_count c.args.self.now.config) c.if-peer-len.true)
+
+-- the session opens
+pub returns-in-Ok-open-2-clause-steps : goal.returns-in-Ok-open-2-clause-steps
+returns-in-Ok-open-2-clause-steps g c =
+    opened_one c.args.self.now c.args.number c.args.peer c.is_taken.result c.in-Ok-open.session
+    c.new.result c.open-2.new.self c.is_taken.ensures c.if-is_taken.false
+    (subst (λ (k : ℕ). c.args.peer < k)
+    (c.len.ensures ∙ peers_count c.args.self.now.config) c.if-peer-len.false)
+    c.in-Ok-open.ensures (c.new.ensures ∙ c.in-Ok.ensures) c.in-Ok-open-2.ensures.opened
+
+-- there is no memory for its place
+pub returns-in-Err-open-2-clause-steps : goal.returns-in-Err-open-2-clause-steps
+returns-in-Err-open-2-clause-steps g c =
+    wanted c.args.self.now c.args.number (run.Open c.args.number c.args.peer) _ refl refl
+    (unopened c.args.self.now c.args.number c.open-2.new.self c.in-Err-open-2.ensures.err true)
+
+pub returns-in-Err-open-2-clause-refused : goal.returns-in-Err-open-2-clause-refused
+returns-in-Err-open-2-clause-refused g c =
+    memory_wanted c.args.self.now (run.Open c.args.number c.args.peer) _
+    (λ laned. may_open c.args.self.now c.args.number c.args.peer c.is_taken.result
+    c.is_taken.ensures c.if-is_taken.false
+    (subst (λ (k : ℕ). c.args.peer < k)
+    (c.len.ensures ∙ peers_count c.args.self.now.config) c.if-peer-len.false)) refl
+    (unopened c.args.self.now c.args.number c.open-2.new.self c.in-Err-open-2.ensures.err)

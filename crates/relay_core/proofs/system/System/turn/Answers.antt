@@ -1,0 +1,53 @@
+use Rattle.std.proofs.Common.{refl, subst, sym}
+use Rattle.relay_model.specs.Run as run
+use Rattle.relay_peers.specs.Peers.{HasPlace}
+use Rattle.relay_peers.specs.declared.peers.Peers.{Peers}
+use Rattle.relay_core.proofs.Refusing.{refused_last, turn_open}
+use Rattle.relay_core.proofs.Turning.{back_is, none_runs, place_of, still, too_late, turned}
+use Rattle.relay_core.proofs.system.System.turn.Goals as goal
+
+-- no such session runs
+pub returns-then-not-is_running-clause-steps : goal.returns-then-not-is_running-clause-steps
+returns-then-not-is_running-clause-steps g c =
+    none_runs c.args.self.now c.args.number c.args.now c.is_running.result c.is_running.ensures
+    c.if-not-is_running.true
+
+-- it is too late
+pub returns-then-now-gt-LAST_MOMENT-clause-steps : goal.returns-then-now-gt-LAST_MOMENT-clause-steps
+returns-then-now-gt-LAST_MOMENT-clause-steps g c =
+    too_late c.args.self.now c.args.number c.args.now c.is_running.result c.is_running.ensures
+    c.if-not-is_running.false c.if-now-gt-LAST_MOMENT.true
+
+-- it has its Turn
+pub returns-in-Some-clause-steps : goal.returns-in-Some-clause-steps
+returns-in-Some-clause-steps g c =
+    let place = subst (λ (peers : Peers). HasPlace peers c.args.number)
+    (sym c.serve-output.ensures.peers)
+    (place_of c.args.number c.args.self.now.peers c.lend.result c.lend.new.self
+    c.in-Some.peer c.lend.ensures c.in-Some.is) in
+    turned c.args.self.now c.args.number c.args.now c.is_running.result c.in-Some.peer
+    c.lend.result c.lend.new.self c.serve-output.result c.serve-output.new.self
+    c.serve-output.new.peer c.take_back.new.peers c.is_running.ensures
+    c.if-not-is_running.false c.if-now-gt-LAST_MOMENT.false c.lend.ensures c.in-Some.is
+    c.serve-output.ensures.served c.serve-output.ensures.memory
+    c.serve-output.ensures.frame.config (back_is c.args.number
+    c.serve-output.new.peer c.serve-output.new.self.peers c.take_back.new.peers _ refl
+    (c.take_back.ensures place))
+
+-- and is refused for want of memory alone
+pub returns-in-Some-clause-refused : goal.returns-in-Some-clause-refused
+returns-in-Some-clause-refused g c =
+    let place = subst (λ (peers : Peers). HasPlace peers c.args.number)
+    (sym c.serve-output.ensures.peers)
+    (place_of c.args.number c.args.self.now.peers c.lend.result c.lend.new.self
+    c.in-Some.peer c.lend.ensures c.in-Some.is) in
+    refused_last c.args.self.now (run.Turn c.args.number c.args.now) c.serve-output.result _
+    (λ laned. turn_open c.args.self.now c.args.number c.args.now c.is_running.result
+    c.is_running.ensures c.if-not-is_running.false c.if-now-gt-LAST_MOMENT.false)
+    c.serve-output.ensures.only (λ memory. refl)
+    (λ memory. still c.args.self.now c.args.number c.in-Some.peer c.lend.result c.lend.new.self
+    c.serve-output.new.self c.serve-output.new.peer c.take_back.new.peers c.lend.ensures
+    c.in-Some.is (c.serve-output.ensures.memory memory) c.serve-output.ensures.frame.config
+    (back_is c.args.number
+    c.serve-output.new.peer c.serve-output.new.self.peers c.take_back.new.peers _ refl
+    (c.take_back.ensures place)))

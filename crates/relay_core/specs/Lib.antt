@@ -1,0 +1,11 @@
+pub mod Agreement
+pub mod Beginning
+pub mod Openings
+pub mod Queues
+pub mod Reading
+pub mod Refusals
+pub mod Sharing
+pub mod Steps
+pub mod Turns
+pub mod Views
+pub mod Writing

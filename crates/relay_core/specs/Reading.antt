@@ -1,0 +1,54 @@
+-- What was read of a block, in the words of the relay's fetches (docs/PROTOCOL.md, Reading).
+use Rattle.std.specs.Prelude.{◌≡◌, ℕ, ◌<◌, max, take, true, List, None, Option}
+use Rattle.article_fetch.specs.declared.chunk.Chunk.{Chunk}
+use Rattle.article_fetch.specs.declared.chunk.Chunk.TheVariants as chunks
+use Rattle.block_shelf.specs.Keeping.{KeepsTexts}
+use Rattle.block_shelf.specs.Openings.{Opening}
+use Rattle.block_shelf.specs.declared.shelf.Shelf.{Shelf}
+use Rattle.cyc_block.specs.declared.store.BlockStore.{Ghosts}
+use Rattle.cyc_buffer.specs.declared.answers.Found.{Found}
+use Rattle.cyc_buffer.specs.declared.answers.Found.TheVariants as found
+use Rattle.news_terms.specs.BlockImage.{chunk}
+use Rattle.news_terms.specs.Places.{size_of}
+use Rattle.news_terms.specs.Token.{Token}
+use Rattle.relay_model.specs.Fetches as fetches
+use Rattle.relay_model.specs.Fetches.{Fetched, decided, fetched}
+use Rattle.relay_model.specs.State.{State}
+use Rattle.relay_model.specs.Terms.{Terms}
+use Rattle.relay_model.specs.World.{HasFailedAt}
+
+-- what was found of a block, with its octets at the front of these
+abbrev pub chunk_view : Found → List ℕ → Chunk
+chunk_view (found.Chunk n) slice = chunks.Found (take n slice)
+chunk_view (found.Gone front) slice = chunks.Gone
+chunk_view found.Unknown slice = chunks.Unknown
+
+-- what was read of block k is that of a fetch that finds this
+abbrev pub IsChunkOf : (k : ℕ) → Chunk → Fetched → Type 0
+IsChunkOf k (chunks.Found octets) (fetches.Article text) = octets ≡ chunk k text
+IsChunkOf k chunks.Gone fetches.Gone = Unit {0}
+IsChunkOf k chunks.Unknown fetches.NotKnown = Unit {0}
+IsChunkOf k other found = ⊥
+
+-- what a read of block k does, over stores that are honest: it finds what a fetch finds, or the
+-- device failed, which was asked only where the numbers don't decide
+pub data ChunkRead {S : Type 0} {g : Ghosts S} (w : Terms) (σ : State)
+    (openings : ℕ → Option Opening) (failures : ℕ → ℕ) (token : Token) (k : ℕ) (read : Chunk)
+    (new : Shelf S g)
+    : Type 0 where
+  HasFound : KeepsTexts true new w σ.begun σ.kept openings failures
+      → IsChunkOf k read (fetched w σ token)
+      → ChunkRead w σ openings failures token k read new
+  HasNotFound : (later : ℕ → ℕ) → read ≡ chunks.Device
+      → KeepsTexts true new w σ.begun σ.kept openings later
+      → HasFailedAt token.buffer failures later → decided w σ token ≡ None
+      → ChunkRead w σ openings failures token k read new
+
+-- block k of what lies under a token is read; the article has a block k, or k is 0
+abbrev pub ReadsChunk : {S : Type 0} {g : Ghosts S} → Token → (k : ℕ) → (old : Shelf S g)
+    → Chunk → (new : Shelf S g) → Type 0
+ReadsChunk token k old read new =
+    (w : Terms) (σ : State) (openings : ℕ → Option Opening) (failures : ℕ → ℕ)
+    → KeepsTexts true old w σ.begun σ.kept openings failures
+    → k < max 1 (size_of token.length)
+    → ChunkRead w σ openings failures token k read new

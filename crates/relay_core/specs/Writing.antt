@@ -1,0 +1,63 @@
+-- What a Write does with the writer of its group taken out of the lane.
+use Rattle.std.specs.Prelude.{◌≡◌, ◌≢◌, ℕ, true, length, map, slice_get, Some}
+use Rattle.article_verdict.specs.Config.{terms_of}
+use Rattle.block_shelf.specs.Calls.{token_of}
+use Rattle.block_shelf.specs.Keeping.{KeepsTexts}
+use Rattle.block_shelf.specs.declared.shelf.Begun.{Begun}
+use Rattle.buffer_group.specs.Jobs.{job_view}
+use Rattle.buffer_group.specs.Writers.{writer_view}
+use Rattle.buffer_group.specs.declared.writer.Writer.{Writer}
+use Rattle.buffer_group.specs.declared.writer.Writer.TheVariants as writers
+use Rattle.cyc_block.specs.declared.store.BlockStore.{Ghosts}
+use Rattle.feed_queue.specs.Feeds.{KeepsFeeds}
+use Rattle.id_history.specs.Shards.{KeepsAll}
+use Rattle.peer_session.specs.declared.steps.Outcome.{Outcome}
+use Rattle.peer_session.specs.declared.steps.Outcome.TheVariants as outcomes
+use Rattle.relay_model.specs.Invariants.{IsWell}
+use Rattle.relay_model.specs.Terms.{Terms}
+use Rattle.relay_model.specs.World.{World}
+use Rattle.relay_model.specs.Writers.{Writes}
+use Rattle.relay_peers.specs.Peers.{peer_at}
+use Rattle.relay_core.specs.Agreement.{LaneIs, PeerIs, ring_sizes}
+use Rattle.relay_core.specs.Openings.{openings}
+use Rattle.relay_core.specs.Queues.{jobs_of}
+use Rattle.relay_core.specs.declared.system.Lane.{Lane}
+use Rattle.relay_core.specs.declared.system.System.{System}
+
+-- all agrees, but that the writer of group h was taken out of its lane, and is this one
+pub record WriterOut {S : Type 0} {g : Ghosts S} (w : Terms) (h : ℕ) (writer : Writer Begun)
+    (system : System S g) (x : World)
+    : Type 0 where
+  pub newest : x.state.newest ≡ system.newest
+  pub claims : KeepsAll system.shards x.state.claim
+  pub count : length system.lanes.items ≡ length w.groups
+  pub queue : (lane : Lane) → slice_get system.lanes.items h ≡ Some lane
+      → x.work.queue h ≡ map job_view (jobs_of lane.queue)
+  pub writer_is : x.work.writer h ≡ writer_view token_of writer
+  pub lanes : (k : ℕ) → k ≢ h
+      → LaneIs (slice_get system.lanes.items k) (x.work.queue k) (x.work.writer k)
+  pub desk : KeepsFeeds system.desk (ring_sizes w) x.state.feed
+  pub shelf : KeepsTexts true system.shelf w x.state.begun x.state.kept
+      (openings x.work.writer) x.work.failures
+  pub peers : (s : ℕ) → PeerIs true w x.state.kept (peer_at system.peers s)
+      (x.state.session s) (x.work.slot s)
+
+-- a Write was had, and its writer is this one now
+pub record Advanced {S : Type 0} {g : Ghosts S} (w : Terms) (h now : ℕ) (x : World)
+    (writer : Writer Begun) (new : System S g)
+    : Type 0 where
+  pub after : World
+  pub writes : Writes w x h now after
+  pub out : WriterOut w h writer new after
+
+-- what a Write does in whatever world the code agrees with
+abbrev pub Advances : {S : Type 0} {g : Ghosts S} → (h now : ℕ) → Writer Begun
+    → (old : System S g) → Writer Begun → (new : System S g) → Type 0
+Advances h now writer old writer' new =
+    (x : World) → WriterOut (terms_of old.config) h writer old x
+    → IsWell (terms_of old.config) x → Advanced (terms_of old.config) h now x writer' new
+
+-- the writer that is to tell a session this outcome
+abbrev pub outcome_writer : ℕ → Outcome → Writer Begun
+outcome_writer session outcomes.Kept = writers.Settled session
+outcome_writer session outcomes.Failed = writers.Forgotten session

@@ -1,0 +1,66 @@
+//! How the relay begins.
+ghost use Rattle.std.specs.Prelude.{◌≡◌, IfOk, length, map};
+ghost use Rattle.relay_core.specs.Beginning.{AreIdle, BeginsOver};
+
+use crate::queue::Queue;
+use crate::system::{Lane, System};
+use block_shelf::Shelf;
+use buffer_group::Writer;
+use cyc_block::BlockStore;
+use feed_queue::FeedDesk;
+use id_history::Shards;
+use relay_conf::Config;
+use relay_peers::Peers;
+use std::alloc::{AllocError, Global};
+use std::hash::RandomState;
+use std::io;
+use std::random::RandomSource;
+
+impl<S: BlockStore> System<S> {
+    /// The relay over these stores, the i-th for buffer i, before anything has come. What it needs
+    /// for its rings, queues and buffers is taken here. The error is that no seed for its tables
+    /// was to be had, or memory.
+    pub fn new(
+        rt: &impl RandomSource,
+        alloc: Global,
+        config: Config,
+        stores: Vec<S>,
+    ) -> io::Result<System<S>>
+    where
+        S: Drop,
+        requires { map (λ store. length (S.blocks store)) stores.items
+            ≡ map (λ buffer. buffer.blocks) config.buffers.buffers.items }
+        ensures { IfOk result (BeginsOver config stores.items) }
+    {
+        let hasher = RandomState::new(rt)?;
+        let shards = Shards::new(rt, alloc)?;
+        let desk = FeedDesk::new(alloc, &config.relay.feeds)?;
+        let lanes = new_lanes(alloc, config.buffers.groups.len())?;
+        let shelf = Shelf::new(alloc, &config.buffers, stores)?;
+        Ok(System {
+            alloc,
+            config,
+            hasher,
+            newest: None,
+            peers: Peers::new(alloc, hasher),
+            shards,
+            desk,
+            shelf,
+            lanes,
+        })
+    }
+}
+
+/// So many lanes, without jobs.
+fn new_lanes(alloc: Global, count: usize) -> Result<Vec<Lane>, AllocError>
+    ensures { IfOk result (λ lanes. AreIdle count lanes.items) }
+{
+    let mut lanes = Vec::with_capacity(alloc, count)?;
+    for _ in 0..count {
+        lanes.push_reserved(Lane {
+            queue: Queue::new(alloc)?,
+            writer: Writer::Idle,
+        });
+    }
+    Ok(lanes)
+}

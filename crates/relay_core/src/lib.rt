@@ -1,0 +1,21 @@
+//! The relay, whole, as one machine over events: sessions of peers, the history of message-ids, the
+//! feeds, the buffers and their writers. For every list of events its outputs and its state are a
+//! run of the relay (docs/PROTOCOL.md, Events and outputs).
+//!
+//! It is thin dispatch over its parts, each of which keeps its piece of the relay's state; nothing
+//! here speaks of blocks, stamps, rings or header fields. Each event does at most one step of what
+//! is shared, and takes its memory before it.
+#![tactic(auto)]
+
+mod beginning;
+mod event;
+mod queue;
+mod reading;
+mod sharing;
+mod steps;
+mod system;
+mod turns;
+mod writing;
+
+pub use event::{CoreError, Event, Output};
+pub use system::System;

@@ -1,0 +1,89 @@
+//! The step of what is shared that a Turn takes: one call of one part.
+use crate::reading::read_chunk;
+use crate::system::System;
+use cyc_block::BlockStore;
+use peer_session::{Answer, Step};
+use relay_peers::Peer;
+
+impl<S: BlockStore> System<S> {
+    ghost use Rattle.std.specs.Prelude.{◌≡◌, ℕ};
+    ghost use Rattle.peer_session.specs.declared.steps.Answer.TheVariants as answers;
+    ghost use Rattle.peer_session.specs.declared.steps.Step.TheVariants as steps;
+    ghost use Rattle.relay_core.specs.Sharing.{KeepsFrame, LeavesAll, SharesStep};
+
+    /// Does the step that a session planned. The session's peer is taken out.
+    pub(crate) fn share(&mut self, peer: &mut Peer, number: u64, step: Step, now: u64) -> Answer
+        ensures shared { SharesStep number now step self.old peer.old result self.new peer.new }
+        ensures memory { result ≡ answers.Memory
+            → LeavesAll number self.old peer.old self.new peer.new }
+        ensures frame { KeepsFrame self.old self.new }
+        ensures peers { self.new.peers ≡ self.old.peers }
+    {
+        match step {
+            Step::Nothing => Answer::Nothing,
+            Step::Offer(id) => match self.shards.offer(&id, number) {
+                Ok(answer) => Answer::Offer(answer),
+                Err(_) => Answer::Memory,
+            },
+            Step::Look(id) => Answer::Look(self.shards.look(&id)),
+            Step::Read(token, k) => Answer::Chunk(read_chunk(&mut self.shelf, &token, k)),
+            Step::TakeQueue(feed, most) => self.take_queue(feed, most),
+            Step::Refuse(id) => match self.shards.refuse(&id, number, now) {
+                Ok(()) => Answer::Nothing,
+                Err(_) => Answer::Memory,
+            },
+            Step::Take(id) => match self.shards.take(&id, number) {
+                Ok(answer) => Answer::Take(answer),
+                Err(_) => Answer::Memory,
+            },
+            Step::Push(group) => self.push(peer, usize::from(group)),
+            Step::Slot => Answer::Slot(peer.slot.take()),
+            Step::Release(id) => {
+                self.shards.release(&id, number);
+                Answer::Nothing
+            }
+        }
+    }
+
+    /// Takes at most so many tokens of a feed's ring. A feed that isn't there has none.
+    fn take_queue(&mut self, feed: u16, most: usize) -> Answer
+        ensures shared { (number : ℕ) (now : ℕ) (peer : Peer)
+            → SharesStep number now (steps.TakeQueue feed most) self.old peer result self.new peer }
+        ensures memory { (number : ℕ) (peer : Peer) → result ≡ answers.Memory
+            → LeavesAll number self.old peer self.new peer }
+        ensures frame { KeepsFrame self.old self.new }
+        ensures peers { self.new.peers ≡ self.old.peers }
+    {
+        match self.desk.take(self.alloc, feed, most) {
+            Ok(answer) => match answer {
+                Some(taken) => Answer::Queue(taken),
+                None => Answer::Nothing,
+            },
+            Err(_) => Answer::Memory,
+        }
+    }
+
+    /// The job in a session's hand joins the queue of its group, if that has room.
+    fn push(&mut self, peer: &mut Peer, group: usize) -> Answer
+        ensures shared { (number : ℕ) (now : ℕ)
+            → SharesStep number now (steps.Push group) self.old peer.old result self.new peer.new }
+        ensures memory { (number : ℕ) → result ≡ answers.Memory
+            → LeavesAll number self.old peer.old self.new peer.new }
+        ensures frame { KeepsFrame self.old self.new }
+        ensures peers { self.new.peers ≡ self.old.peers }
+    {
+        if group >= self.lanes.len() {
+            return Answer::Pushed(false);
+        }
+        if self.lanes[group].queue.is_full() {
+            return Answer::Pushed(false);
+        }
+        match peer.session.hand_over() {
+            Some(job) => {
+                self.lanes[group].queue.push(job);
+                Answer::Pushed(true)
+            }
+            None => Answer::Pushed(false),
+        }
+    }
+}

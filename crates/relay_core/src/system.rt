@@ -1,0 +1,63 @@
+//! The relay: its parts, and how it begins.
+use crate::queue::Queue;
+use block_shelf::{Begun, Shelf};
+use buffer_group::Writer;
+use cyc_block::BlockStore;
+use feed_queue::FeedDesk;
+use id_history::Shards;
+use relay_conf::Config;
+use relay_peers::Peers;
+use std::alloc::Global;
+use std::hash::RandomState;
+
+/// The last moment that there is: the end of the year 9998, UTC.
+pub(crate) const LAST_MOMENT: u64 = 253_370_764_799;
+
+/// A group's jobs that wait, and how far its writer is.
+#[derive(Debug)]
+pub(crate) struct Lane {
+    pub(crate) queue: Queue,
+    pub(crate) writer: Writer<Begun>,
+}
+
+impl Drop for Lane {
+    fn drop(self) {
+        let Lane {
+            queue: _queue,
+            writer,
+        } = self;
+        let_go(writer);
+    }
+}
+
+/// Lets a writer go, with the handle of its open write if it has one.
+pub(crate) fn let_go(writer: Writer<Begun>) {
+    match writer {
+        Writer::Writing(_job, begun, _written) => begun.let_go(),
+        Writer::Failed(_job, open_one) => match open_one {
+            Some(begun) => begun.let_go(),
+            None => {}
+        },
+        Writer::Idle => {}
+        Writer::Popped(_job) => {}
+        Writer::Finished(_job, _token) => {}
+        Writer::Settled(_session) => {}
+        Writer::Forgotten(_session) => {}
+    }
+}
+
+/// The relay over the stores of its buffers.
+#[derive(Drop)]
+pub struct System<S: BlockStore> {
+    pub(crate) alloc: Global,
+    pub(crate) config: Config,
+    /// The seed of the tables of open offers, so that no peer chooses ids that collide.
+    pub(crate) hasher: RandomState,
+    /// The number of the newest session.
+    pub(crate) newest: Option<u64>,
+    pub(crate) peers: Peers,
+    pub(crate) shards: Shards,
+    pub(crate) desk: FeedDesk,
+    pub(crate) shelf: Shelf<S>,
+    pub(crate) lanes: Vec<Lane>,
+}

@@ -1,0 +1,98 @@
+//! A Turn: a session plans, its step is done, and it hears the answer.
+ghost use Rattle.std.specs.Prelude.{◌≤◌};
+ghost use Rattle.peer_session.specs.Session.{session_view};
+ghost use Rattle.relay_core.specs.Turns.{HearsMemory, HeardAs, PutsBack};
+ghost use Rattle.relay_model.specs.Run.{is_running};
+ghost use Rattle.relay_peers.specs.Peers.{HasPlace};
+ghost use Rattle.relay_model.specs.Terms.{last_moment};
+
+use crate::event::{CoreError, Output};
+use crate::system::{LAST_MOMENT, System};
+use cyc_block::BlockStore;
+use line_words::Octets;
+use peer_session::{Answer, Session};
+use relay_peers::{Peer, Peers};
+
+impl<S: BlockStore> System<S> {
+    ghost use Rattle.std.specs.Prelude.{◌≡◌, ◌≤◌};
+    ghost use Rattle.relay_model.specs.Run as run;
+    ghost use Rattle.relay_model.specs.Terms.{last_moment};
+    ghost use Rattle.relay_core.specs.Refusals.{RefusesRightly};
+    ghost use Rattle.relay_core.specs.Sharing.{KeepsFrame};
+    ghost use Rattle.relay_core.specs.Steps.{Steps};
+    ghost use Rattle.relay_core.specs.Turns.{IsMemoryAlone, Serves, StandsStill};
+    ghost use Rattle.relay_core.specs.declared.event.CoreError.TheVariants as faults;
+    ghost use Rattle.relay_core.specs.declared.event.Output.TheVariants as outputs;
+
+    /// The next bit of a session's work.
+    pub(crate) fn turn(&mut self, number: u64, now: u64) -> Output
+        ensures steps { Steps (run.Turn number now) self.old result self.new }
+        ensures refused { RefusesRightly (run.Turn number now) self.old result self.new }
+        ensures frame { KeepsFrame self.old self.new }
+    {
+        if !self.peers.is_running(number) {
+            return Output::Refused(CoreError::NoSession);
+        }
+        if now > LAST_MOMENT {
+            return Output::Refused(CoreError::BadMoment);
+        }
+        match self.peers.lend(number) {
+            Some(mut peer) => {
+                let output = self.serve(&mut peer, number, now);
+                take_back(&mut self.peers, number, peer);
+                output
+            }
+            None => Output::Refused(CoreError::NoSession),
+        }
+    }
+
+    /// What is due in a Turn is done, with the session's peer taken out.
+    fn serve(&mut self, peer: &mut Peer, number: u64, now: u64) -> Output
+        requires { now ≤ last_moment }
+        ensures served { Serves number now self.old peer.old result self.new peer.new }
+        ensures memory { result ≡ outputs.Refused faults.Memory
+            → StandsStill number self.old peer.old self.new peer.new }
+        ensures only { IsMemoryAlone result }
+        ensures frame { KeepsFrame self.old self.new }
+        ensures peers { self.new.peers ≡ self.old.peers }
+    {
+        match peer.session.plan(&self.config, now) {
+            Ok(step) => {
+                let answer = self.share(peer, number, step, now);
+                hear(&mut peer.session, number, answer)
+            }
+            Err(_) => Output::Refused(CoreError::Memory),
+        }
+    }
+}
+
+/// The peer is put back in its place. One that is closed is let go, with its place.
+fn take_back(peers: &mut Peers, number: u64, peer: Peer)
+    ensures { HasPlace peers.old number → PutsBack
+        (is_running (session_view peer.session).phase) number peer peers.old peers.new }
+{
+    if peer.session.is_running() {
+        peers.give_back(number, peer);
+    } else {
+        peers.close(number);
+    }
+}
+
+/// A session hears the answer to what it planned.
+fn hear(session: &mut Session, number: u64, answer: Answer) -> Output
+    ensures heard { HeardAs number session.old answer result session.new }
+    ensures memory { HearsMemory session.old answer result session.new }
+{
+    if let Answer::Memory = answer {
+        session.absorb(number, Answer::Memory);
+        return Output::Refused(CoreError::Memory);
+    }
+    let said = session.absorb(number, answer);
+    if said.is_empty() {
+        Output::Quiet
+    } else if session.has_parted() {
+        Output::Ended(number, Octets::new(said))
+    } else {
+        Output::Sent(number, Octets::new(said))
+    }
+}

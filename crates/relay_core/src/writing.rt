@@ -1,0 +1,147 @@
+//! A Write: the next bit of the work of a group's writer, one call of one part.
+use crate::event::{CoreError, Output};
+use crate::system::{LAST_MOMENT, System, let_go};
+use block_shelf::Begun;
+use buffer_group::{Job, Writer};
+use cyc_block::BlockStore;
+use cyc_token::Token;
+use peer_session::Outcome;
+use std::mem;
+
+impl<S: BlockStore> System<S> {
+    ghost use Rattle.std.specs.Prelude.{ℕ, ◌<◌, None, Some, vec_len};
+    ghost use Rattle.buffer_group.specs.declared.writer.Writer.TheVariants as writers;
+    ghost use Rattle.relay_model.specs.Run as run;
+    ghost use Rattle.relay_core.specs.Refusals.{RefusesRightly};
+    ghost use Rattle.relay_core.specs.Steps.{Steps};
+    ghost use Rattle.relay_core.specs.Sharing.{KeepsFrame};
+    ghost use Rattle.relay_core.specs.Writing.{Advances, outcome_writer};
+
+    /// The next bit of the work of a group's writer. It takes no memory.
+    pub(crate) fn write(&mut self, group: usize, now: u64) -> Output
+        ensures steps { Steps (run.Write group now) self.old result self.new }
+        ensures refused { RefusesRightly (run.Write group now) self.old result self.new }
+        ensures frame { KeepsFrame self.old self.new }
+    {
+        if group >= self.lanes.len() {
+            return Output::Refused(CoreError::NoGroup);
+        }
+        if now > LAST_MOMENT {
+            return Output::Refused(CoreError::BadMoment);
+        }
+        let taken = mem::replace(&mut self.lanes[group].writer, Writer::Idle);
+        let writer = self.advance(group, taken, now);
+        let_go(mem::replace(&mut self.lanes[group].writer, writer));
+        Output::Quiet
+    }
+
+    /// What the writer of a group does, taken out of its lane.
+    fn advance(&mut self, group: usize, writer: Writer<Begun>, now: u64) -> Writer<Begun>
+        requires { group < vec_len self.old.lanes }
+        ensures advances { Advances group now writer self.old result self.new }
+        ensures frame { KeepsFrame self.old self.new }
+    {
+        match writer {
+            Writer::Idle => self.pop(group),
+            Writer::Popped(job) => self.begin(job),
+            Writer::Writing(job, begun, written) => self.write_next(job, begun, written),
+            Writer::Finished(job, token) => self.settle(job, token, now),
+            Writer::Failed(job, open_one) => match open_one {
+                Some(begun) => self.abandon(job, begun),
+                None => self.forget(job),
+            },
+            Writer::Settled(session) => self.answer(session, Outcome::Kept),
+            Writer::Forgotten(session) => self.answer(session, Outcome::Failed),
+        }
+    }
+
+    /// It takes the oldest job of its queue, if there is one.
+    fn pop(&mut self, group: usize) -> Writer<Begun>
+        requires { group < vec_len self.old.lanes }
+        ensures advances { (now : ℕ)
+            → Advances group now writers.Idle self.old result self.new }
+        ensures frame { KeepsFrame self.old self.new }
+    {
+        match self.lanes[group].queue.pop() {
+            Some(job) => Writer::Popped(job),
+            None => Writer::Idle,
+        }
+    }
+
+    /// It begins the job in a buffer of the group, where a token has room for the cycle.
+    fn begin(&mut self, job: Job) -> Writer<Begun>
+        ensures advances { (group now : ℕ)
+            → Advances group now (writers.Popped job) self.old result self.new }
+        ensures frame { KeepsFrame self.old self.new }
+    {
+        let length = job.article.length();
+        match self
+            .shelf
+            .begin(job.article.group, job.article.class, length)
+        {
+            Some(begun) => Writer::Writing(job, begun, 0),
+            None => Writer::Failed(job, None),
+        }
+    }
+
+    /// It writes the next block of the job's text, or finishes the write once all are written.
+    fn write_next(&mut self, job: Job, begun: Begun, written: u32) -> Writer<Begun>
+        ensures advances { (group now : ℕ)
+            → Advances group now (writers.Writing job begun written) self.old result self.new }
+        ensures frame { KeepsFrame self.old self.new }
+    {
+        if written >= job.article.blocks() {
+            let token = self.shelf.finish(begun);
+            return Writer::Finished(job, token);
+        }
+        match self.shelf.write_next(&begun, job.article.text.as_slice()) {
+            Ok(_last) => Writer::Writing(job, begun, written + 1),
+            Err(_fault) => Writer::Failed(job, Some(begun)),
+        }
+    }
+
+    /// It settles the job: the id is stored, and each permitted feed gains its token.
+    fn settle(&mut self, job: Job, token: Token, now: u64) -> Writer<Begun>
+        ensures advances { (group : ℕ)
+            → Advances group now (writers.Finished job token) self.old result self.new }
+        ensures frame { KeepsFrame self.old self.new }
+    {
+        match self.shards.settle(&job.id, job.session, token, now) {
+            Some(settled) => {
+                self.desk.post(&job.article.permitted, settled);
+                Writer::Settled(job.session)
+            }
+            None => Writer::Settled(job.session),
+        }
+    }
+
+    /// It abandons the open write, a block of which couldn't be written.
+    fn abandon(&mut self, job: Job, begun: Begun) -> Writer<Begun>
+        ensures advances { (group now : ℕ)
+            → Advances group now (writers.Failed job (Some begun)) self.old result self.new }
+        ensures frame { KeepsFrame self.old self.new }
+    {
+        self.shelf.abandon(begun);
+        Writer::Failed(job, None)
+    }
+
+    /// It gives the article up: its id is unknown.
+    fn forget(&mut self, job: Job) -> Writer<Begun>
+        ensures advances { (group now : ℕ)
+            → Advances group now (writers.Failed job None) self.old result self.new }
+        ensures frame { KeepsFrame self.old self.new }
+    {
+        self.shards.forget(&job.id, job.session);
+        Writer::Forgotten(job.session)
+    }
+
+    /// It puts the outcome in the session's slot.
+    fn answer(&mut self, session: u64, outcome: Outcome) -> Writer<Begun>
+        ensures advances { (group now : ℕ) → Advances group now (outcome_writer session outcome)
+            self.old result self.new }
+        ensures frame { KeepsFrame self.old self.new }
+    {
+        self.peers.tell(session, outcome);
+        Writer::Idle
+    }
+}
