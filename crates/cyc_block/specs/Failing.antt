@@ -1,5 +1,5 @@
--- What a store that fails once is made of.
-use Rattle.std.specs.Prelude.{ℕ, ◌==◌, if◌then◌else◌}
+-- What a store that fails on purpose is made of.
+use Rattle.std.specs.Prelude.{ℕ}
 use Rattle.cyc_block.specs.declared.failing.FailAt.{FailAt}
 
 -- the store below, which fails by itself alone
@@ -10,6 +10,10 @@ store_below failing = failing.store
 abbrev pub calls_left : {S : Type 0} → FailAt S → ℕ
 calls_left failing = failing.left
 
--- 1 once the call that fails has come, or where none is to fail
+-- the calls that it failed on purpose so far
 abbrev pub spent : {S : Type 0} → FailAt S → ℕ
-spent failing = if failing.left == 0 then 1 else 0
+spent failing = failing.on_purpose
+
+-- the same store, of which from here call number k fails
+abbrev pub armed : {S : Type 0} → (k : ℕ) → FailAt S → FailAt S
+armed k failing = record failing { left = k }

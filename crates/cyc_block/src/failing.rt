@@ -1,17 +1,21 @@
 ghost use Rattle.std.specs.Prelude.{◌≡◌, ◌≢◌, ◌<◌, ◌+◌, ◌-◌, ◌↔◌, length, slice_set};
 ghost use Rattle.std.specs.Prelude.{IsErr, OnErr, OnOk};
-ghost use Rattle.cyc_block.specs.Failing.{calls_left, spent, store_below};
+ghost use Rattle.cyc_block.specs.Failing.{armed, calls_left, spent, store_below};
+ghost use Rattle.cyc_block.specs.Seen.{LooksSame};
 ghost use Rattle.cyc_block.specs.Store.{block_at, ChangesOnly};
 
+use crate::tally::Tally;
 use crate::{BLOCK_OCTETS, BlockStore, DeviceFailed};
 
 /// A store whose call number k fails once; reads and writes are counted together, from 1. The call
-/// that fails does nothing else.
+/// that fails does nothing else. Armed again, it fails another call once.
 #[derive(Debug, Drop)]
 pub struct FailAt<S> {
     store: S,
     /// The calls up to the one that fails, and that one; 0 where none is to fail any more.
     left: u64,
+    /// The calls that it failed on purpose so far.
+    on_purpose: Tally,
 }
 
 impl<S: BlockStore> FailAt<S> {
@@ -19,10 +23,29 @@ impl<S: BlockStore> FailAt<S> {
     pub fn new(store: S, k: u64) -> FailAt<S>
         ensures store { store_below result ≡ store }
         ensures calls { calls_left result ≡ k }
+        ensures spent { spent result ≡ 0 }
         ensures blocks { ⟦<FailAt<S> as BlockStore>⟧.blocks result ≡ S.blocks store }
         ensures honest { S.honest store → ⟦<FailAt<S> as BlockStore>⟧.honest result }
     {
-        FailAt { store, left: k }
+        FailAt {
+            store,
+            left: k,
+            on_purpose: Tally::new(),
+        }
+    }
+
+    /// From here call number k fails, once, counted from 1; with 0 none does. A call that was to
+    /// fail before no longer is. What failed so far stays counted.
+    pub fn arm(&mut self, k: u64)
+        // This is the whole of it.
+        ensures armed { self.new ≡ armed k self.old }
+        ensures store { store_below self.new ≡ store_below self.old }
+        ensures left { calls_left self.new ≡ k }
+        ensures spent { spent self.new ≡ spent self.old }
+        // Nobody can see of the store that it was armed.
+        ensures seen { LooksSame ⟦<FailAt<S> as BlockStore>⟧ self.old self.new }
+    {
+        self.left = k;
     }
 }
 
@@ -59,13 +82,14 @@ impl<S: BlockStore> BlockStore for FailAt<S> {
         // where the store below does.
         ensures left { calls_left self.new ≡ calls_left self.old - 1 }
         ensures due { calls_left self.old ≡ 1
-            → IsErr result × (store_below self.new ≡ store_below self.old) }
+            → IsErr result × (store_below self.new ≡ store_below self.old)
+            × (spent self.new ≡ spent self.old + 1) }
         ensures passed_on { calls_left self.old ≢ 1
             → S.calls (store_below self.new) ≡ S.calls (store_below self.old) + 1 }
         ensures not_due { calls_left self.old ≢ 1 → OnErr result
             (S.failures (store_below self.old) < S.failures (store_below self.new)) }
     {
-        counted(&mut self.left)?;
+        counted(&mut self.left, &mut self.on_purpose)?;
         self.store.read(k, octets)
     }
 
@@ -89,23 +113,30 @@ impl<S: BlockStore> BlockStore for FailAt<S> {
         // where the store below does.
         ensures left { calls_left self.new ≡ calls_left self.old - 1 }
         ensures due { calls_left self.old ≡ 1
-            → IsErr result × (store_below self.new ≡ store_below self.old) }
+            → IsErr result × (store_below self.new ≡ store_below self.old)
+            × (spent self.new ≡ spent self.old + 1) }
         ensures passed_on { calls_left self.old ≢ 1
             → S.calls (store_below self.new) ≡ S.calls (store_below self.old) + 1 }
         ensures not_due { calls_left self.old ≢ 1 → OnErr result
             (S.failures (store_below self.old) < S.failures (store_below self.new)) }
     {
-        counted(&mut self.left)?;
+        counted(&mut self.left, &mut self.on_purpose)?;
         self.store.write(k, octets)
     }
 }
 
-/// Counts a call, and fails it where it is the one that fails.
-fn counted(left: &mut u64) -> Result<(), DeviceFailed>
+/// Counts a call, and fails it where it is the one that fails, which is counted too.
+fn counted(left: &mut u64, on_purpose: &mut Tally) -> Result<(), DeviceFailed>
     ensures left { left.new ≡ left.old - 1 }
     ensures due { IsErr result ↔ (left.old ≡ 1) }
+    ensures failed { OnErr result (on_purpose.new ≡ on_purpose.old + 1) }
+    ensures no_failure { OnOk result (on_purpose.new ≡ on_purpose.old) }
 {
     let due = *left == 1;
     *left = left.saturating_sub(1);
-    if due { Err(DeviceFailed) } else { Ok(()) }
+    if due {
+        on_purpose.add_one();
+        return Err(DeviceFailed);
+    }
+    Ok(())
 }
