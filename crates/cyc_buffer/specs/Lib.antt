@@ -1,5 +1,6 @@
 pub mod Agreement
 pub mod Answers
+pub mod Arming
 pub mod Calls
 pub mod History
 pub mod Look

@@ -14,7 +14,7 @@ use std::alloc::{AllocError, Global};
 /// A cyclic buffer over a store of blocks.
 #[derive(Debug, Drop)]
 pub struct Buffer<S: BlockStore> {
-    store: S,
+    pub(crate) store: S,
     register: Register,
     ghost counted: { register.line.blocks ≡ length (S.blocks store) },
 }

@@ -6,6 +6,7 @@
 #![tactic(auto)]
 
 mod answers;
+mod arming;
 mod buffer;
 pub mod laws;
 mod line;
