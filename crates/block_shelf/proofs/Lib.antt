@@ -1,3 +1,4 @@
+pub mod Armings
 pub mod Begins
 pub mod BegunShelf
 pub mod CodeBegins

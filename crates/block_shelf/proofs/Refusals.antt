@@ -2,9 +2,10 @@
 use Rattle.std.proofs.Common.{◌≡◌, ◌∙◌, ℕ, zero, suc, refl, sym, ap, subst}
 use Rattle.std.proofs.Common.{List, [], ◌∷◌, Option, None, Some, IfNone, Result, Ok, Err, OnErr}
 use Rattle.std.proofs.Common.{slice_set, slice_index_or}
+use Rattle.std.specs.Global.{Vec}
 use Rattle.std.specs.Vec.{with_item}
 use Rattle.cyc_block.specs.declared.store.BlockStore.{Ghosts}
-use Rattle.cyc_buffer.specs.Agreement.{store_of, register_of}
+use Rattle.cyc_buffer.specs.Agreement.{Follows, store_of, register_of}
 use Rattle.cyc_buffer.specs.declared.buffer.Buffer.{Buffer}
 use Rattle.block_shelf.proofs.BegunShelf.{same_agrees}
 use Rattle.block_shelf.proofs.Shelving.{replaced, read_here}
@@ -30,6 +31,32 @@ pub on_error : {X E : Type 0} {P Q : Type 0} (result : Result X E) → OnErr res
     → OnErr result Q
 on_error (Ok one) says follows = tt
 on_error (Err e) says follows = follows says
+
+module _ {S : Type 0} {g : Ghosts S} (old : Shelf S g) (number : ℕ) (code code' : Buffer S g)
+    (racks : Vec Rack) (read : code ≡ slice_index_or old.buffers.items number code) where
+  -- a buffer that agrees with what it agreed with, and whose device has failed as often, keeps on
+  pub keeps_on : Follows (λ h. h) code code'
+      → g.failures (store_of code') ≡ g.failures (store_of code)
+      → KeepsAll old (record { buffers = old.buffers; racks = racks })
+      → KeepsAll old (record { buffers = with_item old.buffers number code'; racks = racks })
+  keeps_on follows same_failures keeps_racks trusted w begun kept openings failures keeps =
+      replaced trusted old w begun kept openings failures keeps number code' racks begun kept
+      openings failures keeps.fit keeps.opened
+      (keeps_racks trusted w begun kept openings failures keeps).racks
+      (λ buffer there.
+      let had = keeps.buffers number buffer there in
+      let has : KeepsBuffer trusted code w.groups begun kept openings failures buffer =
+      subst (λ each. KeepsBuffer trusted each w.groups begun kept openings failures buffer)
+      (sym (read_here old.buffers.items number had.code code had.there read)) had.keeps
+      in
+      record {
+        history = has.history;
+        is_of_buffer = has.is_of_buffer;
+        agrees = follows trusted has.history has.agrees;
+        is_said = has.is_said;
+        failed = has.failed ∙ sym same_failures;
+      })
+      (λ j buffer there apart each had. had)
 
 module _ {S : Type 0} {g : Ghosts S} (old : Shelf S g) (i : ℕ) (rack : Rack)
     (read_rack : rack ≡ slice_index_or old.racks.items i rack) where
@@ -57,21 +84,6 @@ module _ {S : Type 0} {g : Ghosts S} (old : Shelf S g) (i : ℕ) (rack : Rack)
       buffers = with_item old.buffers number code';
       racks = with_item old.racks i rack;
     })
-    keeps_all = λ trusted w begun kept openings failures keeps.
-        replaced trusted old w begun kept openings failures keeps number code'
-        (with_item old.racks i rack) begun kept openings failures keeps.fit keeps.opened
-        (keeps_rack trusted w begun kept openings failures keeps).racks
-        (λ buffer there.
-        let had = keeps.buffers number buffer there in
-        let has : KeepsBuffer trusted code w.groups begun kept openings failures buffer =
-        subst (λ each. KeepsBuffer trusted each w.groups begun kept openings failures buffer)
-        (sym (read_here old.buffers.items number had.code code had.there read)) had.keeps
-        in
-        record {
-          history = has.history;
-          is_of_buffer = has.is_of_buffer;
-          agrees = same_agrees code code' same_register same_store trusted has.history has.agrees;
-          is_said = has.is_said;
-          failed = has.failed ∙ ap g.failures (sym same_store);
-        })
-        (λ j buffer there apart each had. had)
+    keeps_all =
+        keeps_on old number code code' (with_item old.racks i rack) read
+        (same_agrees code code' same_register same_store) (ap g.failures same_store) keeps_rack

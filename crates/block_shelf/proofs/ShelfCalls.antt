@@ -40,15 +40,19 @@ module _ {S : Type 0} {g : Ghosts S} (old : Shelf S g) (i : ℕ) (code code' : B
   elsewhere : (k : ℕ) → (k ≡ i → ⊥) → calls_at new k ≡ calls_at old k
   elsewhere k apart = ap calls_of (put_there old.buffers.items i k code' apart)
 
-  -- where the buffer's device wasn't called, none was
-  pub calls_none : store_of code' ≡ store_of code → CallsNone old new
-  calls_none same k = by (k == i) refl
+  -- where the buffer's device was called as often, so was each
+  pub calls_same : g.calls (store_of code') ≡ g.calls (store_of code) → CallsNone old new
+  calls_same same k = by (k == i) refl
     where
       by : (b : Bool) → (k == i) ≡ b → calls_at new k ≡ calls_at old k
       by true e =
-          ap (calls_at new) (eqb-true k i e) ∙ is_here ∙ ap g.calls same ∙ sym was_here
+          ap (calls_at new) (eqb-true k i e) ∙ is_here ∙ same ∙ sym was_here
           ∙ ap (calls_at old) (sym (eqb-true k i e))
       by false e = elsewhere k (eqb-false k i e)
+
+  -- where it wasn't called, none was
+  pub calls_none : store_of code' ≡ store_of code → CallsNone old new
+  calls_none same = calls_same (ap g.calls same)
 
   -- where it was called once
   pub called_once : (n : ℕ) → i ≡ n → g.calls (store_of code') ≡ g.calls (store_of code) + 1

@@ -1,3 +1,4 @@
+pub mod Arming
 pub mod Calls
 pub mod Devices
 pub mod Filling

@@ -3,6 +3,7 @@
 //! rings.
 #![tactic(auto)]
 
+mod arming;
 mod filling;
 mod shelf;
 
