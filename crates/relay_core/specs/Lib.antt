@@ -1,4 +1,5 @@
 pub mod Agreement
+pub mod Arming
 pub mod Beginning
 pub mod Openings
 pub mod Queues

@@ -7,6 +7,7 @@
 //! is shared, and takes its memory before it.
 #![tactic(auto)]
 
+mod arming;
 mod beginning;
 mod event;
 mod queue;
