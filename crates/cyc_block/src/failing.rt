@@ -42,7 +42,7 @@ impl<S: BlockStore> FailAt<S> {
         ensures store { store_below self.new ≡ store_below self.old }
         ensures left { calls_left self.new ≡ k }
         ensures spent { spent self.new ≡ spent self.old }
-        // Nobody can see of the store that it was armed.
+        // What contracts see of every store is as it was.
         ensures seen { LooksSame ⟦<FailAt<S> as BlockStore>⟧ self.old self.new }
     {
         self.left = k;
