@@ -16,6 +16,7 @@ mod sharing;
 mod steps;
 mod system;
 mod turns;
+mod watching;
 mod writing;
 
 pub use event::{CoreError, Event, Output};
