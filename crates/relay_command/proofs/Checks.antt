@@ -7,11 +7,11 @@ use Rattle.relay_conf.specs.RelayViews.{RelayGives}
 use Rattle.relay_command.specs.Check.{CheckGives, CycbuffReads, StorageReads, Fails, HasError}
 use Rattle.relay_command.specs.Check.{IsErrorIn}
 use Rattle.relay_command.specs.Check.{in_cycbuff, in_storage, in_relay}
-use Rattle.relay_command.specs.declared.check.CheckError.{CheckError}
-use Rattle.relay_command.specs.declared.check.CheckError.TheVariants.{Memory, Unreadable, Faulty}
-use Rattle.relay_command.specs.declared.check.CheckError.TheVariants.{Unwritten}
-use Rattle.relay_command.specs.declared.check.ConfFile.{ConfFile}
-use Rattle.relay_command.specs.declared.check.ConfFile.TheVariants as files
+use Rattle.relay_command.specs.declared.load.CheckError.{CheckError}
+use Rattle.relay_command.specs.declared.load.CheckError.TheVariants.{Memory, Unreadable, Faulty}
+use Rattle.relay_command.specs.declared.load.CheckError.TheVariants.{Unwritten}
+use Rattle.relay_command.specs.declared.load.ConfFile.{ConfFile}
+use Rattle.relay_command.specs.declared.load.ConfFile.TheVariants as files
 
 -- A reader's fault is not the writer's.
 not_written : (file : ConfFile) (fault : ConfError) → IsErrorIn file fault Unwritten → ⊥
@@ -38,7 +38,7 @@ never_unwritten folder (in_relay buffers methods said stored fails) =
     no_file_fails_so folder files.Relay RelayGives fails
 
 -- A writer that isn't called holds what it held.
-keeps_same : (held : Option (List ℕ)) → Keeps held held
+pub keeps_same : (held : Option (List ℕ)) → Keeps held held
 keeps_same None = tt
 keeps_same (Some xs) = refl
 

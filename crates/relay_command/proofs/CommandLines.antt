@@ -1,15 +1,14 @@
 -- Commands that are built word by word, and what clap answers of them.
-use Rattle.std.proofs.Common.{◌≡◌, ◌∙◌, ap, ap₂, false, true, Bool, Option, Some, List, []}
-use Rattle.std.proofs.Common.{inl, inr, refl, sym, subst}
+use Rattle.std.proofs.Common.{◌≡◌, ◌∙◌, ap, ap₂, false, true, Bool, Option, List, []}
+use Rattle.std.proofs.Common.{refl, sym, subst}
 use Rattle.std.specs.Prelude.{◌||◌}
 use Rattle.clap.specs.Words.{AddsArg, AddsSubcommand, App, Rule, rule_of, with_rule}
 use Rattle.clap.specs.Words.{with_subcommand, HasKind, Row, Text, fault_of, is_simple}
 use Rattle.clap.specs.Words.{is_simple_and_free, subcommand_of}
 use Rattle.clap.specs.declared.builder.Arg.{Arg}
 use Rattle.clap.specs.declared.builder.Command.{Command}
-use Rattle.clap.specs.declared.builder.ValueParser.{ValueParser}
 use Rattle.clap.specs.declared.error.Error.{Error}
-use Rattle.relay_command.specs.CommandLine.{AreServed, Asked, IsAskedBy, IsRefusedBy, Reads}
+use Rattle.relay_command.specs.CommandLine.{Asked, IsAskedBy, IsRefusedBy, Reads}
 use Rattle.relay_command.specs.CommandLine.{asked_by, program_words}
 
 -- A command with one more word reads that too.
@@ -29,54 +28,29 @@ with_command old sub new app below before under adds = record {
   own = adds.globals ∙ ap₂ (λ (x y : Bool). x || y) before.own under.own;
 }
 
--- A word that has to be one of some is the word with that test.
-pub among : (plain given : Arg) (values : ValueParser) (rule : Rule)
-    → given ≡ record plain { value_parser = given.value_parser } → given.value_parser ≡ Some values
-    → rule_of plain ≡ rule → rule_of given ≡ record rule { parser = Some values }
-among plain given values rule others tested same =
-    let with_parser : Option ValueParser → Rule =
-    λ p. rule_of (record plain { value_parser = p }) in
-    let with_values : Rule → Rule = λ r. record r { parser = Some values } in
-    ap rule_of others ∙ ap with_parser tested ∙ ap with_values same
-
 -- The program's words are of the plain kind of which clap states all.
-words_are_plain : (folders scripts : ValueParser)
-    → is_simple_and_free (program_words folders scripts) ≡ true
-words_are_plain folders scripts = refl
-
--- A fault of the program's words is one by its definition.
-pub has_fault : (folders scripts : ValueParser) (words : List Text) (error : Error)
-    → AreServed folders scripts → HasKind (fault_of (program_words folders scripts) words) error
-    → IsRefusedBy words error
-has_fault folders scripts words error served (inl memory) = inl memory
-has_fault folders scripts words error served (inr kind) =
-    inr (record { folders = folders; scripts = scripts; served = served; refused = kind })
+words_are_plain : is_simple_and_free program_words ≡ true
+words_are_plain = refl
 
 -- What clap refuses of a command with the program's words is refused by their definition.
-pub refuses : (app : App) (folders scripts : ValueParser) (words : List Text) (error : Error)
-    → app ≡ program_words folders scripts → AreServed folders scripts
+pub refuses : (app : App) (words : List Text) (error : Error) → app ≡ program_words
     → (is_simple_and_free app ≡ true → HasKind (fault_of app words) error)
     → IsRefusedBy words error
-refuses app folders scripts words error same served kinds =
-    let plain = ap is_simple_and_free same ∙ words_are_plain folders scripts in
-    has_fault folders scripts words error served
-    (subst (λ (a : App). HasKind (fault_of a words) error) same (kinds plain))
+refuses app words error same kinds =
+    subst (λ (a : App). HasKind (fault_of a words) error) same
+    (kinds (ap is_simple_and_free same ∙ words_are_plain))
 
 -- What clap reads of a command with the program's words is what they ask for by their definition.
-pub asks : (app : App) (folders scripts : ValueParser) (words : List Text) (a : Asked)
-    → app ≡ program_words folders scripts → AreServed folders scripts
+pub asks : (app : App) (words : List Text) (a : Asked) → app ≡ program_words
     → (is_simple_and_free app ≡ true → fault_of app words ≡ [])
     → (met : Option (Text × List Row)) → (is_simple app ≡ true → met ≡ subcommand_of app words)
     → a ≡ asked_by met → IsAskedBy words a
-asks app folders scripts words a same served faultless met named read =
-    let simple : is_simple (program_words folders scripts) ≡ true = refl in
-    let plain = ap is_simple_and_free same ∙ words_are_plain folders scripts in
+asks app words a same faultless met named read =
+    let simple : is_simple program_words ≡ true = refl in
+    let plain = ap is_simple_and_free same ∙ words_are_plain in
     let asked : asked_by (subcommand_of app words) ≡ a =
     sym (read ∙ ap asked_by (named (ap is_simple same ∙ simple))) in
     record {
-      folders = folders;
-      scripts = scripts;
-      served = served;
       taken = ap (λ (a : App). fault_of a words) (sym same) ∙ faultless plain;
       read = ap (λ (a : App). asked_by (subcommand_of a words)) (sym same) ∙ asked;
     }

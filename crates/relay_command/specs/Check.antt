@@ -3,8 +3,6 @@ use Rattle.std.specs.Prelude.{◌≡◌, ◌≢◌, ◌⊎◌, ℕ, List, ◌++�
 use Rattle.std.specs.Prelude.{Result, Ok, Err}
 use Rattle.std.specs.Global.{Vec}
 use Rattle.std.specs.Io.KnownBytes.{Appends, Keeps}
-use Rattle.std.specs.declared.io.ErrorKind.{ErrorKind}
-use Rattle.std.specs.declared.io.ErrorKind.TheVariants.{OutOfMemory}
 use Rattle.relay_conf.specs.Cycbuff.{cycbuff_of}
 use Rattle.relay_conf.specs.Faults.{ConfGives, code_of, name_of}
 use Rattle.relay_conf.specs.Lines.{lines_of}
@@ -20,11 +18,11 @@ use Rattle.relay_conf.specs.declared.settings.Method.{Method}
 use Rattle.relay_drill.specs.Written.{GainsFront}
 use Rattle.relay_drill.specs.declared.fault.DrillError.{DrillError}
 use Rattle.relay_drill.specs.declared.fault.DrillError.TheVariants as drill
-use Rattle.relay_command.specs.declared.check.CheckError.{CheckError}
-use Rattle.relay_command.specs.declared.check.CheckError.TheVariants.{Memory, Unreadable, Faulty}
-use Rattle.relay_command.specs.declared.check.CheckError.TheVariants.{Unwritten}
-use Rattle.relay_command.specs.declared.check.ConfFile.{ConfFile}
-use Rattle.relay_command.specs.declared.check.ConfFile.TheVariants as files
+use Rattle.relay_command.specs.declared.load.CheckError.{CheckError}
+use Rattle.relay_command.specs.declared.load.CheckError.TheVariants.{Memory, Unreadable, Faulty}
+use Rattle.relay_command.specs.declared.load.CheckError.TheVariants.{Unwritten}
+use Rattle.relay_command.specs.declared.load.ConfFile.{ConfFile}
+use Rattle.relay_command.specs.declared.load.ConfFile.TheVariants as files
 
 -- the bare name of a file
 abbrev pub file_name : ConfFile → List ℕ
@@ -56,12 +54,8 @@ IsTextOf folder file text = folder ≡ codes "K1" → text ≡ k1_text file
 abbrev pub IsUnread : (folder : List ℕ) → ConfFile → CheckError → Type 0
 IsUnread folder file error = (error ≡ Memory) ⊎ ((error ≡ Unreadable file) × (folder ≢ codes "K1"))
 
--- why a file can't be opened: memory ran out, or it can't be read (docs/PROTOCOL.md, Statuses)
-abbrev pub unopened_as : ConfFile → ErrorKind → CheckError
-unopened_as file OutOfMemory = Memory
-unopened_as file kind = Unreadable file
-
--- why what an open file has can't be had: the same (docs/PROTOCOL.md, Statuses)
+-- why what a file has can't be had: memory ran out, or it can't be read (docs/PROTOCOL.md,
+-- Statuses)
 abbrev pub unread_as : ConfFile → DrillError → CheckError
 unread_as file drill.Memory = Memory
 unread_as file error = Unreadable file

@@ -1,16 +1,13 @@
 -- What the program's words ask for (docs/PROTOCOL.md, Commands), by what clap states of them.
-use Rattle.std.specs.Prelude.{◌≡◌, ◌⊎◌, ℕ, true, false, List, [], ◌∷◌, Option, Some, None}
+use Rattle.std.specs.Prelude.{◌≡◌, ◌⊎◌, ℕ, true, false, List, [], Option, Some, None}
 use Rattle.std.specs.Prelude.{Result, Ok, Err, unwrap_or, codes, string_bytes, if◌then◌else◌}
-use Rattle.std.specs.List.{list_any}
 use Rattle.std.specs.Str.{bytes_eq}
 use Rattle.clap.specs.Words.{App, app_of, Row, Rule, Text, first_of, new_app, new_rule}
 use Rattle.clap.specs.Words.{subcommand_of, with_rule, with_subcommand}
 use Rattle.clap.specs.Words.{IsAmong, fault_of, kind_of}
-use Rattle.clap.specs.ValueTests.{accepts}
 use Rattle.clap.specs.declared.builder.Command.{Command}
 use Rattle.clap.specs.declared.builder.Command.TheViews.{out-Command as fields_of}
 use Rattle.clap.specs.declared.builder.ArgAction.TheVariants.{Set}
-use Rattle.clap.specs.declared.builder.ValueParser.{ValueParser}
 use Rattle.clap.specs.declared.error.Error.{Error}
 use Rattle.clap.specs.declared.error.kind.ErrorKind.{ErrorKind}
 use Rattle.clap.specs.declared.error.kind.ErrorKind.TheVariants.{OutOfMemory}
@@ -19,8 +16,8 @@ use Rattle.relay_command.specs.declared.command_line.Job.TheVariants as jobs
 
 -- what the words ask for
 pub data Asked : Type 0 where
-  -- to run a script
-  Drills : Asked
+  -- to run a script with the configuration in a folder
+  Drills : (folder script : List ℕ) → Asked
   -- to read the configuration in a folder
   Checks : (folder : List ℕ) → Asked
   -- to tell the parts of a token
@@ -28,7 +25,7 @@ pub data Asked : Type 0 where
 
 -- a job as the words ask for it
 abbrev pub asked : Job → Asked
-asked jobs.Drill = Drills
+asked (jobs.Drill folder script) = Drills (string_bytes folder) (string_bytes script)
 asked (jobs.Check folder) = Checks (string_bytes folder)
 asked (jobs.Token text) = Tells (string_bytes text)
 
@@ -36,29 +33,24 @@ asked (jobs.Token text) = Tells (string_bytes text)
 abbrev pub needed : Text → Rule
 needed name = record (new_rule name) { required = true; action = Some Set }
 
--- a word that has to be there and to be one of some
-abbrev pub needed_among : ValueParser → Text → Rule
-needed_among values name = record (needed name) { parser = Some values }
-
 -- `check DIR`
 abbrev pub check_words : App
 check_words = with_rule (new_app (codes "check")) (needed (codes "DIR"))
 
--- `drill DIR SCRIPT`, for these folders and scripts
-abbrev pub drill_words : (folders scripts : ValueParser) → App
-drill_words folders scripts =
-    with_rule (with_rule (new_app (codes "drill")) (needed_among folders (codes "DIR")))
-    (needed_among scripts (codes "SCRIPT"))
+-- `drill DIR SCRIPT`
+abbrev pub drill_words : App
+drill_words =
+    with_rule (with_rule (new_app (codes "drill")) (needed (codes "DIR"))) (needed (codes "SCRIPT"))
 
 -- `token TEXT`
 abbrev pub token_words : App
 token_words = with_rule (new_app (codes "token")) (needed (codes "TEXT"))
 
 -- the words that there are
-abbrev pub program_words : (folders scripts : ValueParser) → App
-program_words folders scripts =
+abbrev pub program_words : App
+program_words =
     with_subcommand (with_subcommand (with_subcommand (new_app (codes "cnrelay")) check_words.top)
-    (drill_words folders scripts).top) token_words.top
+    drill_words.top) token_words.top
 
 -- the command reads these words, and has no argument that counts below it too
 pub record Reads (command : Command) (app : App) : Type 0 where
@@ -70,38 +62,22 @@ abbrev pub word_given : Text → List Row → List ℕ
 word_given name rows = unwrap_or (first_of name rows) []
 
 -- what is asked by the subcommand that the words name, with what is given for its names; without
--- one it is a drill
+-- one it is a drill with the built-in configuration, of the script on standard input
 abbrev pub asked_by : Option (Text × List Row) → Asked
-asked_by None = Drills
+asked_by None = Drills (codes "K1") (codes "stdin")
 asked_by (Some met) =
     if bytes_eq met.0 (codes "check") then Checks (word_given (codes "DIR") met.1)
     else if bytes_eq met.0 (codes "token") then Tells (word_given (codes "TEXT") met.1)
-    else Drills
-
--- the word has to be one of these
-abbrev pub TakesOnly : ValueParser → List Text → Type 0
-TakesOnly parser words =
-    (text : Text) → accepts false parser text ≡ list_any (λ word. bytes_eq word text) words
-
--- what a drill may name today: the configuration `K1` and the script `stdin`
-pub record AreServed (folders scripts : ValueParser) : Type 0 where
-  pub built_in : TakesOnly folders (codes "K1" ∷ [])
-  pub standard_input : TakesOnly scripts (codes "stdin" ∷ [])
+    else Drills (word_given (codes "DIR") met.1) (word_given (codes "SCRIPT") met.1)
 
 -- the words ask for this, and have no fault, by clap's reading of them
 pub record IsAskedBy (words : List Text) (a : Asked) : Type 0 where
-  pub folders : ValueParser
-  pub scripts : ValueParser
-  pub served : AreServed folders scripts
-  pub taken : fault_of (program_words folders scripts) words ≡ []
-  pub read : asked_by (subcommand_of (program_words folders scripts) words) ≡ a
+  pub taken : fault_of program_words words ≡ []
+  pub read : asked_by (subcommand_of program_words words) ≡ a
 
 -- the words have a fault of this kind, by clap's reading of them; to ask for help is one
-pub record HasFault (words : List Text) (kind : ErrorKind) : Type 0 where
-  pub folders : ValueParser
-  pub scripts : ValueParser
-  pub served : AreServed folders scripts
-  pub refused : IsAmong kind (fault_of (program_words folders scripts) words)
+abbrev pub HasFault : List Text → ErrorKind → Type 0
+HasFault words kind = IsAmong kind (fault_of program_words words)
 
 -- the error says that memory ran out, or that the words have this fault
 abbrev pub IsRefusedBy : List Text → Error → Type 0

@@ -11,7 +11,7 @@ use Rattle.relay_drill.specs.Text.{text_of}
 use Rattle.relay_drill.specs.declared.fault.DrillError.TheVariants as drill
 use Rattle.relay_command.specs.Check.{check_text}
 use Rattle.relay_command.specs.Tell.{fault_text}
-use Rattle.relay_command.specs.declared.check.CheckError.TheVariants as check
+use Rattle.relay_command.specs.declared.load.CheckError.TheVariants as check
 use Rattle.relay_command.specs.declared.failure.Failure.{Failure}
 use Rattle.relay_command.specs.declared.failure.Failure.TheVariants.{Unbegun, Words, Check}
 use Rattle.relay_command.specs.declared.failure.Failure.TheVariants.{Drill, Token}

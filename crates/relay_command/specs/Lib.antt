@@ -1,5 +1,6 @@
 pub mod Check
 pub mod CommandLine
 pub mod Failure
+pub mod Files
 pub mod Run
 pub mod Tell

@@ -1,8 +1,7 @@
 //! Reading the program's words (docs/PROTOCOL.md, Commands).
-ghost use Rattle.std.specs.Prelude.{◌≡◌, false, map, string_bytes, Some, IfOk};
+ghost use Rattle.std.specs.Prelude.{◌≡◌, false, map, string_bytes, None, Some, IfOk};
 ghost use Rattle.clap.specs.Words.{found_of, rows_of, rule_of, subcommand_rows_of};
-ghost use Rattle.clap.specs.declared.builder.ValueParser.{ValueParser};
-ghost use Rattle.relay_command.specs.CommandLine.{AreServed, Reads, ReadsWords, asked, asked_by};
+ghost use Rattle.relay_command.specs.CommandLine.{Reads, ReadsWords, asked, asked_by};
 ghost use Rattle.relay_command.specs.CommandLine.{word_given, check_words, drill_words};
 ghost use Rattle.relay_command.specs.CommandLine.{token_words};
 ghost use Rattle.relay_command.specs.CommandLine.{needed, program_words};
@@ -10,17 +9,11 @@ ghost use Rattle.relay_command.specs.CommandLine.{needed, program_words};
 use clap::{Arg, ArgAction, ArgMatches, Command, Error};
 use std::alloc::{AllocError, Global};
 
-/// The configurations that a drill has today.
-const CONFIGURATIONS: &[&str] = &["K1"];
-
-/// The scripts that a drill has today: standard input.
-const SCRIPTS: &[&str] = &["stdin"];
-
 /// What the words ask for.
 #[derive(Debug, Drop)]
 pub enum Job {
-    /// To run the script on standard input with the built-in configuration.
-    Drill,
+    /// To run a script with the configuration in this folder, or the built-in one.
+    Drill { folder: String, script: String },
     /// To read the configuration in this folder, or the built-in one, and say what it has.
     Check(String),
     /// To say what this text of a token stands for.
@@ -43,8 +36,19 @@ fn job_of(alloc: Global, matches: &ArgMatches<'_>) -> Result<Job, AllocError>
 {
     match matches.subcommand() {
         Some((name, given)) => job_named(alloc, name, given),
-        None => Ok(Job::Drill),
+        None => first_drill(alloc),
     }
+}
+
+/// What is asked for without words: a drill of the script on standard input, with the built-in
+/// configuration.
+fn first_drill(alloc: Global) -> Result<Job, AllocError>
+    ensures { IfOk result (λ job. asked job ≡ asked_by None) }
+{
+    Ok(Job::Drill {
+        folder: String::from_str(alloc, "K1")?,
+        script: String::from_str(alloc, "stdin")?,
+    })
 }
 
 /// What the subcommand of this name asks for, with what was given for its words.
@@ -58,7 +62,10 @@ fn job_named(alloc: Global, name: &str, given: &ArgMatches<'_>) -> Result<Job, A
     if name == "token" {
         return Ok(Job::Token(word(alloc, given, "TEXT")?));
     }
-    Ok(Job::Drill)
+    Ok(Job::Drill {
+        folder: word(alloc, given, "DIR")?,
+        script: word(alloc, given, "SCRIPT")?,
+    })
 }
 
 /// The word that was given for a name, empty where none was.
@@ -74,8 +81,7 @@ fn word(alloc: Global, given: &ArgMatches<'_>, name: &str) -> Result<String, All
 
 /// The words that there are.
 fn command<'a>(alloc: Global) -> Result<Command<'a>, AllocError>
-    ensures { IfOk result (λ command. (folders scripts : ValueParser)
-        × AreServed folders scripts × Reads command (program_words folders scripts)) }
+    ensures { IfOk result (λ command. Reads command program_words) }
 {
     let whole = Command::new(alloc, "cnrelay").about(
         "The incoming side of a Netnews transit server",
@@ -104,19 +110,16 @@ fn check<'a>(alloc: Global) -> Result<Command<'a>, AllocError>
 
 /// `drill DIR SCRIPT`.
 fn drill<'a>(alloc: Global) -> Result<Command<'a>, AllocError>
-    ensures { IfOk result (λ command. (folders scripts : ValueParser)
-        × AreServed folders scripts × Reads command (drill_words folders scripts)) }
+    ensures { IfOk result (λ command. Reads command drill_words) }
 {
-    let configuration = needed(alloc, "DIR")
-        .help("The configuration: K1 is the built-in one")
-        .value_parser(CONFIGURATIONS);
-    let script = needed(alloc, "SCRIPT")
-        .help("The script: stdin is standard input")
-        .value_parser(SCRIPTS);
+    let folder = needed(alloc, "DIR").help(
+        "The folder of the configuration: K1 is the built-in one",
+    );
+    let script = needed(alloc, "SCRIPT").help("The script's file: stdin is standard input");
     Ok(
         Command::new(alloc, "drill")
             .about("Runs a script over memory")
-            .arg(configuration)?
+            .arg(folder)?
             .arg(script)?,
     )
 }

@@ -5,7 +5,7 @@ ghost use Rattle.clap.specs.Words.{kind_of};
 ghost use Rattle.relay_command.specs.Failure.{ends_with, status_of, Tells, unbegun_text};
 ghost use Rattle.relay_command.specs.Failure.{words_status};
 
-use crate::check::CheckError;
+use crate::load::CheckError;
 use crate::token::TokenFault;
 use clap::error::ErrorKind;
 use relay_drill::DrillError;
@@ -46,7 +46,7 @@ pub enum Failure {
     /// The words are no command line, or ask for help.
     #[error(transparent)]
     Words(clap::Error),
-    /// A configuration is not told.
+    /// A configuration can't be had, or is not told.
     #[error(transparent)]
     Check(CheckError),
     /// A script did not run to its end.

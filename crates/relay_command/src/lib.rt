@@ -8,10 +8,12 @@
 mod check;
 mod command_line;
 mod failure;
+mod file;
+mod load;
 mod program;
 mod token;
 
-pub use check::{CheckError, ConfFile};
 pub use failure::{Failure, Unbegun, exit_code, print_failure};
+pub use load::{CheckError, ConfFile};
 pub use program::{program_words, run};
 pub use token::TokenFault;

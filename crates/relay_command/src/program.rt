@@ -1,17 +1,19 @@
 //! Doing what the words ask for (docs/PROTOCOL.md, Program).
-ghost use Rattle.std.specs.Prelude.{◌≡◌, ◌⊎◌, map, string_bytes, IfOk, IfErr};
-ghost use Rattle.relay_command.specs.CommandLine.{asked};
+ghost use Rattle.std.specs.Prelude.{◌≡◌, ◌⊎◌, map, bytes_eq, codes, string_bytes, IfOk, IfErr};
+ghost use Rattle.relay_command.specs.CommandLine.{Drills, asked};
 ghost use Rattle.std.specs.Vec.Iter.{into_iter_items};
 ghost use Rattle.relay_command.specs.Failure.{unbegun_as};
-ghost use Rattle.relay_command.specs.Run.{DrillsK1, Performs, RunGives};
+ghost use Rattle.relay_command.specs.Run.{DrillsScript, Performs, RunGives};
 ghost use Rattle.relay_command.specs.declared.failure.Failure.TheVariants as failures;
 ghost use Rattle.relay_command.specs.declared.failure.Unbegun.TheVariants as begin;
 
 use crate::check::check;
 use crate::command_line::{Job, read_words};
 use crate::failure::{Failure, Unbegun};
+use crate::file::read_file;
+use crate::load::load;
 use crate::token::tell;
-use first_core::Config;
+use relay_conf::Config;
 use relay_drill::{DrillError, drill};
 use std::alloc::Global;
 use std::env;
@@ -53,9 +55,9 @@ fn unread(kind: ErrorKind) -> Unbegun
     }
 }
 
-/// Does what the words ask for, of which the first is the program's name. A script is read from
-/// `reader`; what is printed where nothing fails goes to `writer`. `rt` has the files, and seeds
-/// the core's hasher.
+/// Does what the words ask for, of which the first is the program's name. `reader` is standard
+/// input; what is printed where nothing fails goes to `writer`. `rt` has the files, and seeds the
+/// core's hasher.
 pub fn run<S: Files + RandomSource, R: Read, W: Write>(
     rt: &S,
     alloc: Global,
@@ -84,10 +86,7 @@ fn perform<S: Files + RandomSource, R: Read, W: Write>(
         (W.contents writer.old) (W.contents writer.new) }
 {
     match job {
-        Job::Drill => match drill_k1(rt, alloc, reader, writer) {
-            Ok(()) => Ok(()),
-            Err(error) => Err(Failure::Drill(error)),
-        },
+        Job::Drill { folder, script } => drill_in(rt, alloc, folder, script, reader, writer),
         Job::Check(folder) => match check(rt, alloc, folder, writer) {
             Ok(()) => Ok(()),
             Err(error) => Err(Failure::Check(error)),
@@ -99,18 +98,52 @@ fn perform<S: Files + RandomSource, R: Read, W: Write>(
     }
 }
 
-/// Runs a script with the configuration K1.
-fn drill_k1<S: RandomSource, R: Read, W: Write>(
+/// Runs a script with the configuration in a folder, which is read first.
+fn drill_in<S: Files + RandomSource, R: Read, W: Write>(
     rt: &S,
     alloc: Global,
+    folder: &str,
+    script: &str,
+    reader: &mut R,
+    writer: &mut W,
+) -> Result<(), Failure>
+    ensures { Performs (Drills folder.now script.now) result (R.remaining reader.old)
+        (W.contents writer.old) (W.contents writer.new) }
+{
+    let config = match load(rt, alloc, folder) {
+        Ok(config) => config,
+        Err(error) => return Err(Failure::Check(error)),
+    };
+    match drill_script(rt, alloc, config, script, reader, writer) {
+        Ok(()) => Ok(()),
+        Err(error) => Err(Failure::Drill(error)),
+    }
+}
+
+/// Runs a script with a configuration. A file is read whole, and then drilled.
+fn drill_script<S: Files + RandomSource, R: Read, W: Write>(
+    rt: &S,
+    alloc: Global,
+    config: Config,
+    script: &str,
     reader: &mut R,
     writer: &mut W,
 ) -> Result<(), DrillError>
-    ensures { DrillsK1 result (R.remaining reader.old)
+    ensures { DrillsScript config script.now result (R.remaining reader.old)
         (W.contents writer.old) (W.contents writer.new) }
 {
-    match Config::k1(alloc) {
-        Ok(config) => drill(rt, alloc, config, reader, writer),
-        Err(_) => Err(DrillError::Memory),
+    if is_standard_input(script) {
+        return drill(rt, alloc, config, reader, writer);
     }
+    match read_file(rt, alloc, script) {
+        Ok(text) => drill(rt, alloc, config, &mut text.as_slice(), writer),
+        Err(error) => Err(error),
+    }
+}
+
+/// Whether the script is the name of standard input.
+fn is_standard_input(script: &str) -> bool
+    ensures { result ≡ bytes_eq script.now (codes "stdin") }
+{
+    script == "stdin"
 }

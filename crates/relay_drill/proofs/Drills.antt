@@ -1,22 +1,32 @@
 -- What a drill answers, by what its parts answered.
-use Rattle.std.proofs.Common.{◌≡◌, ℕ, List, [], ◌∷◌, Option, Some, None, Result, Ok, Err, subst}
-use Rattle.std.proofs.Common.{sym}
+use Rattle.std.proofs.Common.{◌≡◌, ℕ, List, [], ◌∷◌, All, Option, Some, None, Result, Ok, Err, refl}
+use Rattle.std.proofs.Common.{subst, sym, true, arith, slice_get, zero, suc}
 use Rattle.std.specs.Prelude.{IfSome}
+use Rattle.std.specs.Option.{option_map, unwrap_or}
 use Rattle.std.specs.Result.{IsErr, IsErrAnd}
-use Rattle.first_core.specs.Config.{terms_of}
-use Rattle.first_core.specs.declared.config.Config.{Config}
-use Rattle.first_core.specs.declared.system.System.{System}
-use Rattle.first_model.specs.World.{empty_world}
-use Rattle.relay_drill.specs.Drill.{DrillGives, LinesStop, ScriptStops, lines_of_script}
+use Rattle.article_verdict.specs.Config.{terms_of}
+use Rattle.block_shelf.specs.Filling.{failures_in}
+use Rattle.cyc_block.specs.declared.store.BlockStore.{Ghosts}
+use Rattle.relay_conf.specs.declared.cycbuff.BufferConf.{BufferConf}
+use Rattle.relay_conf.specs.declared.settings.Config.{Config}
+use Rattle.relay_core.specs.Agreement.{Agrees}
+use Rattle.relay_core.specs.Beginning.{BeginsOver}
+use Rattle.relay_core.specs.declared.system.System.{System}
+use Rattle.relay_model.specs.Terms.{Terms}
+use Rattle.relay_model.specs.World.{World, empty_world}
+use Rattle.relay_drill.specs.Drill.{DrillGives, ScriptHalts, asked_by, first_world}
+use Rattle.relay_drill.specs.Drill.{lines_of_script}
 use Rattle.relay_drill.specs.Fault.{PlayGives, ReadGives, ScriptGives}
-use Rattle.relay_drill.specs.Play.{LinesDo, first_stand}
-use Rattle.relay_drill.specs.Progress.{Did}
+use Rattle.relay_drill.specs.Play.{Rests}
+use Rattle.relay_drill.specs.Progress.{Broke, Halted, Performs, Under, Went}
 use Rattle.relay_drill.specs.Script.{Line}
+use Rattle.relay_drill.specs.Stores.{AreStoresOf}
+use Rattle.relay_drill.specs.Todo.{Todo, Done}
 use Rattle.relay_drill.specs.declared.fault.DrillError.{DrillError}
 use Rattle.relay_drill.specs.declared.fault.DrillError.TheVariants.{Memory, Unreadable, Unwritten}
 use Rattle.relay_drill.specs.declared.fault.DrillError.TheVariants as faults
 use Rattle.relay_drill.specs.declared.line.Line as code
-use Rattle.relay_drill.proofs.Stops.{can_lines, stopped_at_once}
+use Rattle.relay_drill.proofs.Prints.{appends_none}
 use Rattle.relay_drill.proofs.Writes.{keeps_same}
 
 -- What holds of every text holds of a script that is known.
@@ -25,23 +35,28 @@ if_known : (script : Option (List ℕ)) (P : List ℕ → Type 0) → ((text : L
 if_known None P holds = tt
 if_known (Some text) P holds = holds text
 
--- Before anything is written, what was written is a front.
-front_at_once : (config : Config) (says : Result (List Line) ℕ) (held : Option (List ℕ))
-    → ScriptStops config says held held
-front_at_once config (Ok lines) held =
-    let w = terms_of config in
-    stopped_at_once (LinesDo w (0 ∷ []) lines first_stand) empty_world held
-    (can_lines w (0 ∷ []) lines first_stand)
-front_at_once config (Err number) held = keeps_same held
+-- Before anything was done nothing is written.
+halted_at_once : (config : Config) (says : Result (List Line) ℕ) (held : Option (List ℕ))
+    → ScriptHalts config says held held
+halted_at_once config (Ok lines) held =
+    record {
+      events = [];
+      outputs = [];
+      world = first_world;
+      left = asked_by config lines;
+      plays = Rests (asked_by config lines) first_world;
+      gained = appends_none held;
+    }
+halted_at_once config (Err number) held = keeps_same held
 
--- Memory that ran out before anything was written is said with nothing written.
-memory_at_once : (config : Config) (script held : Option (List ℕ))
+-- Memory that ran out before anything was done is said with nothing written.
+pub memory_at_once : (config : Config) (script held : Option (List ℕ))
     → DrillGives config (Err Memory) script held held
 memory_at_once config script held =
-    if_known script _ (λ text. front_at_once config (lines_of_script config text) held)
+    if_known script _ (λ text. halted_at_once config (lines_of_script config text) held)
 
 -- An error that is passed on says what it said.
-passed : (config : Config) (error : DrillError) (result : Result (Unit {0}) DrillError)
+pub passed : (config : Config) (error : DrillError) (result : Result (Unit {0}) DrillError)
     (script before after : Option (List ℕ)) → IsErr result → IsErrAnd result (λ e. e ≡ error)
     → DrillGives config (Err error) script before after
     → DrillGives config result script before after
@@ -79,33 +94,70 @@ bad_line items config (faults.Line number) result (Some all) text held is e read
 bad_line items config Unreadable result script text held is e read gives = absurd gives
 bad_line items config Unwritten result script text held is e read gives = absurd gives
 
--- Where the lines were read and then played, the answer of that is the drill's.
-pub drill_gives : (config : Config) (system : System) (result : Result (Unit {0}) DrillError)
-    (script : Option (List ℕ)) (text : List ℕ) (lines : List Line)
-    (before after : Option (List ℕ)) → IfSome script (λ all. text ≡ all)
-    → lines_of_script config text ≡ Ok lines
-    → PlayGives result (Did (terms_of config)
-    (LinesDo (terms_of config) (0 ∷ []) lines first_stand) empty_world system before after)
-    (LinesStop config lines before after)
-    → DrillGives config result script before after
-drill_gives config system (Ok done) None text lines before after is says did = tt
-drill_gives config system (Ok done) (Some all) text lines before after is says did =
-    record {
-      lines = lines;
-      world = did.world;
-      text = did.text;
-      is_script = rw (← is) says;
-      played = did.acted;
-      written = did.gained;
-    }
-drill_gives config system (Err Memory) None text lines before after is says stops = tt
-drill_gives config system (Err Memory) (Some all) text lines before after is says stops =
-    let same : lines_of_script config all ≡ Ok lines = rw (← is) says in
-    let P : Result (List Line) ℕ → Type 0 = λ said. ScriptStops config said before after in
-    subst P (sym same) stops
-drill_gives config system (Err Unwritten) None text lines before after is says stops = tt
-drill_gives config system (Err Unwritten) (Some all) text lines before after is says stops =
-    (lines, rw (← is) says, stops)
-drill_gives config system (Err (faults.Line number)) script text lines before after is says did =
-    absurd did
-drill_gives config system (Err Unreadable) script text lines before after is says did = absurd did
+-- Where no device of these has failed, none has.
+none_failed : {S : Type 0} (failures : S → ℕ) (stores : List S)
+    → All (λ store. failures store ≡ 0) stores → (b : ℕ)
+    → unwrap_or (option_map failures (slice_get stores b)) 0 ≡ 0
+none_failed failures [] well b = refl
+none_failed failures (store ∷ stores) well zero = well zero store (omega arith)
+none_failed failures (store ∷ stores) well (suc b) =
+    none_failed failures stores (λ k d below. well (suc k) d (omega (arith, below))) b
+
+module _ {S : Type 0} {g : Ghosts S} where
+  -- Over stores that are as new a relay agrees with the first world.
+  pub begun : (config : Config) (buffers : List BufferConf) (stores : List S)
+      (relay : System S g) → AreStoresOf g buffers stores → BeginsOver config stores relay
+      → Under (terms_of config) relay first_world
+  begun config buffers stores relay made begins =
+      let none : failures_in g stores ≡ (λ device. 0) =
+      λ i device. none_failed g.failures stores made.well device i in
+      record {
+        terms = subst (λ (it : Config). terms_of config ≡ terms_of it) (sym begins.config_is) refl;
+        agrees = subst (λ (failures : ℕ → ℕ). Agrees true relay (empty_world failures)) none
+            (begins.agrees true (λ is. made.honest));
+      }
+
+  -- What a call says of every world it says of this.
+  pub performs_at : (result : Result (Unit {0}) DrillError) (a b : Todo)
+      (old new : System S g) (before after : Option (List ℕ)) (w : Terms) (x : World)
+      → Performs result a b old new before after → Under w old x
+      → PlayGives result (Went w a b x new before after) (Halted w a x before after)
+      (Broke w a x before after)
+  performs_at (Ok fine) a b old new before after w x performs under = performs w x under
+  performs_at (Err Memory) a b old new before after w x performs under = performs w x under
+  performs_at (Err Unwritten) a b old new before after w x performs under = performs w x under
+  performs_at (Err (faults.Line number)) a b old new before after w x performs under = performs
+  performs_at (Err Unreadable) a b old new before after w x performs under = performs
+
+  -- Where the lines were read and then played, the answer of that is the drill's.
+  pub drill_gives : (config : Config) (new : System S g) (result : Result (Unit {0}) DrillError)
+      (script : Option (List ℕ)) (text : List ℕ) (lines : List Line)
+      (before after : Option (List ℕ)) → IfSome script (λ all. text ≡ all)
+      → lines_of_script config text ≡ Ok lines
+      → PlayGives result (Went (terms_of config) (asked_by config lines) Done first_world new
+      before after) (Halted (terms_of config) (asked_by config lines) first_world before after)
+      (Broke (terms_of config) (asked_by config lines) first_world before after)
+      → DrillGives config result script before after
+  drill_gives config new (Ok done) None text lines before after is says went = tt
+  drill_gives config new (Ok done) (Some all) text lines before after is says went =
+      record {
+        lines = lines;
+        is_script = rw (← is) says;
+        events = went.events;
+        outputs = went.outputs;
+        world = went.world;
+        played = went.plays;
+        written = went.gained;
+      }
+  drill_gives config new (Err Memory) None text lines before after is says halted = tt
+  drill_gives config new (Err Memory) (Some all) text lines before after is says halted =
+      let same : lines_of_script config all ≡ Ok lines = rw (← is) says in
+      let P : Result (List Line) ℕ → Type 0 = λ said. ScriptHalts config said before after in
+      subst P (sym same) halted
+  drill_gives config new (Err Unwritten) None text lines before after is says broke = tt
+  drill_gives config new (Err Unwritten) (Some all) text lines before after is says broke =
+      (lines, rw (← is) says, broke)
+  drill_gives config new (Err (faults.Line number)) script text lines before after is says went =
+      absurd went
+  drill_gives config new (Err Unreadable) script text lines before after is says went =
+      absurd went

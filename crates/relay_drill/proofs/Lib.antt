@@ -1,7 +1,9 @@
+pub mod Courses
 pub mod Drills
+pub mod Events
+pub mod Made
 pub mod Pieces
 pub mod Plays
 pub mod Prints
 pub mod Scripts
-pub mod Stops
 pub mod Writes

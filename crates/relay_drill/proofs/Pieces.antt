@@ -2,7 +2,7 @@
 use Rattle.std.proofs.Common.{◌≡◌, ℕ, zero, suc, ◌<◌, ◌≤◌, List, [], ◌∷◌, length, take, drop, refl}
 use Rattle.std.proofs.Common.{ap, arith, length-drop, min, ◌∙◌}
 use Rattle.std.proofs.lemmas.List.{take_min, drop_min}
-use Rattle.relay_drill.specs.Play.{pieces_in}
+use Rattle.relay_drill.specs.Todo.{pieces_in}
 
 -- Any turns that are enough give the same pieces.
 pub same_pieces : (turns other size : ℕ) (octets : List ℕ) → 0 < size → length octets ≤ turns

@@ -1,7 +1,10 @@
 -- Reading a script line by line: what was read so far stands before what is left.
 use Rattle.std.proofs.Common.{◌≡◌, ℕ, ◌+◌, true, false, List, [], ◌∷◌, ◌++◌, Some, Result, Ok, Err}
-use Rattle.std.proofs.Common.{refl, ap, append_assoc}
-use Rattle.relay_drill.specs.Script.{Line, line_before, line_of, script_from}
+use Rattle.std.proofs.Common.{None, Option, refl, sym, ap, append_assoc}
+use Rattle.std.specs.Option.{option_map}
+use Rattle.relay_drill.specs.Fault.{LineGives, line_view}
+use Rattle.relay_drill.specs.declared.line.Line as code
+use Rattle.relay_drill.specs.Script.{Line, Names, line_before, line_of, script_from}
 use Rattle.line_words.specs.Comments.{is_skipped}
 
 -- what is read of a script whose first lines are these
@@ -15,16 +18,16 @@ after_none (Ok more) = refl
 after_none (Err bad) = refl
 
 -- A skipped line changes nothing.
-pub after_skipped : (peers : List (List ℕ)) (number : ℕ) (line : List ℕ) (more : List (List ℕ))
-    → is_skipped line ≡ true → script_from peers number (line ∷ more) ≡ script_from peers
+pub after_skipped : (names : Names) (number : ℕ) (line : List ℕ) (more : List (List ℕ))
+    → is_skipped line ≡ true → script_from names number (line ∷ more) ≡ script_from names
     (number + 1) more
-after_skipped peers number line more e = rw e refl
+after_skipped names number line more e = rw e refl
 
 -- A line that is not skipped stands before what follows it.
-pub after_read : (peers : List (List ℕ)) (number : ℕ) (line : List ℕ) (more : List (List ℕ))
-    → is_skipped line ≡ false → script_from peers number (line ∷ more) ≡ line_before number
-    (line_of peers line) (script_from peers (number + 1) more)
-after_read peers number line more e = rw e refl
+pub after_read : (names : Names) (number : ℕ) (line : List ℕ) (more : List (List ℕ))
+    → is_skipped line ≡ false → script_from names number (line ∷ more) ≡ line_before number
+    (line_of names line) (script_from names (number + 1) more)
+after_read names number line more e = rw e refl
 
 -- A line that is read joins those before it.
 pub after_one : (lines : List Line) (line : Line) (number : ℕ) (rest : Result (List Line) ℕ)
@@ -32,3 +35,9 @@ pub after_one : (lines : List Line) (line : Line) (number : ℕ) (rest : Result 
     (lines ++ line ∷ []) rest
 after_one lines line number (Ok more) = ap Ok (simp append_assoc)
 after_one lines line number (Err bad) = refl
+
+-- What the words say is what the line gives.
+pub line_gives : (result : Option code.Line) (says : Option Line)
+    → option_map line_view result ≡ says → LineGives (Ok result) says
+line_gives None says e = sym e
+line_gives (Some line) says e = sym e

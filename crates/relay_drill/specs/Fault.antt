@@ -7,7 +7,7 @@ use Rattle.relay_drill.specs.declared.script.Keyword.{Keyword}
 use Rattle.relay_drill.specs.declared.script.Keyword.TheVariants as keywords
 use Rattle.relay_drill.specs.declared.line.Line.{Line}
 use Rattle.relay_drill.specs.declared.line.Line.TheVariants.{Open, Bring, Split, Turn, Write}
-use Rattle.relay_drill.specs.declared.line.Line.TheVariants.{Rounds}
+use Rattle.relay_drill.specs.declared.line.Line.TheVariants.{Rounds, Break, Fail}
 use Rattle.relay_drill.specs.Script as script
 
 -- a keyword as the format has it
@@ -19,6 +19,8 @@ keyword_view keywords.Split = script.SPLIT
 keyword_view keywords.Turn = script.TURN
 keyword_view keywords.Write = script.WRITE
 keyword_view keywords.Rounds = script.ROUNDS
+keyword_view keywords.Break = script.BREAK
+keyword_view keywords.Fail = script.FAIL
 
 -- a line as the format has it
 abbrev pub line_view : Line → script.Line
@@ -28,6 +30,8 @@ line_view (Split size) = script.Splits size.octets
 line_view (Turn session moment) = script.Turns session moment
 line_view (Write group moment) = script.Writes group moment
 line_view (Rounds count moment) = script.Rounds count moment
+line_view (Break session) = script.Breaks session
+line_view (Fail buffer call) = script.Fails buffer call
 
 -- the answer is the line that the words say, or None where they are bad, unless memory ran out
 abbrev pub LineGives : Result (Option Line) AllocError → Option script.Line → Type 0
@@ -45,13 +49,14 @@ ScriptGives items (Err (faults.Line number)) says = says ≡ Err number
 ScriptGives items (Err faults.Unreadable) says = ⊥
 ScriptGives items (Err faults.Unwritten) says = ⊥
 
--- the answer says that all is done; where memory ran out or the writer failed, it was broken off
-abbrev pub PlayGives : Result (Unit {0}) DrillError → (done stopped : Type 0) → Type 0
-PlayGives (Ok fine) done stopped = done
-PlayGives (Err faults.Memory) done stopped = stopped
-PlayGives (Err faults.Unwritten) done stopped = stopped
-PlayGives (Err (faults.Line number)) done stopped = ⊥
-PlayGives (Err faults.Unreadable) done stopped = ⊥
+-- the answer says that all is done, that it was halted for want of memory, or that it was broken
+-- off since the writer failed
+abbrev pub PlayGives : Result (Unit {0}) DrillError → (done halted broken : Type 0) → Type 0
+PlayGives (Ok fine) done halted broken = done
+PlayGives (Err faults.Memory) done halted broken = halted
+PlayGives (Err faults.Unwritten) done halted broken = broken
+PlayGives (Err (faults.Line number)) done halted broken = ⊥
+PlayGives (Err faults.Unreadable) done halted broken = ⊥
 
 -- the answer is all that the reader has left, where that is known; without it memory ran out or the
 -- reader failed

@@ -4,6 +4,8 @@ pub mod Play
 pub mod Print
 pub mod Progress
 pub mod Script
+pub mod Stores
 pub mod Text
+pub mod Todo
 pub mod Words
 pub mod Written

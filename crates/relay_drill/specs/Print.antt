@@ -2,8 +2,9 @@
 use Rattle.std.specs.Prelude.{ℕ, ◌==◌, ◌&&◌, List, [], ◌∷◌, ◌++◌, flat_map, codes, decimal}
 use Rattle.std.specs.Prelude.{if◌then◌else◌}
 use Rattle.std.specs.List.{onto_first}
-use Rattle.first_model.specs.World.{Output, Quiet, Sent, Ended, Refuses, Fault, Memory, NoSession}
-use Rattle.first_model.specs.World.{SessionTaken, NoGroup, NoPeer, BadMoment}
+use Rattle.relay_model.specs.World.{Output, Quiet, Sent, Ended, Refuses, Fault, Memory, NoSession}
+use Rattle.relay_model.specs.World.{SessionTaken, NoGroup, NoPeer, BadMoment, NoShard, NotIdle}
+use Rattle.relay_model.specs.World.{NotRestarted}
 
 -- the lines of octets, without their CRLFs
 abbrev pub lines_of : List ℕ → List (List ℕ)
@@ -32,6 +33,9 @@ fault_text SessionTaken = codes "2 SessionTaken"
 fault_text NoGroup = codes "3 NoGroup"
 fault_text NoPeer = codes "4 NoPeer"
 fault_text BadMoment = codes "5 BadMoment"
+fault_text NoShard = codes "6 NoShard"
+fault_text NotIdle = codes "7 NotIdle"
+fault_text NotRestarted = codes "8 NotRestarted"
 
 -- what an output prints
 abbrev pub printed : Output → List ℕ

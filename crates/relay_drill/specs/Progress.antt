@@ -1,66 +1,90 @@
--- How far the code has come with an act: what contracts of private functions say.
-use Rattle.std.specs.Prelude.{ℕ, List, ◌++◌, Option, option_map, Result}
-use Rattle.relay_drill.specs.declared.line.PieceSize.{PieceSize}
+-- How far the code has come with a script: what contracts of private functions say.
+use Rattle.std.specs.Prelude.{◌≡◌, ℕ, true, List, [], ◌∷◌, ◌++◌, Option, option_map, Result}
 use Rattle.std.specs.Io.KnownBytes.{Appends}
-use Rattle.first_core.specs.Agreement.{Agrees}
-use Rattle.first_core.specs.declared.system.System.{System}
-use Rattle.first_model.specs.Terms.{Terms}
-use Rattle.first_model.specs.World.{World}
+use Rattle.article_verdict.specs.Config.{terms_of}
+use Rattle.cyc_block.specs.declared.store.BlockStore.{Ghosts}
+use Rattle.relay_core.specs.Agreement.{Agrees}
+use Rattle.relay_core.specs.declared.system.System.{System}
+use Rattle.relay_model.specs.Run.{Event}
+use Rattle.relay_model.specs.Terms.{Terms}
+use Rattle.relay_model.specs.World.{World, Output}
 use Rattle.relay_drill.specs.declared.fault.DrillError.{DrillError}
+use Rattle.relay_drill.specs.declared.line.PieceSize.{PieceSize}
 use Rattle.relay_drill.specs.declared.play.Stand.{Stand}
 use Rattle.relay_drill.specs.Fault.{PlayGives}
-use Rattle.relay_drill.specs.Play.{Act, Stopped, Somehow}
-use Rattle.relay_drill.specs.Play as play
+use Rattle.relay_drill.specs.Play.{Plays, printed_all}
+use Rattle.relay_drill.specs.Print.{printed}
+use Rattle.relay_drill.specs.Todo as todo
+use Rattle.relay_drill.specs.Todo.{Todo}
+use Rattle.relay_drill.specs.Written.{GainsFront}
 
--- The act is done: the core agrees with the world after it, and the writer gained what it prints.
-pub record Did (w : Terms) (act : Act) (x : World) (system : System)
-    (before after : Option (List ℕ)) : Type 0 where
+-- the relay has these terms, and agrees with this world
+pub record Under {S : Type 0} {g : Ghosts S} (w : Terms) (relay : System S g) (x : World)
+    : Type 0 where
+  pub terms : w ≡ terms_of relay.config
+  pub agrees : Agrees true relay x
+
+-- From this world what stands before this was done, the relay agrees with the world after it, and
+-- the writer gained what it prints.
+pub record Went {S : Type 0} {g : Ghosts S} (w : Terms) (from to : Todo) (x : World)
+    (relay : System S g) (before after : Option (List ℕ))
+    : Type 0 where
+  pub events : List Event
+  pub outputs : List Output
   pub world : World
-  pub text : List ℕ
-  pub agrees : Agrees w system world
-  pub gained : Appends before after text
-  pub acted : act x text world
+  pub plays : Plays w from x events outputs world to
+  pub under : Under w relay world
+  pub gained : Appends before after (printed_all outputs)
 
--- from whatever world the core agreed with, the act is done
-abbrev pub Plays : (Terms → Act) → System → System → Option (List ℕ) → Option (List ℕ) → Type 0
-Plays act old new before after =
-    (w : Terms) (x : World) → Agrees w old x → Did w (act w) x new before after
-
--- from whatever world the core agreed with, the act was broken off
-abbrev pub Stops : (Terms → Act) → System → Option (List ℕ) → Option (List ℕ) → Type 0
-Stops act old before after =
-    (w : Terms) (x : World) → Agrees w old x → Stopped (act w) x before after
-
--- the answer says that the act is done, or that it was broken off
-abbrev pub Performs : Result (Unit {0}) DrillError → (Terms → Act) → System → System
-    → Option (List ℕ) → Option (List ℕ) → Type 0
-Performs result act old new before after =
-    PlayGives result (Plays act old new before after) (Stops act old before after)
-
--- the answer says that the act is done and the drill stands so, or that it was broken off
-abbrev pub PerformsTo : Result (Unit {0}) DrillError → (Terms → play.Stand → Act) → play.Stand
-    → System → System → Option (List ℕ) → Option (List ℕ) → Type 0
-PerformsTo result act stand old new before after =
-    PlayGives result (Plays (λ w. act w stand) old new before after)
-    (Stops (λ w. Somehow (act w)) old before after)
-
--- What is left to be done completes the whole act.
-pub record Underway (w : Terms) (left whole : Act) (x : World) (system : System)
-    (before after : Option (List ℕ)) : Type 0 where
+-- From this world some of it was done, and the writer gained all that this prints.
+pub record Halted (w : Terms) (from : Todo) (x : World) (before after : Option (List ℕ))
+    : Type 0 where
+  pub events : List Event
+  pub outputs : List Output
   pub world : World
-  pub text : List ℕ
-  pub agrees : Agrees w system world
-  pub gained : Appends before after text
-  pub completes : (more : List ℕ) (x' : World) → left world more x' → whole x (text ++ more) x'
+  pub left : Todo
+  pub plays : Plays w from x events outputs world left
+  pub gained : Appends before after (printed_all outputs)
 
--- from whatever world the core agreed with, what is left completes the whole
-abbrev pub Completes : (left whole : Terms → Act) → System → System → Option (List ℕ)
-    → Option (List ℕ) → Type 0
-Completes left whole old new before after =
-    (w : Terms) (x : World) → Agrees w old x → Underway w (left w) (whole w) x new before after
+-- From this world some of it was done, and the writer gained what that prints up to the last
+-- output, and of this one a front.
+pub record Broke (w : Terms) (from : Todo) (x : World) (before after : Option (List ℕ))
+    : Type 0 where
+  pub events : List Event
+  pub outputs : List Output
+  pub last : Output
+  pub world : World
+  pub left : Todo
+  pub plays : Plays w from x events (outputs ++ last ∷ []) world left
+  pub mid : Option (List ℕ)
+  pub gained : Appends before mid (printed_all outputs)
+  pub written : GainsFront (printed last) mid after
+
+-- from whatever world the relay agreed with
+abbrev pub Goes : {S : Type 0} {g : Ghosts S} → (from to : Todo) → (old new : System S g)
+    → (before after : Option (List ℕ)) → Type 0
+Goes from to old new before after =
+    (w : Terms) (x : World) → Under w old x → Went w from to x new before after
+
+abbrev pub Halts : {S : Type 0} {g : Ghosts S} → (from : Todo) → (old : System S g)
+    → (before after : Option (List ℕ)) → Type 0
+Halts from old before after =
+    (w : Terms) (x : World) → Under w old x → Halted w from x before after
+
+abbrev pub Breaks : {S : Type 0} {g : Ghosts S} → (from : Todo) → (old : System S g)
+    → (before after : Option (List ℕ)) → Type 0
+Breaks from old before after =
+    (w : Terms) (x : World) → Under w old x → Broke w from x before after
+
+-- the answer says that all was done that stands before this, or that it was broken off
+abbrev pub Performs : {S : Type 0} {g : Ghosts S} → Result (Unit {0}) DrillError
+    → (from to : Todo) → (old new : System S g) → (before after : Option (List ℕ)) → Type 0
+Performs result from to old new before after =
+    PlayGives result (Goes from to old new before after) (Halts from old before after)
+    (Breaks from old before after)
 
 -- how a drill stands, in the definitions
-abbrev pub stand_view : Stand → play.Stand
+abbrev pub stand_view : Stand → todo.Stand
 stand_view stand =
     record {
       sessions = stand.sessions.items;

@@ -6,7 +6,7 @@ use Rattle.std.specs.List.{join_with_byte}
 use Rattle.news_terms.specs.Lines.{crlf}
 use Rattle.line_words.specs.Parts.{parts, one_of, two_of}
 use Rattle.line_words.specs.Comments.{is_skipped}
-use Rattle.relay_drill.specs.Words.{words, number, number_within, octets_of, peer_of}
+use Rattle.relay_drill.specs.Words.{words, number, number_within, octets_of, place_of}
 
 -- what a line asks
 pub data Line : Type 0 where
@@ -22,6 +22,15 @@ pub data Line : Type 0 where
   Writes : (group moment : ℕ) → Line
   -- so many times each session has its turn, then the writer of each group
   Rounds : (count moment : ℕ) → Line
+  -- a session's connection is gone
+  Breaks : (session : ℕ) → Line
+  -- this call of a buffer's device fails, counted from here
+  Fails : (buffer call : ℕ) → Line
+
+-- The names that a script may use, each list in the order of its numbers.
+pub record Names : Type 0 where
+  pub peers : List (List ℕ)
+  pub buffers : List (List ℕ)
 
 -- the first word of a line
 pub data Keyword : Type 0 where
@@ -32,6 +41,8 @@ pub data Keyword : Type 0 where
   TURN : Keyword
   WRITE : Keyword
   ROUNDS : Keyword
+  BREAK : Keyword
+  FAIL : Keyword
 
 -- the keyword that the word is
 abbrev pub keyword_of : List ℕ → Option Keyword
@@ -43,6 +54,8 @@ keyword_of word =
     else if bytes_eq word (codes "turn") then Some TURN
     else if bytes_eq word (codes "write") then Some WRITE
     else if bytes_eq word (codes "rounds") then Some ROUNDS
+    else if bytes_eq word (codes "break") then Some BREAK
+    else if bytes_eq word (codes "fail") then Some FAIL
     else None
 
 -- a line of two values, where both are there
@@ -53,7 +66,7 @@ both line (Some first) (Some second) = Some (line first second)
 
 -- `open S PEER`
 abbrev pub open_line : List (List ℕ) → List ℕ × List ℕ → Option Line
-open_line peers two = both Opens (number two.0) (peer_of peers two.1)
+open_line peers two = both Opens (number two.0) (place_of peers two.1)
 
 -- `send S TEXT`: the words after S, with the spaces between them, are the text
 abbrev pub send_line : List (List ℕ) → Option Line
@@ -81,24 +94,34 @@ write_line two = both Writes (number two.0) (number two.1)
 abbrev pub rounds_line : List ℕ × List ℕ → Option Line
 rounds_line two = both Rounds (number_within 1 100000 two.0) (number two.1)
 
+-- `break S`
+abbrev pub break_line : List ℕ → Option Line
+break_line session = option_map Breaks (number session)
+
+-- `fail BUFFER K`
+abbrev pub fail_line : List (List ℕ) → List ℕ × List ℕ → Option Line
+fail_line buffers two = both Fails (place_of buffers two.0) (number_within 1 1000000 two.1)
+
 -- a keyword with the words that follow it; None is a bad line
-abbrev pub line_with : List (List ℕ) → List (List ℕ) → Keyword → Option Line
-line_with peers after OPEN = option_and_then (open_line peers) (two_of after)
-line_with peers after SEND = send_line after
-line_with peers after RAW = option_and_then raw_line (two_of after)
-line_with peers after SPLIT = option_and_then split_line (one_of after)
-line_with peers after TURN = option_and_then turn_line (two_of after)
-line_with peers after WRITE = option_and_then write_line (two_of after)
-line_with peers after ROUNDS = option_and_then rounds_line (two_of after)
+abbrev pub line_with : Names → List (List ℕ) → Keyword → Option Line
+line_with names after OPEN = option_and_then (open_line names.peers) (two_of after)
+line_with names after SEND = send_line after
+line_with names after RAW = option_and_then raw_line (two_of after)
+line_with names after SPLIT = option_and_then split_line (one_of after)
+line_with names after TURN = option_and_then turn_line (two_of after)
+line_with names after WRITE = option_and_then write_line (two_of after)
+line_with names after ROUNDS = option_and_then rounds_line (two_of after)
+line_with names after BREAK = option_and_then break_line (one_of after)
+line_with names after FAIL = option_and_then (fail_line names.buffers) (two_of after)
 
 -- what these words say; None is a bad line
-abbrev pub line_of_words : List (List ℕ) → List (List ℕ) → Option Line
-line_of_words peers [] = None
-line_of_words peers (word ∷ after) = option_and_then (line_with peers after) (keyword_of word)
+abbrev pub line_of_words : Names → List (List ℕ) → Option Line
+line_of_words names [] = None
+line_of_words names (word ∷ after) = option_and_then (line_with names after) (keyword_of word)
 
 -- what a line says; None is a bad line
-abbrev pub line_of : List (List ℕ) → List ℕ → Option Line
-line_of peers line = line_of_words peers (words line)
+abbrev pub line_of : Names → List ℕ → Option Line
+line_of names line = line_of_words names (words line)
 
 -- a line before those that follow; a bad line is named before any that follows
 abbrev pub line_before : ℕ → Option Line → Result (List Line) ℕ → Result (List Line) ℕ
@@ -107,12 +130,12 @@ line_before number (Some line) (Ok lines) = Ok (line ∷ lines)
 line_before number (Some line) (Err bad) = Err bad
 
 -- the lines of a script from the line of this number on, or the number of the first bad line
-abbrev pub script_from : List (List ℕ) → ℕ → List (List ℕ) → Result (List Line) ℕ
-script_from peers number [] = Ok []
-script_from peers number (line ∷ more) =
-    if is_skipped line then script_from peers (number + 1) more
-    else line_before number (line_of peers line) (script_from peers (number + 1) more)
+abbrev pub script_from : Names → ℕ → List (List ℕ) → Result (List Line) ℕ
+script_from names number [] = Ok []
+script_from names number (line ∷ more) =
+    if is_skipped line then script_from names (number + 1) more
+    else line_before number (line_of names line) (script_from names (number + 1) more)
 
--- the lines of a script for peers of these names, or the number of its first bad line, from 1 on
-abbrev pub script_of : List (List ℕ) → List ℕ → Result (List Line) ℕ
-script_of peers text = script_from peers 1 (parts 10 text)
+-- the lines of a script that may use these names, or the number of its first bad line, from 1 on
+abbrev pub script_of : Names → List ℕ → Result (List Line) ℕ
+script_of names text = script_from names 1 (parts 10 text)

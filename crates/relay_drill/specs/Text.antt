@@ -8,5 +8,5 @@ use Rattle.relay_drill.specs.declared.fault.DrillError.TheVariants.{Unwritten}
 abbrev pub text_of : DrillError → List ℕ
 text_of Memory = codes "out of memory"
 text_of (Line number) = codes "script:" ++ decimal number ++ codes ": fault"
-text_of Unreadable = codes "stdin: unreadable"
+text_of Unreadable = codes "script: unreadable"
 text_of Unwritten = codes "stdout: unwritten"

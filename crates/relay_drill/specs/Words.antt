@@ -28,8 +28,8 @@ number word = number_within 0 last_number word
 abbrev pub octets_of : List ℕ → Option (List ℕ)
 octets_of word = if length word == 0 then None else result_ok (decode_of word)
 
--- the number of the peer of this name
-abbrev pub peer_of : List (List ℕ) → List ℕ → Option ℕ
-peer_of peers name =
-    let place = position_or_len (bytes_eq name) peers in
-    if nat_lt place (length peers) then Some place else None
+-- the number of what has this name: its place among these names
+abbrev pub place_of : (names : List (List ℕ)) → (name : List ℕ) → Option ℕ
+place_of names name =
+    let place = position_or_len (bytes_eq name) names in
+    if nat_lt place (length names) then Some place else None

@@ -30,7 +30,7 @@ impl Display for DrillError {
         match self {
             DrillError::Memory => formatter.write_str("out of memory"),
             DrillError::Line(line) => write!(formatter, "script:{line}: fault"),
-            DrillError::Unreadable => formatter.write_str("stdin: unreadable"),
+            DrillError::Unreadable => formatter.write_str("script: unreadable"),
             DrillError::Unwritten => formatter.write_str("stdout: unwritten"),
         }
     }

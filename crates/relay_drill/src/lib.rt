@@ -6,6 +6,7 @@
 #![tactic(auto)]
 
 mod fault;
+pub mod laws;
 mod line;
 mod play;
 mod print;

@@ -20,8 +20,12 @@ pub enum Line {
     /// `turn`: this session has its turn at this moment.
     Turn(u64, u64),
     /// `write`: the writer of this group has its turn at this moment.
-    Write(u64, u64),
+    Write(usize, u64),
     /// `rounds`: so many times, at this moment, each session that is not closed has its turn, then
     /// the writer of each group.
     Rounds(u64, u64),
+    /// `break`: this session's connection is gone.
+    Break(u64),
+    /// `fail`: this call of this buffer's device fails, counted from here.
+    Fail(usize, u64),
 }

@@ -1,18 +1,26 @@
-//! Running the lines of a script on the core, and printing what it answers.
-ghost use Rattle.std.specs.Prelude.{◌≡◌, ◌<◌, ◌∷◌, [], length, map, min};
-ghost use Rattle.relay_drill.specs.Play.{One, Then, OpensOne, BringsEach, TurnsOne, TurnsEach};
-ghost use Rattle.relay_drill.specs.Play.{WritesEach, RoundsEach, LineDoes, LinesDo, pieces_in};
-ghost use Rattle.relay_drill.specs.Play as terms;
+//! Doing what the lines of a script ask of the relay, and printing what it answers.
+ghost use Rattle.std.specs.Prelude.{◌≡◌, ◌<◌, length, map};
+ghost use Rattle.relay_core.specs.Views.{event_view, output_view};
+ghost use Rattle.relay_model.specs.Run as run;
 ghost use Rattle.relay_drill.specs.Fault.{line_view};
-ghost use Rattle.relay_drill.specs.Progress.{Performs, PerformsTo, stand_view};
-ghost use Rattle.first_core.specs.Views.{event_view, output_view};
+ghost use Rattle.relay_drill.specs.Play as played;
+ghost use Rattle.relay_drill.specs.Progress.{Performs, stand_view};
+ghost use Rattle.relay_drill.specs.Todo as todo;
+ghost use Rattle.relay_drill.specs.Todo.{Todo, bring_each, line_asks, lines_ask, pieces_in};
+ghost use Rattle.relay_drill.specs.Todo.{pieces_of, round_each, turn_each, with_session};
+ghost use Rattle.relay_drill.specs.Todo.{write_each};
 
 use crate::fault::DrillError;
 use crate::line::{Line, PieceSize};
 use crate::print::print;
-use first_core::{Event, Octets, Output, System};
+use cyc_block::{FailAt, MemoryBlocks};
+use line_words::Octets;
+use relay_core::{Event, Output, System};
 use std::alloc::Global;
 use std::io::Write;
+
+/// The relay over blocks in memory, any call of which can be made to fail.
+pub type Relay = System<FailAt<MemoryBlocks>>;
 
 /// How a drill stands.
 #[derive(Drop)]
@@ -23,61 +31,66 @@ pub struct Stand {
     pub piece: Option<PieceSize>,
 }
 
-/// Runs the lines of a script, one after the other. There is one group today, of number 0.
+/// Does what the lines of a script ask, one after the other, of a relay with so many groups.
 pub fn play<W: Write>(
     alloc: Global,
-    system: &mut System,
+    relay: &mut Relay,
+    groups: usize,
     lines: &[Line],
     writer: &mut W,
 ) -> Result<(), DrillError>
     ensures { Performs result
-        (λ w. LinesDo w (0 ∷ []) (map line_view lines.now) terms.first_stand)
-        system.old system.new (W.contents writer.old) (W.contents writer.new) }
+        (lines_ask groups (map line_view lines.now) todo.first_stand) todo.Done
+        relay.old relay.new (W.contents writer.old) (W.contents writer.new) }
 {
     let mut stand = Stand {
         sessions: Vec::new(alloc),
         piece: None,
     };
     for line in lines {
-        play_line(alloc, system, &mut stand, line, writer)?;
+        play_line(alloc, relay, groups, &mut stand, line, writer)?;
     }
     Ok(())
 }
 
-/// Runs a line of a script.
+/// Does what a line of a script asks.
 fn play_line<W: Write>(
     alloc: Global,
-    system: &mut System,
+    relay: &mut Relay,
+    groups: usize,
     stand: &mut Stand,
     line: &Line,
     writer: &mut W,
 ) -> Result<(), DrillError>
-    ensures { PerformsTo result
-        (λ w. LineDoes w (0 ∷ []) (line_view line.now) (stand_view stand.old))
-        (stand_view stand.new)
-        system.old system.new (W.contents writer.old) (W.contents writer.new) }
+    ensures { (next : todo.Stand → Todo) → Performs result
+        (line_asks groups (line_view line.now) (stand_view stand.old) next)
+        (next (stand_view stand.new))
+        relay.old relay.new (W.contents writer.old) (W.contents writer.new) }
 {
     match line {
-        Line::Open(session, peer) => open(system, stand, *session, *peer, writer),
+        Line::Open(session, peer) => open(relay, stand, *session, *peer, writer),
         Line::Bring(session, octets) => {
             let size = piece_size(stand, octets);
-            bring(alloc, system, *session, octets, size, writer)
+            bring(alloc, relay, *session, octets, size, writer)
         }
         Line::Split(size) => {
             stand.piece = Some(*size);
             Ok(())
         }
-        Line::Turn(session, moment) => perform(system, &Event::Turn(*session, *moment), writer),
-        Line::Write(group, moment) => {
-            perform(system, &Event::Write(narrowed(*group), *moment), writer)
+        Line::Turn(session, now) => turn(relay, *session, *now, writer),
+        Line::Write(group, now) => write(relay, *group, *now, writer),
+        Line::Rounds(count, now) => rounds(relay, groups, &stand.sessions, *count, *now, writer),
+        Line::Break(session) => break_off(relay, *session, writer),
+        Line::Fail(buffer, call) => {
+            relay.arm(*buffer, *call);
+            Ok(())
         }
-        Line::Rounds(count, moment) => rounds(system, &stand.sessions, *count, *moment, writer),
     }
 }
 
 /// How many octets a piece of these has: all of them, unless octets are split.
 fn piece_size(stand: &Stand, octets: &[u8]) -> usize
-    ensures pieces { terms.pieces_of (stand_view stand.now).piece octets.now
+    ensures pieces { pieces_of (stand_view stand.now).piece octets.now
         ≡ pieces_in (length octets.now) result octets.now }
     ensures some { 0 < length octets.now → 0 < result }
 {
@@ -89,17 +102,19 @@ fn piece_size(stand: &Stand, octets: &[u8]) -> usize
 
 /// A session opens, and is one of those that are open unless that is refused.
 fn open<W: Write>(
-    system: &mut System,
+    relay: &mut Relay,
     stand: &mut Stand,
     session: u64,
     peer: usize,
     writer: &mut W,
 ) -> Result<(), DrillError>
-    ensures { PerformsTo result
-        (λ w. OpensOne w session peer (stand_view stand.old)) (stand_view stand.new)
-        system.old system.new (W.contents writer.old) (W.contents writer.new) }
+    ensures { (next : todo.Stand → Todo) → Performs result
+        (todo.Opening session peer (next (with_session (stand_view stand.old) session))
+        (next (stand_view stand.old)))
+        (next (stand_view stand.new))
+        relay.old relay.new (W.contents writer.old) (W.contents writer.new) }
 {
-    let output = system.step(&Event::Open(session, narrowed(peer as u64)));
+    let output = relay.step(&Event::Open { session, peer });
     print(writer, &output)?;
     if is_refused(&output) {
         return Ok(());
@@ -110,7 +125,7 @@ fn open<W: Write>(
 
 /// Whether the event was refused.
 fn is_refused(output: &Output) -> bool
-    ensures { result ≡ terms.is_refused (output_view output.now) }
+    ensures { result ≡ played.is_refused (output_view output.now) }
 {
     matches!(output, Output::Refused(_))
 }
@@ -118,105 +133,137 @@ fn is_refused(output: &Output) -> bool
 /// The octets of a session come, in pieces of this size.
 fn bring<W: Write>(
     alloc: Global,
-    system: &mut System,
+    relay: &mut Relay,
     session: u64,
     octets: &[u8],
     size: usize,
     writer: &mut W,
 ) -> Result<(), DrillError>
     requires { 0 < length octets.now → 0 < size }
-    ensures { Performs result
-        (λ w. BringsEach w session (pieces_in (length octets.now) size octets.now))
-        system.old system.new (W.contents writer.old) (W.contents writer.new) }
+    ensures { (more : Todo) → Performs result
+        (bring_each session (pieces_in (length octets.now) size octets.now) more) more
+        relay.old relay.new (W.contents writer.old) (W.contents writer.new) }
 {
     let mut rest = octets;
     while !rest.is_empty() {
         let (piece, after) = rest.split_at(size.min(rest.len()));
-        let octets = Octets::new(Vec::from_slice(alloc, piece)?);
-        perform(system, &Event::Bytes(session, octets), writer)?;
+        let piece = Octets::copied(alloc, piece)?;
+        perform(relay, &Event::Bytes { session, piece }, writer)?;
         rest = after;
     }
     Ok(())
 }
 
-/// So many times each of the sessions has its turn, then the writer of the group.
+/// So many times each of the sessions that isn't closed has its Turn, then the writer of each group
+/// its Write.
 fn rounds<W: Write>(
-    system: &mut System,
+    relay: &mut Relay,
+    groups: usize,
     sessions: &[u64],
     count: u64,
-    moment: u64,
+    now: u64,
     writer: &mut W,
 ) -> Result<(), DrillError>
-    ensures { Performs result (λ w. RoundsEach w moment sessions.now (0 ∷ []) count)
-        system.old system.new (W.contents writer.old) (W.contents writer.new) }
+    ensures { (more : Todo) → Performs result
+        (round_each groups now sessions.now count more) more
+        relay.old relay.new (W.contents writer.old) (W.contents writer.new) }
 {
     for passed in 0..count {
         let _passed = passed;
-        round(system, sessions, moment, writer)?;
+        turn_all(relay, sessions, now, writer)?;
+        write_all(relay, groups, now, writer)?;
     }
     Ok(())
 }
 
-/// Each of the sessions has its turn, then the writer of the group.
-fn round<W: Write>(
-    system: &mut System,
+/// Each of the sessions has its Turn, where it isn't closed.
+fn turn_all<W: Write>(
+    relay: &mut Relay,
     sessions: &[u64],
-    moment: u64,
+    now: u64,
     writer: &mut W,
 ) -> Result<(), DrillError>
-    ensures { Performs result
-        (λ w. Then (TurnsEach w moment sessions.now) (WritesEach w moment (0 ∷ [])))
-        system.old system.new (W.contents writer.old) (W.contents writer.new) }
-{
-    turn_each(system, sessions, moment, writer)?;
-    perform(system, &Event::Write(0, moment), writer)
-}
-
-/// Each of the sessions has its turn, where it is not closed.
-fn turn_each<W: Write>(
-    system: &mut System,
-    sessions: &[u64],
-    moment: u64,
-    writer: &mut W,
-) -> Result<(), DrillError>
-    ensures { Performs result (λ w. TurnsEach w moment sessions.now)
-        system.old system.new (W.contents writer.old) (W.contents writer.new) }
+    ensures { (more : Todo) → Performs result (turn_each now sessions.now more) more
+        relay.old relay.new (W.contents writer.old) (W.contents writer.new) }
 {
     for session in sessions {
-        turn_one(system, *session, moment, writer)?;
+        turn_open(relay, *session, now, writer)?;
     }
     Ok(())
 }
 
-/// The session has its turn, where it is not closed.
-fn turn_one<W: Write>(
-    system: &mut System,
+/// The session has its Turn, where it isn't closed.
+fn turn_open<W: Write>(
+    relay: &mut Relay,
     session: u64,
-    moment: u64,
+    now: u64,
     writer: &mut W,
 ) -> Result<(), DrillError>
-    ensures { Performs result (λ w. TurnsOne w moment session)
-        system.old system.new (W.contents writer.old) (W.contents writer.new) }
+    ensures { (more : Todo) → Performs result (todo.TurnOf session now more) more
+        relay.old relay.new (W.contents writer.old) (W.contents writer.new) }
 {
-    if system.is_closed(session) {
+    if !relay.is_running(session) {
         return Ok(());
     }
-    perform(system, &Event::Turn(session, moment), writer)
+    turn(relay, session, now, writer)
+}
+
+/// The writer of each of so many groups has its Write.
+fn write_all<W: Write>(
+    relay: &mut Relay,
+    groups: usize,
+    now: u64,
+    writer: &mut W,
+) -> Result<(), DrillError>
+    ensures { (more : Todo) → Performs result (write_each now 0 groups more) more
+        relay.old relay.new (W.contents writer.old) (W.contents writer.new) }
+{
+    for group in 0..groups {
+        write(relay, group, now, writer)?;
+    }
+    Ok(())
+}
+
+/// A session has its Turn.
+fn turn<W: Write>(
+    relay: &mut Relay,
+    session: u64,
+    now: u64,
+    writer: &mut W,
+) -> Result<(), DrillError>
+    ensures { (more : Todo) → Performs result (todo.Next (run.Turn session now) more) more
+        relay.old relay.new (W.contents writer.old) (W.contents writer.new) }
+{
+    perform(relay, &Event::Turn { session, now }, writer)
+}
+
+/// The writer of a group has its Write.
+fn write<W: Write>(
+    relay: &mut Relay,
+    group: usize,
+    now: u64,
+    writer: &mut W,
+) -> Result<(), DrillError>
+    ensures { (more : Todo) → Performs result (todo.Next (run.Write group now) more) more
+        relay.old relay.new (W.contents writer.old) (W.contents writer.new) }
+{
+    perform(relay, &Event::Write { group, now }, writer)
+}
+
+/// A session's connection is gone.
+fn break_off<W: Write>(relay: &mut Relay, session: u64, writer: &mut W) -> Result<(), DrillError>
+    ensures { (more : Todo) → Performs result (todo.Next (run.Break session) more) more
+        relay.old relay.new (W.contents writer.old) (W.contents writer.new) }
+{
+    perform(relay, &Event::Break { session }, writer)
 }
 
 /// Does one event, and prints what it is answered.
-fn perform<W: Write>(system: &mut System, event: &Event, writer: &mut W) -> Result<(), DrillError>
-    ensures { Performs result (λ w. One w (event_view event.now))
-        system.old system.new (W.contents writer.old) (W.contents writer.new) }
+fn perform<W: Write>(relay: &mut Relay, event: &Event, writer: &mut W) -> Result<(), DrillError>
+    ensures { (more : Todo) → Performs result (todo.Next (event_view event.now) more) more
+        relay.old relay.new (W.contents writer.old) (W.contents writer.new) }
 {
-    let output = system.step(event);
+    let output = relay.step(event);
     print(writer, &output)?;
     Ok(())
-}
-
-/// The number as an event names a peer or a group: there is none of the last such number.
-fn narrowed(number: u64) -> u32
-    ensures { result ≡ terms.narrowed number }
-{
-    u32::try_from(number).unwrap_or(u32::MAX)
 }

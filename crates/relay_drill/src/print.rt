@@ -1,14 +1,14 @@
 //! What an output prints (docs/FORMATS.md, Drill scripts: What is printed).
 ghost use Rattle.std.specs.Prelude.{◌≡◌, ◌<◌, ◌∷◌, length};
-ghost use Rattle.first_core.specs.Views.{fault_view, output_view};
+ghost use Rattle.relay_core.specs.Views.{fault_view, output_view};
 ghost use Rattle.relay_drill.specs.Print as terms;
 ghost use Rattle.relay_drill.specs.Print.{lines_of, printed, session_line, session_lines};
 ghost use Rattle.relay_drill.specs.Written.{Writes};
 
 use crate::written::{Unwritten, put_all};
-use first_core::{CoreError, Output};
 use itoa::Buffer;
 use memchr::memmem;
+use relay_core::{CoreError, Output};
 use std::io::Write;
 
 /// Prints an output.

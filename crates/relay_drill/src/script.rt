@@ -1,22 +1,26 @@
 //! Reading a drill script (docs/FORMATS.md, Drill scripts): all of it, before anything runs.
-ghost use Rattle.std.specs.Prelude.{◌≡◌, ◌++◌, [], map, option_map, string_bytes, vec_items, IfOk};
+ghost use Rattle.std.specs.Prelude.{◌≡◌, ◌++◌, map, option_map, vec_items, IfOk};
 ghost use Rattle.std.specs.List.{join_with_byte};
+ghost use Rattle.std.specs.Option.{option_and_then};
 ghost use Rattle.news_terms.specs.Lines.{crlf};
-ghost use Rattle.line_words.specs.Parts.{parts_after};
-ghost use Rattle.relay_drill.specs.Script.{line_with, send_line, script_of, OPEN, RAW, SPLIT, TURN};
-ghost use Rattle.relay_drill.specs.Script.{WRITE, ROUNDS};
+ghost use Rattle.line_words.specs.Parts.{one_of, parts_after, two_of};
+ghost use Rattle.relay_drill.specs.Drill.{names_of};
+ghost use Rattle.relay_drill.specs.Script.{break_line, fail_line, line_of, open_line, raw_line};
+ghost use Rattle.relay_drill.specs.Script.{rounds_line, script_of, send_line, split_line};
+ghost use Rattle.relay_drill.specs.Script.{turn_line, write_line};
 ghost use Rattle.relay_drill.specs.Script as terms;
 ghost use Rattle.relay_drill.specs.Fault.{LineGives, ScriptGives, keyword_view, line_view};
 
 use crate::fault::DrillError;
 use crate::line::{Line, PieceSize};
-use crate::words::{number, number_within, octets_of, peer_of};
+use crate::words::{buffer_of, number, number_within, octets_of, peer_of};
 use line_words::{cut, is_skipped, one_part, two_parts};
+use relay_conf::{BufferConf, Config, Peer};
 use std::alloc::{AllocError, Global};
 
-/// Reads a whole script, for peers of these names.
-pub fn read_script(alloc: Global, peers: &[String], text: &[u8]) -> Result<Vec<Line>, DrillError>
-    ensures { ScriptGives vec_items result (script_of (map string_bytes peers.now) text.now) }
+/// Reads a whole script, which may use the names of this configuration.
+pub fn read_script(alloc: Global, config: &Config, text: &[u8]) -> Result<Vec<Line>, DrillError>
+    ensures { ScriptGives vec_items result (script_of (names_of config.now) text.now) }
 {
     let mut lines = Vec::new(alloc);
     let mut unread = Some(text);
@@ -26,7 +30,7 @@ pub fn read_script(alloc: Global, peers: &[String], text: &[u8]) -> Result<Vec<L
         number += 1;
         unread = after;
         if !is_skipped(line) {
-            match read_line(alloc, peers, line)? {
+            match read_line(alloc, config, line)? {
                 Some(line) => lines.push(line)?,
                 None => return Err(DrillError::Line(number)),
             }
@@ -44,21 +48,25 @@ enum Keyword {
     Turn,
     Write,
     Rounds,
+    Break,
+    Fail,
 }
 
 /// Reads a line, or answers `None` where it is bad.
-fn read_line(alloc: Global, peers: &[String], line: &[u8]) -> Result<Option<Line>, AllocError>
-    ensures { LineGives result (terms.line_of (map string_bytes peers.now) line.now) }
+fn read_line(alloc: Global, config: &Config, line: &[u8]) -> Result<Option<Line>, AllocError>
+    ensures { LineGives result (line_of (names_of config.now) line.now) }
 {
     let (word, rest) = cut(line, b' ');
     match keyword_of(word) {
-        Some(Keyword::Open) => Ok(open(peers, rest)),
+        Some(Keyword::Open) => Ok(open(&config.relay.peers, rest)),
         Some(Keyword::Send) => send(alloc, rest),
         Some(Keyword::Raw) => raw(alloc, rest),
         Some(Keyword::Split) => Ok(split(rest)),
         Some(Keyword::Turn) => Ok(turn(rest)),
         Some(Keyword::Write) => Ok(write(rest)),
         Some(Keyword::Rounds) => Ok(rounds(rest)),
+        Some(Keyword::Break) => Ok(break_off(rest)),
+        Some(Keyword::Fail) => Ok(fail(&config.buffers.buffers, rest)),
         None => Ok(None),
     }
 }
@@ -81,15 +89,19 @@ fn keyword_of(word: &[u8]) -> Option<Keyword>
         Some(Keyword::Write)
     } else if word == b"rounds".as_slice() {
         Some(Keyword::Rounds)
+    } else if word == b"break".as_slice() {
+        Some(Keyword::Break)
+    } else if word == b"fail".as_slice() {
+        Some(Keyword::Fail)
     } else {
         None
     }
 }
 
 /// `open S PEER`, by what follows the keyword.
-fn open(peers: &[String], rest: Option<&[u8]>) -> Option<Line>
-    ensures { option_map line_view result
-        ≡ line_with (map string_bytes peers.now) (parts_after 32 rest.entry) OPEN }
+fn open(peers: &[Peer], rest: Option<&[u8]>) -> Option<Line>
+    ensures { option_map line_view result ≡ option_and_then
+        (open_line (map (λ peer. peer.name) peers.now)) (two_of (parts_after 32 rest.entry)) }
 {
     let (session, peer) = two_parts(rest, b' ')?;
     Some(Line::Open(number(session)?, peer_of(peers, peer)?))
@@ -131,7 +143,8 @@ fn ended_line(alloc: Global, line: &[u8]) -> Result<Vec<u8>, AllocError>
 
 /// `raw S HEX`, by what follows the keyword.
 fn raw(alloc: Global, rest: Option<&[u8]>) -> Result<Option<Line>, AllocError>
-    ensures { LineGives result (line_with [] (parts_after 32 rest.entry) RAW) }
+    ensures { LineGives result
+        (option_and_then raw_line (two_of (parts_after 32 rest.entry))) }
 {
     let Some((session, digits)) = two_parts(rest, b' ') else {
         return Ok(None);
@@ -147,7 +160,8 @@ fn raw(alloc: Global, rest: Option<&[u8]>) -> Result<Option<Line>, AllocError>
 
 /// `split N`, by what follows the keyword.
 fn split(rest: Option<&[u8]>) -> Option<Line>
-    ensures { option_map line_view result ≡ line_with [] (parts_after 32 rest.entry) SPLIT }
+    ensures { option_map line_view result
+        ≡ option_and_then split_line (one_of (parts_after 32 rest.entry)) }
 {
     let octets = number_within(1, 4_096, one_part(rest, b' ')?)? as usize;
     Some(Line::Split(PieceSize { octets }))
@@ -155,7 +169,8 @@ fn split(rest: Option<&[u8]>) -> Option<Line>
 
 /// `turn S MOMENT`, by what follows the keyword.
 fn turn(rest: Option<&[u8]>) -> Option<Line>
-    ensures { option_map line_view result ≡ line_with [] (parts_after 32 rest.entry) TURN }
+    ensures { option_map line_view result
+        ≡ option_and_then turn_line (two_of (parts_after 32 rest.entry)) }
 {
     let (session, moment) = two_parts(rest, b' ')?;
     Some(Line::Turn(number(session)?, number(moment)?))
@@ -163,16 +178,38 @@ fn turn(rest: Option<&[u8]>) -> Option<Line>
 
 /// `write G MOMENT`, by what follows the keyword.
 fn write(rest: Option<&[u8]>) -> Option<Line>
-    ensures { option_map line_view result ≡ line_with [] (parts_after 32 rest.entry) WRITE }
+    ensures { option_map line_view result
+        ≡ option_and_then write_line (two_of (parts_after 32 rest.entry)) }
 {
     let (group, moment) = two_parts(rest, b' ')?;
-    Some(Line::Write(number(group)?, number(moment)?))
+    Some(Line::Write(number(group)? as usize, number(moment)?))
 }
 
 /// `rounds N MOMENT`, by what follows the keyword.
 fn rounds(rest: Option<&[u8]>) -> Option<Line>
-    ensures { option_map line_view result ≡ line_with [] (parts_after 32 rest.entry) ROUNDS }
+    ensures { option_map line_view result
+        ≡ option_and_then rounds_line (two_of (parts_after 32 rest.entry)) }
 {
     let (count, moment) = two_parts(rest, b' ')?;
     Some(Line::Rounds(number_within(1, 100_000, count)?, number(moment)?))
+}
+
+/// `break S`, by what follows the keyword.
+fn break_off(rest: Option<&[u8]>) -> Option<Line>
+    ensures { option_map line_view result
+        ≡ option_and_then break_line (one_of (parts_after 32 rest.entry)) }
+{
+    Some(Line::Break(number(one_part(rest, b' ')?)?))
+}
+
+/// `fail BUFFER K`, by what follows the keyword.
+fn fail(buffers: &[BufferConf], rest: Option<&[u8]>) -> Option<Line>
+    ensures { option_map line_view result ≡ option_and_then
+        (fail_line (map (λ buffer. buffer.name) buffers.now)) (two_of (parts_after 32 rest.entry)) }
+{
+    let (buffer, call) = two_parts(rest, b' ')?;
+    Some(Line::Fail(
+        buffer_of(buffers, buffer)?,
+        number_within(1, 1_000_000, call)?,
+    ))
 }

@@ -1,13 +1,16 @@
 //! Reading a script whole, and running it over memory (docs/PROTOCOL.md, The call `drill`).
-ghost use Rattle.std.specs.Prelude.{◌≡◌, vec_items};
+ghost use Rattle.std.specs.Prelude.{vec_items, IfOk};
 ghost use Rattle.relay_drill.specs.Drill.{DrillGives};
 ghost use Rattle.relay_drill.specs.Fault.{ReadGives};
+ghost use Rattle.relay_drill.specs.Stores.{AreStoresOf};
 
 use crate::fault::DrillError;
 use crate::play::play;
 use crate::script::read_script;
-use first_core::{Config, System};
-use std::alloc::Global;
+use cyc_block::{BlockStore, FailAt, MemoryBlocks};
+use relay_conf::{BufferConf, Config};
+use relay_core::System;
+use std::alloc::{AllocError, Global};
 use std::io::{ErrorKind, Read, Write};
 use std::random::RandomSource;
 
@@ -17,9 +20,9 @@ const MOST_TURNS: u64 = 1 << 40;
 /// The octets that a turn of the reader takes, at most.
 const READ_ROOM: usize = 8_192;
 
-/// Reads a whole script, and runs it on a core with this configuration, over memory. What the core
-/// answers is written as docs/FORMATS.md, Drill scripts, says. A refused event is written, and the
-/// drill goes on. `rt` seeds the core's hasher.
+/// Reads a whole script, and runs it on a relay with this configuration, over memory. What the
+/// relay answers is written as docs/FORMATS.md, Drill scripts, says. A refused event is written,
+/// and the drill goes on. `rt` seeds the relay's hashers.
 pub fn drill<R: Read, W: Write>(
     rt: &impl RandomSource,
     alloc: Global,
@@ -31,11 +34,31 @@ pub fn drill<R: Read, W: Write>(
         (W.contents writer.old) (W.contents writer.new) }
 {
     let script = read_all(alloc, reader)?;
-    let lines = read_script(alloc, &config.peers, &script)?;
-    match System::new(rt, alloc, config) {
-        Ok(mut system) => play(alloc, &mut system, &lines, writer),
-        Err(_) => Err(DrillError::Unreadable),
+    let lines = read_script(alloc, &config, &script)?;
+    let stores = new_stores(alloc, &config.buffers.buffers)?;
+    let groups = config.buffers.groups.len();
+    match System::new(rt, alloc, config, stores) {
+        Ok(mut relay) => play(alloc, &mut relay, groups, &lines, writer),
+        Err(error) => match error.kind() {
+            ErrorKind::OutOfMemory => Err(DrillError::Memory),
+            _ => Err(DrillError::Unreadable),
+        },
     }
+}
+
+/// A store in memory for each of the buffers, of its blocks, of which no call fails as yet.
+fn new_stores(
+    alloc: Global,
+    buffers: &[BufferConf],
+) -> Result<Vec<FailAt<MemoryBlocks>>, AllocError>
+    ensures { IfOk result (λ stores.
+        AreStoresOf ⟦<FailAt<MemoryBlocks> as BlockStore>⟧ buffers.now stores.items) }
+{
+    let mut stores = Vec::with_capacity(alloc, buffers.len())?;
+    for buffer in buffers {
+        stores.push(FailAt::new(MemoryBlocks::new(alloc, buffer.blocks)?, 0))?;
+    }
+    Ok(stores)
 }
 
 /// All that the reader has.

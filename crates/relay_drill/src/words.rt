@@ -1,9 +1,10 @@
 //! The words of a script's line, and the values that they stand for (docs/FORMATS.md, Drill
 //! scripts).
-ghost use Rattle.std.specs.Prelude.{◌≡◌, map, string_bytes, option_map, IfOk};
+ghost use Rattle.std.specs.Prelude.{◌≡◌, map, option_map, IfOk};
 ghost use Rattle.relay_drill.specs.Words as terms;
 
 use hex::FromHexError;
+use relay_conf::{BufferConf, Peer};
 use std::alloc::{AllocError, Global};
 
 /// The last number that a script may name.
@@ -42,8 +43,17 @@ pub fn octets_of(alloc: Global, word: &[u8]) -> Result<Option<Vec<u8>>, AllocErr
 }
 
 /// The number of the peer of this name.
-pub fn peer_of(peers: &[String], name: &[u8]) -> Option<usize>
-    ensures { result ≡ terms.peer_of (map string_bytes peers.now) name.now }
+pub fn peer_of(peers: &[Peer], name: &[u8]) -> Option<usize>
+    ensures { result ≡ terms.place_of (map (λ peer. peer.name) peers.now) name.now }
 {
-    peers.iter().position(|peer| name == peer.as_bytes())
+    peers.iter().position(|peer| name == peer.name.as_slice())
+}
+
+/// The number of the buffer of this name.
+pub fn buffer_of(buffers: &[BufferConf], name: &[u8]) -> Option<usize>
+    ensures { result ≡ terms.place_of (map (λ buffer. buffer.name) buffers.now) name.now }
+{
+    buffers
+        .iter()
+        .position(|buffer| name == buffer.name.as_slice())
 }

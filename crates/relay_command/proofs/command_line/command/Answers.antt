@@ -13,9 +13,8 @@ returns c =
     let checks = with_command c.about-whole.result c.in_ok-check.field-0
     c.in_ok-subcommand.field-0 _ _ start c.in_ok-check.ensures c.in_ok-subcommand.ensures in
     let drills = with_command c.in_ok-subcommand.field-0 c.in_ok-drill.field-0
-    c.in_ok-subcommand-2.field-0 _ _ checks c.in_ok-drill.ensures.3
+    c.in_ok-subcommand-2.field-0 _ _ checks c.in_ok-drill.ensures
     c.in_ok-subcommand-2.ensures in
-    let tells = with_command c.in_ok-subcommand-2.field-0 c.in_ok-token.field-0
+    with_command c.in_ok-subcommand-2.field-0 c.in_ok-token.field-0
     c.in_ok-subcommand-3.field-0 _ _ drills c.in_ok-token.ensures
-    c.in_ok-subcommand-3.ensures in
-    (c.in_ok-drill.ensures.0, c.in_ok-drill.ensures.1, c.in_ok-drill.ensures.2, tells)
+    c.in_ok-subcommand-3.ensures

@@ -1,9 +1,21 @@
-use Rattle.std.proofs.Common.{List, ℕ, Ok, subst}
+use Rattle.std.proofs.Common.{List, ℕ, Ok, string_bytes, subst}
 use Rattle.relay_command.specs.Check.{CheckGives}
+use Rattle.relay_command.specs.CommandLine.{Drills}
+use Rattle.relay_command.specs.Run.{Performs}
 use Rattle.relay_command.proofs.program.perform.Goals as goal
 
-pub returns-in-Ok-check : goal.returns-in-Ok-check
-returns-in-Ok-check g c =
+pub returns-in-Ok : goal.returns-in-Ok
+returns-in-Ok g c =
     let told : List ℕ → Type 0 = λ folder. CheckGives (Ok tt) folder
     (g.W.Write.contents c.args.writer.now) (g.W.Write.contents c.check.new.writer) in
-    rw c.in-Check.is (subst told c.deref.ensures c.in-Ok-check.ensures)
+    rw c.in-Check.is (subst told c.deref-in-Check.ensures c.in-Ok.ensures)
+
+pub returns-in-Drill : goal.returns-in-Drill
+returns-in-Drill g c =
+    let gives : List ℕ → List ℕ → Type 0 = λ folder script. Performs (Drills folder script)
+    c.drill_in.result (g.R.Read.remaining c.args.reader.now)
+    (g.W.Write.contents c.args.writer.now) (g.W.Write.contents c.drill_in.new.writer) in
+    rw c.in-Drill.is
+    (subst (gives (string_bytes c.in-Drill.folder)) c.deref-in-Drill.ensures
+    (subst (λ folder. gives folder c.deref-in-Drill.result.now) c.deref.ensures
+    c.drill_in.ensures))

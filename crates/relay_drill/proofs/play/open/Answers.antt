@@ -1,93 +1,48 @@
-use Rattle.std.proofs.Common.{refl, sym}
-use Rattle.first_core.specs.Views.{output_view}
-use Rattle.relay_drill.specs.Play.{sessions_after}
-use Rattle.relay_drill.specs.Print.{printed}
-use Rattle.relay_drill.specs.Progress.{stand_view}
-use Rattle.relay_drill.proofs.Plays.{stands_refused, stands_opened}
-use Rattle.relay_drill.proofs.Stops.{gives_memory, gives_unwritten}
-use Rattle.relay_drill.proofs.Writes.{front_all}
+use Rattle.std.proofs.Common.{List, ℕ, sym, subst}
+use Rattle.relay_drill.specs.Progress.{Goes, stand_view}
+use Rattle.relay_drill.specs.Todo.{Opening, with_session}
+use Rattle.relay_drill.proofs.Courses.{fails_unwritten, wants_memory}
+use Rattle.relay_drill.proofs.Events.{breaks_opening, goes_opened, goes_refused}
 use Rattle.relay_drill.proofs.play.open.Goals as goal
 
 pub returns-then-is_refused : goal.returns-then-is_refused
-returns-then-is_refused g c = λ w x agrees.
-    let stepped = c.step-output.ensures w x agrees in
-    record {
-      world = stepped.0;
-      text = printed (output_view c.step-output.result);
-      agrees = stepped.1;
-      gained = c.in_ok-print.ensures;
-      acted = record {
-        output = output_view c.step-output.result;
-        step = rw (← c.narrowed.ensures) stepped.2;
-        says = refl;
-        stands = stands_refused (stand_view c.args.stand.now) c.args.session
-            (output_view c.step-output.result) (sym c.if-is_refused.ensures);
-      };
-    }
+returns-then-is_refused g c = λ next.
+    let stand = stand_view c.args.stand.now in
+    goes_refused c.args.session c.args.peer (next (with_session stand c.args.session)) (next stand)
+    c.args.relay.now c.step-output.result c.step-output.new.self _ _ c.step-output.ensures.steps
+    c.step-output.ensures.frame (sym c.if-is_refused.ensures) c.in_ok-print.ensures
 
 pub returns : goal.returns
-returns g c = λ w x agrees.
-    let stepped = c.step-output.ensures w x agrees in
-    record {
-      world = stepped.0;
-      text = printed (output_view c.step-output.result);
-      agrees = stepped.1;
-      gained = c.in_ok-print.ensures;
-      acted = record {
-        output = output_view c.step-output.result;
-        step = rw (← c.narrowed.ensures) stepped.2;
-        says = refl;
-        stands = stands_opened (stand_view c.args.stand.now) _ c.args.session
-            (output_view c.step-output.result)
-            (sym c.if-is_refused.ensures) c.in_ok-push.ensures.items refl;
-      };
-    }
+returns g c = λ next.
+    let stand = stand_view c.args.stand.now in
+    let opened = goes_opened c.args.session c.args.peer
+    (next (with_session stand c.args.session)) (next stand)
+    c.args.relay.now c.step-output.result c.step-output.new.self _ _ c.step-output.ensures.steps
+    c.step-output.ensures.frame (sym c.if-is_refused.ensures) c.in_ok-print.ensures in
+    let P : List ℕ → Type 0 = λ sessions. Goes
+    (Opening c.args.session c.args.peer (next (with_session stand c.args.session)) (next stand))
+    (next (record stand { sessions = sessions })) c.args.relay.now c.step-output.new.self
+    (g.W.Write.contents c.args.writer.now) (g.W.Write.contents c.print.new.writer) in
+    subst P (sym c.in_ok-push.ensures.items) opened
 
 pub returns-in_err-print : goal.returns-in_err-print
-returns-in_err-print g c =
-    gives_unwritten c.from_residual.result _ _ c.from_residual.ensures.0 c.from_residual.ensures.1
-    (λ w x agrees.
-    let stepped = c.step-output.ensures w x agrees in
+returns-in_err-print g c = λ next.
     let stand = stand_view c.args.stand.now in
-    record {
-      text = printed (output_view c.step-output.result);
-      world = stepped.0;
-      acted = (
-        record stand {
-          sessions =
-              sessions_after stand.sessions c.args.session (output_view c.step-output.result);
-        },
-        record {
-          output = output_view c.step-output.result;
-          step = rw (← c.narrowed.ensures) stepped.2;
-          says = refl;
-          stands = refl;
-        },
-      );
-      written = c.in_err-print.ensures;
-    })
+    let opened = next (with_session stand c.args.session) in
+    fails_unwritten c.from_residual.result
+    (Opening c.args.session c.args.peer opened (next stand)) (next stand) c.args.relay.now
+    c.step-output.new.self _ _ c.from_residual.ensures.0 c.from_residual.ensures.1
+    (breaks_opening c.args.session c.args.peer opened (next stand) c.args.relay.now
+    c.step-output.result c.step-output.new.self _ _ c.step-output.ensures.steps
+    c.step-output.ensures.frame c.in_err-print.ensures)
 
 pub returns-in_err-push : goal.returns-in_err-push
-returns-in_err-push g c =
-    gives_memory c.from_residual-in_err-push.result _ _ c.from_residual-in_err-push.ensures.0
-    c.from_residual-in_err-push.ensures.1 (λ w x agrees.
-    let stepped = c.step-output.ensures w x agrees in
+returns-in_err-push g c = λ next.
     let stand = stand_view c.args.stand.now in
-    record {
-      text = printed (output_view c.step-output.result);
-      world = stepped.0;
-      acted = (
-        record stand {
-          sessions =
-              sessions_after stand.sessions c.args.session (output_view c.step-output.result);
-        },
-        record {
-          output = output_view c.step-output.result;
-          step = rw (← c.narrowed.ensures) stepped.2;
-          says = refl;
-          stands = refl;
-        },
-      );
-      written = front_all (printed (output_view c.step-output.result)) _ _
-          c.in_ok-print.ensures;
-    })
+    let opened = next (with_session stand c.args.session) in
+    wants_memory c.from_residual-in_err-push.result
+    (Opening c.args.session c.args.peer opened (next stand)) opened _ _ _ _ _ _
+    c.from_residual-in_err-push.ensures.0 c.from_residual-in_err-push.ensures.1
+    (goes_opened c.args.session c.args.peer opened (next stand) c.args.relay.now
+    c.step-output.result c.step-output.new.self _ _ c.step-output.ensures.steps
+    c.step-output.ensures.frame (sym c.if-is_refused.ensures) c.in_ok-print.ensures)

@@ -1,10 +1,10 @@
-use Rattle.std.proofs.Common.{◌-◌, [], ◌∷◌}
-use Rattle.relay_drill.specs.Play.{RoundsEach}
-use Rattle.relay_drill.specs.Progress.{Completes}
+use Rattle.std.proofs.Common.{◌-◌}
+use Rattle.relay_drill.specs.Progress.{Goes}
+use Rattle.relay_drill.specs.Todo.{Todo, round_each}
 use Rattle.relay_drill.proofs.play.rounds.Given as goal
 
 abbrev pub invariant-loop-passed : goal.invariant-loop-passed
 invariant-loop-passed g l =
-    Completes (λ w. RoundsEach w l.moment l.sessions (0 ∷ []) (l.count - l.passed))
-    (λ w. RoundsEach w l.moment l.sessions (0 ∷ []) l.count)
-    l.fn.system l.system (g.W.Write.contents l.fn.writer) (g.W.Write.contents l.writer)
+    (more : Todo) → Goes (round_each l.groups l.now l.sessions l.count more)
+    (round_each l.groups l.now l.sessions (l.count - l.passed) more) l.fn.relay l.relay
+    (g.W.Write.contents l.fn.writer) (g.W.Write.contents l.writer)

@@ -1,37 +1,14 @@
-use Rattle.std.proofs.Common.{◌≡◌, List, [], ◌∷◌, Global, map, Ok, subst, vec_items}
-use Rattle.first_core.specs.Config.{terms_of}
-use Rattle.first_model.specs.Terms.{Terms}
-use Rattle.first_model.specs.World.{empty_world}
-use Rattle.relay_drill.specs.Drill.{lines_of_script}
+use Rattle.std.proofs.Common.{◌≡◌, ℕ, List, Global, map, Ok, subst, vec_items}
+use Rattle.article_verdict.specs.Config.{terms_of}
+use Rattle.relay_drill.specs.Drill.{first_world, lines_of_script}
 use Rattle.relay_drill.specs.Fault.{line_view}
-use Rattle.relay_drill.specs.Play.{Act, LinesDo, first_stand}
 use Rattle.relay_drill.specs.Progress.{Performs}
+use Rattle.relay_drill.specs.Todo.{Done, first_stand, lines_ask}
+use Rattle.relay_drill.specs.declared.fault.DrillError.TheVariants.{Memory}
 use Rattle.relay_drill.specs.declared.line.Line.{Line}
-use Rattle.relay_drill.proofs.Drills.{bad_line, drill_gives, unread}
-use Rattle.relay_drill.proofs.Stops.{gives_from}
+use Rattle.relay_drill.proofs.Drills.{bad_line, begun, drill_gives, memory_at_once, passed}
+use Rattle.relay_drill.proofs.Drills.{performs_at, unread}
 use Rattle.relay_drill.proofs.whole.drill.Goals as goal
-
-pub returns-in-Ok : goal.returns-in-Ok
-returns-in-Ok g c =
-    let read = c.in_ok-lines.lines.items in
-    let lines = map line_view c.in_ok-lines.lines.items in
-    let text = c.in_ok-script.script.items in
-    let before = g.W.Write.contents c.args.writer.now in
-    let after = g.W.Write.contents c.play.new.writer in
-    let says : lines_of_script c.args.config c.in_ok-script.script.items
-    ≡ Ok (map line_view c.in_ok-lines.lines.items) =
-    rw (← c.deref.ensures.value, ← c.deref-2.ensures.value) c.in_ok-lines.ensures in
-    let act : List Line → Terms → Act =
-    λ read w. LinesDo w (0 ∷ []) (map line_view read) first_stand in
-    let Q : List Line → Type 0 = λ read. Performs c.play.result (act read) c.in-Ok.system
-    c.play.new.system (g.W.Write.contents c.args.writer.now)
-    (g.W.Write.contents c.play.new.writer) in
-    drill_gives c.args.config c.play.new.system c.play.result (g.R.Read.remaining c.args.reader.now)
-    text lines before after c.in_ok-script.ensures says
-    (gives_from c.play.result _ _ _ _
-    (λ plays. plays (terms_of c.args.config) empty_world c.in-Ok.ensures)
-    (λ stops. stops (terms_of c.args.config) empty_world c.in-Ok.ensures)
-    (subst Q c.deref-in-Ok.ensures.value c.play.ensures))
 
 pub returns-in_err-script : goal.returns-in_err-script
 returns-in_err-script g c =
@@ -45,4 +22,42 @@ returns-in_err-lines g c =
     c.from_residual-in_err-lines.result _ c.in_ok-script.script.items _
     c.from_residual-in_err-lines.ensures.0 c.from_residual-in_err-lines.ensures.1
     c.in_ok-script.ensures
-    (rw (← c.deref.ensures.value, ← c.deref-2.ensures.value) c.in_err-lines.ensures)
+    (rw (← c.deref.ensures.value) c.in_err-lines.ensures)
+
+pub returns-in_err-stores : goal.returns-in_err-stores
+returns-in_err-stores g c =
+    let held = g.W.Write.contents c.args.writer.now in
+    passed c.args.config Memory c.from_residual-in_err-stores.result
+    (g.R.Read.remaining c.args.reader.now) held held c.from_residual-in_err-stores.ensures.0
+    c.from_residual-in_err-stores.ensures.1
+    (memory_at_once c.args.config (g.R.Read.remaining c.args.reader.now) held)
+
+pub returns-in-OutOfMemory : goal.returns-in-OutOfMemory
+returns-in-OutOfMemory g c =
+    memory_at_once c.args.config (g.R.Read.remaining c.args.reader.now)
+    (g.W.Write.contents c.args.writer.now)
+
+pub returns-in-Ok : goal.returns-in-Ok
+returns-in-Ok g c =
+    let lines = map line_view c.in_ok-lines.lines.items in
+    let text = c.in_ok-script.script.items in
+    let before = g.W.Write.contents c.args.writer.now in
+    let after = g.W.Write.contents c.play.new.writer in
+    let says : lines_of_script c.args.config c.in_ok-script.script.items
+    ≡ Ok (map line_view c.in_ok-lines.lines.items) =
+    rw (← c.deref.ensures.value) c.in_ok-lines.ensures in
+    let Q : List Line → Type 0 = λ read. Performs c.play.result
+    (lines_ask c.len-groups.result (map line_view read) first_stand) Done c.in-Ok.relay
+    c.play.new.relay (g.W.Write.contents c.args.writer.now)
+    (g.W.Write.contents c.play.new.writer) in
+    let R : ℕ → Type 0 = λ groups. Performs c.play.result
+    (lines_ask groups (map line_view c.in_ok-lines.lines.items) first_stand) Done c.in-Ok.relay
+    c.play.new.relay (g.W.Write.contents c.args.writer.now)
+    (g.W.Write.contents c.play.new.writer) in
+    drill_gives c.args.config c.play.new.relay c.play.result
+    (g.R.Read.remaining c.args.reader.now) text lines before after c.in_ok-script.ensures says
+    (performs_at c.play.result _ Done c.in-Ok.relay c.play.new.relay before after
+    (terms_of c.args.config) first_world
+    (subst R c.len-groups.ensures (subst Q c.deref-in-Ok.ensures.value c.play.ensures))
+    (begun c.args.config _ c.in_ok-stores.stores.items c.in-Ok.relay c.in_ok-stores.ensures
+    c.in-Ok.ensures))

@@ -1,9 +1,0 @@
-pub mod HandLemmas
-pub mod MachineLemmas
-pub mod OnlyLemmas
-pub mod OpenLemmas
-pub mod RunLemmas
-pub mod SessionLemmas
-pub mod StoreLemmas
-pub mod TurnLemmas
-pub mod WriterLemmas

@@ -1,5 +1,0 @@
-use Rattle.first_laws.proofs.Gained.{gains_permitted}
-use Rattle.first_laws.proofs.claims.gains_permitted.Goals as goal
-
-pub returns : goal.returns
-returns c = gains_permitted

@@ -1,5 +1,0 @@
-use Rattle.first_laws.proofs.OpenOffers.{offers_are_open}
-use Rattle.first_laws.proofs.claims.offers_are_open.Goals as goal
-
-pub returns : goal.returns
-returns c = offers_are_open

@@ -1,0 +1,230 @@
+//! Reading a configuration (docs/PROTOCOL.md, Program; docs/FORMATS.md, Configuration).
+ghost use Rattle.std.specs.Prelude.{◌≡◌, ◌⊎◌, bytes_eq, codes, IfOk, IfErr, Some};
+ghost use Rattle.relay_conf.specs.RelayViews.{RelayGives};
+ghost use Rattle.relay_command.specs.Check.{CycbuffReads, FileGives, IsErrorIn, IsTextOf};
+ghost use Rattle.relay_command.specs.Check.{IsUnread, LoadGives, StorageReads};
+ghost use Rattle.relay_command.specs.Check.{check_text, file_name, k1_text, unread_as};
+ghost use Rattle.relay_command.specs.declared.load.CheckError.TheVariants.{Memory, Unreadable};
+ghost use Rattle.relay_command.specs.declared.load.ConfFile.TheVariants as files;
+
+use crate::file::read_file;
+use relay_conf::{
+    Buffers, ConfError, Config, K1_CYCBUFF, K1_RELAY, K1_STORAGE, Method, Relay, read_cycbuff,
+    read_relay, read_storage,
+};
+use relay_drill::DrillError;
+use std::alloc::{AllocError, Global};
+use std::error::Error;
+use std::fmt;
+use std::fmt::{Display, Formatter};
+use std::fs::Files;
+use std::path::Path;
+
+/// The files of a configuration, in the order in which they are read.
+#[derive(Clone, Copy, Debug, PartialEq, Eq)]
+pub enum ConfFile {
+    Cycbuff,
+    Storage,
+    Relay,
+}
+
+impl ConfFile {
+    /// The bare name of the file.
+    pub fn name(self) -> &'static str
+        ensures { result.now ≡ file_name self }
+    {
+        match self {
+            ConfFile::Cycbuff => "cycbuff.conf",
+            ConfFile::Storage => "storage.conf",
+            ConfFile::Relay => "relay.conf",
+        }
+    }
+}
+
+impl Display for ConfFile {
+    ghost output = { λ file. Some (file_name file) };
+
+    fn fmt<W: fmt::Write>(&self, formatter: &mut Formatter<W>) -> fmt::Result {
+        formatter.write_str(self.name())
+    }
+}
+
+/// Why a configuration can't be had, or is not told. Its text is what the program prints.
+#[derive(Debug, Drop)]
+pub enum CheckError {
+    /// Memory ran out, which says nothing of the configuration.
+    Memory,
+    /// The file can't be read; those before it have no fault.
+    Unreadable(ConfFile),
+    /// The first fault of the file: its line, its code and its name; those before it have none.
+    Faulty {
+        file: ConfFile,
+        line: usize,
+        code: u8,
+        name: &'static str,
+    },
+    /// The writer failed.
+    Unwritten,
+}
+
+impl Display for CheckError {
+    ghost output = { λ error. Some (check_text error) };
+
+    fn fmt<W: fmt::Write>(&self, formatter: &mut Formatter<W>) -> fmt::Result {
+        match self {
+            CheckError::Memory => formatter.write_str("out of memory"),
+            CheckError::Unreadable(file) => write!(formatter, "{file}: unreadable"),
+            CheckError::Faulty {
+                file,
+                line,
+                code,
+                name,
+            } => write!(formatter, "{file}:{line}: {code} {name}"),
+            CheckError::Unwritten => formatter.write_str("stdout: unwritten"),
+        }
+    }
+}
+
+impl Error for CheckError {}
+
+impl CheckError {
+    /// The fault of a file.
+    fn of(file: ConfFile, error: ConfError) -> CheckError
+        ensures { IsErrorIn file error result }
+    {
+        match error {
+            ConfError::Memory => CheckError::Memory,
+            ConfError::Faulty(at) => CheckError::Faulty {
+                file,
+                line: at.line,
+                code: at.fault.code(),
+                name: at.fault.name(),
+            },
+        }
+    }
+}
+
+impl From<AllocError> for CheckError {
+    ghost from_gives = { λ _ e. e ≡ Memory };
+
+    fn from(_error: AllocError) -> CheckError {
+        CheckError::Memory
+    }
+}
+
+/// Reads the configuration in a folder, or the built-in one where the folder is `K1`.
+pub fn load<R: Files>(rt: &R, alloc: Global, folder: &str) -> Result<Config, CheckError>
+    ensures { LoadGives folder.now result }
+{
+    let buffers = match load_cycbuff(rt, alloc, folder) {
+        Ok(buffers) => buffers,
+        Err(error) => return Err(error),
+    };
+    let methods = match load_storage(rt, alloc, folder, &buffers) {
+        Ok(methods) => methods,
+        Err(error) => return Err(error),
+    };
+    match load_relay(rt, alloc, folder) {
+        Ok(relay) => Ok(Config::new(buffers, methods, relay)),
+        Err(error) => Err(error),
+    }
+}
+
+/// Reads a folder's cycbuff.conf.
+fn load_cycbuff<R: Files>(rt: &R, alloc: Global, folder: &str) -> Result<Buffers, CheckError>
+    ensures { FileGives folder.now files.Cycbuff CycbuffReads result }
+{
+    let text = text_of(rt, alloc, folder, ConfFile::Cycbuff)?;
+    match read_cycbuff(alloc, &text) {
+        Ok(buffers) => Ok(buffers),
+        Err(error) => Err(CheckError::of(ConfFile::Cycbuff, error)),
+    }
+}
+
+/// Reads a folder's storage.conf.
+fn load_storage<R: Files>(
+    rt: &R,
+    alloc: Global,
+    folder: &str,
+    buffers: &Buffers,
+) -> Result<Vec<Method>, CheckError>
+    ensures { FileGives folder.now files.Storage (StorageReads buffers.now) result }
+{
+    let text = text_of(rt, alloc, folder, ConfFile::Storage)?;
+    match read_storage(alloc, &text, buffers) {
+        Ok(methods) => Ok(methods),
+        Err(error) => Err(CheckError::of(ConfFile::Storage, error)),
+    }
+}
+
+/// Reads a folder's relay.conf.
+fn load_relay<R: Files>(rt: &R, alloc: Global, folder: &str) -> Result<Relay, CheckError>
+    ensures { FileGives folder.now files.Relay RelayGives result }
+{
+    let text = text_of(rt, alloc, folder, ConfFile::Relay)?;
+    match read_relay(alloc, &text) {
+        Ok(relay) => Ok(relay),
+        Err(error) => Err(CheckError::of(ConfFile::Relay, error)),
+    }
+}
+
+/// The text of a file of a folder: of `K1` the built-in one.
+fn text_of<R: Files>(
+    rt: &R,
+    alloc: Global,
+    folder: &str,
+    file: ConfFile,
+) -> Result<Vec<u8>, CheckError>
+    ensures text { IfOk result (λ text. IsTextOf folder.now file text.items) }
+    ensures error { IfErr result (IsUnread folder.now file) }
+{
+    if is_built_in(folder) {
+        let text = Vec::from_slice(alloc, k1_text(file))?;
+        return Ok(text);
+    }
+    text_in(rt, alloc, folder, file)
+}
+
+/// Whether the folder is the name of the built-in configuration.
+fn is_built_in(folder: &str) -> bool
+    ensures { result ≡ bytes_eq folder.now (codes "K1") }
+{
+    folder == "K1"
+}
+
+/// The text of a file of the built-in configuration.
+fn k1_text(file: ConfFile) -> &'static [u8]
+    ensures { result.now ≡ k1_text file }
+{
+    match file {
+        ConfFile::Cycbuff => K1_CYCBUFF,
+        ConfFile::Storage => K1_STORAGE,
+        ConfFile::Relay => K1_RELAY,
+    }
+}
+
+/// All that a file of a folder has.
+fn text_in<R: Files>(
+    rt: &R,
+    alloc: Global,
+    folder: &str,
+    file: ConfFile,
+) -> Result<Vec<u8>, CheckError>
+    ensures { IfErr result (λ error. (error ≡ Memory) ⊎ (error ≡ Unreadable file)) }
+{
+    let path = Path::new(folder).join(alloc, file.name())?;
+    match read_file(rt, alloc, path.as_str()) {
+        Ok(text) => Ok(text),
+        Err(error) => Err(unread(file, &error)),
+    }
+}
+
+/// Why what a file has could not be had.
+fn unread(file: ConfFile, error: &DrillError) -> CheckError
+    ensures { result ≡ unread_as file error.now }
+{
+    match error {
+        DrillError::Memory => CheckError::Memory,
+        _ => CheckError::Unreadable(file),
+    }
+}

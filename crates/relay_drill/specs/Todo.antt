@@ -1,0 +1,90 @@
+-- What a script asks for, in order (docs/FORMATS.md, Drill scripts). What is to be done is known
+-- step by step: which sessions a round serves hangs on which were opened, and which are closed.
+use Rattle.std.specs.Prelude.{ℕ, zero, suc, ◌+◌, ◌++◌, List, [], ◌∷◌, length, take, drop, Option}
+use Rattle.std.specs.Prelude.{None, Some}
+use Rattle.relay_model.specs.Run.{Event, Bytes, Turn, Write, Break}
+use Rattle.relay_drill.specs.Script.{Line, Opens, Brings, Splits, Turns, Writes, Rounds, Breaks}
+use Rattle.relay_drill.specs.Script.{Fails}
+
+-- what is still to be done
+pub data Todo : Type 0 where
+  -- nothing
+  Done : Todo
+  -- this event, and then more
+  Next : (event : Event) (more : Todo) → Todo
+  -- a session's Turn where it isn't closed, and then more
+  TurnOf : (session moment : ℕ) (more : Todo) → Todo
+  -- a session opens; what follows hangs on whether that is refused
+  Opening : (session peer : ℕ) (opened refused : Todo) → Todo
+
+-- the pieces of so many octets, the last of what is left; n turns are enough for n octets
+abbrev pub pieces_in : ℕ → ℕ → List ℕ → List (List ℕ)
+pieces_in zero size octets = []
+pieces_in (suc turns) size [] = []
+pieces_in (suc turns) size (c ∷ cs) =
+    take size (c ∷ cs) ∷ pieces_in turns size (drop size (c ∷ cs))
+
+-- octets as they come: whole, or in pieces
+abbrev pub pieces_of : Option ℕ → List ℕ → List (List ℕ)
+pieces_of None octets = pieces_in (length octets) (length octets) octets
+pieces_of (Some size) octets = pieces_in (length octets) size octets
+
+-- how a drill stands: the sessions that it opened, in rising order, and the octets of a piece,
+-- where octets are split
+pub record Stand : Type 0 where
+  pub sessions : List ℕ
+  pub piece : Option ℕ
+
+-- nothing is open, and nothing is split
+abbrev pub first_stand : Stand
+first_stand = record { sessions = []; piece = None }
+
+-- one more session was opened
+abbrev pub with_session : Stand → ℕ → Stand
+with_session stand session = record stand { sessions = stand.sessions ++ session ∷ [] }
+
+-- the pieces come, one after the other
+abbrev pub bring_each : (session : ℕ) → List (List ℕ) → (more : Todo) → Todo
+bring_each session [] more = more
+bring_each session (piece ∷ pieces) more =
+    Next (Bytes session piece) (bring_each session pieces more)
+
+-- each of the sessions that isn't closed has its Turn
+abbrev pub turn_each : (moment : ℕ) → (sessions : List ℕ) → (more : Todo) → Todo
+turn_each moment [] more = more
+turn_each moment (session ∷ sessions) more =
+    TurnOf session moment (turn_each moment sessions more)
+
+-- the writers of so many groups, from this one on, have their Writes
+abbrev pub write_each : (moment group count : ℕ) → (more : Todo) → Todo
+write_each moment group zero more = more
+write_each moment group (suc count) more =
+    Next (Write group moment) (write_each moment (group + 1) count more)
+
+-- so many rounds: each of the sessions that isn't closed, and then the writer of each group
+abbrev pub round_each : (groups moment : ℕ) → (sessions : List ℕ) → (count : ℕ) → (more : Todo)
+    → Todo
+round_each groups moment sessions zero more = more
+round_each groups moment sessions (suc count) more =
+    turn_each moment sessions (write_each moment 0 groups
+    (round_each groups moment sessions count more))
+
+-- what a line asks for, where the drill stands so; what follows hangs on how it then stands. That a
+-- call of a device fails is no event: the relay's definitions leave open when one does.
+abbrev pub line_asks : (groups : ℕ) → Line → Stand → (Stand → Todo) → Todo
+line_asks groups (Opens session peer) stand next =
+    Opening session peer (next (with_session stand session)) (next stand)
+line_asks groups (Brings session octets) stand next =
+    bring_each session (pieces_of stand.piece octets) (next stand)
+line_asks groups (Splits size) stand next = next (record stand { piece = Some size })
+line_asks groups (Turns session moment) stand next = Next (Turn session moment) (next stand)
+line_asks groups (Writes group moment) stand next = Next (Write group moment) (next stand)
+line_asks groups (Rounds count moment) stand next =
+    round_each groups moment stand.sessions count (next stand)
+line_asks groups (Breaks session) stand next = Next (Break session) (next stand)
+line_asks groups (Fails buffer call) stand next = next stand
+
+-- what the lines of a script ask for, one after the other
+abbrev pub lines_ask : (groups : ℕ) → List Line → Stand → Todo
+lines_ask groups [] stand = Done
+lines_ask groups (line ∷ lines) stand = line_asks groups line stand (lines_ask groups lines)
