@@ -1,25 +1,122 @@
 //! Texts with long repeats, written short.
-use line_words::{cut, number_within};
+use line_words::{cut, number_within, three_parts};
 use std::alloc::{AllocError, Global};
 
-/// The text with each `{N TEXT}` written out: N times TEXT.
+/// The most that a number of a repeat can be.
+const MOST: u64 = 1_000_000;
+
+/// The header of A(I, K), with `#` in the place of I, and the empty line behind it
+/// (docs/FORMATS.md, Example article).
+const HEADER: &[&[u8]] = &[
+    b"Path: one.example!not-for-mail",
+    b"From: a@x.example",
+    b"Newsgroups: misc.test",
+    b"Subject: t",
+    b"Message-ID: <#@x>",
+    b"Date: Fri, 01 Jan 2021 00:00:00 +0000",
+    b"",
+];
+
+/// The hexadecimal digits.
+const DIGITS: &[u8; 16] = b"0123456789ABCDEF";
+
+/// The text with what stands between each `{` and `}` written out.
 pub fn expanded(alloc: Global, text: &[u8]) -> Result<Vec<u8>, AllocError> {
     let (front, _) = cut(text, b'{');
     let mut whole = Vec::from_slice(alloc, front)?;
-    for repeat in text.split(|octet| *octet == b'{').skip(1) {
-        let (inside, behind) = cut(repeat, b'}');
-        add_repeat(&mut whole, inside)?;
+    for marked in text.split(|octet| *octet == b'{').skip(1) {
+        let (inside, behind) = cut(marked, b'}');
+        add_marked(alloc, &mut whole, inside)?;
         whole.extend_from_slice(behind.unwrap_or(b""))?;
     }
     Ok(whole)
 }
 
-/// Adds what `N TEXT` stands for.
-fn add_repeat(whole: &mut Vec<u8>, repeat: &[u8]) -> Result<(), AllocError> {
-    let (count, text) = cut(repeat, b' ');
-    for added in 0..number_within(0, 1_000_000, count).unwrap_or(0) {
-        let _added = added;
-        whole.extend_from_slice(text.unwrap_or(b""))?;
+/// Adds what `article S I K`, `hex TEXT`, `FIRST-LAST TEXT` or `N TEXT` stands for.
+fn add_marked(alloc: Global, whole: &mut Vec<u8>, inside: &[u8]) -> Result<(), AllocError> {
+    let (word, behind) = cut(inside, b' ');
+    if word == b"article".as_slice() {
+        return add_article(whole, behind);
+    }
+    let text = behind.unwrap_or(b"");
+    if word == b"hex".as_slice() {
+        return add_hex(whole, text);
+    }
+    match cut(word, b'-') {
+        (first, Some(last)) => add_numbered(alloc, whole, (first, last), text),
+        (count, None) => add_repeat(whole, count, text),
+    }
+}
+
+/// Adds two digits for each octet of a text, whose lines end with CRLF there.
+fn add_hex(whole: &mut Vec<u8>, text: &[u8]) -> Result<(), AllocError> {
+    for octet in text {
+        if *octet == b'\n' {
+            whole.extend_from_slice(b"0D")?;
+        }
+        whole.push(DIGITS[usize::from(*octet >> 4)])?;
+        whole.push(DIGITS[usize::from(*octet & 15)])?;
     }
     Ok(())
+}
+
+/// Adds a text so many times.
+fn add_repeat(whole: &mut Vec<u8>, count: &[u8], text: &[u8]) -> Result<(), AllocError> {
+    for added in 0..number_within(0, MOST, count).unwrap_or(0) {
+        let _added = added;
+        whole.extend_from_slice(text)?;
+    }
+    Ok(())
+}
+
+/// Adds a text once for each number from the first to the last, with the number in the place of
+/// each `#`.
+fn add_numbered(
+    alloc: Global,
+    whole: &mut Vec<u8>,
+    ends: (&[u8], &[u8]),
+    text: &[u8],
+) -> Result<(), AllocError> {
+    let first = number_within(0, MOST, ends.0).unwrap_or(1);
+    let last = number_within(0, MOST, ends.1).unwrap_or(0);
+    for number in first..=last {
+        let digits = format!(in alloc; "{number}")?;
+        add_with(whole, text, digits.as_bytes())?;
+    }
+    Ok(())
+}
+
+/// Adds a text with this in the place of each `#`.
+fn add_with(whole: &mut Vec<u8>, text: &[u8], with: &[u8]) -> Result<(), AllocError> {
+    let (front, _) = cut(text, b'#');
+    whole.extend_from_slice(front)?;
+    for part in text.split(|octet| *octet == b'#').skip(1) {
+        whole.extend_from_slice(with)?;
+        whole.extend_from_slice(part)?;
+    }
+    Ok(())
+}
+
+/// Adds the lines that send A(I, K) by session S, the line `.` behind it too, by `S I K`.
+fn add_article(whole: &mut Vec<u8>, words: Option<&[u8]>) -> Result<(), AllocError> {
+    let Some((session, id, count)) = three_parts(words, b' ') else {
+        return Ok(());
+    };
+    for line in HEADER {
+        add_send(whole, session)?;
+        add_with(whole, line, id)?;
+        whole.push(b'\n')?;
+    }
+    add_send(whole, session)?;
+    add_repeat(whole, count, b"x")?;
+    whole.push(b'\n')?;
+    add_send(whole, session)?;
+    whole.extend_from_slice(b".")
+}
+
+/// Adds the words before the text of a line that is sent by this session.
+fn add_send(whole: &mut Vec<u8>, session: &[u8]) -> Result<(), AllocError> {
+    whole.extend_from_slice(b"send ")?;
+    whole.extend_from_slice(session)?;
+    whole.extend_from_slice(b" ")
 }

@@ -1,16 +1,19 @@
 //! Rows of text, played. Standard input holds rows, each under a line `== what it shows`: the
 //! words of the program, one behind each `$`, and its standard input, most often a drill script.
 //! The line is printed again, with what `relay_command::run` wrote, and where it failed with the
-//! text of its failure and the status.
+//! text of its failure and the status. Behind `==` a drill is played in pieces of one octet, too;
+//! behind `=1` it isn't, behind `=#` what it gives is counted, and behind `=^` its octets are cut.
 //!
 //! The rows stand in the file `stdin` of this crate, what they have to print in `stdout`, and the
 //! configurations that they name in `data`.
 #![tactic(auto)]
 
 mod expand;
+mod manner;
 mod row;
 mod streams;
 
+use manner::{Manner, manner_of};
 use relay_drill::read_all;
 use row::Row;
 use std::io;
@@ -20,12 +23,12 @@ fn main(rt: HostRuntime) -> io::Result<()> {
     let Ok(text) = read_all(rt.alloc(), &mut rt.reader()) else {
         return Err(io::Error::from(ErrorKind::InvalidInput));
     };
-    let mut row = Row::new(rt.alloc(), b"");
+    let mut row = Row::new(rt.alloc(), Manner::Once, b"");
     for line in text.as_slice().split(|octet| *octet == b'\n') {
-        match line.strip_prefix(b"== ".as_slice()) {
-            Some(title) => {
+        match manner_of(line) {
+            Some(manner) => {
                 print(&rt, &row)?;
-                row = Row::new(rt.alloc(), title);
+                row = Row::new(rt.alloc(), manner, line);
             }
             None => row.add(line)?,
         }
@@ -35,12 +38,12 @@ fn main(rt: HostRuntime) -> io::Result<()> {
 
 /// Prints a row and what it gives. What stands before the first row is none.
 fn print(rt: &HostRuntime, row: &Row<'_>) -> io::Result<()> {
-    if row.title.is_empty() {
+    if row.head.is_empty() {
         return Ok(());
     }
     let played = row.play(rt)?;
     let mut output = io::writer(rt);
-    for part in [b"== ".as_slice(), row.title, b"\n", &played] {
+    for part in [row.head, b"\n", &played] {
         output.write_all(part)?;
     }
     Ok(())

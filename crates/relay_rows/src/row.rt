@@ -1,15 +1,22 @@
 //! A row: what it shows, the program's words, how its streams behave, and its standard input.
 use crate::expand::expanded;
+use crate::manner::{Manner, add_cut, counted, joined};
 use crate::streams::{Input, Output};
+use line_words::cut;
 use relay_command::{print_failure, run};
 use std::alloc::{AllocError, Global};
 use std::{io, str};
 
+/// The line before a script whose octets come one by one.
+const SPLIT: &[u8] = b"split 1\n";
+
 /// A row, with what it shows.
 #[derive(Drop)]
 pub struct Row<'a> {
-    /// What the row shows.
-    pub title: &'a [u8],
+    /// The line that it begins with: how it is played, and what it shows.
+    pub head: &'a [u8],
+    /// How it is played.
+    manner: Manner,
     /// The words behind the program's name: each stands in a line of its own, behind `$`.
     words: Vec<&'a [u8]>,
     /// How standard input behaves: the line behind `<`.
@@ -23,10 +30,11 @@ pub struct Row<'a> {
 }
 
 impl<'a> Row<'a> {
-    /// A row of this title, without lines.
-    pub fn new(alloc: Global, title: &'a [u8]) -> Row<'a> {
+    /// A row that begins with this line, without others.
+    pub fn new(alloc: Global, manner: Manner, head: &'a [u8]) -> Row<'a> {
         Row {
-            title,
+            head,
+            manner,
             words: Vec::new(alloc),
             input: b"",
             output: b"",
@@ -53,12 +61,49 @@ impl<'a> Row<'a> {
         self.script.extend_from_slice(line)
     }
 
-    /// What the row gives: what the program wrote, and its failure.
+    /// What is printed of the row.
     pub fn play(&self, rt: &HostRuntime) -> io::Result<Vec<u8>> {
+        let script = expanded(rt.alloc(), &self.script)?;
+        match self.manner {
+            Manner::Twice => self.play_twice(rt, &script),
+            Manner::Once => self.play_script(rt, &script),
+            Manner::Counted => Ok(counted(rt.alloc(), &self.play_script(rt, &script)?)?),
+            Manner::Cut => self.play_cuts(rt, &script),
+        }
+    }
+
+    /// What is printed of the row as it is and in pieces of one octet.
+    fn play_twice(&self, rt: &HostRuntime, script: &[u8]) -> io::Result<Vec<u8>> {
+        let whole = self.play_script(rt, script)?;
+        let mut split = Vec::from_slice(rt.alloc(), SPLIT)?;
+        split.extend_from_slice(script)?;
+        let pieces = self.play_script(rt, &split)?;
+        Ok(joined(whole, &pieces)?)
+    }
+
+    /// What is printed of the row where of the octets between the two `^`, two digits each, only
+    /// the first come: one octet, two, and so on.
+    fn play_cuts(&self, rt: &HostRuntime, script: &[u8]) -> io::Result<Vec<u8>> {
+        let (front, marked) = cut(script, b'^');
+        let (digits, behind) = cut(marked.unwrap_or(b""), b'^');
+        let mut printed = Vec::new(rt.alloc());
+        let mut last = Vec::new(rt.alloc());
+        for octets in 1..=digits.len() / 2 {
+            let mut script = Vec::from_slice(rt.alloc(), front)?;
+            script.extend_from_slice(digits.get(..octets * 2).unwrap_or(b""))?;
+            script.extend_from_slice(behind.unwrap_or(b""))?;
+            let played = self.play_script(rt, &script)?;
+            add_cut(rt.alloc(), &mut printed, octets, &last, &played)?;
+            last = played;
+        }
+        Ok(printed)
+    }
+
+    /// What the row gives with this script: what the program wrote, and its failure.
+    fn play_script(&self, rt: &HostRuntime, script: &[u8]) -> io::Result<Vec<u8>> {
         let alloc = rt.alloc();
-        let script = expanded(alloc, &self.script)?;
         let words = self.command_line(alloc)?;
-        let mut input = Input::new(&script, self.input);
+        let mut input = Input::new(script, self.input);
         let mut output = Output::new(alloc, self.output);
         let ran = run(rt, alloc, &words, &mut input, &mut output);
         let mut played = output.written;
