@@ -73,6 +73,7 @@ told_here w kept (Some peer) session slot outcome h = (
     fronts = h.2.fronts;
     slot_is = refl;
   },
+  h.3,
 )
 
 module _ {S : Type 0} {g : Ghosts S} (h now : ℕ) (old : System S g) where

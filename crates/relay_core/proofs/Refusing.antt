@@ -29,6 +29,9 @@ memory_is output fault memory is =
     sym is ∙ ap output_view memory in
     cc
 
+none_some : {fault : Fault} → None ≡ Some fault → ⊥
+none_some e = cc
+
 module _ {S : Type 0} {g : Ghosts S} (s : System S g) where
   -- the first reason to refuse the event by what is seen
   abbrev pub reason : Event → Option Fault
@@ -43,6 +46,7 @@ module _ {S : Type 0} {g : Ghosts S} (s : System S g) where
         order = λ laned.
             let P : Option Fault → Type 0 = λ f. IsInOrder event f (outputs.Refused error) in
             subst P (sym (why laned)) refl;
+        same = λ laned fault first. refl;
         kept = λ fault is trusted x agrees. agrees;
       }
 
@@ -60,6 +64,7 @@ module _ {S : Type 0} {g : Ghosts S} (s : System S g) where
             subst P (sym (none laned)) (λ fault is.
             let memory = alone fault is in
             (memory_is output fault memory is, takes memory));
+        same = λ laned fault first. absurd (none_some (sym (none laned) ∙ first));
         kept = λ fault is. same (alone fault is);
       }
 
@@ -73,6 +78,7 @@ module _ {S : Type 0} {g : Ghosts S} (s : System S g) where
         order = λ laned.
             let P : Option Fault → Type 0 = λ f. IsInOrder event f output in
             subst P (sym (none laned)) (λ fault is. absurd (done fault is));
+        same = λ laned fault first. absurd (none_some (sym (none laned) ∙ first));
         kept = λ fault is. absurd (done fault is);
       }
 

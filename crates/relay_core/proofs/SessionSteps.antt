@@ -14,7 +14,8 @@ use Rattle.peer_session.specs.declared.session.Session.{Session}
 use Rattle.relay_conf.specs.declared.settings.Config.{Config}
 use Rattle.relay_facts.proofs.Runs.{step_well}
 use Rattle.relay_model.specs.Run as run
-use Rattle.relay_model.specs.Run.{is_reading, is_taken, is_there, new_session, opened, refusal}
+use Rattle.relay_model.specs.Run.{is_reading, is_running, is_taken, is_there, new_session}
+use Rattle.relay_model.specs.Run.{opened, refusal}
 use Rattle.relay_model.specs.State as model
 use Rattle.relay_model.specs.State.{in_phase, with_unread}
 use Rattle.relay_model.specs.Terms.{Terms}
@@ -24,7 +25,7 @@ use Rattle.relay_peers.specs.Peers.{GivesPeer, SamePeers, TakesPeer, peer_at}
 use Rattle.relay_peers.specs.declared.peers.Peer.{Peer}
 use Rattle.relay_peers.specs.declared.peers.Peers.{Peers}
 use Rattle.relay_core.proofs.Turning.{but_one, core_with_peers, is_there_as, lent_is, peers_after}
-use Rattle.relay_core.proofs.Turning.{peers_again, refused}
+use Rattle.relay_core.proofs.Turning.{peers_again, refused, runs_as}
 use Rattle.relay_core.specs.Agreement.{Agrees, PeerIs, PeerStands}
 use Rattle.relay_peers.specs.Peers.{session_at}
 use Rattle.relay_core.specs.Steps.{Steps}
@@ -51,6 +52,7 @@ module _ {S : Type 0} {g : Ghosts S} (s : System S g) (n : ℕ) where
       : Type 0 where
     pub next : model.Session
     pub stands : PeerStands true w x.state.kept peer' next (x.work.slot n)
+    pub runs : is_running next.phase ≡ true
     pub is_step : run.Step w x event (output_view output) (with_session x n next)
 
   -- one peer is taken out, changed and put back
@@ -58,11 +60,13 @@ module _ {S : Type 0} {g : Ghosts S} (s : System S g) (n : ℕ) where
       (lent : Peers) (peer' : Peer) (back : Peers) → TakesPeer n s.peers result lent
       → result ≡ Some peer → GivesPeer n peer' lent back
       → ((x : World) (m : model.Session) → Agrees true s x → x.state.session n ≡ Some m
-      → PeerStands true w x.state.kept peer m (x.work.slot n) → Changes event output peer' x m)
+      → PeerStands true w x.state.kept peer m (x.work.slot n) → is_running m.phase ≡ true
+      → Changes event output peer' x m)
       → Steps event s output (record s { peers = back })
   session_steps event output peer result lent peer' back takes is gives changes = λ x agrees.
       let here = lent_is true w n s x peer result lent agrees takes is in
-      let c = changes x here.0 agrees here.1 here.2 in
+      let c = changes x here.0 agrees here.1 here.2 here.3 in
+      let still = runs_as w peer' c.next c.stands.gathered c.stands.stands c.runs in
       let but = but_one true w n s x result lent agrees takes in
       record {
         after = with_session x n c.next;
@@ -76,7 +80,7 @@ module _ {S : Type 0} {g : Ghosts S} (s : System S g) (n : ℕ) where
             shelf = but.core.shelf;
           };
           peers = peers_after true w n peer' lent back x.state.kept x.state.session x.work.slot
-              c.next (IsBack gives) c.stands but.peers;
+              c.next (IsBack still gives) c.stands but.peers;
           well = step_well w x (with_session x n c.next) event (output_view output)
               (are_sound s.config) agrees.well c.is_step;
         };
@@ -118,7 +122,7 @@ module _ {S : Type 0} {g : Ghosts S} (s : System S g) (n : ℕ) where
   fed piece answer peer result lent session back reports right takes is feeds gives =
       session_steps (run.Bytes n piece) outputs.Quiet peer result lent
       (record peer { session = session }) back takes is gives
-      (λ x m agrees there stands.
+      (λ x m agrees there stands runs.
       let open_one : refusal w x.state (run.Bytes n piece) ≡ None =
       ap none_if (reads answer x true reports agrees ∙ right) in
       record {
@@ -129,6 +133,7 @@ module _ {S : Type 0} {g : Ghosts S} (s : System S g) (n : ℕ) where
           fronts = stands.fronts;
           slot_is = stands.slot_is;
         };
+        runs = runs;
         is_step = run.IsDone open_one (m, there, refl, refl);
       })
 
@@ -142,7 +147,7 @@ module _ {S : Type 0} {g : Ghosts S} (s : System S g) (n : ℕ) where
   broken octets answer peer result lent session back reports right takes is breaks gives none =
       session_steps (run.Break n) (outputs.Ended n octets) peer result lent
       (record peer { session = session }) back takes is gives
-      (λ x m agrees there stands.
+      (λ x m agrees there stands runs.
       let open_one : refusal w x.state (run.Break n) ≡ None =
       ap none_if (reads answer x true reports agrees ∙ right) in
       record {
@@ -153,6 +158,7 @@ module _ {S : Type 0} {g : Ghosts S} (s : System S g) (n : ℕ) where
           fronts = λ trusted. refl;
           slot_is = stands.slot_is;
         };
+        runs = refl;
         is_step = run.IsDone open_one (m, there, ap (world.Ended n) none, refl);
       })
 
@@ -165,12 +171,15 @@ module _ {S : Type 0} {g : Ghosts S} (s : System S g) (n : ℕ) where
   unfed peer result lent session back takes is same gives trusted x agrees =
       let here = lent_is trusted w n s x peer result lent agrees takes is in
       let but = but_one trusted w n s x result lent agrees takes in
+      let stays = same w here.0 here.2.gathered here.2.stands in
+      let one : Peer = record peer { session = session } in
+      let runs = runs_as w one here.0 here.2.gathered stays here.3 in
       record {
         core = core_with_peers trusted w s x back agrees.core;
         peers = peers_again trusted w n (record peer { session = session }) lent back
-            x.state.kept x.state.session x.work.slot here.0 (IsBack gives) here.1 (record {
+            x.state.kept x.state.session x.work.slot here.0 (IsBack runs gives) here.1 (record {
               gathered = here.2.gathered;
-              stands = same w here.0 here.2.gathered here.2.stands;
+              stands = stays;
               fronts = here.2.fronts;
               slot_is = here.2.slot_is;
             }) but.peers;
@@ -238,6 +247,8 @@ module _ {S : Type 0} {g : Ghosts S} (s : System S g) (n : ℕ) where
       else (if f i then None else Some world.NoPeer) in
       let step : run.Step w x (run.Open n peer) (world.Sent n greeting) (opened x n peer) =
       run.IsDone open_one (ap (world.Sent n) greets, refl) in
+      let one : Peer = record { session = session; slot = None } in
+      let runs = runs_as w one (new_session peer) [] stands refl in
       let fresh : x.work.slot n ≡ None =
       (agrees.well.awaited.absent n (agrees.well.numbered.unopened n e)).slot in
       record {
@@ -252,7 +263,7 @@ module _ {S : Type 0} {g : Ghosts S} (s : System S g) (n : ℕ) where
             shelf = agrees.core.shelf;
           };
           peers = peers_after true w n (record { session = session; slot = None }) s.peers peers
-              x.state.kept x.state.session x.work.slot (new_session peer) (IsBack gives)
+              x.state.kept x.state.session x.work.slot (new_session peer) (IsBack runs gives)
               (record {
                 gathered = [];
                 stands = stands;

@@ -6,7 +6,7 @@ use Rattle.std.specs.Prelude.{IfSome, nat_le, option_map}
 use Rattle.article_verdict.specs.Config.{terms_of}
 use Rattle.article_verdict.proofs.SoundTerms.{are_sound}
 use Rattle.cyc_block.specs.declared.store.BlockStore.{Ghosts}
-use Rattle.peer_session.specs.Session.{session_view}
+use Rattle.peer_session.specs.Session.{Stands, session_view}
 use Rattle.relay_conf.specs.declared.settings.Config.{Config}
 use Rattle.relay_facts.proofs.Puts.{put_at_here, put_at_there}
 use Rattle.relay_facts.proofs.Runs.{step_well}
@@ -60,14 +60,22 @@ not_running (model.Fetches asked token had) h = cc
 not_running model.Leaving h = cc
 not_running model.Ended h = refl
 
+-- the peer of a session that runs does
+pub runs_as : (w : Terms) (peer : Peer) (m : model.Session) (gathered : List ℕ)
+    → Stands w peer.session m gathered → is_running m.phase ≡ true
+    → is_running (session_view peer.session).phase ≡ true
+runs_as w peer m gathered stands runs =
+    sym (ap (λ (one : model.Session). is_running one.phase) stands.is) ∙ runs
+
 -- a peer that is put back stands for its session
 put_back : (trusted : Bool) (w : Terms) (n : ℕ) (peer : Peer) (old new : Peers)
     (kept : List Kept) (slot : Option world.Outcome) (m : model.Session)
     → TakesBack n peer old new → PeerStands trusted w kept peer m slot
     → PeerIs trusted w kept (peer_at new n) (Some m) slot
-put_back trusted w n peer old new kept slot m (IsBack gives) stands =
+put_back trusted w n peer old new kept slot m (IsBack runs gives) stands =
     let P : Option Peer → Type 0 = λ o. PeerIs trusted w kept o (Some m) slot in
-    subst P (sym gives.here) (m, refl, stands)
+    subst P (sym gives.here)
+    (m, refl, stands, ap (λ (one : model.Session). is_running one.phase) stands.stands.is ∙ runs)
 put_back trusted w n peer old new kept slot m (IsLetGo closed closes) stands =
     let P : Option Peer → Type 0 = λ o. PeerIs trusted w kept o (Some m) slot in
     subst P (sym closes.gone)
@@ -77,7 +85,7 @@ put_back trusted w n peer old new kept slot m (IsLetGo closed closes) stands =
 -- the others stay where one is put back
 back_others : (n : ℕ) (peer : Peer) (old new : Peers) → TakesBack n peer old new → (s : ℕ)
     → s ≢ n → peer_at new s ≡ peer_at old s
-back_others n peer old new (IsBack gives) s differ = gives.others s differ
+back_others n peer old new (IsBack runs gives) s differ = gives.others s differ
 back_others n peer old new (IsLetGo closed closes) s differ = closes.others s differ
 
 -- with one peer put back and this session put, all peers are the sessions
@@ -132,7 +140,7 @@ place_of n old result new peer takes is =
 pub back_is : (n : ℕ) (peer : Peer) (old new : Peers) (runs : Bool)
     → is_running (session_view peer.session).phase ≡ runs → PutsBack runs n peer old new
     → TakesBack n peer old new
-back_is n peer old new true is puts = IsBack puts
+back_is n peer old new true is puts = IsBack is puts
 back_is n peer old new false is puts = IsLetGo is puts
 
 -- an output is want of memory, or it isn't

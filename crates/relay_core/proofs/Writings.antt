@@ -78,6 +78,7 @@ peer_stays w kept more (Some peer) session slot h = (
     fronts = λ trusted. gathered_stays kept more h.0.phase h.2.gathered (h.2.fronts trusted);
     slot_is = h.2.slot_is;
   },
+  h.3,
 )
 
 hopeless_is : (w : Terms) (σ : State) (job : model.Job) → IsHopeless w σ job

@@ -16,6 +16,7 @@ use Rattle.peer_session.specs.Session.{Stands, outcome_view}
 use Rattle.peer_session.specs.declared.steps.Outcome.{Outcome}
 use Rattle.relay_model.specs.Fetches.{text_under}
 use Rattle.relay_model.specs.Invariants.{IsWell}
+use Rattle.relay_model.specs.Run.{is_running}
 use Rattle.relay_model.specs.State as model
 use Rattle.relay_model.specs.State.{Kept}
 use Rattle.relay_model.specs.Terms.{Terms, FeedTerms}
@@ -66,12 +67,13 @@ abbrev pub IsGone : Option model.Session → Type 0
 IsGone None = Unit {0}
 IsGone (Some m) = m.phase ≡ model.Ended
 
--- the peer that is there stands for the session; where none is, the session is gone
+-- the peer that is there stands for the session, which runs; where none is, the session is gone
 abbrev pub PeerIs : Bool → Terms → List Kept → Option Peer → Option model.Session
     → Option world.Outcome → Type 0
 PeerIs trusted w kept None session slot = IsGone session
 PeerIs trusted w kept (Some peer) session slot =
     (m : model.Session) × (session ≡ Some m) × PeerStands trusted w kept peer m slot
+    × (is_running m.phase ≡ true)
 
 -- the lane has these jobs waiting, and this writer; a group that isn't there has neither
 abbrev pub LaneIs : Option Lane → List model.Job → world.Writer → Type 0

@@ -28,12 +28,14 @@ IsInOrder event None output =
     (fault : Fault) → output_view output ≡ Refuses fault
     → (fault ≡ Memory) × (takes_memory event ≡ true)
 
--- The event is refused in the order of the reasons, whatever the stores do; and a refused event
--- changes nothing that anybody can see.
+-- The event is refused in the order of the reasons, whatever the stores do, and what is refused so
+-- changes nothing at all; one refused for want of memory nothing that anybody can see.
 pub record RefusesRightly {S : Type 0} {g : Ghosts S} (event : Event) (old : System S g)
     (output : Output) (new : System S g)
     : Type 0 where
   pub order : IsLaned old
       → IsInOrder event (refusal (terms_of old.config) (seen old) event) output
+  pub same : IsLaned old → (fault : Fault)
+      → refusal (terms_of old.config) (seen old) event ≡ Some fault → new ≡ old
   pub kept : (fault : Fault) → output_view output ≡ Refuses fault → (trusted : Bool) (x : World)
       → Agrees trusted old x → Agrees trusted new x

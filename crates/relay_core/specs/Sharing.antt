@@ -8,6 +8,7 @@ use Rattle.peer_session.specs.declared.steps.Answer.{Answer}
 use Rattle.peer_session.specs.declared.steps.Answer.TheVariants as answers
 use Rattle.peer_session.specs.declared.steps.Outcome.{Outcome}
 use Rattle.peer_session.specs.declared.steps.Step.{Step}
+use Rattle.peer_session.specs.declared.steps.Step.TheVariants as steps
 use Rattle.relay_model.specs.Asks as asks
 use Rattle.relay_model.specs.Invariants.{IsKeptRight}
 use Rattle.relay_model.specs.Asks.{Ask, Due}
@@ -67,6 +68,19 @@ SharesStep n now step old peer answer new peer' =
     → answer ≢ answers.Memory
     → Gives (terms_of old.config) n now d.ask gathered x answer new peer'.slot
     × Planned (terms_of old.config) peer'.session m d gathered (handed answer)
+
+-- the steps that take memory
+abbrev pub WantsMemory : Step → Type 0
+WantsMemory steps.Nothing = ⊥
+WantsMemory (steps.Offer id) = Unit {0}
+WantsMemory (steps.Look id) = ⊥
+WantsMemory (steps.Read token k) = ⊥
+WantsMemory (steps.TakeQueue feed most) = Unit {0}
+WantsMemory (steps.Refuse id) = Unit {0}
+WantsMemory (steps.Take id) = Unit {0}
+WantsMemory (steps.Push group) = ⊥
+WantsMemory steps.Slot = ⊥
+WantsMemory (steps.Release id) = ⊥
 
 -- nothing that anybody can see has changed, and the peer is as it was
 pub record LeavesAll {S : Type 0} {g : Ghosts S} (n : ℕ) (old : System S g) (peer : Peer)

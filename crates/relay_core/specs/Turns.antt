@@ -95,8 +95,9 @@ abbrev pub PutsBack : (runs : Bool) → ℕ → Peer → (old new : Peers) → T
 PutsBack true n peer old new = GivesPeer n peer old new
 PutsBack false n peer old new = ClosesPeer n old new
 
--- a peer is put back, or was closed and is let go
+-- a peer that runs is put back, or it was closed and is let go
 pub data TakesBack (n : ℕ) (peer : Peer) (old new : Peers) : Type 0 where
-  IsBack : GivesPeer n peer old new → TakesBack n peer old new
+  IsBack : is_running (session_view peer.session).phase ≡ true → GivesPeer n peer old new
+      → TakesBack n peer old new
   IsLetGo : is_running (session_view peer.session).phase ≡ false → ClosesPeer n old new
       → TakesBack n peer old new

@@ -9,13 +9,14 @@ impl<S: BlockStore> System<S> {
     ghost use Rattle.std.specs.Prelude.{◌≡◌, ℕ};
     ghost use Rattle.peer_session.specs.declared.steps.Answer.TheVariants as answers;
     ghost use Rattle.peer_session.specs.declared.steps.Step.TheVariants as steps;
-    ghost use Rattle.relay_core.specs.Sharing.{KeepsFrame, LeavesAll, SharesStep};
+    ghost use Rattle.relay_core.specs.Sharing.{KeepsFrame, LeavesAll, SharesStep, WantsMemory};
 
     /// Does the step that a session planned. The session's peer is taken out.
     pub(crate) fn share(&mut self, peer: &mut Peer, number: u64, step: Step, now: u64) -> Answer
         ensures shared { SharesStep number now step self.old peer.old result self.new peer.new }
         ensures memory { result ≡ answers.Memory
             → LeavesAll number self.old peer.old self.new peer.new }
+        ensures wants { result ≡ answers.Memory → WantsMemory step }
         ensures frame { KeepsFrame self.old self.new }
         ensures peers { self.new.peers ≡ self.old.peers }
     {
@@ -69,6 +70,7 @@ impl<S: BlockStore> System<S> {
             → SharesStep number now (steps.Push group) self.old peer.old result self.new peer.new }
         ensures memory { (number : ℕ) → result ≡ answers.Memory
             → LeavesAll number self.old peer.old self.new peer.new }
+        ensures never { result ≡ answers.Memory → ⊥ }
         ensures frame { KeepsFrame self.old self.new }
         ensures peers { self.new.peers ≡ self.old.peers }
     {
