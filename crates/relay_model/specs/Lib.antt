@@ -3,6 +3,7 @@ pub mod Awaited
 pub mod Claims
 pub mod Counted
 pub mod Fetches
+pub mod Figures
 pub mod Hears
 pub mod Invariants
 pub mod Judging
