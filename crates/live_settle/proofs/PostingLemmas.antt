@@ -1,0 +1,87 @@
+-- What posts and takes keep of a desk whose posts are counted.
+use Rattle.std.proofs.Common.{◌≡◌, ℕ, ◌+◌, ◌≤◌, ◌<◌, ◌^◌, ◌==◌, Bool, true, false, sym, subst, arith}
+use Rattle.std.proofs.Common.{List, [], ◌∷◌, ◌++◌, length, Option, None, Some, Result, Ok, Err}
+use Rattle.std.proofs.Common.{if◌then◌else◌, refl, nat_eq}
+use Rattle.std.proofs.Math.Logic.{∥∥₁_map, ∥∥₁_elim}
+use Rattle.std.proofs.Props.{props}
+use Rattle.std.proofs.lemmas.List.{length-append}
+use Rattle.std.specs.Coded.{le_prop}
+use Rattle.std.specs.List.{list_any}
+use Rattle.std.specs.Prelude.{IfOk, IfSome, OnErr, slice_index}
+use Rattle.feed_queue.specs.Feeds.{KeepsFeeds, HasRoomToCount, ring_count}
+use Rattle.feed_queue.specs.declared.desk.FeedDesk.{FeedDesk}
+use Rattle.news_terms.specs.Token.{Token}
+use Rattle.relay_model.specs.Shares.{after_take_of}
+use Rattle.relay_model.specs.State.{Feed, put_at}
+use Rattle.relay_model.specs.Writers.{gaining}
+use Rattle.live_settle.specs.Posting.{KeepsAtMost}
+
+-- each feed has gained one more at most
+few_gained : (feeds : ℕ → Feed) (permitted : List ℕ) (token : Token) (most : ℕ)
+    → ((f : ℕ) → length (feeds f).gained ≤ most)
+    → (f : ℕ) → length (gaining feeds permitted token f).gained ≤ most + 1
+few_gained feeds permitted token most few f = by (list_any (nat_eq f) permitted)
+  where
+    by : (b : Bool)
+        → length
+        (if b then record (feeds f) { gained = (feeds f).gained ++ token ∷ [] }
+        else feeds f).gained
+        ≤ most + 1
+    by true = omega (arith, length-append (feeds f).gained (token ∷ []), few f)
+    by false = omega (arith, few f)
+
+-- a take lets no feed gain
+few_taken : (feeds : ℕ → Feed) (feed size n most : ℕ)
+    → ((f : ℕ) → length (feeds f).gained ≤ most)
+    → (f : ℕ) → length (put_at feeds feed (after_take_of size n (feeds feed)) f).gained ≤ most
+few_taken feeds feed size n most few f = by (f == feed)
+  where
+    by : (b : Bool)
+        → length (if b then after_take_of size n (feeds feed) else feeds f).gained ≤ most
+    by true = few feed
+    by false = few f
+
+-- a desk with fewer than 2^62 posts has room to count, where the lists that it keeps say so
+pub has_room : (desk : FeedDesk) (posts : ℕ) → ∥ KeepsAtMost desk posts ∥₁ → posts < 2 ^ 62
+    → ((sizes : List ℕ) (feeds : ℕ → Feed) → KeepsFeeds desk sizes feeds
+    → ((f : ℕ) → f < ring_count desk → length (feeds f).gained < 2 ^ 62) → HasRoomToCount desk)
+    → HasRoomToCount desk
+has_room desk posts kept below law k d within =
+    ∥∥₁_elim kept (hlevel (props, le_prop))
+    (λ one. law one.sizes one.feeds one.keeps (λ f here. omega (arith, below, one.few f)) k d within)
+
+-- after a post
+pub kept_posted : (old new : FeedDesk) (posts : ℕ) (permitted : List ℕ) (token : Token)
+    → ((sizes : List ℕ) (feeds : ℕ → Feed) → KeepsFeeds old sizes feeds
+    → KeepsFeeds new sizes (gaining feeds permitted token))
+    → ∥ KeepsAtMost old posts ∥₁ → ∥ KeepsAtMost new (posts + 1) ∥₁
+kept_posted old new posts permitted token keeps kept =
+    ∥∥₁_map kept
+    (λ one. record {
+      sizes = one.sizes;
+      feeds = gaining one.feeds permitted token;
+      keeps = keeps one.sizes one.feeds one.keeps;
+      few = few_gained one.feeds permitted token posts one.few;
+    })
+
+-- after a take, whatever it answers
+pub kept_taken : {T E : Type 0} (old new : FeedDesk) (posts feed most : ℕ)
+    (result : Result (Option T) E)
+    → IfOk result (λ (answer : Option T). IfSome answer (λ (taken : T). (sizes : List ℕ)
+    (feeds : ℕ → Feed) → KeepsFeeds old sizes feeds → KeepsFeeds new sizes
+    (put_at feeds feed (after_take_of (slice_index sizes feed) most (feeds feed)))))
+    → (result ≡ Ok None → new ≡ old) → OnErr result (new ≡ old)
+    → ∥ KeepsAtMost old posts ∥₁ → ∥ KeepsAtMost new posts ∥₁
+kept_taken old new posts feed most (Ok (Some taken)) keeps none error kept =
+    ∥∥₁_map kept
+    (λ one. record {
+      sizes = one.sizes;
+      feeds = put_at one.feeds feed
+          (after_take_of (slice_index one.sizes feed) most (one.feeds feed));
+      keeps = keeps one.sizes one.feeds one.keeps;
+      few = few_taken one.feeds feed (slice_index one.sizes feed) most posts one.few;
+    })
+kept_taken old new posts feed most (Ok None) keeps none error kept =
+    subst (λ (desk : FeedDesk). ∥ KeepsAtMost desk posts ∥₁) (sym (none refl)) kept
+kept_taken old new posts feed most (Err e) keeps none error kept =
+    subst (λ (desk : FeedDesk). ∥ KeepsAtMost desk posts ∥₁) (sym error) kept

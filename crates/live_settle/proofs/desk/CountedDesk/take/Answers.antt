@@ -1,0 +1,12 @@
+use Rattle.live_settle.proofs.PostingLemmas.{kept_taken}
+use Rattle.live_settle.proofs.desk.CountedDesk.take.Goals as goal
+
+-- no list that the desk keeps is longer
+pub invariant_of-self : goal.invariant_of-self
+invariant_of-self g c =
+    record {
+      counted = c.args.self.now.counted;
+      kept = kept_taken c.args.self.now.desk c.take.new.self c.args.self.now.posts c.args.feed
+          c.args.most c.take.result c.take.ensures.keeps c.take.ensures.none c.take.ensures.err
+          c.args.self.now.kept;
+    }

@@ -1,0 +1,15 @@
+use Rattle.std.proofs.Common.{subst}
+use Rattle.cyc_token.specs.Token.{token_view}
+use Rattle.cyc_token.specs.declared.Token.{Token}
+use Rattle.feed_queue.specs.Feeds.{KeepsFeeds}
+use Rattle.relay_model.specs.Writers.{gaining}
+use Rattle.live_settle.specs.Desks.{desk_of}
+use Rattle.live_settle.proofs.settling.settle_both.Goals as goal
+
+-- what was settled has the token
+pub returns-in-Some-clause-gained : goal.returns-in-Some-clause-gained
+returns-in-Some-clause-gained g c settled sizes feeds keeps =
+    subst
+    (λ (token : Token). KeepsFeeds (desk_of c.post.new.self) sizes
+    (gaining feeds c.args.permitted.now (token_view token)))
+    (c.in-Some.ensures.token) (c.post.ensures.gained sizes feeds keeps)
