@@ -1,0 +1,142 @@
+//! Readers and writers that tell their octets.
+ghost use Rattle.std.specs.Prelude.{◌≡◌, ◌≤◌, ◌<◌, ◌+◌, ◌++◌, ℕ, List, [], length, take, drop, IfOk};
+ghost use Rattle.std.specs.Prelude.{OnErr, OnOk, IfErr, IfNone, IfSome};
+ghost use Rattle.live_wire.specs.Wire.{heard_of, said_of};
+
+use http_server::Log;
+use std::io;
+use std::io::{ErrorKind, Read, Write};
+
+/// A reader that tells what was read.
+pub trait Hears {
+    /// All that was read.
+    ghost heard: { Self → List ℕ };
+
+    /// Reads once, to the front of the room: how many octets came, none at the end of the input.
+    /// The error is the reader's; then nothing was read.
+    fn hear(&mut self, room: &mut Vec<u8>) -> io::Result<usize>
+        ensures ok { IfOk result (λ n. (n ≤ length room.new.items)
+            × (heard self.new ≡ heard self.old ++ take n room.new.items)) }
+        ensures err { OnErr result (heard self.new ≡ heard self.old) };
+}
+
+/// A writer that tells what was written.
+pub trait Says {
+    /// All that was written.
+    ghost said: { Self → List ℕ };
+
+    /// Writes once, the octets from a place on: how many of them went. The error is the writer's;
+    /// then nothing was written.
+    fn say(&mut self, octets: &Vec<u8>, from: usize) -> io::Result<usize>
+        requires { from ≤ length octets.now.items }
+        ensures ok { IfOk result (λ n. (from + n ≤ length octets.now.items)
+            × (said self.new ≡ said self.old ++ take n (drop from octets.now.items))) }
+        ensures err { OnErr result (said self.new ≡ said self.old) };
+}
+
+/// Any reader of std.
+#[derive(Drop)]
+pub struct Ear<R: Read> {
+    reader: R,
+    heard: Log<Vec<u8>, usize>,
+}
+
+impl<R: Read> Ear<R> {
+    /// A reader of which nothing was read.
+    pub fn new(reader: R) -> Ear<R>
+        ensures { heard_of result.heard.items ≡ [] }
+    {
+        Ear {
+            reader,
+            heard: Log::new(),
+        }
+    }
+}
+
+impl<R: Read> Hears for Ear<R> {
+    ghost heard = { λ e. heard_of e.heard.items };
+
+    fn hear(&mut self, room: &mut Vec<u8>) -> io::Result<usize> {
+        match self.reader.read(room.as_mut_slice()) {
+            Ok(n) => {
+                self.heard = self.heard.and(room, &n);
+                Ok(n)
+            }
+            Err(e) => Err(e),
+        }
+    }
+}
+
+/// Any writer of std.
+#[derive(Drop)]
+pub struct Mouth<W: Write> {
+    writer: W,
+    said: Log<Vec<u8>, (usize, usize)>,
+}
+
+impl<W: Write> Mouth<W> {
+    /// A writer to which nothing was written.
+    pub fn new(writer: W) -> Mouth<W>
+        ensures { said_of result.said.items ≡ [] }
+    {
+        Mouth {
+            writer,
+            said: Log::new(),
+        }
+    }
+}
+
+impl<W: Write> Says for Mouth<W> {
+    ghost said = { λ m. said_of m.said.items };
+
+    fn say(&mut self, octets: &Vec<u8>, from: usize) -> io::Result<usize> {
+        let rest = &octets.as_slice()[from..];
+        match self.writer.write(rest) {
+            Ok(n) => {
+                self.said = self.said.and(octets, &(from, n));
+                Ok(n)
+            }
+            Err(e) => Err(e),
+        }
+    }
+}
+
+/// Writes all octets, in as many writes as that takes. Where the writer fails, or takes none, the
+/// error is how many octets went before.
+pub fn say_all<W: Says>(writer: &mut W, octets: &Vec<u8>) -> Result<(), usize>
+    ensures all { OnOk result (W.said writer.new ≡ W.said writer.old ++ octets.now.items) }
+    ensures part { IfErr result (λ n. W.said writer.new
+        ≡ W.said writer.old ++ take n octets.now.items) }
+    ensures short { IfErr result (λ n. n < length octets.now.items) }
+{
+    let mut at = 0;
+    for _ in 0..u64::MAX {
+        if at >= octets.len() {
+            return Ok(());
+        }
+        match say_on(writer, octets, at) {
+            Some(n) => at += n,
+            None => return Err(at),
+        }
+    }
+    if at >= octets.len() {
+        return Ok(());
+    }
+    Err(at)
+}
+
+/// One write of the octets from a place on: how many went, none where a signal came first. `None`
+/// where the writer failed or takes no more; then nothing was written.
+fn say_on<W: Says>(writer: &mut W, octets: &Vec<u8>, from: usize) -> Option<usize>
+    requires { from ≤ length octets.now.items }
+    ensures went { IfSome result (λ n. (from + n ≤ length octets.now.items)
+        × (W.said writer.new ≡ W.said writer.old ++ take n (drop from octets.now.items))) }
+    ensures none { IfNone result (W.said writer.new ≡ W.said writer.old) }
+{
+    match writer.say(octets, from) {
+        Ok(n) if n > 0 => Some(n),
+        Ok(_) => None,
+        Err(error) if error.kind() == ErrorKind::Interrupted => Some(0),
+        Err(_) => None,
+    }
+}
