@@ -1,0 +1,5 @@
+pub mod Comparing
+pub mod Lists
+pub mod Passes
+pub mod Splits
+pub mod Steps

@@ -1,0 +1,21 @@
+//! The queue of jobs in front of a group's writer, between threads (docs/PROTOCOL.md, Job queues).
+//! Any number of ends hand jobs over, one writer takes them, and no lock stands between them.
+//!
+//! A queue has one rule over what it holds and what each of its passes knows. A thread has a pass:
+//! that of an end knows what the end handed over, that of the writer what was taken. Each step
+//! changes one pass. When an end has pushed its closing mark and the writer has taken it, the two
+//! are compared: what was taken of the end is what it handed over.
+#![tactic(auto)]
+
+mod known;
+mod parcel;
+mod queue;
+mod rule;
+
+pub use known::Known;
+pub use parcel::{Handed, Parcel};
+pub use queue::{
+    JobQueue, QueuePass, close_end, compare, compare_rest, end_pass, hand_over, mark_closed,
+    new_queue, take_one, writer_pass,
+};
+pub use rule::InOrder;
