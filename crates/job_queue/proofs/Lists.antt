@@ -72,6 +72,18 @@ some_mark : (c m : Bool) → cond c true m ≡ true → (c ≡ true) ⊎ (m ≡ 
 some_mark true m h = inl refl
 some_mark false m h = inr h
 
+-- whatever joins jobs alone, there is a mark where it is one
+pub mark_snoc : (a : List Parcel) (p : Parcel) → has_mark a ≡ false
+    → has_mark (a ++ p ∷ []) ≡ is_mark p
+mark_snoc [] p h = only (is_mark p)
+  where
+    only : (m : Bool) → cond m true false ≡ m
+    only true = refl
+    only false = refl
+mark_snoc (x ∷ a) p h =
+    let parts = no_mark (is_mark x) (has_mark a) h in
+    ap (λ m. cond m true (has_mark (a ++ p ∷ []))) parts.0 ∙ mark_snoc a p parts.1
+
 -- a list that begins with a job is sealed where its rest is
 seal_cons : (c s : Bool) → c ≡ false → s ≡ true → cond c false s ≡ true
 seal_cons true s h k = absurd (true≢false h)

@@ -37,7 +37,7 @@ at_new (p ∷ passes) last k (suc j) e =
 
 -- after a new pass came, with the last number
 pub all_new : (F : ℕ → Known → Type 0) (passes : List Known) (new : Known)
-    → ((other : ℕ) (k : Known) → other ≢ length passes → get_elem? passes other ≡ some k → F other k)
+    → ((old : ℕ) (k : Known) → old ≢ length passes → get_elem? passes old ≡ some k → F old k)
     → F (length passes) new → All F (passes ++ new ∷ [])
 all_new F passes new others mine j k e =
     ⊎_elim

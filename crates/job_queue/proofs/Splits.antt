@@ -113,7 +113,8 @@ within_in low high a b e from to = grind (arith, nat_tests)
 within_out : (low high a b e : ℕ) → (low ≤ e → e < high → ⊥) → within low high a b e ≡ b
 unfolding within
 within_out low high a b e out = dite (dec_le low e)
-    (λ from. dite (dec_le high e) (λ past. grind (arith, nat_tests)) (λ to. absurd (out from (omega arith))))
+    (λ from. dite (dec_le high e) (λ past. grind (arith, nat_tests))
+    (λ to. absurd (out from (omega arith))))
     (λ below. grind (arith, nat_tests))
 
 -- all ends go to a new pass

@@ -6,10 +6,11 @@ use native.Mathlib.Decide.{ℕ_discrete}
 use Rattle.crossbeam_queue.specs.Fifo.{Pushes, Pops, Learns}
 use Rattle.job_queue.specs.declared.known.Known.{Known}
 use Rattle.job_queue.specs.declared.parcel.Parcel.{Parcel}
-use Rattle.job_queue.specs.Parcels.{end_of, of_end, has_mark, is_sealed}
-use Rattle.job_queue.specs.Delivery.{knows, knows_all, end_knows, writer_knows, Fits, Delivers}
+use Rattle.job_queue.specs.Parcels.{end_of, is_mark, of_end, has_mark, is_sealed}
+use Rattle.job_queue.specs.Delivery.{knows, knows_all, end_knows, OfEnd, IsOpen, OfWriter}
+use Rattle.job_queue.specs.Delivery.{Fits, Delivers}
 use Rattle.job_queue.specs.Delivery.{HasHanded, HasTaken, Compared}
-use Rattle.job_queue.proofs.Lists.{of_end_snoc, of_end_snoc_else, seal_snoc}
+use Rattle.job_queue.proofs.Lists.{of_end_snoc, of_end_snoc_else, mark_snoc, seal_snoc}
 use Rattle.job_queue.proofs.Passes.{All, all_set}
 
 -- a new queue has the rule
@@ -28,7 +29,8 @@ stays_sealed : (log handed : List Parcel) (p : Parcel) (e : ℕ) → handed ≡ 
     → is_sealed (of_end e (log ++ p ∷ [])) ≡ true
 stays_sealed log handed p e is unmarked was (yes same) =
     let mine : of_end e log ≡ handed = ap (λ end. of_end end log) (sym same) ∙ sym is in
-    ap is_sealed (of_end_snoc e log p same ∙ ap (λ l. l ++ p ∷ []) mine) ∙ seal_snoc handed p unmarked
+    ap is_sealed (of_end_snoc e log p same ∙ ap (λ l. l ++ p ∷ []) mine)
+    ∙ seal_snoc handed p unmarked
 stays_sealed log handed p e is unmarked was (no other) =
     ap is_sealed (of_end_snoc_else e log p other) ∙ was
 
@@ -61,8 +63,8 @@ hands_over n pass k p low high unmarked held passes room h at =
             let theirs = h.6 j u there in (
               (λ e from to.
                   let was = theirs.0 e from to in
-                  let differs : end_of p ≢ e = λ same. other (sym was.0 ∙ ap h.1 (sym same) ∙ own.0) in
-                  (was.0, was.1 ∙ sym (of_end_snoc_else e h.2 p differs))),
+                  let apart : end_of p ≢ e = λ is. other (sym was.0 ∙ ap h.1 (sym is) ∙ own.0) in
+                  (was.0, was.1 ∙ sym (of_end_snoc_else e h.2 p apart))),
               theirs.1,
             )),
       ),
@@ -94,14 +96,14 @@ takes_one pass k may p held passes h at =
     )
 
 -- a push by the pass of an end
-pub end_hands_over : (n pass e : ℕ) (k : Known) (p : Parcel) → k ≡ end_knows e k.handed
+pub end_hands_over : (n pass e : ℕ) (k : Known) (p : Parcel) → OfEnd e k
     → end_of p ≡ e → has_mark k.handed ≡ false → Pushes Delivers n pass k p (HasHanded k p)
 end_hands_over n pass e k p own is unmarked =
     hands_over n pass k p (ap (λ (u : Known). u.low) own ∙ sym is)
     (ap (λ (u : Known). u.high) own ∙ ap (λ end. end + 1) (sym is)) unmarked
 
 -- a pop by the writer's pass
-pub writer_takes : (pass : ℕ) (k : Known) → k ≡ writer_knows k.taken
+pub writer_takes : (pass : ℕ) (k : Known) → OfWriter k
     → Pops Delivers pass k (HasTaken k)
 writer_takes pass k own = takes_one pass k (ap (λ (u : Known). u.takes) own)
 
@@ -112,3 +114,15 @@ compares pass k held passes h at e from to takes =
     let own = mine.0 e from to in
     let is : h.2 ≡ k.taken ++ held = h.4 ∙ ap (λ l. l ++ held) (sym (mine.1 takes).1) in
     (own.1 ∙ ap (of_end e) is, ap is_sealed own.1 ∙ h.5 e)
+
+-- what the pass of an open end knows after it handed this over
+pub knows_more : (e : ℕ) (k after : Known) (p : Parcel) → IsOpen e k → HasHanded k p after
+    → OfEnd e after × (has_mark after.handed ≡ is_mark p)
+knows_more e k after p open_now more =
+    let handed : after.handed ≡ k.handed ++ p ∷ [] = ap (λ (u : Known). u.handed) more in
+    let is : after ≡ end_knows e (k.handed ++ p ∷ []) =
+    more ∙ ap (λ (u : Known). knows u.low u.high (k.handed ++ p ∷ []) u.takes u.taken) open_now.0
+    in (
+      is ∙ ap (end_knows e) (sym handed),
+      ap has_mark handed ∙ mark_snoc k.handed p open_now.1,
+    )

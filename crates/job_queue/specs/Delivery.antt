@@ -5,7 +5,7 @@ use mathlib.Core.Option.{some}
 use lib.ListN.{get_elem?}
 use Rattle.job_queue.specs.declared.known.Known.{Known}
 use Rattle.job_queue.specs.declared.parcel.Parcel.{Parcel}
-use Rattle.job_queue.specs.Parcels.{of_end, is_sealed}
+use Rattle.job_queue.specs.Parcels.{of_end, has_mark, is_sealed}
 
 -- ---- what a pass knows
 
@@ -31,6 +31,22 @@ end_knows end handed = knows end (end + 1) handed false []
 -- the pass of the writer, which has taken this
 abbrev pub writer_knows : (taken : List Parcel) → Known
 writer_knows taken = knows 0 0 [] true taken
+
+-- what the pass of this end knows: of what it handed over alone
+abbrev pub OfEnd : (end : ℕ) → Known → Type 0
+OfEnd end k = k ≡ end_knows end k.handed
+
+-- the same of an end that has pushed no closing mark
+abbrev pub IsOpen : (end : ℕ) → Known → Type 0
+IsOpen end k = OfEnd end k × (has_mark k.handed ≡ false)
+
+-- the same of an end that has pushed its closing mark
+abbrev pub IsClosed : (end : ℕ) → Known → Type 0
+IsClosed end k = OfEnd end k × (has_mark k.handed ≡ true)
+
+-- what the writer's pass knows: of what was taken alone
+abbrev pub OfWriter : Known → Type 0
+OfWriter k = k ≡ writer_knows k.taken
 
 -- a pass that has no right left
 abbrev pub knows_nothing : Known
@@ -79,6 +95,20 @@ abbrev pub Compared : Known → (held : List Parcel) → Type 0
 Compared k held =
     (end : ℕ) → k.low ≤ end → end < k.high → k.takes ≡ true
     → (k.handed ≡ of_end end (k.taken ++ held)) × (is_sealed k.handed ≡ true)
+
+-- the same of what the queue held at one moment
+abbrev pub IsCompared : Known → Type 0
+IsCompared k = (held : List Parcel) × Compared k held
+
+-- where the closing mark of the end was taken, what was taken of the end is what it handed over
+abbrev pub TookAll : (end : ℕ) → (writer own : Known) → Type 0
+TookAll end writer own =
+    has_mark (of_end end writer.taken) ≡ true → of_end end writer.taken ≡ own.handed
+
+-- of each end that the first pass still has, nothing was taken
+abbrev pub TookNone : (writer first : Known) → Type 0
+TookNone writer first =
+    (end : ℕ) → first.low ≤ end → end < first.high → of_end end writer.taken ≡ []
 
 -- ---- splitting and joining
 

@@ -1,11 +1,11 @@
 //! The steps of a job queue. Each changes one pass; the joining of two changes both.
-ghost use Rattle.std.specs.Prelude.{◌≡◌, ◌<◌, ◌≤◌, ◌+◌, ◌++◌, [], ◌∷◌, ℕ, List, true, false};
-ghost use Rattle.std.specs.Prelude.{IfOk, MatchOption, MatchResult};
+ghost use Rattle.std.specs.Prelude.{◌≡◌, ◌<◌, [], true, false, None};
+ghost use Rattle.std.specs.Prelude.{IfOk, IfErr, IfSome};
 ghost use Rattle.crossbeam_queue.specs.Passes.{view, IsPassOf, ruled_capacity};
-ghost use Rattle.job_queue.specs.Delivery.{knows, knows_all, end_knows, writer_knows, meeting};
-ghost use Rattle.job_queue.specs.Delivery.{Compared};
-ghost use Rattle.job_queue.specs.Parcels.{of_end, has_mark};
-ghost use Rattle.job_queue.specs.declared.parcel.Parcel.{Parcel as AnyParcel};
+ghost use Rattle.job_queue.specs.Delivery.{knows_all, end_knows, OfEnd, OfWriter};
+ghost use Rattle.job_queue.specs.Delivery.{IsOpen, IsClosed, HasHanded, HasTaken};
+ghost use Rattle.job_queue.specs.Delivery.{meeting, without_taker, taker_of, without_first};
+ghost use Rattle.job_queue.specs.Delivery.{IsCompared, TookAll, TookNone};
 ghost use Rattle.job_queue.specs.declared.parcel.Parcel.TheVariants as parcels;
 ghost use Rattle.relay_model.specs.Terms.{queue_limit};
 
@@ -42,8 +42,8 @@ pub fn writer_pass(queue: &JobQueue, first: &mut QueuePass) -> QueuePass
     requires pass { IsPassOf queue.now first.old }
     requires takes { (view first.old).takes ≡ true }
     ensures passes { IsPassOf queue.now first.new × IsPassOf queue.now result }
-    ensures first { view first.new ≡ knows (view first.old).low (view first.old).high (view first.old).handed false [] }
-    ensures writer { view result ≡ writer_knows (view first.old).taken }
+    ensures first { view first.new ≡ without_taker (view first.old) }
+    ensures writer { view result ≡ taker_of (view first.old) }
 {
     queue.another::<TheTaker>(first)
 }
@@ -54,7 +54,7 @@ pub fn end_pass(queue: &JobQueue, first: &mut QueuePass) -> QueuePass
     requires left { (view first.old).low < (view first.old).high }
     requires none { (view first.old).handed ≡ [] }
     ensures passes { IsPassOf queue.now first.new × IsPassOf queue.now result }
-    ensures first { view first.new ≡ knows ((view first.old).low + 1) (view first.old).high [] (view first.old).takes (view first.old).taken }
+    ensures first { view first.new ≡ without_first (view first.old) }
     ensures end { view result ≡ end_knows (view first.old).low [] }
 {
     queue.another::<NextEnd>(first)
@@ -69,10 +69,11 @@ pub fn hand_over<R: Wait>(
     job: Handed,
 ) -> Result<(), Handed>
     requires pass { IsPassOf queue.now pass.old }
-    requires own { view pass.old ≡ end_knows job.end (view pass.old).handed }
-    requires unmarked { has_mark (view pass.old).handed ≡ false }
+    requires open { IsOpen job.end (view pass.old) }
     ensures pass { IsPassOf queue.now pass.new }
-    ensures step { MatchResult result (λ _. view pass.new ≡ end_knows job.end ((view pass.old).handed ++ parcels.Job job ∷ [])) (λ back. (back ≡ job) × (view pass.new ≡ view pass.old)) }
+    ensures open { IsOpen job.end (view pass.new) }
+    ensures taken { IfOk result (λ _. HasHanded (view pass.old) (parcels.Job job) (view pass.new)) }
+    ensures full { IfErr result (λ back. (back ≡ job) × (view pass.new ≡ view pass.old)) }
 {
     match queue.push_as::<HandsOver, R>(rt, pass, Parcel::Job(job)) {
         Ok(()) => Ok(()),
@@ -85,10 +86,10 @@ pub fn hand_over<R: Wait>(
 /// the call. It waits for no room.
 pub fn mark_closed<R: Wait>(rt: &R, queue: &JobQueue, pass: &mut QueuePass, end: u64) -> bool
     requires pass { IsPassOf queue.now pass.old }
-    requires own { view pass.old ≡ end_knows end (view pass.old).handed }
-    requires unmarked { has_mark (view pass.old).handed ≡ false }
+    requires open { IsOpen end (view pass.old) }
     ensures pass { IsPassOf queue.now pass.new }
-    ensures marked { result ≡ true → view pass.new ≡ end_knows end ((view pass.old).handed ++ parcels.Mark end ∷ []) }
+    ensures closed { result ≡ true → IsClosed end (view pass.new) }
+    ensures marked { result ≡ true → HasHanded (view pass.old) (parcels.Mark end) (view pass.new) }
     ensures full { result ≡ false → view pass.new ≡ view pass.old }
 {
     match queue.push_as::<HandsOver, R>(rt, pass, Parcel::Mark(end)) {
@@ -101,10 +102,10 @@ pub fn mark_closed<R: Wait>(rt: &R, queue: &JobQueue, pass: &mut QueuePass, end:
 /// and gives way to other threads between.
 pub fn close_end<R: Wait>(rt: &R, queue: &JobQueue, pass: &mut QueuePass, end: u64)
     requires pass { IsPassOf queue.now pass.old }
-    requires own { view pass.old ≡ end_knows end (view pass.old).handed }
-    requires unmarked { has_mark (view pass.old).handed ≡ false }
+    requires open { IsOpen end (view pass.old) }
     ensures pass { IsPassOf queue.now pass.new }
-    ensures marked { view pass.new ≡ end_knows end ((view pass.old).handed ++ parcels.Mark end ∷ []) }
+    ensures closed { IsClosed end (view pass.new) }
+    ensures marked { HasHanded (view pass.old) (parcels.Mark end) (view pass.new) }
 {
     for _ in rt.forever() {
         if mark_closed(rt, queue, pass, end) {
@@ -119,9 +120,11 @@ pub fn close_end<R: Wait>(rt: &R, queue: &JobQueue, pass: &mut QueuePass, end: u
 /// for no parcel.
 pub fn take_one<R: Wait>(rt: &R, queue: &JobQueue, pass: &mut QueuePass) -> Option<Parcel>
     requires pass { IsPassOf queue.now pass.old }
-    requires writer { view pass.old ≡ writer_knows (view pass.old).taken }
+    requires writer { OfWriter (view pass.old) }
     ensures pass { IsPassOf queue.now pass.new }
-    ensures step { MatchOption result (view pass.new ≡ view pass.old) (λ parcel. view pass.new ≡ writer_knows ((view pass.old).taken ++ parcel ∷ [])) }
+    ensures writer { OfWriter (view pass.new) }
+    ensures taken { IfSome result (λ parcel. HasTaken (view pass.old) parcel (view pass.new)) }
+    ensures empty { result ≡ None → view pass.new ≡ view pass.old }
 {
     queue.pop_as::<TakesOne, R>(rt, pass)
 }
@@ -130,10 +133,10 @@ pub fn take_one<R: Wait>(rt: &R, queue: &JobQueue, pass: &mut QueuePass) -> Opti
 /// ends and gets them back: both passes know afterwards what they knew before.
 fn compare_ends(queue: &JobQueue, writer: &mut QueuePass, other: &mut QueuePass)
     requires passes { IsPassOf queue.now writer.old × IsPassOf queue.now other.old }
-    requires writer { view writer.old ≡ writer_knows (view writer.old).taken }
+    requires writer { OfWriter (view writer.old) }
     ensures passes { IsPassOf queue.now writer.new × IsPassOf queue.now other.new }
     ensures same { (view writer.new ≡ view writer.old) × (view other.new ≡ view other.old) }
-    ensures compared { (held : List AnyParcel) × Compared (meeting (view writer.old) (view other.old)) held }
+    ensures compared { IsCompared (meeting (view writer.old) (view other.old)) }
 {
     let lent = queue.another::<TheEnds>(other);
     queue.absorb::<Meets>(writer, lent);
@@ -147,11 +150,11 @@ fn compare_ends(queue: &JobQueue, writer: &mut QueuePass, other: &mut QueuePass)
 /// in its order.
 pub fn compare(queue: &JobQueue, writer: &mut QueuePass, pass: &mut QueuePass, end: u64)
     requires passes { IsPassOf queue.now writer.old × IsPassOf queue.now pass.old }
-    requires writer { view writer.old ≡ writer_knows (view writer.old).taken }
-    requires own { view pass.old ≡ end_knows end (view pass.old).handed }
+    requires writer { OfWriter (view writer.old) }
+    requires own { OfEnd end (view pass.old) }
     ensures passes { IsPassOf queue.now writer.new × IsPassOf queue.now pass.new }
     ensures same { (view writer.new ≡ view writer.old) × (view pass.new ≡ view pass.old) }
-    ensures all { has_mark (of_end end (view writer.old).taken) ≡ true → of_end end (view writer.old).taken ≡ (view pass.old).handed }
+    ensures all { TookAll end (view writer.old) (view pass.old) }
 {
     compare_ends(queue, writer, pass);
 }
@@ -160,11 +163,11 @@ pub fn compare(queue: &JobQueue, writer: &mut QueuePass, pass: &mut QueuePass, e
 /// has nothing was taken.
 pub fn compare_rest(queue: &JobQueue, writer: &mut QueuePass, first: &mut QueuePass)
     requires passes { IsPassOf queue.now writer.old × IsPassOf queue.now first.old }
-    requires writer { view writer.old ≡ writer_knows (view writer.old).taken }
+    requires writer { OfWriter (view writer.old) }
     requires none { (view first.old).handed ≡ [] }
     ensures passes { IsPassOf queue.now writer.new × IsPassOf queue.now first.new }
     ensures same { (view writer.new ≡ view writer.old) × (view first.new ≡ view first.old) }
-    ensures nothing { (end : ℕ) → (view first.old).low ≤ end → end < (view first.old).high → of_end end (view writer.old).taken ≡ [] }
+    ensures none { TookNone (view writer.old) (view first.old) }
 {
     compare_ends(queue, writer, first);
 }
