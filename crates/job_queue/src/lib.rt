@@ -19,3 +19,6 @@ pub use queue::{
     new_queue, take_one, writer_pass,
 };
 pub use rule::InOrder;
+
+#[cfg(test)]
+mod tests;

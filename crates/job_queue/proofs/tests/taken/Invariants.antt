@@ -1,0 +1,7 @@
+use Rattle.std.proofs.Common.{◌≡◌}
+use Rattle.crossbeam_queue.specs.Passes.{view, IsPassOf}
+use Rattle.job_queue.specs.Delivery.{OfWriter}
+use Rattle.job_queue.proofs.tests.taken.Given as goal
+
+abbrev pub invariant-loop : goal.invariant-loop
+invariant-loop g l = IsPassOf l.queue l.pass × OfWriter (view l.pass)
