@@ -391,6 +391,7 @@ module _ {S : Type 0} {g : Ghosts S} (trusted : Bool) (old : Shelf S g) (w : Ter
                   at.is_said.begins here alone;
               texts = begun_texts own_places kept now class octets pick.fresh
                   at.agrees.keeps.sizes at.is_said.texts;
+              stored = at.is_said.stored;
               writing = writing_here openings h (with_begin class octets pick.fresh now) next
                   this.token this.writing;
             };
@@ -409,6 +410,7 @@ module _ {S : Type 0} {g : Ghosts S} (trusted : Bool) (old : Shelf S g) (w : Ter
                 ∙ ap (λ (one : Opening). (token_in one).buffer) (sym (same_Some next other e))
                 ∙ ap (λ (t : Token). t.buffer) token_is);
             texts = λ t here_too. refl;
+            stored = λ each here_too. refl;
             failed = refl;
           })
           (λ one of has. other_begins w.groups begun h group class octets can.there one has

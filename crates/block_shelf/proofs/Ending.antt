@@ -4,6 +4,7 @@ use Rattle.std.proofs.Common.{length}
 use Rattle.std.proofs.Common.{List, Option, None, Some, slice_get, slice_index_or}
 use Rattle.std.proofs.lemmas.Bool.{true≢false, lt-ltb}
 use Rattle.std.proofs.lemmas.Option.{same_Some, none-some, slice_get_within}
+use Rattle.std.specs.Prelude.{count_by}
 use Rattle.std.specs.Vec.{with_item}
 use Rattle.cyc_block.specs.declared.store.BlockStore.{Ghosts}
 use Rattle.cyc_buffer.proofs.OpenLemmas.{is_open}
@@ -18,6 +19,7 @@ use Rattle.news_terms.specs.Token.{Token}
 use Rattle.news_terms.specs.Places.{Group}
 use Rattle.relay_facts.proofs.Puts.{put_at_both}
 use Rattle.relay_model.specs.Fetches.{text_under}
+use Rattle.relay_model.specs.Figures.{is_kept_in}
 use Rattle.relay_model.specs.State.{Kept, put_at}
 use Rattle.relay_model.specs.Terms.{Terms}
 use Rattle.block_shelf.proofs.Shelving.{OpenPlace, open_place, only_there, replaced, read_here}
@@ -35,6 +37,8 @@ pub record IsUntouched (kept kept' : List Kept) (openings : ℕ → Option Openi
   pub before_apart : IsApart number (openings h)
   pub after_apart : IsApart number after
   pub texts : (t : Token) → t.buffer ≡ number → text_under kept' t ≡ text_under kept t
+  pub stored : (buffer : places.Buffer) → buffer.number ≡ number
+      → count_by (is_kept_in buffer) kept' ≡ count_by (is_kept_in buffer) kept
   pub failed : failures' number ≡ failures number
 
 pub untouched : {S : Type 0} {g : Ghosts S} (trusted : Bool) (code : Buffer S g)
@@ -58,6 +62,7 @@ untouched trusted code groups begun begun' kept kept' openings h after failures 
         begins = begins keeps.history keeps.is_of_buffer keeps.is_said.begins;
         texts = λ token here.
             keeps.is_said.texts token here ∙ sym (is.texts token (here ∙ sym number));
+        stored = keeps.is_said.stored ∙ sym (is.stored keeps.history.buffer (sym number));
         writing = writing_apart openings h keeps.history after
             (subst (λ n. IsApart n (openings h)) number is.before_apart)
             (subst (λ n. IsApart n after) number is.after_apart) keeps.is_said.writing;
@@ -181,6 +186,7 @@ module _ {S : Type 0} {g : Ghosts S} (trusted : Bool) (old : Shelf S g) (w : Ter
           is_said = record {
             begins = same_begins w.groups begun f.keeps.history None f.keeps.is_said.begins;
             texts = f.keeps.is_said.texts;
+            stored = f.keeps.is_said.stored;
             writing = writing_ended openings h (without_write f.keeps.history) refl
                 (subst (λ (b : places.Buffer). IsOnly openings h b.number)
                 (sym f.keeps.is_of_buffer)
@@ -197,6 +203,7 @@ module _ {S : Type 0} {g : Ghosts S} (trusted : Bool) (old : Shelf S g) (w : Ter
           before_apart = apart_of j buffer there (λ e. apart (e ∙ sym number));
           after_apart = λ other e. absurd (none-some other e);
           texts = λ t here. refl;
+          stored = λ each here. refl;
           failed = refl;
         })
         (λ h' of has. has) had)

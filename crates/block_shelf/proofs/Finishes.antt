@@ -1,16 +1,39 @@
--- A finish, in the texts of a buffer's history and in those that the relay keeps.
+-- A finish, in the texts of a buffer's history and in those that the relay keeps, and in how many
+-- there are.
 use Rattle.std.proofs.Common.{◌≡◌, ◌∙◌, ℕ, ◌+◌, ◌==◌, ◌&&◌, Bool, true, false, refl, sym, ap}
-use Rattle.std.proofs.Common.{length}
+use Rattle.std.proofs.Common.{add-one, add-zero, length}
 use Rattle.std.proofs.Common.{List, [], ◌∷◌, ◌++◌, Option, None, Some, if◌then◌else◌}
 use Rattle.std.proofs.lemmas.Bool.{cond-true, cond-false, and_parts, true≢false, eqb-true}
 use Rattle.std.proofs.lemmas.Bool.{eq-eqb, ne_eqb}
-use Rattle.std.specs.Prelude.{find, option_map}
+use Rattle.std.proofs.lemmas.List.Sums.{sum_by_push}
+use Rattle.std.specs.Prelude.{count_by, find, option_map}
 use Rattle.cyc_buffer.specs.History.{Article, Begin, head_of, is_at, finished_at, text_of, token_at}
+use Rattle.cyc_buffer.specs.History.{stored_count}
 use Rattle.news_terms.specs.Picks.{place_after}
 use Rattle.news_terms.specs.Places.{Buffer, Head}
 use Rattle.news_terms.specs.Token.{Token, same_token}
 use Rattle.relay_model.specs.Fetches.{text_under}
+use Rattle.relay_model.specs.Figures.{is_kept_in}
 use Rattle.relay_model.specs.State.{Kept}
+
+-- a text that is whole in a buffer is one more there
+one_more_kept : (buffer : Buffer) (kept : List Kept) (one : Kept)
+    → one.token.buffer ≡ buffer.number
+    → count_by (is_kept_in buffer) (kept ++ one ∷ []) ≡ count_by (is_kept_in buffer) kept + 1
+one_more_kept buffer kept one here =
+    sum_by_push (λ each. if is_kept_in buffer each then 1 else 0) kept one
+    ∙ ap (λ n. count_by (is_kept_in buffer) kept + n)
+    (cond-true (is_kept_in buffer one) 1 0 (eq-eqb one.token.buffer buffer.number here))
+
+-- in another buffer none
+pub kept_elsewhere : (buffer : Buffer) (kept : List Kept) (one : Kept)
+    → (one.token.buffer ≡ buffer.number → ⊥)
+    → count_by (is_kept_in buffer) (kept ++ one ∷ []) ≡ count_by (is_kept_in buffer) kept
+kept_elsewhere buffer kept one apart =
+    sum_by_push (λ each. if is_kept_in buffer each then 1 else 0) kept one
+    ∙ ap (λ n. count_by (is_kept_in buffer) kept + n)
+    (cond-false (is_kept_in buffer one) 1 0 (ne_eqb one.token.buffer buffer.number apart))
+    ∙ add-zero (count_by (is_kept_in buffer) kept)
 
 -- where a kept text has another token, it is not found
 another : (kept : List Kept) (one : Kept) (t : Token) → same_token one.token t ≡ false
@@ -183,3 +206,11 @@ module _ (buffer : Buffer) (earlier : List Begin) (fresh : Bool) (size : ℕ) (a
           → under buffer (finished ∷ earlier) t ≡ text_under (kept ++ one ∷ []) t
       by true at = own at ∙ sym (newest kept one t (sym before ∙ nothing at))
       by false at = as_before at ∙ before ∙ sym (another kept one t (other_token t at))
+
+  -- and as many are finished there as are whole
+  pub finished_stored : (kept : List Kept)
+      → stored_count (unfinished ∷ earlier) ≡ count_by (is_kept_in buffer) kept
+      → stored_count (finished ∷ earlier) ≡ count_by (is_kept_in buffer) (kept ++ one ∷ [])
+  finished_stored kept before =
+      sym (add-one (stored_count earlier)) ∙ ap (λ n. n + 1) before
+      ∙ sym (one_more_kept buffer kept one (ap (λ (each : Token). each.buffer) named))

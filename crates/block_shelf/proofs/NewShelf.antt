@@ -243,6 +243,7 @@ pub new_said : (groups : List places.Group) (buffer : places.Buffer)
 new_said groups buffer = record {
   begins = record { picked = λ g i group at is. refl; none = λ nobody. refl };
   texts = λ token here. same_anyway None (token.buffer == buffer.number);
+  stored = refl;
   writing = IsFree refl (λ g one is. absurd (none-some one is));
 }
 

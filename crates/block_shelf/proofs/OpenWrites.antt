@@ -6,6 +6,7 @@ use Rattle.std.proofs.Common.{Some}
 use Rattle.std.proofs.Common.{slice_get, slice_index_or, ◌==◌, if◌then◌else◌, Result, Ok, Err}
 use Rattle.std.proofs.lemmas.List.{length-take, take_min, take_all}
 use Rattle.std.proofs.lemmas.Option.{same_Some, none-some}
+use Rattle.std.specs.Prelude.{count_by}
 use Rattle.std.specs.Vec.{with_item}
 use Rattle.cyc_block.specs.declared.store.BlockStore.{Ghosts}
 use Rattle.cyc_buffer.proofs.OpenLemmas.{can_write, can_finish}
@@ -14,7 +15,7 @@ use Rattle.cyc_buffer.specs.Agreement.{Agrees, Follows, CanWrite, CanFinish, Con
 use Rattle.cyc_buffer.specs.Calls.{LeavesDevice, WritesNext}
 use Rattle.cyc_buffer.specs.History.{History, Article, Begin, Writing, asked, finish_begins}
 use Rattle.cyc_buffer.specs.History.{token_of_open, token_at, with_block, with_failure, with_finish}
-use Rattle.cyc_buffer.specs.History.{head_of, text_of, finished_at}
+use Rattle.cyc_buffer.specs.History.{head_of, text_of, finished_at, stored_count}
 use Rattle.cyc_buffer.specs.Register.{Writes}
 use Rattle.cyc_buffer.specs.declared.answers.BufError.{BufError}
 use Rattle.cyc_buffer.specs.declared.answers.BufError.TheVariants.{Device}
@@ -30,12 +31,14 @@ use Rattle.news_terms.specs.Places.{Group, size_of}
 use Rattle.news_terms.specs.Token.{Token}
 use Rattle.relay_facts.proofs.Puts.{put_at_here, put_at_there, put_at_both}
 use Rattle.relay_model.specs.Fetches.{text_under}
+use Rattle.relay_model.specs.Figures.{is_kept_in}
 use Rattle.relay_model.specs.State.{Kept, put_at}
 use Rattle.relay_model.specs.Terms.{Terms}
 use Rattle.relay_model.specs.World.{HasFailedAt}
 use Rattle.block_shelf.proofs.Ending.{Found, found, handle_is_open, untouched}
 use Rattle.block_shelf.proofs.Ending.{ended_opened, writing_of}
-use Rattle.block_shelf.proofs.Finishes.{finished_texts, other_buffer, under}
+use Rattle.block_shelf.proofs.Finishes.{finished_texts, finished_stored, kept_elsewhere}
+use Rattle.block_shelf.proofs.Finishes.{other_buffer, under}
 use Rattle.block_shelf.proofs.Shelving.{replaced, only_there}
 use Rattle.block_shelf.proofs.Writings.{HasThis, IsOnly, one_more_block, failed_block, writing_here}
 use Rattle.block_shelf.proofs.Writings.{writing_ended}
@@ -163,12 +166,14 @@ module _ {S : Type 0} {g : Ghosts S} (trusted : Bool) (old : Shelf S g) (w : Ter
       → (kept' : List Kept)
       → ((buffer : places.Buffer) (t : Token) → t.buffer ≡ buffer.number
       → (buffer.number ≡ token.buffer → ⊥) → text_under kept' t ≡ text_under kept t)
+      → ((buffer : places.Buffer) → (buffer.number ≡ token.buffer → ⊥)
+      → count_by (is_kept_in buffer) kept' ≡ count_by (is_kept_in buffer) kept)
       → (failures' : ℕ → ℕ) → ((k : ℕ) → (k ≡ token.buffer → ⊥) → failures' k ≡ failures k)
       → (j : ℕ) (buffer : places.Buffer) → slice_get w.buffers j ≡ Some buffer → (j ≡ i → ⊥)
       → (each : Buffer S g)
       → KeepsBuffer trusted each w.groups begun kept openings failures buffer
       → KeepsBuffer trusted each w.groups begun kept' (put_at openings h next) failures' buffer
-  others next named_next kept' texts failures' failed j buffer there apart each had =
+  others next named_next kept' texts stored failures' failed j buffer there apart each had =
       let away : buffer.number ≡ token.buffer → ⊥ =
       λ e. apart (sym (keeps.numbered j buffer there) ∙ e ∙ sym number) in
       untouched trusted each w.groups begun begun kept kept' openings h next failures failures'
@@ -178,6 +183,7 @@ module _ {S : Type 0} {g : Ghosts S} (trusted : Bool) (old : Shelf S g) (w : Ter
             ∙ ap (λ (each : Opening). (token_in each).buffer) (same_Some other one (sym e ∙ is)));
         after_apart = λ other e here. away (sym here ∙ named_next other e);
         texts = λ t here. texts buffer t here away;
+        stored = λ each_buffer here. stored each_buffer (λ e. away (sym here ∙ e));
         failed = failed buffer.number away;
       })
       (λ h' of has. has) had
@@ -216,6 +222,8 @@ module _ {S : Type 0} {g : Ghosts S} (trusted : Bool) (old : Shelf S g) (w : Ter
               else None) same_begins_there
               ∙ at.keeps.is_said.texts t
               (named_there ∙ ap (λ (b : places.Buffer). b.number) same_buffer_there);
+          stored = ap stored_count same_begins_there ∙ at.keeps.is_said.stored
+              ∙ ap (λ b. count_by (is_kept_in b) kept) (sym same_buffer_there);
           writing = writing_here openings h history next this.token this.writing;
         };
         failed = ap (λ (b : places.Buffer). failures' b.number) (sym same)
@@ -249,7 +257,8 @@ module _ {S : Type 0} {g : Ghosts S} (trusted : Bool) (old : Shelf S g) (w : Ter
             (others (Some next)
             (λ other e. ap (λ (each : Opening). (token_in each).buffer)
             (same_Some other next (sym e)))
-            kept (λ buffer t named_there away. refl) failures (λ k away. refl)),
+            kept (λ buffer t named_there away. refl) (λ buffer away. refl) failures
+            (λ k away. refl)),
       )
     where
       last_is : (last : Bool) → WritesNext code write text (Ok last) code'
@@ -316,7 +325,7 @@ module _ {S : Type 0} {g : Ghosts S} (trusted : Bool) (old : Shelf S g) (w : Ter
           (others (Some (IsBroken token))
           (λ other e. ap (λ (each : Opening). (token_in each).buffer)
           (same_Some other (IsBroken token) (sym e)))
-          kept (λ buffer t named_there away. refl) later
+          kept (λ buffer t named_there away. refl) (λ buffer away. refl) later
           (λ k away. put_at_there failures token.buffer (g.failures (store_of code')) k away))
 
   -- the shelf after a finish, where all is written
@@ -354,6 +363,10 @@ module _ {S : Type 0} {g : Ghosts S} (trusted : Bool) (old : Shelf S g) (w : Ter
               added named_as whole kept t there
               (ap (λ begins. under now.buffer begins t) (sym newest.newest)
               ∙ at.keeps.is_said.texts t there);
+          stored = ap stored_count ends
+              ∙ finished_stored now.buffer newest.earlier newest.fresh (size_of token.length)
+              article added named_as whole kept
+              (ap stored_count (sym newest.newest) ∙ at.keeps.is_said.stored);
           writing = writing_ended openings h (with_finish now) refl alone;
         };
         failed = ap (λ (b : places.Buffer). failures b.number) (sym same) ∙ at.keeps.failed
@@ -362,6 +375,7 @@ module _ {S : Type 0} {g : Ghosts S} (trusted : Bool) (old : Shelf S g) (w : Ter
       (others None (λ other e. absurd (none-some other e)) kept'
       (λ buffer t named_there away.
       other_buffer kept added t (λ e. away (sym named_there ∙ sym e)))
+      (λ buffer away. kept_elsewhere buffer kept added (λ e. away (sym e)))
       failures (λ k away. refl))
     where
       newest : HasNewest now (writing_at token text written)

@@ -1,15 +1,16 @@
 -- What the relay's state says of the history of one buffer: what its group picked for it was begun
--- there, what is whole under its tokens was finished there, and the open write of its group that is
--- in it is the history's (docs/PROTOCOL.md, Store).
+-- there, what is whole under its tokens was finished there, as many as are whole, and the open write
+-- of its group that is in it is the history's (docs/PROTOCOL.md, Store).
 use Rattle.std.specs.Prelude.{◌≡◌, ◌≢◌, ℕ, ◌*◌, true, false, List, [], map, take}
-use Rattle.std.specs.Prelude.{Option, None, Some, slice_get}
+use Rattle.std.specs.Prelude.{Option, None, Some, slice_get, count_by}
 use Rattle.cyc_buffer.specs.History as histories
-use Rattle.cyc_buffer.specs.History.{History, Writing, asked, open_token}
+use Rattle.cyc_buffer.specs.History.{History, Writing, asked, open_token, stored_count}
 use Rattle.news_terms.specs.BlockImage.{chunk_size}
 use Rattle.news_terms.specs.Picks.{begins_in}
 use Rattle.news_terms.specs.Places.{Group}
 use Rattle.news_terms.specs.Token.{Token}
 use Rattle.relay_model.specs.Fetches as fetches
+use Rattle.relay_model.specs.Figures.{is_kept_in}
 use Rattle.relay_model.specs.State.{Kept}
 use Rattle.block_shelf.specs.Openings.{Opening, IsOpen, IsBroken, token_in}
 use Rattle.news_terms.specs.Settings.{IsBufferAt}
@@ -56,4 +57,6 @@ pub record IsHistoryOf (groups : List Group) (begun : ℕ → List ℕ) (kept : 
     (openings : ℕ → Option Opening) (h : History) : Type 0 where
   pub begins : HasBegins groups begun h
   pub texts : HasTexts kept h
+  -- as many articles were finished in it as texts are whole there
+  pub stored : stored_count h.begins ≡ count_by (is_kept_in h.buffer) kept
   pub writing : HasWriting openings h
