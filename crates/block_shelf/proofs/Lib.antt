@@ -9,7 +9,9 @@ pub mod Fronts
 pub mod NewShelf
 pub mod OpenWrites
 pub mod Refusals
+pub mod Reported
 pub mod ShelfCalls
 pub mod ShelfReads
 pub mod Shelving
+pub mod Tallies
 pub mod Writings

@@ -1,6 +1,7 @@
 pub mod Arming
 pub mod Calls
 pub mod Devices
+pub mod Figures
 pub mod Filling
 pub mod Histories
 pub mod Keeping

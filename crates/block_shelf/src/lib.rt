@@ -4,7 +4,9 @@
 #![tactic(auto)]
 
 mod arming;
+mod figures;
 mod filling;
 mod shelf;
 
+pub use figures::BufferFigures;
 pub use shelf::{Begun, Shelf};
