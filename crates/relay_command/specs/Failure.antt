@@ -14,7 +14,7 @@ use Rattle.relay_command.specs.Tell.{fault_text}
 use Rattle.relay_command.specs.declared.load.CheckError.TheVariants as check
 use Rattle.relay_command.specs.declared.failure.Failure.{Failure}
 use Rattle.relay_command.specs.declared.failure.Failure.TheVariants.{Unbegun, Words, Check}
-use Rattle.relay_command.specs.declared.failure.Failure.TheVariants.{Drill, Token}
+use Rattle.relay_command.specs.declared.failure.Failure.TheVariants.{Drill, Token, Unwritten}
 use Rattle.relay_command.specs.declared.failure.Unbegun.TheVariants as unbegun
 use Rattle.relay_command.specs.declared.failure.Unbegun as begin
 use Rattle.relay_command.specs.declared.token.TokenFault.TheVariants as token
@@ -48,6 +48,7 @@ status_of (Token token.Marks) = 3
 status_of (Token token.Digit) = 3
 status_of (Token token.LowerCase) = 3
 status_of (Token token.Unwritten) = 4
+status_of Unwritten = 4
 
 -- 0 where all went well, else the failure's
 abbrev pub ends_with : Result (Unit {0}) Failure → ℕ
@@ -70,6 +71,7 @@ told_of (Words error) = None
 told_of (Check error) = Some (ended (check_text error))
 told_of (Drill error) = Some (ended (text_of error))
 told_of (Token fault) = Some (ended (fault_text fault))
+told_of Unwritten = Some (ended (codes "stdout: unwritten"))
 
 -- where all went well nothing was written, else what is told of the failure
 abbrev pub Tells : Result (Unit {0}) Failure → (before after : Option (List ℕ)) → Type 0

@@ -55,6 +55,9 @@ pub enum Failure {
     /// A token is not told.
     #[error(transparent)]
     Token(TokenFault),
+    /// Standard output took no more. What it took before stands.
+    #[error("stdout: unwritten")]
+    Unwritten,
 }
 
 impl Failure {
@@ -69,6 +72,7 @@ impl Failure {
             Failure::Drill(DrillError::Line(_) | DrillError::Unreadable) => 3,
             Failure::Token(TokenFault::Unwritten) => 4,
             Failure::Token(_) => 3,
+            Failure::Unwritten => 4,
             Failure::Check(CheckError::Unwritten) | Failure::Drill(DrillError::Unwritten) => 4,
             Failure::Unbegun(Unbegun::Memory) => 5,
             Failure::Check(CheckError::Memory) | Failure::Drill(DrillError::Memory) => 5,
@@ -97,6 +101,7 @@ pub fn print_failure<W: Write>(ran: &Result<(), Failure>, writer: &mut W) -> io:
         Err(Failure::Check(error)) => writeln!(writer, "{error}"),
         Err(Failure::Drill(error)) => writeln!(writer, "{error}"),
         Err(Failure::Token(fault)) => writeln!(writer, "{fault}"),
+        Err(Failure::Unwritten) => writer.write_all(b"stdout: unwritten\n"),
     }
 }
 

@@ -9,11 +9,15 @@ mod check;
 mod command_line;
 mod failure;
 mod file;
+mod gathered;
 mod load;
 mod program;
 mod token;
+mod version;
 
 pub use failure::{Failure, Unbegun, exit_code, print_failure};
+pub use gathered::gathering;
 pub use load::{CheckError, ConfFile};
 pub use program::{program_words, run};
 pub use token::TokenFault;
+pub use version::VERSION;

@@ -2,7 +2,9 @@
 ghost use Rattle.std.specs.Prelude.{◌≡◌, ◌⊎◌, map, bytes_eq, codes, string_bytes, IfOk, IfErr};
 ghost use Rattle.relay_command.specs.CommandLine.{Drills, asked};
 ghost use Rattle.std.specs.Vec.Iter.{into_iter_items};
+ghost use Rattle.std.specs.Io.Buffered.{writer_buffer, writer_contents, writer_inner};
 ghost use Rattle.relay_command.specs.Failure.{unbegun_as};
+ghost use Rattle.relay_command.specs.Gathered.{RunsGathered};
 ghost use Rattle.relay_command.specs.Run.{DrillsScript, Performs, RunGives};
 ghost use Rattle.relay_command.specs.declared.failure.Failure.TheVariants as failures;
 ghost use Rattle.relay_command.specs.declared.failure.Unbegun.TheVariants as begin;
@@ -11,15 +13,17 @@ use crate::check::check;
 use crate::command_line::{Job, read_words};
 use crate::failure::{Failure, Unbegun};
 use crate::file::read_file;
+use crate::gathered::hand_on;
 use crate::load::load;
 use crate::token::tell;
+use crate::version::tell_version;
 use relay_conf::Config;
 use relay_drill::{DrillError, drill};
 use std::alloc::Global;
 use std::env;
 use std::env::{Args, Env};
 use std::fs::Files;
-use std::io::{ErrorKind, Read, Write};
+use std::io::{BufWriter, ErrorKind, Read, Write};
 use std::random::RandomSource;
 
 /// The words that the program was started with, its name first.
@@ -56,9 +60,25 @@ fn unread(kind: ErrorKind) -> Unbegun
 }
 
 /// Does what the words ask for, of which the first is the program's name. `reader` is standard
-/// input; what is printed where nothing fails goes to `writer`. `rt` has the files, and seeds the
-/// core's hasher.
-pub fn run<S: Files + RandomSource, R: Read, W: Write>(
+/// input; what is printed where nothing fails goes to standard output by `writer`, and is handed on
+/// to its end before a failure is told. `rt` has the files, and seeds the core's hasher.
+pub fn run<S: Files + RandomSource, R: Read, W: Write + Drop>(
+    rt: &S,
+    alloc: Global,
+    words: &[String],
+    reader: &mut R,
+    writer: &mut BufWriter<W>,
+) -> Result<(), Failure>
+    ensures { RunsGathered (map string_bytes words.now) result (R.remaining reader.old)
+        (writer_contents W.contents writer.old) (W.contents (writer_inner writer.new))
+        (writer_buffer writer.new) }
+{
+    let ran = obey(rt, alloc, words, reader, writer);
+    hand_on(ran, writer)
+}
+
+/// Does what the words ask for.
+fn obey<S: Files + RandomSource, R: Read, W: Write>(
     rt: &S,
     alloc: Global,
     words: &[String],
@@ -94,6 +114,10 @@ fn perform<S: Files + RandomSource, R: Read, W: Write>(
         Job::Token(text) => match tell(text.as_bytes(), writer) {
             Ok(()) => Ok(()),
             Err(fault) => Err(Failure::Token(fault)),
+        },
+        Job::Version => match tell_version(writer) {
+            Ok(()) => Ok(()),
+            Err(_) => Err(Failure::Unwritten),
         },
     }
 }

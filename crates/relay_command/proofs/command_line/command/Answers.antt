@@ -1,12 +1,11 @@
-use Rattle.std.proofs.Common.{rules, codes}
-use Rattle.clap.specs.Words.{new_app}
-use Rattle.relay_command.specs.CommandLine.{Reads}
+use Rattle.std.proofs.Common.{rules}
+use Rattle.relay_command.specs.CommandLine.{Reads, version_words}
 use Rattle.relay_command.proofs.CommandLines.{with_command}
 use Rattle.relay_command.proofs.command_line.command.Goals as goal
 
 pub returns : goal.returns
 returns c =
-    let start : Reads c.about-whole.result (new_app (codes "cnrelay")) = record {
+    let start : Reads c.about-whole.result version_words = record {
       words = search rules;
       own = search rules;
     } in
