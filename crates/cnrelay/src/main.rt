@@ -6,9 +6,8 @@
 //! words, the streams and the files of the system, and nothing is decided.
 #![tactic(auto)]
 
-use relay_command::{Failure, Unbegun, exit_code, print_failure, program_words, run};
+use relay_command::{Failure, exit_code, gathering, print_failure, program_words, run};
 use std::io;
-use std::io::LineWriter;
 use std::process::ExitCode;
 
 fn main(rt: HostRuntime) -> ExitCode {
@@ -17,11 +16,12 @@ fn main(rt: HostRuntime) -> ExitCode {
     exit_code(&ran)
 }
 
-/// Does what the words of the system ask for, over its streams and files.
+/// Does what the words of the system ask for, over its streams and files. What could not be handed
+/// on to standard output is let go of, and not written when its writer is.
 fn run_here(rt: &HostRuntime) -> Result<(), Failure> {
     let words = program_words(rt)?;
-    let Ok(mut output) = LineWriter::new(rt.alloc(), io::writer(rt)) else {
-        return Err(Failure::Unbegun(Unbegun::Memory));
-    };
-    run(rt, rt.alloc(), &words, &mut rt.reader(), &mut output)
+    let mut output = gathering(rt.alloc(), io::writer(rt))?;
+    let ran = run(rt, rt.alloc(), &words, &mut rt.reader(), &mut output);
+    let (_device, _unwritten) = output.into_parts();
+    ran
 }

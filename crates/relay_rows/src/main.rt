@@ -12,6 +12,7 @@ mod expand;
 mod manner;
 mod row;
 mod streams;
+mod words;
 
 use manner::{Manner, manner_of};
 use relay_drill::read_all;

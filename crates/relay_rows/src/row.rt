@@ -2,10 +2,12 @@
 use crate::expand::expanded;
 use crate::manner::{Manner, add_cut, counted, joined};
 use crate::streams::{Input, Output};
+use crate::words::Words;
 use line_words::cut;
-use relay_command::{print_failure, run};
+use relay_command::{Failure, gathering, print_failure, program_words, run};
 use std::alloc::{AllocError, Global};
-use std::{io, str};
+use std::io;
+use std::io::{BufWriter, ErrorKind};
 
 /// The line before a script whose octets come one by one.
 const SPLIT: &[u8] = b"split 1\n";
@@ -102,11 +104,12 @@ impl<'a> Row<'a> {
     /// What the row gives with this script: what the program wrote, and its failure.
     fn play_script(&self, rt: &HostRuntime, script: &[u8]) -> io::Result<Vec<u8>> {
         let alloc = rt.alloc();
-        let words = self.command_line(alloc)?;
-        let mut input = Input::new(script, self.input);
-        let mut output = Output::new(alloc, self.output);
-        let ran = run(rt, alloc, &words, &mut input, &mut output);
-        let mut played = output.written;
+        let Ok(mut output) = gathering(alloc, Output::new(alloc, self.output)) else {
+            return Err(io::Error::from(ErrorKind::OutOfMemory));
+        };
+        let ran = self.run_with(rt, script, &mut output);
+        let (device, _unwritten) = output.into_parts();
+        let mut played = device.written;
         print_failure(&ran, &mut played)?;
         if let Err(failure) = ran {
             let status = format!(in alloc; "status {}\n", failure.status())?;
@@ -115,14 +118,15 @@ impl<'a> Row<'a> {
         Ok(played)
     }
 
-    /// The words of the program, its name first. A word that is no UTF-8 is empty.
-    fn command_line(&self, alloc: Global) -> Result<Vec<String>, AllocError> {
-        let mut words = Vec::new(alloc);
-        words.push(String::from_str(alloc, "cnrelay")?)?;
-        for word in &self.words {
-            let text = str::from_utf8(word).unwrap_or("");
-            words.push(String::from_str(alloc, text)?)?;
-        }
-        Ok(words)
+    /// Does what the row's words ask for, with this script.
+    fn run_with(
+        &self,
+        rt: &HostRuntime,
+        script: &[u8],
+        output: &mut BufWriter<Output>,
+    ) -> Result<(), Failure> {
+        let words = program_words(&(Words(&self.words), rt.alloc()))?;
+        let mut input = Input::new(script, self.input);
+        run(rt, rt.alloc(), &words, &mut input, output)
     }
 }

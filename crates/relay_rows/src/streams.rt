@@ -44,7 +44,8 @@ impl<'a> Read for Input<'a> {
     }
 }
 
-/// Standard output of a row: by `full` it fails once it holds 40 octets, by `closed` at once.
+/// Standard output of a row: by `full` it takes 40 octets and fails, by `large` 65,600, by `closed`
+/// none.
 #[derive(Drop)]
 pub struct Output {
     pub written: Vec<u8>,
@@ -69,16 +70,22 @@ fn most_of(manner: &[u8]) -> usize {
     if manner == b"full".as_slice() {
         return 40;
     }
+    if manner == b"large".as_slice() {
+        return 65_600;
+    }
     usize::MAX
 }
 
 impl Write for Output {
     fn write(&mut self, octets: &[u8]) -> io::Result<usize> {
-        if self.written.len() >= self.most {
+        let count = octets
+            .len()
+            .min(self.most.saturating_sub(self.written.len()));
+        if count == 0 {
             return Err(io::Error::from(ErrorKind::StorageFull));
         }
-        self.written.extend_from_slice(octets)?;
-        Ok(octets.len())
+        self.written.extend_from_slice(&octets[..count])?;
+        Ok(count)
     }
 
     fn flush(&mut self) -> io::Result<()> {
