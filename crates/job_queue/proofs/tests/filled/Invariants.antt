@@ -1,4 +1,3 @@
-use Rattle.std.proofs.Common.{◌≡◌}
 use Rattle.crossbeam_queue.specs.Passes.{view, IsPassOf}
 use Rattle.job_queue.specs.Delivery.{IsOpen}
 use Rattle.job_queue.proofs.tests.filled.Given as goal
