@@ -95,7 +95,8 @@ pub data IsAskedBy (words : List Text) (a : Asked) : Type 0 where
 -- for the version
 abbrev pub IsRefusedBy : List Text → Error → Type 0
 IsRefusedBy words error =
-    (kind_of error ≡ OutOfMemory) ⊎ (HasFault words (kind_of error) × (kind_of error ≢ DisplayVersion))
+    (kind_of error ≡ OutOfMemory)
+    ⊎ (HasFault words (kind_of error) × (kind_of error ≢ DisplayVersion))
 
 -- the answer to words that clap refuses so: the version where they ask for it, else the refusal
 abbrev pub Requests : Error → Result Job Error → Type 0
