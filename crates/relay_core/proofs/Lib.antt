@@ -11,6 +11,7 @@ mod Pushing
 mod Queues
 mod ReadArm
 mod Refusing
+mod Reporting
 mod RunLemmas
 mod Serving
 mod SessionSteps

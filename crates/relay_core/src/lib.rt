@@ -10,6 +10,7 @@
 mod arming;
 mod beginning;
 mod event;
+mod figures;
 mod queue;
 mod reading;
 mod sharing;
@@ -20,4 +21,5 @@ mod watching;
 mod writing;
 
 pub use event::{CoreError, Event, Output};
+pub use figures::{FeedFigures, Figures, NamedBuffer, NamedFeed};
 pub use system::System;

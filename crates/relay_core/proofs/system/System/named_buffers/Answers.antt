@@ -1,0 +1,38 @@
+use Rattle.std.proofs.Common.{◌∙◌, ◌<◌, length, rules}
+use Rattle.relay_core.specs.Figures.{named_buffer}
+use Rattle.relay_core.proofs.Reporting.{buffer_joins, buffer_there, numbered_all}
+use Rattle.relay_core.proofs.system.System.named_buffers.Goals as goal
+use Rattle.relay_core.proofs.system.System.named_buffers.Goals.{in-Some+in_ok-name, in_default}
+
+-- one buffer more
+pub loop-number-preserved : goal.loop-number-preserved
+loop-number-preserved g c =
+    let within : c.loop-number.number < length c.args.self.now.config.buffers.buffers.items =
+    search rules in
+    elim c.match-figures.branch [
+      | in-Some+in_ok-name w ↦
+          record {
+            count = search rules;
+            room = search rules;
+            said = λ trusted x agrees. buffer_joins trusted c.args.self.now x agrees
+                c.loop-number.number c.buffer-item.result w.in-Some.figures within
+                (search rules) w.in-Some.ensures w.in_ok-name.name
+                (cc (w.in_ok-name.ensures, w.as_slice.ensures)) c.loop-number.named.items
+                c.match-figures.named.items (cc (w.push_reserved.ensures.items, w.named-is))
+                (c.loop-number.invariant.said trusted x agrees);
+          }
+      | in_default w ↦
+          record {
+            count = search rules;
+            room = search rules;
+            said = λ trusted x agrees. absurd (buffer_there trusted c.args.self.now x agrees
+                c.loop-number.number c.buffer-item.result within w.in_default.ensures);
+          }
+    ]
+
+-- that was the last
+pub returns : goal.returns
+returns g c = λ trusted x agrees.
+    c.loop-number.invariant.said trusted x agrees
+    ∙ numbered_all (named_buffer c.args.self.now.config x.state)
+    c.args.self.now.config.buffers.buffers.items c.loop-number.number (search rules)
