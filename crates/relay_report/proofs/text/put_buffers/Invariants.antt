@@ -1,0 +1,10 @@
+use Rattle.std.proofs.Common.{◌≡◌, ◌++◌, flat_map, map, take}
+use Rattle.relay_core.specs.Figures.{buffer_view}
+use Rattle.relay_report.specs.Text.{buffer_line}
+use Rattle.relay_report.proofs.text.put_buffers.Given as goal
+
+-- the lines so far are there
+abbrev pub invariant-loop-buffer : goal.invariant-loop-buffer
+invariant-loop-buffer l =
+    l.text.items
+    ≡ l.fn.text.items ++ flat_map buffer_line (map buffer_view (take l.buffer-index l.buffers))

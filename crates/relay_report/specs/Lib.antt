@@ -1,0 +1,3 @@
+pub mod Examples
+pub mod Report
+pub mod Text

@@ -1,0 +1,32 @@
+-- What is reported of a relay (docs/FORMATS.md, Report).
+use Rattle.std.specs.Prelude.{◌≡◌, ℕ, Bool, List, map}
+use Rattle.cyc_block.specs.declared.store.BlockStore.{Ghosts}
+use Rattle.id_history.specs.Counts.{CountsOf}
+use Rattle.id_history.specs.declared.counts.Counts.{Counts}
+use Rattle.relay_conf.specs.declared.settings.Config.{Config}
+use Rattle.relay_core.specs.Agreement.{Agrees}
+use Rattle.relay_core.specs.Figures.{buffer_view, feed_view, named_buffers, named_feeds}
+use Rattle.relay_core.specs.declared.figures.Figures.{Figures}
+use Rattle.relay_core.specs.declared.system.System.{System}
+use Rattle.relay_model.specs.State.{State}
+use Rattle.relay_model.specs.World.{World}
+use Rattle.relay_report.specs.Text.{report_text}
+
+-- the text of these figures
+abbrev pub text_of_figures : Figures → List ℕ
+text_of_figures figures =
+    report_text (map buffer_view figures.buffers.items) (map feed_view figures.feeds.items)
+    figures.ids
+
+-- the text reports a relay of this configuration in this state: its buffers and feeds in their
+-- order, and how many message-ids it knows
+pub record ReportsOn (config : Config) (σ : State) (text : List ℕ) : Type 0 where
+  pub ids : Counts
+  pub counted : CountsOf σ.claim ids
+  pub told : text ≡ report_text (named_buffers config σ) (named_feeds config σ) ids
+
+-- the text reports each state that the relay agrees with
+abbrev pub Reports : {S : Type 0} {g : Ghosts S} → System S g → List ℕ → Type 0
+Reports system text =
+    (trusted : Bool) (x : World) → Agrees trusted system x
+    → ReportsOn system.config x.state text
