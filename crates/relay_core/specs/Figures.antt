@@ -4,6 +4,7 @@ use Rattle.std.specs.Prelude.{◌≡◌, ℕ, List, [], map, slice_get, Option, 
 use Rattle.std.specs.List.{enumerate_from}
 use Rattle.article_verdict.specs.Config.{terms_of}
 use Rattle.block_shelf.specs.Figures.{figures_view}
+use Rattle.cyc_block.specs.declared.store.BlockStore.{Ghosts}
 use Rattle.id_history.specs.Counts.{CountsOf}
 use Rattle.relay_conf.specs.Places.{numbered_buffer}
 use Rattle.relay_conf.specs.declared.cycbuff.BufferConf.{BufferConf}
@@ -15,8 +16,9 @@ use Rattle.relay_model.specs.Figures.{buffer_figures, feed_figures}
 use Rattle.relay_model.specs.State.{State}
 use Rattle.relay_core.specs.declared.figures.FeedFigures.{FeedFigures}
 use Rattle.relay_core.specs.declared.figures.Figures.{Figures}
-use Rattle.relay_core.specs.declared.figures.NamedBuffer as code
+use Rattle.relay_core.specs.declared.figures.NamedBuffer as buffers
 use Rattle.relay_core.specs.declared.figures.NamedFeed as feeds
+use Rattle.relay_core.specs.declared.system.System.{System}
 
 -- a buffer's name, with its figures
 pub record NamedBuffer : Type 0 where
@@ -59,7 +61,7 @@ abbrev pub named_feeds : Config → State → List NamedFeed
 named_feeds config σ = map (named_feed config σ) (enumerate_from 0 config.relay.feeds.items)
 
 -- a buffer of the code as the definitions have it
-abbrev pub buffer_view : code.NamedBuffer → NamedBuffer
+abbrev pub buffer_view : buffers.NamedBuffer → NamedBuffer
 buffer_view buffer = record { name = buffer.name; figures = figures_view buffer.figures }
 
 -- figures of a feed as the definitions have them
@@ -74,6 +76,10 @@ feed_figures_view figures =
 -- a feed of the code as the definitions have it
 abbrev pub feed_view : feeds.NamedFeed → NamedFeed
 feed_view feed = record { peer = feed.peer; figures = feed_figures_view feed.figures }
+
+-- what the relay is set up with
+abbrev pub config_of : {S : Type 0} {g : Ghosts S} → System S g → Config
+config_of system = system.config
 
 -- these are the figures of a relay of this configuration in this state
 pub record AreFigures (config : Config) (σ : State) (figures : Figures) : Type 0 where

@@ -53,14 +53,14 @@ pub struct Figures {
 impl<S: BlockStore> System<S> {
     ghost use Rattle.std.specs.Prelude.{Bool, IfOk, map};
     ghost use Rattle.relay_core.specs.Agreement.{Agrees};
-    ghost use Rattle.relay_core.specs.Figures as terms;
-    ghost use Rattle.relay_core.specs.Figures.{AreFigures, named_buffers, named_feeds};
+    ghost use Rattle.relay_core.specs.Figures.{AreFigures, buffer_view, config_of, feed_view};
+    ghost use Rattle.relay_core.specs.Figures.{named_buffers, named_feeds};
     ghost use Rattle.relay_model.specs.World.{World};
 
     /// The figures of the relay as it is. The error is want of memory for the lists and the names.
     pub fn figures(&self) -> Result<Figures, AllocError>
         ensures { IfOk result (λ figures. (trusted : Bool) (x : World)
-            → Agrees trusted self.now x → AreFigures self.now.config x.state figures) }
+            → Agrees trusted self.now x → AreFigures (config_of self.now) x.state figures) }
     {
         Ok(Figures {
             buffers: self.named_buffers()?,
@@ -72,7 +72,7 @@ impl<S: BlockStore> System<S> {
     /// Each buffer with its figures.
     fn named_buffers(&self) -> Result<Vec<NamedBuffer>, AllocError>
         ensures { IfOk result (λ named. (trusted : Bool) (x : World) → Agrees trusted self.now x
-            → map terms.buffer_view named.items ≡ named_buffers self.now.config x.state) }
+            → map buffer_view named.items ≡ named_buffers (config_of self.now) x.state) }
     {
         let buffers = &self.config.buffers.buffers;
         let mut named = Vec::with_capacity(self.alloc, buffers.len())?;
@@ -88,7 +88,7 @@ impl<S: BlockStore> System<S> {
     /// Each feed with its figures.
     fn named_feeds(&self) -> Result<Vec<NamedFeed>, AllocError>
         ensures { IfOk result (λ named. (trusted : Bool) (x : World) → Agrees trusted self.now x
-            → map terms.feed_view named.items ≡ named_feeds self.now.config x.state) }
+            → map feed_view named.items ≡ named_feeds (config_of self.now) x.state) }
     {
         let feeds = &self.config.relay.feeds;
         let mut named = Vec::with_capacity(self.alloc, feeds.len())?;

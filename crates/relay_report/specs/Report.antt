@@ -5,7 +5,8 @@ use Rattle.id_history.specs.Counts.{CountsOf}
 use Rattle.id_history.specs.declared.counts.Counts.{Counts}
 use Rattle.relay_conf.specs.declared.settings.Config.{Config}
 use Rattle.relay_core.specs.Agreement.{Agrees}
-use Rattle.relay_core.specs.Figures.{buffer_view, feed_view, named_buffers, named_feeds}
+use Rattle.relay_core.specs.Figures.{buffer_view, config_of, feed_view, named_buffers}
+use Rattle.relay_core.specs.Figures.{named_feeds}
 use Rattle.relay_core.specs.declared.figures.Figures.{Figures}
 use Rattle.relay_core.specs.declared.system.System.{System}
 use Rattle.relay_model.specs.State.{State}
@@ -29,4 +30,4 @@ pub record ReportsOn (config : Config) (σ : State) (text : List ℕ) : Type 0 w
 abbrev pub Reports : {S : Type 0} {g : Ghosts S} → System S g → List ℕ → Type 0
 Reports system text =
     (trusted : Bool) (x : World) → Agrees trusted system x
-    → ReportsOn system.config x.state text
+    → ReportsOn (config_of system) x.state text
