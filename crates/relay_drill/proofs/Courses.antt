@@ -9,14 +9,15 @@ use Rattle.cyc_block.specs.declared.store.BlockStore.{Ghosts}
 use Rattle.relay_core.specs.Arming.{AgreesStill}
 use Rattle.relay_core.specs.Sharing.{KeepsFrame}
 use Rattle.relay_core.specs.declared.system.System.{System}
-use Rattle.relay_model.specs.World.{Output}
+use Rattle.relay_model.specs.Terms.{Terms}
+use Rattle.relay_model.specs.World.{World, Output}
 use Rattle.article_verdict.specs.Config.{terms_of}
 use Rattle.relay_conf.specs.declared.settings.Config.{Config}
-use Rattle.relay_drill.specs.Fault.{PlayGives}
+use Rattle.relay_drill.specs.Fault.{FailGives, PlayGives}
 use Rattle.relay_drill.specs.Play.{Plays, Rests}
 use Rattle.relay_drill.specs.Play.{printed_all}
 use Rattle.relay_drill.specs.Print.{printed}
-use Rattle.relay_drill.specs.Progress.{Breaks, Goes, Halts, Performs}
+use Rattle.relay_drill.specs.Progress.{Breaks, Goes, Halts, Performs, Under}
 use Rattle.relay_drill.specs.Todo.{Todo}
 use Rattle.relay_drill.specs.declared.fault.DrillError.{DrillError}
 use Rattle.relay_drill.specs.declared.fault.DrillError.TheVariants as faults
@@ -32,52 +33,65 @@ both_gained first second before mid after one two =
     (sym (flat_map-append printed first second))
     (appends_both before mid after (printed_all first) (printed_all second) one two)
 
+-- what an error says holds where what it says of each case does
+fail_map : (error : DrillError) {halted broken halted' broken' : Type 0} → (halted → halted')
+    → (broken → broken') → FailGives error halted broken → FailGives error halted' broken'
+fail_map faults.Memory halts breaks gives = halts gives
+fail_map faults.Unwritten halts breaks gives = breaks gives
+fail_map (faults.Line number) halts breaks gives = gives
+fail_map faults.Unreadable halts breaks gives = gives
+
+-- What an answer says holds where what it says of each case does.
+pub gives_map : (result : Result (Unit {0}) DrillError)
+    {done halted broken done' halted' broken' : Type 0} → (done → done') → (halted → halted')
+    → (broken → broken') → PlayGives result done halted broken
+    → PlayGives result done' halted' broken'
+gives_map (Ok fine) goes halts breaks gives = goes gives
+gives_map (Err error) goes halts breaks gives = fail_map error halts breaks gives
+
 -- what an answer says where another call's error is passed on
 error_gives : (error : DrillError) (result : Result (Unit {0}) DrillError)
-    (done halted broken other : Type 0) → IsErr result → IsErrAnd result (λ e. e ≡ error)
-    → PlayGives (Err error) done halted broken → PlayGives result other halted broken
-error_gives error (Ok fine) done halted broken other is e gives = absurd (cc is)
-error_gives error (Err passed) done halted broken other is e gives =
-    let P : DrillError → Type 0 = λ it. PlayGives (Err it) other halted broken in
-    subst P (sym e) (stays error gives)
-  where
-    stays : (it : DrillError) → PlayGives (Err it) done halted broken
-        → PlayGives (Err it) other halted broken
-    stays faults.Memory gives = gives
-    stays faults.Unwritten gives = gives
-    stays (faults.Line number) gives = absurd gives
-    stays faults.Unreadable gives = absurd gives
+    (done halted broken : Type 0) → IsErr result → IsErrAnd result (λ e. e ≡ error)
+    → FailGives error halted broken → PlayGives result done halted broken
+error_gives error (Ok fine) done halted broken is e gives = absurd (cc is)
+error_gives error (Err passed) done halted broken is e gives =
+    let P : DrillError → Type 0 = λ it. FailGives it halted broken in
+    subst P (sym e) gives
 
 module _ {S : Type 0} {g : Ghosts S} where
-  -- Nothing was done.
-  pub goes_none : (todo : Todo) (relay : System S g) (held : Option (List ℕ))
-      → Goes todo todo relay relay held held
-  goes_none todo relay held w x under =
+  -- Something was passed over without an event, by a relay that agrees with the same worlds.
+  pub goes_past : (a b : Todo) (old new : System S g) (held : Option (List ℕ))
+      → ((w : Terms) (x : World) → Under w old x → Under w new x × Plays w a x [] [] x b)
+      → Goes a b old new held held
+  goes_past a b old new held past w x under =
+      let same = past w x under in
       record {
         events = [];
         outputs = [];
         world = x;
-        plays = Rests todo x;
-        under = under;
+        plays = same.1;
+        under = same.0;
         gained = appends_none held;
       }
+
+  -- Nothing was done.
+  pub goes_none : (todo : Todo) (relay : System S g) (held : Option (List ℕ))
+      → Goes todo todo relay relay held held
+  goes_none todo relay held =
+      goes_past todo todo relay relay held (λ w x under. (under, Rests todo x))
 
   -- Nothing was done, and no world can tell that the relay is another.
   pub goes_still : (todo : Todo) (old new : System S g) (held : Option (List ℕ))
       → AgreesStill old new → KeepsFrame old new → Goes todo todo old new held held
-  goes_still todo old new held still frame w x under =
-      let Q : Config → Type 0 = λ config. w ≡ terms_of config in
-      record {
-        events = [];
-        outputs = [];
-        world = x;
-        plays = Rests todo x;
-        under = record {
+  goes_still todo old new held still frame =
+      goes_past todo todo old new held (λ w x under.
+      let Q : Config → Type 0 = λ config. w ≡ terms_of config in (
+        record {
           terms = subst Q (sym frame.config) under.terms;
           agrees = still true x under.agrees;
-        };
-        gained = appends_none held;
-      }
+        },
+        Rests todo x,
+      ))
 
   -- One part was done, and then another.
   pub goes_on : (a b c : Todo) (old mid new : System S g) (before held after : Option (List ℕ))
@@ -149,25 +163,35 @@ module _ {S : Type 0} {g : Ghosts S} where
       (old mid new : System S g) (before held after : Option (List ℕ))
       → Goes a b old mid before held → Performs result b c mid new held after
       → Performs result a c old new before after
-  performs_on (Ok fine) a b c old mid new before held after first then =
-      goes_on a b c old mid new before held after first then
-  performs_on (Err faults.Memory) a b c old mid new before held after first then =
-      halts_later a b old mid before held after first then
-  performs_on (Err faults.Unwritten) a b c old mid new before held after first then =
-      breaks_later a b old mid before held after first then
-  performs_on (Err (faults.Line number)) a b c old mid new before held after first then =
-      absurd then
-  performs_on (Err faults.Unreadable) a b c old mid new before held after first then =
-      absurd then
+  performs_on result a b c old mid new before held after first =
+      gives_map result (goes_on a b c old mid new before held after first)
+      (halts_later a b old mid before held after first)
+      (breaks_later a b old mid before held after first)
 
-  -- One part was done, and then a call's error was passed on.
-  pub fails_on : (error : DrillError) (result : Result (Unit {0}) DrillError) (a b c d : Todo)
-      (old mid new last : System S g) (before held after : Option (List ℕ)) → IsErr result
-      → IsErrAnd result (λ e. e ≡ error) → Goes a b old mid before held
-      → Performs (Err error) b c mid new held after → Performs result a d old last before after
-  fails_on error result a b c d old mid new last before held after is e first then =
-      error_gives error result _ _ _ _ is e
-      (performs_on (Err error) a b c old mid new before held after first then)
+  -- One part was done up to what is another name of what follows.
+  pub goes_to : (a b b' : Todo) (old new : System S g) (before after : Option (List ℕ)) → b ≡ b'
+      → Goes a b old new before after → Goes a b' old new before after
+  goes_to a b b' old new before after same =
+      subst (λ (it : Todo). Goes a it old new before after) same
+
+  -- One part was done up to what stands before another, and then that was done.
+  pub goes_next : (a b b' c : Todo) (old mid new : System S g) (before held after : Option (List ℕ))
+      → b ≡ b' → Goes a b old mid before held → Goes b' c mid new held after
+      → Goes a c old new before after
+  goes_next a b b' c old mid new before held after same first =
+      goes_on a b' c old mid new before held after (goes_to a b b' old mid before held same first)
+
+  -- One part was done up to what stands before another, and then a call's error was passed on.
+  pub fails_next : (error : DrillError) (result : Result (Unit {0}) DrillError) (a b b' d : Todo)
+      (old mid last : System S g) (before held after : Option (List ℕ)) → IsErr result
+      → IsErrAnd result (λ e. e ≡ error) → b ≡ b' → Goes a b old mid before held
+      → FailGives error (Halts b' mid held after) (Breaks b' mid held after)
+      → Performs result a d old last before after
+  fails_next error result a b b' d old mid last before held after is e same first then =
+      let reached = goes_to a b b' old mid before held same first in
+      error_gives error result _ _ _ is e
+      (fail_map error (halts_later a b' old mid before held after reached)
+      (breaks_later a b' old mid before held after reached) then)
 
   -- One part was done, and then memory ran out.
   pub wants_memory : (result : Result (Unit {0}) DrillError) (a b d : Todo)
@@ -175,8 +199,8 @@ module _ {S : Type 0} {g : Ghosts S} where
       → IsErrAnd result (λ e. e ≡ faults.Memory) → Goes a b old mid before after
       → Performs result a d old last before after
   wants_memory result a b d old mid last before after is e first =
-      error_gives faults.Memory result (Unit {0}) _
-      (Breaks a old before after) _ is e (halts_there a b old mid before after first)
+      error_gives faults.Memory result _ _ (Breaks a old before after) is e
+      (halts_there a b old mid before after first)
 
   -- Writing failed.
   pub fails_unwritten : (result : Result (Unit {0}) DrillError) (a b : Todo)
@@ -184,4 +208,4 @@ module _ {S : Type 0} {g : Ghosts S} where
       → IsErrAnd result (λ e. e ≡ faults.Unwritten) → Breaks a old before after
       → Performs result a b old new before after
   fails_unwritten result a b old new before after is e breaks =
-      error_gives faults.Unwritten result (Unit {0}) (Halts a old before after) _ _ is e breaks
+      error_gives faults.Unwritten result _ (Halts a old before after) _ is e breaks

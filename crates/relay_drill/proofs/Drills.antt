@@ -26,6 +26,7 @@ use Rattle.relay_drill.specs.declared.fault.DrillError.{DrillError}
 use Rattle.relay_drill.specs.declared.fault.DrillError.TheVariants.{Memory, Unreadable, Unwritten}
 use Rattle.relay_drill.specs.declared.fault.DrillError.TheVariants as faults
 use Rattle.relay_drill.specs.declared.line.Line as code
+use Rattle.relay_drill.proofs.Courses.{gives_map}
 use Rattle.relay_drill.proofs.Prints.{appends_none}
 use Rattle.relay_drill.proofs.Writes.{keeps_same}
 
@@ -123,11 +124,9 @@ module _ {S : Type 0} {g : Ghosts S} where
       → Performs result a b old new before after → Under w old x
       → PlayGives result (Went w a b x new before after) (Halted w a x before after)
       (Broke w a x before after)
-  performs_at (Ok fine) a b old new before after w x performs under = performs w x under
-  performs_at (Err Memory) a b old new before after w x performs under = performs w x under
-  performs_at (Err Unwritten) a b old new before after w x performs under = performs w x under
-  performs_at (Err (faults.Line number)) a b old new before after w x performs under = performs
-  performs_at (Err Unreadable) a b old new before after w x performs under = performs
+  performs_at result a b old new before after w x performs under =
+      gives_map result (λ goes. goes w x under) (λ halts. halts w x under)
+      (λ breaks. breaks w x under) performs
 
   -- Where the lines were read and then played, the answer of that is the drill's.
   pub drill_gives : (config : Config) (new : System S g) (result : Result (Unit {0}) DrillError)

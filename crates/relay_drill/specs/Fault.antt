@@ -49,14 +49,18 @@ ScriptGives items (Err (faults.Line number)) says = says ≡ Err number
 ScriptGives items (Err faults.Unreadable) says = ⊥
 ScriptGives items (Err faults.Unwritten) says = ⊥
 
--- the answer says that all is done, that it was halted for want of memory, or that it was broken
--- off since the writer failed
+-- the error says that it was halted for want of memory, or that it was broken off since the writer
+-- failed
+abbrev pub FailGives : DrillError → (halted broken : Type 0) → Type 0
+FailGives faults.Memory halted broken = halted
+FailGives faults.Unwritten halted broken = broken
+FailGives (faults.Line number) halted broken = ⊥
+FailGives faults.Unreadable halted broken = ⊥
+
+-- the answer says that all is done, or why it isn't
 abbrev pub PlayGives : Result (Unit {0}) DrillError → (done halted broken : Type 0) → Type 0
 PlayGives (Ok fine) done halted broken = done
-PlayGives (Err faults.Memory) done halted broken = halted
-PlayGives (Err faults.Unwritten) done halted broken = broken
-PlayGives (Err (faults.Line number)) done halted broken = ⊥
-PlayGives (Err faults.Unreadable) done halted broken = ⊥
+PlayGives (Err error) done halted broken = FailGives error halted broken
 
 -- the answer is all that the reader has left, where that is known; without it memory ran out or the
 -- reader failed
