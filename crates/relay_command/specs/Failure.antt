@@ -29,8 +29,8 @@ abbrev pub words_status : ErrorKind → ℕ
 words_status OutOfMemory = 5
 words_status kind = 1
 
--- 1 for the command line, 2 for the configuration, 3 for the script or the token, 4 for the output,
--- 5 for memory
+-- 1 for the command line, 2 for the configuration, 3 for the script or the token, 4 for the output
+-- or a relay that can't start, 5 for memory
 abbrev pub status_of : Failure → ℕ
 status_of (Unbegun unbegun.Memory) = 5
 status_of (Unbegun unbegun.NoText) = 1
@@ -43,6 +43,7 @@ status_of (Drill drill.Memory) = 5
 status_of (Drill (drill.Line number)) = 3
 status_of (Drill drill.Unreadable) = 3
 status_of (Drill drill.Unwritten) = 4
+status_of (Drill drill.Unseeded) = 4
 status_of (Token token.Length) = 3
 status_of (Token token.Marks) = 3
 status_of (Token token.Digit) = 3

@@ -73,7 +73,8 @@ impl Failure {
             Failure::Token(TokenFault::Unwritten) => 4,
             Failure::Token(_) => 3,
             Failure::Unwritten => 4,
-            Failure::Check(CheckError::Unwritten) | Failure::Drill(DrillError::Unwritten) => 4,
+            Failure::Check(CheckError::Unwritten) => 4,
+            Failure::Drill(DrillError::Unwritten | DrillError::Unseeded) => 4,
             Failure::Unbegun(Unbegun::Memory) => 5,
             Failure::Check(CheckError::Memory) | Failure::Drill(DrillError::Memory) => 5,
         }

@@ -3,7 +3,7 @@ use Rattle.std.proofs.Common.{◌≡◌, ℕ, List, [], ◌∷◌, All, Option, 
 use Rattle.std.proofs.Common.{subst, sym, true, arith, slice_get, zero, suc}
 use Rattle.std.specs.Prelude.{IfSome}
 use Rattle.std.specs.Option.{option_map, unwrap_or}
-use Rattle.std.specs.Result.{IsErr, IsErrAnd}
+use Rattle.std.specs.Result.{IsErr, IsErrAnd, IsOk}
 use Rattle.article_verdict.specs.Config.{terms_of}
 use Rattle.block_shelf.specs.Filling.{failures_in}
 use Rattle.cyc_block.specs.declared.store.BlockStore.{Ghosts}
@@ -16,7 +16,10 @@ use Rattle.relay_model.specs.Terms.{Terms}
 use Rattle.relay_model.specs.World.{World, empty_world}
 use Rattle.relay_drill.specs.Drill.{DrillGives, ScriptHalts, asked_by, first_world}
 use Rattle.relay_drill.specs.Drill.{lines_of_script}
-use Rattle.relay_drill.specs.Fault.{PlayGives, ReadGives, ScriptGives}
+use Rattle.relay_drill.specs.Fault.{PlayGives, ReadGives, ScriptGives, unbegun_as}
+use Rattle.std.specs.declared.io.ErrorKind.{ErrorKind}
+use Rattle.std.specs.declared.io.ErrorKind.TheVariants.{OutOfMemory}
+use Rattle.std.proofs.Common.{◌⊎◌, inl, inr, ◌∙◌}
 use Rattle.relay_drill.specs.Play.{Rests}
 use Rattle.relay_drill.specs.Progress.{Broke, Halted, Performs, Under, Went}
 use Rattle.relay_drill.specs.Script.{Line}
@@ -24,6 +27,7 @@ use Rattle.relay_drill.specs.Stores.{AreStoresOf}
 use Rattle.relay_drill.specs.Todo.{Todo, Done}
 use Rattle.relay_drill.specs.declared.fault.DrillError.{DrillError}
 use Rattle.relay_drill.specs.declared.fault.DrillError.TheVariants.{Memory, Unreadable, Unwritten}
+use Rattle.relay_drill.specs.declared.fault.DrillError.TheVariants.{Unseeded}
 use Rattle.relay_drill.specs.declared.fault.DrillError.TheVariants as faults
 use Rattle.relay_drill.specs.declared.line.Line as code
 use Rattle.relay_drill.proofs.Courses.{gives_map}
@@ -77,6 +81,7 @@ unread items config Unreadable result script held is e read =
     passed config Unreadable result script held held is e (keeps_same held)
 unread items config (faults.Line number) result script held is e read = absurd read
 unread items config Unwritten result script held is e read = absurd read
+unread items config Unseeded result script held is e read = absurd read
 
 -- A bad line ends the drill with nothing written.
 pub bad_line : {L : Type 0} (items : L → List code.Line) (config : Config) (error : DrillError)
@@ -94,6 +99,29 @@ bad_line items config (faults.Line number) result (Some all) text held is e read
     (rw (← read) gives, keeps_same held)
 bad_line items config Unreadable result script text held is e read gives = absurd gives
 bad_line items config Unwritten result script text held is e read gives = absurd gives
+bad_line items config Unseeded result script text held is e read gives = absurd gives
+
+-- a relay that can't begin wants memory, or numbers to seed it with
+unbegun_or : (kind : ErrorKind) → (unbegun_as kind ≡ Memory) ⊎ (unbegun_as kind ≡ Unseeded)
+unbegun_or OutOfMemory = inl refl
+unbegun_or kind = inr refl
+
+-- A relay that can't begin ends the drill of a script without a bad line, with nothing written.
+pub unbegun : (config : Config) (kind : ErrorKind) (error : DrillError)
+    (script held : Option (List ℕ)) (text : List ℕ) (lines : List Line) → error ≡ unbegun_as kind
+    → IfSome script (λ all. text ≡ all) → lines_of_script config text ≡ Ok lines
+    → DrillGives config (Err error) script held held
+unbegun config kind error script held text lines is read says =
+    let P : DrillError → Type 0 = λ it. DrillGives config (Err it) script held held in
+    elim (unbegun_or kind) [
+      | inl memory ↦ subst P (sym (is ∙ memory)) (memory_at_once config script held)
+      | inr seed ↦ subst P (sym (is ∙ seed)) (good script read, keeps_same held)
+    ]
+  where
+    good : (known : Option (List ℕ)) → IfSome known (λ all. text ≡ all)
+        → IfSome known (λ all. IsOk (lines_of_script config all))
+    good None read = tt
+    good (Some all) read = rw (← read, says) refl
 
 -- Where no device of these has failed, none has.
 none_failed : {S : Type 0} (failures : S → ℕ) (stores : List S)
@@ -159,4 +187,6 @@ module _ {S : Type 0} {g : Ghosts S} where
   drill_gives config new (Err (faults.Line number)) script text lines before after is says went =
       absurd went
   drill_gives config new (Err Unreadable) script text lines before after is says went =
+      absurd went
+  drill_gives config new (Err Unseeded) script text lines before after is says went =
       absurd went

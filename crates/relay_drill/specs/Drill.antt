@@ -7,10 +7,12 @@ use Rattle.relay_model.specs.Run.{Event}
 use Rattle.relay_model.specs.World.{World, Output, empty_world}
 use Rattle.relay_drill.specs.Play.{Plays, printed_all}
 use Rattle.relay_drill.specs.Progress.{Broke, Halted}
+use Rattle.std.specs.Result.{IsOk}
 use Rattle.relay_drill.specs.Script.{Line, Names, script_of}
 use Rattle.relay_drill.specs.Todo.{Todo, Done, first_stand, lines_ask}
 use Rattle.relay_drill.specs.declared.fault.DrillError.{DrillError}
 use Rattle.relay_drill.specs.declared.fault.DrillError.TheVariants.{Memory, Unreadable, Unwritten}
+use Rattle.relay_drill.specs.declared.fault.DrillError.TheVariants.{Unseeded}
 use Rattle.relay_drill.specs.declared.fault.DrillError.TheVariants as faults
 
 -- the names that a script may use
@@ -56,7 +58,8 @@ ScriptBreaks config script before after =
     (lines : List Line) × (lines_of_script config script ≡ Ok lines)
     × Broke (terms_of config) (asked_by config lines) first_world before after
 
--- what the answer says of the script and of what the writer held before and holds after
+-- what the answer says of the script and of what the writer held before and holds after; that the
+-- relay wasn't seeded is said of a script without a bad line alone, and nothing was written
 abbrev pub DrillGives : Config → Result (Unit {0}) DrillError → Option (List ℕ)
     → Option (List ℕ) → Option (List ℕ) → Type 0
 DrillGives config (Ok done) script before after =
@@ -68,3 +71,5 @@ DrillGives config (Err (faults.Line number)) script before after =
 DrillGives config (Err Unreadable) script before after = Keeps before after
 DrillGives config (Err Unwritten) script before after =
     IfSome script (λ text. ScriptBreaks config text before after)
+DrillGives config (Err Unseeded) script before after =
+    IfSome script (λ text. IsOk (lines_of_script config text)) × Keeps before after

@@ -1,6 +1,8 @@
 -- What the reader of a script answers (docs/PROTOCOL.md, Program).
 use Rattle.std.specs.Prelude.{◌≡◌, ℕ, List, map, Option, None, Some, IfSome, Result, Ok, Err}
 use Rattle.std.specs.declared.alloc.AllocError.{AllocError}
+use Rattle.std.specs.declared.io.ErrorKind.{ErrorKind}
+use Rattle.std.specs.declared.io.ErrorKind.TheVariants.{OutOfMemory}
 use Rattle.relay_drill.specs.declared.fault.DrillError.{DrillError}
 use Rattle.relay_drill.specs.declared.fault.DrillError.TheVariants as faults
 use Rattle.relay_drill.specs.declared.script.Keyword.{Keyword}
@@ -48,6 +50,7 @@ ScriptGives items (Err faults.Memory) says = Unit {0}
 ScriptGives items (Err (faults.Line number)) says = says ≡ Err number
 ScriptGives items (Err faults.Unreadable) says = ⊥
 ScriptGives items (Err faults.Unwritten) says = ⊥
+ScriptGives items (Err faults.Unseeded) says = ⊥
 
 -- the error says that it was halted for want of memory, or that it was broken off since the writer
 -- failed
@@ -56,6 +59,7 @@ FailGives faults.Memory halted broken = halted
 FailGives faults.Unwritten halted broken = broken
 FailGives (faults.Line number) halted broken = ⊥
 FailGives faults.Unreadable halted broken = ⊥
+FailGives faults.Unseeded halted broken = ⊥
 
 -- the answer says that all is done, or why it isn't
 abbrev pub PlayGives : Result (Unit {0}) DrillError → (done halted broken : Type 0) → Type 0
@@ -70,3 +74,9 @@ ReadGives items (Err faults.Memory) left = Unit {0}
 ReadGives items (Err faults.Unreadable) left = Unit {0}
 ReadGives items (Err (faults.Line number)) left = ⊥
 ReadGives items (Err faults.Unwritten) left = ⊥
+ReadGives items (Err faults.Unseeded) left = ⊥
+
+-- why a relay can't begin: memory ran out, or the system has no random numbers
+abbrev pub unbegun_as : ErrorKind → DrillError
+unbegun_as OutOfMemory = faults.Memory
+unbegun_as kind = faults.Unseeded

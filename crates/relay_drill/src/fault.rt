@@ -21,6 +21,8 @@ pub enum DrillError {
     Unreadable,
     /// The writer failed. What was written before stands.
     Unwritten,
+    /// The system had no random numbers to seed the relay's tables with. Nothing ran.
+    Unseeded,
 }
 
 impl Display for DrillError {
@@ -32,6 +34,7 @@ impl Display for DrillError {
             DrillError::Line(line) => write!(formatter, "script:{line}: fault"),
             DrillError::Unreadable => formatter.write_str("script: unreadable"),
             DrillError::Unwritten => formatter.write_str("stdout: unwritten"),
+            DrillError::Unseeded => formatter.write_str("relay: no random numbers to be had"),
         }
     }
 }

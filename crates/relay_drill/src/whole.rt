@@ -1,7 +1,7 @@
 //! Reading a script whole, and running it over memory (docs/PROTOCOL.md, The call `drill`).
-ghost use Rattle.std.specs.Prelude.{vec_items, IfOk};
+ghost use Rattle.std.specs.Prelude.{◌≡◌, vec_items, IfOk};
 ghost use Rattle.relay_drill.specs.Drill.{DrillGives};
-ghost use Rattle.relay_drill.specs.Fault.{ReadGives};
+ghost use Rattle.relay_drill.specs.Fault.{ReadGives, unbegun_as};
 ghost use Rattle.relay_drill.specs.Stores.{AreStoresOf};
 
 use crate::fault::DrillError;
@@ -39,10 +39,17 @@ pub fn drill<R: Read, W: Write>(
     let groups = config.buffers.groups.len();
     match System::new(rt, alloc, config, stores) {
         Ok(mut relay) => play(alloc, &mut relay, groups, &lines, writer),
-        Err(error) => match error.kind() {
-            ErrorKind::OutOfMemory => Err(DrillError::Memory),
-            _ => Err(DrillError::Unreadable),
-        },
+        Err(error) => Err(unbegun(error.kind())),
+    }
+}
+
+/// Why a relay could not begin.
+fn unbegun(kind: ErrorKind) -> DrillError
+    ensures { result ≡ unbegun_as kind }
+{
+    match kind {
+        ErrorKind::OutOfMemory => DrillError::Memory,
+        _ => DrillError::Unseeded,
     }
 }
 
