@@ -1,7 +1,7 @@
 -- How far the code has come: one part after the other, and where it was broken off.
 use Rattle.std.proofs.Common.{◌≡◌, ℕ, true, List, [], ◌∷◌, ◌++◌, Option, Result}
 use Rattle.std.proofs.Common.{Ok, Err}
-use Rattle.std.proofs.Common.{sym, subst, append_assoc}
+use Rattle.std.proofs.Common.{sym, subst, append_assoc, ◌∙◌}
 use Rattle.std.proofs.lemmas.Grind.{flat_map-append}
 use Rattle.std.specs.Io.KnownBytes.{Appends}
 use Rattle.std.specs.Result.{IsErr, IsErrAnd}
@@ -9,14 +9,11 @@ use Rattle.cyc_block.specs.declared.store.BlockStore.{Ghosts}
 use Rattle.relay_core.specs.Arming.{AgreesStill}
 use Rattle.relay_core.specs.Sharing.{KeepsFrame}
 use Rattle.relay_core.specs.declared.system.System.{System}
-use Rattle.relay_model.specs.Terms.{Terms}
-use Rattle.relay_model.specs.World.{World, Output}
-use Rattle.article_verdict.specs.Config.{terms_of}
+use Rattle.relay_model.specs.World.{World}
 use Rattle.relay_conf.specs.declared.settings.Config.{Config}
 use Rattle.relay_drill.specs.Fault.{FailGives, PlayGives}
 use Rattle.relay_drill.specs.Play.{Plays, Rests}
-use Rattle.relay_drill.specs.Play.{printed_all}
-use Rattle.relay_drill.specs.Print.{printed}
+use Rattle.relay_drill.specs.Print.{Told, printed_all, told_text}
 use Rattle.relay_drill.specs.Progress.{Breaks, Goes, Halts, Performs, Under}
 use Rattle.relay_drill.specs.Todo.{Todo}
 use Rattle.relay_drill.specs.declared.fault.DrillError.{DrillError}
@@ -24,13 +21,13 @@ use Rattle.relay_drill.specs.declared.fault.DrillError.TheVariants as faults
 use Rattle.relay_drill.proofs.Plays.{plays_on}
 use Rattle.relay_drill.proofs.Prints.{appends_both, appends_none}
 
--- the text of outputs and of those that follow is written in two steps
-both_gained : (first second : List Output) (before mid after : Option (List ℕ))
+-- the text of told and of those that follow is written in two steps
+both_gained : (first second : List Told) (before mid after : Option (List ℕ))
     → Appends before mid (printed_all first) → Appends mid after (printed_all second)
     → Appends before after (printed_all (first ++ second))
 both_gained first second before mid after one two =
     subst (λ (text : List ℕ). Appends before after text)
-    (sym (flat_map-append printed first second))
+    (sym (flat_map-append told_text first second))
     (appends_both before mid after (printed_all first) (printed_all second) one two)
 
 -- what an error says holds where what it says of each case does
@@ -62,13 +59,13 @@ error_gives error (Err passed) done halted broken is e gives =
 module _ {S : Type 0} {g : Ghosts S} where
   -- Something was passed over without an event, by a relay that agrees with the same worlds.
   pub goes_past : (a b : Todo) (old new : System S g) (held : Option (List ℕ))
-      → ((w : Terms) (x : World) → Under w old x → Under w new x × Plays w a x [] [] x b)
+      → ((config : Config) (x : World) → Under config old x → Under config new x × Plays config a x [] [] x b)
       → Goes a b old new held held
-  goes_past a b old new held past w x under =
-      let same = past w x under in
+  goes_past a b old new held past config x under =
+      let same = past config x under in
       record {
         events = [];
-        outputs = [];
+        told = [];
         world = x;
         plays = same.1;
         under = same.0;
@@ -79,16 +76,15 @@ module _ {S : Type 0} {g : Ghosts S} where
   pub goes_none : (todo : Todo) (relay : System S g) (held : Option (List ℕ))
       → Goes todo todo relay relay held held
   goes_none todo relay held =
-      goes_past todo todo relay relay held (λ w x under. (under, Rests todo x))
+      goes_past todo todo relay relay held (λ config x under. (under, Rests todo x))
 
   -- Nothing was done, and no world can tell that the relay is another.
   pub goes_still : (todo : Todo) (old new : System S g) (held : Option (List ℕ))
       → AgreesStill old new → KeepsFrame old new → Goes todo todo old new held held
   goes_still todo old new held still frame =
-      goes_past todo todo old new held (λ w x under.
-      let Q : Config → Type 0 = λ config. w ≡ terms_of config in (
+      goes_past todo todo old new held (λ config x under. (
         record {
-          terms = subst Q (sym frame.config) under.terms;
+          configured = under.configured ∙ sym frame.config;
           agrees = still true x under.agrees;
         },
         Rests todo x,
@@ -97,26 +93,26 @@ module _ {S : Type 0} {g : Ghosts S} where
   -- One part was done, and then another.
   pub goes_on : (a b c : Todo) (old mid new : System S g) (before held after : Option (List ℕ))
       → Goes a b old mid before held → Goes b c mid new held after → Goes a c old new before after
-  goes_on a b c old mid new before held after first second w x under =
-      let one = first w x under in
-      let two = second w one.world one.under in
+  goes_on a b c old mid new before held after first second config x under =
+      let one = first config x under in
+      let two = second config one.world one.under in
       record {
         events = one.events ++ two.events;
-        outputs = one.outputs ++ two.outputs;
+        told = one.told ++ two.told;
         world = two.world;
         plays = plays_on one.plays two.plays;
         under = two.under;
-        gained = both_gained one.outputs two.outputs before held after one.gained two.gained;
+        gained = both_gained one.told two.told before held after one.gained two.gained;
       }
 
   -- What was done may have been halted there.
   pub halts_there : (a b : Todo) (old new : System S g) (before after : Option (List ℕ))
       → Goes a b old new before after → Halts a old before after
-  halts_there a b old new before after goes w x under =
-      let one = goes w x under in
+  halts_there a b old new before after goes config x under =
+      let one = goes config x under in
       record {
         events = one.events;
-        outputs = one.outputs;
+        told = one.told;
         world = one.world;
         left = b;
         plays = one.plays;
@@ -126,36 +122,36 @@ module _ {S : Type 0} {g : Ghosts S} where
   -- One part was done, and then it was halted.
   pub halts_later : (a b : Todo) (old mid : System S g) (before held after : Option (List ℕ))
       → Goes a b old mid before held → Halts b mid held after → Halts a old before after
-  halts_later a b old mid before held after first second w x under =
-      let one = first w x under in
-      let two = second w one.world one.under in
+  halts_later a b old mid before held after first second config x under =
+      let one = first config x under in
+      let two = second config one.world one.under in
       record {
         events = one.events ++ two.events;
-        outputs = one.outputs ++ two.outputs;
+        told = one.told ++ two.told;
         world = two.world;
         left = two.left;
         plays = plays_on one.plays two.plays;
-        gained = both_gained one.outputs two.outputs before held after one.gained two.gained;
+        gained = both_gained one.told two.told before held after one.gained two.gained;
       }
 
   -- One part was done, and then it was broken off.
   pub breaks_later : (a b : Todo) (old mid : System S g) (before held after : Option (List ℕ))
       → Goes a b old mid before held → Breaks b mid held after → Breaks a old before after
-  breaks_later a b old mid before held after first second w x under =
-      let one = first w x under in
-      let two = second w one.world one.under in
-      let P : List Output → Type 0 = λ outputs.
-      Plays w a x (one.events ++ two.events) outputs two.world two.left in
+  breaks_later a b old mid before held after first second config x under =
+      let one = first config x under in
+      let two = second config one.world one.under in
+      let P : List Told → Type 0 = λ told.
+      Plays config a x (one.events ++ two.events) told two.world two.left in
       record {
         events = one.events ++ two.events;
-        outputs = one.outputs ++ two.outputs;
+        told = one.told ++ two.told;
         last = two.last;
         world = two.world;
         left = two.left;
-        plays = subst P (sym (append_assoc one.outputs two.outputs (two.last ∷ [])))
+        plays = subst P (sym (append_assoc one.told two.told (two.last ∷ [])))
             (plays_on one.plays two.plays);
         mid = two.mid;
-        gained = both_gained one.outputs two.outputs before held two.mid one.gained two.gained;
+        gained = both_gained one.told two.told before held two.mid one.gained two.gained;
         written = two.written;
       }
 

@@ -4,7 +4,6 @@ use Rattle.std.proofs.Common.{subst, sym, true, arith, slice_get, zero, suc}
 use Rattle.std.specs.Prelude.{IfSome}
 use Rattle.std.specs.Option.{option_map, unwrap_or}
 use Rattle.std.specs.Result.{IsErr, IsErrAnd, IsOk}
-use Rattle.article_verdict.specs.Config.{terms_of}
 use Rattle.block_shelf.specs.Filling.{failures_in}
 use Rattle.cyc_block.specs.declared.store.BlockStore.{Ghosts}
 use Rattle.relay_conf.specs.declared.cycbuff.BufferConf.{BufferConf}
@@ -12,7 +11,6 @@ use Rattle.relay_conf.specs.declared.settings.Config.{Config}
 use Rattle.relay_core.specs.Agreement.{Agrees}
 use Rattle.relay_core.specs.Beginning.{BeginsOver}
 use Rattle.relay_core.specs.declared.system.System.{System}
-use Rattle.relay_model.specs.Terms.{Terms}
 use Rattle.relay_model.specs.World.{World, empty_world}
 use Rattle.relay_drill.specs.Drill.{DrillGives, ScriptHalts, asked_by, first_world}
 use Rattle.relay_drill.specs.Drill.{lines_of_script}
@@ -46,7 +44,7 @@ halted_at_once : (config : Config) (says : Result (List Line) ℕ) (held : Optio
 halted_at_once config (Ok lines) held =
     record {
       events = [];
-      outputs = [];
+      told = [];
       world = first_world;
       left = asked_by config lines;
       plays = Rests (asked_by config lines) first_world;
@@ -136,34 +134,34 @@ module _ {S : Type 0} {g : Ghosts S} where
   -- Over stores that are as new a relay agrees with the first world.
   pub begun : (config : Config) (buffers : List BufferConf) (stores : List S)
       (relay : System S g) → AreStoresOf g buffers stores → BeginsOver config stores relay
-      → Under (terms_of config) relay first_world
+      → Under config relay first_world
   begun config buffers stores relay made begins =
       let none : failures_in g stores ≡ (λ device. 0) =
       λ i device. none_failed g.failures stores made.well device i in
       record {
-        terms = subst (λ (it : Config). terms_of config ≡ terms_of it) (sym begins.config_is) refl;
+        configured = sym begins.config_is;
         agrees = subst (λ (failures : ℕ → ℕ). Agrees true relay (empty_world failures)) none
             (begins.agrees true (λ is. made.honest));
       }
 
   -- What a call says of every world it says of this.
   pub performs_at : (result : Result (Unit {0}) DrillError) (a b : Todo)
-      (old new : System S g) (before after : Option (List ℕ)) (w : Terms) (x : World)
-      → Performs result a b old new before after → Under w old x
-      → PlayGives result (Went w a b x new before after) (Halted w a x before after)
-      (Broke w a x before after)
-  performs_at result a b old new before after w x performs under =
-      gives_map result (λ goes. goes w x under) (λ halts. halts w x under)
-      (λ breaks. breaks w x under) performs
+      (old new : System S g) (before after : Option (List ℕ)) (config : Config) (x : World)
+      → Performs result a b old new before after → Under config old x
+      → PlayGives result (Went config a b x new before after) (Halted config a x before after)
+      (Broke config a x before after)
+  performs_at result a b old new before after config x performs under =
+      gives_map result (λ goes. goes config x under) (λ halts. halts config x under)
+      (λ breaks. breaks config x under) performs
 
   -- Where the lines were read and then played, the answer of that is the drill's.
   pub drill_gives : (config : Config) (new : System S g) (result : Result (Unit {0}) DrillError)
       (script : Option (List ℕ)) (text : List ℕ) (lines : List Line)
       (before after : Option (List ℕ)) → IfSome script (λ all. text ≡ all)
       → lines_of_script config text ≡ Ok lines
-      → PlayGives result (Went (terms_of config) (asked_by config lines) Done first_world new
-      before after) (Halted (terms_of config) (asked_by config lines) first_world before after)
-      (Broke (terms_of config) (asked_by config lines) first_world before after)
+      → PlayGives result (Went config (asked_by config lines) Done first_world new
+      before after) (Halted config (asked_by config lines) first_world before after)
+      (Broke config (asked_by config lines) first_world before after)
       → DrillGives config result script before after
   drill_gives config new (Ok done) None text lines before after is says went = tt
   drill_gives config new (Ok done) (Some all) text lines before after is says went =
@@ -171,7 +169,7 @@ module _ {S : Type 0} {g : Ghosts S} where
         lines = lines;
         is_script = rw (← is) says;
         events = went.events;
-        outputs = went.outputs;
+        told = went.told;
         world = went.world;
         played = went.plays;
         written = went.gained;

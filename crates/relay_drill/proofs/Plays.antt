@@ -2,46 +2,52 @@
 use Rattle.std.proofs.Common.{List, ◌++◌, refl}
 use Rattle.relay_model.specs.Run as run
 use Rattle.relay_model.specs.Run.{Run}
-use Rattle.relay_model.specs.Terms.{Terms}
-use Rattle.relay_model.specs.World.{World, Output}
+use Rattle.relay_model.specs.World.{World}
+use Rattle.article_verdict.specs.Config.{terms_of}
+use Rattle.relay_conf.specs.declared.settings.Config.{Config}
+use Rattle.relay_drill.specs.Print.{Told, answers_of}
 use Rattle.relay_drill.specs.Play.{Plays, Rests, HasDone, HasTurned, IsClosed, HasOpened}
-use Rattle.relay_drill.specs.Play.{HasNotOpened}
+use Rattle.relay_drill.specs.Play.{HasNotOpened, HasReported}
 use Rattle.relay_drill.specs.Todo.{Todo}
 
 -- Where one part was done, and then another of what it left, both were.
-pub plays_on : {w : Terms} {a b c : Todo} {x y z : World} {events events' : List run.Event}
-    {outputs outputs' : List Output} → Plays w a x events outputs y b
-    → Plays w b y events' outputs' z c → Plays w a x (events ++ events') (outputs ++ outputs') z c
+pub plays_on : {config : Config} {a b c : Todo} {x y z : World} {events events' : List run.Event}
+    {told told' : List Told} → Plays config a x events told y b
+    → Plays config b y events' told' z c → Plays config a x (events ++ events') (told ++ told') z c
 plays_on (Rests todo x) next = next
-plays_on {c = c} {z = z} {events' = events'} {outputs' = outputs'}
-    (HasDone event more x mid output events outputs x' left step rest) next =
-    HasDone event more x mid output (events ++ events') (outputs ++ outputs') z c step
+plays_on {c = c} {z = z} {events' = events'} {told' = told'}
+    (HasDone event more x mid output events told x' left step rest) next =
+    HasDone event more x mid output (events ++ events') (told ++ told') z c step
     (plays_on rest next)
-plays_on {c = c} {z = z} {events' = events'} {outputs' = outputs'}
-    (HasTurned s m more x events outputs x' left runs rest) next =
-    HasTurned s m more x (events ++ events') (outputs ++ outputs') z c runs (plays_on rest next)
-plays_on {c = c} {z = z} {events' = events'} {outputs' = outputs'}
-    (IsClosed s m more x events outputs x' left closed rest) next =
-    IsClosed s m more x (events ++ events') (outputs ++ outputs') z c closed (plays_on rest next)
-plays_on {c = c} {z = z} {events' = events'} {outputs' = outputs'}
-    (HasOpened s p opened refused x events output outputs x' left told rest) next =
-    HasOpened s p opened refused x (events ++ events') output (outputs ++ outputs') z c told
+plays_on {c = c} {z = z} {events' = events'} {told' = told'}
+    (HasTurned s m more x events told x' left runs rest) next =
+    HasTurned s m more x (events ++ events') (told ++ told') z c runs (plays_on rest next)
+plays_on {c = c} {z = z} {events' = events'} {told' = told'}
+    (IsClosed s m more x events told x' left closed rest) next =
+    IsClosed s m more x (events ++ events') (told ++ told') z c closed (plays_on rest next)
+plays_on {c = c} {z = z} {events' = events'} {told' = told'}
+    (HasReported more x text events told x' left reports rest) next =
+    HasReported more x text (events ++ events') (told ++ told') z c reports (plays_on rest next)
+plays_on {c = c} {z = z} {events' = events'} {told' = told'}
+    (HasOpened s p opened refused x events output told x' left said rest) next =
+    HasOpened s p opened refused x (events ++ events') output (told ++ told') z c said
     (plays_on rest next)
-plays_on {c = c} {z = z} {events' = events'} {outputs' = outputs'}
-    (HasNotOpened s p opened refused x events output outputs x' left told rest) next =
-    HasNotOpened s p opened refused x (events ++ events') output (outputs ++ outputs') z c told
+plays_on {c = c} {z = z} {events' = events'} {told' = told'}
+    (HasNotOpened s p opened refused x events output told x' left said rest) next =
+    HasNotOpened s p opened refused x (events ++ events') output (told ++ told') z c said
     (plays_on rest next)
 
 -- What was done is a run of the relay.
-pub plays_run : {w : Terms} {todo : Todo} {x : World} {events : List run.Event}
-    {outputs : List Output} {x' : World} {left : Todo} → Plays w todo x events outputs x' left
-    → Run w x events outputs x'
+pub plays_run : {config : Config} {todo : Todo} {x : World} {events : List run.Event}
+    {told : List Told} {x' : World} {left : Todo} → Plays config todo x events told x' left
+    → Run (terms_of config) x events (answers_of told) x'
 plays_run (Rests todo x) = refl
-plays_run (HasDone event more x mid output events outputs x' left step rest) =
+plays_run (HasDone event more x mid output events told x' left step rest) =
     (mid, step, plays_run rest)
-plays_run (HasTurned s m more x events outputs x' left runs rest) = plays_run rest
-plays_run (IsClosed s m more x events outputs x' left closed rest) = plays_run rest
-plays_run (HasOpened s p opened refused x events output outputs x' left told rest) =
+plays_run (HasTurned s m more x events told x' left runs rest) = plays_run rest
+plays_run (IsClosed s m more x events told x' left closed rest) = plays_run rest
+plays_run (HasReported more x text events told x' left reports rest) = plays_run rest
+plays_run (HasOpened s p opened refused x events output told x' left said rest) =
     plays_run rest
-plays_run (HasNotOpened s p opened refused x events output outputs x' left told rest) =
+plays_run (HasNotOpened s p opened refused x events output told x' left said rest) =
     plays_run rest

@@ -1,11 +1,11 @@
 -- What a drill writes (docs/PROTOCOL.md, The call `drill`).
 use Rattle.std.specs.Prelude.{◌≡◌, ℕ, List, map, vec_len, Option, IfSome, Result, Ok, Err}
 use Rattle.std.specs.Io.KnownBytes.{Appends, Keeps}
-use Rattle.article_verdict.specs.Config.{terms_of}
 use Rattle.relay_conf.specs.declared.settings.Config.{Config}
 use Rattle.relay_model.specs.Run.{Event}
-use Rattle.relay_model.specs.World.{World, Output, empty_world}
-use Rattle.relay_drill.specs.Play.{Plays, printed_all}
+use Rattle.relay_model.specs.World.{World, empty_world}
+use Rattle.relay_drill.specs.Play.{Plays}
+use Rattle.relay_drill.specs.Print.{Told, printed_all}
 use Rattle.relay_drill.specs.Progress.{Broke, Halted}
 use Rattle.std.specs.Result.{IsOk}
 use Rattle.relay_drill.specs.Script.{Line, Names, script_of}
@@ -35,28 +35,28 @@ asked_by config lines = lines_ask (vec_len config.buffers.groups) lines first_st
 abbrev pub first_world : World
 first_world = empty_world (λ device. 0)
 
--- The whole script ran, from a relay that nothing came to, and what its outputs print was written.
+-- The whole script ran, from a relay that nothing came to, and what was told of it was written.
 pub record Ran (config : Config) (script : List ℕ) (before after : Option (List ℕ)) : Type 0 where
   pub lines : List Line
   pub is_script : lines_of_script config script ≡ Ok lines
   pub events : List Event
-  pub outputs : List Output
+  pub told : List Told
   pub world : World
-  pub played : Plays (terms_of config) (asked_by config lines) first_world events outputs world Done
-  pub written : Appends before after (printed_all outputs)
+  pub played : Plays config (asked_by config lines) first_world events told world Done
+  pub written : Appends before after (printed_all told)
 
 -- of a script that says these lines some was done, and all was written that this prints; of one
 -- with a bad line nothing was written
 abbrev pub ScriptHalts : Config → Result (List Line) ℕ → Option (List ℕ) → Option (List ℕ) → Type 0
 ScriptHalts config (Ok lines) before after =
-    Halted (terms_of config) (asked_by config lines) first_world before after
+    Halted config (asked_by config lines) first_world before after
 ScriptHalts config (Err number) before after = Keeps before after
 
 -- of a script that says these lines some was done, and a front was written of what this prints
 abbrev pub ScriptBreaks : Config → List ℕ → Option (List ℕ) → Option (List ℕ) → Type 0
 ScriptBreaks config script before after =
     (lines : List Line) × (lines_of_script config script ≡ Ok lines)
-    × Broke (terms_of config) (asked_by config lines) first_world before after
+    × Broke config (asked_by config lines) first_world before after
 
 -- what the answer says of the script and of what the writer held before and holds after; that the
 -- relay wasn't seeded is said of a script without a bad line alone, and nothing was written

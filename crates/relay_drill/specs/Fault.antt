@@ -9,7 +9,7 @@ use Rattle.relay_drill.specs.declared.script.Keyword.{Keyword}
 use Rattle.relay_drill.specs.declared.script.Keyword.TheVariants as keywords
 use Rattle.relay_drill.specs.declared.line.Line.{Line}
 use Rattle.relay_drill.specs.declared.line.Line.TheVariants.{Open, Bring, Split, Turn, Write}
-use Rattle.relay_drill.specs.declared.line.Line.TheVariants.{Rounds, Break, Fail}
+use Rattle.relay_drill.specs.declared.line.Line.TheVariants.{Rounds, Break, Fail, Report}
 use Rattle.relay_drill.specs.Script as script
 
 -- a keyword as the format has it
@@ -23,6 +23,7 @@ keyword_view keywords.Write = script.WRITE
 keyword_view keywords.Rounds = script.ROUNDS
 keyword_view keywords.Break = script.BREAK
 keyword_view keywords.Fail = script.FAIL
+keyword_view keywords.Report = script.REPORT
 
 -- a line as the format has it
 abbrev pub line_view : Line → script.Line
@@ -34,6 +35,7 @@ line_view (Write group moment) = script.Writes group moment
 line_view (Rounds count moment) = script.Rounds count moment
 line_view (Break session) = script.Breaks session
 line_view (Fail buffer call) = script.Fails buffer call
+line_view Report = script.Reports
 
 -- the answer is the line that the words say, or None where they are bad, unless memory ran out
 abbrev pub LineGives : Result (Option Line) AllocError → Option script.Line → Type 0

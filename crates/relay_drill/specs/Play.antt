@@ -1,12 +1,14 @@
--- What of a script is done: the events, what each was answered, and the world after them.
-use Rattle.std.specs.Prelude.{◌≡◌, ℕ, Bool, true, false, List, [], ◌∷◌, flat_map}
+-- What of a script is done: the events, what is told of each, and the world after them.
+use Rattle.std.specs.Prelude.{◌≡◌, ℕ, Bool, true, false, List, [], ◌∷◌}
+use Rattle.article_verdict.specs.Config.{terms_of}
+use Rattle.relay_conf.specs.declared.settings.Config.{Config}
 use Rattle.relay_model.specs.Run as run
 use Rattle.relay_model.specs.Run.{Step, is_running, is_there}
-use Rattle.relay_model.specs.Terms.{Terms}
 use Rattle.relay_model.specs.World as world
 use Rattle.relay_model.specs.World.{World, Output}
-use Rattle.relay_drill.specs.Print.{printed}
-use Rattle.relay_drill.specs.Todo.{Todo, Next, TurnOf, Opening}
+use Rattle.relay_report.specs.Report.{ReportsOn}
+use Rattle.relay_drill.specs.Print.{Told, Answered, Reported}
+use Rattle.relay_drill.specs.Todo.{Todo, Next, TurnOf, Report, Opening}
 
 -- the event was refused
 abbrev pub is_refused : Output → Bool
@@ -15,42 +17,45 @@ is_refused (world.Sent session octets) = false
 is_refused (world.Ended session octets) = false
 is_refused (world.Refuses fault) = true
 
--- From a world these events are done of what is to be done, each as the relay may do it, and
--- answered so; then the world is this, and that is left to be done.
-pub data Plays (w : Terms)
-    : Todo → World → List run.Event → List Output → World → Todo → Type 0 where
+-- From a world a relay of this configuration does these events of what is to be done, each as it
+-- may, and this is told; then the world is this, and that is left to be done.
+pub data Plays (config : Config)
+    : Todo → World → List run.Event → List Told → World → Todo → Type 0 where
   -- nothing more is done
-  Rests : (todo : Todo) (x : World) → Plays w todo x [] [] x todo
+  Rests : (todo : Todo) (x : World) → Plays config todo x [] [] x todo
   -- the next event is done
   HasDone : (event : run.Event) (more : Todo) (x mid : World) (output : Output)
-      (events : List run.Event) (outputs : List Output) (x' : World) (left : Todo)
-      → Step w x event output mid → Plays w more mid events outputs x' left
-      → Plays w (Next event more) x (event ∷ events) (output ∷ outputs) x' left
+      (events : List run.Event) (told : List Told) (x' : World) (left : Todo)
+      → Step (terms_of config) x event output mid → Plays config more mid events told x' left
+      → Plays config (Next event more) x (event ∷ events) (Answered output ∷ told) x' left
   -- a session that isn't closed has its Turn
   HasTurned : (session moment : ℕ) (more : Todo) (x : World) (events : List run.Event)
-      (outputs : List Output) (x' : World) (left : Todo)
+      (told : List Told) (x' : World) (left : Todo)
       → is_there is_running (x.state.session session) ≡ true
-      → Plays w (Next (run.Turn session moment) more) x events outputs x' left
-      → Plays w (TurnOf session moment more) x events outputs x' left
+      → Plays config (Next (run.Turn session moment) more) x events told x' left
+      → Plays config (TurnOf session moment more) x events told x' left
   -- one that is closed has none
   IsClosed : (session moment : ℕ) (more : Todo) (x : World) (events : List run.Event)
-      (outputs : List Output) (x' : World) (left : Todo)
+      (told : List Told) (x' : World) (left : Todo)
       → is_there is_running (x.state.session session) ≡ false
-      → Plays w more x events outputs x' left
-      → Plays w (TurnOf session moment more) x events outputs x' left
+      → Plays config more x events told x' left
+      → Plays config (TurnOf session moment more) x events told x' left
+  -- what the relay reports is told, and the world stays as it is
+  HasReported : (more : Todo) (x : World) (text : List ℕ) (events : List run.Event)
+      (told : List Told) (x' : World) (left : Todo) → ReportsOn config x.state text
+      → Plays config more x events told x' left
+      → Plays config (Report more) x events (Reported text ∷ told) x' left
   -- a session is opened
   HasOpened : (session peer : ℕ) (opened refused : Todo) (x : World) (events : List run.Event)
-      (output : Output) (outputs : List Output) (x' : World) (left : Todo)
+      (output : Output) (told : List Told) (x' : World) (left : Todo)
       → is_refused output ≡ false
-      → Plays w (Next (run.Open session peer) opened) x events (output ∷ outputs) x' left
-      → Plays w (Opening session peer opened refused) x events (output ∷ outputs) x' left
+      → Plays config (Next (run.Open session peer) opened) x events (Answered output ∷ told) x'
+      left → Plays config (Opening session peer opened refused) x events
+      (Answered output ∷ told) x' left
   -- a session is refused to open
   HasNotOpened : (session peer : ℕ) (opened refused : Todo) (x : World)
-      (events : List run.Event) (output : Output) (outputs : List Output) (x' : World)
-      (left : Todo) → is_refused output ≡ true
-      → Plays w (Next (run.Open session peer) refused) x events (output ∷ outputs) x' left
-      → Plays w (Opening session peer opened refused) x events (output ∷ outputs) x' left
-
--- what the outputs print, one after the other
-abbrev pub printed_all : List Output → List ℕ
-printed_all outputs = flat_map printed outputs
+      (events : List run.Event) (output : Output) (told : List Told) (x' : World) (left : Todo)
+      → is_refused output ≡ true
+      → Plays config (Next (run.Open session peer) refused) x events (Answered output ∷ told) x'
+      left → Plays config (Opening session peer opened refused) x events
+      (Answered output ∷ told) x' left

@@ -44,3 +44,23 @@ printed (Sent session octets) = session_lines session octets
 printed (Ended session octets) =
     session_lines session octets ++ session_line session (codes "closed")
 printed (Refuses fault) = printed_line (codes "refused " ++ fault_text fault)
+
+-- what a drill tells: what an event is answered, or the report of the relay as it is
+pub data Told : Type 0 where
+  Answered : (output : Output) → Told
+  Reported : (text : List ℕ) → Told
+
+-- what is printed of it; a report as it stands
+abbrev pub told_text : Told → List ℕ
+told_text (Answered output) = printed output
+told_text (Reported text) = text
+
+-- what is printed, one after the other
+abbrev pub printed_all : List Told → List ℕ
+printed_all told = flat_map told_text told
+
+-- what events are answered
+abbrev pub answers_of : List Told → List Output
+answers_of [] = []
+answers_of (Answered output ∷ told) = output ∷ answers_of told
+answers_of (Reported text ∷ told) = answers_of told

@@ -26,6 +26,8 @@ pub data Line : Type 0 where
   Breaks : (session : ℕ) → Line
   -- this call of a buffer's device fails, counted from here
   Fails : (buffer call : ℕ) → Line
+  -- the report is printed
+  Reports : Line
 
 -- The names that a script may use, each list in the order of its numbers.
 pub record Names : Type 0 where
@@ -43,6 +45,7 @@ pub data Keyword : Type 0 where
   ROUNDS : Keyword
   BREAK : Keyword
   FAIL : Keyword
+  REPORT : Keyword
 
 -- the keyword that the word is
 abbrev pub keyword_of : List ℕ → Option Keyword
@@ -56,6 +59,7 @@ keyword_of word =
     else if bytes_eq word (codes "rounds") then Some ROUNDS
     else if bytes_eq word (codes "break") then Some BREAK
     else if bytes_eq word (codes "fail") then Some FAIL
+    else if bytes_eq word (codes "report") then Some REPORT
     else None
 
 -- a line of two values, where both are there
@@ -102,6 +106,11 @@ break_line session = option_map Breaks (number session)
 abbrev pub fail_line : List (List ℕ) → List ℕ × List ℕ → Option Line
 fail_line buffers two = both Fails (place_of buffers two.0) (number_within 1 1000000 two.1)
 
+-- `report`
+abbrev pub report_line : List (List ℕ) → Option Line
+report_line [] = Some Reports
+report_line (word ∷ more) = None
+
 -- a keyword with the words that follow it; None is a bad line
 abbrev pub line_with : Names → List (List ℕ) → Keyword → Option Line
 line_with names after OPEN = option_and_then (open_line names.peers) (two_of after)
@@ -113,6 +122,7 @@ line_with names after WRITE = option_and_then write_line (two_of after)
 line_with names after ROUNDS = option_and_then rounds_line (two_of after)
 line_with names after BREAK = option_and_then break_line (one_of after)
 line_with names after FAIL = option_and_then (fail_line names.buffers) (two_of after)
+line_with names after REPORT = report_line after
 
 -- what these words say; None is a bad line
 abbrev pub line_of_words : Names → List (List ℕ) → Option Line

@@ -28,4 +28,6 @@ pub enum Line {
     Break(u64),
     /// `fail`: this call of this buffer's device fails, counted from here.
     Fail(usize, u64),
+    /// `report`: the report is printed.
+    Report,
 }

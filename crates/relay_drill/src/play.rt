@@ -13,9 +13,11 @@ ghost use Rattle.relay_drill.specs.Todo.{write_each};
 use crate::fault::DrillError;
 use crate::line::{Line, PieceSize};
 use crate::print::print;
+use crate::written::put;
 use cyc_block::{FailAt, MemoryBlocks};
 use line_words::Octets;
 use relay_core::{Event, Output, System};
+use relay_report::report;
 use std::alloc::Global;
 use std::io::Write;
 
@@ -85,7 +87,18 @@ fn play_line<W: Write>(
             relay.arm(*buffer, *call);
             Ok(())
         }
+        Line::Report => print_report(alloc, relay, writer),
     }
+}
+
+/// Prints the report of the relay as it is (docs/FORMATS.md, Report).
+fn print_report<W: Write>(alloc: Global, relay: &Relay, writer: &mut W) -> Result<(), DrillError>
+    ensures { (more : Todo) → Performs result (todo.Report more) more
+        relay.now relay.now (W.contents writer.old) (W.contents writer.new) }
+{
+    let text = report(alloc, relay)?;
+    put(writer, &text)?;
+    Ok(())
 }
 
 /// How many octets a piece of these has: all of them, unless octets are split.

@@ -6,6 +6,7 @@ ghost use Rattle.news_terms.specs.Lines.{crlf};
 ghost use Rattle.line_words.specs.Parts.{one_of, parts_after, two_of};
 ghost use Rattle.relay_drill.specs.Drill.{names_of};
 ghost use Rattle.relay_drill.specs.Script.{break_line, fail_line, line_of, open_line, raw_line};
+ghost use Rattle.relay_drill.specs.Script.{report_line};
 ghost use Rattle.relay_drill.specs.Script.{rounds_line, script_of, send_line, split_line};
 ghost use Rattle.relay_drill.specs.Script.{turn_line, write_line};
 ghost use Rattle.relay_drill.specs.Script as terms;
@@ -50,6 +51,7 @@ enum Keyword {
     Rounds,
     Break,
     Fail,
+    Report,
 }
 
 /// Reads a line, or answers `None` where it is bad.
@@ -67,6 +69,7 @@ fn read_line(alloc: Global, config: &Config, line: &[u8]) -> Result<Option<Line>
         Some(Keyword::Rounds) => Ok(rounds(rest)),
         Some(Keyword::Break) => Ok(break_off(rest)),
         Some(Keyword::Fail) => Ok(fail(&config.buffers.buffers, rest)),
+        Some(Keyword::Report) => Ok(report(rest)),
         None => Ok(None),
     }
 }
@@ -93,6 +96,8 @@ fn keyword_of(word: &[u8]) -> Option<Keyword>
         Some(Keyword::Break)
     } else if word == b"fail".as_slice() {
         Some(Keyword::Fail)
+    } else if word == b"report".as_slice() {
+        Some(Keyword::Report)
     } else {
         None
     }
@@ -212,4 +217,14 @@ fn fail(buffers: &[BufferConf], rest: Option<&[u8]>) -> Option<Line>
         buffer_of(buffers, buffer)?,
         number_within(1, 1_000_000, call)?,
     ))
+}
+
+/// `report`, by what follows the keyword: nothing.
+fn report(rest: Option<&[u8]>) -> Option<Line>
+    ensures { option_map line_view result ≡ report_line (parts_after 32 rest.entry) }
+{
+    match rest {
+        None => Some(Line::Report),
+        Some(_) => None,
+    }
 }

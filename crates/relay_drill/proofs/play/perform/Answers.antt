@@ -1,20 +1,22 @@
 use Rattle.relay_core.specs.Views.{event_view, output_view}
-use Rattle.relay_drill.specs.Todo.{Next}
 use Rattle.relay_drill.proofs.Courses.{fails_unwritten}
-use Rattle.relay_drill.proofs.Events.{breaks_one, does_next, goes_one}
+use Rattle.relay_drill.proofs.Events.{breaks_told, does_next, goes_told, tells_event}
 use Rattle.relay_drill.proofs.play.perform.Goals as goal
 
 pub returns : goal.returns
 returns g c = λ more.
-    goes_one (event_view c.args.event.now) _ more c.args.relay.now c.step-output.result
-    c.step-output.new.self _ _ (does_next (event_view c.args.event.now) more _)
-    c.step-output.ensures.steps c.step-output.ensures.frame c.in_ok-print.ensures
+    goes_told _ _ _ _ _ _ _ (tells_event (event_view c.args.event.now) _ more c.args.relay.now
+    c.step-output.result c.step-output.new.self
+    (does_next (event_view c.args.event.now) more (output_view c.step-output.result))
+    c.step-output.ensures.steps c.step-output.ensures.frame)
+    c.in_ok-print.ensures
 
 pub returns-in_err-print : goal.returns-in_err-print
 returns-in_err-print g c = λ more.
     fails_unwritten c.from_residual.result _ more _ _ _ _
     c.from_residual.ensures.0 c.from_residual.ensures.1
-    (breaks_one (event_view c.args.event.now) (Next (event_view c.args.event.now) more) more
-    c.args.relay.now c.step-output.result c.step-output.new.self _ _
+    (breaks_told _ _ _ _ _ _ _ (tells_event (event_view c.args.event.now) _ more c.args.relay.now
+    c.step-output.result c.step-output.new.self
     (does_next (event_view c.args.event.now) more (output_view c.step-output.result))
-    c.step-output.ensures.steps c.step-output.ensures.frame c.in_err-print.ensures)
+    c.step-output.ensures.steps c.step-output.ensures.frame)
+    c.in_err-print.ensures)

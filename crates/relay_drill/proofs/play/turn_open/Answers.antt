@@ -7,10 +7,10 @@ pub returns : goal.returns
 returns g c = λ more.
     performs_on c.turn.result _ _ more _ _ _ _ _ _
     (goes_turning c.args.session c.args.now more c.args.relay.now _ true
-    (λ w x under. sym (c.is_running.ensures true x under.agrees) ∙ c.if-not-is_running.false))
+    (λ config x under. sym (c.is_running.ensures true x under.agrees) ∙ c.if-not-is_running.false))
     (c.turn.ensures more)
 
 pub returns-then-not-is_running : goal.returns-then-not-is_running
 returns-then-not-is_running g c = λ more.
     goes_turning c.args.session c.args.now more c.args.relay.now _ false
-    (λ w x under. sym (c.is_running.ensures true x under.agrees) ∙ c.if-not-is_running.true)
+    (λ config x under. sym (c.is_running.ensures true x under.agrees) ∙ c.if-not-is_running.true)

@@ -1,5 +1,4 @@
 use Rattle.std.proofs.Common.{◌≡◌, ℕ, List, Global, map, Ok, subst, vec_items}
-use Rattle.article_verdict.specs.Config.{terms_of}
 use Rattle.relay_drill.specs.Drill.{first_world, lines_of_script}
 use Rattle.relay_drill.specs.Fault.{line_view}
 use Rattle.relay_drill.specs.Progress.{Performs}
@@ -59,7 +58,7 @@ returns-in-Ok g c =
     drill_gives c.args.config c.play.new.relay c.play.result
     (g.R.Read.remaining c.args.reader.now) text lines before after c.in_ok-script.ensures says
     (performs_at c.play.result _ Done c.in-Ok.relay c.play.new.relay before after
-    (terms_of c.args.config) first_world
+    c.args.config first_world
     (subst R c.len-groups.ensures (subst Q c.deref-in-Ok.ensures.value c.play.ensures))
     (begun c.args.config _ c.in_ok-stores.stores.items c.in-Ok.relay c.in_ok-stores.ensures
     c.in-Ok.ensures))
