@@ -1,6 +1,6 @@
 -- What the relay's state says of the history of one buffer: what its group picked for it was begun
--- there, what is whole under its tokens was finished there, as many as are whole, and the open write
--- of its group that is in it is the history's (docs/PROTOCOL.md, Store).
+-- there, what is whole under its tokens was finished there, as many as are whole, and the open
+-- write of its group that is in it is the history's (docs/PROTOCOL.md, Store).
 use Rattle.std.specs.Prelude.{◌≡◌, ◌≢◌, ℕ, ◌*◌, true, false, List, [], map, take}
 use Rattle.std.specs.Prelude.{Option, None, Some, slice_get, count_by}
 use Rattle.cyc_buffer.specs.History as histories

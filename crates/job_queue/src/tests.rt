@@ -30,7 +30,7 @@ fn job_of<R: Abort>(rt: &R, alloc: Global, end: u64, number: u64) -> Result<Hand
     Ok(Handed { end, number, job })
 }
 
-// Takes all that the queue holds, and says of each parcel its end, and its number where it is a job.
+// Takes all that the queue holds; says of each parcel its end, and its number where it is a job.
 fn taken<R: Wait>(
     rt: &R,
     alloc: Global,

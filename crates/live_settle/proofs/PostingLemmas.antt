@@ -1,7 +1,7 @@
 -- What posts and takes keep of a desk whose posts are counted.
-use Rattle.std.proofs.Common.{◌≡◌, ℕ, ◌+◌, ◌≤◌, ◌<◌, ◌^◌, ◌==◌, Bool, true, false, sym, subst, arith}
+use Rattle.std.proofs.Common.{◌≡◌, ℕ, ◌+◌, ◌≤◌, ◌<◌, ◌^◌, ◌==◌, Bool, true, false, sym, subst}
 use Rattle.std.proofs.Common.{List, [], ◌∷◌, ◌++◌, length, Option, None, Some, Result, Ok, Err}
-use Rattle.std.proofs.Common.{if◌then◌else◌, refl, nat_eq}
+use Rattle.std.proofs.Common.{if◌then◌else◌, refl, nat_eq, arith}
 use Rattle.std.proofs.Math.Logic.{∥∥₁_map, ∥∥₁_elim}
 use Rattle.std.proofs.Props.{props}
 use Rattle.std.proofs.lemmas.List.{length-append}
@@ -48,7 +48,8 @@ pub has_room : (desk : FeedDesk) (posts : ℕ) → ∥ KeepsAtMost desk posts �
     → HasRoomToCount desk
 has_room desk posts kept below law k d within =
     ∥∥₁_elim kept (hlevel (props, le_prop))
-    (λ one. law one.sizes one.feeds one.keeps (λ f here. omega (arith, below, one.few f)) k d within)
+    (λ one. law one.sizes one.feeds one.keeps (λ f here. omega (arith, below, one.few f)) k d
+    within)
 
 -- after a post
 pub kept_posted : (old new : FeedDesk) (posts : ℕ) (permitted : List ℕ) (token : Token)

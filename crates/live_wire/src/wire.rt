@@ -1,6 +1,6 @@
 //! Readers and writers that tell their octets.
-ghost use Rattle.std.specs.Prelude.{◌≡◌, ◌≤◌, ◌<◌, ◌+◌, ◌++◌, ℕ, List, [], length, take, drop, IfOk};
-ghost use Rattle.std.specs.Prelude.{OnErr, OnOk, IfErr, IfNone, IfSome};
+ghost use Rattle.std.specs.Prelude.{◌≡◌, ◌≤◌, ◌<◌, ◌+◌, ◌++◌, ℕ, List, [], length, take, drop};
+ghost use Rattle.std.specs.Prelude.{IfOk, OnErr, OnOk, IfErr, IfNone, IfSome};
 ghost use Rattle.live_wire.specs.Wire.{heard_of, said_of};
 
 use http_server::Log;
