@@ -1,6 +1,6 @@
 -- One buffer or feed more of the report.
 use Rattle.std.proofs.Common.{◌≡◌, ◌≤◌, ◌<◌, ◌+◌, ◌++◌, ◌∙◌, ℕ, Bool, List, [], ◌∷◌, None, Some}
-use Rattle.std.proofs.Common.{arith, ap, refl, sym, zero-add}
+use Rattle.std.proofs.Common.{arith, ap, sym, zero-add}
 use Rattle.std.proofs.Math.ListN.{get_or-map}
 use Rattle.std.proofs.lemmas.List.{length-map, map_push, take_all, take_more}
 use Rattle.std.proofs.lemmas.List.FromFn.{get_or-enumerate_from, length-enumerate_from}
@@ -17,7 +17,7 @@ use Rattle.block_shelf.specs.declared.figures.BufferFigures.{BufferFigures}
 use Rattle.cyc_block.specs.declared.store.BlockStore.{Ghosts}
 use Rattle.feed_queue.specs.Feeds.{KeepsFeeds, ring_count}
 use Rattle.feed_queue.specs.Permission.{feed_view as conf_view}
-use Rattle.relay_conf.specs.Places.{numbered_buffer, numbered_buffers}
+use Rattle.relay_conf.specs.Places.{numbered_buffer}
 use Rattle.relay_conf.specs.declared.cycbuff.BufferConf.{BufferConf}
 use Rattle.relay_conf.specs.declared.relay.Feed.{Feed}
 use Rattle.relay_conf.specs.declared.relay.Peer.{Peer}
