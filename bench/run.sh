@@ -1,6 +1,15 @@
 #!/usr/bin/env bash
-# Builds the benchmarks and runs one of them: bench/run.sh cutting, articles, paths, patterns, settings,
-# buffers, desks or sessions.
+# Builds the benchmarks and runs one of them: bench/run.sh relay for the whole relay, or cutting, articles, paths,
+# patterns, settings, buffers, desks or sessions for its parts.
 set -euo pipefail
-cd "$(dirname "${BASH_SOURCE[0]}")/../crates/relay_bench"
-rt run -- "${1:-cutting}"
+cd "$(dirname "${BASH_SOURCE[0]}")"
+word="${1:-cutting}"
+# Without words the programs do nothing: this proves and builds them.
+if [ "$word" = relay ]; then
+    (cd ../crates/core_bench && rt run)
+    rustc -O -o ../crates/core_bench/out/copies copies.rs
+    python3 relay.py ../crates/core_bench/out/core_bench ../crates/core_bench/out/copies
+else
+    (cd ../crates/relay_bench && rt run)
+    python3 parts.py ../crates/relay_bench/out/relay_bench "$word"
+fi

@@ -1,5 +1,6 @@
 //! Calls of commands, replies, claims and feeds, by their number.
 use crate::buffers::since;
+use crate::work::{Job, Work};
 use cyc_token::Token;
 use feed_queue::FeedDesk;
 use id_history::Shard;
@@ -14,32 +15,16 @@ use std::time::Instant;
 /// The session that offers and takes.
 const SESSION: u64 = 1;
 
-/// Which calls are timed.
-#[derive(Clone, Copy)]
-pub enum Calls {
-    /// A command line is read.
-    Parse,
-    /// A reply is written.
-    Reply,
-    /// A message-id that is unknown is offered to a shard.
-    Offer,
-    /// A message-id that a shard has is offered once more.
-    OfferAgain,
-    /// An article is settled, and a feed with a ring of 65,536 gains its token.
-    Post,
-    /// A token is taken of that ring, a thousand in one call.
-    Take,
-}
-
 /// The seconds that so many calls take; what they stand on is not timed.
-pub fn seconds(rt: &HostRuntime, calls: Calls, count: usize) -> io::Result<f64> {
-    match calls {
-        Calls::Parse => parsing(rt, count),
-        Calls::Reply => replying(rt, count),
-        Calls::Offer => offering(rt, count, false),
-        Calls::OfferAgain => offering(rt, count, true),
-        Calls::Post => posting(rt, count, false),
-        Calls::Take => posting(rt, count, true),
+pub fn seconds(rt: &HostRuntime, job: Job) -> io::Result<f64> {
+    let count = job.number;
+    match job.work {
+        Work::Reply => replying(rt, count),
+        Work::Offer => offering(rt, count, false),
+        Work::OfferAgain => offering(rt, count, true),
+        Work::Post => posting(rt, count, false),
+        Work::Take => posting(rt, count, true),
+        _ => parsing(rt, count),
     }
 }
 

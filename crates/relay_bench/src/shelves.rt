@@ -1,14 +1,14 @@
 //! Blocks of a shelf with one buffer in memory.
-ghost use Rattle.std.specs.Prelude.{◌≡◌, ◌<◌, ◌^◌, length, map, IfOk};
+ghost use Rattle.std.specs.Prelude.{◌<◌, ◌^◌, length};
 
 use crate::buffers::{ARTICLE, since};
 use crate::work::Work;
 use block_shelf::Shelf;
-use cyc_block::{BlockStore, CHUNK_OCTETS, MemoryBlocks};
+use cyc_block::{CHUNK_OCTETS, MemoryBlocks};
 use cyc_buffer::Found;
 use cyc_token::Token;
-use relay_conf::{Buffers, read_cycbuff};
-use std::alloc::{AllocError, Global};
+use relay_conf::read_cycbuff;
+use std::alloc::Global;
 use std::io;
 use std::io::ErrorKind;
 use std::time::Instant;
@@ -41,21 +41,11 @@ fn empty(alloc: Global, octets: usize) -> io::Result<Shelf<MemoryBlocks>> {
     let Ok(settings) = read_cycbuff(alloc, conf.as_bytes()) else {
         return Err(io::Error::from(ErrorKind::InvalidData));
     };
-    let stores = stores_of(alloc, &settings)?;
+    let [buffer] = settings.buffers.as_slice() else {
+        return Err(io::Error::from(ErrorKind::InvalidData));
+    };
+    let stores = vec![in alloc; MemoryBlocks::new(alloc, buffer.blocks)?]?;
     Ok(Shelf::new(alloc, &settings, stores)?)
-}
-
-/// A store in memory for each buffer, of as many blocks.
-fn stores_of(alloc: Global, settings: &Buffers) -> Result<Vec<MemoryBlocks>, AllocError>
-    ensures { IfOk result (λ stores.
-        map (λ store. length (⟦<MemoryBlocks as BlockStore>⟧.blocks store)) stores.items
-        ≡ map (λ buffer. buffer.blocks) settings.now.buffers.items) }
-{
-    let mut stores = Vec::with_capacity(alloc, settings.buffers.len())?;
-    for buffer in &settings.buffers {
-        stores.push(MemoryBlocks::new(alloc, buffer.blocks)?)?;
-    }
-    Ok(stores)
 }
 
 /// Writes the articles of the text, and adds their tokens.

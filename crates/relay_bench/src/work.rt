@@ -1,7 +1,6 @@
 //! What is done with a text, and how long it takes.
 use crate::buffers::since;
-use crate::cases::repeated;
-use crate::{buffers, shelves};
+use crate::{buffers, desks, player, shelves};
 use article_parse::Article;
 use path_rules::{identities, loops, updated};
 use relay_conf::{read_cycbuff, read_relay, read_storage};
@@ -22,9 +21,9 @@ const OWN: &[u8] = b"relay.example";
 #[derive(Clone, Copy)]
 pub enum Work {
     /// Lines are cut from it, which comes in pieces of so many octets.
-    Lines(usize),
+    Lines,
     /// Blocks are.
-    Blocks(usize),
+    Blocks,
     /// It is read as an article.
     Parse,
     /// Of the article that it is, the newsgroups are given,
@@ -38,7 +37,7 @@ pub enum Work {
     /// It is read as an expression.
     Expression,
     /// A name of so many `a` and a `b` is judged by the expression that it is.
-    Judge(usize),
+    Judge,
     /// It is read as cycbuff.conf,
     Cycbuff,
     /// as storage.conf,
@@ -55,31 +54,91 @@ pub enum Work {
     ReadShelf,
     /// or copied, a block at a time.
     Copy,
+    /// A command line is read, so often; this and the next five ask for no text.
+    Command,
+    /// A reply is written.
+    Reply,
+    /// A message-id that is unknown is offered to a shard.
+    Offer,
+    /// A message-id that a shard has is offered once more.
+    OfferAgain,
+    /// An article is settled, and a feed with a ring of 65,536 gains its token.
+    Post,
+    /// A token is taken of that ring, a thousand in one call.
+    Take,
+    /// It is a script of sessions, whose offers are answered that the id is known,
+    Known,
+    /// or that it is wanted.
+    Wanted,
+}
+
+/// Work, and the number that it needs, if it does.
+#[derive(Clone, Copy)]
+pub struct Job {
+    pub work: Work,
+    pub number: usize,
+}
+
+/// The words that name work. Any other names the first.
+static WORDS: [(&str, Work); 25] = [
+    ("copy", Work::Copy),
+    ("lines", Work::Lines),
+    ("blocks", Work::Blocks),
+    ("parse", Work::Parse),
+    ("groups", Work::Groups),
+    ("identities", Work::Identities),
+    ("loops", Work::Loops),
+    ("updated", Work::Updated),
+    ("expression", Work::Expression),
+    ("judge", Work::Judge),
+    ("cycbuff", Work::Cycbuff),
+    ("storage", Work::Storage),
+    ("relay", Work::Relay),
+    ("write", Work::Write),
+    ("read", Work::Read),
+    ("write_shelf", Work::WriteShelf),
+    ("read_shelf", Work::ReadShelf),
+    ("command", Work::Command),
+    ("reply", Work::Reply),
+    ("offer", Work::Offer),
+    ("offer_again", Work::OfferAgain),
+    ("post", Work::Post),
+    ("take", Work::Take),
+    ("known", Work::Known),
+    ("wanted", Work::Wanted),
+];
+
+/// The work of this name.
+pub fn named(name: &str) -> Work {
+    for (word, work) in &WORDS {
+        if *word == name {
+            return *work;
+        }
+    }
+    Work::Copy
 }
 
 /// The seconds that the work takes; what it stands on is not timed.
-pub fn seconds(rt: &HostRuntime, work: Work, text: &[u8]) -> io::Result<f64> {
-    match work {
-        Work::Groups | Work::Identities | Work::Loops | Work::Updated => of_article(rt, work, text),
-        Work::Judge(count) => judging(rt, text, count),
-        Work::Write | Work::Read | Work::Copy => buffers::seconds(rt, work, text),
-        Work::WriteShelf | Work::ReadShelf => shelves::seconds(rt, work, text),
-        _ => whole(rt, work, text),
+pub fn seconds(rt: &HostRuntime, job: Job, text: &[u8]) -> io::Result<f64> {
+    match job.work {
+        Work::Groups | Work::Identities | Work::Loops | Work::Updated => {
+            of_article(rt, job.work, text)
+        }
+        Work::Judge => judging(rt, text, job.number),
+        Work::Write | Work::Read | Work::Copy => buffers::seconds(rt, job.work, text),
+        Work::WriteShelf | Work::ReadShelf => shelves::seconds(rt, job.work, text),
+        Work::Known | Work::Wanted => player::seconds(rt, job.work, text),
+        Work::Command | Work::Reply | Work::Offer | Work::OfferAgain | Work::Post | Work::Take =>
+            desks::seconds(rt, job),
+        _ => whole(rt, job, text),
     }
 }
 
 /// The seconds that work on the whole text takes.
-fn whole(rt: &HostRuntime, work: Work, text: &[u8]) -> io::Result<f64> {
-    let alloc = rt.alloc();
+fn whole(rt: &HostRuntime, job: Job, text: &[u8]) -> io::Result<f64> {
     let start = Instant::now(rt)?;
     // What is answered is asked for so that no work can be left out.
-    let done = match work {
-        Work::Lines(piece) => cut(alloc, text, piece, false).is_ok(),
-        Work::Blocks(piece) => cut(alloc, text, piece, true).is_ok(),
-        Work::Parse => Article::parse(alloc, text).is_ok(),
-        Work::Expression => Expr::parse(alloc, text).is_ok(),
-        _ => configure(alloc, work, text),
-    };
+    let done = is_done(rt.alloc(), job, text);
     let seconds = since(rt, start);
     if !done {
         return Err(io::Error::from(ErrorKind::InvalidData));
@@ -87,9 +146,13 @@ fn whole(rt: &HostRuntime, work: Work, text: &[u8]) -> io::Result<f64> {
     seconds
 }
 
-/// Reads the text as a configuration file; a fault of it is none here.
-fn configure(alloc: Global, work: Work, text: &[u8]) -> bool {
-    match work {
+/// Does work on the whole text; false where it can't be done.
+fn is_done(alloc: Global, job: Job, text: &[u8]) -> bool {
+    match job.work {
+        Work::Lines => cut(alloc, text, job.number, false).is_ok(),
+        Work::Blocks => cut(alloc, text, job.number, true).is_ok(),
+        Work::Parse => Article::parse(alloc, text).is_ok(),
+        Work::Expression => Expr::parse(alloc, text).is_ok(),
         Work::Storage => configure_storage(alloc, text),
         Work::Relay => {
             let _settings = read_relay(alloc, text);
@@ -118,41 +181,28 @@ fn of_article(rt: &HostRuntime, work: Work, text: &[u8]) -> io::Result<f64> {
     let Ok(article) = Article::parse(rt.alloc(), text) else {
         return Err(io::Error::from(ErrorKind::InvalidData));
     };
+    let start = Instant::now(rt)?;
     match work {
-        Work::Groups => groups(rt, &article),
-        Work::Updated => update(rt, &article),
-        _ => of_path(rt, work, article.field(b"Path").unwrap_or(b"")),
-    }
-}
-
-/// The seconds that giving the newsgroups of an article takes.
-fn groups(rt: &HostRuntime, article: &Article<'_>) -> io::Result<f64> {
-    let start = Instant::now(rt)?;
-    let _groups = article.groups(rt.alloc());
-    since(rt, start)
-}
-
-/// The seconds that updating the Path of an article takes.
-fn update(rt: &HostRuntime, article: &Article<'_>) -> io::Result<f64> {
-    let start = Instant::now(rt)?;
-    let _update = updated(rt.alloc(), article, OWN, b"one.example");
-    since(rt, start)
-}
-
-/// The seconds that work on a Path takes.
-fn of_path(rt: &HostRuntime, work: Work, path: &[u8]) -> io::Result<f64> {
-    let start = Instant::now(rt)?;
-    if let Work::Loops = work {
-        let _looped = loops(path, OWN);
-    } else {
-        let _list = identities(rt.alloc(), path);
+        Work::Groups => {
+            let _groups = article.groups(rt.alloc());
+        }
+        Work::Updated => {
+            let _update = updated(rt.alloc(), &article, OWN, b"one.example");
+        }
+        Work::Loops => {
+            let _looped = loops(article.field(b"Path").unwrap_or(b""), OWN);
+        }
+        _ => {
+            let _list = identities(rt.alloc(), article.field(b"Path").unwrap_or(b""));
+        }
     }
     since(rt, start)
 }
 
 /// The seconds that judging a name of so many `a` and a `b` takes.
 fn judging(rt: &HostRuntime, pattern: &[u8], count: usize) -> io::Result<f64> {
-    let name = repeated(rt.alloc(), b"", b"a", count, b"b")?;
+    let mut name = vec![in rt.alloc(); b'a'; count]?;
+    name.push(b'b')?;
     let Ok(expression) = Expr::parse(rt.alloc(), pattern) else {
         return Err(io::Error::from(ErrorKind::InvalidData));
     };
