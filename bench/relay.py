@@ -1,10 +1,13 @@
 #!/usr/bin/env python3
-"""Times the whole relay over memory, and prints the tables of RESULTS.md, The relay: relay.py CORE_BENCH COPIES.
+"""Times the whole relay over memory, and prints the tables of RESULTS.md, The relay.
 
-CORE_BENCH is the program of crates/core_bench, COPIES that of bench/copies.rs. Each is run ROUNDS times for so many and
-for twice as many, in turn. A row has the median and the least time; what twice as many take is by the least.
+relay.py CORE_BENCH COPIES [count]: CORE_BENCH is the program of crates/core_bench, COPIES that of bench/copies.rs. Each
+is run ROUNDS times for so many and for twice as many, in turn. A row has the median and the least time; what twice as
+many take is by the least. With `count` valgrind's callgrind counts instructions instead, which other work beside
+doesn't change.
 """
 import os
+import re
 import statistics
 import subprocess
 import sys
@@ -79,7 +82,35 @@ def print_million():
         print(f"| {100_000 * (tenth + 1):,} | {sum(line[2] for line in part):.3f} | {part[-1][3] / 1e6:.1f} |")
 
 
+def instructions(words):
+    """The instructions that core_bench runs for these words."""
+    tool = ["valgrind", "--tool=callgrind", "--callgrind-out-file=/dev/null"]
+    done = subprocess.run([*tool, CORE, *words.split()], check=True, capture_output=True, text=True)
+    return int(re.search(r"Collected : (\d+)", done.stderr)[1])
+
+
+def print_counts():
+    """Prints the instructions for one more, its event's making included, past so many and past four times as many."""
+    print("| Done | Number | Instructions for one more | Four times as many |\n|---|---:|---:|---:|")
+    for done, before, load, count, _ in ROWS:
+        count //= 100
+        first, second, fourth, eighth = (
+            instructions(f"{before} {load}:{times * count}") for times in (1, 2, 4, 8)
+        )
+        print(f"| {done} | {count:,} | {(second - first) // count:,} | {(eighth - fourth) // (4 * count):,} |")
+    print("\n| Ids remembered | CHECK, known | CHECK, new | TAKETHIS of 1 KB |\n|---:|---:|---:|---:|")
+    for ids in (1_000, 10_000, 100_000):
+        costs = []
+        for load in ("known", "check", "take"):
+            once, twice = (instructions(f"refuse:{ids} {load}:{count}") for count in (250, 500))
+            costs.append(f"{(twice - once) // 250:,}")
+        print(f"| {ids:,} | {' | '.join(costs)} |")
+
+
 if __name__ == "__main__":
+    if len(sys.argv) > 3:
+        print_counts()
+        sys.exit()
     print("| Done | Number | Events | Seconds | Least | Events a second | One, µs | Copied, seconds | Twice as many |")
     print("|---|---:|---:|---:|---:|---:|---:|---:|---:|")
     for row in ROWS:

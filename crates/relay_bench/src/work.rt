@@ -110,12 +110,10 @@ static WORDS: [(&str, Work); 25] = [
 
 /// The work of this name.
 pub fn named(name: &str) -> Work {
-    for (word, work) in &WORDS {
-        if *word == name {
-            return *work;
-        }
+    match WORDS.iter().find(|row| row.0 == name) {
+        Some(row) => row.1,
+        None => Work::Copy,
     }
-    Work::Copy
 }
 
 /// The seconds that the work takes; what it stands on is not timed.
