@@ -1,4 +1,4 @@
-use Rattle.std.proofs.Common.{◌≡◌, ◌∙◌, ◌∷◌, [], ◌++◌, ap, arith, get_or, length, map, sym, take}
+use Rattle.std.proofs.Common.{◌∙◌, ◌∷◌, [], ◌++◌, ap, arith, get_or, length, map, sym, take}
 use Rattle.std.proofs.lemmas.List.{length-replicate, map-append, take_all, take_more}
 use Rattle.cyc_block.specs.declared.memory.MemoryBlocks.{MemoryBlocks}
 use Rattle.relay_conf.specs.declared.cycbuff.BufferConf.{BufferConf}
