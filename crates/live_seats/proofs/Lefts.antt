@@ -1,0 +1,61 @@
+-- The seats of the ends in a row.
+use Rattle.std.proofs.Common.{◌≡◌, ◌≢◌, ◌⊎◌, inl, inr, ℕ, ◌+◌, ◌<◌, ◌≤◌, List, [], ◌∷◌, length}
+use Rattle.std.proofs.Common.{map, Some, refl, sym, ap, ◌∙◌, subst, ⊎_elim, arith}
+use Rattle.std.specs.Prelude.{slice_get, slice_set, slice_index_or}
+use native.Mathlib.Decide.{ℕ_discrete}
+use mathlib.Core.Logic.{dite}
+use Rattle.job_queue.specs.declared.parcel.Handed.{Handed}
+use Rattle.live_seats.specs.declared.lane.Lane.{Lane}
+use Rattle.live_seats.specs.declared.session.LeftSeat.{LeftSeat}
+use Rattle.live_seats.specs.declared.outcome.Done.{Done}
+use Rattle.live_seats.specs.Seats.{HasLeft, left_end, left_by}
+use Rattle.live_seats.specs.Gathered.{LeftsFit, hands_of, Told, ToldBelow}
+use Rattle.live_seats.proofs.Passes.{read_at, get_set, map_set_same, map_at}
+
+pub left_at : (lanes : List Lane) (lefts : List LeftSeat) (e : ℕ) (left : LeftSeat)
+    → LeftsFit lanes lefts → e < length lefts → left ≡ slice_index_or lefts e left
+    → (slice_get lefts e ≡ Some left) × (left_end left ≡ e) × HasLeft lanes left
+left_at lanes lefts e left fit h is =
+    let at = read_at lefts e left h is in let f = fit e left at in (at, f.0, f.1)
+
+pub lefts_set : (lanes : List Lane) (lefts : List LeftSeat) (e : ℕ) (new : LeftSeat)
+    → LeftsFit lanes lefts → left_end new ≡ e → HasLeft lanes new
+    → LeftsFit lanes (slice_set lefts e new)
+lefts_set lanes lefts e new fit end is k left at =
+    ⊎_elim
+    (λ (t : (k ≡ e) × (new ≡ left)).
+    subst (λ (x : ℕ × LeftSeat). (left_end x.1 ≡ x.0) × HasLeft lanes x.1)
+    (λ i. (sym t.0 i, t.1 i)) (end, is))
+    (λ (t : (k ≢ e) × (slice_get lefts k ≡ Some left)). fit k left t.1)
+    (get_set lefts e new k left at)
+
+pub hands_set : (lefts : List LeftSeat) (e : ℕ) (left new : LeftSeat) → slice_get lefts e ≡ Some left
+    → left_by new ≡ left_by left → hands_of (slice_set lefts e new) ≡ hands_of lefts
+hands_set lefts e left new at same = map_set_same left_by lefts e left new at same
+
+some_is : {X : Type 0} (x y : X) → Some x ≡ Some y → x ≡ y
+some_is x y e = cc
+
+pub hand_at : (lefts : List LeftSeat) (e : ℕ) (left : LeftSeat) (hands : List (List (List Handed)))
+    → slice_get lefts e ≡ Some left → hands_of lefts ≡ hands
+    → slice_get hands e ≡ Some (left_by left)
+hand_at lefts e left hands at is =
+    ap (λ (l : List (List (List Handed))). slice_get l e) (sym is) ∙ map_at left_by lefts e left at
+
+module _ {O : Type 0} (fits : O → Handed → Type 0) where
+  -- one end more
+  pub told_next : (n g : ℕ) (done : List (Done O)) (hands : List (List (List Handed)))
+      (h : List (List Handed)) → slice_get hands n ≡ Some h
+      → ((jobs : List Handed) → slice_get h g ≡ Some jobs → Told fits n done jobs)
+      → ToldBelow fits n g done hands → ToldBelow fits (n + 1) g done hands
+  told_next n g done hands h at told below e handed jobs less there job = dite (ℕ_discrete e n)
+      (λ is.
+      let same : h ≡ handed = some_is h handed (sym at ∙ ap (slice_get hands) (sym is) ∙ there) in
+      subst (λ (k : ℕ). Told fits k done jobs) (sym is)
+      (told jobs (ap (λ (l : List (List Handed)). slice_get l g) same ∙ job)))
+      (λ other. below e handed jobs (omega arith) there job)
+
+  pub told_same : (e n : ℕ) (done now : List (Done O)) (jobs : List Handed) → e ≡ n → done ≡ now
+      → Told fits e done jobs → Told fits n now jobs
+  told_same e n done now jobs same is told =
+      subst (λ (x : ℕ × List (Done O)). Told fits x.0 x.1 jobs) (λ i. (same i, is i)) told

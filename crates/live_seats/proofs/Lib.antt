@@ -1,0 +1,9 @@
+pub mod Passes
+pub mod Rows
+pub mod Taken
+pub mod Told
+pub mod Lefts
+pub mod Writers
+pub mod Counts
+pub mod Plans
+pub mod Ends

@@ -1,0 +1,142 @@
+-- The seats of the writers in a row, seen by what is read of them.
+use Rattle.std.proofs.Common.{◌≡◌, ◌≢◌, ◌⊎◌, inl, inr, ℕ, zero, suc, ◌+◌, ◌<◌, ◌≤◌, Bool, List}
+use Rattle.std.proofs.Common.{[], ◌∷◌, ◌++◌, length, map, Some, refl, sym, ap, ◌∙◌, subst, ⊎_elim, arith}
+use Rattle.std.specs.Prelude.{slice_get, slice_set, slice_index_or}
+use native.Mathlib.Decide.{ℕ_discrete}
+use mathlib.Core.Logic.{dite}
+use Rattle.job_queue.specs.Delivery.{end_limit}
+use Rattle.job_queue.specs.Passes.{QueuePass}
+use Rattle.job_queue.specs.declared.parcel.Handed.{Handed}
+use Rattle.live_seats.specs.declared.lane.Lane.{Lane}
+use Rattle.live_seats.specs.declared.session.LeftSeat.{LeftSeat}
+use Rattle.live_seats.specs.declared.outcome.Done.{Done}
+use Rattle.crossbeam_queue.specs.Passes.{IsPassOf}
+use Rattle.live_seats.specs.Lanes.{queue_of}
+use Rattle.live_seats.specs.Seats.{left_by}
+use Rattle.live_seats.specs.Gathered.{OfLane, AllClosed, WritersFit, RestsFit, IsRest, hands_of}
+use Rattle.live_seats.specs.Gathered.{told_of, Told, ToldBelow, ToldBefore, NoneBefore}
+use Rattle.live_seats.proofs.Rows.{get_snoc, length_snoc}
+use Rattle.live_seats.proofs.Passes.{read_at, get_set, length_set, map_set, map_set_same, map_at}
+
+pub length_map : {X Y : Type 0} (f : X → Y) (xs : List X) → length (map f xs) ≡ length xs
+length_map f [] = refl
+length_map f (x ∷ xs) = ap suc (length_map f xs)
+
+pub within : {X : Type 0} (xs : List X) (k : ℕ) (x : X) → slice_get xs k ≡ Some x → k < length xs
+within [] k x e = absurd (cc)
+within (y ∷ xs) zero x e = omega arith
+within (y ∷ xs) (suc k) x e = let h = within xs k x e in omega arith
+
+some_is : {X : Type 0} (x y : X) → Some x ≡ Some y → x ≡ y
+some_is x y e = cc
+
+module _ {X : Type 0} (f : X → QueuePass) (h : X → List Bool) where
+  pub writers_at : (lanes : List Lane) (n : ℕ) (xs : List X) (g : ℕ) (x : X)
+      → WritersFit lanes n (map f xs) (map h xs) → g < length xs → x ≡ slice_index_or xs g x
+      → (slice_get xs g ≡ Some x) × OfLane lanes g (f x) × AllClosed n (h x) × (g < length lanes)
+  writers_at lanes n xs g x fit less is =
+      let at = read_at xs g x less is in
+      let long = length_map f xs in (
+        at,
+        fit.1 g (f x) (map_at f xs g x at),
+        fit.2 g (h x) (map_at h xs g x at),
+        omega (arith, fit.0),
+      )
+
+  pub writers_set : (lanes : List Lane) (n : ℕ) (xs : List X) (g : ℕ) (x new : X)
+      → WritersFit lanes n (map f xs) (map h xs) → slice_get xs g ≡ Some x → OfLane lanes g (f new)
+      → h new ≡ h x → WritersFit lanes n (map f (slice_set xs g new)) (map h (slice_set xs g new))
+  writers_set lanes n xs g x new fit at lane same = (
+    length_map f (slice_set xs g new) ∙ length_set xs g new ∙ sym (length_map f xs) ∙ fit.0,
+    (λ k pass there. ⊎_elim
+        (λ (t : (k ≡ g) × (f new ≡ pass)).
+        subst (λ (y : ℕ × QueuePass). OfLane lanes y.0 y.1) (λ i. (sym t.0 i, t.1 i)) lane)
+        (λ (t : (k ≢ g) × (slice_get (map f xs) k ≡ Some pass)). fit.1 k pass t.1)
+        (get_set (map f xs) g (f new) k pass
+        (ap (λ l. slice_get l k) (sym (map_set f xs g new)) ∙ there))),
+    λ k closed there. fit.2 k closed
+        (ap (λ l. slice_get l k) (sym (map_set_same h xs g x new at same)) ∙ there),
+  )
+
+-- ---- the first passes in a row
+pub rest_at : (lanes : List Lane) (n : ℕ) (rests : List QueuePass) (g : ℕ) (rest : QueuePass)
+    → RestsFit lanes n rests → g < length rests → rest ≡ slice_index_or rests g rest
+    → (slice_get rests g ≡ Some rest) × OfLane lanes g rest × IsRest n rest
+rest_at lanes n rests g rest fit less is =
+    let at = read_at rests g rest less is in
+    let f = fit.1 g rest at in (at, f.0, f.1)
+
+pub rests_set : (lanes : List Lane) (n : ℕ) (rests : List QueuePass) (g : ℕ) (new : QueuePass)
+    → RestsFit lanes n rests → OfLane lanes g new → IsRest n new
+    → RestsFit lanes n (slice_set rests g new)
+rests_set lanes n rests g new fit lane is = (
+  length_set rests g new ∙ fit.0,
+  λ k rest there. ⊎_elim
+      (λ (t : (k ≡ g) × (new ≡ rest)).
+      subst (λ (y : ℕ × QueuePass). OfLane lanes y.0 y.1 × IsRest n y.1) (λ i. (sym t.0 i, t.1 i))
+      (lane, is))
+      (λ (t : (k ≢ g) × (slice_get rests k ≡ Some rest)). fit.1 k rest t.1)
+      (get_set rests g new k rest there),
+)
+
+module _ {O : Type 0} (fits : O → Handed → Type 0) where
+  -- one group more
+  pub told_group : (n g : ℕ) (dones : List (List (Done O))) (lefts : List LeftSeat)
+      (hands : List (List (List Handed))) (done now : List (Done O)) → slice_get dones g ≡ Some done
+      → now ≡ done → hands_of lefts ≡ hands → n ≡ length lefts
+      → ToldBelow fits n g now (hands_of lefts) → ToldBefore fits g dones hands
+      → ToldBefore fits (g + 1) dones hands
+  told_group n g dones lefts hands done now at is same count told before k e d handed jobs less there hand job =
+      dite (ℕ_discrete k g)
+      (λ here.
+      let this : d ≡ done = some_is d done (sym there ∙ ap (slice_get dones) here ∙ at) in
+      let hand' = ap (λ (l : List (List (List Handed))). slice_get l e) same ∙ hand in
+      let below = within (hands_of lefts) e handed hand' in
+      let long = length_map left_by lefts in
+      subst (λ (x : List (Done O)). Told fits e x jobs) (is ∙ sym this)
+      (told e handed jobs (omega arith) hand' (ap (slice_get handed) (sym here) ∙ job)))
+      (λ other. before k e d handed jobs (omega arith) there hand job)
+
+-- the same of the ends that nobody has
+pub none_group : {O : Type 0} (n g : ℕ) (dones : List (List (Done O))) (done : List (Done O))
+    → slice_get dones g ≡ Some done
+    → ((e : ℕ) → n ≤ e → e < end_limit → told_of e done ≡ [])
+    → NoneBefore g n dones → NoneBefore (g + 1) n dones
+none_group {O} n g dones done at none before k e d less there from below = dite (ℕ_discrete k g)
+    (λ here.
+    let this : d ≡ done = some_is d done (sym there ∙ ap (slice_get dones) here ∙ at) in
+    subst (λ (x : List (Done O)). told_of e x ≡ []) (sym this) (none e from below))
+    (λ other. before k e d (omega arith) there from below)
+
+-- ---- one lane more
+pub rests_snoc : (lanes now : List Lane) (lane : Lane) (n : ℕ) (rests grown : List QueuePass)
+    (rest : QueuePass) → RestsFit lanes n rests → now ≡ lanes ++ lane ∷ []
+    → grown ≡ rests ++ rest ∷ [] → IsPassOf (queue_of lane) rest → IsRest n rest
+    → RestsFit now n grown
+rests_snoc lanes now lane n rests grown rest fit more long is none =
+    subst (λ (x : List Lane × List QueuePass). RestsFit x.0 n x.1) (λ i. (sym more i, sym long i)) (
+      length_snoc rests (rests ++ rest ∷ []) rest refl ∙ ap (λ k. k + 1) fit.0
+          ∙ sym (length_snoc lanes (lanes ++ lane ∷ []) lane refl),
+      λ k p at. ⊎_elim
+          (λ (t : slice_get rests k ≡ Some p).
+          let less = within rests k p t in
+          let old = fit.1 k p t in
+          let same = fit.0 in (
+            (λ q there. ⊎_elim
+                (λ (u : slice_get lanes k ≡ Some q). old.0 q u)
+                (λ (u : (k ≡ length lanes) × (lane ≡ q)). let last = u.0 in absurd (omega arith))
+                (get_snoc lanes lane k q there)),
+            old.1,
+          ))
+          (λ (t : (k ≡ length rests) × (rest ≡ p)).
+          let last = t.0 in
+          let same = fit.0 in (
+            (λ q there. ⊎_elim
+                (λ (u : slice_get lanes k ≡ Some q). let less = within lanes k q u in absurd (omega arith))
+                (λ (u : (k ≡ length lanes) × (lane ≡ q)).
+                subst (λ (x : Lane × QueuePass). IsPassOf (queue_of x.0) x.1) (λ i. (u.1 i, t.1 i)) is)
+                (get_snoc lanes lane k q there)),
+            subst (IsRest n) t.1 none,
+          ))
+          (get_snoc rests rest k p at),
+    )

@@ -1,0 +1,33 @@
+use Rattle.std.proofs.Common.{◌≡◌, ◌+◌, ◌∙◌, ap, sym, subst, length, arith, List}
+use Rattle.crossbeam_queue.specs.Passes.{IsPassOf}
+use Rattle.job_queue.specs.Passes.{QueuePass}
+use Rattle.live_seats.specs.Gathered.{IsRest}
+use Rattle.live_seats.specs.Lanes.{queue_of}
+use Rattle.live_seats.specs.Rows.{From}
+use Rattle.live_seats.specs.Started.{Open}
+use Rattle.live_seats.specs.declared.lane.Lane.{Lane}
+use Rattle.live_seats.proofs.Rows.{length_snoc}
+use Rattle.live_seats.proofs.Plans.{ready_grown}
+use Rattle.live_seats.proofs.Writers.{rests_snoc}
+use Rattle.live_seats.proofs.open.open_all.Goals as goal
+
+pub loop-group-preserved : goal.loop-group-preserved
+loop-group-preserved g c =
+    let inv = c.loop-group.invariant in
+    let lanes = c.in_ok-push-3.ensures.items in
+    let rests = c.in_ok-push-2.ensures.items in
+    let writers = c.in_ok-push.ensures.items in
+    let more = length_snoc _ _ _ lanes in
+    let one = length_snoc _ _ _ writers in
+    let add = c.in_ok-lane.ensures in
+    let made = c.in_ok-new_writer.ensures in
+    record {
+      lanes = omega (arith, more, inv.lanes);
+      count = omega (arith, one, inv.count);
+      ends = add.ends ∙ inv.ends;
+      parts = (omega (arith, inv.parts.0, c.split_off-share.ensures.parts_left), omega (arith, inv.parts.1, c.split_off-share.ensures.amount_left));
+      plans = subst (λ (ls : List Lane). From (λ e p. Open ls e p.seat) 0 c.add_lane.new.plans.items) (sym lanes) add.fit;
+      rests = rests_snoc c.loop-group.lanes.items _ c.in_ok-lane.lane _ c.loop-group.rests.items _ c.in_ok-lane.first inv.rests lanes rests add.rest.0 (subst (λ n. IsRest n c.in_ok-lane.first) inv.ends add.rest.1);
+      writers = ready_grown (λ w. w.pass) (λ w. w.lent) (λ w. w.closed.items) c.loop-group.lanes.items _ c.in_ok-lane.lane _ c.loop-group.writers.items _ c.in_ok-new_writer.field-0 inv.writers (inv.count ∙ sym inv.lanes) lanes writers
+          (subst (λ (p : QueuePass). IsPassOf (queue_of c.in_ok-lane.lane) p) (sym made.pass) add.writer.0) made.flags.0 (made.flags.1 ∙ c.len-ends.ensures ∙ c.args.services.ok.0);
+    }

@@ -1,0 +1,47 @@
+use Rattle.std.proofs.Common.{◌≡◌, ◌+◌, ◌<◌, ◌≤◌, ◌∙◌, ap, sym, refl, subst, Some, length, arith}
+use Rattle.std.specs.Vec.Iter.{into_iter_items, into_iter_len}
+use Rattle.live_seats.specs.Started.{Runs, Serves, Ended, Left}
+use Rattle.live_seats.proofs.Rows.{from_head, from_next, from_start, from_none, each_snoc, length_snoc}
+use Rattle.live_seats.proofs.Plans.{ended, left}
+use Rattle.live_seats.proofs.serve.join_ends.Goals as goal
+
+pub loop-handle-init : goal.loop-handle-init
+loop-handle-init g c =
+    let gives = c.into_iter-handle-iterator.ensures.into_iter_gives in
+    let all = c.args.serving.ok.0 in
+    record {
+      count = omega (arith, gives.1, c.requires.none.0);
+      room = c.requires.room.0;
+      todo = from_start (λ n h. Serves c.args.lanes.now n h.promise.lanes.now h.promise.end) _ _ _ c.requires.serves (sym c.requires.none.0) gives.0;
+      both = c.requires.none.1 ∙ sym c.requires.none.0;
+      spare = c.requires.room.1;
+      fit = from_none (λ n x. Left c.args.lanes.now n x) _ c.requires.none.0;
+    }
+
+pub push_reserved-requires : goal.push_reserved-requires
+push_reserved-requires g c =
+    let here = c.loop-handle.lefts.ok.0 in
+    omega (arith, c.loop-handle.invariant.count, c.loop-handle.invariant.room, c.in-Some.ensures.steps.1)
+
+pub push_reserved-requires-in-loop-handle : goal.push_reserved-requires-in-loop-handle
+push_reserved-requires-in-loop-handle g c =
+    let here = c.loop-handle.services.ok.0 in
+    omega (arith, c.loop-handle.invariant.count, c.loop-handle.invariant.both, c.loop-handle.invariant.spare, c.in-Some.ensures.steps.1)
+
+pub loop-handle-preserved : goal.loop-handle-preserved
+loop-handle-preserved g c =
+    let inv = c.loop-handle.invariant in
+    let steps = c.in-Some.ensures.steps in
+    let pushed = c.push_reserved.ensures in
+    let also = c.push_reserved-in-loop-handle.ensures in
+    let long = length_snoc _ _ _ pushed.items in
+    let wide = length_snoc _ _ _ also.items in
+    let head = from_head (λ n h. Serves c.args.lanes.now n h.promise.lanes.now h.promise.end) (length c.loop-handle.lefts.items) _ _ _ inv.todo steps.0 in
+    record {
+      count = omega (arith, long, inv.count, steps.1);
+      room = omega (arith, inv.room, pushed.capacity);
+      todo = from_next (λ n h. Serves c.args.lanes.now n h.promise.lanes.now h.promise.end) _ _ _ _ _ inv.todo steps.0 long;
+      both = omega (arith, inv.both, long, wide);
+      spare = omega (arith, inv.spare, also.capacity);
+      fit = each_snoc (λ n x. Left c.args.lanes.now n x) _ _ _ inv.fit pushed.items (left _ c.in-Some.handle.promise.lanes.now _ c.in-Some.handle.promise.end c.join-seat.result.seat head c.join-seat.ensures.0 c.join-seat.ensures.1);
+    }

@@ -1,0 +1,17 @@
+use Rattle.std.proofs.Common.{◌≡◌, ◌+◌, ◌≤◌, length}
+use Rattle.std.specs.Prelude.{vec_capacity}
+use Rattle.std.specs.Vec.Iter.{into_iter_items, into_iter_len}
+use Rattle.live_seats.specs.Rows.{From}
+use Rattle.live_seats.specs.Started.{Runs, Serves, Ended, Left}
+use Rattle.live_seats.proofs.serve.join_ends.Given as goal
+
+abbrev pub invariant-loop-handle : goal.invariant-loop-handle
+invariant-loop-handle g l =
+    let rest = l.handle-iterator in record {
+      count : length l.lefts.items + into_iter_len rest ≡ length l.fn.serving.items;
+      room : length l.fn.serving.items ≤ vec_capacity l.lefts;
+      todo : From (λ n h. Serves l.lanes n h.promise.lanes.now h.promise.end) (length l.lefts.items) (into_iter_items rest);
+      both : length l.services.items ≡ length l.lefts.items;
+      spare : length l.fn.serving.items ≤ vec_capacity l.services;
+      fit : From (λ n x. Left l.lanes n x) 0 l.lefts.items;
+    }

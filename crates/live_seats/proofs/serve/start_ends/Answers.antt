@@ -1,0 +1,72 @@
+use Rattle.std.proofs.Common.{◌≡◌, ◌+◌, ◌<◌, ◌≤◌, ◌∙◌, ap, sym, refl, subst, true, false, true≢false, Some, length, arith}
+use Rattle.std.specs.Vec.Iter.{into_iter_items, into_iter_len}
+use Rattle.live_seats.specs.Seats.{IsSeatOf}
+use Rattle.live_seats.specs.Started.{Open, Serves}
+use Rattle.live_seats.proofs.Rows.{from_head, from_tail, from_next, from_start, from_none, from_any, each_snoc, length_snoc}
+use Rattle.live_seats.proofs.serve.start_ends.Goals as goal
+
+pub loop-plan-init : goal.loop-plan-init
+loop-plan-init g c =
+    let gives = c.into_iter-plan-iterator.ensures.into_iter_gives in
+    let all = c.args.plans.ok.0 in
+    let fit = from_start (λ n p. Open c.args.lanes.now n p.seat) 0 _ _ c.requires.fit refl gives.0 in
+    record {
+      within = omega (arith, gives.1, c.requires.none);
+      count = λ yes. omega (arith, gives.1, c.requires.none);
+      room = c.requires.room;
+      open_seats = λ k p at. (fit k p at).1;
+      todo = λ yes. from_start (λ n p. Open c.args.lanes.now n p.seat) _ _ _ fit (sym c.requires.none) refl;
+      fit = from_none (λ n h. Serves c.args.lanes.now n h.promise.lanes.now h.promise.end) _ c.requires.none;
+    }
+
+pub hang_up-requires : goal.hang_up-requires
+hang_up-requires g c = record { seat = from_head (λ n p. IsSeatOf c.args.lanes.now p.seat) 0 _ _ _ c.loop-plan.invariant.open_seats c.in-Some.ensures.steps.0 }
+
+pub loop-plan-preserved-then-not-all : goal.loop-plan-preserved-then-not-all
+loop-plan-preserved-then-not-all g c =
+    let inv = c.loop-plan.invariant in
+    let steps = c.in-Some.ensures.steps in
+    record {
+      within = omega (arith, inv.within, steps.1);
+      count = λ yes. absurd (true≢false (sym yes ∙ c.if-not-all.true));
+      room = inv.room;
+      open_seats = from_any (λ p. IsSeatOf c.args.lanes.now p.seat) _ _ _ inv.open_seats steps.0;
+      todo = λ yes. absurd (true≢false (sym yes ∙ c.if-not-all.true));
+      fit = inv.fit;
+    }
+
+pub start_end-requires-clause-seat : goal.start_end-requires-clause-seat
+start_end-requires-clause-seat g c κs within = from_head (λ n p. IsSeatOf c.args.lanes.now p.seat) 0 _ _ _ c.loop-plan.invariant.open_seats c.in-Some.ensures.steps.0
+
+pub loop-plan-preserved-in-Some-start_end : goal.loop-plan-preserved-in-Some-start_end
+loop-plan-preserved-in-Some-start_end g c =
+    let inv = c.loop-plan.invariant in
+    let steps = c.in-Some.ensures.steps in
+    let pushed = c.push_reserved.ensures in
+    let long = length_snoc _ _ _ pushed.items in
+    let yes = c.if-not-all.false in
+    let todo = inv.todo yes in
+    let count = inv.count yes in
+    let head = from_head (λ n p. Open c.args.lanes.now n p.seat) (length c.loop-plan.serving.items) _ _ _ todo steps.0 in
+    let told = c.in-Some-start_end.ensures in
+    record {
+      within = omega (arith, inv.within, steps.1, long);
+      count = λ all. omega (arith, count, steps.1, long);
+      room = (omega (arith, inv.room.0, pushed.capacity), inv.room.1);
+      open_seats = from_any (λ p. IsSeatOf c.args.lanes.now p.seat) _ _ _ inv.open_seats steps.0;
+      todo = λ all. from_next (λ n p. Open c.args.lanes.now n p.seat) _ _ _ _ _ todo steps.0 long;
+      fit = each_snoc (λ n h. Serves c.args.lanes.now n h.promise.lanes.now h.promise.end) _ _ _ inv.fit pushed.items (told.1 ∙ head.0, told.0);
+    }
+
+pub loop-plan-preserved : goal.loop-plan-preserved
+loop-plan-preserved g c =
+    let inv = c.loop-plan.invariant in
+    let steps = c.in-Some.ensures.steps in
+    record {
+      within = omega (arith, inv.within, steps.1);
+      count = λ yes. absurd (true≢false (sym yes));
+      room = inv.room;
+      open_seats = from_any (λ p. IsSeatOf c.args.lanes.now p.seat) _ _ _ inv.open_seats steps.0;
+      todo = λ yes. absurd (true≢false (sym yes));
+      fit = inv.fit;
+    }

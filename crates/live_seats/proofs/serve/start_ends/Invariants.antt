@@ -1,0 +1,18 @@
+use Rattle.std.proofs.Common.{◌≡◌, ◌+◌, ◌≤◌, ℕ, true, length, Some}
+use Rattle.std.specs.Prelude.{vec_capacity, slice_get}
+use Rattle.std.specs.Vec.Iter.{into_iter_items, into_iter_len}
+use Rattle.live_seats.specs.Rows.{From}
+use Rattle.live_seats.specs.Seats.{IsSeatOf}
+use Rattle.live_seats.specs.Started.{Open, Serves}
+use Rattle.live_seats.proofs.serve.start_ends.Given as goal
+
+abbrev pub invariant-loop-plan : goal.invariant-loop-plan
+invariant-loop-plan g l =
+    let rest = l.plan-iterator in record {
+      within : length l.serving.items + into_iter_len rest ≤ length l.fn.plans.items;
+      count : l.all ≡ true → length l.serving.items + into_iter_len rest ≡ length l.fn.plans.items;
+      room : (length l.fn.plans.items ≤ vec_capacity l.serving) × (length l.fn.plans.items ≤ length l.leaves.items);
+      open_seats : From (λ n p. IsSeatOf l.lanes p.seat) 0 (into_iter_items rest);
+      todo : l.all ≡ true → From (λ n p. Open l.lanes n p.seat) (length l.serving.items) (into_iter_items rest);
+      fit : From (λ n h. Serves l.lanes n h.promise.lanes.now h.promise.end) 0 l.serving.items;
+    }

@@ -1,0 +1,6 @@
+pub mod Lanes
+pub mod Rows
+pub mod Seats
+pub mod Gathered
+pub mod Taken
+pub mod Started

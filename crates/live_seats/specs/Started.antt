@@ -1,0 +1,39 @@
+-- The rows with which threads are started, and the rows of their handles.
+use Rattle.std.specs.Prelude.{◌≡◌, ℕ, Bool, false, List, length, Some, slice_get}
+use Rattle.job_queue.specs.Passes.{QueuePass}
+use Rattle.live_seats.specs.Gathered.{OfLane, AllClosed}
+use Rattle.live_seats.specs.Seats.{IsSeatOf, HasLeft, end_of, left_end}
+use Rattle.live_seats.specs.declared.lane.Lane.{Lane}
+use Rattle.live_seats.specs.declared.session.LeftSeat.{LeftSeat}
+use Rattle.live_seats.specs.declared.session.SessionSeat.{SessionSeat}
+
+-- a writer that can be started: its pass is of the lane with this number, its share is here, and it
+-- has a flag for each end
+abbrev pub Ready : List Lane → (ends g : ℕ) → QueuePass → (lent : Bool) → List Bool → Type 0
+Ready lanes ends g pass lent closed =
+    OfLane lanes g pass × (lent ≡ false) × (length closed ≡ ends)
+
+-- a writer that runs promised to take from the lane with this number
+abbrev pub Runs : List Lane → (ends g : ℕ) → Lane → (n : ℕ) → Type 0
+Runs lanes ends g lane n = (n ≡ ends) × (slice_get lanes g ≡ Some lane)
+
+-- an end that can be served: it has this number, and its passes are of these lanes
+abbrev pub Open : List Lane → (e : ℕ) → SessionSeat → Type 0
+Open lanes e seat = (end_of seat ≡ e) × IsSeatOf lanes seat
+
+-- an end that is served promised to leave these lanes
+abbrev pub Serves : List Lane → (e : ℕ) → List Lane → (end : ℕ) → Type 0
+Serves lanes e its end = (end ≡ e) × (its ≡ lanes)
+
+-- a writer that ended: it took the closing mark of each end
+abbrev pub Ended : List Lane → (ends g : ℕ) → QueuePass → (lent : Bool) → List Bool → Type 0
+Ended lanes ends g pass lent closed =
+    OfLane lanes g pass × AllClosed ends closed × (lent ≡ false)
+
+-- an end that left these lanes, which has this number
+abbrev pub Left : List Lane → (e : ℕ) → LeftSeat → Type 0
+Left lanes e left = (left_end left ≡ e) × HasLeft lanes left
+
+-- an end that has no lane yet, and has handed nothing over
+abbrev pub Fresh : (e : ℕ) → SessionSeat → Type 0
+Fresh e seat = (seat.end ≡ e) × (length seat.passes.items ≡ 0)

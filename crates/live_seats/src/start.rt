@@ -1,0 +1,161 @@
+//! The threads of ends and writers.
+ghost use Rattle.std.specs.Prelude.{◌≡◌, ◌+◌, ◌<◌, ◌≤◌, ℕ, true, false, Some, slice_get};
+ghost use Rattle.std.specs.Prelude.{length, vec_len, vec_capacity, map, IfOk, IfSome};
+ghost use Rattle.crossbeam_queue.specs.Passes.{IsPassOf};
+ghost use Rattle.live_seats.specs.Lanes.{queue_of};
+ghost use Rattle.live_seats.specs.Seats.{IsSeatOf, HasLeft, end_of, left_end};
+ghost use Rattle.live_seats.specs.Gathered.{AllClosed};
+ghost use Rattle.live_seats.specs.Rows.{From};
+ghost use Rattle.live_seats.specs.Started.{Ready, Runs, Open, Serves, Ended, Left};
+
+use crate::lane::Lane;
+use crate::outcome::Outcome;
+use crate::session::{LeftSeat, SessionSeat, hang_up, push_marks};
+use crate::writer::{Store, WriterSeat, run_writer};
+use std::sync::Wait;
+use std::sync::atomic::{AtomicBool, Ordering};
+use std::sync::ledger::Ledger;
+use std::thread::{Promise, PromisedHandle, Scope, Threads};
+
+/// What an end does with its seat, in a thread of its own: it serves its connections, and hands
+/// over what they bring.
+pub trait Service<R> {
+    /// Serves until there is nothing more to serve.
+    fn serve(&mut self, rt: &R, lanes: &[Lane], seat: SessionSeat) -> SessionSeat
+        requires seat { IsSeatOf lanes.now seat }
+        ensures seat { IsSeatOf lanes.now result }
+        ensures end { end_of result ≡ end_of seat };
+}
+
+/// An end before its thread starts: its seat, and what it serves.
+#[derive(Drop)]
+pub struct Plan<V> {
+    pub seat: SessionSeat,
+    pub service: V,
+}
+
+/// An end that has left, with what it served.
+#[derive(Drop)]
+pub struct Leaver<V> {
+    pub seat: LeftSeat,
+    pub service: V,
+}
+
+/// A writer's thread gives its seat back with the closing mark of each end.
+#[derive(Clone, Copy)]
+pub struct WriterDone<'a> {
+    pub lane: &'a Lane,
+    pub ends: usize,
+}
+
+impl<'a, L: Ledger, O: Outcome> Promise<WriterSeat<L, O>> for WriterDone<'a> {
+    ghost use Rattle.std.specs.Prelude.{◌≡◌, false};
+    ghost use Rattle.crossbeam_queue.specs.Passes.{IsPassOf};
+    ghost use Rattle.live_seats.specs.Lanes.{queue_of};
+    ghost use Rattle.live_seats.specs.Gathered.{AllClosed};
+
+    ghost kept_by = { λ p r. IsPassOf (queue_of p.lane.now) r.pass
+        × AllClosed p.ends r.closed.items × (r.lent ≡ false) };
+}
+
+/// Starts a writer's thread.
+pub(crate) fn start_writer<
+    's,
+    E,
+    L: Ledger + Send + Sync + 's,
+    O: Outcome + Drop + Send + 's,
+    S: Store<L, O, R> + Sync,
+    R: Threads + Wait + Sync,
+>(
+    scope: &'s Scope<'s, E>,
+    rt: &'s R,
+    lane: &'s Lane,
+    store: &'s S,
+    seat: WriterSeat<L, O>,
+    ends: usize,
+) -> Option<PromisedHandle<WriterSeat<L, O>, WriterDone<'s>>>
+    requires pass { IsPassOf (queue_of lane.now) seat.pass }
+    requires here { seat.lent ≡ false }
+    requires ends { length seat.closed.items ≡ ends }
+    ensures { IfSome result (λ h. (h.promise.lane.now ≡ lane.now) × (h.promise.ends ≡ ends)) }
+{
+    let body = move || -> WriterSeat<L, O>
+        requires { IsPassOf (queue_of lane.now) seat.pass × (seat.lent ≡ false)
+            × (length seat.closed.items ≡ ends) }
+        ensures { IsPassOf (queue_of lane.entry.now) result.pass
+            × AllClosed ends result.closed.items × (result.lent ≡ false) }
+    {
+        let _ = &ends;
+        run_writer(rt, lane, store, seat)
+    };
+    scope.spawn_with(WriterDone { lane, ends }, body).ok()
+}
+
+/// An end's thread gives its seat back with the closing marks pushed.
+#[derive(Clone, Copy)]
+pub struct EndDone<'a> {
+    pub lanes: &'a [Lane],
+    pub end: u64,
+}
+
+impl<'a, V> Promise<Leaver<V>> for EndDone<'a> {
+    ghost use Rattle.std.specs.Prelude.{◌≡◌};
+    ghost use Rattle.live_seats.specs.Seats.{HasLeft, left_end};
+
+    ghost kept_by = { λ p r. (left_end r.seat ≡ p.end) × HasLeft p.lanes.now r.seat };
+}
+
+/// Serves an end, unless it is to leave at once, and then leaves.
+fn serve_end<V: Service<R>, R: Wait>(
+    rt: &R,
+    lanes: &[Lane],
+    plan: Plan<V>,
+    leaves: &AtomicBool,
+) -> Leaver<V>
+    requires seat { IsSeatOf lanes.now plan.seat }
+    ensures left { HasLeft lanes.now result.seat }
+    ensures end { left_end result.seat ≡ end_of plan.seat }
+{
+    let Plan { seat, mut service } = plan;
+    if leaves.load(Ordering::SeqCst) {
+        return Leaver {
+            seat: hang_up(rt, lanes, seat),
+            service,
+        };
+    }
+    let seat = service.serve(rt, lanes, seat);
+    Leaver {
+        seat: hang_up(rt, lanes, seat),
+        service,
+    }
+}
+
+/// Starts an end's thread. Where no thread can be made, the end leaves here and now.
+pub(crate) fn start_end<'s, E, V: Service<R> + Drop + Send + 's, R: Threads + Wait + Sync>(
+    scope: &'s Scope<'s, E>,
+    rt: &'s R,
+    lanes: &'s [Lane],
+    plan: Plan<V>,
+    leaves: &'s AtomicBool,
+) -> Option<PromisedHandle<Leaver<V>, EndDone<'s>>>
+    requires seat { IsSeatOf lanes.now plan.seat }
+    ensures { IfSome result (λ h. (h.promise.lanes.now ≡ lanes.now)
+        × (h.promise.end ≡ end_of plan.seat)) }
+{
+    let end = plan.seat.end;
+    let body = move || -> Leaver<V>
+        requires { IsSeatOf lanes.now plan.seat × (end_of plan.seat ≡ end) }
+        ensures { (left_end result.seat ≡ end) × HasLeft lanes.entry.now result.seat }
+    {
+        let _ = &end;
+        serve_end(rt, lanes, plan, leaves)
+    };
+    match scope.spawn_with(EndDone { lanes, end }, body) {
+        Ok(handle) => Some(handle),
+        Err(refused) => {
+            leaves.store(true, Ordering::SeqCst);
+            (refused.value)();
+            None
+        }
+    }
+}

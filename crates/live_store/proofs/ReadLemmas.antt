@@ -1,0 +1,243 @@
+-- What a read under the lock finds.
+use Rattle.std.proofs.Common.{◌≡◌, ◌∙◌, ℕ, ◌+◌, ◌<◌, ◌≤◌, inl, inr, refl, sym, ap, subst, arith}
+use Rattle.std.proofs.Common.{Bool, true, false, not, cond, nat_lt, nat_le, ◌==◌, ◌||◌, List}
+use Rattle.std.proofs.Common.{length, take}
+use Rattle.std.proofs.Common.{get_or, Option, None, Some, is_some, Ok, Err}
+use Rattle.std.proofs.Math.Logic.{∥∥₁_elim}
+use Rattle.std.proofs.Props.{props}
+use Rattle.std.specs.Coded.{le_prop}
+use Rattle.std.proofs.lemmas.Bool.{or_parts, eqb-true, ltb-true, ltb-false, leb-false}
+use Rattle.std.proofs.lemmas.List.{get_or_default}
+use Rattle.boxcar.specs.Table.{Shelves, Where, Shows}
+use Rattle.news_terms.specs.BlockImage.{chunk}
+use Rattle.news_terms.specs.Places as places
+use Rattle.news_terms.specs.Places.{size_of, on_line}
+use Rattle.news_terms.specs.Token.{Token}
+use Rattle.cyc_token.specs.Token.{token_view}
+use Rattle.cyc_token.specs.declared.Token as codes
+use Rattle.cyc_block.specs.declared.store.BlockStore.{Ghosts}
+use Rattle.cyc_buffer.specs.Answers.{Answer, Chunk, Gone, Unknown, is_beyond, by_numbers, by_text}
+use Rattle.cyc_buffer.specs.Answers.{or_by_text, answer, front_view, IsOther, IsUnread}
+use Rattle.cyc_buffer.specs.Answers.{IsDeviceFault}
+use Rattle.cyc_buffer.specs.Answers as answers
+use Rattle.cyc_buffer.specs.Calls.{ReadsBlock}
+use Rattle.cyc_buffer.specs.History.{History, front_of, text_under}
+use Rattle.cyc_buffer.specs.declared.answers.BufError.{BufError}
+use Rattle.cyc_buffer.specs.declared.answers.BufError.TheVariants as errors
+use Rattle.cyc_buffer.specs.declared.answers.Fault.{Fault}
+use Rattle.cyc_buffer.specs.declared.answers.FaultKind.TheVariants as kinds
+use Rattle.cyc_buffer.specs.declared.answers.Found.TheVariants as found
+use Rattle.cyc_buffer.specs.declared.answers.Front.{Front}
+use Rattle.cyc_buffer.specs.declared.buffer.Buffer.{Buffer}
+use Rattle.cyc_buffer.proofs.Numbers.{undecided, no_chunk}
+use Rattle.cyc_buffer.proofs.Places.{chosen}
+use Rattle.cyc_buffer.proofs.Reading.{under}
+use Rattle.live_store.specs.declared.beside.Beside.{Beside}
+use Rattle.live_store.specs.declared.record.Record.{Record}
+use Rattle.live_store.specs.Tied.{Tied, HasRecord, number_at, token_in, text_in}
+use Rattle.live_store.specs.Steps.{IsChunkOf, IsGoneBy, IsReadFault}
+use Rattle.live_store.proofs.OpenLemmas.{same_device, kind_prop}
+
+-- what is known where a chunk is shown
+record IsShownChunk (h : History) (token : Token) (k n : ℕ) (slice : List ℕ) : Type 0 where
+  text : List ℕ
+  under : text_under h token ≡ Some text
+  undecided : by_numbers h.buffer (front_of h) token k ≡ None
+  same : take n slice ≡ chunk k text
+
+chunk_by : (h : History) (token : Token) (k n : ℕ) (slice : List ℕ) (o : Option Answer)
+    (u : Option (List ℕ))
+    → by_numbers h.buffer (front_of h) token k ≡ o → text_under h token ≡ u
+    → answers.Shows (found.Chunk n) slice (or_by_text o (by_text k u))
+    → IsShownChunk h token k n slice
+chunk_by h token k n slice (Some (Chunk octets)) u is_o is_u shows =
+    absurd (no_chunk h.buffer (front_of h) token k octets is_o)
+chunk_by h token k n slice (Some (Gone front)) u is_o is_u shows = absurd shows
+chunk_by h token k n slice (Some Unknown) u is_o is_u shows = absurd shows
+chunk_by h token k n slice None None is_o is_u shows = absurd shows
+chunk_by h token k n slice None (Some text) is_o is_u shows =
+    record { text = text; under = is_u; undecided = is_o; same = shows.1 }
+
+-- what a look at the numbers finds is the number at the block
+pub number_found : (numbers found : List (Option (Where Record))) (i : ℕ)
+    (x : Option (Where Record)) (v w : Where Record)
+    → found ≡ numbers → true ≡ nat_lt i (length found) → x ≡ get_or found i x → x ≡ Some v → w ≡ v
+    → number_at numbers i ≡ Some w
+number_found numbers found i x v w same within is some again =
+    ap (λ l. get_or l i None) (sym same)
+    ∙ (get_or_default found i None x (ltb-true i (length found) (sym within))
+    ∙ sym is ∙ some ∙ ap Some (sym again))
+
+same_gone : {f p : Front} → Some (Gone f) ≡ Some (Gone p) → f ≡ p
+same_gone e = cc
+
+unknown_gone : {p : Front} → Some Unknown ≡ Some (Gone p) → ⊥
+unknown_gone e = cc
+
+none_gone : {p : Front} → None ≡ Some (Gone p) → ⊥
+none_gone e = cc
+
+not_false : (b : Bool) → not b ≡ false → b ≡ true
+not_false true e = refl
+not_false false e = sym e
+
+-- the numbers by which a token is gone, as a product of equations
+abbrev Passed : Front → Token → Type 0
+Passed front token =
+    (front.buffer ≡ token.buffer) × (0 < token.length)
+    × (token.first + size_of token.length ≤ front.blocks)
+    × (on_line front.blocks token.cycle token.first + front.blocks < front.front)
+
+passed_gone : (front : Front) (token : Token) → Passed front token → IsGoneBy front token
+passed_gone front token p = record {
+  number = p.0;
+  some = p.1;
+  within = p.2;
+  passed = record { passed = p.3 };
+}
+
+numbers_gone : (buffer : places.Buffer) (front : ℕ) (token : Token) (k : ℕ) (passed : Front)
+    → by_numbers buffer front token k ≡ Some (Gone passed) → Passed passed token
+numbers_gone buffer front token k passed e =
+    elim (chosen (is_beyond buffer front token k) (Some Unknown)
+    (cond (nat_lt (on_line buffer.blocks token.cycle token.first + buffer.blocks) front)
+    (Some (Gone (front_view buffer front))) None) (Some (Gone passed)) e) [
+      | inl p ↦ absurd (unknown_gone p.1)
+      | inr p ↦
+          elim (chosen (nat_lt (on_line buffer.blocks token.cycle token.first + buffer.blocks)
+          front) (Some (Gone (front_view buffer front))) None (Some (Gone passed)) p.1) [
+            | inl q ↦
+                let other = not (token.buffer == buffer.number) in
+                let empty = token.length == 0 in
+                let long = nat_lt buffer.blocks (token.first + size_of token.length) in
+                let outside = nat_le (size_of token.length) k in
+                let ahead = nat_le front (on_line buffer.blocks token.cycle token.first) in
+                let a = or_parts (other || empty || long || outside) ahead p.0 in
+                let b = or_parts (other || empty || long) outside a.0 in
+                let c = or_parts (other || empty) long b.0 in
+                let d = or_parts other empty c.0 in
+                subst (λ (f : Front). Passed f token) (same_gone q.1) (
+                  sym (eqb-true token.buffer buffer.number
+                      (not_false (token.buffer == buffer.number) d.0)),
+                  omega (arith, leb-false (size_of token.length) k b.1),
+                  ltb-false buffer.blocks (token.first + size_of token.length) c.1,
+                  ltb-true (on_line buffer.blocks token.cycle token.first + buffer.blocks) front
+                      q.0,
+                )
+            | inr q ↦ absurd (none_gone q.1)
+          ]
+    ]
+
+gone_by : (h : History) (token : Token) (k : ℕ) (front : Front) (slice : List ℕ)
+    (o : Option Answer)
+    → by_numbers h.buffer (front_of h) token k ≡ o → IsOther (found.Gone front) o
+    → (is_some o ≡ true
+    → answers.Shows (found.Gone front) slice (or_by_text o (by_text k (text_under h token))))
+    → Passed front token
+gone_by h token k front slice None is other shows = absurd other
+gone_by h token k front slice (Some (Chunk octets)) is other shows = absurd (shows refl)
+gone_by h token k front slice (Some Unknown) is other shows = absurd (shows refl)
+gone_by h token k front slice (Some (Gone passed)) is other shows =
+    subst (λ (f : Front). Passed f token) (sym (shows refl))
+    (numbers_gone h.buffer (front_of h) token k passed is)
+
+undecided_err : (o : Option Answer) → (is_some o ≡ true → ⊥) → o ≡ None
+undecided_err None no_answer = refl
+undecided_err (Some a) no_answer = absurd (no_answer refl)
+
+-- the fault of a failed read of the token's article
+abbrev read_fault : Token → Fault
+read_fault token = record { kind = kinds.Read; buffer = token.buffer; length = token.length }
+
+fault_from : (token : Token) (f : Fault) → f.kind ≡ kinds.Read → f.buffer ≡ token.buffer
+    → f.length ≡ token.length → f ≡ read_fault token
+fault_from token f kind buffer octets =
+    λ i. record { kind = kind i; buffer = buffer i; length = octets i }
+
+module _ {S : Type 0} {g : Ghosts S} (register : Shelves) (trusted : Bool)
+    (old new : Buffer S g) (b : Option Beside) (numbers : List (Option (Where Record)))
+    (tied : ∥ Tied trusted register old b numbers ∥₁)
+    (token : codes.Token) (k : ℕ) (before after : List ℕ) where
+  -- a chunk that is read is that of the record at the article's first block
+  chunk_of : (n : ℕ) (w : Where Record) → (t : Tied true register old b numbers)
+      → answers.Shows (found.Chunk n) after (answer t.history (token_view token) k)
+      → number_at numbers token.first ≡ Some w
+      → IsChunkOf register (token_view token) k (take n after) w
+  chunk_of n w t shows at =
+      let h = t.history in
+      let c = chunk_by h (token_view token) k n after
+      (by_numbers h.buffer (front_of h) (token_view token) k) (text_under h (token_view token))
+      refl refl shows in
+      let u = under h (token_view token) c.text c.under in
+      let d = undecided h.buffer (front_of h) (token_view token) k c.undecided in
+      let has = subst (HasRecord register h.buffer token.cycle token.first u.article) at
+      (t.numbered token.cycle token.first u.article u.finished
+      (record { begun = d.begun; here = d.live })) in
+      record {
+        shows = has.shows;
+        named = has.token ∙ (λ i. record {
+          class = u.class i;
+          buffer = sym d.number i;
+          cycle = token.cycle;
+          first = token.first;
+          length = u.octets i;
+        });
+        length = ap length has.text ∙ u.octets;
+        inside = d.inside;
+        chunk = c.same ∙ ap (chunk k) (sym (has.text ∙ u.same));
+      }
+
+  abbrev ChunkParts : (n : ℕ) (w : Where Record) → Type 0
+  ChunkParts n w = Shows register w × (token_in w ≡ token_view token)
+      × (length (text_in w) ≡ token.length)
+      × (k < size_of token.length) × (take n after ≡ chunk k (text_in w))
+
+  pub read_chunk : (n : ℕ) (w : Where Record)
+      → ReadsBlock old token k before (Ok (found.Chunk n)) after new
+      → number_at numbers token.first ≡ Some w → trusted ≡ true
+      → IsChunkOf register (token_view token) k (take n after) w
+  read_chunk n w reads at is_true =
+      let all : IsProp (ChunkParts n w) = hlevel (props, le_prop) in
+      let parts = ∥∥₁_elim (subst (λ x. ∥ Tied x register old b numbers ∥₁) is_true tied) all (λ t.
+      let c = chunk_of n w t (reads.found t.history t.agrees) at in
+      (c.shows, c.named, c.length, c.inside, c.chunk)) in
+      record {
+        shows = parts.0;
+        named = parts.1;
+        length = parts.2;
+        inside = parts.3;
+        chunk = parts.4;
+      }
+
+  -- its number is the register's
+  pub read_shown : (w : Where Record) → number_at numbers token.first ≡ Some w → Shows register w
+  read_shown w at =
+      let one : IsProp (Shows register w) = hlevel props in
+      ∥∥₁_elim tied one (λ t. t.shown token.first w at)
+
+  -- what is said to be gone is so by the front
+  pub read_gone : (front : Front) → ReadsBlock old token k before (Ok (found.Gone front)) after new
+      → IsGoneBy front (token_view token)
+  read_gone front reads =
+      let all : IsProp (Passed front (token_view token)) = hlevel (props, le_prop) in
+      passed_gone front (token_view token) (∥∥₁_elim tied all (λ t.
+      gone_by t.history (token_view token) k front after
+      (by_numbers t.history.buffer (front_of t.history) (token_view token) k) refl
+      (reads.other trusted t.history t.agrees)
+      (λ p. reads.unread trusted t.history t.agrees (inl p))))
+
+  -- a fault is that of a read of the token's article
+  pub read_fails : (e : BufError) (f : Fault) → ReadsBlock old token k before (Err e) after new
+      → e ≡ errors.Device f → IsReadFault (token_view token) f
+  read_fails e f reads is =
+      let one : IsProp (f.buffer ≡ token.buffer) = hlevel (props, le_prop) in
+      let two : IsProp (f.length ≡ token.length) = hlevel (props, le_prop) in
+      let fault = λ (t : Tied trusted register old b numbers). same_device
+      (sym is ∙ reads.fault trusted t.history t.agrees) in
+      fault_from (token_view token) f
+      (∥∥₁_elim tied (kind_prop f.kind kinds.Read) (λ t. ap (λ (x : Fault). x.kind) (fault t)))
+      (∥∥₁_elim tied one (λ t. ap (λ (x : Fault). x.buffer) (fault t)
+      ∙ sym (undecided t.history.buffer (front_of t.history) (token_view token) k
+      (undecided_err (by_numbers t.history.buffer (front_of t.history) (token_view token) k)
+      (λ p. reads.unread trusted t.history t.agrees (inl p)))).number))
+      (∥∥₁_elim tied two (λ t. ap (λ (x : Fault). x.length) (fault t)))

@@ -1,0 +1,86 @@
+use Rattle.std.proofs.Common.{sym, ◌∙◌, ap, subst, arith, Some, None, set}
+use Rattle.std.specs.Prelude.{IfSome}
+use Rattle.boxcar.specs.Table.{Shows, Where}
+use Rattle.cyc_token.specs.Token.{token_view}
+use Rattle.live_store.specs.declared.record.Record.{Record}
+use Rattle.live_store.specs.Tied.{Tied}
+use Rattle.live_store.specs.Steps.{CanFinishFor}
+use Rattle.live_store.proofs.OpenLemmas.{the_same, shows_of, can_finish, named_token}
+use Rattle.live_store.proofs.OpenLemmas.{place_of_first, tied_finished}
+use Rattle.live_store.proofs.numbered.NumberedBuffer.finish.Goals as goal
+
+pub can_finish-requires-clause-own : goal.can_finish-requires-clause-own
+can_finish-requires-clause-own g c =
+    subst (λ s. IfSome c.in-Some.beside.shown (λ w. Shows s w)) (sym c.requires.register)
+    (shows_of g.J.Archive.register g.J.Archive.trusted c.args.self.now.buffer c.in-Some.beside
+    c.args.self.now.numbers.items
+    (subst (λ b. ∥ Tied g.J.Archive.trusted g.J.Archive.register c.args.self.now.buffer b
+    c.args.self.now.numbers.items ∥₁) c.in-Some.is c.args.self.now.tied))
+
+pub index_mut-requires : goal.index_mut-requires
+index_mut-requires g c =
+    let field = c.in-Some-take.field-0 in
+    let tied = subst (λ b. ∥ Tied g.J.Archive.trusted g.J.Archive.register
+    c.args.self.now.buffer b c.args.self.now.numbers.items ∥₁)
+    (sym c.take.ensures.value ∙ c.in-Some-take.is) c.args.self.now.tied in
+    omega (
+      arith,
+      place_of_first g.J.Archive.register g.J.Archive.trusted c.args.self.now.buffer field
+          c.args.self.now.numbers.items tied,
+      ap (λ t. t.first) c.finish-token.ensures.handle,
+    )
+
+pub invariant_of-self : goal.invariant_of-self
+invariant_of-self g c =
+    let field = c.in-Some-take.field-0 in
+    let tied = subst (λ b. ∥ Tied g.J.Archive.trusted g.J.Archive.register
+    c.args.self.now.buffer b c.args.self.now.numbers.items ∥₁)
+    (sym c.take.ensures.value ∙ c.in-Some-take.is) c.args.self.now.tied in
+    let can = subst (λ b. CanFinishFor b c.args.shown.now)
+    (the_same c.args.self.now.beside c.take.result c.in-Some.beside field c.in-Some.is
+    c.take.ensures.value c.in-Some-take.is) (c.can_finish.ensures.0 c.if-not-can_finish.false) in
+    let follows = c.finish-token.ensures.finished
+    (can_finish g.J.Archive.register g.J.Archive.trusted c.args.self.now.buffer field
+    c.args.self.now.numbers.items tied c.args.shown.now can) in
+    record {
+      tied = subst (λ b. ∥ Tied g.J.Archive.trusted g.J.Archive.register c.finish-token.new.self b
+          (set c.args.self.now.numbers.items c.finish-token.result.first (Some c.again.result))
+          ∥₁) (sym c.take.ensures.after)
+          (subst (λ (w : Where Record). ∥ Tied g.J.Archive.trusted g.J.Archive.register
+          c.finish-token.new.self None
+          (set c.args.self.now.numbers.items c.finish-token.result.first (Some w)) ∥₁)
+          (sym c.again.ensures)
+          (subst (λ n. ∥ Tied g.J.Archive.trusted g.J.Archive.register c.finish-token.new.self None
+          (set c.args.self.now.numbers.items n (Some c.args.shown.now)) ∥₁)
+          (sym (ap (λ t. t.first) c.finish-token.ensures.handle))
+          (tied_finished g.J.Archive.register g.J.Archive.trusted c.args.self.now.buffer field
+          c.args.self.now.numbers.items tied c.finish-token.new.self c.args.shown.now can
+          c.requires.shown follows)));
+    }
+
+pub returns-clause-named : goal.returns-clause-named
+returns-clause-named g c =
+    let field = c.in-Some-take.field-0 in
+    let tied = subst (λ b. ∥ Tied g.J.Archive.trusted g.J.Archive.register
+    c.args.self.now.buffer b c.args.self.now.numbers.items ∥₁)
+    (sym c.take.ensures.value ∙ c.in-Some-take.is) c.args.self.now.tied in
+    let can = subst (λ b. CanFinishFor b c.args.shown.now)
+    (the_same c.args.self.now.beside c.take.result c.in-Some.beside field c.in-Some.is
+    c.take.ensures.value c.in-Some-take.is) (c.can_finish.ensures.0 c.if-not-can_finish.false) in
+    ap token_view c.finish-token.ensures.handle
+    ∙ named_token g.J.Archive.register g.J.Archive.trusted c.args.self.now.buffer field
+    c.args.self.now.numbers.items tied c.args.shown.now can.unbroken can.named
+
+pub returns-clause-finished : goal.returns-clause-finished
+returns-clause-finished g c =
+    let field = c.in-Some-take.field-0 in
+    let tied = subst (λ b. ∥ Tied g.J.Archive.trusted g.J.Archive.register
+    c.args.self.now.buffer b c.args.self.now.numbers.items ∥₁)
+    (sym c.take.ensures.value ∙ c.in-Some-take.is) c.args.self.now.tied in
+    let can = subst (λ b. CanFinishFor b c.args.shown.now)
+    (the_same c.args.self.now.beside c.take.result c.in-Some.beside field c.in-Some.is
+    c.take.ensures.value c.in-Some-take.is) (c.can_finish.ensures.0 c.if-not-can_finish.false) in
+    let follows = c.finish-token.ensures.finished
+    (can_finish g.J.Archive.register g.J.Archive.trusted c.args.self.now.buffer field
+    c.args.self.now.numbers.items tied c.args.shown.now can) in
+    follows

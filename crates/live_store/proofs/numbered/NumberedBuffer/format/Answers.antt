@@ -1,0 +1,11 @@
+use Rattle.std.proofs.Common.{◌∙◌, ap, None, replicate}
+use Rattle.live_store.proofs.TiedLemmas.{tied_new}
+use Rattle.live_store.proofs.numbered.NumberedBuffer.format.Goals as goal
+
+pub invariant_of-result : goal.invariant_of-result
+invariant_of-result g c = record {
+  tied = ∣ tied_new g.J.Archive.register g.J.Archive.trusted c.args.number c.args.first_cycle
+      c.args.store c.in_ok-buffer.buffer c.in_ok-numbers.numbers.items c.requires
+      c.in_ok-buffer.ensures.new
+      (c.in_ok-numbers.ensures ∙ ap (λ n. replicate n None) c.count.ensures) ∣₁;
+}

@@ -1,0 +1,4 @@
+pub mod Fetches
+pub mod Steps
+pub mod Stores
+pub mod Tied

@@ -1,0 +1,154 @@
+-- What the steps under a buffer's lock answer.
+use Rattle.std.specs.Prelude.{◌≡◌, ℕ, ◌+◌, ◌<◌, ◌≤◌, Bool, false, List, length, take, Option}
+use Rattle.std.specs.Prelude.{Result, Ok, Err, is_none}
+use Rattle.boxcar.specs.Table.{Shelves, Where, Shows}
+use Rattle.cyc_block.specs.declared.store.BlockStore.{Ghosts}
+use Rattle.cyc_buffer.specs.Agreement.{CanWrite, length_of, token_of}
+use Rattle.cyc_buffer.specs.Calls.{WritesNext, LeavesDevice}
+use Rattle.cyc_buffer.specs.declared.answers.BufError.{BufError}
+use Rattle.cyc_buffer.specs.declared.answers.BufError.TheVariants as errors
+use Rattle.cyc_buffer.specs.declared.answers.Fault.{Fault}
+use Rattle.cyc_buffer.specs.declared.answers.FaultKind.TheVariants as kinds
+use Rattle.cyc_buffer.specs.declared.answers.Front.{Front}
+use Rattle.cyc_buffer.specs.declared.buffer.Buffer.{Buffer}
+use Rattle.cyc_buffer.specs.declared.register.Open.{Open}
+use Rattle.cyc_token.specs.Token.{token_view}
+use Rattle.live_store.specs.declared.answers.Reading.{Reading}
+use Rattle.live_store.specs.declared.answers.Reading.TheVariants as readings
+use Rattle.live_store.specs.declared.answers.WriteFault.{WriteFault}
+use Rattle.live_store.specs.declared.answers.WriteFault.TheVariants as writes
+use Rattle.live_store.specs.declared.beside.Beside.{Beside}
+use Rattle.live_store.specs.declared.numbered.NumberedBuffer.{NumberedBuffer}
+use Rattle.live_store.specs.declared.record.Archive as archives
+use Rattle.live_store.specs.declared.record.Record.{Record}
+use Rattle.live_store.specs.Tied.{token_in, text_in, IsNamed, IsSameRecord}
+use Rattle.news_terms.specs.BlockImage.{chunk, chunk_size}
+use Rattle.news_terms.specs.Places.{IsGone, size_of, on_line}
+use Rattle.news_terms.specs.Token.{Token}
+
+-- the buffer that lies under the lock
+abbrev pub buffer_of : {S : Type 0} {s : Ghosts S} {J : Type 0} {j : archives.Ghosts J}
+    → NumberedBuffer S J s j → Buffer S s
+buffer_of numbered = numbered.buffer
+
+-- what stands beside it
+abbrev pub beside_of : {S : Type 0} {s : Ghosts S} {J : Type 0} {j : archives.Ghosts J}
+    → NumberedBuffer S J s j → Option Beside
+beside_of numbered = numbered.beside
+
+-- the next block of an open write can be written for a record: no write of a block failed, it is
+-- the record's, a block of it is left, and the record's text is as long as the article
+pub record CanWriteFor (b : Beside) (shown : Where Record) : Type 0 where
+  pub unbroken : b.broken ≡ false
+  pub named : IsNamed b.write b.shown shown
+  pub left : b.written < size_of (length_of b.write)
+  pub octets : length (text_in shown) ≡ length_of b.write
+
+-- an open write can be finished for a record: no write of a block failed, it has the record's
+-- number, and all of it is written
+pub record CanFinishFor (b : Beside) (shown : Where Record) : Type 0 where
+  pub unbroken : b.broken ≡ false
+  pub begun : is_none b.shown ≡ false
+  pub named : IsNamed b.write b.shown shown
+  pub written : b.written ≡ size_of (length_of b.write)
+
+-- the open write is the record's
+abbrev pub IsOfWrite : Beside → Where Record → Type 0
+IsOfWrite b shown = IsNamed b.write b.shown shown
+
+-- the open write has the record's token, and the next block of the text is written for it, or the
+-- device fails
+pub record WritesRecord {S : Type 0} {g : Ghosts S} (old : Buffer S g) (shown : Where Record)
+    (text : List ℕ) (result : Result Bool BufError) (new : Buffer S g)
+    : Type 0 where
+  pub write : Open
+  pub named : token_view (token_of write) ≡ token_in shown
+  pub can : CanWrite old write text
+  pub writes : WritesNext old write text result new
+  pub device : LeavesDevice old result new
+
+-- the record's next block is written, or the device fails; or the write is mixed up, and nothing
+-- is changed
+abbrev pub WritesOrMixed : {S : Type 0} {g : Ghosts S} (old : Buffer S g) (shown : Where Record)
+    (text : List ℕ) → Result Bool WriteFault → (new : Buffer S g) → Type 0
+WritesOrMixed old shown text (Ok last) new = WritesRecord old shown text (Ok last) new
+WritesOrMixed old shown text (Err (writes.Device fault)) new =
+    WritesRecord old shown text (Err (errors.Device fault)) new
+WritesOrMixed old shown text (Err writes.Mixed) new = new ≡ old
+
+-- the fault is the device's at a write of an article of so many octets
+abbrev pub IsWriteFaultOf : (octets : ℕ) → Fault → Type 0
+IsWriteFaultOf octets fault = (fault.kind ≡ kinds.Write) × (fault.length ≡ octets)
+
+-- the fault that the write of a block carries, where it does, is of the text
+abbrev pub IsWriteFault : (text : List ℕ) → WriteFault → Type 0
+IsWriteFault text (writes.Device fault) = IsWriteFaultOf (length text) fault
+IsWriteFault text writes.Mixed = Unit {0}
+
+-- a begin of an article of so many octets isn't refused by the device, and the fault that a worn
+-- buffer carries is of it
+abbrev pub IsBeginFault : (octets : ℕ) → BufError → Type 0
+IsBeginFault octets errors.TooBig = Unit {0}
+IsBeginFault octets (errors.Worn fault) = (fault.kind ≡ kinds.Worn) × (fault.length ≡ octets)
+IsBeginFault octets errors.Busy = Unit {0}
+IsBeginFault octets (errors.Device fault) = ⊥
+
+-- these octets are chunk k of the text of the record of this number, which has the token
+pub record IsChunkOf (register : Shelves) (token : Token) (k : ℕ) (octets : List ℕ)
+    (shown : Where Record)
+    : Type 0 where
+  pub shows : Shows register shown
+  pub named : token_in shown ≡ token
+  pub length : length (text_in shown) ≡ token.length
+  pub inside : k < size_of token.length
+  pub chunk : octets ≡ chunk k (text_in shown)
+
+-- the octets at the front of the slice are a chunk of the record that the read names
+abbrev pub IsReading : Shelves → Token → (k : ℕ) → List ℕ → Reading → Type 0
+IsReading register token k slice (readings.Chunk n shown) =
+    IsChunkOf register token k (take n slice) shown
+IsReading register token k slice (readings.Gone front) = Unit {0}
+IsReading register token k slice readings.Unknown = Unit {0}
+
+-- the number that a read gave is one of the register
+abbrev pub IsShown : Shelves → Reading → Type 0
+IsShown register (readings.Chunk n shown) = Shows register shown
+IsShown register (readings.Gone front) = Unit {0}
+IsShown register readings.Unknown = Unit {0}
+
+-- a chunk has no more octets than a block holds
+abbrev pub HasOctets : Reading → Type 0
+HasOctets (readings.Chunk n shown) = n ≤ chunk_size
+HasOctets (readings.Gone front) = Unit {0}
+HasOctets readings.Unknown = Unit {0}
+
+-- a chunk is one of the record of this number
+abbrev pub IsOfRecord : Where Record → Reading → Type 0
+IsOfRecord own (readings.Chunk n shown) = IsSameRecord shown own
+IsOfRecord own (readings.Gone front) = Unit {0}
+IsOfRecord own readings.Unknown = Unit {0}
+
+-- this front of the token's buffer has passed the article that the token is of
+pub record IsGoneBy (front : Front) (token : Token) : Type 0 where
+  pub number : front.buffer ≡ token.buffer
+  pub some : 0 < token.length
+  pub within : token.first + size_of token.length ≤ front.blocks
+  pub passed : IsGone front.blocks front.front (on_line front.blocks token.cycle token.first)
+
+-- what is said to be gone is so by the front
+abbrev pub IsPassed : Token → Reading → Type 0
+IsPassed token (readings.Chunk n shown) = Unit {0}
+IsPassed token (readings.Gone front) = IsGoneBy front token
+IsPassed token readings.Unknown = Unit {0}
+
+-- the fault is the device's at a read of the token's article
+abbrev pub IsReadFault : Token → Fault → Type 0
+IsReadFault token fault =
+    fault ≡ record { kind = kinds.Read; buffer = token.buffer; length = token.length }
+
+-- the device failed
+abbrev pub IsDevice : BufError → Type 0
+IsDevice (errors.Device fault) = Unit {0}
+IsDevice errors.TooBig = ⊥
+IsDevice (errors.Worn fault) = ⊥
+IsDevice errors.Busy = ⊥

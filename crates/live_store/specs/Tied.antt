@@ -1,0 +1,128 @@
+-- The numbers of the register that stand beside a buffer: what the type of a buffer under a lock
+-- says (docs/PROTOCOL.md, Store).
+use Rattle.std.specs.Prelude.{◌≡◌, ℕ, Bool, false, List, length, slice_index_or, Option}
+use Rattle.std.specs.Prelude.{None, Some, IfSome}
+use Rattle.boxcar.specs.Table.{Shelves, Where, Shows}
+use Rattle.cyc_block.specs.declared.store.BlockStore.{Ghosts}
+use Rattle.cyc_buffer.specs.Agreement.{Agrees, Owns, Continues, blocks_written, is_broken, token_of}
+use Rattle.cyc_buffer.specs.History.{History, Article, finished_at, front_of}
+use Rattle.cyc_buffer.specs.declared.buffer.Buffer.{Buffer}
+use Rattle.cyc_buffer.specs.declared.register.Open.{Open}
+use Rattle.cyc_token.specs.Token.{token_view}
+use Rattle.cyc_token.specs.declared.Token as codes
+use Rattle.live_store.specs.declared.beside.Beside.{Beside}
+use Rattle.live_store.specs.declared.record.Record.{Record}
+use Rattle.news_terms.specs.Places as places
+use Rattle.news_terms.specs.Places.{IsLive, on_line}
+use Rattle.news_terms.specs.Token.{Token}
+
+-- the token of the record of a number, as the code has it
+abbrev pub named_in : Where Record → codes.Token
+named_in shown = shown.value.token
+
+-- the token of the record of a number
+abbrev pub token_in : Where Record → Token
+token_in shown = token_view (named_in shown)
+
+-- the text of the record of a number
+abbrev pub text_in : Where Record → List ℕ
+text_in shown = shown.value.text.value.items
+
+-- two numbers are one, and so they are of one record
+abbrev pub IsSameRecord : Where Record → Where Record → Type 0
+IsSameRecord a b = (a.index ≡ b.index) × (a.value ≡ b.value)
+
+-- the token of an article that a buffer finished
+abbrev pub article_token : places.Buffer → (cycle first : ℕ) → Article → Token
+article_token buffer cycle first article = record {
+  class = article.class;
+  buffer = buffer.number;
+  cycle = cycle;
+  first = first;
+  length = length article.text;
+}
+
+-- the number is one of the register, whose record is that of an article that a buffer finished
+pub record IsRecordOf (register : Shelves) (buffer : places.Buffer) (cycle first : ℕ)
+    (article : Article) (shown : Where Record)
+    : Type 0 where
+  pub shows : Shows register shown
+  pub text : text_in shown ≡ article.text
+  pub token : token_in shown ≡ article_token buffer cycle first article
+
+-- there is such a number
+abbrev pub HasRecord : Shelves → places.Buffer → (cycle first : ℕ) → Article
+    → Option (Where Record) → Type 0
+HasRecord register buffer cycle first article None = ⊥
+HasRecord register buffer cycle first article (Some shown) =
+    IsRecordOf register buffer cycle first article shown
+
+-- the number at a block
+abbrev pub number_at : List (Option (Where Record)) → (block : ℕ) → Option (Where Record)
+number_at numbers block = slice_index_or numbers block None
+
+-- each live finished article has its record's number at its first block
+abbrev pub AreNumbered : Shelves → History → List (Option (Where Record)) → Type 0
+AreNumbered register h numbers = (cycle first : ℕ) (article : Article)
+    → finished_at h.buffer h.begins cycle first ≡ Some article
+    → IsLive h.buffer.blocks (front_of h) (on_line h.buffer.blocks cycle first)
+    → HasRecord register h.buffer cycle first article (number_at numbers first)
+
+-- each number that stands at a block is one of the register
+abbrev pub AreShown : Shelves → List (Option (Where Record)) → Type 0
+AreShown register numbers = (block : ℕ) (shown : Where Record)
+    → number_at numbers block ≡ Some shown → Shows register shown
+
+-- the record of this number is that of the open write: it has its token and as many octets, and
+-- its text begins with what is written
+pub record IsWrittenAs (register : Shelves) (h : History) (write : Open) (shown : Where Record)
+    : Type 0 where
+  pub shows : Shows register shown
+  pub named : token_view (token_of write) ≡ token_in shown
+  pub octets : length (text_in shown) ≡ (token_in shown).length
+  pub begun : Continues (text_in shown) h
+
+-- the number beside an open write is its record's; before one stands there nothing is written
+abbrev pub HasNumber : Shelves → History → Beside → Option (Where Record) → Type 0
+HasNumber register h b None = b.written ≡ 0
+HasNumber register h b (Some shown) = IsWrittenAs register h b.write shown
+
+-- no write of a block of it failed, and what stands beside it says how far it has come
+pub record IsWhole {S : Type 0} {g : Ghosts S} (register : Shelves) (buffer : Buffer S g)
+    (h : History) (b : Beside)
+    : Type 0 where
+  pub unbroken : is_broken buffer ≡ false
+  pub written : b.written ≡ blocks_written buffer
+  pub number : HasNumber register h b b.shown
+
+-- the record of this number is an open write's: it has the write's number, or, where that has none
+-- yet, the write's token
+abbrev pub IsNamed : Open → Option (Where Record) → Where Record → Type 0
+IsNamed write None shown = named_in shown ≡ token_of write
+IsNamed write (Some own) shown = IsSameRecord own shown
+
+-- what stands beside a buffer is its open write
+pub record IsOpen {S : Type 0} {g : Ghosts S} (register : Shelves) (buffer : Buffer S g)
+    (h : History) (b : Beside)
+    : Type 0 where
+  pub owns : Owns buffer b.write
+  pub shown : IfSome b.shown (λ shown. Shows register shown)
+  pub whole : b.broken ≡ false → IsWhole register buffer h b
+
+-- where something stands beside a buffer, it is its open write
+abbrev pub IsBeside : {S : Type 0} {g : Ghosts S} → Shelves → Buffer S g → History → Option Beside
+    → Type 0
+IsBeside register buffer h None = Unit {0}
+IsBeside register buffer h (Some b) = IsOpen register buffer h b
+
+-- The buffer agrees with a history, in which the open write is the one beside it, and each live
+-- finished article has its record's number at its first block.
+pub record Tied {S : Type 0} {g : Ghosts S} (trusted : Bool) (register : Shelves)
+    (buffer : Buffer S g) (beside : Option Beside) (numbers : List (Option (Where Record)))
+    : Type 0 where
+  pub history : History
+  pub agrees : Agrees trusted buffer history
+  pub open_write : IsBeside register buffer history beside
+  pub numbered : AreNumbered register history numbers
+  pub shown : AreShown register numbers
+  pub places : length numbers ≡ history.buffer.blocks

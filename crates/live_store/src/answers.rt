@@ -1,0 +1,27 @@
+//! What the steps under a buffer's lock answer.
+use crate::record::Shown;
+use cyc_buffer::{Fault, Front};
+
+/// The open write isn't the record's, or it can't be what is asked for: nothing is done.
+#[derive(Clone, Copy, Debug, PartialEq, Eq)]
+pub struct Mixed;
+
+/// Why a block was not written, in the order of trial.
+#[derive(Debug, Drop)]
+pub enum WriteFault {
+    /// The open write isn't the record's, or no further block of it can be written.
+    Mixed,
+    /// The device failed.
+    Device(Fault),
+}
+
+/// What a read of a block found.
+#[derive(Drop)]
+pub enum Reading {
+    /// So many octets at the front of the slice are the chunk, of the record of this number.
+    Chunk(usize, Shown),
+    /// The article was overwritten: this front has passed it.
+    Gone(Front),
+    /// Nothing was finished under the token, or it has no such chunk.
+    Unknown,
+}

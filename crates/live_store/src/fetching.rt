@@ -1,0 +1,89 @@
+//! A fetch, in any thread: one block at a time under the buffer's lock.
+ghost use Rattle.std.specs.Prelude.{◌≡◌, true, IfOk};
+ghost use Rattle.boxcar.specs.Table.{Shows};
+ghost use Rattle.cyc_token.specs.Token.{token_view};
+ghost use Rattle.live_store.specs.Fetches.{IsFetched, IsFirst, IsRest};
+ghost use Rattle.live_store.specs.Tied.{text_in};
+
+use crate::answers::Reading;
+use crate::fetched::{Fetched, Rest, Text};
+use crate::numbered::NumberedBuffer;
+use crate::reading::read_block;
+use crate::record::{Archive, Register, Shown};
+use cyc_block::{BlockStore, CHUNK_OCTETS};
+use cyc_buffer::size_of;
+use cyc_token::Token;
+use std::alloc::{AllocError, Global};
+use std::marker::PhantomData;
+use std::sync::{Mutex, Wait};
+
+/// Fetches the text under a token out of the buffer of its number, one block at a time. Its memory
+/// is taken once the first block is found, so none is for a token under which nothing is stored.
+pub fn fetch<S: BlockStore, J: Archive, R: Wait>(
+    rt: &R,
+    alloc: Global,
+    buffers: &Vec<Mutex<NumberedBuffer<S, J>>>,
+    register: &Register,
+    token: &Token,
+) -> Result<Fetched<J>, AllocError>
+    requires { register.now ≡ J.register }
+    ensures { IfOk result (IsFetched J.trusted (token_view token.now)) }
+{
+    let Some(buffer) = buffers.get(usize::from(token.buffer)) else {
+        return Ok(Fetched::Unknown);
+    };
+    let mut chunk = [0; CHUNK_OCTETS];
+    let first = read_block(rt, buffer, register, token, 0, None, &mut chunk);
+    let (octets, shown) = match first {
+        Ok(Reading::Chunk(octets, shown)) => (octets, shown),
+        Ok(Reading::Gone(front)) => return Ok(Fetched::Gone(front)),
+        Ok(Reading::Unknown) => return Ok(Fetched::Unknown),
+        Err(fault) => return Ok(Fetched::Device(fault)),
+    };
+    let mut text = Vec::with_capacity(alloc, token.length as usize)?;
+    text.extend_from_slice(&chunk[..octets])?;
+    match rest(rt, buffer, register, token, &shown, text)? {
+        Rest::All(text) => Ok(Fetched::Whole(whole(text, shown))),
+        Rest::Not(fetched) => Ok(fetched),
+    }
+}
+
+/// Reads the blocks after the first one, each of the record of this number.
+fn rest<S: BlockStore, J: Archive, R: Wait>(
+    rt: &R,
+    buffer: &Mutex<NumberedBuffer<S, J>>,
+    register: &Register,
+    token: &Token,
+    shown: &Shown,
+    mut text: Vec<u8>,
+) -> Result<Rest<J>, AllocError>
+    requires register { register.now ≡ J.register }
+    requires shown { Shows J.register shown.now }
+    requires first { J.trusted ≡ true → IsFirst (token_view token.now) shown.now text.items }
+    ensures { IfOk result (IsRest J.trusted (token_view token.now) shown.now) }
+{
+    let mut chunk = [0; CHUNK_OCTETS];
+    for k in 1..size_of(token.length) {
+        let reading = read_block(rt, buffer, register, token, k, Some(shown), &mut chunk);
+        match reading {
+            Ok(Reading::Chunk(octets, _same)) => text.extend_from_slice(&chunk[..octets])?,
+            Ok(Reading::Gone(front)) => return Ok(Rest::Not(Fetched::Gone(front))),
+            Ok(Reading::Unknown) => return Ok(Rest::Not(Fetched::Unknown)),
+            Err(fault) => return Ok(Rest::Not(Fetched::Device(fault))),
+        }
+    }
+    Ok(Rest::All(text))
+}
+
+/// A text of which all blocks were read.
+fn whole<J: Archive>(octets: Vec<u8>, shown: Shown) -> Text<J>
+    requires here { Shows J.register shown }
+    requires whole { J.trusted ≡ true → octets.items ≡ text_in shown }
+    ensures { result.shown ≡ shown }
+{
+    Text {
+        octets,
+        shown,
+        of: PhantomData,
+    }
+}

@@ -1,0 +1,98 @@
+//! A new buffer, and what a report says of one.
+ghost use Rattle.std.specs.Prelude.{◌≡◌, IfOk, None, replicate};
+
+use crate::numbered::NumberedBuffer;
+use crate::record::{Archive, Shown};
+use cyc_block::BlockStore;
+use cyc_buffer::Buffer;
+use std::alloc::{AllocError, Global};
+use std::marker::PhantomData;
+
+impl<S: BlockStore, J: Archive> NumberedBuffer<S, J> {
+    ghost use Rattle.std.specs.Prelude.{◌≡◌, Bool, true, length};
+    ghost use Rattle.cyc_buffer.specs.Agreement.{Agrees, store_of};
+    ghost use Rattle.cyc_buffer.specs.History.{History, new_history, front_of, cycle_of};
+    ghost use Rattle.cyc_buffer.specs.History.{stored_count};
+    ghost use Rattle.live_store.specs.Steps.{buffer_of};
+
+    /// A buffer over all blocks of a store, in which nothing was begun yet. All memory is taken
+    /// here: beside the buffer's own, 32 octets for each block.
+    pub fn format(
+        alloc: Global,
+        store: S,
+        number: u8,
+        first_cycle: u32,
+    ) -> Result<NumberedBuffer<S, J>, AllocError>
+    where
+        S: Drop,
+        requires { J.trusted ≡ true → S.honest store }
+        ensures new { IfOk result (λ numbered. (trusted : Bool) → (trusted ≡ true → S.honest store)
+            → Agrees trusted (buffer_of numbered) (new_history (record {
+              number = number;
+              blocks = length (S.blocks store);
+              first_cycle = first_cycle;
+            }))) }
+        // The device isn't called.
+        ensures store { IfOk result (λ numbered. store_of (buffer_of numbered) ≡ store) }
+    {
+        let numbers = no_numbers(alloc, store.count())?;
+        let buffer = Buffer::format(alloc, store, number, first_cycle)?;
+        Ok(NumberedBuffer {
+            buffer,
+            beside: None,
+            numbers,
+            of: PhantomData,
+        })
+    }
+
+    /// The front's place on the endless line of the buffer's blocks.
+    pub fn front(&self) -> u64
+        ensures { (trusted : Bool) (h : History) → Agrees trusted (buffer_of self.now) h
+            → result ≡ front_of h }
+    {
+        self.buffer.front()
+    }
+
+    /// The cycle that the newest article is in; the first one where there is none.
+    pub fn cycle(&self) -> u32
+        ensures { (trusted : Bool) (h : History) → Agrees trusted (buffer_of self.now) h
+            → result ≡ cycle_of h }
+    {
+        self.buffer.cycle()
+    }
+
+    /// How many articles were begun in the buffer.
+    pub fn begun(&self) -> u64
+        ensures { (trusted : Bool) (h : History) → Agrees trusted (buffer_of self.now) h
+            → result ≡ length h.begins }
+    {
+        self.buffer.begun()
+    }
+
+    /// How many of the articles that were begun in the buffer were finished.
+    pub fn stored(&self) -> u64
+        ensures { (trusted : Bool) (h : History) → Agrees trusted (buffer_of self.now) h
+            → result ≡ stored_count h.begins }
+    {
+        self.buffer.stored()
+    }
+
+    /// How many blocks the buffer has.
+    pub fn blocks(&self) -> u32
+        ensures { (trusted : Bool) (h : History) → Agrees trusted (buffer_of self.now) h
+            → result ≡ h.buffer.blocks }
+    {
+        self.buffer.blocks()
+    }
+}
+
+/// No number for each block.
+fn no_numbers(alloc: Global, blocks: u32) -> Result<Vec<Option<Shown>>, AllocError>
+    ensures { IfOk result (λ numbers. numbers.items ≡ replicate blocks None) }
+{
+    let mut numbers = Vec::with_capacity(alloc, blocks as usize)?;
+    for _ in 0..blocks {
+        numbers.push(None)?;
+    }
+    Ok(numbers)
+}

@@ -1,0 +1,294 @@
+//! The steps under a buffer's lock, each one call of the buffer.
+ghost use Rattle.std.specs.Prelude.{◌≡◌, ◌↔◌, IsTrue, None, Some, IfSome, length};
+ghost use Rattle.boxcar.specs.Table.{Shows};
+ghost use Rattle.live_store.specs.Tied.{text_in};
+ghost use Rattle.live_store.specs.Steps.{CanWriteFor, CanFinishFor, IsOfWrite, IsDevice};
+ghost use Rattle.cyc_buffer.specs.declared.answers.BufError.TheVariants as errors;
+
+use crate::answers::{Mixed, Reading, WriteFault};
+use crate::beside::Beside;
+use crate::numbered::NumberedBuffer;
+use crate::record::{Archive, Register, Shown};
+use cyc_block::{BlockStore, CHUNK_OCTETS};
+use cyc_buffer::{BufError, Fault, Found, Open, size_of};
+use cyc_token::Token;
+
+impl<S: BlockStore, J: Archive> NumberedBuffer<S, J> {
+    ghost use Rattle.std.specs.Prelude.{◌≡◌, ◌≤◌, ◌<◌, Bool, true, Some, Ok, Err, IfOk, OnOk};
+    ghost use Rattle.std.specs.Prelude.{OnErr, IfErr, IsSomeAnd};
+    ghost use Rattle.boxcar.specs.Table.{Shows};
+    ghost use Rattle.cyc_token.specs.Token.{token_view};
+    ghost use Rattle.cyc_buffer.specs.Agreement.{Agrees, Follows, register_of, store_of};
+    ghost use Rattle.cyc_buffer.specs.Answers.{refusal, error_of};
+    ghost use Rattle.cyc_buffer.specs.Calls.{LeavesDevice};
+    ghost use Rattle.cyc_buffer.specs.History.{History, with_begin, with_finish, without_write};
+    ghost use Rattle.cyc_buffer.specs.History.{open_token};
+    ghost use Rattle.live_store.specs.Tied.{text_in, token_in};
+    ghost use Rattle.live_store.specs.Steps.{buffer_of, beside_of, WritesOrMixed, CanWriteFor};
+    ghost use Rattle.live_store.specs.Steps.{CanFinishFor, IsOfWrite, IsReading, IsPassed};
+    ghost use Rattle.live_store.specs.Steps.{IsReadFault, HasOctets, IsShown, IsBeginFault};
+    ghost use Rattle.live_store.specs.Steps.{IsWriteFault};
+
+    /// Begins an article of a class and of so many octets, at least 1; `fresh` at the front of a
+    /// cycle. What the front passes is gone from now on.
+    pub fn begin(&mut self, class: u8, length: u32, fresh: bool) -> Result<Token, BufError>
+        requires { 1 ≤ length }
+        // Refused for the first reason, and then nothing is changed; else begun.
+        ensures refusal { (trusted : Bool) (h : History) → Agrees trusted (buffer_of self.old) h
+            → error_of result ≡ refusal h length fresh }
+        ensures refused { OnErr result
+            (register_of (buffer_of self.new) ≡ register_of (buffer_of self.old)) }
+        ensures begun { OnOk result
+            (Follows (with_begin class length fresh) (buffer_of self.old) (buffer_of self.new)) }
+        // The token is the history's.
+        ensures token { IfOk result (λ token. (trusted : Bool) (h : History)
+            → Agrees trusted (buffer_of self.old) h → Some (token_view token)
+            ≡ open_token (with_begin class length fresh h)) }
+        ensures length { IfOk result (λ token. token.length ≡ length) }
+        ensures class { IfOk result (λ token. token.class ≡ class) }
+        ensures fault { IfErr result (IsBeginFault length) }
+        // The device isn't called.
+        ensures store { store_of (buffer_of self.new) ≡ store_of (buffer_of self.old) }
+    {
+        let write = match self.buffer.begin(class, length, fresh) {
+            Ok(write) => write,
+            Err(error) => return Err(error),
+        };
+        let token = write.token();
+        let beside = Beside {
+            write,
+            shown: None,
+            written: 0,
+            broken: false,
+        };
+        match self.beside.replace(beside) {
+            None => Ok(token),
+            Some(_) => unreachable!(),
+        }
+    }
+
+    /// Writes the next block of the record's text, where the open write is the record's, and says
+    /// whether nothing of it is left. After Device the write can only be abandoned.
+    pub fn write_next(
+        &mut self,
+        register: &Register,
+        shown: &Shown,
+        text: &[u8],
+    ) -> Result<bool, WriteFault>
+        requires register { register.now ≡ J.register }
+        requires shown { Shows J.register shown.now }
+        requires text { text.now ≡ text_in shown.now }
+        ensures writes { WritesOrMixed (buffer_of self.old) shown.now text.now result
+            (buffer_of self.new) }
+        ensures fault { IfErr result (IsWriteFault text.now) }
+        // Mixed says that no block can be written for the record.
+        ensures mixed { result ≡ Err WriteFault.Mixed
+            → IsSomeAnd (beside_of self.old) (λ b. CanWriteFor b shown.now) → ⊥ }
+    {
+        let Some(beside) = &self.beside else {
+            return Err(WriteFault::Mixed);
+        };
+        if !can_write(register, beside, shown, text.len()) {
+            return Err(WriteFault::Mixed);
+        }
+        let Some(
+            Beside {
+                write,
+                shown: _,
+                written,
+                broken: _,
+            },
+        ) = self.beside.take()
+        else {
+            unreachable!()
+        };
+        match self.buffer.write_next(&write, text) {
+            Ok(last) => {
+                put(&mut self.beside, write, shown.again(), written + 1, false);
+                Ok(last)
+            }
+            Err(error) => {
+                put(&mut self.beside, write, shown.again(), written, true);
+                Err(WriteFault::Device(device_fault(error)))
+            }
+        }
+    }
+
+    /// Finishes the open write, where it is the record's and all of it is written: from now on the
+    /// record's text is given by the token.
+    pub fn finish(&mut self, register: &Register, shown: &Shown) -> Result<Token, Mixed>
+        requires register { register.now ≡ J.register }
+        requires shown { Shows J.register shown.now }
+        ensures named { IfOk result (λ token. token_view token ≡ token_in shown.now) }
+        ensures finished { OnOk result
+            (Follows with_finish (buffer_of self.old) (buffer_of self.new)) }
+        // Mixed says that it can't be finished for the record, and nothing is changed.
+        ensures mixed { OnErr result
+            (IsSomeAnd (beside_of self.old) (λ b. CanFinishFor b shown.now) → ⊥) }
+        ensures refused { OnErr result (buffer_of self.new ≡ buffer_of self.old) }
+        // The device isn't called.
+        ensures store { store_of (buffer_of self.new) ≡ store_of (buffer_of self.old) }
+    {
+        let Some(beside) = &self.beside else {
+            return Err(Mixed);
+        };
+        if !can_finish(register, beside, shown) {
+            return Err(Mixed);
+        }
+        let Some(
+            Beside {
+                write,
+                shown: _,
+                written: _,
+                broken: _,
+            },
+        ) = self.beside.take()
+        else {
+            unreachable!()
+        };
+        let token = self.buffer.finish(write);
+        self.numbers[token.first as usize] = Some(shown.again());
+        Ok(token)
+    }
+
+    /// Abandons the open write, where it is the record's. Its space stays lost.
+    pub fn abandon(&mut self, register: &Register, shown: &Shown) -> Result<(), Mixed>
+        requires register { register.now ≡ J.register }
+        requires shown { Shows J.register shown.now }
+        ensures abandoned { OnOk result
+            (Follows without_write (buffer_of self.old) (buffer_of self.new)) }
+        // Mixed says that the open write isn't the record's, and nothing is changed.
+        ensures mixed { OnErr result
+            (IsSomeAnd (beside_of self.old) (λ b. IsOfWrite b shown.now) → ⊥) }
+        ensures refused { OnErr result (buffer_of self.new ≡ buffer_of self.old) }
+        // The device isn't called.
+        ensures store { store_of (buffer_of self.new) ≡ store_of (buffer_of self.old) }
+    {
+        let Some(beside) = &self.beside else {
+            return Err(Mixed);
+        };
+        if !is_named(register, beside, shown) {
+            return Err(Mixed);
+        }
+        let Some(
+            Beside {
+                write,
+                shown: _,
+                written: _,
+                broken: _,
+            },
+        ) = self.beside.take()
+        else {
+            unreachable!()
+        };
+        self.buffer.abandon(write);
+        Ok(())
+    }
+
+    /// Reads block k of the article under a token.
+    pub fn read(
+        &mut self,
+        token: &Token,
+        k: u32,
+        chunk: &mut [u8; CHUNK_OCTETS],
+    ) -> Result<Reading, Fault>
+        // A chunk is that of the record of the number, which has the token.
+        ensures chunk { J.trusted ≡ true
+            → IfOk result (IsReading J.register (token_view token.now) k chunk.new) }
+        ensures shown { IfOk result (IsShown J.register) }
+        ensures room { IfOk result HasOctets }
+        ensures gone { IfOk result (IsPassed (token_view token.now)) }
+        // An error is the device's fault at a read of this article.
+        ensures fault { IfErr result (IsReadFault (token_view token.now)) }
+        // The buffer agrees with the same histories, and keeps in memory what it kept.
+        ensures same { Follows (λ h. h) (buffer_of self.old) (buffer_of self.new) }
+        ensures register { register_of (buffer_of self.new) ≡ register_of (buffer_of self.old) }
+        ensures failed { OnErr result (S.failures (store_of (buffer_of self.old))
+            < S.failures (store_of (buffer_of self.new))) }
+    {
+        match self.buffer.read_block(token, k, chunk) {
+            Ok(Found::Chunk(octets)) => match self.numbers.get(token.first as usize) {
+                Some(Some(shown)) => Ok(Reading::Chunk(octets, shown.again())),
+                _ => Ok(Reading::Unknown),
+            },
+            Ok(Found::Gone(front)) => Ok(Reading::Gone(front)),
+            Ok(Found::Unknown) => Ok(Reading::Unknown),
+            Err(error) => Err(device_fault(error)),
+        }
+    }
+}
+
+/// The fault of a device that failed.
+fn device_fault(error: BufError) -> Fault
+    requires { IsDevice error }
+    ensures { error ≡ errors.Device result }
+{
+    match error {
+        BufError::Device(fault) => fault,
+        _ => unreachable!(),
+    }
+}
+
+/// Puts an open write beside its buffer, where none is.
+fn put(beside: &mut Option<Beside>, write: Open, shown: Shown, written: u32, broken: bool)
+    requires { beside.old ≡ None }
+    ensures { beside.new
+        ≡ Some (record { write = write; shown = Some shown; written = written; broken = broken }) }
+{
+    let before = beside.replace(Beside {
+        write,
+        shown: Some(shown),
+        written,
+        broken,
+    });
+    match before {
+        None => {}
+        Some(_) => unreachable!(),
+    }
+}
+
+/// Whether the next block of an open write can be written for a record, whose text has so many
+/// octets.
+fn can_write(register: &Register, beside: &Beside, shown: &Shown, octets: usize) -> bool
+    requires shown { Shows register.now shown.now }
+    requires own { IfSome beside.now.shown (λ w. Shows register.now w) }
+    requires octets { octets ≡ length (text_in shown.now) }
+    ensures { IsTrue result ↔ CanWriteFor beside.now shown.now }
+{
+    let length = beside.write.length();
+    !beside.broken
+        && is_named(register, beside, shown)
+        && beside.written < size_of(length)
+        && octets == length as usize
+}
+
+/// Whether an open write can be finished for a record.
+fn can_finish(register: &Register, beside: &Beside, shown: &Shown) -> bool
+    requires shown { Shows register.now shown.now }
+    requires own { IfSome beside.now.shown (λ w. Shows register.now w) }
+    ensures { IsTrue result ↔ CanFinishFor beside.now shown.now }
+{
+    !beside.broken
+        && beside.shown.is_some()
+        && is_named(register, beside, shown)
+        && beside.written == size_of(beside.write.length())
+}
+
+/// Whether an open write is the record's: it has the record's number, or has none yet and has the
+/// record's token.
+fn is_named(register: &Register, beside: &Beside, shown: &Shown) -> bool
+    requires shown { Shows register.now shown.now }
+    requires own { IfSome beside.now.shown (λ w. Shows register.now w) }
+    ensures { IsTrue result ↔ IsOfWrite beside.now shown.now }
+{
+    match &beside.shown {
+        None => register.value(shown).token == beside.write.token(),
+        Some(own) => {
+            if own.index() != shown.index() {
+                return false;
+            }
+            register.agrees(own, shown);
+            true
+        }
+    }
+}
