@@ -3,9 +3,9 @@ pub mod Places
 pub mod Finished
 mod Keeping
 mod Beginning
-mod Finishing
+pub mod Finishing
 pub mod OpenLemmas
 mod Contents
 mod Writes
-mod Numbers
-mod Reading
+pub mod Numbers
+pub mod Reading

@@ -127,11 +127,7 @@ impl<R: Wait> Service<R> for Bringing {
 }
 
 // The plans of these ends.
-fn plans_of(
-    alloc: Global,
-    ends: Vec<SessionSeat>,
-    jobs: u64,
-) -> Result<Vec<Plan<Bringing>>, Fail> {
+fn plans_of(alloc: Global, ends: Vec<SessionSeat>, jobs: u64) -> Result<Vec<Plan<Bringing>>, Fail> {
     let mut plans = Vec::with_capacity(alloc, ends.len())?;
     for seat in ends {
         plans.push_reserved(Plan {
@@ -193,7 +189,14 @@ fn run<R: Threads + Wait + Sync>(
     requires some { 0 < groups }
     requires few { length services.items < 2 ^ 62 }
 {
-    day::<Brand, R>(rt, alloc, hasher, Blank::new(groups as u64), groups as usize, services)
+    day::<Brand, R>(
+        rt,
+        alloc,
+        hasher,
+        Blank::new(groups as u64),
+        groups as usize,
+        services,
+    )
 }
 
 #[test]

@@ -21,6 +21,7 @@ pub struct Record {
 
 // What the README says of the memory of a record and of a number.
 const _: () = prove!(size_of::<Record>() == 16);
+
 const _: () = prove!(size_of::<Option<Shown>>() == 32);
 
 /// The register of a relay: a record never changes under its number, and none is ever taken out.

@@ -1,0 +1,236 @@
+//! The plays, each over a buffer of its own.
+ghost use Rattle.std.specs.Prelude.{◌≡◌};
+
+use crate::told::{tell_fetched, tell_stored};
+use cyc_block::{FailAt, MemoryBlocks};
+use cyc_token::Token;
+use live_store::{Archive, Fetched, NumberedBuffer, Register, Stored, fetch, store};
+use std::alloc::{AllocError, Global};
+use std::io;
+use std::sync::{Mutex, Wait};
+use std::thread::{Threads, join};
+
+/// Buffer 0 under its lock, in memory, with a call that fails on purpose.
+type Locked<J> = Mutex<NumberedBuffer<FailAt<MemoryBlocks>, J>>;
+
+/// A text of so many octets.
+fn text(alloc: Global, octets: usize) -> Result<Vec<u8>, AllocError> {
+    let mut text = Vec::new(alloc);
+    text.resize(octets, 65)?;
+    Ok(text)
+}
+
+/// Buffer 0 of eight blocks in memory from this cycle on, whose call number k fails.
+fn one_buffer<J: Archive>(
+    alloc: Global,
+    first_cycle: u32,
+    k: u64,
+) -> Result<Vec<Locked<J>>, AllocError> {
+    let store = FailAt::new(MemoryBlocks::new(alloc, 8)?, k);
+    let buffer = NumberedBuffer::format(alloc, store, 0, first_cycle)?;
+    let mut buffers = Vec::new(alloc);
+    buffers.push(Mutex::new(buffer))?;
+    Ok(buffers)
+}
+
+/// Stores a text in buffer 0 and prints how that ended.
+fn put<J: Archive, R: Wait + Print>(
+    rt: &R,
+    buffers: &Vec<Locked<J>>,
+    register: &Register,
+    name: &str,
+    text: &Vec<u8>,
+) -> io::Result<()>
+    requires { register.now ≡ J.register }
+{
+    let Some(buffer) = buffers.first() else {
+        return Ok(());
+    };
+    let stored = store(rt, buffer, register, 1, false, text);
+    tell_stored(rt, name, &stored)
+}
+
+/// Fetches what was stored at a place and prints what was found.
+fn get<J: Archive, R: Wait + Print>(
+    rt: &R,
+    alloc: Global,
+    buffers: &Vec<Locked<J>>,
+    register: &Register,
+    place: (u32, u32),
+    text: &Vec<u8>,
+) -> io::Result<()>
+    requires { register.now ≡ J.register }
+{
+    let Ok(length) = u32::try_from(text.len()) else {
+        return Ok(());
+    };
+    let token = Token {
+        class: 1,
+        buffer: 0,
+        cycle: place.0,
+        first: place.1,
+        length,
+    };
+    let found = fetch(rt, alloc, buffers, register, &token)?;
+    tell_fetched(rt, &found, text.as_slice())
+}
+
+/// One thread stores an article while another fetches it: it finds nothing, or all of it.
+fn meanwhile<J: Archive + Send + Sync, R: Threads + Wait + Sync>(
+    rt: &R,
+    alloc: Global,
+    buffers: &Vec<Locked<J>>,
+    register: &Register,
+    text: &Vec<u8>,
+) -> bool
+    requires { register.now ≡ J.register }
+{
+    let Some(buffer) = buffers.first() else {
+        return false;
+    };
+    let token = Token {
+        class: 1,
+        buffer: 0,
+        cycle: 0,
+        first: 0,
+        length: 1440,
+    };
+    let (kept, found) = join(
+        rt,
+        || -> bool
+            requires { register.now ≡ J.register }
+        {
+            matches!(
+                &store(rt, buffer, register, 1, false, text),
+                Stored::Kept(_)
+            )
+        },
+        || -> bool
+            requires { register.now ≡ J.register }
+        { is_none_or(&fetch(rt, alloc, buffers, register, &token), text) },
+    );
+    kept && found
+}
+
+/// Whether nothing was found, or this text.
+fn is_none_or<J: Archive>(found: &Result<Fetched<J>, AllocError>, text: &Vec<u8>) -> bool {
+    match found {
+        Ok(Fetched::Whole(whole)) => whole.octets() == text.as_slice(),
+        Ok(Fetched::Unknown) => true,
+        _ => false,
+    }
+}
+
+/// Two threads over one buffer; then a third article takes the place of the first.
+pub(crate) fn two_threads<J: Archive + Send + Sync, R: Threads + Wait + Print + Sync>(
+    rt: &R,
+    alloc: Global,
+    register: &Register,
+) -> io::Result<()>
+    requires { register.now ≡ J.register }
+{
+    let one = text(alloc, 1440)?;
+    let two = text(alloc, 1200)?;
+    let buffers = one_buffer::<J>(alloc, 0, 0)?;
+    overwritten(rt, alloc, &buffers, register, &one, &two)
+}
+
+/// The same over a buffer that is there.
+fn overwritten<J: Archive + Send + Sync, R: Threads + Wait + Print + Sync>(
+    rt: &R,
+    alloc: Global,
+    buffers: &Vec<Locked<J>>,
+    register: &Register,
+    one: &Vec<u8>,
+    two: &Vec<u8>,
+) -> io::Result<()>
+    requires { register.now ≡ J.register }
+{
+    let right = meanwhile(rt, alloc, buffers, register, one);
+    println!(rt; "first, fetched meanwhile: {right}")?;
+    get(rt, alloc, buffers, register, (0, 0), one)?;
+    put(rt, buffers, register, "second", two)?;
+    put(rt, buffers, register, "third", two)?;
+    get(rt, alloc, buffers, register, (0, 0), one)?;
+    get(rt, alloc, buffers, register, (0, 3), two)
+}
+
+/// Call number 2, the write of a second block, fails; and so does call 4, the read of one.
+pub(crate) fn failing_device<J: Archive, R: Wait + Print>(
+    rt: &R,
+    alloc: Global,
+    register: &Register,
+) -> io::Result<()>
+    requires { register.now ≡ J.register }
+{
+    let one = text(alloc, 960)?;
+    let buffers = one_buffer::<J>(alloc, 0, 2)?;
+    write_fails(rt, alloc, &buffers, register, &one)?;
+    let buffers = one_buffer::<J>(alloc, 0, 4)?;
+    read_fails(rt, alloc, &buffers, register, &one)
+}
+
+/// What can't be written is lost, and the next article is stored behind it.
+fn write_fails<J: Archive, R: Wait + Print>(
+    rt: &R,
+    alloc: Global,
+    buffers: &Vec<Locked<J>>,
+    register: &Register,
+    one: &Vec<u8>,
+) -> io::Result<()>
+    requires { register.now ≡ J.register }
+{
+    put(rt, buffers, register, "write fails", one)?;
+    get(rt, alloc, buffers, register, (0, 0), one)?;
+    put(rt, buffers, register, "next", one)?;
+    get(rt, alloc, buffers, register, (0, 2), one)
+}
+
+/// What can't be read once is read the next time.
+fn read_fails<J: Archive, R: Wait + Print>(
+    rt: &R,
+    alloc: Global,
+    buffers: &Vec<Locked<J>>,
+    register: &Register,
+    one: &Vec<u8>,
+) -> io::Result<()>
+    requires { register.now ≡ J.register }
+{
+    put(rt, buffers, register, "read fails", one)?;
+    get(rt, alloc, buffers, register, (0, 0), one)?;
+    get(rt, alloc, buffers, register, (0, 0), one)
+}
+
+/// In the last cycle no further one can begin; some texts are none for a buffer of eight blocks.
+pub(crate) fn worn<J: Archive, R: Wait + Print>(
+    rt: &R,
+    alloc: Global,
+    register: &Register,
+) -> io::Result<()>
+    requires { register.now ≡ J.register }
+{
+    let most = text(alloc, 3840)?;
+    let big = text(alloc, 3841)?;
+    let none = text(alloc, 0)?;
+    let buffers = one_buffer::<J>(alloc, u32::MAX, 0)?;
+    put(rt, &buffers, register, "last cycle", &most)?;
+    put(rt, &buffers, register, "beyond it", &most)?;
+    put(rt, &buffers, register, "too big", &big)?;
+    put(rt, &buffers, register, "no octets", &none)
+}
+
+/// A second writer begins a write and leaves it open.
+pub(crate) fn second_writer<J: Archive, R: Wait + Print>(
+    rt: &R,
+    alloc: Global,
+    register: &Register,
+) -> io::Result<()>
+    requires { register.now ≡ J.register }
+{
+    let one = text(alloc, 960)?;
+    let buffers = one_buffer::<J>(alloc, 0, 0)?;
+    if let Some(buffer) = buffers.first() {
+        let _open = buffer.lock(rt).begin(1, 960, false);
+    }
+    put(rt, &buffers, register, "beside an open write", &one)
+}
