@@ -1,6 +1,6 @@
 -- The kept jobs of all writers, one writer more.
-use Rattle.std.proofs.Common.{◌≡◌, ℕ, zero, suc, ◌+◌, ◌<◌, ◌≤◌, ◌≢◌, ⊎_elim, Bool, false, List, []}
-use Rattle.std.proofs.Common.{◌∷◌, length, map, take, Some, refl, sym, ap, ◌∙◌, arith, add-one}
+use Rattle.std.proofs.Common.{◌≡◌, ℕ, zero, suc, ◌+◌, ◌≤◌, ◌≢◌, ⊎_elim, Bool, false, List, []}
+use Rattle.std.proofs.Common.{◌∷◌, take, Some, sym, ap, ◌∙◌, arith, add-one}
 use Rattle.std.specs.Prelude.{slice_get, slice_set}
 use Rattle.live_seats.specs.declared.outcome.Done.{Done}
 use Rattle.live_seats.specs.Taken.{kept_in}

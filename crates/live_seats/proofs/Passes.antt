@@ -1,5 +1,5 @@
 -- Passes in a row, one for each group.
-use Rattle.std.proofs.Common.{◌≡◌, ◌≢◌, ◌⊎◌, inl, inr, ℕ, zero, suc, ◌+◌, ◌<◌, ◌≤◌, Bool, true, false, List, [], ◌∷◌, ◌++◌, length, map, Some, None, refl, sym, ap, ◌∙◌, subst, ⊎_elim, arith}
+use Rattle.std.proofs.Common.{◌≡◌, ◌≢◌, ◌⊎◌, inl, inr, ℕ, zero, suc, ◌+◌, ◌<◌, Bool, true, false, List, [], ◌∷◌, ◌++◌, length, map, Some, refl, sym, ap, ◌∙◌, subst, ⊎_elim, arith}
 use lib.Dec.{ltb}
 use Rattle.std.proofs.lemmas.Bool.Decides.{nat_tests}
 use Rattle.std.specs.Prelude.{slice_get, slice_set, slice_index_or}
@@ -8,7 +8,7 @@ use Rattle.job_queue.specs.declared.parcel.Handed.{Handed}
 use Rattle.job_queue.specs.declared.parcel.Parcel.{Parcel}
 use Rattle.job_queue.specs.declared.parcel.Parcel.TheVariants as parcels
 use Rattle.job_queue.specs.declared.known.Known.{Known}
-use Rattle.job_queue.specs.Parcels.{has_mark, jobs_of, is_mark}
+use Rattle.job_queue.specs.Parcels.{has_mark, jobs_of}
 use Rattle.job_queue.specs.Delivery.{end_knows, knows, OfEnd, HasHanded}
 use Rattle.job_queue.specs.Passes.{QueuePass}
 use Rattle.live_seats.specs.Seats.{PassesFit, handed_of, jobs_in}

@@ -1,14 +1,14 @@
 -- What threads are started with.
-use Rattle.std.proofs.Common.{◌≡◌, ◌≢◌, ◌⊎◌, ⊎_elim, ◌+◌, ◌<◌, ◌≤◌, arith, ℕ, Bool, false, List, []}
+use Rattle.std.proofs.Common.{◌≡◌, ◌≢◌, ⊎_elim, ◌+◌, ◌<◌, ◌≤◌, arith, ℕ, Bool, false, List, []}
 use Rattle.std.proofs.Common.{◌∷◌, ◌++◌, length, Some, sym, ap, ◌∙◌, subst}
 use Rattle.std.specs.Prelude.{slice_get, slice_set}
 use Rattle.crossbeam_queue.specs.Passes.{IsPassOf}
 use Rattle.job_queue.specs.Passes.{QueuePass}
-use Rattle.live_seats.specs.Gathered.{OfLane, AllClosed}
+use Rattle.live_seats.specs.Gathered.{AllClosed}
 use Rattle.live_seats.specs.Lanes.{queue_of}
 use Rattle.live_seats.specs.Rows.{From}
 use Rattle.live_seats.specs.Seats.{IsSeatOf, HasLeft, end_of, left_end}
-use Rattle.live_seats.specs.Started.{Ready, Open, Runs, Serves, Ended, Left}
+use Rattle.live_seats.specs.Started.{Ready, Runs, Serves, Ended, Left}
 use Rattle.live_seats.specs.declared.lane.Lane.{Lane}
 use Rattle.live_seats.specs.declared.session.LeftSeat.{LeftSeat}
 use Rattle.live_seats.specs.declared.session.SessionSeat.{SessionSeat}

@@ -1,6 +1,6 @@
 -- What a writer took, after one parcel more.
-use Rattle.std.proofs.Common.{◌≡◌, ◌≢◌, ◌⊎◌, ℕ, zero, suc, ◌+◌, ◌<◌, ◌≤◌, Bool, true, false, List, [], ◌∷◌, ◌++◌, length, map, Some, refl, sym, ap, ◌∙◌, subst, ⊎_elim, arith}
-use Rattle.std.specs.Prelude.{slice_get, slice_set, ◌==◌, cond}
+use Rattle.std.proofs.Common.{◌≡◌, ◌≢◌, ℕ, zero, suc, ◌+◌, ◌<◌, ◌≤◌, Bool, true, false, List, [], ◌∷◌, ◌++◌, length, map, Some, refl, sym, ap, ◌∙◌, subst, ⊎_elim, arith}
+use Rattle.std.specs.Prelude.{slice_get, slice_set}
 use native.Mathlib.Decide.{ℕ_discrete}
 use Rattle.crossbeam_queue.specs.Passes.{view}
 use Rattle.job_queue.specs.declared.parcel.Handed.{Handed}
@@ -12,7 +12,7 @@ use Rattle.job_queue.specs.Delivery.{OfWriter, HasTaken}
 use Rattle.job_queue.specs.Passes.{QueuePass}
 use Rattle.job_queue.proofs.Lists.{of_end_snoc, of_end_snoc_else}
 use Rattle.live_seats.specs.declared.outcome.Done.{Done}
-use Rattle.live_seats.specs.Taken.{Name, name_of, done_name, worth, kept_in, FitEach, Took}
+use Rattle.live_seats.specs.Taken.{name_of, done_name, worth, kept_in, FitEach, Took}
 use Rattle.live_seats.proofs.Rows.{get_snoc}
 use Rattle.live_seats.proofs.Passes.{get_set, marked_snoc, jobs_snoc, jobs_marked}
 

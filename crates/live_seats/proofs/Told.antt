@@ -6,7 +6,7 @@ use Rattle.job_queue.specs.declared.parcel.Handed.{Handed}
 use Rattle.job_queue.specs.declared.parcel.Parcel.{Parcel}
 use Rattle.job_queue.specs.declared.parcel.Parcel.TheVariants as parcels
 use Rattle.job_queue.specs.declared.known.Known.{Known}
-use Rattle.job_queue.specs.Parcels.{of_end, has_mark, jobs_of}
+use Rattle.job_queue.specs.Parcels.{of_end, jobs_of}
 use Rattle.job_queue.specs.Delivery.{TookAll, TookNone, knows, end_limit}
 use Rattle.job_queue.specs.Passes.{QueuePass}
 use Rattle.live_seats.specs.declared.outcome.Done.{Done}

@@ -6,7 +6,7 @@ use Rattle.job_queue.specs.Passes.{QueuePass}
 use Rattle.job_queue.specs.declared.parcel.Handed.{Handed}
 use Rattle.live_seats.specs.Lanes.{queue_of}
 use Rattle.live_seats.specs.Seats.{HasLeft, left_end, left_by}
-use Rattle.live_seats.specs.Taken.{Name, name_of, done_name, FitEach, kept_in}
+use Rattle.live_seats.specs.Taken.{name_of, done_name, FitEach, kept_in}
 use Rattle.live_seats.specs.declared.lane.Lane.{Lane}
 use Rattle.live_seats.specs.declared.outcome.Done.{Done}
 use Rattle.live_seats.specs.declared.session.LeftSeat.{LeftSeat}

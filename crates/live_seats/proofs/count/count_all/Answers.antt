@@ -1,6 +1,5 @@
-use Rattle.std.proofs.Common.{◌≡◌, ◌<◌, ◌∙◌, ap, sym, length, map, arith}
-use Rattle.live_seats.specs.Gathered.{kept_by_all}
-use Rattle.live_seats.proofs.Passes.{read_at, length_set, map_set_same}
+use Rattle.std.proofs.Common.{◌∙◌}
+use Rattle.live_seats.proofs.Passes.{read_at, map_set_same}
 use Rattle.live_seats.proofs.Counts.{here_set}
 use Rattle.live_seats.proofs.count.count_all.Goals as goal
 

@@ -1,5 +1,4 @@
-use Rattle.std.proofs.Common.{◌≡◌, ◌<◌, ◌+◌, ◌≤◌, length, map, take, ap, sym, ◌∙◌, arith}
-use Rattle.live_seats.specs.Taken.{kept_in}
+use Rattle.std.proofs.Common.{◌<◌, ◌+◌, length, map, arith}
 use Rattle.live_seats.proofs.Passes.{read_at, map_at}
 use Rattle.live_seats.proofs.Counts.{kept_next, kept_most}
 use Rattle.live_seats.proofs.count.sum_kept.Goals as goal

@@ -1,8 +1,7 @@
-use Rattle.std.proofs.Common.{◌≡◌, ◌<◌, Bool, List, Some, true, length, map, refl, ap, sym, ◌∙◌, subst, arith}
+use Rattle.std.proofs.Common.{◌<◌, List, length, map, refl, ap, sym, ◌∙◌, subst, arith}
 use Rattle.std.specs.Prelude.{slice_get}
 use Rattle.live_seats.specs.declared.outcome.Done.{Done}
-use Rattle.live_seats.specs.declared.session.LeftSeat.{LeftSeat}
-use Rattle.live_seats.specs.Gathered.{AllClosed, hands_of}
+use Rattle.live_seats.specs.Gathered.{AllClosed}
 use Rattle.live_seats.specs.Seats.{left_by}
 use Rattle.live_seats.proofs.Passes.{length_set, map_at, map_set_same}
 use Rattle.live_seats.proofs.Writers.{writers_at, writers_set, told_group, length_map, within}

@@ -1,8 +1,5 @@
-use Rattle.std.proofs.Common.{◌≡◌, ◌<◌, Bool, List, Some, true, length, refl, ap, sym, ◌∙◌, subst, arith}
-use Rattle.std.specs.Prelude.{slice_get, vec_len}
-use Rattle.job_queue.specs.declared.parcel.Handed.{Handed}
-use Rattle.live_seats.specs.declared.outcome.Done.{Done}
-use Rattle.live_seats.specs.Gathered.{Told}
+use Rattle.std.proofs.Common.{◌<◌, Bool, List, length, ap, ◌∙◌, arith}
+use Rattle.std.specs.Prelude.{slice_get}
 use Rattle.live_seats.proofs.Passes.{length_set}
 use Rattle.live_seats.proofs.Lefts.{left_at, lefts_set, hands_set, told_next, hand_at, told_same}
 use Rattle.live_seats.proofs.gather.compare_group.Goals as goal

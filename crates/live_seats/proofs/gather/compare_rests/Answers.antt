@@ -1,4 +1,4 @@
-use Rattle.std.proofs.Common.{◌≡◌, ◌<◌, List, length, map, ap, sym, ◌∙◌, arith}
+use Rattle.std.proofs.Common.{◌<◌, List, length, map, ap, sym, ◌∙◌, arith}
 use Rattle.std.specs.Prelude.{slice_get}
 use Rattle.live_seats.specs.declared.outcome.Done.{Done}
 use Rattle.live_seats.proofs.Passes.{length_set, map_at, map_set_same, read_at, of_lane}

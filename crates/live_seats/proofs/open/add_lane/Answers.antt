@@ -1,7 +1,6 @@
-use Rattle.std.proofs.Common.{◌≡◌, ◌+◌, ◌<◌, ◌≤◌, ◌∙◌, ◌++◌, [], ◌∷◌, ℕ, false, true, ap, sym, refl, subst, length, arith}
-use Rattle.crossbeam_queue.specs.Passes.{view}
+use Rattle.std.proofs.Common.{◌≡◌, ◌+◌, ◌<◌, ◌∙◌, ◌++◌, [], ◌∷◌, ℕ, false, ap, sym, refl, subst, length, arith}
 use Rattle.job_queue.specs.declared.known.Known.{Known}
-use Rattle.job_queue.specs.Delivery.{knows, end_knows, end_limit}
+use Rattle.job_queue.specs.Delivery.{knows, end_knows}
 use Rattle.live_seats.specs.Started.{Open}
 use Rattle.live_seats.proofs.Passes.{read_at, length_set, fits_snoc}
 use Rattle.live_seats.proofs.Plans.{done_next, todo_next}

@@ -1,8 +1,7 @@
-use Rattle.std.proofs.Common.{◌≡◌, ◌+◌, ◌<◌, ◌≤◌, ◌∙◌, ap, sym, refl, subst, Some, length, arith}
-use Rattle.std.specs.Vec.Iter.{into_iter_items, into_iter_len}
-use Rattle.live_seats.specs.Started.{Runs, Serves, Ended, Left}
+use Rattle.std.proofs.Common.{◌∙◌, sym, length, arith}
+use Rattle.live_seats.specs.Started.{Serves, Left}
 use Rattle.live_seats.proofs.Rows.{from_head, from_next, from_start, from_none, each_snoc, length_snoc}
-use Rattle.live_seats.proofs.Plans.{ended, left}
+use Rattle.live_seats.proofs.Plans.{left}
 use Rattle.live_seats.proofs.serve.join_ends.Goals as goal
 
 pub loop-handle-init : goal.loop-handle-init

@@ -2,7 +2,7 @@ use Rattle.std.proofs.Common.{◌≡◌, ◌+◌, ◌≤◌, length}
 use Rattle.std.specs.Prelude.{vec_capacity}
 use Rattle.std.specs.Vec.Iter.{into_iter_items, into_iter_len}
 use Rattle.live_seats.specs.Rows.{From}
-use Rattle.live_seats.specs.Started.{Runs, Serves, Ended, Left}
+use Rattle.live_seats.specs.Started.{Serves, Left}
 use Rattle.live_seats.proofs.serve.join_ends.Given as goal
 
 abbrev pub invariant-loop-handle : goal.invariant-loop-handle

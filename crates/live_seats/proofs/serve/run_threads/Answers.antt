@@ -1,4 +1,4 @@
-use Rattle.std.proofs.Common.{◌≡◌, ◌≤◌, ◌∙◌, sym, length, arith}
+use Rattle.std.proofs.Common.{arith}
 use Rattle.live_seats.proofs.serve.run_threads.Goals as goal
 
 pub join_ends-requires-clause-room : goal.join_ends-requires-clause-room

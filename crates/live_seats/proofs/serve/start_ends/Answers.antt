@@ -1,8 +1,7 @@
-use Rattle.std.proofs.Common.{◌≡◌, ◌+◌, ◌<◌, ◌≤◌, ◌∙◌, ap, sym, refl, subst, true, false, true≢false, Some, length, arith}
-use Rattle.std.specs.Vec.Iter.{into_iter_items, into_iter_len}
+use Rattle.std.proofs.Common.{◌∙◌, sym, refl, true≢false, length, arith}
 use Rattle.live_seats.specs.Seats.{IsSeatOf}
 use Rattle.live_seats.specs.Started.{Open, Serves}
-use Rattle.live_seats.proofs.Rows.{from_head, from_tail, from_next, from_start, from_none, from_any, each_snoc, length_snoc}
+use Rattle.live_seats.proofs.Rows.{from_head, from_next, from_start, from_none, from_any, each_snoc, length_snoc}
 use Rattle.live_seats.proofs.serve.start_ends.Goals as goal
 
 pub loop-plan-init : goal.loop-plan-init

@@ -1,5 +1,5 @@
-use Rattle.std.proofs.Common.{◌≡◌, ◌+◌, ◌≤◌, ℕ, true, length, Some}
-use Rattle.std.specs.Prelude.{vec_capacity, slice_get}
+use Rattle.std.proofs.Common.{◌≡◌, ◌+◌, ◌≤◌, true, length}
+use Rattle.std.specs.Prelude.{vec_capacity}
 use Rattle.std.specs.Vec.Iter.{into_iter_items, into_iter_len}
 use Rattle.live_seats.specs.Rows.{From}
 use Rattle.live_seats.specs.Seats.{IsSeatOf}

@@ -1,6 +1,5 @@
-use Rattle.std.proofs.Common.{◌≡◌, ◌+◌, ◌<◌, ◌≤◌, ◌∙◌, ap, sym, subst, Some, length, arith}
+use Rattle.std.proofs.Common.{◌≡◌, ◌<◌, ◌∙◌, ap, sym, Some, length, arith}
 use Rattle.std.specs.Prelude.{slice_get}
-use Rattle.std.specs.Vec.Iter.{into_iter_items, into_iter_len}
 use Rattle.live_seats.specs.Started.{Ready, Runs}
 use Rattle.live_seats.proofs.Passes.{read_at}
 use Rattle.live_seats.proofs.Rows.{from_head, from_next, from_start, from_none, each_snoc, length_snoc}

@@ -1,4 +1,4 @@
-use Rattle.std.proofs.Common.{◌≡◌, ◌<◌, ℕ, true, length, arith}
+use Rattle.std.proofs.Common.{◌≡◌, ◌<◌, ℕ, true, arith}
 use lib.Dec.{ltb}
 use Rattle.std.proofs.lemmas.Bool.Decides.{nat_tests}
 use Rattle.live_seats.proofs.Passes.{fits_marks}

@@ -1,4 +1,4 @@
-use Rattle.std.proofs.Common.{◌≡◌, ap}
+use Rattle.std.proofs.Common.{ap}
 use Rattle.live_seats.proofs.Plans.{same_seat}
 use Rattle.live_seats.proofs.start.start_end.Goals as goal
 

@@ -1,6 +1,6 @@
-use Rattle.std.proofs.Common.{◌≡◌, ◌+◌, ◌<◌, ◌≤◌, ◌^◌, List, [], ◌∷◌, ◌++◌, length, ap, sym, ◌∙◌, refl, arith}
+use Rattle.std.proofs.Common.{List, [], ◌∷◌, ◌++◌, ap, ◌∙◌, refl, arith}
 use Rattle.live_seats.specs.declared.outcome.Done.{Done}
-use Rattle.live_seats.specs.Taken.{worth, kept_in, Took}
+use Rattle.live_seats.specs.Taken.{worth}
 use Rattle.live_seats.proofs.Taken.{takes_job, takes_mark, kept_more, kept_within, worth_one}
 use Rattle.live_seats.proofs.writer.take_step.Goals as goal
 

@@ -1,7 +1,5 @@
-use Rattle.std.proofs.Common.{◌≡◌, List, Some, ap, sym, ◌∙◌, subst}
-use Rattle.std.specs.Prelude.{slice_get}
+use Rattle.std.proofs.Common.{List, sym, subst}
 use Rattle.job_queue.specs.declared.parcel.Handed.{Handed}
-use Rattle.crossbeam_queue.specs.Passes.{IsPassOf}
 use Rattle.live_seats.specs.Gathered.{Told}
 use Rattle.live_seats.proofs.Passes.{fits_at, same_step, jobs_at, read_at, of_lane}
 use Rattle.live_seats.proofs.session.LeftSeat.compare.Goals as goal

@@ -1,4 +1,4 @@
-use Rattle.std.proofs.Common.{◌≡◌, refl, ap, ◌∙◌}
+use Rattle.std.proofs.Common.{refl, ap}
 use Rattle.live_seats.proofs.Passes.{fits_at, job_step, same_step, handed_more}
 use Rattle.live_seats.proofs.session.SessionSeat.try_hand_over.Goals as goal
 

@@ -1,5 +1,3 @@
-use Rattle.std.proofs.Common.{◌≡◌, ◌≤◌, ◌<◌, ap, sym, ◌∙◌, arith}
-use Rattle.job_queue.specs.declared.known.Known.{Known}
 use Rattle.crossbeam_queue.specs.Passes.{view}
 use Rattle.live_seats.proofs.Told.{told_none}
 use Rattle.live_seats.proofs.writer.WriterSeat.compare_rest.Goals as goal
