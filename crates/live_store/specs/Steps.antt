@@ -1,6 +1,6 @@
 -- What the steps under a buffer's lock answer.
 use Rattle.std.specs.Prelude.{◌≡◌, ℕ, ◌+◌, ◌<◌, ◌≤◌, Bool, false, List, length, take, Option}
-use Rattle.std.specs.Prelude.{Result, Ok, Err, is_none}
+use Rattle.std.specs.Prelude.{Result, Ok, Err, is_none, IsSomeAnd}
 use Rattle.boxcar.specs.Table.{Shelves, Where, Shows}
 use Rattle.cyc_block.specs.declared.store.BlockStore.{Ghosts}
 use Rattle.cyc_buffer.specs.Agreement.{CanWrite, length_of, token_of}
@@ -9,6 +9,8 @@ use Rattle.cyc_buffer.specs.declared.answers.BufError.{BufError}
 use Rattle.cyc_buffer.specs.declared.answers.BufError.TheVariants as errors
 use Rattle.cyc_buffer.specs.declared.answers.Fault.{Fault}
 use Rattle.cyc_buffer.specs.declared.answers.FaultKind.TheVariants as kinds
+use Rattle.cyc_buffer.specs.declared.answers.Found.{Found}
+use Rattle.cyc_buffer.specs.declared.answers.Found.TheVariants as found
 use Rattle.cyc_buffer.specs.declared.answers.Front.{Front}
 use Rattle.cyc_buffer.specs.declared.buffer.Buffer.{Buffer}
 use Rattle.cyc_buffer.specs.declared.register.Open.{Open}
@@ -140,6 +142,19 @@ abbrev pub IsPassed : Token → Reading → Type 0
 IsPassed token (readings.Chunk n shown) = Unit {0}
 IsPassed token (readings.Gone front) = IsGoneBy front token
 IsPassed token readings.Unknown = Unit {0}
+
+-- what was found is a chunk of the record that the reads are of
+abbrev pub IsFoundIn : Shelves → Token → (k : ℕ) → List ℕ → Option (Where Record) → Found → Type 0
+IsFoundIn register token k slice own (found.Chunk n) =
+    IsSomeAnd own (IsChunkOf register token k (take n slice))
+IsFoundIn register token k slice own (found.Gone front) = Unit {0}
+IsFoundIn register token k slice own found.Unknown = Unit {0}
+
+-- what was found to be gone is so by the front
+abbrev pub IsFoundGone : Token → Found → Type 0
+IsFoundGone token (found.Chunk n) = Unit {0}
+IsFoundGone token (found.Gone front) = IsGoneBy front token
+IsFoundGone token found.Unknown = Unit {0}
 
 -- the fault is the device's at a read of the token's article
 abbrev pub IsReadFault : Token → Fault → Type 0

@@ -1,4 +1,8 @@
-//! Buffers under locks, and the register of what was written into them.
+//! Buffers under locks, and the register of what was written into them (docs/PROTOCOL.md, Store).
+//!
+//! A writer stores a text and others fetch it, in any threads: each step takes the lock of one
+//! buffer for one call of it. A text that is fetched is that of the record of its number, and a
+//! record never changes under its number.
 #![tactic(auto)]
 
 mod answers;
@@ -6,6 +10,7 @@ mod beside;
 mod fetched;
 mod fetching;
 mod figures;
+mod following;
 mod numbered;
 mod reading;
 mod record;
@@ -16,6 +21,7 @@ mod writing;
 pub use answers::{Mixed, Reading, WriteFault};
 pub use fetched::{Fetched, Text, same_text};
 pub use fetching::fetch;
+pub use following::OneRecord;
 pub use numbered::NumberedBuffer;
 pub use reading::read_block;
 pub use record::{Archive, Record, Register, Shown, enter};
