@@ -6,6 +6,8 @@
 //! for contracts alone, and take no memory.
 #![tactic(auto)]
 
+mod connections;
 mod wire;
 
+pub use connections::{Connections, Given};
 pub use wire::{Ear, Hears, Mouth, Says, say_all};

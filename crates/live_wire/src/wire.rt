@@ -44,7 +44,7 @@ pub struct Ear<R: Read> {
 impl<R: Read> Ear<R> {
     /// A reader of which nothing was read.
     pub fn new(reader: R) -> Ear<R>
-        ensures { heard_of result.heard.items ≡ [] }
+        ensures { (heard_of result.heard.items ≡ []) × (result.reader ≡ reader) }
     {
         Ear {
             reader,
@@ -77,7 +77,7 @@ pub struct Mouth<W: Write> {
 impl<W: Write> Mouth<W> {
     /// A writer to which nothing was written.
     pub fn new(writer: W) -> Mouth<W>
-        ensures { said_of result.said.items ≡ [] }
+        ensures { (said_of result.said.items ≡ []) × (result.writer ≡ writer) }
     {
         Mouth {
             writer,

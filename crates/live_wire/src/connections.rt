@@ -1,0 +1,55 @@
+//! The connections that an end serves.
+ghost use Rattle.std.specs.Prelude.{◌≡◌, [], IfSome};
+ghost use Rattle.live_wire.specs.Wire.{left_in};
+
+use crate::wire::{Ear, Hears, Mouth, Says};
+use std::io::{Read, Write};
+use std::vec::IntoIter;
+
+/// The connections of an end, one after the other.
+pub trait Connections<R> {
+    type Reader: Hears;
+
+    type Writer: Says;
+
+    /// The next connection: its reader, from which nothing was read, and its writer, to which
+    /// nothing was written. It waits until there is one; `None` where none comes any more.
+    fn next_one(&mut self, rt: &R) -> Option<(Self::Reader, Self::Writer)>
+        ensures { IfSome result (λ pair. (Self.Reader.heard pair.0 ≡ [])
+            × (Self.Writer.said pair.1 ≡ [])) };
+}
+
+/// Connections that are given, in this order.
+#[derive(Drop)]
+pub struct Given<H: Read + Drop, W: Write + Drop> {
+    left: IntoIter<(H, W)>,
+}
+
+impl<H: Read + Drop, W: Write + Drop> Given<H, W> {
+    /// These connections.
+    pub fn new(pairs: Vec<(H, W)>) -> Given<H, W>
+        ensures { left_in result ≡ pairs.items }
+    {
+        Given {
+            left: pairs.into_iter(),
+        }
+    }
+}
+
+impl<H: Read + Drop, W: Write + Drop, R> Connections<R> for Given<H, W> {
+    ghost use Rattle.std.specs.Prelude.{◌≡◌, [], IfSome};
+    ghost use Rattle.live_wire.specs.Wire.{GivesFirst, heard_by, left_in, said_by};
+
+    type Reader = Ear<H>;
+
+    type Writer = Mouth<W>;
+
+    /// The first of those that are left.
+    fn next_one(&mut self, rt: &R) -> Option<(Ear<H>, Mouth<W>)>
+        ensures new { IfSome result (λ pair. (heard_by pair.0 ≡ []) × (said_by pair.1 ≡ [])) }
+        ensures first { GivesFirst (left_in self.old) result (left_in self.new) }
+    {
+        let (reader, writer) = self.left.next()?;
+        Some((Ear::new(reader), Mouth::new(writer)))
+    }
+}
