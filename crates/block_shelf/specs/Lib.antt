@@ -6,4 +6,5 @@ pub mod Filling
 pub mod Histories
 pub mod Keeping
 pub mod Openings
+pub mod Picking
 pub mod Reading

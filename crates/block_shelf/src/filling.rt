@@ -45,7 +45,7 @@ fn new_buffers<S: BlockStore + Drop>(
 }
 
 /// The racks of all groups, before anything is begun.
-fn new_racks(alloc: Global, settings: &Buffers) -> Result<Vec<Rack>, AllocError>
+pub fn new_racks(alloc: Global, settings: &Buffers) -> Result<Vec<Rack>, AllocError>
     ensures { IfOk result (λ racks. AreNewRacks (places_of_groups settings.now) racks.items) }
 {
     let mut racks = Vec::with_capacity(alloc, settings.groups.len())?;

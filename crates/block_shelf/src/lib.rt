@@ -6,7 +6,10 @@
 mod arming;
 mod figures;
 mod filling;
+mod picking;
 mod shelf;
 
 pub use figures::BufferFigures;
-pub use shelf::{Begun, Shelf};
+pub use filling::new_racks;
+pub use picking::Place;
+pub use shelf::{Begun, Rack, Shelf};

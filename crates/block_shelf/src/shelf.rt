@@ -5,7 +5,7 @@ use cyc_token::Token;
 
 /// A group of the shelf: where it is, and the numbers of its buffers in the order of its list.
 #[derive(Debug, Drop)]
-pub(crate) struct Rack {
+pub struct Rack {
     pub(crate) group: Group,
     pub(crate) numbers: Vec<usize>,
 }

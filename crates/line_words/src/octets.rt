@@ -43,6 +43,13 @@ impl Octets {
         &self.octets
     }
 
+    /// The list that keeps them.
+    pub fn as_vec(&self) -> &Vec<u8>
+        ensures { result.now.items ≡ self.now }
+    {
+        &self.octets
+    }
+
     /// The list, for who owns them.
     pub fn into_vec(self) -> Vec<u8>
         ensures { result.items ≡ self }

@@ -39,7 +39,7 @@ pub struct CountedDesk<L: Ledger> {
 
 impl<L: Ledger> CountedDesk<L> {
     ghost use Rattle.std.specs.Prelude.{◌+◌, ◌^◌, ◌<◌, ◌↔◌, ◌≤◌, ℕ, List, map, slice_index};
-    ghost use Rattle.std.specs.Prelude.{Ok, None, IfOk, IfSome, OnErr};
+    ghost use Rattle.std.specs.Prelude.{Ok, None, IfOk, IfSome, OnErr, IsTrue, length};
     ghost use Rattle.cyc_token.specs.Token.{token_view};
     ghost use Rattle.feed_queue.specs.Feeds.{KeepsFeeds, ring_size, no_feed, ring_count};
     ghost use Rattle.feed_queue.specs.Taking.{IsTaken, AreCounts};
@@ -107,6 +107,8 @@ impl<L: Ledger> CountedDesk<L> {
         ensures none { result ≡ Ok None → desk_of self.new ≡ desk_of self.old }
         ensures err { OnErr result (desk_of self.new ≡ desk_of self.old) }
         ensures missing { (result ≡ Ok None) ↔ (ring_count (desk_of self.old) ≤ feed) }
+        ensures most { IfOk result (λ answer. IfSome answer (λ taken.
+            length taken.items.items ≤ most)) }
         ensures posts { posts_of self.new ≡ posts_of self.old }
     {
         self.desk.take(alloc, feed, most)
@@ -122,6 +124,13 @@ impl<L: Ledger> CountedDesk<L> {
             counts.taken + counts.waiting ≤ counts.gained) }
     {
         self.desk.counts(feed)
+    }
+
+    /// Whether it has made as many posts as a desk makes.
+    pub fn is_full(&self) -> bool
+        ensures { IsTrue result ↔ (2 ^ 62 ≤ posts_of self.now) }
+    {
+        self.posts >= MOST_POSTS
     }
 
     /// The number of posts, for who has every share: it is what these count.

@@ -34,6 +34,17 @@ impl<J: Archive> Receipt<J> {
         self.shown.index()
     }
 
+    /// The same receipt once more.
+    pub fn again(&self) -> Receipt<J>
+        ensures { (result.token ≡ self.now.token) × (result.shown ≡ self.now.shown) }
+    {
+        Receipt {
+            token: self.token,
+            shown: self.shown.again(),
+            of: PhantomData,
+        }
+    }
+
     /// What shows the record.
     pub fn shown(&self) -> &Shown
         ensures { result.now ≡ self.now.shown }

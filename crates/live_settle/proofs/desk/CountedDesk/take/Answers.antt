@@ -1,4 +1,4 @@
-use Rattle.live_settle.proofs.PostingLemmas.{kept_taken}
+use Rattle.live_settle.proofs.PostingLemmas.{kept_taken, few_of_any}
 use Rattle.live_settle.proofs.desk.CountedDesk.take.Goals as goal
 
 -- no list that the desk keeps is longer
@@ -10,3 +10,8 @@ invariant_of-self g c =
           c.args.most c.take.result c.take.ensures.keeps c.take.ensures.none c.take.ensures.err
           c.args.self.now.kept;
     }
+
+pub returns-clause-most : goal.returns-clause-most
+returns-clause-most g c =
+    few_of_any c.args.self.now.desk c.args.self.now.posts c.args.feed c.args.most c.take.result
+    c.take.ensures.taken c.args.self.now.kept

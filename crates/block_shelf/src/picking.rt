@@ -1,0 +1,38 @@
+//! Where the next article of a group goes, for who has its buffers elsewhere.
+use crate::shelf::Rack;
+use buffer_group::Pick;
+
+/// Where an article goes: what its group picks, and the number of that buffer.
+#[derive(Clone, Copy, Debug, PartialEq, Eq)]
+pub struct Place {
+    pub pick: Pick,
+    pub number: usize,
+}
+
+impl Rack {
+    ghost use Rattle.std.specs.Prelude.{◌≡◌, ℕ, List, [], ◌∷◌, ◌++◌, IsSomeAnd};
+    ghost use Rattle.block_shelf.specs.Keeping.{KeepsRack};
+    ghost use Rattle.block_shelf.specs.Picking.{IsPicked};
+    ghost use Rattle.buffer_group.specs.Groups.{pick_view};
+    ghost use Rattle.news_terms.specs.Picks.{pick_of};
+    ghost use Rattle.news_terms.specs.Places.{Group, size_of};
+
+    /// Where the next article of the group goes, which has so many octets.
+    pub fn pick(&self, length: u32) -> Option<Place>
+        ensures { (group : Group) (begun : List ℕ) → KeepsRack self.now group begun
+            → IsSomeAnd result (IsPicked group begun (size_of length)) }
+    {
+        let pick = self.group.pick(length);
+        let number = *self.numbers.get(pick.buffer)?;
+        Some(Place { pick, number })
+    }
+
+    /// Goes on after an article of so many octets was begun where it was picked.
+    pub fn begun(&mut self, pick: &Pick, length: u32)
+        ensures { (group : Group) (begun : List ℕ) → KeepsRack self.old group begun
+            → pick_view pick.now ≡ pick_of group begun (size_of length)
+            → KeepsRack self.new group (begun ++ size_of length ∷ []) }
+    {
+        self.group.begun(pick, length);
+    }
+}

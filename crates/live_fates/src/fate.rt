@@ -1,0 +1,54 @@
+//! What became of a job, and what a session is told of it.
+ghost use Rattle.live_fates.specs.Fates.{IsToldOf};
+
+use cyc_buffer::Fault;
+use live_seats::Outcome;
+use live_store::{Archive, Receipt};
+
+/// What became of a job in its writer's hands (docs/PROTOCOL.md, Threads).
+#[derive(Drop)]
+pub enum Fate<J: Archive> {
+    /// The article is stored, the id is Stored and the feeds have its token.
+    Kept(Receipt<J>),
+    /// The device failed, or the buffer has no further cycle.
+    Failed(Fault),
+    /// What the core can't meet: another write was open, or the text is none for the buffer.
+    Mixed,
+}
+
+impl<J: Archive> Outcome for Fate<J> {
+    ghost use Rattle.live_fates.specs.Fates.{is_kept, FitsJob};
+
+    ghost kept = { is_kept };
+
+    ghost fits = { FitsJob J.holds };
+
+    fn is_kept(&self) -> bool {
+        matches!(self, Fate::Kept(_))
+    }
+}
+
+/// What a writer tells the session whose job it had.
+#[derive(Drop)]
+pub enum Told<J: Archive> {
+    Kept(Receipt<J>),
+    Failed,
+}
+
+/// A job of this end's that was answered kept (239, 235): its number in the end's order, and the
+/// receipt that came with the answer.
+#[derive(Drop)]
+pub struct KeptJob<J: Archive> {
+    pub number: u64,
+    pub receipt: Receipt<J>,
+}
+
+/// What a fate tells the session.
+pub fn told_of<J: Archive>(fate: &Fate<J>) -> Told<J>
+    ensures { IsToldOf fate.now result }
+{
+    match fate {
+        Fate::Kept(receipt) => Told::Kept(receipt.again()),
+        Fate::Failed(_) | Fate::Mixed => Told::Failed,
+    }
+}

@@ -1,0 +1,85 @@
+//! What sessions share, the clock, and what lets commands in.
+ghost use Rattle.std.specs.Prelude.{◌≡◌, ◌≤◌, true, length, IfOk, IfErr, IfSome, Some};
+ghost use Rattle.cyc_buffer.specs.Answers.{HasRoom};
+ghost use Rattle.cyc_token.specs.Token.{token_view};
+ghost use Rattle.live_store.specs.Steps.{IsFoundIn, IsFoundGone, IsReadFault};
+ghost use Rattle.relay_model.specs.Terms.{last_moment};
+
+use cyc_block::CHUNK_OCTETS;
+use cyc_buffer::{Fault, Found};
+use cyc_token::Token;
+use feed_queue::Taken;
+use id_history::{Offer, Take};
+use live_fates::Told;
+use live_store::{Archive, OneRecord, Register};
+use nntp_text::MsgId;
+use std::alloc::{AllocError, Global};
+
+/// What sessions share with each other and with the writers: each call is one step under one lock
+/// (docs/PROTOCOL.md, Threads).
+pub trait Shares<J: Archive, R> {
+    /// The id is offered to the session (`Shards::offer` of its shard).
+    fn offer(&self, rt: &R, id: &MsgId, session: u64) -> Result<Offer, AllocError>;
+
+    /// The token of the article of the id, where it is stored.
+    fn look(&self, rt: &R, id: &MsgId) -> Option<Token>;
+
+    /// The session's article of the id is refused at this moment.
+    fn refuse(&self, rt: &R, id: &MsgId, session: u64, now: u64) -> Result<(), AllocError>;
+
+    /// The session has an accepted article of the id.
+    fn take(&self, rt: &R, id: &MsgId, session: u64) -> Result<Take, AllocError>;
+
+    /// As `take`, but where another session stores an article of the id it waits until that has
+    /// ended, so the answer is never `Held`.
+    fn take_later(&self, rt: &R, id: &MsgId, session: u64) -> Result<Take, AllocError>;
+
+    /// The session's offer of the id ends.
+    fn release(&self, rt: &R, id: &MsgId, session: u64);
+
+    /// At most so many tokens of the feed's ring, none of a feed that isn't there.
+    fn take_queue(&self, rt: &R, alloc: Global, feed: u16, most: usize)
+        -> Result<Taken, AllocError>
+        ensures { IfOk result (λ taken. length taken.items.items ≤ most) };
+
+    /// Reads block k of the token's article, for a session whose reads are of one record. A token
+    /// of a buffer that isn't there is Unknown.
+    fn read(
+        &self,
+        rt: &R,
+        register: &Register,
+        reads: &mut OneRecord<J>,
+        token: &Token,
+        k: u32,
+        chunk: &mut [u8; CHUNK_OCTETS],
+    ) -> Result<Found, Fault>
+        requires { register.now ≡ J.register }
+        // A chunk is that of the record, which has the token.
+        ensures chunk { J.trusted ≡ true → IfOk result
+            (IsFoundIn J.register (token_view token.now) k chunk.new reads.new.shown) }
+        // Once there is a record it stays.
+        ensures kept { IfSome reads.old.shown (λ w. reads.new.shown ≡ Some w) }
+        ensures room { IfOk result HasRoom }
+        ensures gone { IfOk result (IsFoundGone (token_view token.now)) }
+        ensures fault { IfErr result (IsReadFault (token_view token.now)) };
+
+    /// Waits until the writer has told what became of this end's job of this number, and takes that
+    /// out of the end's slot.
+    fn outcome(&self, rt: &R, end: u64, number: u64) -> Told<J>;
+}
+
+/// A clock: seconds since the first of 1970, within the limits.
+pub trait Clock {
+    /// The moment.
+    fn now(&self) -> u64
+        ensures { result ≤ last_moment };
+}
+
+/// What lets commands in, one by one.
+pub trait Gate<R> {
+    /// Before a command of a session, counted from 0: whether it may go on. It may wait.
+    fn enter(&self, rt: &R, session: u64, command: u64) -> bool;
+
+    /// After the command's reply was written.
+    fn leave(&self, rt: &R, session: u64, command: u64);
+}

@@ -1,0 +1,20 @@
+-- What a relay's threads share, by how much of it there is.
+use Rattle.std.specs.Prelude.{ℕ, length}
+use Rattle.cyc_block.specs.declared.store.BlockStore as blocks
+use Rattle.live_store.specs.declared.record.Archive as archives
+use Rattle.relay_live.specs.declared.shared.Shared.{Shared}
+
+-- how many buffers there are
+abbrev pub buffers_in : {S J L : Type 0} {s : blocks.Ghosts S} {j : archives.Ghosts J}
+    → Shared S J L s j → ℕ
+buffers_in shared = length shared.buffers.items
+
+-- how many groups there are
+abbrev pub groups_in : {S J L : Type 0} {s : blocks.Ghosts S} {j : archives.Ghosts J}
+    → Shared S J L s j → ℕ
+groups_in shared = length shared.racks.items
+
+-- how many ends there are
+abbrev pub ends_in : {S J L : Type 0} {s : blocks.Ghosts S} {j : archives.Ghosts J}
+    → Shared S J L s j → ℕ
+ends_in shared = length shared.slots.items

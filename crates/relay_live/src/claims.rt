@@ -1,0 +1,121 @@
+//! A shard of the history under its lock.
+ghost use Rattle.std.specs.Prelude.{◌≡◌, ◌≢◌, ◌<◌, ◌+◌, true, false, IfOk};
+ghost use Rattle.id_history.specs.declared.claims.Take.TheVariants as takes;
+
+use crossbeam_utils::sync::EventCount;
+use cyc_token::Token;
+use id_history::{Offer, Shard, Take};
+use live_settle::CountedDesk;
+use nntp_text::MsgId;
+use std::alloc::{AllocError, Global};
+use std::hash::RandomState;
+use std::sync::ledger::{Ledger, Share};
+use std::sync::{Mutex, Wait};
+
+/// A shard, and those who wait until an article of it is no longer being stored. Each call is that
+/// of `Shard` of this name.
+#[derive(Drop)]
+pub(crate) struct Claims {
+    shard: Mutex<Shard>,
+    // Told of each article whose storing ended, and of each offer.
+    ended: EventCount,
+}
+
+impl Claims {
+    /// Every message-id is unknown.
+    pub(crate) fn new(alloc: Global, hasher: RandomState) -> Claims {
+        Claims {
+            shard: Mutex::new(Shard::new(alloc, hasher)),
+            ended: EventCount::new(),
+        }
+    }
+
+    pub(crate) fn offer<R: Wait>(
+        &self,
+        rt: &R,
+        id: &MsgId,
+        session: u64,
+    ) -> Result<Offer, AllocError> {
+        self.shard.lock(rt).offer(id, session)
+    }
+
+    pub(crate) fn look<R: Wait>(&self, rt: &R, id: &MsgId) -> Option<Token> {
+        self.shard.lock(rt).look(id)
+    }
+
+    pub(crate) fn refuse<R: Wait>(
+        &self,
+        rt: &R,
+        id: &MsgId,
+        session: u64,
+        now: u64,
+    ) -> Result<(), AllocError> {
+        self.shard.lock(rt).refuse(id, session, now)
+    }
+
+    pub(crate) fn take<R: Wait>(
+        &self,
+        rt: &R,
+        id: &MsgId,
+        session: u64,
+    ) -> Result<Take, AllocError> {
+        self.shard.lock(rt).take(id, session)
+    }
+
+    /// As `take`, but where another session stores an article of the id it waits until that has
+    /// ended.
+    pub(crate) fn take_later<R: Wait>(
+        &self,
+        rt: &R,
+        id: &MsgId,
+        session: u64,
+    ) -> Result<Take, AllocError>
+        ensures { IfOk result (λ take. take ≢ takes.Held) }
+    {
+        for _ in rt.forever() {
+            // Announced before the look, so that no end of a storing falls between.
+            let key = self.ended.prepare_wait();
+            match self.take(rt, id, session)? {
+                Take::Held => key.wait(rt),
+                answer => return Ok(answer),
+            }
+        }
+        unreachable!()
+    }
+
+    pub(crate) fn release<R: Wait>(&self, rt: &R, id: &MsgId, session: u64) {
+        self.shard.lock(rt).release(id, session);
+        self.ended.notify_all();
+    }
+
+    pub(crate) fn forget<R: Wait>(&self, rt: &R, id: &MsgId, session: u64) {
+        self.shard.lock(rt).forget(id, session);
+        self.ended.notify_all();
+    }
+
+    /// Settles under this lock and then the desk's (`live_settle::settle`).
+    pub(crate) fn settle<L: Ledger, R: Wait>(
+        &self,
+        rt: &R,
+        desk: &Mutex<CountedDesk<L>>,
+        share: &mut Share<L>,
+        id: &MsgId,
+        session: u64,
+        token: Token,
+        permitted: &[u16],
+        now: u64,
+    ) -> bool
+        requires { 0 < share.old.parts }
+        ensures counted { result ≡ true → share.new.amount ≡ share.old.amount + 1 }
+        ensures same { result ≡ false → share.new.amount ≡ share.old.amount }
+        ensures parts { share.new.parts ≡ share.old.parts }
+    {
+        let settled = live_settle::settle(
+            rt, &self.shard, desk, share, id, session, token, permitted, now,
+        );
+        if settled {
+            self.ended.notify_all();
+        }
+        settled
+    }
+}

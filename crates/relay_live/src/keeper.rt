@@ -1,0 +1,150 @@
+//! What stores the jobs of the writers.
+ghost use Rattle.std.specs.Prelude.{◌≡◌, ◌<◌, ◌+◌, true, false, IfOk};
+ghost use Rattle.live_fates.specs.Fates.{is_kept, FitsJob};
+ghost use Rattle.live_seats.specs.Taken.{worth};
+ghost use Rattle.live_store.specs.Stores.{IsStored};
+ghost use Rattle.relay_live.specs.Holding.{has_buffer};
+
+use crate::holding;
+use crate::shared::Shared;
+use block_shelf::Place;
+use buffer_group::{Accepted, Job};
+use cyc_block::BlockStore;
+use cyc_buffer::FaultKind;
+use cyc_token::Token;
+use job_queue::Handed;
+use live_fates::{Fate, told_of};
+use live_seats::Store;
+use live_session::Clock;
+use live_store::{Archive, Register, Stored};
+use relay_conf::Buffers;
+use std::sync::Wait;
+use std::sync::ledger::{Ledger, Share};
+use std::thread;
+
+/// What all writers store by: what the threads share, the register of this archive, the buffers'
+/// settings and a clock.
+pub struct Keeper<'a, S: BlockStore + Drop, J: Archive, L: Ledger, C: Clock> {
+    shared: &'a Shared<S, J, L>,
+    register: &'a Register,
+    settings: &'a Buffers,
+    clock: &'a C,
+    ghost here: { register.now ≡ J.register },
+    ghost holds: { J.holds ≡ has_buffer settings.now },
+}
+
+impl<'a, S: BlockStore + Drop, J: Archive, L: Ledger, C: Clock> Keeper<'a, S, J, L, C> {
+    /// What stores into these buffers, of which the archive says which are of a group.
+    pub fn new(
+        shared: &'a Shared<S, J, L>,
+        register: &'a Register,
+        settings: &'a Buffers,
+        clock: &'a C,
+    ) -> Keeper<'a, S, J, L, C>
+        requires register { register.now ≡ J.register }
+        requires holds { J.holds ≡ has_buffer settings.now }
+    {
+        Keeper {
+            shared,
+            register,
+            settings,
+            clock,
+        }
+    }
+
+    /// The article's text is stored in the buffer that its group picks, which goes on once it was
+    /// begun there.
+    fn write<R: Wait>(&self, rt: &R, article: &Accepted) -> Stored<J>
+        ensures { IsStored article.now.class article.now.text result }
+    {
+        let Some(rack) = self.shared.racks.get(usize::from(article.group)) else {
+            return Stored::Mixed;
+        };
+        let length = article.length();
+        let picked = rack.lock(rt).pick(length);
+        let Some(Place { pick, number }) = picked else {
+            return Stored::Mixed;
+        };
+        let Some(buffer) = self.shared.buffers.get(number) else {
+            return Stored::Mixed;
+        };
+        let text = article.text.as_vec();
+        let stored = live_store::store(rt, buffer, self.register, article.class, pick.fresh, text);
+        if is_begun(&stored) {
+            rack.lock(rt).begun(&pick, length);
+        }
+        stored
+    }
+
+    /// The article is settled at the moment that the clock gives. It is tried again until the job's
+    /// id is its session's, and false only where the desk makes no further post.
+    fn settle<R: Wait>(&self, rt: &R, share: &mut Share<L>, job: &Job, token: Token) -> bool
+        requires { 0 < share.old.parts }
+        ensures counted { result ≡ true → share.new.amount ≡ share.old.amount + 1 }
+        ensures same { result ≡ false → share.new.amount ≡ share.old.amount }
+        ensures parts { share.new.parts ≡ share.old.parts }
+    {
+        let claims = self.shared.claims(&job.id);
+        let desk = &self.shared.desk;
+        let permitted = job.article.permitted.as_slice();
+        for _ in rt.forever() {
+            let now = self.clock.now();
+            if claims.settle(
+                rt, desk, share, &job.id, job.session, token, permitted, now,
+            ) {
+                return true;
+            }
+            if desk.lock(rt).is_full() {
+                return false;
+            }
+            thread::yield_now();
+        }
+        unreachable!()
+    }
+
+    /// The text is stored and the article settled, or given up: then its id is unknown.
+    fn keep<R: Wait>(&self, rt: &R, share: &mut Share<L>, job: &Job) -> Fate<J>
+        requires part { share.old.parts ≡ 1 }
+        ensures part { share.new.parts ≡ 1 }
+        ensures counted { share.new.amount ≡ share.old.amount + worth (is_kept result) }
+    {
+        let fate = match self.write(rt, &job.article) {
+            Stored::Kept(receipt) => {
+                if self.settle(rt, share, job, receipt.token()) {
+                    return Fate::Kept(receipt);
+                }
+                Fate::Mixed
+            }
+            Stored::Failed(fault) => {
+                if holding::has_buffer(self.settings, job.article.group, fault.buffer()) {
+                    Fate::Failed(fault)
+                } else {
+                    Fate::Mixed
+                }
+            }
+            Stored::Mixed => Fate::Mixed,
+        };
+        self.shared.claims(&job.id).forget(rt, &job.id, job.session);
+        fate
+    }
+}
+
+/// Whether the text was begun in its buffer.
+fn is_begun<J: Archive>(stored: &Stored<J>) -> bool {
+    match stored {
+        Stored::Kept(_) => true,
+        Stored::Failed(fault) => fault.kind() == FaultKind::Write,
+        Stored::Mixed => false,
+    }
+}
+
+impl<'a, S: BlockStore + Drop, J: Archive, L: Ledger, C: Clock, R: Wait> Store<L, Fate<J>, R>
+    for Keeper<'a, S, J, L, C>
+{
+    fn store(&self, rt: &R, share: &mut Share<L>, handed: &Handed) -> Fate<J> {
+        let fate = self.keep(rt, share, &handed.job);
+        self.shared
+            .tell(rt, handed.end, handed.number, told_of(&fate));
+        fate
+    }
+}

@@ -1,0 +1,20 @@
+//! What the threads of a relay share, each value behind its lock (docs/PROTOCOL.md, Threads):
+//! shards, buffers, groups, the feed desk, the slots of the ends and the number of the last
+//! session.
+//!
+//! Each call is one method of what lies under a lock, or settles under two. A `Keeper` stores the
+//! jobs that writers take, sessions go by `Shares`, and an `End` serves a peer's connections.
+#![tactic(auto)]
+
+mod claims;
+mod drawing;
+mod holding;
+mod keeper;
+mod making;
+mod shared;
+mod sharing;
+mod slot;
+
+pub use keeper::Keeper;
+pub use shared::Shared;
+pub use slot::{Answer, Slot};

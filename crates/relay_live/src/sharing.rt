@@ -1,0 +1,81 @@
+//! What sessions share: each call is one step under one lock.
+ghost use Rattle.std.specs.Prelude.{◌≡◌};
+
+use crate::shared::Shared;
+use cyc_block::{BlockStore, CHUNK_OCTETS};
+use cyc_buffer::{Fault, Found};
+use cyc_token::Token;
+use feed_queue::Taken;
+use id_history::{Offer, Take};
+use live_fates::Told;
+use live_session::Shares;
+use live_store::{Archive, OneRecord, Register};
+use nntp_text::MsgId;
+use std::alloc::{AllocError, Global};
+use std::sync::Wait;
+use std::sync::ledger::Ledger;
+
+impl<S: BlockStore + Drop, J: Archive, L: Ledger, R: Wait> Shares<J, R> for Shared<S, J, L> {
+    fn offer(&self, rt: &R, id: &MsgId, session: u64) -> Result<Offer, AllocError> {
+        self.claims(id).offer(rt, id, session)
+    }
+
+    fn look(&self, rt: &R, id: &MsgId) -> Option<Token> {
+        self.claims(id).look(rt, id)
+    }
+
+    fn refuse(&self, rt: &R, id: &MsgId, session: u64, now: u64) -> Result<(), AllocError> {
+        self.claims(id).refuse(rt, id, session, now)
+    }
+
+    fn take(&self, rt: &R, id: &MsgId, session: u64) -> Result<Take, AllocError> {
+        self.claims(id).take(rt, id, session)
+    }
+
+    fn take_later(&self, rt: &R, id: &MsgId, session: u64) -> Result<Take, AllocError> {
+        self.claims(id).take_later(rt, id, session)
+    }
+
+    fn release(&self, rt: &R, id: &MsgId, session: u64) {
+        self.claims(id).release(rt, id, session);
+    }
+
+    fn take_queue(
+        &self,
+        rt: &R,
+        alloc: Global,
+        feed: u16,
+        most: usize,
+    ) -> Result<Taken, AllocError> {
+        let taken = self.desk.lock(rt).take(alloc, feed, most)?;
+        match taken {
+            Some(taken) => Ok(taken),
+            None => Ok(Taken {
+                missed: 0,
+                items: Vec::new(alloc),
+            }),
+        }
+    }
+
+    fn read(
+        &self,
+        rt: &R,
+        register: &Register,
+        reads: &mut OneRecord<J>,
+        token: &Token,
+        k: u32,
+        chunk: &mut [u8; CHUNK_OCTETS],
+    ) -> Result<Found, Fault> {
+        match self.buffers.get(usize::from(token.buffer)) {
+            Some(buffer) => reads.read(rt, buffer, register, token, k, chunk),
+            None => Ok(Found::Unknown),
+        }
+    }
+
+    fn outcome(&self, rt: &R, end: u64, number: u64) -> Told<J> {
+        match self.slot(end) {
+            Some(slot) => slot.wait(rt, number),
+            None => Told::Failed,
+        }
+    }
+}

@@ -1,0 +1,103 @@
+//! The slot of an end: what a writer told of the end's job.
+ghost use Rattle.std.specs.Prelude.{◌≡◌};
+ghost use Rattle.relay_live.specs.Slots.{after_tell, told_to, left_by};
+
+use crossbeam_utils::sync::EventCount;
+use live_fates::Told;
+use live_store::Archive;
+use std::sync::{Mutex, Wait};
+use std::thread;
+
+/// How often a thread looks again before it sleeps.
+const TRIES: u32 = 16;
+
+/// What became of a job, with its number among those of its end.
+#[derive(Drop)]
+pub struct Answer<J: Archive> {
+    pub number: u64,
+    pub told: Told<J>,
+}
+
+/// The slot of an end. Writers put answers, the end's session takes the one that it waits for.
+#[derive(Drop)]
+pub struct Slot<J: Archive> {
+    answer: Mutex<Option<Answer<J>>>,
+    // Told of each answer that is put.
+    filled: EventCount,
+}
+
+impl<J: Archive> Slot<J> {
+    /// An empty slot.
+    pub fn new() -> Slot<J> {
+        Slot {
+            answer: Mutex::new(None),
+            filled: EventCount::new(),
+        }
+    }
+
+    /// Puts what became of the end's job of this number. Where an answer of a later job stands
+    /// there nobody waits for this one, and it is dropped.
+    pub fn tell<R: Wait>(&self, rt: &R, number: u64, told: Told<J>) {
+        put(&mut self.answer.lock(rt), Answer { number, told });
+        self.filled.notify_all();
+    }
+
+    /// Waits until a writer has told what became of the end's job of this number, and takes that.
+    /// What earlier jobs were told is dropped.
+    pub fn wait<R: Wait>(&self, rt: &R, number: u64) -> Told<J> {
+        for _ in rt.forever() {
+            if let Some(told) = self.take_soon(rt, number) {
+                return told;
+            }
+            let key = self.filled.prepare_wait();
+            if let Some(told) = self.try_take(rt, number) {
+                return told;
+            }
+            key.wait(rt);
+        }
+        unreachable!()
+    }
+
+    // Looks once.
+    fn try_take<R: Wait>(&self, rt: &R, number: u64) -> Option<Told<J>> {
+        take(&mut self.answer.lock(rt), number)
+    }
+
+    // Looks so often, and gives way to other threads between.
+    fn take_soon<R: Wait>(&self, rt: &R, number: u64) -> Option<Told<J>> {
+        for _ in 0..TRIES {
+            if let Some(told) = self.try_take(rt, number) {
+                return Some(told);
+            }
+            thread::yield_now();
+        }
+        None
+    }
+}
+
+/// Puts an answer where none of a later job stands.
+fn put<J: Archive>(held: &mut Option<Answer<J>>, answer: Answer<J>)
+    ensures { held.new ≡ after_tell held.old answer }
+{
+    match held {
+        Some(other) if other.number > answer.number => {}
+        _ => *held = Some(answer),
+    }
+}
+
+/// Takes the answer of the job of this number. One of an earlier job is dropped, one of a later job
+/// stays.
+fn take<J: Archive>(held: &mut Option<Answer<J>>, number: u64) -> Option<Told<J>>
+    ensures told { result ≡ told_to held.old number }
+    ensures left { held.new ≡ left_by held.old number }
+{
+    let answer = held.take()?;
+    if answer.number > number {
+        *held = Some(answer);
+        return None;
+    }
+    if answer.number < number {
+        return None;
+    }
+    Some(answer.told)
+}
