@@ -38,8 +38,7 @@ pub trait Shares<J: Archive, R> {
     fn release(&self, rt: &R, id: &MsgId, session: u64);
 
     /// At most so many tokens of the feed's ring, none of a feed that isn't there.
-    fn take_queue(&self, rt: &R, alloc: Global, feed: u16, most: usize)
-        -> Result<Taken, AllocError>
+    fn take_queue(&self, rt: &R, alloc: Global, feed: u16, most: usize) -> Result<Taken, AllocError>
         ensures { IfOk result (λ taken. length taken.items.items ≤ most) };
 
     /// Reads block k of the token's article, for a session whose reads are of one record. A token

@@ -111,7 +111,15 @@ impl Claims {
         ensures parts { share.new.parts ≡ share.old.parts }
     {
         let settled = live_settle::settle(
-            rt, &self.shard, desk, share, id, session, token, permitted, now,
+            rt,
+            &self.shard,
+            desk,
+            share,
+            id,
+            session,
+            token,
+            permitted,
+            now,
         );
         if settled {
             self.ended.notify_all();

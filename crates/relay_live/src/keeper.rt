@@ -89,9 +89,7 @@ impl<'a, S: BlockStore + Drop, J: Archive, L: Ledger, C: Clock> Keeper<'a, S, J,
         let permitted = job.article.permitted.as_slice();
         for _ in rt.forever() {
             let now = self.clock.now();
-            if claims.settle(
-                rt, desk, share, &job.id, job.session, token, permitted, now,
-            ) {
+            if claims.settle(rt, desk, share, &job.id, job.session, token, permitted, now) {
                 return true;
             }
             if desk.lock(rt).is_full() {
@@ -139,8 +137,7 @@ fn is_begun<J: Archive>(stored: &Stored<J>) -> bool {
 }
 
 impl<'a, S: BlockStore + Drop, J: Archive, L: Ledger, C: Clock, R: Wait> Store<L, Fate<J>, R>
-    for Keeper<'a, S, J, L, C>
-{
+    for Keeper<'a, S, J, L, C> {
     fn store(&self, rt: &R, share: &mut Share<L>, handed: &Handed) -> Fate<J> {
         let fate = self.keep(rt, share, &handed.job);
         self.shared

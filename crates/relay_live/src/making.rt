@@ -56,10 +56,7 @@ pub(crate) fn locked(alloc: Global, racks: Vec<Rack>) -> Result<Vec<Mutex<Rack>>
 }
 
 /// So many empty slots.
-pub(crate) fn new_slots<J: Archive>(
-    alloc: Global,
-    ends: usize,
-) -> Result<Vec<Slot<J>>, AllocError>
+pub(crate) fn new_slots<J: Archive>(alloc: Global, ends: usize) -> Result<Vec<Slot<J>>, AllocError>
     ensures { IfOk result (λ slots. length slots.items ≡ ends) }
 {
     let mut slots = Vec::with_capacity(alloc, ends)?;
