@@ -46,7 +46,10 @@ fn new_buffers<S: BlockStore + Drop>(
 
 /// The racks of all groups, before anything is begun.
 pub fn new_racks(alloc: Global, settings: &Buffers) -> Result<Vec<Rack>, AllocError>
-    ensures { IfOk result (λ racks. AreNewRacks (places_of_groups settings.now) racks.items) }
+    ensures racks { IfOk result (λ racks.
+        AreNewRacks (places_of_groups settings.now) racks.items) }
+    ensures count { IfOk result (λ racks.
+        length racks.items ≡ length settings.now.groups.items) }
 {
     let mut racks = Vec::with_capacity(alloc, settings.groups.len())?;
     for group in &settings.groups {

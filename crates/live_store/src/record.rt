@@ -30,18 +30,15 @@ pub type Register = boxcar::Vec<Record>;
 /// A record's number, with what shows that the register holds the record under it.
 pub type Shown = boxcar::Pushed<Record>;
 
-/// Which register the numbers are of, whether the stores are promised to be honest, what is so of
-/// each text that is entered, and which buffers a group has.
+/// Which register the numbers are of, whether the stores are promised to be honest, and which
+/// buffers a group has.
 pub trait Archive {
-    ghost use Rattle.std.specs.Prelude.{Bool, List, ℕ};
+    ghost use Rattle.std.specs.Prelude.{Bool, ℕ};
     ghost use Rattle.boxcar.specs.Table.{Shelves};
 
     ghost register: { Shelves };
 
     ghost trusted: { Bool };
-
-    /// What is so of each text that is entered.
-    ghost fits: { List ℕ → Type 0 };
 
     /// Which buffers a group has, by the numbers of group and buffer.
     ghost holds: { ℕ → ℕ → Bool };
@@ -53,8 +50,6 @@ impl Archive for Brand {
     ghost register = { record { tag = []; buckets = [] } };
 
     ghost trusted = { false };
-
-    ghost fits = { λ _. Unit {0} };
 
     ghost holds = { λ _ _. false };
 }

@@ -101,11 +101,13 @@ impl<'a, S: BlockStore + Drop, J: Archive, L: Ledger, C: Clock> Keeper<'a, S, J,
     }
 
     /// The text is stored and the article settled, or given up: then its id is unknown.
-    fn keep<R: Wait>(&self, rt: &R, share: &mut Share<L>, job: &Job) -> Fate<J>
+    fn keep<R: Wait>(&self, rt: &R, share: &mut Share<L>, handed: &Handed) -> Fate<J>
         requires part { share.old.parts ≡ 1 }
         ensures part { share.new.parts ≡ 1 }
         ensures counted { share.new.amount ≡ share.old.amount + worth (is_kept result) }
+        ensures fits { FitsJob J.holds result handed.now }
     {
+        let job = &handed.job;
         let fate = match self.write(rt, &job.article) {
             Stored::Kept(receipt) => {
                 if self.settle(rt, share, job, receipt.token()) {
@@ -139,7 +141,7 @@ fn is_begun<J: Archive>(stored: &Stored<J>) -> bool {
 impl<'a, S: BlockStore + Drop, J: Archive, L: Ledger, C: Clock, R: Wait> Store<L, Fate<J>, R>
     for Keeper<'a, S, J, L, C> {
     fn store(&self, rt: &R, share: &mut Share<L>, handed: &Handed) -> Fate<J> {
-        let fate = self.keep(rt, share, &handed.job);
+        let fate = self.keep(rt, share, handed);
         self.shared
             .tell(rt, handed.end, handed.number, told_of(&fate));
         fate

@@ -3,7 +3,7 @@
 //! session.
 //!
 //! Each call is one method of what lies under a lock, or settles under two. A `Keeper` stores the
-//! jobs that writers take, sessions go by `Shares`, and an `End` serves a peer's connections.
+//! jobs that writers take, and sessions go by `Shares`.
 #![tactic(auto)]
 
 mod claims;

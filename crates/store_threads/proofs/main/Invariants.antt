@@ -1,6 +1,10 @@
-use Rattle.std.proofs.Common.{true}
+use Rattle.std.proofs.Common.{true, false}
 use Rattle.store_threads.proofs.main.Given as goal
 
--- the register that was just made, over stores in memory, which are honest
+-- the register that was just made, over stores in memory, which are honest; there are no groups
 abbrev pub ghosts-play : goal.ghosts-play
-ghosts-play g a = record { register = a.register.now; trusted = true }
+ghosts-play g a = record {
+  register = a.register.now;
+  trusted = true;
+  holds = λ group buffer. false;
+}

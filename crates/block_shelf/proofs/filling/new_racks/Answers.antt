@@ -56,8 +56,8 @@ loop-group-preserved c =
           c.deref.ensures.value c.in_ok-new.ensures)));
     }
 
-pub returns : goal.returns
-returns c =
+pub returns-clause-racks : goal.returns-clause-racks
+returns-clause-racks c =
     subst (λ groups. AreNewRacks (groups_over c.args.settings.now.buffers.items
     (map group_view groups)) c.loop-group.racks.items)
     (take_all c.loop-group.group-index c.args.settings.now.groups.items

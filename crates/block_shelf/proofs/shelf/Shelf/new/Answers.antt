@@ -13,4 +13,4 @@ new_buffers-requires g c =
 pub returns : goal.returns
 returns g c = λ trusted honest w all groups.
     nothing_kept c.args.settings.now c.args.stores.items _ trusted honest w all groups c.requires
-    c.in_ok-buffers.ensures c.args.settings.now.sound c.in_ok-racks.ensures
+    c.in_ok-buffers.ensures c.args.settings.now.sound c.in_ok-racks.ensures.racks
