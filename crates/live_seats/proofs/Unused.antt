@@ -18,10 +18,10 @@ pub unused_snoc : (lanes : List Lane) (lane : Lane) (end : ℕ) (passes now : Li
     → view pass ≡ end_knows end [] → handed_of now ≡ no_jobs (lanes ++ lane ∷ [])
 unused_snoc lanes lane end passes now pass unused grown fresh =
     ap handed_of grown
-        ∙ map-append jobs_in passes (pass ∷ [])
-        ∙ ap (λ (jobs : List (List Handed)). jobs ++ jobs_in pass ∷ []) unused
-        ∙ ap (λ (v : Known). no_jobs lanes ++ jobs_of v.handed ∷ []) fresh
-        ∙ sym (map-append (λ (l : Lane). []) lanes (lane ∷ []))
+    ∙ map-append jobs_in passes (pass ∷ [])
+    ∙ ap (λ (jobs : List (List Handed)). jobs ++ jobs_in pass ∷ []) unused
+    ∙ ap (λ (v : Known). no_jobs lanes ++ jobs_of v.handed ∷ []) fresh
+    ∙ sym (map-append (λ (l : Lane). []) lanes (lane ∷ []))
 
 -- without a lane, an end that has handed nothing over
 pub fresh_unused : (lanes : List Lane) (e : ℕ) (seat : SessionSeat) → lanes ≡ [] → Fresh e seat
