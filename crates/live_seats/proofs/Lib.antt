@@ -7,4 +7,3 @@ pub mod Writers
 pub mod Counts
 pub mod Plans
 pub mod Ends
-pub mod Unused
