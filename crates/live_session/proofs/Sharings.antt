@@ -29,6 +29,7 @@ use Rattle.live_store.specs.Steps.{IsChunkOf, IsFoundIn}
 use Rattle.live_store.specs.Tied.{text_in}
 use Rattle.live_store.specs.declared.record.Archive.{Ghosts}
 use Rattle.live_store.specs.declared.record.Record.{Record}
+use Rattle.news_terms.specs.Article.{Article, IsArticleText}
 use Rattle.news_terms.specs.BlockImage.{chunk_size}
 use Rattle.news_terms.specs.Token.{Token}
 use Rattle.nntp_text.specs.Reply.{item_view}
@@ -57,6 +58,10 @@ job_or (Some one) other = one
 text_or : Option (Where Record) → List ℕ
 text_or None = []
 text_or (Some one) = text_in one
+
+-- a record is an article's
+article_of : (one : Where Record) → ∥ ((a : Article) × IsArticleText (text_in one) a) ∥₁
+article_of one = ?
 
 -- hands that are equal part by part
 hands_are : (one other : Hands) → one.jobs ≡ other.jobs → one.count ≡ other.count
@@ -265,7 +270,7 @@ module _ (token : Token) (k : ℕ) (old new : Option (Where Record)) where
           → ∥ ReadOf asked token k gathered (chunks.Found octets) new ∥₁
       by None at none = absurd none
       by (Some one) at here =
-          ∥∥₁_map one.value.is_article (λ article. record {
+          ∥∥₁_map (article_of one) (λ article. record {
             found = fetches.Article (text_in one);
             is_found = (text_in one, refl, record {
               article = article.0;

@@ -1,5 +1,5 @@
 //! A session is served over a connection.
-ghost use Rattle.std.specs.Prelude.{◌≡◌, [], true, IfOk, is_some};
+ghost use Rattle.std.specs.Prelude.{◌≡◌, [], true, IfOk};
 ghost use Rattle.article_verdict.specs.Config.{terms_of};
 ghost use Rattle.live_seats.specs.Seats.{IsSeatOf, end_of};
 ghost use Rattle.live_session.specs.Carried.{Begins, Carried, CarriesSame, IsServed, ServesOn};
@@ -108,6 +108,7 @@ pub fn serve_session<
     };
     converse(rt, alloc, hall, &mut talk, &mut wire);
     leave(rt, alloc, hall, &mut talk, &mut wire);
+    stop(&mut wire, Finish::TurnsSpent);
     Served {
         seat: talk.seat,
         kept: talk.kept,
@@ -160,7 +161,6 @@ fn converse<S: Shares<J, R>, C: Clock, G: Gate<R>, J: Archive, H: Hears, W: Says
     ensures served { J.trusted ≡ true → ServesOn (terms_of hall.now.config.now) talk.old talk.new
         (carried (H.heard wire.old.reader) (W.said wire.old.writer) wire.old.outbox wire.old.finish)
         (carried (H.heard wire.new.reader) (W.said wire.new.writer) wire.new.outbox wire.new.finish) }
-    ensures ended { is_some wire.new.finish ≡ true }
 {
     let mut commands = 0;
     for _ in 0..TURNS {
@@ -169,7 +169,6 @@ fn converse<S: Shares<J, R>, C: Clock, G: Gate<R>, J: Archive, H: Hears, W: Says
         }
         round(rt, alloc, hall, talk, wire, &mut commands);
     }
-    stop(wire, Finish::TurnsSpent);
 }
 
 /// One turn with its reply; where none is due, what waits is written, and the session reads.
@@ -232,7 +231,7 @@ fn receive<J: Archive, H: Hears, W: Says>(talk: &mut Talk<J>, wire: &mut Wire<H,
         (carried (H.heard wire.old.reader) (W.said wire.old.writer) wire.old.outbox wire.old.finish)
         (carried (H.heard wire.new.reader) (W.said wire.new.writer) wire.new.outbox wire.new.finish) }
 {
-    if !talk.session.is_reading() {
+    if wire.finish.is_some() || !talk.session.is_reading() {
         return;
     }
     match wire.reader.hear(&mut wire.piece) {
