@@ -1,1 +1,4 @@
+pub mod Doubles
 pub mod Fates
+pub mod Sets
+pub mod Strays

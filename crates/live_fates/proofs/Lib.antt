@@ -1,0 +1,4 @@
+pub mod Texts
+pub mod Told
+pub mod Jobs
+pub mod Borne
