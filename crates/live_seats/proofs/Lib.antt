@@ -7,3 +7,4 @@ pub mod Writers
 pub mod Counts
 pub mod Plans
 pub mod Ends
+pub mod Unused

@@ -108,6 +108,13 @@ none_group {O} n g dones done at none before k e d less there from below = dite 
     subst (λ (x : List (Done O)). told_of e x ≡ []) (sym this) (none e from below))
     (λ other. before k e d (omega arith) there from below)
 
+-- ---- no lane
+pub rests_none : (lanes : List Lane) (n : ℕ) (rests : List QueuePass) → lanes ≡ [] → rests ≡ []
+    → RestsFit lanes n rests
+rests_none lanes n rests none all =
+    subst (λ (x : List Lane × List QueuePass). RestsFit x.0 n x.1)
+    (λ i. (sym none i, sym all i)) (refl, λ g rest at. absurd (cc))
+
 -- ---- one lane more
 pub rests_snoc : (lanes now : List Lane) (lane : Lane) (n : ℕ) (rests grown : List QueuePass)
     (rest : QueuePass) → RestsFit lanes n rests → now ≡ lanes ++ lane ∷ []

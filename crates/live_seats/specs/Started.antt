@@ -1,8 +1,9 @@
 -- The rows with which threads are started, and the rows of their handles.
-use Rattle.std.specs.Prelude.{◌≡◌, ℕ, Bool, false, List, length, Some, slice_get}
+use Rattle.std.specs.Prelude.{◌≡◌, ℕ, Bool, false, List, [], length, map, Some, slice_get}
 use Rattle.job_queue.specs.Passes.{QueuePass}
+use Rattle.job_queue.specs.declared.parcel.Handed.{Handed}
 use Rattle.live_seats.specs.Gathered.{OfLane, AllClosed}
-use Rattle.live_seats.specs.Seats.{IsSeatOf, HasLeft, end_of, left_end}
+use Rattle.live_seats.specs.Seats.{IsSeatOf, HasLeft, end_of, count_of, handed_by, left_end}
 use Rattle.live_seats.specs.declared.lane.Lane.{Lane}
 use Rattle.live_seats.specs.declared.session.LeftSeat.{LeftSeat}
 use Rattle.live_seats.specs.declared.session.SessionSeat.{SessionSeat}
@@ -36,4 +37,13 @@ Left lanes e left = (left_end left ≡ e) × HasLeft lanes left
 
 -- an end that has no lane yet, and has handed nothing over
 abbrev pub Fresh : (e : ℕ) → SessionSeat → Type 0
-Fresh e seat = (seat.end ≡ e) × (length seat.passes.items ≡ 0)
+Fresh e seat = (seat.end ≡ e) × (seat.passes.items ≡ []) × (seat.handed ≡ 0)
+
+-- to each of these lanes no job
+abbrev pub no_jobs : List Lane → List (List Handed)
+no_jobs lanes = map (λ (lane : Lane). []) lanes
+
+-- an end that can be served, and has handed nothing over
+abbrev pub IsUnused : List Lane → (e : ℕ) → SessionSeat → Type 0
+IsUnused lanes e seat =
+    Open lanes e seat × (count_of seat ≡ 0) × (handed_by seat ≡ no_jobs lanes)

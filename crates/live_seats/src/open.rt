@@ -7,7 +7,7 @@ ghost use Rattle.live_seats.specs.Lanes.{queue_of};
 ghost use Rattle.live_seats.specs.Rows.{From};
 ghost use Rattle.live_seats.specs.Seats.{count_of, handed_by};
 ghost use Rattle.live_seats.specs.Gathered.{IsRest, RestsFit};
-ghost use Rattle.live_seats.specs.Started.{Ready, Open, Fresh};
+ghost use Rattle.live_seats.specs.Started.{Ready, Fresh, IsUnused};
 
 use crate::lane::Lane;
 use crate::outcome::Outcome;
@@ -42,13 +42,13 @@ fn add_lane<V>(
     plans: &mut Vec<Plan<V>>,
 ) -> Result<(Lane, QueuePass, QueuePass), AllocError>
     requires few { length plans.old.items < 2 ^ 62 }
-    requires fit { From (λ e p. Open lanes.now.items e p.seat) 0 plans.old.items }
+    requires fit { From (λ e p. IsUnused lanes.now.items e p.seat) 0 plans.old.items }
     ensures writer { IfOk result (λ r. IsPassOf (queue_of r.0) r.1 × (view r.1 ≡ writer_knows [])) }
     ensures rest { IfOk result (λ r. IsPassOf (queue_of r.0) r.2
         × IsRest (length plans.old.items) r.2) }
     ensures ends { IfOk result (λ r. length plans.new.items ≡ length plans.old.items) }
-    ensures fit { IfOk result (λ r. From (λ e p. Open (lanes.now.items ++ r.0 ∷ []) e p.seat) 0
-        plans.new.items) }
+    ensures fit { IfOk result (λ r. From (λ e p. IsUnused (lanes.now.items ++ r.0 ∷ []) e p.seat)
+        0 plans.new.items) }
 {
     let _ = lanes.len();
     let (lane, mut first) = Lane::new(alloc)?;
@@ -107,7 +107,8 @@ pub fn open_all<L: Ledger, O: Outcome + Drop, V: Drop>(
     ensures lanes { IfOk result (λ o. (length o.lanes.items ≡ groups)
         × (length o.writers.items ≡ groups) × (length o.plans.items ≡ length services.items)) }
     ensures rests { IfOk result (λ o. RestsFit o.lanes.items (length services.items) o.rests.items) }
-    ensures ends { IfOk result (λ o. From (λ e p. Open o.lanes.items e p.seat) 0 o.plans.items) }
+    ensures ends { IfOk result (λ o. From (λ e p. IsUnused o.lanes.items e p.seat) 0
+        o.plans.items) }
     ensures writers { IfOk result (λ o. From (λ g w. Ready o.lanes.items (length services.items) g
         w.pass w.lent w.closed.items) 0 o.writers.items) }
 {

@@ -54,7 +54,7 @@ impl SessionSeat {
     ) -> Result<u64, Job>
         requires group { group < length lanes.now }
         requires seat { IsSeatOf lanes.now self.old }
-        requires room { count_of self.old < 2 ^ 62 }
+        requires room { count_of self.old < 2 ^ 63 }
         ensures seat { IsSeatOf lanes.now self.new }
         ensures end { end_of self.new ≡ end_of self.old }
         ensures number { IfOk result (λ number. number ≡ count_of self.old) }
@@ -86,7 +86,7 @@ impl SessionSeat {
     pub fn hand_over<R: Wait>(&mut self, rt: &R, lanes: &[Lane], group: usize, job: Job) -> u64
         requires group { group < length lanes.now }
         requires seat { IsSeatOf lanes.now self.old }
-        requires room { count_of self.old < 2 ^ 62 }
+        requires room { count_of self.old < 2 ^ 63 }
         ensures seat { IsSeatOf lanes.now self.new }
         ensures end { end_of self.new ≡ end_of self.old }
         ensures number { result ≡ count_of self.old }

@@ -1,9 +1,10 @@
 use Rattle.std.proofs.Common.{◌≡◌, ◌+◌, ◌<◌, ◌∙◌, ◌++◌, [], ◌∷◌, ℕ, false, ap, sym, refl, subst, length, arith}
 use Rattle.job_queue.specs.declared.known.Known.{Known}
 use Rattle.job_queue.specs.Delivery.{knows, end_knows}
-use Rattle.live_seats.specs.Started.{Open}
+use Rattle.live_seats.specs.Started.{IsUnused}
 use Rattle.live_seats.proofs.Passes.{read_at, length_set, fits_snoc}
 use Rattle.live_seats.proofs.Plans.{done_next, todo_next}
+use Rattle.live_seats.proofs.Unused.{unused_snoc}
 use Rattle.live_seats.proofs.Writers.{within}
 use Rattle.live_seats.proofs.open.add_lane.Goals as goal
 
@@ -18,7 +19,7 @@ loop-end-init g c =
       long = refl;
       first = (first.passes.0, first.first ∙ ap (λ (v : Known). knows v.low v.high v.handed false []) made.knows);
       done = λ k p none at. absurd (omega arith);
-      todo = λ k p from at. subst (λ (n : ℕ). Open c.args.lanes.now.items n p.seat) (zero_add k) (c.requires.fit k p at);
+      todo = λ k p from at. subst (λ (n : ℕ). IsUnused c.args.lanes.now.items n p.seat) (zero_add k) (c.requires.fit k p at);
     }
 
 pub loop-end-preserved : goal.loop-end-preserved
@@ -29,13 +30,13 @@ loop-end-preserved g c =
     let at = read_at _ _ _ below c.index_mut.ensures.value in
     let was = inv.todo c.loop-end.end c.index_mut.result.now (omega arith) at in
     let cut = c.end_pass-pass.ensures in
-    let fresh = cut.end ∙ ap (λ (v : Known). end_knows v.low []) inv.first.1 ∙ ap (λ (n : ℕ). end_knows n []) (sym was.0) in
+    let fresh = cut.end ∙ ap (λ (v : Known). end_knows v.low []) inv.first.1 ∙ ap (λ (n : ℕ). end_knows n []) (sym was.0.0) in
     let pushed = c.in_ok-push.ensures.items in
     record {
       long = length_set c.loop-end.plans.items c.loop-end.end _ ∙ inv.long;
       first = (cut.passes.0, cut.first ∙ ap (λ (v : Known). knows (v.low + 1) v.high v.handed v.takes v.taken) inv.first.1);
-      done = done_next (λ n p. Open (c.args.lanes.now.items ++ c.in_ok-lane.lane ∷ []) n p.seat) _ _ _ inv.done (was.0, fits_snoc _ _ _ _ _ _ was.1 pushed cut.passes.1 fresh);
-      todo = todo_next (λ n p. Open c.args.lanes.now.items n p.seat) _ _ _ inv.todo;
+      done = done_next (λ n p. IsUnused (c.args.lanes.now.items ++ c.in_ok-lane.lane ∷ []) n p.seat) _ _ _ inv.done ((was.0.0, fits_snoc _ _ _ _ _ _ was.0.1 pushed cut.passes.1 fresh), was.1, unused_snoc _ _ _ _ _ _ was.2 pushed fresh);
+      todo = todo_next (λ n p. IsUnused c.args.lanes.now.items n p.seat) _ _ _ inv.todo;
     }
 
 pub returns-clause-fit : goal.returns-clause-fit
@@ -45,4 +46,4 @@ returns-clause-fit g c =
     λ k p at.
     let less = within c.loop-end.plans.items k p at in
     let past = c.loop-end-test.false in
-    subst (λ (n : ℕ). Open (c.args.lanes.now.items ++ c.in_ok-lane.lane ∷ []) n p.seat) (sym (zero_add k)) (inv.done k p (omega (arith, inv.long, c.len-end-end.ensures)) at)
+    subst (λ (n : ℕ). IsUnused (c.args.lanes.now.items ++ c.in_ok-lane.lane ∷ []) n p.seat) (sym (zero_add k)) (inv.done k p (omega (arith, inv.long, c.len-end-end.ensures)) at)

@@ -1,15 +1,29 @@
-use Rattle.std.proofs.Common.{◌∙◌, sym, subst, arith, List}
+use Rattle.std.proofs.Common.{◌∙◌, ◌+◌, sym, ap, subst, length, arith, List}
 use Rattle.crossbeam_queue.specs.Passes.{IsPassOf}
 use Rattle.job_queue.specs.Passes.{QueuePass}
 use Rattle.live_seats.specs.Gathered.{IsRest}
 use Rattle.live_seats.specs.Lanes.{queue_of}
 use Rattle.live_seats.specs.Rows.{From}
-use Rattle.live_seats.specs.Started.{Open}
+use Rattle.live_seats.specs.Started.{Ready, IsUnused}
 use Rattle.live_seats.specs.declared.lane.Lane.{Lane}
-use Rattle.live_seats.proofs.Rows.{length_snoc}
+use Rattle.live_seats.proofs.Rows.{from_none, length_snoc}
 use Rattle.live_seats.proofs.Plans.{ready_grown}
-use Rattle.live_seats.proofs.Writers.{rests_snoc}
+use Rattle.live_seats.proofs.Unused.{fresh_unused}
+use Rattle.live_seats.proofs.Writers.{rests_none, rests_snoc}
 use Rattle.live_seats.proofs.open.open_all.Goals as goal
+
+pub loop-group-init : goal.loop-group-init
+loop-group-init g c =
+    let none = c.new-lanes.ensures.items in
+    record {
+      lanes = ap length none;
+      count = ap length c.new-writers.ensures.items;
+      ends = c.in_ok-plans.ensures.ends;
+      parts = (omega (arith, c.requires.parts.0), c.requires.parts.1);
+      plans = λ k p at. fresh_unused c.new-lanes.result.items (0 + k) p.seat none (c.in_ok-plans.ensures.fresh k p at);
+      rests = rests_none _ _ _ none c.new-rests.ensures.items;
+      writers = from_none (λ n w. Ready c.new-lanes.result.items (length c.args.services.items) n w.pass w.lent w.closed.items) _ (ap length c.new-writers.ensures.items);
+    }
 
 pub loop-group-preserved : goal.loop-group-preserved
 loop-group-preserved g c =
@@ -26,7 +40,7 @@ loop-group-preserved g c =
       count = omega (arith, one, inv.count);
       ends = add.ends ∙ inv.ends;
       parts = (omega (arith, inv.parts.0, c.split_off-share.ensures.parts_left), omega (arith, inv.parts.1, c.split_off-share.ensures.amount_left));
-      plans = subst (λ (ls : List Lane). From (λ e p. Open ls e p.seat) 0 c.add_lane.new.plans.items) (sym lanes) add.fit;
+      plans = subst (λ (ls : List Lane). From (λ e p. IsUnused ls e p.seat) 0 c.add_lane.new.plans.items) (sym lanes) add.fit;
       rests = rests_snoc c.loop-group.lanes.items _ c.in_ok-lane.lane _ c.loop-group.rests.items _ c.in_ok-lane.first inv.rests lanes rests add.rest.0 (subst (λ n. IsRest n c.in_ok-lane.first) inv.ends add.rest.1);
       writers = ready_grown (λ w. w.pass) (λ w. w.lent) (λ w. w.closed.items) c.loop-group.lanes.items _ c.in_ok-lane.lane _ c.loop-group.writers.items _ c.in_ok-new_writer.field-0 inv.writers (inv.count ∙ sym inv.lanes) lanes writers
           (subst (λ (p : QueuePass). IsPassOf (queue_of c.in_ok-lane.lane) p) (sym made.pass) add.writer.0) made.flags.0 (made.flags.1 ∙ c.len-ends.ensures ∙ c.args.services.ok.0);

@@ -1,7 +1,7 @@
 use Rattle.std.proofs.Common.{◌≡◌, ◌+◌, length}
 use Rattle.live_seats.specs.Gathered.{RestsFit}
 use Rattle.live_seats.specs.Rows.{From}
-use Rattle.live_seats.specs.Started.{Ready, Open}
+use Rattle.live_seats.specs.Started.{Ready, IsUnused}
 use Rattle.live_seats.proofs.open.open_all.Given as goal
 
 abbrev pub invariant-loop-group : goal.invariant-loop-group
@@ -10,7 +10,7 @@ invariant-loop-group g l = record {
   count : length l.writers.items ≡ l._group;
   ends : length l.plans.items ≡ length l.fn.services.items;
   parts : (l.rest.parts + l._group ≡ l.groups) × (l.rest.amount ≡ 0);
-  plans : From (λ e p. Open l.lanes.items e p.seat) 0 l.plans.items;
+  plans : From (λ e p. IsUnused l.lanes.items e p.seat) 0 l.plans.items;
   rests : RestsFit l.lanes.items (length l.fn.services.items) l.rests.items;
   writers : From (λ n w. Ready l.lanes.items (length l.fn.services.items) n w.pass w.lent w.closed.items) 0 l.writers.items;
 }

@@ -7,7 +7,8 @@ use Rattle.live_seats.proofs.tests.day.Goals as goal
 
 pub serve_seats-served-requires-clause-ends : goal.serve_seats-served-requires-clause-ends
 serve_seats-served-requires-clause-ends g c κs within =
-    subst (λ (ls : List Lane). From (λ e p. Open ls e p.seat) 0 c.in_ok-lanes.field-0.plans.items) (sym c.as_slice-lanes.ensures.value) c.in_ok-lanes.ensures.ends
+    subst (λ (ls : List Lane). From (λ e p. Open ls e p.seat) 0 c.in_ok-lanes.field-0.plans.items)
+    (sym c.as_slice-lanes.ensures.value) (λ k p at. (c.in_ok-lanes.ensures.ends k p at).0)
 
 pub close-totals-requires-clause-rests : goal.close-totals-requires-clause-rests
 close-totals-requires-clause-rests g c =

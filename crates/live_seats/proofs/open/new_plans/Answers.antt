@@ -1,0 +1,18 @@
+use Rattle.std.proofs.Common.{refl, arith}
+use Rattle.live_seats.specs.Started.{Fresh}
+use Rattle.live_seats.proofs.Rows.{each_snoc, length_snoc}
+use Rattle.live_seats.proofs.open.new_plans.Goals as goal
+
+pub loop-service-preserved : goal.loop-service-preserved
+loop-service-preserved g c =
+    let inv = c.loop-service.invariant in
+    let steps = c.in-Some.ensures.steps in
+    let pushed = c.push_reserved.ensures in
+    let long = length_snoc _ _ _ pushed.items in
+    let here = c.loop-service.plans.ok.0 in
+    let count = c.len-in-loop-service.ensures in
+    record {
+      count = omega (arith, long, inv.count, steps.1);
+      room = omega (arith, inv.room, pushed.capacity);
+      fresh = each_snoc (λ e p. Fresh e p.seat) _ _ _ inv.fresh pushed.items (omega (arith, count, here), c.new.ensures.items, refl);
+    }
