@@ -1,1 +1,5 @@
+pub mod Doubles
+pub mod Examples
 pub mod Fates
+pub mod Sets
+pub mod Strays

@@ -1,0 +1,156 @@
+-- Kept jobs in a set.
+use Rattle.std.proofs.Common.{◌≡◌, ◌∙◌, ◌<◌, ◌+◌, ◌&&◌, ◌||◌, ◌==◌, ℕ, Bool, true, false, cond, not}
+use Rattle.std.proofs.Common.{List, [], ◌∷◌, ◌++◌, length, map, take, drop, get_or, count_by, sym}
+use Rattle.std.proofs.Common.{ap, refl, arith}
+use Rattle.std.proofs.lemmas.Bool.Decides.{nat_tests}
+use Rattle.std.proofs.lemmas.List.{at_drop_more, get_or-map, length-map, take_more}
+use Rattle.std.proofs.lemmas.List.Folds.{list_any-append}
+use Rattle.std.proofs.lemmas.List.Sums.{count_by_more_no, count_by_more_yes}
+use Rattle.std.specs.BTreeSet.{BTreeSet}
+use Rattle.std.specs.List.{list_any}
+use Rattle.std.specs.Ordering.{is_eq, nat_cmp, ordering_then}
+use Rattle.std.specs.declared.cmp.Ordering.{Ordering}
+use Rattle.std.specs.declared.cmp.Ordering.TheVariants.{Less, Equal, Greater}
+use Rattle.live_fates.specs.Strays.{is_kept_as, is_mixed, is_receipt_of, mixed_in}
+use Rattle.live_fates.specs.Sets.{has_job}
+use Rattle.live_fates.specs.Strays.{astray_of, astray_from}
+use Rattle.live_fates.specs.Sets.{unlisted_of, unlisted_from}
+use Rattle.live_store.specs.declared.record.Archive.{Ghosts}
+use Rattle.live_seats.specs.declared.outcome.Done.{Done}
+use Rattle.live_fates.specs.declared.fate.Fate.{Fate}
+use Rattle.live_fates.specs.declared.fate.Fate.TheVariants as fates
+use Rattle.live_fates.specs.declared.fate.KeptJob.{KeptJob}
+use Rattle.live_store.specs.declared.stored.Receipt.{Receipt}
+use denote.Ref.{Bor}
+
+same_number : (a b : ℕ) → is_eq (nat_cmp a b) ≡ (a == b)
+same_number a b = grind (arith, nat_tests)
+
+both_equal : (x y : Ordering) → is_eq (ordering_then x y) ≡ (is_eq x && is_eq y)
+both_equal Less y = refl
+both_equal Equal y = refl
+both_equal Greater y = refl
+
+same_job : (a b c x y z : ℕ)
+    → is_eq (ordering_then (ordering_then (nat_cmp a x) (nat_cmp b y)) (nat_cmp c z))
+    ≡ ((a == x) && ((b == y) && (c == z)))
+same_job a b c x y z =
+    both_equal (ordering_then (nat_cmp a x) (nat_cmp b y)) (nat_cmp c z)
+    ∙ ap (λ (e : Bool). e && is_eq (nat_cmp c z)) (both_equal (nat_cmp a x) (nat_cmp b y))
+    ∙ and_assoc (is_eq (nat_cmp a x)) (is_eq (nat_cmp b y)) (is_eq (nat_cmp c z))
+    ∙ ap (λ (e : Bool). e && (is_eq (nat_cmp b y) && is_eq (nat_cmp c z))) (same_number a x)
+    ∙ ap (λ (e : Bool). (a == x) && (e && is_eq (nat_cmp c z))) (same_number b y)
+    ∙ ap (λ (e : Bool). (a == x) && ((b == y) && e)) (same_number c z)
+  where
+    and_assoc : (p q r : Bool) → ((p && q) && r) ≡ (p && (q && r))
+    and_assoc true q r = refl
+    and_assoc false q r = refl
+
+one_apart : (e old first among : Bool) → old ≡ (first || among)
+    → cond e true old ≡ (first || (among || (e || false)))
+one_apart true old true among was = refl
+one_apart true old false true was = refl
+one_apart true old false false was = refl
+one_apart false old true true was = was
+one_apart false old true false was = was
+one_apart false old false true was = was
+one_apart false old false false was = was
+
+-- after one more kept job
+pub one_more_job : {J : Type 0} {g : Ghosts J} (done : List (Done (Fate J g))) (i : ℕ)
+    (d : Done (Fate J g)) (receipt : Receipt J g) (told : ℕ) (old new first : Bool)
+    (end number register : ℕ)
+    → i < length done → d ≡ get_or done i d → d.outcome ≡ fates.Kept receipt
+    → told ≡ receipt.shown.index
+    → new ≡ cond (is_eq (ordering_then (ordering_then (nat_cmp d.end end) (nat_cmp d.number number))
+    (nat_cmp told register))) true old
+    → old ≡ (first || list_any (is_receipt_of end number register) (take i done))
+    → new ≡ (first || list_any (is_receipt_of end number register) (take (i + 1) done))
+one_more_job {J} {g} done i d receipt told old new first e n register below at is read put was =
+    let test : Done (Fate J g) → Bool = is_receipt_of e n register in
+    let named : Bool → Bool = λ kept. (d.end == e) && ((d.number == n) && kept) in
+    put
+    ∙ ap (λ (e : Bool). cond e true old) (same_job d.end d.number told e n register)
+    ∙ ap (λ (r : ℕ). cond (named (r == register)) true old) read
+    ∙ ap (λ (f : Fate J g). cond (named (is_kept_as register f)) true old) (sym is)
+    ∙ one_apart (test d) old first (list_any test (take i done)) was
+    ∙ ap (λ (b : Bool). first || b) (sym (list_any-append test (take i done) (d ∷ [])))
+    ∙ ap (λ (ds : List (Done (Fate J g))). first || list_any test ds)
+    (sym (take_more done i d below ∙ ap (λ (x : Done (Fate J g)). take i done ++ x ∷ []) (sym at)))
+
+-- a kept job isn't mixed up
+pub not_mixed : {J : Type 0} {g : Ghosts J} (done : List (Done (Fate J g))) (i : ℕ)
+    (d : Done (Fate J g)) (receipt : Receipt J g)
+    → i < length done → d ≡ get_or done i d → d.outcome ≡ fates.Kept receipt
+    → mixed_in (take (i + 1) done) ≡ mixed_in (take i done)
+not_mixed {J} {g} done i d receipt below at is =
+    count_by_more_no (λ (one : Done (Fate J g)). is_mixed one.outcome) done i d below
+    (ap (λ (one : Done (Fate J g)). is_mixed one.outcome) (sym at) ∙ ap is_mixed is)
+
+-- an answer whose job is one of the set, or none of it
+answer_next : {J : Type 0} {g : Ghosts J} (jobs : BTreeSet (ℕ × ℕ × ℕ)) (end : ℕ)
+    (answers : List (KeptJob J g)) (i : ℕ) (a : KeptJob J g) (told : ℕ) (found : Bool)
+    → a ≡ get_or answers i a → told ≡ a.receipt.shown.index → found ≡ has_job jobs end a.number told
+    → not (has_job jobs end (get_or answers i a).number (get_or answers i a).receipt.shown.index)
+    ≡ not found
+answer_next {J} {g} jobs end answers i a told found at reads is =
+    ap (λ (x : KeptJob J g). not (has_job jobs end x.number x.receipt.shown.index)) (sym at)
+    ∙ ap (λ (n : ℕ). not (has_job jobs end a.number n)) (sym reads)
+    ∙ ap not (sym is)
+
+pub answer_listed : {J : Type 0} {g : Ghosts J} (jobs : BTreeSet (ℕ × ℕ × ℕ)) (end : ℕ)
+    (answers : List (KeptJob J g)) (i : ℕ) (a : KeptJob J g) (told : ℕ) (found : Bool)
+    → i < length answers → a ≡ get_or answers i a → told ≡ a.receipt.shown.index
+    → found ≡ has_job jobs end a.number told → found ≡ true
+    → unlisted_of jobs end (take (i + 1) answers) ≡ unlisted_of jobs end (take i answers)
+answer_listed {J} {g} jobs end answers i a told found below at reads is listed =
+    count_by_more_no (λ (x : KeptJob J g). not (has_job jobs end x.number x.receipt.shown.index))
+    answers i a below (answer_next jobs end answers i a told found at reads is ∙ ap not listed)
+
+pub answer_unlisted : {J : Type 0} {g : Ghosts J} (jobs : BTreeSet (ℕ × ℕ × ℕ)) (end : ℕ)
+    (answers : List (KeptJob J g)) (i : ℕ) (a : KeptJob J g) (told : ℕ) (found : Bool)
+    → i < length answers → a ≡ get_or answers i a → told ≡ a.receipt.shown.index
+    → found ≡ has_job jobs end a.number told → found ≡ false
+    → unlisted_of jobs end (take (i + 1) answers) ≡ unlisted_of jobs end (take i answers) + 1
+answer_unlisted {J} {g} jobs end answers i a told found below at reads is missing =
+    count_by_more_yes (λ (x : KeptJob J g). not (has_job jobs end x.number x.receipt.shown.index))
+    answers i a below (answer_next jobs end answers i a told found at reads is ∙ ap not missing)
+
+-- where the set has just the kept jobs, an answer is for none of them where it has no receipt
+pub as_receipts : {J : Type 0} {g : Ghosts J} (jobs : BTreeSet (ℕ × ℕ × ℕ))
+    (done : List (Done (Fate J g)))
+    → ((end number register : ℕ) → has_job jobs end number register
+    ≡ list_any (is_receipt_of end number register) done)
+    → (end : ℕ) (answers : List (List (KeptJob J g)))
+    → unlisted_from jobs end answers ≡ astray_from done end answers
+as_receipts jobs done same end [] = refl
+as_receipts {J} {g} jobs done same end (answers ∷ rest) =
+    ap (λ (test : KeptJob J g → Bool). count_by test answers + unlisted_from jobs (end + 1) rest)
+    (λ i a. not (same end a.number a.receipt.shown.index i))
+    ∙ ap (λ (n : ℕ). astray_of done end answers + n) (as_receipts jobs done same (end + 1) rest)
+
+-- the answers of one end, and those of the ends after it
+pub ends_next : {J : Type 0} {g : Ghosts J} (jobs : BTreeSet (ℕ × ℕ × ℕ))
+    (answers : List (Bor (List (KeptJob J g)))) (end : ℕ) (a : Bor (List (KeptJob J g)))
+    → end < length answers → a ≡ get_or answers end a
+    → unlisted_from jobs end (drop end (map (λ x. x.now) answers))
+    ≡ unlisted_of jobs end a.now
+    + unlisted_from jobs (end + 1) (drop (end + 1) (map (λ x. x.now) answers))
+ends_next {J} {g} jobs answers end a below at =
+    let lists : List (List (KeptJob J g)) = map (λ (x : Bor (List (KeptJob J g))). x.now) answers in
+    let long = length-map answers (λ (x : Bor (List (KeptJob J g))). x.now) in
+    at_drop_more (unlisted_from jobs end) lists end a.now (omega (arith, long, below))
+    ∙ ap (λ (x : List (KeptJob J g)). unlisted_of jobs end x
+    + unlisted_from jobs (end + 1) (drop (end + 1) lists))
+    (get_or-map (λ (x : Bor (List (KeptJob J g))). x.now) answers end a a.now below
+    ∙ ap (λ (x : Bor (List (KeptJob J g))). x.now) (sym at))
+
+-- in a set that was empty are just the jobs that were added
+pub from_empty : (empty jobs : BTreeSet (ℕ × ℕ × ℕ)) (end number register : ℕ) (added : Bool)
+    → empty.keys ≡ []
+    → has_job jobs end number register ≡ (has_job empty end number register || added)
+    → has_job jobs end number register ≡ added
+from_empty empty jobs end number register added none is =
+    is
+    ∙ ap (λ (keys : List (ℕ × ℕ × ℕ)).
+    has_job (record { keys = keys }) end number register || added) none

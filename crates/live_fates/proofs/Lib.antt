@@ -1,0 +1,4 @@
+pub mod Borne
+pub mod Jobs
+pub mod KeptIds
+pub mod Texts

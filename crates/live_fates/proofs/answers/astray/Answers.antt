@@ -1,0 +1,26 @@
+use Rattle.std.proofs.Common.{◌∙◌, ◌+◌, ℕ, sym, ap, arith}
+use Rattle.live_fates.proofs.Jobs.{answer_listed, answer_unlisted}
+use Rattle.live_fates.proofs.answers.astray.Goals as goal
+
+pub loop-answer-preserved-then-contains : goal.loop-answer-preserved-then-contains
+loop-answer-preserved-then-contains g c =
+    let inv = c.loop-answer.invariant in
+    record {
+      count = inv.count ∙ sym (answer_listed c.args.jobs.now c.args.end c.args.answers.now
+          c.loop-answer.answer-index c.answer-item.result c.number.result c.contains.result
+          c.loop-answer-test.true c.answer-item.is c.number.ensures c.contains.ensures
+          c.if-contains.true);
+      few = omega (arith, inv.few);
+    }
+
+pub loop-answer-preserved : goal.loop-answer-preserved
+loop-answer-preserved g c =
+    let inv = c.loop-answer.invariant in
+    record {
+      count = ap (λ (n : ℕ). n + 1) inv.count
+          ∙ sym (answer_unlisted c.args.jobs.now c.args.end c.args.answers.now
+          c.loop-answer.answer-index c.answer-item.result c.number.result c.contains.result
+          c.loop-answer-test.true c.answer-item.is c.number.ensures c.contains.ensures
+          c.if-contains.false);
+      few = omega (arith, inv.few);
+    }

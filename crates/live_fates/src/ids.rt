@@ -1,0 +1,53 @@
+//! Message-ids under which more than one job was kept (docs/PROTOCOL.md, Threads).
+ghost use Rattle.std.specs.Prelude.{◌≡◌, ℕ, ◌||◌, List, map, length, IfOk, OnOk};
+ghost use Rattle.std.specs.List.{IsDistinct};
+ghost use Rattle.std.specs.Set.{is_member};
+ghost use Rattle.std.specs.Str.{bytes_eq};
+ghost use Rattle.live_fates.specs.Doubles.{all_told, doubles_in, kept_ids};
+ghost use Rattle.live_fates.specs.Sets.{has_text};
+
+use crate::fate::Fate;
+use live_seats::{Done, WriterSeat};
+use live_store::Archive;
+use std::alloc::{AllocError, Global};
+use std::collections::BTreeSet;
+use std::sync::ledger::Ledger;
+
+/// The number of the kept jobs of all writers less the number of their different message-ids
+/// (docs/PROTOCOL.md, Threads 11). The error is want of memory.
+pub fn doubles<L: Ledger, J: Archive>(
+    alloc: Global,
+    writers: &[WriterSeat<L, Fate<J>>],
+) -> Result<u128, AllocError>
+    ensures count { IfOk result (λ n. n ≡ doubles_in (map (λ w. w.done.items) writers.now)) }
+    // Where there is none, no message-id was kept twice.
+    ensures once { IfOk result (λ n. n ≡ 0
+        → IsDistinct bytes_eq (kept_ids (all_told (map (λ w. w.done.items) writers.now)))) }
+{
+    let mut ids = BTreeSet::new(alloc);
+    let mut kept = 0u128;
+    for writer in writers {
+        kept += add_kept(&mut ids, writer.done.as_slice())? as u128;
+    }
+    Ok(kept - ids.len() as u128)
+}
+
+/// Adds the message-ids of the kept jobs, and says how many jobs these are.
+fn add_kept<'a, J: Archive>(
+    ids: &mut BTreeSet<&'a str>,
+    done: &'a [Done<Fate<J>>],
+) -> Result<u64, AllocError>
+    ensures ids { OnOk result ((id : List ℕ) → has_text ids.new id
+        ≡ (has_text ids.old id || is_member bytes_eq (kept_ids done.now) id)) }
+    ensures count { IfOk result (λ n. n ≡ length (kept_ids done.now)) }
+{
+    let mut kept = 0;
+    for one in done {
+        let Fate::Kept(_) = one.outcome else {
+            continue;
+        };
+        ids.insert(one.id.as_str())?;
+        kept += 1;
+    }
+    Ok(kept)
+}
