@@ -1,6 +1,6 @@
 -- What a connection carries as it is written to, read from and stopped.
 use Rattle.std.proofs.Common.{◌≡◌, ◌≢◌, ℕ, ◌++◌, Bool, true, false, List, [], ◌∷◌, Option, None}
-use Rattle.std.proofs.Common.{Some, refl, sym, ap, subst, ◌∙◌, take, drop}
+use Rattle.std.proofs.Common.{Some, refl, sym, ap, subst, ◌∙◌, take, drop, if◌then◌else◌}
 use Rattle.std.proofs.lemmas.List.{append-nil, append_assoc, take-append-drop}
 use Rattle.live_session.specs.Carried.{Carried, Carries, CarriesOn, CarriesSame, EndsAs, HeardAs}
 use Rattle.live_session.specs.Carried.{WrittenAs, finish_of, is_break, is_broken, part_finish}
@@ -41,33 +41,35 @@ parted_some parted (octet ∷ octets) some = refl
 
 module _ (c : Carried) where
   -- a broken connection writes nothing
-  pub flushed_broken : is_broken c.finish ≡ true → CarriesSame c (record c { waiting = [] })
-  flushed_broken broken came replies parted carries = record {
+  pub flushed_broken : is_broken c.finish ≡ true → (waiting : List ℕ)
+      → CarriesSame c (record c { waiting = waiting })
+  flushed_broken broken waiting came replies parted carries = record {
     heard = carries.heard;
-    written = subst (λ b. WrittenAs b c.written [] replies) (sym broken)
+    written = subst (λ b. WrittenAs b c.written waiting replies) (sym broken)
         (subst (λ b. WrittenAs b c.written c.waiting replies) broken carries.written);
     ends = carries.ends;
   }
 
   -- all that waited is written
-  pub flushed_whole : is_broken c.finish ≡ false → (written : List ℕ)
-      → written ≡ c.written ++ c.waiting
-      → CarriesSame c (record c { written = written; waiting = [] })
-  flushed_whole whole written is came replies parted carries = record {
+  pub flushed_whole : is_broken c.finish ≡ false → (written waiting : List ℕ)
+      → written ≡ c.written ++ c.waiting → waiting ≡ []
+      → CarriesSame c (record c { written = written; waiting = waiting })
+  flushed_whole whole written waiting is none came replies parted carries = record {
     heard = carries.heard;
-    written = subst (λ b. WrittenAs b written [] replies) (sym whole) (append-nil written ∙ is
+    written = subst (λ b. WrittenAs b written waiting replies) (sym whole)
+        (ap (λ l. written ++ l) none ∙ append-nil written ∙ is
         ∙ subst (λ b. WrittenAs b c.written c.waiting replies) whole carries.written);
     ends = carries.ends;
   }
 
   -- a front of what waited is written, and the connection is broken
-  pub flushed_part : is_broken c.finish ≡ false → (n : ℕ) (written : List ℕ)
+  pub flushed_part : is_broken c.finish ≡ false → (n : ℕ) (written waiting : List ℕ)
       → written ≡ c.written ++ take n c.waiting → CarriesSame c (record c {
         written = written;
-        waiting = [];
+        waiting = waiting;
         finish = Some finishes.Broken;
       })
-  flushed_part whole n written is came replies parted carries = record {
+  flushed_part whole n written waiting is came replies parted carries = record {
     heard = heard_broken c.heard came
         (subst (λ b. HeardAs b c.heard came) whole carries.heard);
     written = (drop n c.waiting, ap (λ l. l ++ drop n c.waiting) is

@@ -46,10 +46,17 @@ pub(crate) fn flush<H: Hears, W: Says>(wire: &mut Wire<H, W>)
         (carried (H.heard wire.new.reader) (W.said wire.new.writer) wire.new.outbox wire.new.finish) }
     ensures none { wire.new.outbox.items ≡ [] }
 {
-    if !is_broken(&wire.finish) && say_all(&mut wire.writer, &wire.outbox).is_err() {
-        wire.finish = Some(Finish::Broken);
+    if is_broken(&wire.finish) {
+        wire.outbox.clear();
+        return;
     }
-    wire.outbox.clear();
+    match say_all(&mut wire.writer, &wire.outbox) {
+        Ok(()) => wire.outbox.clear(),
+        Err(_) => {
+            wire.outbox.clear();
+            wire.finish = Some(Finish::Broken);
+        }
+    }
 }
 
 /// What a session said is to be written. Where it leaves, that was its last reply.
@@ -64,6 +71,8 @@ pub(crate) fn put<H: Hears, W: Says>(wire: &mut Wire<H, W>, said: Vec<u8>, leave
     }
     if leaves {
         wire.finish = parted(wire.finish, &said);
+        append(wire, said);
+        return;
     }
     append(wire, said);
 }
