@@ -1,3 +1,4 @@
 pub mod Examples
 pub mod Report
 pub mod Text
+pub mod Totals

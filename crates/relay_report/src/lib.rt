@@ -8,7 +8,9 @@
 mod columns;
 pub mod examples;
 mod text;
+mod totals;
 mod whole;
 
 pub use text::text_of;
+pub use totals::{Totals, report_totals};
 pub use whole::report;

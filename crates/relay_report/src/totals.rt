@@ -1,0 +1,32 @@
+//! The report of a relay in threads, once all its seats have come back.
+ghost use Rattle.std.specs.Prelude.{◌≡◌, IfOk};
+ghost use Rattle.relay_report.specs.Totals.{text_of_totals};
+
+use crate::text::text_of;
+use relay_core::Figures;
+use std::alloc::{AllocError, Global};
+
+/// What is known of a relay in threads once all its seats have come back (docs/PROTOCOL.md,
+/// Threads 9).
+#[derive(Debug, Drop)]
+pub struct Totals {
+    /// Its figures, which the report tells.
+    pub figures: Figures,
+    /// How many jobs the writers kept.
+    pub accepted: u64,
+    /// How many posts the feed desk made.
+    pub posted: u64,
+    /// How many kept answers have another register number than the writer's receipt for the same
+    /// job, and how many jobs were mixed up.
+    pub strays: u128,
+    /// How many kept jobs there are less their different message-ids.
+    pub doubles: u128,
+}
+
+/// The report of the totals (docs/FORMATS.md, Report), in the form of a relay's own. The error is
+/// want of memory.
+pub fn report_totals(alloc: Global, totals: &Totals) -> Result<Vec<u8>, AllocError>
+    ensures { IfOk result (λ text. text.items ≡ text_of_totals totals.now) }
+{
+    text_of(alloc, &totals.figures)
+}
