@@ -1,6 +1,6 @@
 -- Commands that are built word by word, and what clap answers of them.
 use Rattle.std.proofs.Common.{◌≡◌, ◌∙◌, ap, ap₂, false, true, Bool, Option, List, []}
-use Rattle.std.proofs.Common.{inl, inr, refl, sym, subst, Result, Ok, Err}
+use Rattle.std.proofs.Common.{refl, sym, subst}
 use Rattle.std.specs.Prelude.{◌||◌}
 use Rattle.clap.specs.Words.{AddsArg, AddsSubcommand, App, Rule, rule_of, with_rule}
 use Rattle.clap.specs.Words.{with_subcommand, HasKind, Row, Text, fault_of, is_simple}
@@ -8,10 +8,8 @@ use Rattle.clap.specs.Words.{is_simple_and_free, subcommand_of}
 use Rattle.clap.specs.declared.builder.Arg.{Arg}
 use Rattle.clap.specs.declared.builder.Command.{Command}
 use Rattle.clap.specs.declared.error.Error.{Error}
-use Rattle.relay_command.specs.CommandLine.{Asked, HasFault, IsAskedBy, IsRefusedBy, Reads}
-use Rattle.relay_command.specs.CommandLine.{ReadsWords, Requests, asked, asked_by, by_command}
-use Rattle.relay_command.specs.CommandLine.{by_option, program_words}
-use Rattle.relay_command.specs.declared.command_line.Job.{Job}
+use Rattle.relay_command.specs.CommandLine.{Asked, IsAskedBy, IsRefusedBy, Reads}
+use Rattle.relay_command.specs.CommandLine.{asked_by, program_words}
 
 -- A command with one more word reads that too.
 pub with_word : (old new : Command) (a : Arg) (app : App) (rule : Rule) → Reads old app
@@ -34,32 +32,13 @@ with_command old sub new app below before under adds = record {
 words_are_plain : is_simple_and_free program_words ≡ true
 words_are_plain = refl
 
--- What clap refuses of a command with the program's words has a fault by their definition.
-refuses : (app : App) (words : List Text) (error : Error) → app ≡ program_words
+-- What clap refuses of a command with the program's words is refused by their definition.
+pub refuses : (app : App) (words : List Text) (error : Error) → app ≡ program_words
     → (is_simple_and_free app ≡ true → HasKind (fault_of app words) error)
-    → HasKind (fault_of program_words words) error
+    → IsRefusedBy words error
 refuses app words error same kinds =
     subst (λ (a : App). HasKind (fault_of a words) error) same
     (kinds (ap is_simple_and_free same ∙ words_are_plain))
-
--- What clap refuses of a command with the program's words is refused by their definition, or asks
--- for the version.
-pub requests : (app : App) (words : List Text) (error : Error) (result : Result Job Error)
-    → app ≡ program_words
-    → (is_simple_and_free app ≡ true → HasKind (fault_of app words) error)
-    → Requests error result → ReadsWords words result
-requests app words error (Ok job) same kinds found =
-    let fault = refuses app words error same kinds in
-    elim fault [
-      | inl memory ↦ cc (found.1)
-      | inr version ↦ by_option (subst (HasFault words) found.1 version) (ap asked found.0)
-    ]
-requests app words error (Err refused) same kinds other =
-    subst (IsRefusedBy words) (sym other.0)
-    (elim (refuses app words error same kinds) [
-      | inl memory ↦ inl memory
-      | inr fault ↦ inr (fault, other.1)
-    ])
 
 -- What clap reads of a command with the program's words is what they ask for by their definition.
 pub asks : (app : App) (words : List Text) (a : Asked) → app ≡ program_words
@@ -69,7 +48,9 @@ pub asks : (app : App) (words : List Text) (a : Asked) → app ≡ program_words
 asks app words a same faultless met named read =
     let simple : is_simple program_words ≡ true = refl in
     let plain = ap is_simple_and_free same ∙ words_are_plain in
-    let was : asked_by (subcommand_of app words) ≡ a =
+    let asked : asked_by (subcommand_of app words) ≡ a =
     sym (read ∙ ap asked_by (named (ap is_simple same ∙ simple))) in
-    by_command (ap (λ (a : App). fault_of a words) (sym same) ∙ faultless plain)
-    (ap (λ (a : App). asked_by (subcommand_of a words)) (sym same) ∙ was)
+    record {
+      taken = ap (λ (a : App). fault_of a words) (sym same) ∙ faultless plain;
+      read = ap (λ (a : App). asked_by (subcommand_of a words)) (sym same) ∙ asked;
+    }

@@ -1,5 +1,5 @@
 -- What the program's words ask for (docs/PROTOCOL.md, Commands), by what clap states of them.
-use Rattle.std.specs.Prelude.{◌≡◌, ◌≢◌, ◌⊎◌, ℕ, true, false, List, [], Option, Some, None}
+use Rattle.std.specs.Prelude.{◌≡◌, ◌⊎◌, ℕ, true, false, List, [], Option, Some, None}
 use Rattle.std.specs.Prelude.{Result, Ok, Err, unwrap_or, codes, string_bytes, if◌then◌else◌}
 use Rattle.std.specs.Str.{bytes_eq}
 use Rattle.clap.specs.Words.{App, app_of, Row, Rule, Text, first_of, new_app, new_rule}
@@ -10,7 +10,7 @@ use Rattle.clap.specs.declared.builder.Command.TheViews.{out-Command as fields_o
 use Rattle.clap.specs.declared.builder.ArgAction.TheVariants.{Set}
 use Rattle.clap.specs.declared.error.Error.{Error}
 use Rattle.clap.specs.declared.error.kind.ErrorKind.{ErrorKind}
-use Rattle.clap.specs.declared.error.kind.ErrorKind.TheVariants.{DisplayVersion, OutOfMemory}
+use Rattle.clap.specs.declared.error.kind.ErrorKind.TheVariants.{OutOfMemory}
 use Rattle.relay_command.specs.declared.command_line.Job.{Job}
 use Rattle.relay_command.specs.declared.command_line.Job.TheVariants as jobs
 
@@ -22,15 +22,12 @@ pub data Asked : Type 0 where
   Checks : (folder : List ℕ) → Asked
   -- to tell the parts of a token
   Tells : (text : List ℕ) → Asked
-  -- to tell the program's version
-  TellsVersion : Asked
 
 -- a job as the words ask for it
 abbrev pub asked : Job → Asked
 asked (jobs.Drill folder script) = Drills (string_bytes folder) (string_bytes script)
 asked (jobs.Check folder) = Checks (string_bytes folder)
 asked (jobs.Token text) = Tells (string_bytes text)
-asked jobs.Version = TellsVersion
 
 -- a word that has to be there
 abbrev pub needed : Text → Rule
@@ -83,25 +80,14 @@ asked_by (Some met) =
 abbrev pub HasFault : List Text → ErrorKind → Type 0
 HasFault words kind = IsAmong kind (fault_of program_words words)
 
--- the words ask for this, by clap's reading of them
-pub data IsAskedBy (words : List Text) (a : Asked) : Type 0 where
-  -- they have no fault, and are read so
-  by_command : fault_of program_words words ≡ []
-      → asked_by (subcommand_of program_words words) ≡ a → IsAskedBy words a
-  -- they ask for the version
-  by_option : HasFault words DisplayVersion → a ≡ TellsVersion → IsAskedBy words a
+-- the words ask for this, and have no fault, by clap's reading of them
+pub record IsAskedBy (words : List Text) (a : Asked) : Type 0 where
+  pub taken : fault_of program_words words ≡ []
+  pub read : asked_by (subcommand_of program_words words) ≡ a
 
--- the error says that memory ran out, or that the words have this fault, which isn't that they ask
--- for the version
+-- the error says that memory ran out, or that the words have this fault
 abbrev pub IsRefusedBy : List Text → Error → Type 0
-IsRefusedBy words error =
-    (kind_of error ≡ OutOfMemory)
-    ⊎ (HasFault words (kind_of error) × (kind_of error ≢ DisplayVersion))
-
--- the answer to words that clap refuses so: the version where they ask for it, else the refusal
-abbrev pub Requests : Error → Result Job Error → Type 0
-Requests error (Ok job) = (job ≡ jobs.Version) × (kind_of error ≡ DisplayVersion)
-Requests error (Err refused) = (refused ≡ error) × (kind_of error ≢ DisplayVersion)
+IsRefusedBy words error = (kind_of error ≡ OutOfMemory) ⊎ HasFault words (kind_of error)
 
 -- the answer is what the words ask for, or their fault
 abbrev pub ReadsWords : List Text → Result Job Error → Type 0

@@ -6,11 +6,12 @@ use Rattle.std.specs.declared.io.ErrorKind as io
 use Rattle.std.specs.declared.io.ErrorKind.TheVariants as kinds
 use Rattle.clap.specs.Words.{kind_of}
 use Rattle.clap.specs.declared.error.kind.ErrorKind.{ErrorKind}
-use Rattle.clap.specs.declared.error.kind.ErrorKind.TheVariants.{OutOfMemory}
+use Rattle.clap.specs.declared.error.kind.ErrorKind.TheVariants.{DisplayVersion, OutOfMemory}
 use Rattle.relay_drill.specs.Text.{text_of}
 use Rattle.relay_drill.specs.declared.fault.DrillError.TheVariants as drill
 use Rattle.relay_command.specs.Check.{check_text}
 use Rattle.relay_command.specs.Tell.{fault_text}
+use Rattle.relay_command.specs.Version.{version_line}
 use Rattle.relay_command.specs.declared.load.CheckError.TheVariants as check
 use Rattle.relay_command.specs.declared.failure.Failure.{Failure}
 use Rattle.relay_command.specs.declared.failure.Failure.TheVariants.{Unbegun, Words, Check}
@@ -65,14 +66,25 @@ unbegun_text unbegun.NoText = codes "a word is no UTF-8"
 abbrev pub ended : List ℕ → List ℕ
 ended text = text ++ codes "\n"
 
--- what is told of a failure; of the words it is clap's text, of which nothing is known
+-- what is told of words that are no command line, or ask for help or the version; but for the
+-- version it is clap's text, of which nothing is known
+abbrev pub words_text : ErrorKind → Option (List ℕ)
+words_text DisplayVersion = Some version_line
+words_text kind = None
+
+-- what is told of a failure
 abbrev pub told_of : Failure → Option (List ℕ)
 told_of (Unbegun unbegun) = Some (ended (unbegun_text unbegun))
-told_of (Words error) = None
+told_of (Words error) = words_text (kind_of error)
 told_of (Check error) = Some (ended (check_text error))
 told_of (Drill error) = Some (ended (text_of error))
 told_of (Token fault) = Some (ended (fault_text fault))
 told_of Unwritten = Some (ended (codes "stdout: unwritten"))
+
+-- what is told of words with a fault of this kind was written
+abbrev pub TellsWords : ErrorKind → (before after : Option (List ℕ)) → Type 0
+TellsWords kind before after =
+    MatchOption (words_text kind) ⊤ (λ text. Appends before after text)
 
 -- where all went well nothing was written, else what is told of the failure
 abbrev pub Tells : Result (Unit {0}) Failure → (before after : Option (List ℕ)) → Type 0

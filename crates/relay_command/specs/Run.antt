@@ -1,20 +1,16 @@
 -- What a run of the program does (docs/PROTOCOL.md, Program).
 use Rattle.std.specs.Prelude.{◌≡◌, ◌≢◌, ℕ, List, codes, Option, Some, Result, Ok, Err}
-use Rattle.std.specs.Io.KnownBytes.{Appends, Keeps}
+use Rattle.std.specs.Io.KnownBytes.{Keeps}
 use Rattle.clap.specs.Words.{Text}
 use Rattle.relay_conf.specs.declared.settings.Config.{Config}
 use Rattle.relay_drill.specs.Drill.{DrillGives}
-use Rattle.relay_drill.specs.Written.{GainsFront}
 use Rattle.relay_drill.specs.declared.fault.DrillError.{DrillError}
 use Rattle.relay_command.specs.Check.{CheckGives, HasError, IsIn}
-use Rattle.relay_command.specs.CommandLine.{Asked, Drills, Checks, Tells, TellsVersion}
-use Rattle.relay_command.specs.CommandLine.{IsAskedBy, IsRefusedBy}
+use Rattle.relay_command.specs.CommandLine.{Asked, Drills, Checks, Tells, IsAskedBy, IsRefusedBy}
 use Rattle.relay_command.specs.Files.{CannotBeRead}
 use Rattle.relay_command.specs.Tell.{TellGives}
-use Rattle.relay_command.specs.Version.{version_line}
 use Rattle.relay_command.specs.declared.failure.Failure.{Failure}
 use Rattle.relay_command.specs.declared.failure.Failure.TheVariants.{Words, Check, Drill, Token}
-use Rattle.relay_command.specs.declared.failure.Failure.TheVariants.{Unwritten}
 
 -- what a script of this name answers with a configuration; `input` is what standard input has
 pub data DrillsScript (config : Config) (script : List ℕ) (result : Result (Unit {0}) DrillError)
@@ -53,8 +49,6 @@ Performs (Checks folder) (Err (Check error)) input before after =
 Performs (Tells text) (Ok done) input before after = TellGives (Ok done) text before after
 Performs (Tells text) (Err (Token fault)) input before after =
     TellGives (Err fault) text before after
-Performs TellsVersion (Ok done) input before after = Appends before after version_line
-Performs TellsVersion (Err Unwritten) input before after = GainsFront version_line before after
 Performs asked (Err failure) input before after = ⊥
 
 -- what the words ask for is done or failed; or they ask for nothing, and nothing was written

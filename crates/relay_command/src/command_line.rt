@@ -4,10 +4,9 @@ ghost use Rattle.clap.specs.Words.{found_of, rows_of, rule_of, subcommand_rows_o
 ghost use Rattle.relay_command.specs.CommandLine.{Reads, ReadsWords, asked, asked_by};
 ghost use Rattle.relay_command.specs.CommandLine.{word_given, check_words, drill_words};
 ghost use Rattle.relay_command.specs.CommandLine.{token_words};
-ghost use Rattle.relay_command.specs.CommandLine.{needed, program_words, Requests};
+ghost use Rattle.relay_command.specs.CommandLine.{needed, program_words};
 
 use crate::version::VERSION;
-use clap::error::ErrorKind;
 use clap::{Arg, ArgAction, ArgMatches, Command, Error};
 use std::alloc::{AllocError, Global};
 
@@ -20,8 +19,6 @@ pub enum Job {
     Check(String),
     /// To say what this text of a token stands for.
     Token(String),
-    /// To say which version of the program this is.
-    Version,
 }
 
 /// Reads the words, the program's name first. Without further words they ask for a drill.
@@ -30,17 +27,7 @@ pub fn read_words(alloc: Global, words: &[String]) -> Result<Job, Error>
 {
     match command(alloc)?.try_get_matches_from(words) {
         Ok(matches) => Ok(job_of(alloc, &matches)?),
-        Err(error) => requested(error),
-    }
-}
-
-/// What words ask for that clap answers itself: the version, or nothing.
-fn requested(error: Error) -> Result<Job, Error>
-    ensures { Requests error result }
-{
-    match error.kind() {
-        ErrorKind::DisplayVersion => Ok(Job::Version),
-        _ => Err(error),
+        Err(error) => Err(error),
     }
 }
 

@@ -3,10 +3,11 @@ ghost use Rattle.std.specs.Prelude.{◌≡◌, Some, OnOk};
 ghost use Rattle.std.specs.Process.{exit_status};
 ghost use Rattle.clap.specs.Words.{kind_of};
 ghost use Rattle.relay_command.specs.Failure.{ends_with, status_of, Tells, unbegun_text};
-ghost use Rattle.relay_command.specs.Failure.{words_status};
+ghost use Rattle.relay_command.specs.Failure.{TellsWords, words_status};
 
 use crate::load::CheckError;
 use crate::token::TokenFault;
+use crate::version::tell_version;
 use clap::error::ErrorKind;
 use relay_drill::DrillError;
 use std::fmt::{Display, Formatter};
@@ -43,7 +44,7 @@ pub enum Failure {
     /// The words could not be had, or there was no memory for the output.
     #[error(transparent)]
     Unbegun(Unbegun),
-    /// The words are no command line, or ask for help.
+    /// The words are no command line, or ask for help or the version.
     #[error(transparent)]
     Words(clap::Error),
     /// A configuration can't be had, or is not told.
@@ -81,7 +82,8 @@ impl Failure {
     }
 }
 
-/// The status where the words were not read: they are no command line, unless memory ran out.
+/// The status where the words ask for nothing that is done: they are no command line, or ask for
+/// help or the version, unless memory ran out.
 fn words_status(error: &clap::Error) -> u8
     ensures { result ≡ words_status (kind_of error.now) }
 {
@@ -98,11 +100,23 @@ pub fn print_failure<W: Write>(ran: &Result<(), Failure>, writer: &mut W) -> io:
     match ran {
         Ok(()) => Ok(()),
         Err(Failure::Unbegun(unbegun)) => writeln!(writer, "{unbegun}"),
-        Err(Failure::Words(error)) => write!(writer, "{error}"),
+        Err(Failure::Words(error)) => print_words(error, writer),
         Err(Failure::Check(error)) => writeln!(writer, "{error}"),
         Err(Failure::Drill(error)) => writeln!(writer, "{error}"),
         Err(Failure::Token(fault)) => writeln!(writer, "{fault}"),
         Err(Failure::Unwritten) => writer.write_all(b"stdout: unwritten\n"),
+    }
+}
+
+/// Writes what is told where the words ask for nothing that is done: the version where they ask for
+/// that, else clap's text.
+fn print_words<W: Write>(error: &clap::Error, writer: &mut W) -> io::Result<()>
+    ensures { OnOk result
+        (TellsWords (kind_of error.now) (W.contents writer.old) (W.contents writer.new)) }
+{
+    match error.kind() {
+        ErrorKind::DisplayVersion => tell_version(writer),
+        _ => write!(writer, "{error}"),
     }
 }
 

@@ -16,7 +16,6 @@ use crate::file::read_file;
 use crate::gathered::hand_on;
 use crate::load::load;
 use crate::token::tell;
-use crate::version::tell_version;
 use relay_conf::Config;
 use relay_drill::{DrillError, drill};
 use std::alloc::Global;
@@ -114,10 +113,6 @@ fn perform<S: Files + RandomSource, R: Read, W: Write>(
         Job::Token(text) => match tell(text.as_bytes(), writer) {
             Ok(()) => Ok(()),
             Err(fault) => Err(Failure::Token(fault)),
-        },
-        Job::Version => match tell_version(writer) {
-            Ok(()) => Ok(()),
-            Err(_) => Err(Failure::Unwritten),
         },
     }
 }

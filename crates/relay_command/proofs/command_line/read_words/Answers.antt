@@ -1,4 +1,4 @@
-use Rattle.relay_command.proofs.CommandLines.{asks, requests}
+use Rattle.relay_command.proofs.CommandLines.{asks, refuses}
 use Rattle.relay_command.proofs.command_line.read_words.Goals as goal
 
 pub returns-in_ok-job_of-in-Ok : goal.returns-in_ok-job_of-in-Ok
@@ -8,5 +8,4 @@ returns-in_ok-job_of-in-Ok c =
 
 pub returns-in-Err : goal.returns-in-Err
 returns-in-Err c =
-    requests _ _ c.in-Err.error c.requested.result c.in_ok-command.ensures.words
-    c.in-Err.ensures.kinds c.requested.ensures
+    refuses _ _ c.in-Err.error c.in_ok-command.ensures.words c.in-Err.ensures.kinds
