@@ -9,6 +9,7 @@
 #![tactic(auto)]
 
 mod expand;
+mod machine;
 mod manner;
 mod row;
 mod streams;

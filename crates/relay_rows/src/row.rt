@@ -1,5 +1,7 @@
-//! A row: what it shows, the program's words, how its streams behave, and its standard input.
+//! A row: what it shows, the program's words, how its streams and its machine behave, and its
+//! standard input.
 use crate::expand::expanded;
+use crate::machine::Machine;
 use crate::manner::{Manner, add_cut, counted, joined};
 use crate::streams::{Input, Output};
 use crate::words::Words;
@@ -25,6 +27,8 @@ pub struct Row<'a> {
     input: &'a [u8],
     /// How standard output behaves: the line behind `>`.
     output: &'a [u8],
+    /// How the machine behaves: the line behind `!`.
+    machine: &'a [u8],
     /// The lines below those, with an LF between each two: none stands behind the last.
     script: Vec<u8>,
     /// Whether such a line was added.
@@ -40,6 +44,7 @@ impl<'a> Row<'a> {
             words: Vec::new(alloc),
             input: b"",
             output: b"",
+            machine: b"",
             script: Vec::new(alloc),
             begun: false,
         }
@@ -57,6 +62,9 @@ impl<'a> Row<'a> {
             return Ok(());
         } else if let Some(output) = line.strip_prefix(b"> ".as_slice()) {
             self.output = output;
+            return Ok(());
+        } else if let Some(machine) = line.strip_prefix(b"! ".as_slice()) {
+            self.machine = machine;
             return Ok(());
         }
         self.begun = true;
@@ -127,6 +135,7 @@ impl<'a> Row<'a> {
     ) -> Result<(), Failure> {
         let words = program_words(&(Words(&self.words), rt.alloc()))?;
         let mut input = Input::new(script, self.input);
-        run(rt, rt.alloc(), &words, &mut input, output)
+        let machine = Machine::new(rt, self.machine);
+        run(&machine, rt.alloc(), &words, &mut input, output)
     }
 }
