@@ -13,6 +13,7 @@ impl<S: BlockStore> System<S> {
     ghost use Rattle.relay_core.specs.Sharing.{KeepsFrame};
     ghost use Rattle.relay_core.specs.Steps.{RunsTo, Steps};
     ghost use Rattle.relay_core.specs.Views.{event_view, output_view};
+    ghost use Rattle.relay_core.specs.declared.event.CoreError.TheVariants as faults;
 
     /// Does what an event asks. A refused event changes nothing.
     pub fn step(&mut self, event: &Event) -> Output
@@ -29,12 +30,13 @@ impl<S: BlockStore> System<S> {
         }
     }
 
-    /// Does what a list of events asks, one after the other. The error is want of memory for the
-    /// list of outputs; then no event was looked at.
+    /// Does what a list of events asks, one after the other. What each is answered has room before
+    /// the first.
     pub fn run(&mut self, events: &[Event]) -> Result<Vec<Output>, CoreError>
         ensures run { IfOk result (λ outputs. RunsTo (map event_view events.now) self.old
             (map output_view outputs.items) self.new) }
-        ensures memory { IfErr result (λ error. self.new ≡ self.old) }
+        ensures memory { IfErr result (λ error. error ≡ faults.Memory) }
+        ensures unbegun { IfErr result (λ error. self.new ≡ self.old) }
     {
         let mut outputs = match Vec::with_capacity(self.alloc, events.len()) {
             Ok(outputs) => outputs,
