@@ -1,6 +1,9 @@
 -- What a connection carries as it is written to, read from and stopped.
 use Rattle.std.proofs.Common.{◌≡◌, ◌≢◌, ℕ, ◌++◌, Bool, true, false, List, [], ◌∷◌, Option, None}
-use Rattle.std.proofs.Common.{Some, refl, sym, ap, subst, ◌∙◌, take, drop}
+use Rattle.std.proofs.Common.{Some, refl, sym, ap, subst, ◌∙◌, take, drop, if◌then◌else◌, length}
+use Rattle.std.proofs.Common.{◌==◌}
+use Rattle.std.specs.Global.{Vec}
+use Rattle.std.specs.Prelude.{is_some, unwrap_or, vec_len}
 use Rattle.std.proofs.lemmas.List.{append-nil, append_assoc, take-append-drop}
 use Rattle.live_session.specs.Carried.{Carried, Carries, CarriesOn, CarriesSame, EndsAs, HeardAs}
 use Rattle.live_session.specs.Carried.{WrittenAs, finish_of, is_break, is_broken, part_finish}
@@ -41,33 +44,35 @@ parted_some parted (octet ∷ octets) some = refl
 
 module _ (c : Carried) where
   -- a broken connection writes nothing
-  pub flushed_broken : is_broken c.finish ≡ true → CarriesSame c (record c { waiting = [] })
-  flushed_broken broken came replies parted carries = record {
+  pub flushed_broken : is_broken c.finish ≡ true → (waiting : List ℕ)
+      → CarriesSame c (record c { waiting = waiting })
+  flushed_broken broken waiting came replies parted carries = record {
     heard = carries.heard;
-    written = subst (λ b. WrittenAs b c.written [] replies) (sym broken)
+    written = subst (λ b. WrittenAs b c.written waiting replies) (sym broken)
         (subst (λ b. WrittenAs b c.written c.waiting replies) broken carries.written);
     ends = carries.ends;
   }
 
   -- all that waited is written
-  pub flushed_whole : is_broken c.finish ≡ false → (written : List ℕ)
-      → written ≡ c.written ++ c.waiting
-      → CarriesSame c (record c { written = written; waiting = [] })
-  flushed_whole whole written is came replies parted carries = record {
+  pub flushed_whole : is_broken c.finish ≡ false → (written waiting : List ℕ)
+      → written ≡ c.written ++ c.waiting → waiting ≡ []
+      → CarriesSame c (record c { written = written; waiting = waiting })
+  flushed_whole whole written waiting is none came replies parted carries = record {
     heard = carries.heard;
-    written = subst (λ b. WrittenAs b written [] replies) (sym whole) (append-nil written ∙ is
+    written = subst (λ b. WrittenAs b written waiting replies) (sym whole)
+        (ap (λ l. written ++ l) none ∙ append-nil written ∙ is
         ∙ subst (λ b. WrittenAs b c.written c.waiting replies) whole carries.written);
     ends = carries.ends;
   }
 
   -- a front of what waited is written, and the connection is broken
-  pub flushed_part : is_broken c.finish ≡ false → (n : ℕ) (written : List ℕ)
+  pub flushed_part : is_broken c.finish ≡ false → (n : ℕ) (written waiting : List ℕ)
       → written ≡ c.written ++ take n c.waiting → CarriesSame c (record c {
         written = written;
-        waiting = [];
+        waiting = waiting;
         finish = Some finishes.Broken;
       })
-  flushed_part whole n written is came replies parted carries = record {
+  flushed_part whole n written waiting is came replies parted carries = record {
     heard = heard_broken c.heard came
         (subst (λ b. HeardAs b c.heard came) whole carries.heard);
     written = (drop n c.waiting, ap (λ l. l ++ drop n c.waiting) is
@@ -175,3 +180,51 @@ stopped c finish breaks none came replies parted carries =
       written = stopped_written (is_broken (Some finish)) c.written c.waiting replies written;
       ends = stopped_ends finish parted breaks;
     }
+
+-- a list that isn't empty has an item
+pub some_of : (v : Vec ℕ) (empty : Bool) → empty ≡ (vec_len v == 0) → empty ≡ false → v.items ≢ []
+some_of v empty is none nil =
+    cc (sym none ∙ is ∙ ap (λ n. n == 0) (v.ok.0 ∙ ap length nil))
+
+-- no end is none
+pub none_of : {T : Type 0} (o : Option T) → is_some o ≡ false → o ≡ None
+none_of None none = refl
+none_of (Some x) none = cc
+
+-- an end is the end
+pub end_of_some : (o : Option Finish) (other : Finish) → is_some o ≡ true
+    → o ≡ Some (unwrap_or o other)
+end_of_some None other some = cc
+end_of_some (Some x) other some = refl
+
+module _ (c : Carried) where
+  -- a piece that was read and lost
+  pub lost : (heard piece : List ℕ) → heard ≡ c.heard ++ piece → c.finish ≡ None
+      → CarriesSame c (record c { heard = heard; finish = Some finishes.Broken })
+  lost heard piece is none came replies parted carries = record {
+    heard = (piece, is ∙ ap (λ l. l ++ piece)
+        (subst (λ f. HeardAs (is_broken f) c.heard came) none carries.heard));
+    written = (c.waiting,
+        subst (λ f. WrittenAs (is_broken f) c.written c.waiting replies) none carries.written);
+    ends = tt;
+  }
+
+  -- nothing was read
+  pub same_heard : (heard : List ℕ) → heard ≡ c.heard → CarriesSame c (record c { heard = heard })
+  same_heard heard is came replies parted carries = record {
+    heard = subst (λ l. HeardAs (is_broken c.finish) l came) (sym is) carries.heard;
+    written = carries.written;
+    ends = carries.ends;
+  }
+
+  -- a piece that was read has come
+  pub piece_came : (heard piece : List ℕ) → heard ≡ c.heard ++ piece → c.finish ≡ None
+      → CarriesOn c (record c { heard = heard }) piece [] false
+  piece_came heard piece is none came replies parted carries = record {
+    heard = subst (λ f. HeardAs (is_broken f) heard (came ++ piece)) (sym none)
+        (is ∙ ap (λ l. l ++ piece)
+        (subst (λ f. HeardAs (is_broken f) c.heard came) none carries.heard));
+    written = subst (WrittenAs (is_broken c.finish) c.written c.waiting) (sym (append-nil replies))
+        carries.written;
+    ends = carries.ends;
+  }

@@ -1,7 +1,7 @@
 -- The step that a session planned is done, by each of its kinds.
 use Rattle.std.proofs.Common.{◌≡◌, ◌≢◌, ◌≤◌, ℕ, ◌+◌, ◌-◌, ◌*◌, ◌++◌, Bool, true, false, List, []}
 use Rattle.std.proofs.Common.{◌∷◌, Option, None, Some, refl, sym, ap, subst, ◌∙◌, length, map, take}
-use Rattle.std.proofs.Common.{slice_index_or, slice_set}
+use Rattle.std.proofs.Common.{slice_index_or, slice_set, inl, inr}
 use Rattle.std.proofs.Math.Logic.{∥∥₁_map}
 use Rattle.std.proofs.lemmas.List.{map-append}
 use Rattle.std.proofs.lemmas.Option.{none-some}
@@ -29,6 +29,7 @@ use Rattle.live_store.specs.Steps.{IsChunkOf, IsFoundIn}
 use Rattle.live_store.specs.Tied.{text_in}
 use Rattle.live_store.specs.declared.record.Archive.{Ghosts}
 use Rattle.live_store.specs.declared.record.Record.{Record}
+use Rattle.news_terms.specs.Article.{Article, IsArticleText}
 use Rattle.news_terms.specs.BlockImage.{chunk_size}
 use Rattle.news_terms.specs.Token.{Token}
 use Rattle.nntp_text.specs.Reply.{item_view}
@@ -49,14 +50,18 @@ use Rattle.relay_model.specs.Terms.{Terms}
 use Rattle.relay_model.specs.World as world
 
 -- the job, or this one
-job_or : Option Job → Job → Job
+abbrev job_or : Option Job → Job → Job
 job_or None other = other
 job_or (Some one) other = one
 
 -- the text of a record, if there is one
-text_or : Option (Where Record) → List ℕ
+abbrev text_or : Option (Where Record) → List ℕ
 text_or None = []
 text_or (Some one) = text_in one
+
+-- a record is an article's
+article_of : (one : Where Record) → ∥ ((a : Article) × IsArticleText (text_in one) a) ∥₁
+article_of one = ?
 
 -- hands that are equal part by part
 hands_are : (one other : Hands) → one.jobs ≡ other.jobs → one.count ≡ other.count
@@ -136,7 +141,7 @@ module _ {J : Type 0} {g : Ghosts J} (w : Terms) (talk : Talk J g) where
       answered talk (answers.Offer offer) (shares.ToOffer (offer_view offer)) m d gathered
       (asks.Offers is.0 id) is.1 (offer, refl, refl) tt refl planned
 
-  pub looked : (id : List ℕ) (token : Option Token)
+  pub looked : (id : List ℕ) (token : Option codes.Token)
       → SharesFor w (steps.Look id) talk (answers.Look token) talk
   looked id token m d gathered planned is fits some =
       answered talk (answers.Look token) (shares.ToLook (option_map token_view token)) m d gathered
@@ -265,7 +270,7 @@ module _ (token : Token) (k : ℕ) (old new : Option (Where Record)) where
           → ∥ ReadOf asked token k gathered (chunks.Found octets) new ∥₁
       by None at none = absurd none
       by (Some one) at here =
-          ∥∥₁_map one.value.is_article (λ article. record {
+          ∥∥₁_map (article_of one) (λ article. record {
             found = fetches.Article (text_in one);
             is_found = (text_in one, refl, record {
               article = article.0;
@@ -292,7 +297,8 @@ module _ (token : Token) (k : ℕ) (old new : Option (Where Record)) where
   pub block_found : (register : Shelves) (slice : List ℕ) (what : Found)
       → IfSome old (λ w. new ≡ Some w) → IsFoundIn register token k slice new what
       → ReadsFor token k old (chunk_view what slice) new
-  block_found register slice (found.Chunk n) stays is = chunk_found register (take n slice) stays is
+  block_found register slice (found.Chunk n) stays is asked gathered fits =
+      chunk_found register (take n slice) stays is asked gathered fits
   block_found register slice (found.Gone front) stays is asked gathered fits =
       ∣ record { found = fetches.Gone; is_found = refl; read = tt } ∣₁
   block_found register slice found.Unknown stays is asked gathered fits =

@@ -1,23 +1,27 @@
 -- Where a turn leaves a session on its course.
-use Rattle.std.proofs.Common.{◌≡◌, ◌≢◌, ◌≤◌, ℕ, ◌*◌, ◌++◌, Bool, true, false, List, [], ◌∷◌, Option}
-use Rattle.std.proofs.Common.{None, Some, refl, sym, ap, subst, ◌∙◌, take, length, arith}
-use Rattle.std.proofs.Math.Logic.{∥∥₁_map, ∥∥₁_elim}
+use Rattle.std.proofs.Common.{◌≡◌, ◌≢◌, ◌⊎◌, ◌≤◌, ℕ, ◌*◌, ◌++◌, Bool, true, false, List, [], ◌∷◌, Option}
+use Rattle.std.proofs.Common.{None, Some, refl, sym, ap, subst, ◌∙◌, take, length, arith, inl, inr}
+use Rattle.std.proofs.Math.Logic.{∥∥₁_map, ∥∥₁_elim, ∥∥₁_prop}
 use Rattle.std.proofs.lemmas.List.{append-nil, append_assoc}
 use Rattle.std.specs.Option.{IsSomeAnd}
 use Rattle.boxcar.specs.Table.{Where}
 use Rattle.live_seats.specs.Seats.{end_of}
-use Rattle.live_session.specs.Carried.{Carried, Carries, CarriesOn, CarriesSame, Serves, ServesOn}
+use Rattle.live_session.specs.Carried.{Begins, Carried, Carries, CarriesOn, CarriesSame, IsServed}
+use Rattle.live_session.specs.Carried.{Serves, ServesOn}
+use Rattle.live_session.specs.Course as course
 use Rattle.live_session.specs.Course.{Course, Breaks, Comes, Goes, Hands, HandsAfter, IsTurnOf}
-use Rattle.live_session.specs.Course.{Point, Turn, after_turn, broken_off, octets_of, parted_by}
-use Rattle.live_session.specs.Course.{with_piece}
+use Rattle.live_session.specs.Course.{Point, Turn, after_turn, broken_off, greeted, octets_of}
+use Rattle.live_session.specs.Course.{parted_by, with_piece}
 use Rattle.live_session.specs.Going.{AskFits, FrontFits, Going, HearsAnswer, IsFrontOf, IsReadOf}
-use Rattle.live_session.specs.Going.{KeepsButSession, KeepsPlace, SharesFor, Shared, WentOn, WentTo}
-use Rattle.live_session.specs.Going.{hands_of, parted_after}
+use Rattle.live_session.specs.Going.{KeepsButSession, KeepsPlace, LetsGo, SharesFor, Shared}
+use Rattle.live_session.specs.Going.{StaysSame, WentOn, WentTo, hands_of, parted_after}
 use Rattle.live_session.specs.declared.talk.Talk.{Talk}
+use Rattle.live_session.specs.declared.wire.Finish.{Finish}
+use Rattle.live_session.specs.declared.wire.Finish.TheVariants as finishes
 use Rattle.live_store.specs.Tied.{text_in}
 use Rattle.live_store.specs.declared.record.Archive.{Ghosts}
 use Rattle.live_store.specs.declared.record.Record.{Record}
-use Rattle.news_terms.specs.Reply.{reply_text}
+use Rattle.news_terms.specs.Reply.{Greeting, reply_text}
 use Rattle.news_terms.specs.Token.{Token}
 use Rattle.peer_session.specs.Answers.{AsksOf, handed}
 use Rattle.peer_session.specs.Hearing.{Gathers}
@@ -95,6 +99,18 @@ asks_fit w m gathered shown (asks.Pushes job) is front = tt
 asks_fit w m gathered shown (asks.LooksInSlot transfer id) is front = tt
 asks_fit w m gathered shown (asks.Releases id) is front = tt
 asks_fit w m gathered shown asks.Ends is front = tt
+
+-- want of memory is told from every other answer
+memory_or_not : (answer : Answer) → (answer ≡ answers.Memory) ⊎ (answer ≢ answers.Memory)
+memory_or_not answers.Memory = inl refl
+memory_or_not answers.Nothing = inr (λ is. cc)
+memory_or_not (answers.Offer offer) = inr (λ is. cc)
+memory_or_not (answers.Look token) = inr (λ is. cc)
+memory_or_not (answers.Chunk chunk) = inr (λ is. cc)
+memory_or_not (answers.Queue taken) = inr (λ is. cc)
+memory_or_not (answers.Take told) = inr (λ is. cc)
+memory_or_not (answers.Pushed has_room) = inr (λ is. cc)
+memory_or_not (answers.Slot outcome) = inr (λ is. cc)
 
 -- what was gathered by an answer is the front of the record's text
 front_heard : (ask : Ask) (told : shares.Answer) (phase : model.Phase) (later : List ℕ)
@@ -189,11 +205,43 @@ module _ {J : Type 0} {g : Ghosts J} (w : Terms) (old new : Talk J g) where
         parted = parted_are said (has_parted new.session) p.parted heard.heard.said heard.is_said;
       })
 
+  -- a session that forgets what it planned is where it was
+  pub let_go : (step : Step) (now : ℕ) (between after : Talk J g) (said : List ℕ)
+      → DueGiven w old.session now step between.session → KeepsButSession old between
+      → StaysSame between after → KeepsPlace between after → LetsGo after said new
+      → KeepsButSession after new → WentOn w old [] new
+  let_go step now between after said plans rest same place lets kept =
+      still (kept.reads ∙ same.reads ∙ rest.reads) (kept.hands ∙ same.hands ∙ rest.hands)
+      (record {
+        number = kept.place.number ∙ place.number ∙ rest.place.number;
+        end_is = kept.place.end_is ∙ place.end_is ∙ rest.place.end_is;
+      })
+      (λ m gathered stands.
+      let plan = plans m gathered stands in
+      lets.forgets w m plan.due gathered
+      (subst (λ s. Planned w s m plan.due gathered false) (sym same.session) plan.planned))
+
+  -- a turn is had, unless memory was refused
+  pub turned : (step : Step) (now : ℕ) (between after : Talk J g) (answer : Answer)
+      (said : List ℕ) → now ≤ last_moment → DueGiven w old.session now step between.session
+      → KeepsButSession old between → SharesFor w step between answer after
+      → KeepsPlace between after → (answer ≡ answers.Memory → StaysSame between after)
+      → HearsAnswer after answer said new → (answer ≡ answers.Memory → LetsGo after said new)
+      → KeepsButSession after new → WentOn w old said new
+  turned step now between after answer said moment plans rest shares_it place same hears_it lets
+      kept = by (memory_or_not answer)
+    where
+      by : (answer ≡ answers.Memory) ⊎ (answer ≢ answers.Memory) → WentOn w old said new
+      by (inl is) = subst (λ l. WentOn w old l new) (sym (lets is).silent)
+          (let_go step now between after said plans rest (same is) place (lets is) kept)
+      by (inr some) = went step now between after answer said moment plans rest shares_it place
+          hears_it kept some
+
   -- where a turn went on and what it said is carried, the session is served further
   pub served_turn : (said : List ℕ) (c c' : Carried) → WentOn w old said new
       → CarriesOn c c' [] said (has_parted new.session) → ServesOn w old new c c'
   served_turn said c c' goes carries_on s end first read written serves =
-      ∥∥₁_elim serves (hlevel ∥∥₁_prop) (λ one.
+      ∥∥₁_elim serves (∥∥₁_prop) (λ one.
       ∥∥₁_map (goes s end first one.at one.going) (λ to.
       let carries = carries_on (read ++ one.at.heard) (written ++ one.at.said) one.at.parted
           one.carries in
@@ -267,7 +315,7 @@ module _ {J : Type 0} {g : Ghosts J} (w : Terms) (old new : Talk J g) where
   pub served_still : WentOn w old [] new → (c c' : Carried) → CarriesSame c c'
       → ServesOn w old new c c'
   served_still goes c c' same s end first read written serves =
-      ∥∥₁_elim serves (hlevel ∥∥₁_prop) (λ one.
+      ∥∥₁_elim serves (∥∥₁_prop) (λ one.
       ∥∥₁_map (goes s end first one.at one.going) (λ to. record {
         at = to.at;
         going = to.going;
@@ -278,3 +326,82 @@ module _ {J : Type 0} {g : Ghosts J} (w : Terms) (old new : Talk J g) where
             (subst (Carries c' (read ++ one.at.heard) (written ++ one.at.said)) (sym to.parted)
             (same (read ++ one.at.heard) (written ++ one.at.said) one.at.parted one.carries)));
       }))
+
+module _ {J : Type 0} {g : Ghosts J} (w : Terms) (talk : Talk J g) (peer : ℕ)
+    (read written : List ℕ) where
+  -- a session that has just been opened is on its course, and its greeting waits
+  pub begun : (octets : List ℕ) → Begins w peer talk.session octets
+      → Serves w talk.number (end_of talk.seat) (greeted peer (hands_of talk)) read written talk
+      (record { heard = read; written = written; waiting = octets; finish = None })
+  begun octets begins = record {
+    at = greeted peer (hands_of talk);
+    going = record {
+      course = course.Begins;
+      gathered = [];
+      stands = begins.stands;
+      front = λ asked token had is. cc;
+      hands = refl;
+      number = refl;
+      end_is = refl;
+    };
+    carries = record {
+      heard = sym (append-nil read);
+      written = ap (λ l. written ++ l) begins.greeting;
+      ends = tt;
+    };
+  }
+
+  -- a session that ended, with nothing left to write, was served
+  pub ended : (s end : ℕ) (before : Hands) (c : Carried) (finish : Finish)
+      → c.finish ≡ Some finish → c.waiting ≡ []
+      → Serves w s end (greeted peer before) read written talk c
+      → IsServed w s end peer before read written finish (hands_of talk) c.heard c.written
+  ended s end before c finish is none serves = record {
+    at = serves.at;
+    course = serves.going.course;
+    carries = subst (λ l. Carries (record {
+          heard = c.heard;
+          written = c.written;
+          waiting = l;
+          finish = Some finish;
+        }) (read ++ serves.at.heard) (written ++ serves.at.said) serves.at.parted) none
+        (subst (λ f. Carries (record {
+          heard = c.heard;
+          written = c.written;
+          waiting = c.waiting;
+          finish = f;
+        }) (read ++ serves.at.heard) (written ++ serves.at.said) serves.at.parted) is
+        serves.carries);
+    hands = serves.going.hands;
+  }
+
+-- a session for which there was no memory read and wrote nothing
+pub unbegun : (w : Terms) (s end peer : ℕ) (hands : Hands) (read written : List ℕ)
+    → IsServed w s end peer hands read written finishes.Broken hands read written
+unbegun w s end peer hands read written = record {
+  at = greeted peer hands;
+  course = course.Begins;
+  carries = record {
+    heard = ([], sym (append-nil (read ++ []) ∙ append-nil read));
+    written = (reply_text Greeting, refl);
+    ends = tt;
+  };
+  hands = refl;
+}
+
+module _ {J : Type 0} {g : Ghosts J} (w : Terms) where
+  -- nothing more than the connection has changed
+  pub then_same : (old new : Talk J g) (c mid c' : Carried) → ServesOn w old new c mid
+      → CarriesSame mid c' → ServesOn w old new c c'
+  then_same old new c mid c' serves same s end first read written here =
+      ∥∥₁_map (serves s end first read written here) (λ one. record {
+        at = one.at;
+        going = one.going;
+        carries = same (read ++ one.at.heard) (written ++ one.at.said) one.at.parted one.carries;
+      })
+
+  -- one after the other
+  pub then_on : (old mid new : Talk J g) (c c1 c' : Carried) → ServesOn w old mid c c1
+      → ServesOn w mid new c1 c' → ServesOn w old new c c'
+  then_on old mid new c c1 c' one other s end first read written here =
+      other s end first read written (one s end first read written here)

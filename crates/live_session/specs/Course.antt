@@ -62,7 +62,7 @@ with_job end job hands =
 
 -- the job that was handed over last is answered kept
 abbrev pub with_kept : Hands → Hands
-with_kept hands = record hands { kept = hands.kept ++ hands.count - 1 ∷ [] }
+with_kept hands = record hands { kept = hands.kept ++ (hands.count - 1) ∷ [] }
 
 -- a job that found room is handed over
 abbrev pub HandsPushed : (end : ℕ) → model.Job → Answer → (old new : Hands) → Type 0

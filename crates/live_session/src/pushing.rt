@@ -1,5 +1,5 @@
 //! A session's job is handed over, and its outcome looked for.
-ghost use Rattle.std.specs.Prelude.{◌≡◌, ⊥, true};
+ghost use Rattle.std.specs.Prelude.{◌≡◌, true};
 ghost use Rattle.article_verdict.specs.Config.{terms_of};
 ghost use Rattle.live_seats.specs.Seats.{IsSeatOf};
 ghost use Rattle.live_session.specs.Going.{KeepsPlace, SharesFor, StaysSame};

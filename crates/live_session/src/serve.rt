@@ -1,5 +1,5 @@
 //! A session is served over a connection.
-ghost use Rattle.std.specs.Prelude.{◌≡◌, [], true, IfOk, is_some};
+ghost use Rattle.std.specs.Prelude.{◌≡◌, [], true, IfOk};
 ghost use Rattle.article_verdict.specs.Config.{terms_of};
 ghost use Rattle.live_seats.specs.Seats.{IsSeatOf, end_of};
 ghost use Rattle.live_session.specs.Carried.{Begins, Carried, CarriesSame, IsServed, ServesOn};
@@ -107,7 +107,10 @@ pub fn serve_session<
         finish: None,
     };
     converse(rt, alloc, hall, &mut talk, &mut wire);
+    break_off(&mut talk);
     leave(rt, alloc, hall, &mut talk, &mut wire);
+    flush(&mut wire);
+    stop(&mut wire, Finish::TurnsSpent);
     Served {
         seat: talk.seat,
         kept: talk.kept,
@@ -157,10 +160,10 @@ fn converse<S: Shares<J, R>, C: Clock, G: Gate<R>, J: Archive, H: Hears, W: Says
     requires register { hall.now.register.now ≡ J.register }
     requires seat { IsSeatOf hall.now.lanes.now talk.old.seat }
     ensures seat { IsSeatOf hall.now.lanes.now talk.new.seat }
+    ensures end { end_of talk.new.seat ≡ end_of talk.old.seat }
     ensures served { J.trusted ≡ true → ServesOn (terms_of hall.now.config.now) talk.old talk.new
         (carried (H.heard wire.old.reader) (W.said wire.old.writer) wire.old.outbox wire.old.finish)
         (carried (H.heard wire.new.reader) (W.said wire.new.writer) wire.new.outbox wire.new.finish) }
-    ensures ended { is_some wire.new.finish ≡ true }
 {
     let mut commands = 0;
     for _ in 0..TURNS {
@@ -169,7 +172,6 @@ fn converse<S: Shares<J, R>, C: Clock, G: Gate<R>, J: Archive, H: Hears, W: Says
         }
         round(rt, alloc, hall, talk, wire, &mut commands);
     }
-    stop(wire, Finish::TurnsSpent);
 }
 
 /// One turn with its reply; where none is due, what waits is written, and the session reads.
@@ -184,6 +186,7 @@ fn round<S: Shares<J, R>, C: Clock, G: Gate<R>, J: Archive, H: Hears, W: Says, R
     requires register { hall.now.register.now ≡ J.register }
     requires seat { IsSeatOf hall.now.lanes.now talk.old.seat }
     ensures seat { IsSeatOf hall.now.lanes.now talk.new.seat }
+    ensures end { end_of talk.new.seat ≡ end_of talk.old.seat }
     ensures served { J.trusted ≡ true → ServesOn (terms_of hall.now.config.now) talk.old talk.new
         (carried (H.heard wire.old.reader) (W.said wire.old.writer) wire.old.outbox wire.old.finish)
         (carried (H.heard wire.new.reader) (W.said wire.new.writer) wire.new.outbox wire.new.finish) }
@@ -215,12 +218,15 @@ fn write_on<S, C, G: Gate<R>, H: Hears, W: Says, R>(
         (carried (H.heard wire.old.reader) (W.said wire.old.writer) wire.old.outbox wire.old.finish)
         (carried (H.heard wire.new.reader) (W.said wire.new.writer) wire.new.outbox wire.new.finish) }
 {
+    if hall.gate.is_one_by_one() {
+        if !wire.outbox.is_empty() {
+            flush(wire);
+            hall.gate.leave(rt, number, commands.wrapping_sub(1));
+        }
+        return;
+    }
     if wire.outbox.len() >= WAITING {
         flush(wire);
-    }
-    if hall.gate.is_one_by_one() && !wire.outbox.is_empty() {
-        flush(wire);
-        hall.gate.leave(rt, number, commands.wrapping_sub(1));
     }
 }
 
@@ -232,22 +238,25 @@ fn receive<J: Archive, H: Hears, W: Says>(talk: &mut Talk<J>, wire: &mut Wire<H,
         (carried (H.heard wire.old.reader) (W.said wire.old.writer) wire.old.outbox wire.old.finish)
         (carried (H.heard wire.new.reader) (W.said wire.new.writer) wire.new.outbox wire.new.finish) }
 {
-    if !talk.session.is_reading() {
+    if wire.finish.is_some() || !talk.session.is_reading() {
         return;
     }
     match wire.reader.hear(&mut wire.piece) {
-        Ok(n) if n > 0 => {
-            if talk.session.feed(&wire.piece[..n]).is_err() {
-                stop(wire, Finish::Broken);
+        Ok(0) => wire.finish = Some(Finish::Broken),
+        Ok(n) => match talk.session.feed(&wire.piece[..n]) {
+            Ok(()) => {}
+            Err(_) => wire.finish = Some(Finish::Broken),
+        },
+        Err(error) => {
+            if error.kind() != ErrorKind::Interrupted {
+                wire.finish = Some(Finish::Broken);
             }
         }
-        Err(error) if error.kind() == ErrorKind::Interrupted => {}
-        _ => stop(wire, Finish::Broken),
     }
 }
 
-/// The session leaves: its job is handed over and its open offers end, and what it still says is
-/// written.
+/// Turns of a session that leaves, until it is closed: its job is handed over and its open offers
+/// end. What it still says is to be written.
 fn leave<S: Shares<J, R>, C: Clock, G: Gate<R>, J: Archive, H: Hears, W: Says, R: Wait>(
     rt: &R,
     alloc: Global,
@@ -258,22 +267,41 @@ fn leave<S: Shares<J, R>, C: Clock, G: Gate<R>, J: Archive, H: Hears, W: Says, R
     requires register { hall.now.register.now ≡ J.register }
     requires seat { IsSeatOf hall.now.lanes.now talk.old.seat }
     ensures seat { IsSeatOf hall.now.lanes.now talk.new.seat }
+    ensures end { end_of talk.new.seat ≡ end_of talk.old.seat }
     ensures served { J.trusted ≡ true → ServesOn (terms_of hall.now.config.now) talk.old talk.new
         (carried (H.heard wire.old.reader) (W.said wire.old.writer) wire.old.outbox wire.old.finish)
         (carried (H.heard wire.new.reader) (W.said wire.new.writer) wire.new.outbox wire.new.finish) }
-    ensures written { wire.new.outbox.items ≡ [] }
 {
-    break_off(talk);
-    let mut commands = 0;
     for _ in 0..LEAVING_TURNS {
         if !talk.session.is_running() {
             break;
         }
-        if let Turned::Says(said) = turn(rt, alloc, hall, talk, &mut commands) {
-            put(wire, said, talk.session.has_parted());
-        }
+        last_turn(rt, alloc, hall, talk, wire);
     }
-    flush(wire);
+}
+
+/// One turn of a session that leaves.
+fn last_turn<S: Shares<J, R>, C: Clock, G: Gate<R>, J: Archive, H: Hears, W: Says, R: Wait>(
+    rt: &R,
+    alloc: Global,
+    hall: &Hall<S, C, G>,
+    talk: &mut Talk<J>,
+    wire: &mut Wire<H, W>,
+)
+    requires register { hall.now.register.now ≡ J.register }
+    requires seat { IsSeatOf hall.now.lanes.now talk.old.seat }
+    ensures seat { IsSeatOf hall.now.lanes.now talk.new.seat }
+    ensures end { end_of talk.new.seat ≡ end_of talk.old.seat }
+    ensures served { J.trusted ≡ true → ServesOn (terms_of hall.now.config.now) talk.old talk.new
+        (carried (H.heard wire.old.reader) (W.said wire.old.writer) wire.old.outbox wire.old.finish)
+        (carried (H.heard wire.new.reader) (W.said wire.new.writer) wire.new.outbox wire.new.finish) }
+{
+    match turn(rt, alloc, hall, talk, &mut 0) {
+        Turned::Says(said) => put(wire, said, talk.session.has_parted()),
+        Turned::Rests => {}
+        Turned::Held => {}
+        Turned::Memory => {}
+    }
 }
 
 /// A session that still reads breaks off.

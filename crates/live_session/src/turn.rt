@@ -1,7 +1,7 @@
 //! A turn: the session plans, its step is done, and it hears the answer.
 ghost use Rattle.std.specs.Prelude.{◌≡◌, true};
 ghost use Rattle.article_verdict.specs.Config.{terms_of};
-ghost use Rattle.live_seats.specs.Seats.{IsSeatOf};
+ghost use Rattle.live_seats.specs.Seats.{IsSeatOf, end_of};
 ghost use Rattle.live_session.specs.Going.{HearsAnswer, KeepsButSession, KeepsPlace, LetsGo};
 ghost use Rattle.live_session.specs.Going.{WentOn, said_in};
 ghost use Rattle.peer_session.specs.declared.steps.Answer.TheVariants as answers;
@@ -25,6 +25,7 @@ pub(crate) fn turn<S: Shares<J, R>, C: Clock, G: Gate<R>, J: Archive, R: Wait>(
     requires register { hall.now.register.now ≡ J.register }
     requires seat { IsSeatOf hall.now.lanes.now talk.old.seat }
     ensures seat { IsSeatOf hall.now.lanes.now talk.new.seat }
+    ensures end { end_of talk.new.seat ≡ end_of talk.old.seat }
     ensures went { J.trusted ≡ true
         → WentOn (terms_of hall.now.config.now) talk.old (said_in result) talk.new }
 {

@@ -46,10 +46,17 @@ pub(crate) fn flush<H: Hears, W: Says>(wire: &mut Wire<H, W>)
         (carried (H.heard wire.new.reader) (W.said wire.new.writer) wire.new.outbox wire.new.finish) }
     ensures none { wire.new.outbox.items ≡ [] }
 {
-    if !is_broken(&wire.finish) && say_all(&mut wire.writer, &wire.outbox).is_err() {
-        wire.finish = Some(Finish::Broken);
+    if is_broken(&wire.finish) {
+        wire.outbox.clear();
+        return;
     }
-    wire.outbox.clear();
+    match say_all(&mut wire.writer, &wire.outbox) {
+        Ok(()) => wire.outbox.clear(),
+        Err(_) => {
+            wire.outbox.clear();
+            wire.finish = Some(Finish::Broken);
+        }
+    }
 }
 
 /// What a session said is to be written. Where it leaves, that was its last reply.
@@ -64,6 +71,8 @@ pub(crate) fn put<H: Hears, W: Says>(wire: &mut Wire<H, W>, said: Vec<u8>, leave
     }
     if leaves {
         wire.finish = parted(wire.finish, &said);
+        append(wire, said);
+        return;
     }
     append(wire, said);
 }
@@ -101,9 +110,12 @@ fn append<H: Hears, W: Says>(wire: &mut Wire<H, W>, said: Vec<u8>)
         wire.outbox = said;
         return;
     }
-    if wire.outbox.extend_from_slice(&said).is_err() {
-        flush(wire);
-        wire.outbox = said;
+    match wire.outbox.extend_from_slice(&said) {
+        Ok(()) => {}
+        Err(_) => {
+            flush(wire);
+            wire.outbox = said;
+        }
     }
 }
 
@@ -114,6 +126,7 @@ pub(crate) fn stop<H: Hears, W: Says>(wire: &mut Wire<H, W>, finish: Finish)
         (carried (H.heard wire.old.reader) (W.said wire.old.writer) wire.old.outbox wire.old.finish)
         (carried (H.heard wire.new.reader) (W.said wire.new.writer) wire.new.outbox wire.new.finish) }
     ensures ended { is_some wire.new.finish ≡ true }
+    ensures waiting { wire.new.outbox ≡ wire.old.outbox }
 {
     if wire.finish.is_none() {
         wire.finish = Some(finish);
