@@ -2,7 +2,7 @@
 ghost use Rattle.std.specs.Prelude.{◌≡◌, [], ◌∷◌, map, false, IsTrue, IfOk, IfErr};
 ghost use Rattle.std.specs.Option.{option_copied};
 ghost use Rattle.news_terms.specs.Article.{first_content, message_id, BadId, BadGroups};
-ghost use Rattle.news_terms.specs.Article.{article_text};
+ghost use Rattle.news_terms.specs.Article.{IsArticleText, article_text};
 ghost use Rattle.news_terms.specs.Article as terms;
 ghost use Rattle.article_parse.specs.Content.{unfolded_newsgroups};
 ghost use Rattle.article_parse.specs.Reads.{IsHeader};
@@ -31,8 +31,8 @@ pub struct Article<'a> {
     newsgroups_line: Vec<u8>,
     ghost is_newsgroups_line: { newsgroups_line.items
         ≡ unfolded_newsgroups (map field_view fields.items) },
-    ghost is_text: { text.now
-        ≡ article_text (record { fields = map field_view fields.items; body = body.now }) },
+    ghost is_article: { ∥ IsArticleText text.now
+        (record { fields = map field_view fields.items; body = body.now }) ∥₁ },
 }
 
 /// What the contents of the fields say: the message-id, and the Newsgroups in one line.

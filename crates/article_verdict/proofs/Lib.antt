@@ -3,3 +3,4 @@ pub mod GroupRoom
 pub mod Readings
 pub mod ShortTexts
 pub mod SoundTerms
+pub mod StoredTexts

@@ -1,4 +1,5 @@
 ghost use Rattle.std.specs.Prelude.{◌<◌, ◌^◌, length};
+ghost use Rattle.news_terms.specs.ArticleTexts.{IsArticle};
 
 use cyc_buffer::size_of;
 use line_words::Octets;
@@ -16,6 +17,8 @@ pub struct Accepted {
     pub text: Octets,
     // A token has room for its length.
     ghost has_length: { length text < 2 ^ 32 },
+    // What is stored is an article, whatever was received.
+    ghost is_article: { ∥ IsArticle text ∥₁ },
 }
 
 impl Accepted {

@@ -3,29 +3,24 @@ ghost use Rattle.crossbeam_queue.specs.Passes.{view, IsPassOf};
 ghost use Rattle.job_queue.specs.Delivery.{IsOpen, OfWriter};
 
 use super::*;
-use buffer_group::{Accepted, Job};
-use line_words::Octets;
+use buffer_group::Job;
 use nntp_text::MsgId;
+use sample_articles::{LEAST_OCTETS, sample_article};
 use std::alloc::Global;
 use std::process::Abort;
 use std::sync::Wait;
 use std::test::*;
 
-// A job of this end, with no text.
+// A job of this end, whose article is the smallest sample.
 fn job_of<R: Abort>(rt: &R, alloc: Global, end: u64, number: u64) -> Result<Handed, Fail>
     ensures { IfOk result (λ handed. handed.end ≡ end) }
 {
     let id = MsgId::parse(alloc, b"<a@x>").expect(rt, "a message-id");
-    let article = Accepted {
-        class: 0,
-        group: 0,
-        permitted: Vec::new(alloc),
-        text: Octets::new(Vec::new(alloc)),
-    };
+    let sample = sample_article(alloc, LEAST_OCTETS)?;
     let job = Job {
         session: 1,
         id,
-        article,
+        article: sample.expect(rt, "a sample").into_accepted(alloc),
     };
     Ok(Handed { end, number, job })
 }

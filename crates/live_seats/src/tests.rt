@@ -1,13 +1,13 @@
 ghost use Rattle.std.specs.Prelude.{◌≡◌, ◌<◌, ◌+◌, ◌^◌, ℕ, true, length, IfOk};
 
 use super::*;
-use buffer_group::{Accepted, Job};
+use buffer_group::Job;
 use cyc_token::Token;
 use id_history::Shard;
 use job_queue::Handed;
-use line_words::Octets;
 use live_settle::CountedDesk;
 use nntp_text::MsgId;
+use sample_articles::{LEAST_OCTETS, sample_article};
 use std::alloc::Global;
 use std::collections::hash_map::RandomState;
 use std::marker::Brand;
@@ -80,7 +80,7 @@ struct Bringing {
     alloc: Global,
 }
 
-// A job without a text, under a message-id of the two numbers, or none for want of memory.
+// A job of the smallest sample, under a message-id of the two numbers, or none for want of memory.
 fn job_of(alloc: Global, end: u64, number: u64) -> Option<Job> {
     let mut name = Vec::new(alloc);
     name.extend_from_slice(b"<").ok()?;
@@ -93,16 +93,11 @@ fn job_of(alloc: Global, end: u64, number: u64) -> Option<Job> {
     }
     name.extend_from_slice(b"@x>").ok()?;
     let id = MsgId::parse(alloc, name.as_slice()).ok()?;
-    let article = Accepted {
-        class: 0,
-        group: 0,
-        permitted: Vec::new(alloc),
-        text: Octets::new(Vec::new(alloc)),
-    };
+    let sample = sample_article(alloc, LEAST_OCTETS).ok()??;
     Some(Job {
         session: end,
         id,
-        article,
+        article: sample.into_accepted(alloc),
     })
 }
 

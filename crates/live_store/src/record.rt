@@ -1,14 +1,10 @@
 //! The register: what was begun, under numbers that never change.
-ghost use Rattle.std.specs.Prelude.{◌≡◌, IfOk, IfSome};
-ghost use Rattle.boxcar.specs.Table.{Shows};
-ghost use Rattle.live_store.specs.Tied.{text_in, named_in};
+ghost use Rattle.news_terms.specs.ArticleTexts.{IsArticle};
 
 use cyc_token::Token;
-use std::alloc::AllocError;
 use std::marker::Brand;
 use std::mem::size_of;
 use std::snapshot::Snapshot;
-use std::sync::Wait;
 
 /// An article that was begun: its token and, for contracts alone, the octets of its text.
 #[derive(Drop)]
@@ -17,6 +13,8 @@ pub struct Record {
     pub token: Token,
     /// The text. It takes no memory.
     pub text: Snapshot<Vec<u8>>,
+    // So each number of the register is that of an article.
+    ghost is_article: { ∥ IsArticle text.value.items ∥₁ },
 }
 
 // What the README says of the memory of a record and of a number.
@@ -52,22 +50,4 @@ impl Archive for Brand {
     ghost trusted = { false };
 
     ghost holds = { λ _ _. false };
-}
-
-/// Enters a text under its token in the register. Where memory is refused nothing is entered.
-pub fn enter(
-    rt: &impl Wait,
-    register: &Register,
-    token: Token,
-    text: &Vec<u8>,
-) -> Result<Shown, AllocError>
-    ensures shown { IfOk result (λ shown. Shows register.now shown) }
-    ensures token { IfOk result (λ shown. named_in shown ≡ token) }
-    ensures text { IfOk result (λ shown. text_in shown ≡ text.now.items) }
-{
-    let record = Record {
-        token,
-        text: Snapshot::of(text),
-    };
-    register.push_shown(rt, record).map_err(|_| AllocError)
 }

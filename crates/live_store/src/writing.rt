@@ -5,10 +5,12 @@ ghost use Rattle.cyc_token.specs.Token.{token_view};
 ghost use Rattle.live_store.specs.Tied.{text_in, token_in, named_in};
 ghost use Rattle.live_store.specs.Steps.{IsWriteFault};
 ghost use Rattle.live_store.specs.Stores.{IsStored, IsKeptAs};
+ghost use Rattle.news_terms.specs.ArticleTexts.{IsArticle};
 
 use crate::answers::{Mixed, WriteFault};
+use crate::entering::enter;
 use crate::numbered::NumberedBuffer;
-use crate::record::{Archive, Register, Shown, enter};
+use crate::record::{Archive, Register, Shown};
 use crate::stored::{Receipt, Stored};
 use cyc_block::{BlockStore, CHUNK_OCTETS};
 use cyc_buffer::BufError;
@@ -16,7 +18,7 @@ use cyc_token::Token;
 use std::marker::PhantomData;
 use std::sync::{Mutex, Wait};
 
-/// Stores a text in any thread: the buffer begins it, the register gets its record, each block is
+/// Stores an article in any thread: the buffer begins it, the register gets its record, each block is
 /// written, and the buffer finishes it. Each step of the buffer takes the lock anew. Where memory
 /// is refused to the register, the same step is tried again.
 pub fn store<S: BlockStore, J: Archive, R: Wait>(
@@ -27,7 +29,8 @@ pub fn store<S: BlockStore, J: Archive, R: Wait>(
     fresh: bool,
     text: &Vec<u8>,
 ) -> Stored<J>
-    requires { register.now ≡ J.register }
+    requires register { register.now ≡ J.register }
+    requires article { ∥ IsArticle text.now.items ∥₁ }
     ensures { IsStored class text.now.items result }
 {
     let Ok(octets) = u32::try_from(text.len()) else {
@@ -57,6 +60,7 @@ pub fn store<S: BlockStore, J: Archive, R: Wait>(
 
 /// Enters the text, again and again where memory is refused.
 fn entered<R: Wait>(rt: &R, register: &Register, token: Token, text: &Vec<u8>) -> Option<Shown>
+    requires article { ∥ IsArticle text.now.items ∥₁ }
     ensures shown { IfSome result (λ shown. Shows register.now shown) }
     ensures token { IfSome result (λ shown. named_in shown ≡ token) }
     ensures text { IfSome result (λ shown. text_in shown ≡ text.now.items) }

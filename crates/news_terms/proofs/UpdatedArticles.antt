@@ -32,17 +32,17 @@ use Rattle.news_terms.proofs.UpdatedTexts.{nul_both, nul_parts}
 
 -- THE FIELDS
 
--- what is asked of the two identities
+-- what is asked of the two identities: of the source no more than the octets, for it may be empty
 record Agents (own expected : List ℕ) : Type 0 where
   own_agent : IsTrue (is_agent own)
-  expected_agent : IsTrue (is_agent expected)
+  expected_octets : IsTrue (all_agent expected)
 
 -- the octets of what stands before a received Path
 prefix_of : (own expected content : List ℕ) → Agents own expected
     → IsTrue (is_plain (path_prefix own expected content))
 prefix_of own expected content h =
     prefix_plain own expected content (and_parts (is_identity own) (all_agent own) h.own_agent).1
-    (and_parts (is_identity expected) (all_agent expected) h.expected_agent).1
+    h.expected_octets
 
 -- a field of the update may stand in a header
 updated-is_field : (own expected : List ℕ) (f : Field) → Agents own expected → IsField f
@@ -273,13 +273,13 @@ updated-filled own expected fields Subject h k =
 updated-filled own expected fields InjectionDate h k =
     subst AreFilled (sym (updated-contents own expected (name_of InjectionDate) fields refl)) k
 
--- the update of an article is an article
-pub updated_is_article : (own expected text : List ℕ) (a : Article) → IsTrue (is_agent own)
-    → IsTrue (is_agent expected)
+-- the update of an article is an article, where the source has an agent's octets, if any
+pub updated_from_octets : (own expected text : List ℕ) (a : Article) → IsTrue (is_agent own)
+    → IsTrue (all_agent expected)
     → IsArticleText text a
     → IsArticleText (article_text (updated_article own expected a)) (updated_article own expected a)
-updated_is_article own expected text a ho he h =
-    let agents : Agents own expected = record { own_agent = ho; expected_agent = he } in
+updated_from_octets own expected text a ho he h =
+    let agents : Agents own expected = record { own_agent = ho; expected_octets = he } in
     let laid_out = h.laid_out in
     let ids = updated-contents own expected (name_of MessageId) a.fields refl in
     let groups = updated-contents own expected (name_of Newsgroups) a.fields refl in
@@ -303,3 +303,12 @@ updated_is_article own expected text a ho he h =
             (sym groups) h.fields.groups;
       };
     }
+
+-- the update of an article by agents is an article
+pub updated_is_article : (own expected text : List ℕ) (a : Article) → IsTrue (is_agent own)
+    → IsTrue (is_agent expected)
+    → IsArticleText text a
+    → IsArticleText (article_text (updated_article own expected a)) (updated_article own expected a)
+updated_is_article own expected text a ho he h =
+    updated_from_octets own expected text a ho
+    (and_parts (is_identity expected) (all_agent expected) he).1 h

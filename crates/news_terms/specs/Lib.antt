@@ -1,4 +1,5 @@
 pub mod Article
+pub mod ArticleTexts
 pub mod BlockImage
 pub mod Blocks
 pub mod Command

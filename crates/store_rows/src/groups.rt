@@ -1,12 +1,13 @@
 //! The calls of a group of buffers in memory, and of its writer's phases (buffer_group). Tokens are
-//! their texts; the text of an article is computed from its octets and a seed.
+//! their texts; the text that is stored is computed from its octets and a seed, and that of a job
+//! is an article.
 use crate::buffers::{InMemory, Put, formatted, put_stored, store, text_of};
 use crate::words::{Word, one, put, say, three, two};
-use buffer_group::{Accepted, Group, Job, Writer, WriterStep};
+use buffer_group::{Group, Job, Writer, WriterStep};
 use cyc_token::Token;
-use line_words::Octets;
 use nntp_text::MsgId;
 use relay_conf::Mode;
+use sample_articles::sample_article;
 use std::alloc::{AllocError, Global};
 
 /// The token of each text that becomes whole in the steps of a writer, where no place is looked at.
@@ -154,21 +155,18 @@ fn put_steps(alloc: Global, cells: &[Vec<u8>], text: &mut Vec<u8>) -> Result<boo
     Ok(true)
 }
 
-/// A job of so many octets.
+/// A job of so many octets, if an article has so many.
 fn job_of(alloc: Global, octets: u32) -> Result<Option<Job>, AllocError> {
     let Ok(id) = MsgId::parse(alloc, b"<a@x>") else {
         return Ok(None);
     };
-    let text = text_of(alloc, 0, octets as usize)?;
+    let Some(sample) = sample_article(alloc, octets)? else {
+        return Ok(None);
+    };
     Ok(Some(Job {
         session: 1,
         id,
-        article: Accepted {
-            class: 1,
-            group: 0,
-            permitted: Vec::new(alloc),
-            text: Octets::new(text),
-        },
+        article: sample.into_accepted(alloc),
     }))
 }
 

@@ -5,6 +5,7 @@ use crate::told::{tell_fetched, tell_stored};
 use cyc_block::{FailAt, MemoryBlocks};
 use cyc_token::Token;
 use live_store::{Archive, Fetched, NumberedBuffer, Register, Stored, fetch, store};
+use sample_articles::{Sample, sample_article};
 use std::alloc::{AllocError, Global};
 use std::io;
 use std::sync::{Mutex, Wait};
@@ -13,11 +14,12 @@ use std::thread::{Threads, join};
 /// Buffer 0 under its lock, in memory, with a call that fails on purpose.
 type Locked<J> = Mutex<NumberedBuffer<FailAt<MemoryBlocks>, J>>;
 
-/// A text of so many octets.
-fn text(alloc: Global, octets: usize) -> Result<Vec<u8>, AllocError> {
-    let mut text = Vec::new(alloc);
-    text.resize(octets, 65)?;
-    Ok(text)
+/// An article of so many octets.
+fn sample(alloc: Global, octets: u32) -> io::Result<Sample> {
+    match sample_article(alloc, octets)? {
+        Some(sample) => Ok(sample),
+        None => Err(io::Error::from(io::ErrorKind::InvalidInput)),
+    }
 }
 
 /// Buffer 0 of eight blocks in memory from this cycle on, whose call number k fails.
@@ -33,20 +35,20 @@ fn one_buffer<J: Archive>(
     Ok(buffers)
 }
 
-/// Stores a text in buffer 0 and prints how that ended.
+/// Stores an article in buffer 0 and prints how that ended.
 fn put<J: Archive, R: Wait + Print>(
     rt: &R,
     buffers: &Vec<Locked<J>>,
     register: &Register,
     name: &str,
-    text: &Vec<u8>,
+    article: &Sample,
 ) -> io::Result<()>
     requires { register.now ≡ J.register }
 {
     let Some(buffer) = buffers.first() else {
         return Ok(());
     };
-    let stored = store(rt, buffer, register, 1, false, text);
+    let stored = store(rt, buffer, register, 1, false, article.text());
     tell_stored(rt, name, &stored)
 }
 
@@ -57,11 +59,11 @@ fn get<J: Archive, R: Wait + Print>(
     buffers: &Vec<Locked<J>>,
     register: &Register,
     place: (u32, u32),
-    text: &Vec<u8>,
+    article: &Sample,
 ) -> io::Result<()>
     requires { register.now ≡ J.register }
 {
-    let Ok(length) = u32::try_from(text.len()) else {
+    let Ok(length) = u32::try_from(article.text().len()) else {
         return Ok(());
     };
     let token = Token {
@@ -72,7 +74,7 @@ fn get<J: Archive, R: Wait + Print>(
         length,
     };
     let found = fetch(rt, alloc, buffers, register, &token)?;
-    tell_fetched(rt, &found, text.as_slice())
+    tell_fetched(rt, &found, article.text().as_slice())
 }
 
 /// One thread stores an article while another fetches it: it finds nothing, or all of it.
@@ -81,7 +83,7 @@ fn meanwhile<J: Archive + Send + Sync, R: Threads + Wait + Sync>(
     alloc: Global,
     buffers: &Vec<Locked<J>>,
     register: &Register,
-    text: &Vec<u8>,
+    article: &Sample,
 ) -> bool
     requires { register.now ≡ J.register }
 {
@@ -101,21 +103,21 @@ fn meanwhile<J: Archive + Send + Sync, R: Threads + Wait + Sync>(
             requires { register.now ≡ J.register }
         {
             matches!(
-                &store(rt, buffer, register, 1, false, text),
+                &store(rt, buffer, register, 1, false, article.text()),
                 Stored::Kept(_)
             )
         },
         || -> bool
             requires { register.now ≡ J.register }
-        { is_none_or(&fetch(rt, alloc, buffers, register, &token), text) },
+        { is_none_or(&fetch(rt, alloc, buffers, register, &token), article) },
     );
     kept && found
 }
 
-/// Whether nothing was found, or this text.
-fn is_none_or<J: Archive>(found: &Result<Fetched<J>, AllocError>, text: &Vec<u8>) -> bool {
+/// Whether nothing was found, or this article.
+fn is_none_or<J: Archive>(found: &Result<Fetched<J>, AllocError>, article: &Sample) -> bool {
     match found {
-        Ok(Fetched::Whole(whole)) => whole.octets() == text.as_slice(),
+        Ok(Fetched::Whole(whole)) => whole.octets() == article.text().as_slice(),
         Ok(Fetched::Unknown) => true,
         _ => false,
     }
@@ -129,8 +131,8 @@ pub(crate) fn two_threads<J: Archive + Send + Sync, R: Threads + Wait + Print + 
 ) -> io::Result<()>
     requires { register.now ≡ J.register }
 {
-    let one = text(alloc, 1440)?;
-    let two = text(alloc, 1200)?;
+    let one = sample(alloc, 1440)?;
+    let two = sample(alloc, 1200)?;
     let buffers = one_buffer::<J>(alloc, 0, 0)?;
     overwritten(rt, alloc, &buffers, register, &one, &two)
 }
@@ -141,8 +143,8 @@ fn overwritten<J: Archive + Send + Sync, R: Threads + Wait + Print + Sync>(
     alloc: Global,
     buffers: &Vec<Locked<J>>,
     register: &Register,
-    one: &Vec<u8>,
-    two: &Vec<u8>,
+    one: &Sample,
+    two: &Sample,
 ) -> io::Result<()>
     requires { register.now ≡ J.register }
 {
@@ -163,7 +165,7 @@ pub(crate) fn failing_device<J: Archive, R: Wait + Print>(
 ) -> io::Result<()>
     requires { register.now ≡ J.register }
 {
-    let one = text(alloc, 960)?;
+    let one = sample(alloc, 960)?;
     let buffers = one_buffer::<J>(alloc, 0, 2)?;
     write_fails(rt, alloc, &buffers, register, &one)?;
     let buffers = one_buffer::<J>(alloc, 0, 4)?;
@@ -176,7 +178,7 @@ fn write_fails<J: Archive, R: Wait + Print>(
     alloc: Global,
     buffers: &Vec<Locked<J>>,
     register: &Register,
-    one: &Vec<u8>,
+    one: &Sample,
 ) -> io::Result<()>
     requires { register.now ≡ J.register }
 {
@@ -192,7 +194,7 @@ fn read_fails<J: Archive, R: Wait + Print>(
     alloc: Global,
     buffers: &Vec<Locked<J>>,
     register: &Register,
-    one: &Vec<u8>,
+    one: &Sample,
 ) -> io::Result<()>
     requires { register.now ≡ J.register }
 {
@@ -201,7 +203,7 @@ fn read_fails<J: Archive, R: Wait + Print>(
     get(rt, alloc, buffers, register, (0, 0), one)
 }
 
-/// In the last cycle no further one can begin; some texts are none for a buffer of eight blocks.
+/// In the last cycle no further one can begin; one article is too big for a buffer of eight blocks.
 pub(crate) fn worn<J: Archive, R: Wait + Print>(
     rt: &R,
     alloc: Global,
@@ -209,14 +211,12 @@ pub(crate) fn worn<J: Archive, R: Wait + Print>(
 ) -> io::Result<()>
     requires { register.now ≡ J.register }
 {
-    let most = text(alloc, 3840)?;
-    let big = text(alloc, 3841)?;
-    let none = text(alloc, 0)?;
+    let most = sample(alloc, 3840)?;
+    let big = sample(alloc, 3841)?;
     let buffers = one_buffer::<J>(alloc, u32::MAX, 0)?;
     put(rt, &buffers, register, "last cycle", &most)?;
     put(rt, &buffers, register, "beyond it", &most)?;
-    put(rt, &buffers, register, "too big", &big)?;
-    put(rt, &buffers, register, "no octets", &none)
+    put(rt, &buffers, register, "too big", &big)
 }
 
 /// A second writer begins a write and leaves it open.
@@ -227,7 +227,7 @@ pub(crate) fn second_writer<J: Archive, R: Wait + Print>(
 ) -> io::Result<()>
     requires { register.now ≡ J.register }
 {
-    let one = text(alloc, 960)?;
+    let one = sample(alloc, 960)?;
     let buffers = one_buffer::<J>(alloc, 0, 0)?;
     if let Some(buffer) = buffers.first() {
         let _open = buffer.lock(rt).begin(1, 960, false);
