@@ -1,6 +1,17 @@
-//! What a session's thread is given (docs/PROTOCOL.md, Threads).
+//! A session of a peer in a thread: it is served over a connection, and what is written is what its
+//! machine says to the bytes read, by the moments and the answers that it had (docs/PROTOCOL.md,
+//! Threads).
 #![tactic(auto)]
 
+mod pushing;
+mod serve;
 mod shares;
+mod sharing;
+mod talk;
+mod turn;
+mod wire;
 
+pub use serve::{Served, serve_session};
 pub use shares::{Clock, Gate, Shares};
+pub use talk::Hall;
+pub use wire::Finish;

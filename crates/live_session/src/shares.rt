@@ -79,6 +79,9 @@ pub trait Gate<R> {
     /// Before a command of a session, counted from 0: whether it may go on. It may wait.
     fn enter(&self, rt: &R, session: u64, command: u64) -> bool;
 
+    /// Whether each reply is written before the next command is let in, so that `leave` tells it.
+    fn is_one_by_one(&self) -> bool;
+
     /// After the command's reply was written.
     fn leave(&self, rt: &R, session: u64, command: u64);
 }

@@ -81,6 +81,26 @@ DueIs todos.Release read session d =
     × (d ≡ due_as (asks.Releases id) (with_offers (session_view session) later))
 DueIs todos.End read session d = d ≡ due_as asks.Ends (session_view session)
 
+-- nothing is due
+abbrev pub rests : Todo → Bool
+rests todos.Rest = true
+rests (todos.Owe id) = false
+rests (todos.Say octets) = false
+rests (todos.Leave octets) = false
+rests (todos.Check id room) = false
+rests (todos.Ihave id copy room) = false
+rests (todos.Look part id room) = false
+rests (todos.Fetch reading) = false
+rests todos.ReadOn = false
+rests (todos.Queue room) = false
+rests (todos.Refuse room) = false
+rests (todos.Take copy article room) = false
+rests (todos.TakeHeld copy) = false
+rests todos.Push = false
+rests todos.Slot = false
+rests todos.Release = false
+rests todos.End = false
+
 -- what is planned is of the session's phase
 abbrev pub FitsPhase : Todo → Phase → Type 0
 FitsPhase todos.Rest phase = HasReadNone phase

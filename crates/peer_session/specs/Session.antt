@@ -124,6 +124,26 @@ leaves phases.Ended = false
 abbrev pub has_parted : Session → Bool
 has_parted session = leaves session.phase
 
+-- it reads a command next
+abbrev pub reads_command : Phase → Bool
+reads_command phases.Ready = true
+reads_command (phases.Owes transfer id) = false
+reads_command (phases.Holds id article room) = false
+reads_command (phases.Waits transfer id room) = false
+reads_command (phases.Fetches reading) = false
+reads_command phases.Leaving = false
+reads_command phases.Ended = false
+
+-- it holds an accepted article while another session stores one of its id
+abbrev pub holds_article : Phase → Bool
+holds_article phases.Ready = false
+holds_article (phases.Owes transfer id) = false
+holds_article (phases.Holds id article room) = true
+holds_article (phases.Waits transfer id room) = false
+holds_article (phases.Fetches reading) = false
+holds_article phases.Leaving = false
+holds_article phases.Ended = false
+
 -- nothing has come to the session, and nothing is open
 abbrev pub NewStands : Terms → Session → ℕ → Type 0
 NewStands w session peer = Stands w session (new_session peer) []

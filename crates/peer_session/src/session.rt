@@ -9,10 +9,11 @@ ghost use Rattle.relay_model.specs.State.{in_phase};
 ghost use Rattle.relay_model.specs.Terms.{last_moment};
 ghost use Rattle.peer_session.specs.Asking.{OwesBlock};
 ghost use Rattle.peer_session.specs.Hearing.{Forgets, HeardIs, Heeds};
-ghost use Rattle.peer_session.specs.Planning.{DueGiven, HandsOver, Plans};
+ghost use Rattle.peer_session.specs.Planning.{DueGiven, HandsOver, Plans, rests};
 ghost use Rattle.peer_session.specs.Said.{IsReply};
 ghost use Rattle.peer_session.specs.Session.{BrokenOff, Fed, IsBounded, IsIdle, NewStands};
-ghost use Rattle.peer_session.specs.Session.{StandsAsBefore, has_parted, passed, session_view};
+ghost use Rattle.peer_session.specs.Session.{StandsAsBefore, has_parted, holds_article, passed};
+ghost use Rattle.peer_session.specs.Session.{reads_command, session_view};
 ghost use Rattle.peer_session.specs.declared.steps.Answer.TheVariants as answers;
 
 use crate::fetches::reading_due;
@@ -95,6 +96,36 @@ impl Session {
     {
         match &self.phase {
             Phase::Leaving => true,
+            _ => false,
+        }
+    }
+
+    /// Whether it reads a command next.
+    pub fn is_at_command(&self) -> bool
+        ensures { result ≡ reads_command self.now.phase }
+    {
+        match &self.phase {
+            Phase::Ready => true,
+            _ => false,
+        }
+    }
+
+    /// Whether it holds an accepted article while another session stores one of its id.
+    pub fn is_holding(&self) -> bool
+        ensures { result ≡ holds_article self.now.phase }
+    {
+        match &self.phase {
+            Phase::Holds(_, _, _) => true,
+            _ => false,
+        }
+    }
+
+    /// Whether the plan is that nothing is due.
+    pub fn is_resting(&self) -> bool
+        ensures { result ≡ rests self.now.planned.todo }
+    {
+        match &self.planned.todo {
+            Todo::Rest => true,
             _ => false,
         }
     }

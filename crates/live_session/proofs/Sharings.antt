@@ -1,0 +1,329 @@
+-- The step that a session planned is done, by each of its kinds.
+use Rattle.std.proofs.Common.{◌≡◌, ◌≢◌, ◌≤◌, ℕ, ◌+◌, ◌-◌, ◌*◌, ◌++◌, Bool, true, false, List, []}
+use Rattle.std.proofs.Common.{◌∷◌, Option, None, Some, refl, sym, ap, subst, ◌∙◌, length, map, take}
+use Rattle.std.proofs.Common.{slice_index_or, slice_set, inl, inr}
+use Rattle.std.proofs.Math.Logic.{∥∥₁_map}
+use Rattle.std.proofs.lemmas.List.{map-append}
+use Rattle.std.proofs.lemmas.Option.{none-some}
+use Rattle.std.specs.Option.{IsSomeAnd}
+use Rattle.std.specs.Prelude.{IfSome, option_map}
+use Rattle.article_fetch.specs.declared.chunk.Chunk.{Chunk}
+use Rattle.article_fetch.specs.declared.chunk.Chunk.TheVariants as chunks
+use Rattle.boxcar.specs.Table.{Shelves, Where}
+use Rattle.buffer_group.specs.declared.job.Job.{Job}
+use Rattle.cyc_buffer.specs.declared.answers.Found.{Found}
+use Rattle.cyc_buffer.specs.declared.answers.Found.TheVariants as found
+use Rattle.cyc_token.specs.Token.{token_view}
+use Rattle.cyc_token.specs.declared.Token as codes
+use Rattle.feed_queue.specs.declared.desk.Taken.{Taken}
+use Rattle.id_history.specs.Answers.{offer_view, take_view}
+use Rattle.id_history.specs.declared.claims.Offer.{Offer}
+use Rattle.id_history.specs.declared.claims.Take.{Take}
+use Rattle.live_fates.specs.declared.fate.KeptJob.{KeptJob}
+use Rattle.live_seats.specs.Seats.{count_of, end_of, handed_by}
+use Rattle.live_session.specs.Course.{Hands, HandsAfter, with_job, with_kept}
+use Rattle.live_session.specs.Going.{AskFits, IsFrontOf, IsReadOf, KeepsButReads, ReadOf, ReadsFor}
+use Rattle.live_session.specs.Going.{Shared, SharesFor, chunk_view, hands_of, numbers_of}
+use Rattle.live_session.specs.declared.talk.Talk.{Talk}
+use Rattle.live_store.specs.Steps.{IsChunkOf, IsFoundIn}
+use Rattle.live_store.specs.Tied.{text_in}
+use Rattle.live_store.specs.declared.record.Archive.{Ghosts}
+use Rattle.live_store.specs.declared.record.Record.{Record}
+use Rattle.news_terms.specs.BlockImage.{chunk_size}
+use Rattle.news_terms.specs.Token.{Token}
+use Rattle.nntp_text.specs.Reply.{item_view}
+use Rattle.peer_session.specs.Answers.{IsAnswerTo, SharesNone, handed}
+use Rattle.peer_session.specs.Planning.{HandsOver, Planned}
+use Rattle.peer_session.specs.declared.steps.Outcome.TheVariants as outcomes
+use Rattle.peer_session.specs.declared.session.Session.{Session}
+use Rattle.peer_session.specs.declared.steps.Answer.{Answer}
+use Rattle.peer_session.specs.declared.steps.Answer.TheVariants as answers
+use Rattle.peer_session.specs.declared.steps.Step.{Step}
+use Rattle.peer_session.specs.declared.steps.Step.TheVariants as steps
+use Rattle.relay_model.specs.Asks as asks
+use Rattle.relay_model.specs.Asks.{Ask, Due}
+use Rattle.relay_model.specs.Fetches as fetches
+use Rattle.relay_model.specs.Shares as shares
+use Rattle.relay_model.specs.State as model
+use Rattle.relay_model.specs.Terms.{Terms}
+use Rattle.relay_model.specs.World as world
+
+-- the job, or this one
+abbrev job_or : Option Job → Job → Job
+job_or None other = other
+job_or (Some one) other = one
+
+-- the text of a record, if there is one
+abbrev text_or : Option (Where Record) → List ℕ
+text_or None = []
+text_or (Some one) = text_in one
+
+-- hands that are equal part by part
+hands_are : (one other : Hands) → one.jobs ≡ other.jobs → one.count ≡ other.count
+    → one.kept ≡ other.kept → one ≡ other
+hands_are one other jobs count kept =
+    ap (λ j. record { jobs = j; count = one.count; kept = one.kept }) jobs
+    ∙ ap (λ c. record { jobs = other.jobs; count = c; kept = one.kept }) count
+    ∙ ap (λ k. record { jobs = other.jobs; count = other.count; kept = k }) kept
+
+-- nothing is asked of what is shared, and nothing is answered
+none_answered : (ask : Ask) (gathered : List ℕ) → SharesNone ask
+    → IsAnswerTo ask gathered answers.Nothing shares.Nothing
+none_answered asks.Rests gathered is = refl
+none_answered asks.GoesOn gathered is = refl
+none_answered (asks.Says reply) gathered is = refl
+none_answered (asks.Leaves reply) gathered is = refl
+none_answered asks.Ends gathered is = refl
+none_answered (asks.Offers transfer id) gathered is = absurd is
+none_answered (asks.Looks part id) gathered is = absurd is
+none_answered (asks.Reads asked token had) gathered is = absurd is
+none_answered (asks.TakesQueue feed most) gathered is = absurd is
+none_answered (asks.Refuses transfer id) gathered is = absurd is
+none_answered (asks.Takes transfer id article) gathered is = absurd is
+none_answered (asks.Pushes job) gathered is = absurd is
+none_answered (asks.LooksInSlot transfer id) gathered is = absurd is
+none_answered (asks.Releases id) gathered is = absurd is
+
+none_handed : (end : ℕ) (ask : Ask) (hands : Hands) → SharesNone ask
+    → HandsAfter end ask shares.Nothing hands hands
+none_handed end asks.Rests hands is = refl
+none_handed end asks.GoesOn hands is = refl
+none_handed end (asks.Says reply) hands is = refl
+none_handed end (asks.Leaves reply) hands is = refl
+none_handed end asks.Ends hands is = refl
+none_handed end (asks.Offers transfer id) hands is = absurd is
+none_handed end (asks.Looks part id) hands is = absurd is
+none_handed end (asks.Reads asked token had) hands is = absurd is
+none_handed end (asks.TakesQueue feed most) hands is = absurd is
+none_handed end (asks.Refuses transfer id) hands is = absurd is
+none_handed end (asks.Takes transfer id article) hands is = absurd is
+none_handed end (asks.Pushes job) hands is = absurd is
+none_handed end (asks.LooksInSlot transfer id) hands is = absurd is
+none_handed end (asks.Releases id) hands is = absurd is
+
+module _ {J : Type 0} {g : Ghosts J} (w : Terms) (talk : Talk J g) where
+  -- what was asked is answered so
+  pub answered : (new : Talk J g) (answer : Answer) (told : shares.Answer) (m : model.Session)
+      (d : Due) (gathered : List ℕ) (ask : Ask) → d.ask ≡ ask
+      → IsAnswerTo ask gathered answer told → IsReadOf new.reads.shown told
+      → HandsAfter (end_of talk.seat) ask told (hands_of talk) (hands_of new)
+      → Planned w new.session m d gathered (handed answer)
+      → ∥ Shared w m d gathered talk answer new ∥₁
+  answered new answer told m d gathered ask asked is read hands planned = ∣ record {
+    told = told;
+    answers = subst (λ a. IsAnswerTo a gathered answer told) (sym asked) is;
+    read = read;
+    hands = subst (λ a. HandsAfter (end_of talk.seat) a told (hands_of talk) (hands_of new))
+        (sym asked) hands;
+    planned = planned;
+  } ∣₁
+
+  pub no_memory : (step : Step) (new : Talk J g) → SharesFor w step talk answers.Memory new
+  no_memory step new m d gathered planned is fits some = absurd (some refl)
+
+  pub nothing : SharesFor w steps.Nothing talk answers.Nothing talk
+  nothing m d gathered planned is fits some = ∣ record {
+    told = shares.Nothing;
+    answers = none_answered d.ask gathered is;
+    read = tt;
+    hands = none_handed (end_of talk.seat) d.ask (hands_of talk) is;
+    planned = planned;
+  } ∣₁
+
+  pub offered : (id : List ℕ) (offer : Offer)
+      → SharesFor w (steps.Offer id) talk (answers.Offer offer) talk
+  offered id offer m d gathered planned is fits some =
+      answered talk (answers.Offer offer) (shares.ToOffer (offer_view offer)) m d gathered
+      (asks.Offers is.0 id) is.1 (offer, refl, refl) tt refl planned
+
+  pub looked : (id : List ℕ) (token : Option codes.Token)
+      → SharesFor w (steps.Look id) talk (answers.Look token) talk
+  looked id token m d gathered planned is fits some =
+      answered talk (answers.Look token) (shares.ToLook (option_map token_view token)) m d gathered
+      (asks.Looks is.0 id) is.1 (token, refl, refl) tt refl planned
+
+  pub queued : (feed most : ℕ) (taken : Taken) → length taken.items.items ≤ most
+      → SharesFor w (steps.TakeQueue feed most) talk (answers.Queue taken) talk
+  queued feed most taken few m d gathered planned is fits some =
+      answered talk (answers.Queue taken)
+      (shares.ToTakeQueue taken.missed (map item_view taken.items.items)) m d gathered
+      (asks.TakesQueue feed most) is (taken, refl, few, refl) tt refl planned
+
+  pub refused : (id : List ℕ) → SharesFor w (steps.Refuse id) talk answers.Nothing talk
+  refused id m d gathered planned is fits some =
+      answered talk answers.Nothing shares.Nothing m d gathered (asks.Refuses is.0 id) is.1 refl tt
+      refl planned
+
+  pub taken_up : (id : List ℕ) (take : Take)
+      → SharesFor w (steps.Take id) talk (answers.Take take) talk
+  taken_up id take m d gathered planned is fits some =
+      answered talk (answers.Take take) (shares.ToTake (take_view take)) m d gathered
+      (asks.Takes is.0 id is.1) is.2 (take, refl, refl) tt refl planned
+
+  pub released : (id : List ℕ) → SharesFor w (steps.Release id) talk answers.Nothing talk
+  released id m d gathered planned is fits some =
+      answered talk answers.Nothing shares.Nothing m d gathered (asks.Releases id) is refl tt refl
+      planned
+
+  pub was_read : (token : codes.Token) (k : ℕ) (chunk : Chunk) (new : Talk J g)
+      → KeepsButReads talk new
+      → ReadsFor (token_view token) k talk.reads.shown chunk new.reads.shown
+      → SharesFor w (steps.Read token k) talk (answers.Chunk chunk) new
+  was_read token k chunk new keeps reads m d gathered planned is fits some =
+      let ask = asks.Reads is.0 (token_view token) k in
+      ∥∥₁_map (reads is.0 gathered
+      (subst (λ a. AskFits talk.reads.shown a gathered) is.1 fits))
+      (λ one. record {
+        told = shares.ToRead one.found;
+        answers = subst (λ a. IsAnswerTo a gathered (answers.Chunk chunk)
+            (shares.ToRead one.found)) (sym is.1)
+            (chunk, one.found, refl, refl, one.is_found);
+        read = one.read;
+        hands = subst (λ a. HandsAfter (end_of talk.seat) a (shares.ToRead one.found)
+            (hands_of talk) (hands_of new)) (sym is.1) keeps.hands;
+        planned = subst (λ s. Planned w s m d gathered false) (sym keeps.session) planned;
+      })
+
+  -- a job is pushed by one who hands it over
+  pub pushed : (group : ℕ) (job : Job) (new : Talk J g)
+      → HandsOver talk.session (Some job) new.session
+      → handed_by new.seat
+      ≡ slice_set (handed_by talk.seat) group (slice_index_or (handed_by talk.seat) group []
+      ++ record { end = end_of talk.seat; number = count_of talk.seat; job = job } ∷ [])
+      → count_of new.seat ≡ count_of talk.seat + 1
+      → numbers_of new.kept.items ≡ numbers_of talk.kept.items
+      → SharesFor w (steps.Push group) talk (answers.Pushed true) new
+  pushed group job new over jobs count kept m d gathered planned is fits some =
+      let gives = over w m d gathered is.0 planned is.1 in
+      let same : job ≡ gives.one = ap (λ o. job_or o job) gives.result_is in
+      let here : group ≡ gives.one.article.group =
+      sym is.2 ∙ sym (ap (λ (j : model.Job). j.article.group) gives.job_is) in
+      answered new (answers.Pushed true) (shares.ToPush true) m d gathered (asks.Pushes is.0) is.1
+      (true, refl, refl) tt (
+        gives.one,
+        gives.job_is,
+        hands_are (hands_of new) (with_job (end_of talk.seat) gives.one (hands_of talk))
+            (subst (λ at. handed_by new.seat ≡ slice_set (handed_by talk.seat) at
+            (slice_index_or (handed_by talk.seat) at []
+            ++ record {
+              end = end_of talk.seat;
+              number = count_of talk.seat;
+              job = gives.one;
+            } ∷ []))
+            here
+            (subst (λ one. handed_by new.seat ≡ slice_set (handed_by talk.seat) group
+            (slice_index_or (handed_by talk.seat) group []
+            ++ record { end = end_of talk.seat; number = count_of talk.seat; job = one } ∷ []))
+            same jobs))
+            count kept,
+      )
+      gives.planned
+
+  -- no job is in the hand of a session that planned no push
+  pub none_in_hand : (group : ℕ) (new : Talk J g) → HandsOver talk.session None new.session
+      → SharesFor w (steps.Push group) talk (answers.Pushed false) new
+  none_in_hand group new over m d gathered planned is fits some =
+      let gives = over w m d gathered is.0 planned is.1 in
+      absurd (none-some gives.one gives.result_is)
+
+  -- the job stays in the session's hand
+  pub not_pushed : (group : ℕ) → SharesFor w (steps.Push group) talk (answers.Pushed false) talk
+  not_pushed group m d gathered planned is fits some =
+      answered talk (answers.Pushed false) (shares.ToPush false) m d gathered (asks.Pushes is.0)
+      is.1 (false, refl, refl) tt refl planned
+
+  -- nothing is in the slot
+  pub slot_empty : SharesFor w steps.Slot talk (answers.Slot None) talk
+  slot_empty m d gathered planned is fits some =
+      answered talk (answers.Slot None) (shares.InSlot None) m d gathered
+      (asks.LooksInSlot is.0 is.1) is.2 (None, refl, refl) tt refl planned
+
+  -- the job failed
+  pub slot_failed : (new : Talk J g) → new.session ≡ talk.session → hands_of new ≡ hands_of talk
+      → SharesFor w steps.Slot talk (answers.Slot (Some outcomes.Failed)) new
+  slot_failed new session hands m d gathered planned is fits some =
+      answered new (answers.Slot (Some outcomes.Failed)) (shares.InSlot (Some world.HasFailed)) m d
+      gathered (asks.LooksInSlot is.0 is.1) is.2 (Some outcomes.Failed, refl, refl) tt hands
+      (subst (λ s. Planned w s m d gathered false) (sym session) planned)
+
+  -- the job is kept, and its receipt joins the others
+  pub slot_kept : (new : Talk J g) (one : KeptJob J g) → new.session ≡ talk.session
+      → handed_by new.seat ≡ handed_by talk.seat → count_of new.seat ≡ count_of talk.seat
+      → new.kept.items ≡ talk.kept.items ++ one ∷ [] → one.number ≡ count_of talk.seat - 1
+      → SharesFor w steps.Slot talk (answers.Slot (Some outcomes.Kept)) new
+  slot_kept new one session jobs count kept number m d gathered planned is fits some =
+      answered new (answers.Slot (Some outcomes.Kept)) (shares.InSlot (Some world.IsKept)) m d
+      gathered (asks.LooksInSlot is.0 is.1) is.2 (Some outcomes.Kept, refl, refl) tt
+      (hands_are (hands_of new) (with_kept (hands_of talk)) jobs count
+      (ap (λ l. numbers_of l) kept ∙ map-append (λ (k : KeptJob J g). k.number) talk.kept.items
+      (one ∷ []) ∙ ap (λ n. numbers_of talk.kept.items ++ n ∷ []) number))
+      (subst (λ s. Planned w s m d gathered false) (sym session) planned)
+
+-- what was found of a block is of the record of the reads, whichever they were before
+module _ (token : Token) (k : ℕ) (old new : Option (Where Record)) where
+  chunk_found : (register : Shelves) (octets : List ℕ) → IfSome old (λ w. new ≡ Some w)
+      → IsSomeAnd new (IsChunkOf register token k octets)
+      → ReadsFor token k old (chunks.Found octets) new
+  chunk_found register octets stays is asked gathered front = by new refl is
+    where
+      by : (now : Option (Where Record)) → new ≡ now
+          → IsSomeAnd now (IsChunkOf register token k octets)
+          → ∥ ReadOf asked token k gathered (chunks.Found octets) new ∥₁
+      by None at none = absurd none
+      by (Some one) at here =
+          ∥∥₁_map one.value.is_article (λ article. record {
+            found = fetches.Article (text_in one);
+            is_found = (
+              text_in one,
+              refl,
+              record {
+                article = article.0;
+                is_article = article.1;
+                whole = here.length;
+                front = front_of one at;
+                next = here.chunk;
+              },
+            );
+            read = subst (λ o. IsSomeAnd o (λ w. text_in one ≡ text_in w)) (sym at) refl;
+          })
+        where
+          front_of : (one : Where Record) → new ≡ Some one
+              → gathered ≡ take (chunk_size * k) (text_in one)
+          front_of one at = front_in old stays front
+            where
+              front_in : (o : Option (Where Record)) → IfSome o (λ w. new ≡ Some w)
+                  → IsFrontOf o k gathered → gathered ≡ take (chunk_size * k) (text_in one)
+              front_in o stays (inl none) =
+                  none.1 ∙ subst (λ n. [] ≡ take (chunk_size * n) (text_in one)) (sym none.0) refl
+              front_in None stays (inr some) = absurd some
+              front_in (Some w) stays (inr some) =
+                  some ∙ ap (λ o. take (chunk_size * k) (text_or o)) (sym stays ∙ at)
+
+  pub block_found : (register : Shelves) (slice : List ℕ) (what : Found)
+      → IfSome old (λ w. new ≡ Some w) → IsFoundIn register token k slice new what
+      → ReadsFor token k old (chunk_view what slice) new
+  block_found register slice (found.Chunk n) stays is asked gathered fits =
+      chunk_found register (take n slice) stays is asked gathered fits
+  block_found register slice (found.Gone front) stays is asked gathered fits =
+      ∣ record { found = fetches.Gone; is_found = refl; read = tt } ∣₁
+  block_found register slice found.Unknown stays is asked gathered fits =
+      ∣ record { found = fetches.NotKnown; is_found = refl; read = tt } ∣₁
+
+  pub block_failed : ReadsFor token k old chunks.Device new
+  block_failed asked gathered fits =
+      ∣ record { found = fetches.NotRead; is_found = refl; read = tt } ∣₁
+
+  -- the reads began anew before
+  pub block_begun : (mid : Option (Where Record)) (chunk : Chunk)
+      → ((gathered : List ℕ) → IsFrontOf old k gathered → IsFrontOf mid k gathered)
+      → ReadsFor token k mid chunk new → ReadsFor token k old chunk new
+  block_begun mid chunk begins reads asked gathered front =
+      reads asked gathered (begins gathered front)
+
+-- a fetch that has had no Turn has gathered nothing
+pub front_none : (shown : Option (Where Record)) (k : ℕ) (gathered : List ℕ) → k ≡ 0
+    → IsFrontOf shown k gathered → IsFrontOf None k gathered
+front_none shown k gathered first (inl none) = inl none
+front_none None k gathered first (inr some) = absurd some
+front_none (Some one) k gathered first (inr some) =
+    inl (first, some ∙ ap (λ n. take (chunk_size * n) (text_in one)) first)

@@ -1,0 +1,16 @@
+use Rattle.std.proofs.Common.{◌≡◌, true}
+use Rattle.article_verdict.specs.Config.{terms_of}
+use Rattle.live_seats.specs.Seats.{IsSeatOf, end_of}
+use Rattle.live_session.specs.Carried.{ServesOn, carried}
+use Rattle.live_session.proofs.serve.converse.Given as goal
+
+abbrev pub invariant-loop : goal.invariant-loop
+invariant-loop g l = record {
+  seat : IsSeatOf l.hall.lanes.now l.talk.seat;
+  end_is : end_of l.talk.seat ≡ end_of l.fn.talk.seat;
+  served : g.J.Archive.trusted ≡ true → ServesOn (terms_of l.hall.config.now) l.fn.talk l.talk
+      (carried (g.H.Hears.heard l.fn.wire.reader) (g.W.Says.said l.fn.wire.writer)
+      l.fn.wire.outbox l.fn.wire.finish)
+      (carried (g.H.Hears.heard l.wire.reader) (g.W.Says.said l.wire.writer)
+      l.wire.outbox l.wire.finish);
+}

@@ -1,0 +1,133 @@
+-- What a session of an end does, by the moments and the answers that it had: what it says to what
+-- came to it, and which jobs its end hands over (docs/PROTOCOL.md, Sessions, Threads).
+use Rattle.std.specs.Prelude.{◌≡◌, ◌≤◌, ℕ, ◌+◌, ◌-◌, ◌++◌, Bool, true, false, List, [], ◌∷◌}
+use Rattle.std.specs.Prelude.{Option, None, Some, slice_set, slice_index_or}
+use Rattle.buffer_group.specs.Jobs.{job_view}
+use Rattle.buffer_group.specs.declared.job.Job.{Job}
+use Rattle.job_queue.specs.declared.parcel.Handed.{Handed}
+use Rattle.news_terms.specs.Reply.{Greeting, reply_text}
+use Rattle.relay_model.specs.Asks.{Ask, Due, IsDue, Pushes, LooksInSlot}
+use Rattle.relay_model.specs.Hears.{Heard, Hears}
+use Rattle.relay_model.specs.Run.{is_reading, new_session}
+use Rattle.relay_model.specs.Shares.{Answer, ToPush, InSlot}
+use Rattle.relay_model.specs.State as model
+use Rattle.relay_model.specs.State.{Session, Leaving, in_phase, with_unread}
+use Rattle.relay_model.specs.Terms.{Terms, last_moment}
+use Rattle.relay_model.specs.World.{IsKept, Said, Silent, Speaks, Parts}
+
+-- What an end has handed over: of each group the jobs, in their order; how many to all groups; and
+-- the numbers of those that were answered kept (239, 235), in the order of the answers.
+pub record Hands : Type 0 where
+  pub jobs : List (List Handed)
+  pub count : ℕ
+  pub kept : List ℕ
+
+-- a session on its way: what it is, the octets that came to it, those that it said, those of its
+-- last reply once it has said that, and what its end has handed over
+pub record Point : Type 0 where
+  pub session : Session
+  pub heard : List ℕ
+  pub said : List ℕ
+  pub parted : Option (List ℕ)
+  pub hands : Hands
+
+-- a turn: its moment, what was due, the answer to what was asked, and what the session made of it
+pub record Turn : Type 0 where
+  pub now : ℕ
+  pub due : Due
+  pub told : Answer
+  pub heard : Heard
+
+-- the octets of what is said
+abbrev pub octets_of : Said → List ℕ
+octets_of Silent = []
+octets_of (Speaks reply) = reply_text reply
+octets_of (Parts reply) = reply_text reply
+
+-- the octets of the last reply, once it is said
+abbrev pub parted_by : Option (List ℕ) → Said → Option (List ℕ)
+parted_by parted Silent = parted
+parted_by parted (Speaks reply) = parted
+parted_by parted (Parts reply) = Some (reply_text reply)
+
+-- one job more is handed over, to its group
+abbrev pub with_job : (end : ℕ) → Job → Hands → Hands
+with_job end job hands =
+    record hands {
+      jobs = slice_set hands.jobs job.article.group
+          (slice_index_or hands.jobs job.article.group []
+          ++ record { end = end; number = hands.count; job = job } ∷ []);
+      count = hands.count + 1;
+    }
+
+-- the job that was handed over last is answered kept
+abbrev pub with_kept : Hands → Hands
+with_kept hands = record hands { kept = hands.kept ++ (hands.count - 1) ∷ [] }
+
+-- a job that found room is handed over
+abbrev pub HandsPushed : (end : ℕ) → model.Job → Answer → (old new : Hands) → Type 0
+HandsPushed end job (ToPush true) old new =
+    (one : Job) × (job_view one ≡ job) × (new ≡ with_job end one old)
+HandsPushed end job other old new = new ≡ old
+
+-- a job that is told kept is answered so
+abbrev pub HandsTold : Answer → (old new : Hands) → Type 0
+HandsTold (InSlot (Some IsKept)) old new = new ≡ with_kept old
+HandsTold other old new = new ≡ old
+
+-- what an end has handed over after this was asked and answered
+abbrev pub HandsAfter : (end : ℕ) → Ask → Answer → (old new : Hands) → Type 0
+HandsAfter end (Pushes job) told old new = HandsPushed end job told old new
+HandsAfter end (LooksInSlot transfer id) told old new = HandsTold told old new
+HandsAfter end other told old new = new ≡ old
+
+-- a session that has just been opened has said the greeting
+abbrev pub greeted : (peer : ℕ) → Hands → Point
+greeted peer hands =
+    record {
+      session = new_session peer;
+      heard = [];
+      said = reply_text Greeting;
+      parted = None;
+      hands = hands;
+    }
+
+-- a piece has come
+abbrev pub with_piece : List ℕ → Point → Point
+with_piece piece p =
+    record p {
+      session = with_unread p.session (p.session.unread ++ piece);
+      heard = p.heard ++ piece;
+    }
+
+-- the connection is gone
+abbrev pub broken_off : Point → Point
+broken_off p = record p { session = in_phase p.session Leaving }
+
+-- the turn is one of session s: this was due at its moment, and the session made that of the answer
+pub record IsTurnOf (w : Terms) (s : ℕ) (p : Point) (turn : Turn) : Type 0 where
+  pub moment : turn.now ≤ last_moment
+  pub due : IsDue w p.session turn.now turn.due
+  pub hears : Hears s turn.due.after turn.due.ask turn.told turn.heard
+
+-- a turn was had, and the end has handed over this
+abbrev pub after_turn : Point → Turn → Hands → Point
+after_turn p turn hands =
+    record p {
+      session = turn.heard.session;
+      said = p.said ++ octets_of turn.heard.said;
+      parted = parted_by p.parted turn.heard.said;
+      hands = hands;
+    }
+
+-- How session s of this end comes from one point to another: pieces come and the connection may
+-- break while it reads, and it has turns.
+pub data Course (w : Terms) (s end : ℕ) (first : Point) : Point → Type 0 where
+  Begins : Course w s end first first
+  Comes : (p : Point) (piece : List ℕ) → Course w s end first p
+      → is_reading p.session.phase ≡ true → Course w s end first (with_piece piece p)
+  Goes : (p : Point) (turn : Turn) (hands : Hands) → Course w s end first p
+      → IsTurnOf w s p turn → HandsAfter end turn.due.ask turn.told p.hands hands
+      → Course w s end first (after_turn p turn hands)
+  Breaks : (p : Point) → Course w s end first p → is_reading p.session.phase ≡ true
+      → Course w s end first (broken_off p)

@@ -1,0 +1,313 @@
+//! A session is served over a connection.
+ghost use Rattle.std.specs.Prelude.{◌≡◌, [], true, IfOk};
+ghost use Rattle.article_verdict.specs.Config.{terms_of};
+ghost use Rattle.live_seats.specs.Seats.{IsSeatOf, end_of};
+ghost use Rattle.live_session.specs.Carried.{Begins, Carried, CarriesSame, IsServed, ServesOn};
+ghost use Rattle.live_session.specs.Carried.{carried};
+ghost use Rattle.relay_model.specs.Terms.{Terms};
+ghost use Rattle.live_session.specs.Going.{hands_at};
+
+use crate::shares::{Clock, Gate, Shares};
+use crate::talk::{Hall, Talk, Turned};
+use crate::turn::turn;
+use crate::wire::{Finish, Wire, flush, put, stop};
+use live_fates::KeptJob;
+use live_seats::SessionSeat;
+use live_store::{Archive, OneRecord};
+use live_wire::{Hears, Says};
+use nntp_text::{Reply, reply_bytes};
+use peer_session::Session;
+use relay_conf::Config;
+use std::alloc::{AllocError, Global};
+use std::hash::RandomState;
+use std::io::ErrorKind;
+use std::sync::Wait;
+
+/// Turns of a session, at most.
+const TURNS: u64 = 1 << 40;
+
+/// Turns of a session that leaves, at most. It needs no more than one for each open offer and two
+/// more, but one that is refused memory tries again.
+const LEAVING_TURNS: u64 = 1 << 20;
+
+/// Octets that are read at once, at most.
+const PIECE: usize = 65_536;
+
+/// Octets of replies that wait, at most, before they are written.
+const WAITING: usize = 65_536;
+
+/// What is left of a session that was served: its end's seat, the jobs of it that were answered
+/// kept, how it ended, and the two sides of its connection.
+#[derive(Drop)]
+pub struct Served<J: Archive, H: Hears, W: Says> {
+    pub seat: SessionSeat,
+    pub kept: Vec<KeptJob<J>>,
+    pub finish: Finish,
+    pub reader: H,
+    pub writer: W,
+}
+
+/// Serves session `number` of a peer over a connection, from the greeting until it is closed. What
+/// was written is what its machine says to the bytes read; where the connection broke, a front of
+/// that. A session whose connection breaks, that is held or has had 2^40 turns leaves, as the other
+/// ones do: its job is handed over, and its open offers end.
+pub fn serve_session<S: Shares<J, R>, C: Clock, G: Gate<R>, J: Archive, H: Hears, W: Says, R: Wait>(
+    rt: &R,
+    alloc: Global,
+    hasher: RandomState,
+    hall: &Hall<S, C, G>,
+    seat: SessionSeat,
+    kept: Vec<KeptJob<J>>,
+    number: u64,
+    peer: usize,
+    reader: H,
+    writer: W,
+) -> Served<J, H, W>
+    requires register { hall.now.register.now ≡ J.register }
+    requires seat { IsSeatOf hall.now.lanes.now seat }
+    ensures seat { IsSeatOf hall.now.lanes.now result.seat }
+    ensures end { end_of result.seat ≡ end_of seat }
+    ensures served { J.trusted ≡ true → ∥ IsServed (terms_of hall.now.config.now) number
+        (end_of seat) peer (hands_at seat kept.items) (H.heard reader) (W.said writer)
+        result.finish (hands_at result.seat result.kept.items) (H.heard result.reader)
+        (W.said result.writer) ∥₁ }
+{
+    let opened = match open(alloc, hasher, hall.config, peer) {
+        Ok(opened) => opened,
+        Err(_) => {
+            return Served {
+                seat,
+                kept,
+                finish: Finish::Broken,
+                reader,
+                writer,
+            };
+        }
+    };
+    let mut talk = Talk {
+        number,
+        session: opened.session,
+        reads: OneRecord::new(),
+        seat,
+        kept,
+    };
+    let mut wire = Wire {
+        reader,
+        writer,
+        outbox: opened.greeting,
+        piece: opened.piece,
+        finish: None,
+    };
+    converse(rt, alloc, hall, &mut talk, &mut wire);
+    break_off(&mut talk);
+    leave(rt, alloc, hall, &mut talk, &mut wire);
+    flush(&mut wire);
+    stop(&mut wire, Finish::TurnsSpent);
+    Served {
+        seat: talk.seat,
+        kept: talk.kept,
+        finish: wire.finish.unwrap_or(Finish::Broken),
+        reader: wire.reader,
+        writer: wire.writer,
+    }
+}
+
+/// What a session begins with: its machine, its greeting and the room for what is read.
+#[derive(Drop)]
+struct Opened {
+    session: Session,
+    greeting: Vec<u8>,
+    piece: Vec<u8>,
+}
+
+/// A session of a peer to which nothing has come.
+fn open(
+    alloc: Global,
+    hasher: RandomState,
+    config: &Config,
+    peer: usize,
+) -> Result<Opened, AllocError>
+    ensures { IfOk result (λ opened. Begins (terms_of config.now) peer opened.session
+        opened.greeting.items) }
+{
+    let session = Session::open(alloc, hasher, config, peer)?;
+    let greeting = reply_bytes(alloc, &Reply::Greeting)?;
+    let mut piece = Vec::new(alloc);
+    piece.resize(PIECE, 0)?;
+    Ok(Opened {
+        session,
+        greeting,
+        piece,
+    })
+}
+
+/// Turns, reads and writes, until the connection has ended or the session has had all its turns.
+fn converse<S: Shares<J, R>, C: Clock, G: Gate<R>, J: Archive, H: Hears, W: Says, R: Wait>(
+    rt: &R,
+    alloc: Global,
+    hall: &Hall<S, C, G>,
+    talk: &mut Talk<J>,
+    wire: &mut Wire<H, W>,
+)
+    requires register { hall.now.register.now ≡ J.register }
+    requires seat { IsSeatOf hall.now.lanes.now talk.old.seat }
+    ensures seat { IsSeatOf hall.now.lanes.now talk.new.seat }
+    ensures end { end_of talk.new.seat ≡ end_of talk.old.seat }
+    ensures served { J.trusted ≡ true → ServesOn (terms_of hall.now.config.now) talk.old talk.new
+        (carried (H.heard wire.old.reader) (W.said wire.old.writer) wire.old.outbox wire.old.finish)
+        (carried (H.heard wire.new.reader) (W.said wire.new.writer)
+        wire.new.outbox wire.new.finish) }
+{
+    let mut commands = 0;
+    for _ in 0..TURNS {
+        if wire.finish.is_some() {
+            break;
+        }
+        round(rt, alloc, hall, talk, wire, &mut commands);
+    }
+}
+
+/// One turn with its reply; where none is due, what waits is written, and the session reads.
+fn round<S: Shares<J, R>, C: Clock, G: Gate<R>, J: Archive, H: Hears, W: Says, R: Wait>(
+    rt: &R,
+    alloc: Global,
+    hall: &Hall<S, C, G>,
+    talk: &mut Talk<J>,
+    wire: &mut Wire<H, W>,
+    commands: &mut u64,
+)
+    requires register { hall.now.register.now ≡ J.register }
+    requires seat { IsSeatOf hall.now.lanes.now talk.old.seat }
+    ensures seat { IsSeatOf hall.now.lanes.now talk.new.seat }
+    ensures end { end_of talk.new.seat ≡ end_of talk.old.seat }
+    ensures served { J.trusted ≡ true → ServesOn (terms_of hall.now.config.now) talk.old talk.new
+        (carried (H.heard wire.old.reader) (W.said wire.old.writer) wire.old.outbox wire.old.finish)
+        (carried (H.heard wire.new.reader) (W.said wire.new.writer)
+        wire.new.outbox wire.new.finish) }
+{
+    match turn(rt, alloc, hall, talk, commands) {
+        Turned::Says(said) => {
+            put(wire, said, talk.session.has_parted());
+            write_on(rt, hall, talk.number, wire, *commands);
+        }
+        Turned::Rests => {
+            flush(wire);
+            receive(talk, wire);
+        }
+        Turned::Held => stop(wire, Finish::Held),
+        Turned::Memory => stop(wire, Finish::Broken),
+    }
+}
+
+/// Writes what waits where that is much, or where the gate lets commands in one by one; that is
+/// told of the newest command then.
+fn write_on<S, C, G: Gate<R>, H: Hears, W: Says, R>(
+    rt: &R,
+    hall: &Hall<S, C, G>,
+    number: u64,
+    wire: &mut Wire<H, W>,
+    commands: u64,
+)
+    ensures { CarriesSame
+        (carried (H.heard wire.old.reader) (W.said wire.old.writer) wire.old.outbox wire.old.finish)
+        (carried (H.heard wire.new.reader) (W.said wire.new.writer)
+        wire.new.outbox wire.new.finish) }
+{
+    if hall.gate.is_one_by_one() {
+        if !wire.outbox.is_empty() {
+            flush(wire);
+            hall.gate.leave(rt, number, commands.wrapping_sub(1));
+        }
+        return;
+    }
+    if wire.outbox.len() >= WAITING {
+        flush(wire);
+    }
+}
+
+/// Reads once, where the session reads. The connection is broken where the input has ended or
+/// fails, or there is no memory for what came.
+fn receive<J: Archive, H: Hears, W: Says>(talk: &mut Talk<J>, wire: &mut Wire<H, W>)
+    ensures seat { talk.new.seat ≡ talk.old.seat }
+    ensures served { (w : Terms) → ServesOn w talk.old talk.new
+        (carried (H.heard wire.old.reader) (W.said wire.old.writer) wire.old.outbox wire.old.finish)
+        (carried (H.heard wire.new.reader) (W.said wire.new.writer)
+        wire.new.outbox wire.new.finish) }
+{
+    if wire.finish.is_some() || !talk.session.is_reading() {
+        return;
+    }
+    match wire.reader.hear(&mut wire.piece) {
+        Ok(0) => wire.finish = Some(Finish::Broken),
+        Ok(n) => match talk.session.feed(&wire.piece[..n]) {
+            Ok(()) => {}
+            Err(_) => wire.finish = Some(Finish::Broken),
+        },
+        Err(error) => {
+            if error.kind() != ErrorKind::Interrupted {
+                wire.finish = Some(Finish::Broken);
+            }
+        }
+    }
+}
+
+/// Turns of a session that leaves, until it is closed: its job is handed over and its open offers
+/// end. What it still says is to be written.
+fn leave<S: Shares<J, R>, C: Clock, G: Gate<R>, J: Archive, H: Hears, W: Says, R: Wait>(
+    rt: &R,
+    alloc: Global,
+    hall: &Hall<S, C, G>,
+    talk: &mut Talk<J>,
+    wire: &mut Wire<H, W>,
+)
+    requires register { hall.now.register.now ≡ J.register }
+    requires seat { IsSeatOf hall.now.lanes.now talk.old.seat }
+    ensures seat { IsSeatOf hall.now.lanes.now talk.new.seat }
+    ensures end { end_of talk.new.seat ≡ end_of talk.old.seat }
+    ensures served { J.trusted ≡ true → ServesOn (terms_of hall.now.config.now) talk.old talk.new
+        (carried (H.heard wire.old.reader) (W.said wire.old.writer) wire.old.outbox wire.old.finish)
+        (carried (H.heard wire.new.reader) (W.said wire.new.writer)
+        wire.new.outbox wire.new.finish) }
+{
+    for _ in 0..LEAVING_TURNS {
+        if !talk.session.is_running() {
+            break;
+        }
+        last_turn(rt, alloc, hall, talk, wire);
+    }
+}
+
+/// One turn of a session that leaves.
+fn last_turn<S: Shares<J, R>, C: Clock, G: Gate<R>, J: Archive, H: Hears, W: Says, R: Wait>(
+    rt: &R,
+    alloc: Global,
+    hall: &Hall<S, C, G>,
+    talk: &mut Talk<J>,
+    wire: &mut Wire<H, W>,
+)
+    requires register { hall.now.register.now ≡ J.register }
+    requires seat { IsSeatOf hall.now.lanes.now talk.old.seat }
+    ensures seat { IsSeatOf hall.now.lanes.now talk.new.seat }
+    ensures end { end_of talk.new.seat ≡ end_of talk.old.seat }
+    ensures served { J.trusted ≡ true → ServesOn (terms_of hall.now.config.now) talk.old talk.new
+        (carried (H.heard wire.old.reader) (W.said wire.old.writer) wire.old.outbox wire.old.finish)
+        (carried (H.heard wire.new.reader) (W.said wire.new.writer)
+        wire.new.outbox wire.new.finish) }
+{
+    match turn(rt, alloc, hall, talk, &mut 0) {
+        Turned::Says(said) => put(wire, said, talk.session.has_parted()),
+        Turned::Rests => {}
+        Turned::Held => {}
+        Turned::Memory => {}
+    }
+}
+
+/// A session that still reads breaks off.
+fn break_off<J: Archive>(talk: &mut Talk<J>)
+    ensures seat { talk.new.seat ≡ talk.old.seat }
+    ensures gone { (w : Terms) (c : Carried) → ServesOn w talk.old talk.new c c }
+{
+    if talk.session.is_reading() {
+        talk.session.break_off();
+    }
+}

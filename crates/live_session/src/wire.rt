@@ -1,0 +1,136 @@
+//! A connection, as its session's thread has it.
+ghost use Rattle.std.specs.Prelude.{◌≡◌, [], true, false, is_some};
+ghost use Rattle.live_session.specs.Carried.{CarriesOn, CarriesSame, carried, finish_of};
+ghost use Rattle.live_session.specs.Carried.{is_break, part_finish};
+ghost use Rattle.live_session.specs.Carried as words;
+
+use live_wire::{Hears, Says, say_all};
+
+/// How a session ended.
+#[derive(Clone, Copy, Debug, PartialEq, Eq)]
+pub enum Finish {
+    /// After QUIT (RFC 3977 section 5.4).
+    Quit,
+    /// The input ended, a read or a write failed, or memory was refused.
+    Broken,
+    /// After the reply 400, or that to a line that is too long.
+    Fault,
+    /// After 2^40 turns.
+    TurnsSpent,
+    /// The gate let no further command in.
+    Held,
+}
+
+/// A connection: the replies that are to be written, the room for what is read, and how it ended,
+/// once it has.
+#[derive(Drop)]
+pub(crate) struct Wire<H: Hears, W: Says> {
+    pub(crate) reader: H,
+    pub(crate) writer: W,
+    pub(crate) outbox: Vec<u8>,
+    pub(crate) piece: Vec<u8>,
+    pub(crate) finish: Option<Finish>,
+}
+
+/// Whether the connection is broken.
+pub(crate) fn is_broken(finish: &Option<Finish>) -> bool
+    ensures { result ≡ words.is_broken finish.now }
+{
+    matches!(finish, Some(Finish::Broken))
+}
+
+/// Writes what waits.
+pub(crate) fn flush<H: Hears, W: Says>(wire: &mut Wire<H, W>)
+    ensures same { CarriesSame
+        (carried (H.heard wire.old.reader) (W.said wire.old.writer) wire.old.outbox wire.old.finish)
+        (carried (H.heard wire.new.reader) (W.said wire.new.writer)
+        wire.new.outbox wire.new.finish) }
+    ensures none { wire.new.outbox.items ≡ [] }
+{
+    if is_broken(&wire.finish) {
+        wire.outbox.clear();
+        return;
+    }
+    match say_all(&mut wire.writer, &wire.outbox) {
+        Ok(()) => wire.outbox.clear(),
+        Err(_) => {
+            wire.outbox.clear();
+            wire.finish = Some(Finish::Broken);
+        }
+    }
+}
+
+/// What a session said is to be written. Where it leaves, that was its last reply.
+pub(crate) fn put<H: Hears, W: Says>(wire: &mut Wire<H, W>, said: Vec<u8>, leaves: bool)
+    ensures { CarriesOn
+        (carried (H.heard wire.old.reader) (W.said wire.old.writer) wire.old.outbox wire.old.finish)
+        (carried (H.heard wire.new.reader) (W.said wire.new.writer) wire.new.outbox wire.new.finish)
+        [] said.items leaves }
+{
+    if said.is_empty() {
+        return;
+    }
+    if leaves {
+        wire.finish = parted(wire.finish, &said);
+        append(wire, said);
+        return;
+    }
+    append(wire, said);
+}
+
+/// How the connection ends once the last reply is said.
+fn parted(finish: Option<Finish>, said: &[u8]) -> Option<Finish>
+    ensures { result ≡ part_finish finish said.now }
+{
+    match finish {
+        None | Some(Finish::Quit) | Some(Finish::Fault) => Some(finish_by(said)),
+        other => other,
+    }
+}
+
+/// How a session ends by its last reply.
+fn finish_by(said: &[u8]) -> Finish
+    ensures { result ≡ finish_of said.now }
+{
+    if said.starts_with(b"205") {
+        Finish::Quit
+    } else {
+        Finish::Fault
+    }
+}
+
+/// The octets join what is to be written. Where there is no memory for that, what was there before
+/// is written first.
+fn append<H: Hears, W: Says>(wire: &mut Wire<H, W>, said: Vec<u8>)
+    ensures { CarriesOn
+        (carried (H.heard wire.old.reader) (W.said wire.old.writer) wire.old.outbox wire.old.finish)
+        (carried (H.heard wire.new.reader) (W.said wire.new.writer) wire.new.outbox wire.new.finish)
+        [] said.items false }
+{
+    if wire.outbox.is_empty() {
+        wire.outbox = said;
+        return;
+    }
+    match wire.outbox.extend_from_slice(&said) {
+        Ok(()) => {}
+        Err(_) => {
+            flush(wire);
+            wire.outbox = said;
+        }
+    }
+}
+
+/// The connection ends so, if it hasn't ended before.
+pub(crate) fn stop<H: Hears, W: Says>(wire: &mut Wire<H, W>, finish: Finish)
+    requires { is_break finish ≡ true }
+    ensures same { CarriesSame
+        (carried (H.heard wire.old.reader) (W.said wire.old.writer) wire.old.outbox wire.old.finish)
+        (carried (H.heard wire.new.reader) (W.said wire.new.writer)
+        wire.new.outbox wire.new.finish) }
+    ensures ended { is_some wire.new.finish ≡ true }
+    ensures waiting { wire.new.outbox ≡ wire.old.outbox }
+{
+    if wire.finish.is_none() {
+        wire.finish = Some(finish);
+    }
+}
