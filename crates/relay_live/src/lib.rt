@@ -8,13 +8,19 @@
 
 mod claims;
 mod drawing;
+mod end;
 mod holding;
 mod keeper;
+mod lending;
 mod making;
+mod running;
 mod shared;
 mod sharing;
 mod slot;
 
+pub use end::End;
 pub use keeper::Keeper;
+pub use lending::Lends;
+pub use running::{LiveError, Ran, serve_all};
 pub use shared::Shared;
 pub use slot::{Answer, Slot};
