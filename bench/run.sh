@@ -1,6 +1,6 @@
 #!/usr/bin/env bash
 # Builds the benchmarks and runs one of them: bench/run.sh relay for the whole relay, bench/run.sh relay count for its
-# instructions (by valgrind), or cutting, articles, paths, patterns, settings, buffers, desks or sessions for its parts.
+# instructions (by valgrind), or cutting, articles, paths, patterns or settings for the crates of texts and settings.
 set -euo pipefail
 cd "$(dirname "${BASH_SOURCE[0]}")"
 word="${1:-cutting}"

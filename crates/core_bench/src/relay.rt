@@ -1,14 +1,11 @@
 //! A relay that serves loads, one after the other.
-ghost use Rattle.std.specs.Prelude.{◌≡◌, ◌<◌, All, length, map, IfOk};
+ghost use Rattle.std.specs.Prelude.{◌≡◌, length, map, IfOk};
 
 use crate::events::{add, body, openings, piece};
 use crate::loads::{Ids, Load};
 use cyc_block::{BlockStore, MemoryBlocks};
 use line_words::Octets;
-use relay_conf::{
-    Buffers, ConfError, Config, K1_RELAY, K1_STORAGE, Method, read_cycbuff, read_relay,
-    read_storage,
-};
+use relay_conf::{Buffers, Config, read_cycbuff};
 use relay_core::{CoreError, Event, Output, System};
 use std::alloc::{AllocError, Global};
 use std::io;
@@ -131,7 +128,7 @@ fn replies(outputs: &[Output], code: &[u8]) -> u64 {
 
 /// A relay over blocks in memory.
 fn relay(rt: &HostRuntime, alloc: Global) -> io::Result<System<MemoryBlocks>> {
-    let Ok(config) = config(alloc) else {
+    let Some(config) = config(alloc) else {
         return Err(io::Error::from(ErrorKind::InvalidData));
     };
     let stores = stores_of(alloc, &config.buffers)?;
@@ -151,18 +148,18 @@ fn stores_of(alloc: Global, settings: &Buffers) -> Result<Vec<MemoryBlocks>, All
     Ok(stores)
 }
 
-/// K1, but for its buffers.
-fn config(alloc: Global) -> Result<Config, ConfError> {
-    let buffers = read_cycbuff(alloc, CYCBUFF)?;
-    let methods = read_methods(alloc, &buffers)?;
-    let relay = read_relay(alloc, K1_RELAY)?;
-    Ok(Config::new(buffers, methods, relay))
-}
-
-/// The entries of K1's storage.conf over these groups.
-fn read_methods(alloc: Global, buffers: &Buffers) -> Result<Vec<Method>, ConfError>
-    ensures { IfOk result (λ methods.
-        All (λ method. method.group < length buffers.now.groups.items) methods.items) }
-{
-    read_storage(alloc, K1_STORAGE, buffers)
+/// K1, but for its buffers. `None` where memory is refused.
+fn config(alloc: Global) -> Option<Config> {
+    let (Ok(ring), Ok(k1)) = (read_cycbuff(alloc, CYCBUFF), Config::k1(alloc)) else {
+        return None;
+    };
+    let Config {
+        buffers,
+        methods,
+        relay,
+    } = k1;
+    if ring.groups.len() != buffers.groups.len() {
+        return None;
+    }
+    Some(Config::new(ring, methods, relay))
 }

@@ -1,11 +1,7 @@
-//! Benchmarks: how fast the crates of texts, settings, store and sessions are. They promise nothing
-//! and are no tests; with no words the program does nothing.
+//! Benchmarks: how fast the crates of texts and settings are. They promise nothing and are no tests;
+//! with no words the program does nothing.
 #![tactic(auto)]
 
-mod buffers;
-mod desks;
-mod player;
-mod shelves;
 mod work;
 
 use std::process::ExitCode;

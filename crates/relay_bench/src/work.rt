@@ -1,6 +1,4 @@
 //! What is done with a text, and how long it takes.
-use crate::buffers::since;
-use crate::{buffers, desks, player, shelves};
 use article_parse::Article;
 use path_rules::{identities, loops, updated};
 use relay_conf::{read_cycbuff, read_relay, read_storage};
@@ -44,32 +42,6 @@ pub enum Work {
     Storage,
     /// or as relay.conf.
     Relay,
-    /// It is written to a buffer, an article for every 64 blocks,
-    Write,
-    /// read from one,
-    Read,
-    /// written to the one buffer of a shelf,
-    WriteShelf,
-    /// read from that,
-    ReadShelf,
-    /// or copied, a block at a time.
-    Copy,
-    /// A command line is read, so often; this and the next five ask for no text.
-    Command,
-    /// A reply is written.
-    Reply,
-    /// A message-id that is unknown is offered to a shard.
-    Offer,
-    /// A message-id that a shard has is offered once more.
-    OfferAgain,
-    /// An article is settled, and a feed with a ring of 65,536 gains its token.
-    Post,
-    /// A token is taken of that ring, a thousand in one call.
-    Take,
-    /// It is a script of sessions, whose offers are answered that the id is known,
-    Known,
-    /// or that it is wanted.
-    Wanted,
 }
 
 /// Work, and the number that it needs, if it does.
@@ -80,8 +52,7 @@ pub struct Job {
 }
 
 /// The words that name work. Any other names the first.
-static WORDS: [(&str, Work); 25] = [
-    ("copy", Work::Copy),
+static WORDS: [(&str, Work); 12] = [
     ("lines", Work::Lines),
     ("blocks", Work::Blocks),
     ("parse", Work::Parse),
@@ -94,25 +65,13 @@ static WORDS: [(&str, Work); 25] = [
     ("cycbuff", Work::Cycbuff),
     ("storage", Work::Storage),
     ("relay", Work::Relay),
-    ("write", Work::Write),
-    ("read", Work::Read),
-    ("write_shelf", Work::WriteShelf),
-    ("read_shelf", Work::ReadShelf),
-    ("command", Work::Command),
-    ("reply", Work::Reply),
-    ("offer", Work::Offer),
-    ("offer_again", Work::OfferAgain),
-    ("post", Work::Post),
-    ("take", Work::Take),
-    ("known", Work::Known),
-    ("wanted", Work::Wanted),
 ];
 
 /// The work of this name.
 pub fn named(name: &str) -> Work {
     match WORDS.iter().find(|row| row.0 == name) {
         Some(row) => row.1,
-        None => Work::Copy,
+        None => Work::Lines,
     }
 }
 
@@ -123,13 +82,13 @@ pub fn seconds(rt: &HostRuntime, job: Job, text: &[u8]) -> io::Result<f64> {
             of_article(rt, job.work, text)
         }
         Work::Judge => judging(rt, text, job.number),
-        Work::Write | Work::Read | Work::Copy => buffers::seconds(rt, job.work, text),
-        Work::WriteShelf | Work::ReadShelf => shelves::seconds(rt, job.work, text),
-        Work::Known | Work::Wanted => player::seconds(rt, job.work, text),
-        Work::Command | Work::Reply | Work::Offer | Work::OfferAgain | Work::Post | Work::Take =>
-            desks::seconds(rt, job),
         _ => whole(rt, job, text),
     }
+}
+
+/// The seconds that went by since a moment.
+fn since(rt: &HostRuntime, start: Instant) -> io::Result<f64> {
+    Ok(start.elapsed(rt)?.as_secs_f64())
 }
 
 /// The seconds that work on the whole text takes.

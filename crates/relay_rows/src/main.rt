@@ -16,15 +16,13 @@ mod streams;
 mod words;
 
 use manner::{Manner, manner_of};
-use relay_drill::read_all;
 use row::Row;
 use std::io;
-use std::io::{ErrorKind, Write};
+use std::io::{Read, Write};
 
 fn main(rt: HostRuntime) -> io::Result<()> {
-    let Ok(text) = read_all(rt.alloc(), &mut rt.reader()) else {
-        return Err(io::Error::from(ErrorKind::InvalidInput));
-    };
+    let mut text = Vec::new(rt.alloc());
+    rt.reader().read_to_end(&mut text)?;
     let mut row = Row::new(rt.alloc(), Manner::Once, b"");
     for line in text.as_slice().split(|octet| *octet == b'\n') {
         match manner_of(line) {
