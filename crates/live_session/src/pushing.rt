@@ -13,8 +13,9 @@ use live_store::Archive;
 use peer_session::{Answer, Outcome};
 use std::sync::Wait;
 
-/// Jobs that an end hands over, at most.
-const MOST_JOBS: u64 = 1 << 62;
+/// Numbers of an end's jobs. Since a session begins with fewer than 2^62 and hands over at most one
+/// job a turn, it doesn't come to the last of them.
+const JOB_NUMBERS: u64 = 1 << 63;
 
 /// Hands the job in the session's hand over to its group. It waits until there is room.
 pub(crate) fn push<S, C, G, J: Archive, R: Wait>(
@@ -30,7 +31,7 @@ pub(crate) fn push<S, C, G, J: Archive, R: Wait>(
         talk.new }
     ensures memory { result ≡ answers.Memory → ⊥ }
 {
-    if group >= hall.lanes.len() || talk.seat.handed() >= MOST_JOBS {
+    if group >= hall.lanes.len() || talk.seat.handed() >= JOB_NUMBERS {
         return Answer::Pushed(false);
     }
     match talk.session.hand_over() {

@@ -1,11 +1,12 @@
 //! A session is served over a connection.
-ghost use Rattle.std.specs.Prelude.{◌≡◌, [], true, IfOk};
+ghost use Rattle.std.specs.Prelude.{◌≡◌, ◌≤◌, ◌^◌, [], true, IfOk};
 ghost use Rattle.article_verdict.specs.Config.{terms_of};
-ghost use Rattle.live_seats.specs.Seats.{IsSeatOf, end_of};
+ghost use Rattle.live_seats.specs.Seats.{IsSeatOf, count_of, end_of};
 ghost use Rattle.live_session.specs.Carried.{Begins, Carried, CarriesSame, IsServed, ServesOn};
 ghost use Rattle.live_session.specs.Carried.{carried};
-ghost use Rattle.relay_model.specs.Terms.{Terms};
 ghost use Rattle.live_session.specs.Going.{hands_at};
+ghost use Rattle.live_session.specs.declared.wire.Finish.TheVariants as finishes;
+ghost use Rattle.relay_model.specs.Terms.{Terms};
 
 use crate::shares::{Clock, Gate, Shares};
 use crate::talk::{Hall, Talk, Turned};
@@ -30,6 +31,9 @@ const TURNS: u64 = 1 << 40;
 /// more, but one that is refused memory tries again.
 const LEAVING_TURNS: u64 = 1 << 20;
 
+/// Jobs of an end: with so many or more, no connection of it is greeted.
+const MOST_JOBS: u64 = 1 << 62;
+
 /// Octets that are read at once, at most.
 const PIECE: usize = 65_536;
 
@@ -50,7 +54,8 @@ pub struct Served<J: Archive, H: Hears, W: Says> {
 /// Serves session `number` of a peer over a connection, from the greeting until it is closed. What
 /// was written is what its machine says to the bytes read; where the connection broke, a front of
 /// that. A session whose connection breaks, that is held or has had 2^40 turns leaves, as the other
-/// ones do: its job is handed over, and its open offers end.
+/// ones do: its job is handed over, and its open offers end. Where the end has handed over 2^62
+/// jobs or more, the connection is broken before its greeting (docs/PROTOCOL.md, Threads).
 pub fn serve_session<S: Shares<J, R>, C: Clock, G: Gate<R>, J: Archive, H: Hears, W: Says, R: Wait>(
     rt: &R,
     alloc: Global,
@@ -71,7 +76,18 @@ pub fn serve_session<S: Shares<J, R>, C: Clock, G: Gate<R>, J: Archive, H: Hears
         (end_of seat) peer (hands_at seat kept.items) (H.heard reader) (W.said writer)
         result.finish (hands_at result.seat result.kept.items) (H.heard result.reader)
         (W.said result.writer) ∥₁ }
+    ensures many { 2 ^ 62 ≤ count_of seat → (result.finish ≡ finishes.Broken)
+        × (H.heard result.reader ≡ H.heard reader) × (W.said result.writer ≡ W.said writer) }
 {
+    if seat.handed() >= MOST_JOBS {
+        return Served {
+            seat,
+            kept,
+            finish: Finish::Broken,
+            reader,
+            writer,
+        };
+    }
     let opened = match open(alloc, hasher, hall.config, peer) {
         Ok(opened) => opened,
         Err(_) => {
@@ -195,7 +211,10 @@ fn round<S: Shares<J, R>, C: Clock, G: Gate<R>, J: Archive, H: Hears, W: Says, R
             receive(talk, wire);
         }
         Turned::Held => stop(wire, Finish::Held),
-        Turned::Memory => stop(wire, Finish::Broken),
+        Turned::Memory => {
+            flush(wire);
+            stop(wire, Finish::Broken);
+        }
     }
 }
 

@@ -60,10 +60,19 @@ returns-in-Held-clause-served g c trusted =
 
 pub returns-in-Memory-clause-served : goal.returns-in-Memory-clause-served
 returns-in-Memory-clause-served g c trusted =
+    let w = terms_of c.args.hall.now.config.now in
+    let talk = c.args.talk.now in
+    let new = c.turn.new.talk in
     let wire = c.args.wire.now in
+    let flushed = c.flush-in-Memory.new.wire in
     let last = c.stop-in-Memory.new.wire in
-    served_still (terms_of c.args.hall.now.config.now) c.args.talk.now c.turn.new.talk
-    (c.in-Memory.ensures.went trusted)
-    (carried (g.H.Hears.heard wire.reader) (g.W.Says.said wire.writer) wire.outbox wire.finish)
-    (carried (g.H.Hears.heard last.reader) (g.W.Says.said last.writer) last.outbox last.finish)
+    let before = carried (g.H.Hears.heard wire.reader) (g.W.Says.said wire.writer) wire.outbox
+    wire.finish in
+    let between = carried (g.H.Hears.heard flushed.reader) (g.W.Says.said flushed.writer)
+    flushed.outbox flushed.finish in
+    let after = carried (g.H.Hears.heard last.reader) (g.W.Says.said last.writer) last.outbox
+    last.finish in
+    then_same w talk new before between after
+    (served_still w talk new (c.in-Memory.ensures.went trusted) before between
+    c.flush-in-Memory.ensures.same)
     c.stop-in-Memory.ensures.same
