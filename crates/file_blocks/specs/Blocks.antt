@@ -1,0 +1,17 @@
+-- The blocks of a file, by its octets (docs/FORMATS.md, Blocks on the device).
+use Rattle.std.specs.Prelude.{◌≡◌, ◌+◌, ℕ, zero, suc, List, [], ◌∷◌, take, drop}
+use Rattle.cyc_block.specs.declared.TheConstants.{BLOCK_OCTETS}
+
+-- the 512 octets at a place, fewer where the octets end before
+abbrev pub octets_at : List ℕ → (place : ℕ) → List ℕ
+octets_at octets place = take BLOCK_OCTETS (drop place octets)
+
+-- octets cut into so many blocks, one behind the other
+unfoldable pub blocks_of : ℕ → List ℕ → List (List ℕ)
+blocks_of zero octets = []
+blocks_of (suc n) octets = octets_at octets 0 ∷ blocks_of n (drop BLOCK_OCTETS octets)
+
+-- only the 512 octets at a place are others than before
+pub record ChangesOnlyAt (place : ℕ) (old new : List ℕ) : Type 0 where
+  pub before : take place new ≡ take place old
+  pub behind : drop (place + BLOCK_OCTETS) new ≡ drop (place + BLOCK_OCTETS) old

@@ -1,0 +1,18 @@
+-- What was asked of a file of the machine.
+use Rattle.std.specs.Prelude.{◌+◌, ℕ, List, [], ◌∷◌, Bool, true, false}
+use Rattle.file_blocks.specs.declared.host.HostFile.{HostFile}
+use Rattle.file_blocks.specs.declared.host.Identity.{Identity}
+
+-- the calls so far, the first of them first: the place of each, and whether it failed
+abbrev pub asked_of : HostFile → List (ℕ × Bool)
+asked_of file = file.asked.items
+
+-- which file it is
+abbrev pub identity_of : HostFile → Identity
+identity_of file = file.identity
+
+-- how many of the calls failed
+unfoldable pub failed_in : List (ℕ × Bool) → ℕ
+failed_in [] = 0
+failed_in ((place, true) ∷ calls) = failed_in calls + 1
+failed_in ((place, false) ∷ calls) = failed_in calls

@@ -1,0 +1,82 @@
+//! Blocks in a file.
+ghost use Rattle.std.specs.Prelude.{◌≡◌, ◌*◌, ◌↔◌, [], IfOk, IsTrue};
+ghost use Rattle.file_blocks.specs.Blocks.{blocks_of};
+ghost use Rattle.file_blocks.specs.Store.{count_of, file_of};
+ghost use Rattle.file_blocks.specs.Host.{asked_of, identity_of};
+
+use crate::host::{HostFile, Unusable};
+use crate::octets::OctetFile;
+use cyc_block::{BLOCK_OCTETS, BlockStore, DeviceFailed};
+use std::fs::{File, Files};
+
+/// The first blocks of a file: block k has the 512 octets from 512 k on.
+#[derive(Drop)]
+pub struct FileBlocks<F = HostFile> {
+    file: F,
+    /// How many blocks there are.
+    count: u32,
+}
+
+impl<F: OctetFile> FileBlocks<F> {
+    /// The first n blocks of a file.
+    pub fn new(file: F, n: u32) -> FileBlocks<F>
+        ensures file { file_of result ≡ file }
+        ensures count { count_of result ≡ n }
+    {
+        FileBlocks { file, count: n }
+    }
+}
+
+impl FileBlocks<HostFile> {
+    /// The first n blocks of the file at a path. The file is made where it isn't there, and made
+    /// longer with zeros where it is shorter; octets that it has stay. The error says why it can't
+    /// be used, and then nothing is promised of the file.
+    pub fn open<R: Files<File = File>>(
+        rt: &R,
+        path: &str,
+        n: u32,
+    ) -> Result<FileBlocks<HostFile>, Unusable>
+        ensures count { IfOk result (λ store. count_of store ≡ n) }
+        ensures unasked { IfOk result (λ store. asked_of (file_of store) ≡ []) }
+    {
+        let size = u64::from(n) * BLOCK_OCTETS as u64;
+        Ok(FileBlocks::new(HostFile::open(rt, path, size)?, n))
+    }
+
+    /// Whether both are over one file, whatever its names: the same inode of the same device.
+    pub fn same_file(&self, other: &FileBlocks<HostFile>) -> bool
+        ensures { IsTrue result
+            ↔ (identity_of (file_of self.now) ≡ identity_of (file_of other.now)) }
+    {
+        self.file.identity() == other.file.identity()
+    }
+}
+
+impl<F: OctetFile> BlockStore for FileBlocks<F> {
+    ghost blocks = { λ store. blocks_of store.count (F.held store.file) };
+
+    ghost calls = { λ store. F.calls store.file };
+
+    ghost failures = { λ store. F.failures store.file };
+
+    ghost honest = { λ store. F.honest store.file };
+
+    fn count(&self) -> u32 {
+        self.count
+    }
+
+    fn read(&mut self, k: u32, octets: &mut [u8; BLOCK_OCTETS]) -> Result<(), DeviceFailed> {
+        self.file.read(place_of(k), octets)
+    }
+
+    fn write(&mut self, k: u32, octets: &[u8; BLOCK_OCTETS]) -> Result<(), DeviceFailed> {
+        self.file.write(place_of(k), octets)
+    }
+}
+
+/// Where block k begins, in octets from the front of the file.
+fn place_of(k: u32) -> u64
+    ensures { result ≡ k * BLOCK_OCTETS }
+{
+    u64::from(k) * BLOCK_OCTETS as u64
+}

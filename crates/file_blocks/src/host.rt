@@ -1,0 +1,169 @@
+//! Files of the machine.
+ghost use Rattle.std.specs.Prelude.{◌≡◌, ◌+◌, ◌++◌, ◌∷◌, [], true, false, length, is_err};
+ghost use Rattle.std.specs.Prelude.{◌↔◌, IfErr, IfOk, IsOk, OnErr, OnOk};
+ghost use Rattle.std.specs.Fs.{file_type, IsFile};
+ghost use Rattle.file_blocks.specs.declared.host.Unusable.TheVariants as unusable;
+ghost use Rattle.file_blocks.specs.Host.{asked_of, failed_in, identity_of};
+
+use crate::octets::OctetFile;
+use cyc_block::{BLOCK_OCTETS, DeviceFailed};
+use http_server::Log;
+use std::fs::{File, Files, Metadata, OpenOptions};
+use std::os::unix::fs::{FileExt, MetadataExt};
+use std::{fs, io};
+
+/// Why a file can't be used, in the order of trial.
+#[derive(Debug, Drop)]
+pub enum Unusable {
+    /// What stands at the path is no regular file, such as a folder, a pipe or a device.
+    NotRegular,
+    /// The machine refused to find it, open it, make it longer, or read and write its last block.
+    Refused(io::Error),
+}
+
+impl From<io::Error> for Unusable {
+    fn from(error: io::Error) -> Unusable
+        ensures { result ≡ unusable.Refused error }
+    {
+        Unusable::Refused(error)
+    }
+}
+
+/// Which file it is, whatever its names: the number of its device, and that of its inode there.
+#[derive(Clone, Copy, Debug, PartialEq, Eq)]
+pub struct Identity {
+    device: u64,
+    inode: u64,
+}
+
+/// A regular file of the machine, open to be read and written.
+#[derive(Drop)]
+pub struct HostFile {
+    file: File,
+    identity: Identity,
+    /// The place of each call, and whether it failed.
+    asked: Log<u64, bool>,
+}
+
+impl HostFile {
+    /// Opens the file at a path. It is made where it isn't there, and has so many octets
+    /// afterwards, or more: it is made longer with zeros where it is shorter, and is left as it is
+    /// where it is longer. Nothing waits for another program, as the opening of a pipe would.
+    pub fn open<R: Files<File = File>>(rt: &R, path: &str, size: u64) -> Result<HostFile, Unusable>
+        ensures unasked { IfOk result (λ file. asked_of file ≡ []) }
+    {
+        look_before(rt, path)?;
+        let file = OpenOptions::new()
+            .read(true)
+            .write(true)
+            .create(true)
+            .open(rt, path)?;
+        // Another may have taken its place since.
+        let found = file.metadata()?;
+        take_regular(&found)?;
+        if found.len() < size {
+            file.set_len(size)?;
+        }
+        try_last_block(&file, size)?;
+        Ok(HostFile {
+            file,
+            identity: Identity {
+                device: found.dev(),
+                inode: found.ino(),
+            },
+            asked: Log::new(),
+        })
+    }
+
+    /// Which file it is.
+    pub fn identity(&self) -> Identity
+        ensures { result ≡ identity_of self.now }
+    {
+        self.identity
+    }
+
+    /// Notes the answer of a call at a place, and says whether it failed.
+    fn answer(&mut self, place: u64, answer: io::Result<()>) -> Result<(), DeviceFailed>
+        ensures answer { is_err result ≡ is_err answer }
+        ensures asked { asked_of self.new ≡ asked_of self.old ++ (place, is_err result) ∷ [] }
+        ensures failed { OnErr result (failed_in (asked_of self.new)
+            ≡ failed_in (asked_of self.old) + 1) }
+        ensures no_failure { OnOk result (failed_in (asked_of self.new)
+            ≡ failed_in (asked_of self.old)) }
+    {
+        self.asked = self.asked.and(&place, &answer.is_err());
+        match answer {
+            Ok(()) => Ok(()),
+            Err(_) => Err(DeviceFailed),
+        }
+    }
+}
+
+impl OctetFile for HostFile {
+    // Of a file of the machine nothing is promised, so contracts see no octet of it, and nothing
+    // says that it is honest.
+    ghost held = { λ file. [] };
+
+    ghost honest = { λ file. ⊥ };
+
+    ghost calls = { λ file. length (asked_of file) };
+
+    ghost failures = { λ file. failed_in (asked_of file) };
+
+    fn read(&mut self, place: u64, octets: &mut [u8; BLOCK_OCTETS]) -> Result<(), DeviceFailed>
+        // It is one call, at this place.
+        ensures asked { asked_of self.new ≡ asked_of self.old ++ (place, is_err result) ∷ [] }
+        ensures failed { OnErr result (failed_in (asked_of self.new)
+            ≡ failed_in (asked_of self.old) + 1) }
+        ensures no_failure { OnOk result (failed_in (asked_of self.new)
+            ≡ failed_in (asked_of self.old)) }
+    {
+        let answer = self.file.read_exact_at(octets, place);
+        self.answer(place, answer)
+    }
+
+    fn write(&mut self, place: u64, octets: &[u8; BLOCK_OCTETS]) -> Result<(), DeviceFailed>
+        // It is one call, at this place.
+        ensures asked { asked_of self.new ≡ asked_of self.old ++ (place, is_err result) ∷ [] }
+        ensures failed { OnErr result (failed_in (asked_of self.new)
+            ≡ failed_in (asked_of self.old) + 1) }
+        ensures no_failure { OnOk result (failed_in (asked_of self.new)
+            ≡ failed_in (asked_of self.old)) }
+    {
+        let answer = self.file.write_all_at(octets, place);
+        self.answer(place, answer)
+    }
+}
+
+/// Refuses what stands at the path and is no regular file. Where nothing stands there, the file is
+/// to be made.
+fn look_before(rt: &impl Files, path: &str) -> Result<(), Unusable> {
+    match fs::metadata(rt, path) {
+        Ok(found) => take_regular(&found),
+        Err(error) if error.kind() == io::ErrorKind::NotFound => Ok(()),
+        Err(error) => Err(error.into()),
+    }
+}
+
+/// Takes a regular file alone.
+fn take_regular(found: &Metadata) -> Result<(), Unusable>
+    ensures regular { IsOk result ↔ IsFile (file_type found.now) }
+    ensures named { IfErr result (λ error. error ≡ unusable.NotRegular) }
+{
+    if found.is_file() {
+        Ok(())
+    } else {
+        Err(Unusable::NotRegular)
+    }
+}
+
+/// Reads the last block of so many octets and writes it back as it is, so that a disk that is full
+/// is told before anything is served.
+fn try_last_block(file: &File, size: u64) -> io::Result<()> {
+    let Some(place) = size.checked_sub(BLOCK_OCTETS as u64) else {
+        return Ok(());
+    };
+    let mut octets = [0; BLOCK_OCTETS];
+    file.read_exact_at(&mut octets, place)?;
+    file.write_all_at(&octets, place)
+}

@@ -1,0 +1,13 @@
+//! Stores of blocks in files (docs/FORMATS.md, Blocks on the device).
+//!
+//! A store is a front of a file, block after block of 512 octets. It keeps what a store promises as
+//! far as its file is honest; of a file of the machine nothing says that it is.
+#![tactic(auto)]
+
+mod blocks;
+mod host;
+mod octets;
+
+pub use blocks::FileBlocks;
+pub use host::{HostFile, Identity, Unusable};
+pub use octets::OctetFile;
