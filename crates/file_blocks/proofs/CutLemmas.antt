@@ -1,6 +1,6 @@
 -- Blocks are what is read at their places; a change at the place of one is a change of it alone.
-use Rattle.std.proofs.Common.{◌≡◌, ◌≢◌, ◌∙◌, ◌+◌, ◌*◌, ◌<◌, ◌≤◌, ℕ, zero, suc, List, [], ◌∷◌, length}
-use Rattle.std.proofs.Common.{take, drop, get_or, set, refl, sym, ap, subst, arith}
+use Rattle.std.proofs.Common.{◌≡◌, ◌≢◌, ◌∙◌, ◌+◌, ◌*◌, ◌<◌, ◌≤◌, ℕ, zero, suc, List, [], ◌∷◌}
+use Rattle.std.proofs.Common.{length, take, drop, get_or, set, refl, sym, ap, subst, arith}
 use Rattle.std.proofs.lemmas.List.{drop-drop, take-take, drop-take, get_or-set_other}
 use Rattle.cyc_block.specs.declared.TheConstants.{BLOCK_OCTETS}
 use Rattle.file_blocks.specs.Blocks.{blocks_of, octets_at, ChangesOnlyAt}
