@@ -1,20 +1,22 @@
 -- What threads are started with.
 use Rattle.std.proofs.Common.{◌≡◌, ◌≢◌, ⊎_elim, ◌+◌, ◌<◌, ◌≤◌, arith, ℕ, Bool, false, List, []}
-use Rattle.std.proofs.Common.{◌∷◌, ◌++◌, length, Some, sym, ap, ◌∙◌, subst}
+use Rattle.std.proofs.Common.{◌∷◌, ◌++◌, length, map, refl, Some, sym, ap, ◌∙◌, subst}
 use Rattle.std.specs.Prelude.{slice_get, slice_set}
+use Rattle.std.proofs.lemmas.List.{map-append}
 use Rattle.crossbeam_queue.specs.Passes.{IsPassOf}
 use Rattle.job_queue.specs.Passes.{QueuePass}
-use Rattle.live_seats.specs.Gathered.{AllClosed}
+use Rattle.job_queue.specs.declared.parcel.Handed.{Handed}
+use Rattle.live_seats.specs.Gathered.{AllClosed, hands_of}
 use Rattle.live_seats.specs.Lanes.{queue_of}
 use Rattle.live_seats.specs.Rows.{From}
-use Rattle.live_seats.specs.Seats.{IsSeatOf, HasLeft, end_of, left_end}
-use Rattle.live_seats.specs.Started.{Ready, Runs, Serves, Ended, Left}
+use Rattle.live_seats.specs.Seats.{IsSeatOf, HasLeft, end_of, count_of, handed_by, left_end, left_by}
+use Rattle.live_seats.specs.Started.{Ready, Runs, Serves, Ended, Left, HasKept, AllKept}
 use Rattle.live_seats.specs.declared.lane.Lane.{Lane}
 use Rattle.live_seats.specs.declared.session.LeftSeat.{LeftSeat}
 use Rattle.live_seats.specs.declared.session.SessionSeat.{SessionSeat}
 use Rattle.live_seats.proofs.Passes.{get_set}
 use Rattle.live_seats.proofs.Rows.{get_snoc, each_snoc}
-use Rattle.live_seats.proofs.Writers.{within}
+use Rattle.live_seats.proofs.Writers.{within, length_map}
 
 -- a seat that comes back with its closure is the seat that went in
 pub same_seat : (lanes now : List Lane) (seat was : SessionSeat) (end : ℕ) → lanes ≡ now → seat ≡ was
@@ -87,3 +89,75 @@ ready_grown {X} f lent h lanes now lane ends xs ys x all long grown more is here
       here,
       flags,
     ))
+
+-- ---- what the ends that have left keep
+module _ {V : Type 0} (fits : V → (end count : ℕ) → List (List Handed) → Type 0) where
+  -- what came back with its closure is what went in
+  pub same_kept : (service was : V) (seat saw : SessionSeat) (end : ℕ) → service ≡ was → seat ≡ saw
+      → end ≡ end_of saw → fits was (end_of saw) (count_of saw) (handed_by saw)
+      → fits service end (count_of seat) (handed_by seat)
+  same_kept service was seat saw end v p e kept =
+      subst (λ (x : V × (ℕ × SessionSeat)). fits x.0 x.1.0 (count_of x.1.1) (handed_by x.1.1))
+      (λ i. (sym v i, (sym e i, sym p i))) kept
+
+  pub none_kept : (lefts : List LeftSeat) (services : List V) → length services ≡ 0
+      → AllKept fits (hands_of lefts) services
+  none_kept lefts [] none e jobs v left at = absurd (cc)
+  none_kept lefts (w ∷ vs) none e jobs v left at = absurd (omega arith)
+
+  pub kept_snoc : (lefts now : List LeftSeat) (left : LeftSeat) (services later : List V) (service : V)
+      → AllKept fits (hands_of lefts) services → length services ≡ length lefts
+      → now ≡ lefts ++ left ∷ [] → later ≡ services ++ service ∷ []
+      → HasKept fits service (length lefts) (left_by left)
+      → AllKept fits (hands_of now) later
+  kept_snoc lefts now left services later service all long more also last e jobs v hands at =
+      ⊎_elim
+      (λ (t : slice_get services e ≡ Some v).
+      ⊎_elim (λ (u : slice_get (hands_of lefts) e ≡ Some jobs). all e jobs v u t)
+      (λ (u : (e ≡ length (hands_of lefts)) × (left_by left ≡ jobs)).
+      let less = within services e v t in
+      let many = length_map left_by lefts in
+      let here = u.0 in
+      absurd (omega arith))
+      (get_snoc (hands_of lefts) (left_by left) e jobs handed))
+      (λ (t : (e ≡ length services) × (service ≡ v)).
+      ⊎_elim
+      (λ (u : slice_get (hands_of lefts) e ≡ Some jobs).
+      let less = within (hands_of lefts) e jobs u in
+      let many = length_map left_by lefts in
+      let here = t.0 in
+      absurd (omega arith))
+      (λ (u : (e ≡ length (hands_of lefts)) × (left_by left ≡ jobs)).
+      subst (λ (x : V × (ℕ × List (List Handed))). HasKept fits x.0 x.1.0 x.1.1)
+      (λ i. (t.1 i, (sym (t.0 ∙ long) i, u.1 i))) last)
+      (get_snoc (hands_of lefts) (left_by left) e jobs handed))
+      (get_snoc services service e v (ap (λ (l : List V). slice_get l e) (sym also) ∙ at))
+    where
+      handed : slice_get (hands_of lefts ++ left_by left ∷ []) e ≡ Some jobs
+      handed = ap (λ (l : List (List (List Handed))). slice_get l e)
+          (sym (ap hands_of more ∙ map-append left_by lefts (left ∷ []))) ∙ hands
+
+-- ---- what is served, in the order in which it was given
+module _ {P V : Type 0} (f : P → V) where
+  pub services_next : (ps now : List P) (p : P) (v : V) (all rest next : List V)
+      → map f ps ++ rest ≡ all → now ≡ ps ++ p ∷ [] → rest ≡ v ∷ next → f p ≡ v
+      → map f now ++ next ≡ all
+  services_next ps now p v all rest next so_far more is same =
+      ap (λ (l : List P). map f l ++ next) more
+      ∙ ap (λ (l : List V). l ++ next) (map-append f ps (p ∷ []))
+      ∙ front (map f ps)
+      ∙ ap (λ (l : List V). map f ps ++ l) (ap (λ (w : V). w ∷ next) same ∙ sym is)
+      ∙ so_far
+    where
+      front : (xs : List V) → (xs ++ f p ∷ []) ++ next ≡ xs ++ f p ∷ next
+      front [] = refl
+      front (x ∷ xs) = ap (λ (l : List V). x ∷ l) (front xs)
+
+  pub services_end : (ps : List P) (all rest : List V) → map f ps ++ rest ≡ all → rest ≡ []
+      → map f ps ≡ all
+  services_end ps all rest so_far none =
+      sym (last (map f ps)) ∙ ap (λ (l : List V). map f ps ++ l) (sym none) ∙ so_far
+    where
+      last : (xs : List V) → xs ++ [] ≡ xs
+      last [] = refl
+      last (x ∷ xs) = ap (λ (l : List V). x ∷ l) (last xs)

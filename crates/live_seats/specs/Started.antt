@@ -47,3 +47,16 @@ no_jobs lanes = map (λ (lane : Lane). []) lanes
 abbrev pub IsUnused : List Lane → (e : ℕ) → SessionSeat → Type 0
 IsUnused lanes e seat =
     Open lanes e seat × (count_of seat ≡ 0) × (handed_by seat ≡ no_jobs lanes)
+
+-- what is kept is of the jobs that the end e handed over, of each group these: one of what it may
+-- keep of so many jobs
+abbrev pub HasKept : {V : Type 0} → (V → (end count : ℕ) → List (List Handed) → Type 0) → V → (e : ℕ)
+    → List (List Handed) → Type 0
+HasKept fits service e jobs = (count : ℕ) × fits service e count jobs
+
+-- the same of each end, by what each handed over
+abbrev pub AllKept : {V : Type 0} → (V → (end count : ℕ) → List (List Handed) → Type 0)
+    → List (List (List Handed)) → List V → Type 0
+AllKept {V} fits hands services =
+    (e : ℕ) (jobs : List (List Handed)) (service : V) → slice_get hands e ≡ Some jobs
+    → slice_get services e ≡ Some service → HasKept fits service e jobs

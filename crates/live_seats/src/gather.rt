@@ -192,6 +192,7 @@ pub fn close<L: Ledger, O: Outcome, V, R: Wait>(
     ensures done { map (λ w. w.done.items) seats.new.writers.items
         ≡ map (λ w. w.done.items) seats.old.writers.items }
     ensures handed { hands_of seats.new.lefts.items ≡ hands_of seats.old.lefts.items }
+    ensures services { seats.new.services.items ≡ seats.old.services.items }
 {
     let (accepted, posted) = {
         let mut desk = desk.lock(rt);

@@ -22,7 +22,7 @@ pub use open::{Opened, open_all};
 pub use outcome::{Done, Outcome};
 pub use serve::{SeatsError, serve_seats};
 pub use session::{LeftSeat, SessionSeat, hang_up};
-pub use start::{Leaver, Plan, Service};
+pub use start::{Accounts, Leaver, Plan, Service};
 pub use writer::{Store, WriterSeat, run_writer};
 
 #[cfg(test)]

@@ -22,6 +22,7 @@ use std::sync::ledger::{Ledger, Share};
 fn new_plans<V: Drop>(alloc: Global, services: Vec<V>) -> Result<Vec<Plan<V>>, AllocError>
     ensures ends { IfOk result (λ plans. length plans.items ≡ length services.items) }
     ensures fresh { IfOk result (λ plans. From (λ e p. Fresh e p.seat) 0 plans.items) }
+    ensures services { IfOk result (λ plans. map (λ p. p.service) plans.items ≡ services.items) }
 {
     let mut plans = Vec::with_capacity(alloc, services.len())?;
     for service in services {
@@ -47,6 +48,8 @@ fn add_lane<V>(
     ensures rest { IfOk result (λ r. IsPassOf (queue_of r.0) r.2
         × IsRest (length plans.old.items) r.2) }
     ensures ends { IfOk result (λ r. length plans.new.items ≡ length plans.old.items) }
+    ensures services { IfOk result (λ r. map (λ p. p.service) plans.new.items
+        ≡ map (λ p. p.service) plans.old.items) }
     ensures fit { IfOk result (λ r. From (λ e p. IsUnused (lanes.now.items ++ r.0 ∷ []) e p.seat)
         0 plans.new.items) }
 {
@@ -109,6 +112,7 @@ pub fn open_all<L: Ledger, O: Outcome + Drop, V: Drop>(
     ensures rests { IfOk result (λ o. RestsFit o.lanes.items (length services.items) o.rests.items) }
     ensures ends { IfOk result (λ o. From (λ e p. IsUnused o.lanes.items e p.seat) 0
         o.plans.items) }
+    ensures services { IfOk result (λ o. map (λ p. p.service) o.plans.items ≡ services.items) }
     ensures writers { IfOk result (λ o. From (λ g w. Ready o.lanes.items (length services.items) g
         w.pass w.lent w.closed.items) 0 o.writers.items) }
 {

@@ -2,13 +2,15 @@
 ghost use Rattle.std.specs.Prelude.{◌≡◌, ◌+◌, ◌<◌, ◌≤◌, ℕ, true, false, Some, slice_get};
 ghost use Rattle.std.specs.Prelude.{length, vec_len, vec_capacity, IfOk};
 ghost use Rattle.live_seats.specs.Rows.{From};
-ghost use Rattle.live_seats.specs.Started.{Ready, Runs, Open, Serves, Ended, Left};
+ghost use Rattle.live_seats.specs.Gathered.{hands_of};
+ghost use Rattle.live_seats.specs.Seats.{count_of, handed_by};
+ghost use Rattle.live_seats.specs.Started.{Ready, Runs, Open, Serves, Ended, Left, AllKept};
 
 use crate::gather::Seats;
 use crate::lane::Lane;
 use crate::outcome::Outcome;
 use crate::session::{LeftSeat, SessionSeat, hang_up, push_marks};
-use crate::start::{EndDone, Leaver, Plan, Service, WriterDone, start_end, start_writer};
+use crate::start::{Accounts, EndDone, Leaver, Plan, Service, WriterDone, start_end, start_writer};
 use crate::writer::{Store, WriterSeat};
 use std::alloc::{AllocError, Global};
 use std::sync::Wait;
@@ -76,6 +78,8 @@ fn start_ends<'s, E, V: Service<R> + Drop + Send + 's, R: Threads + Wait + Sync>
     requires room { (length plans.items ≤ vec_capacity serving.old)
         × (length plans.items ≤ length leaves.now.items) }
     requires fit { From (λ e p. Open lanes.now e p.seat) 0 plans.items }
+    requires kept { From (λ e p. V.fits p.service e (count_of p.seat) (handed_by p.seat)) 0
+        plans.items }
     ensures all { result ≡ true → length serving.new.items ≡ length plans.items }
     ensures some { length serving.new.items ≤ length plans.items }
     ensures fit { From (λ e h. Serves lanes.now e h.promise.lanes.now h.promise.end) 0
@@ -120,7 +124,7 @@ fn join_writers<'a, L: Ledger, O: Outcome + Drop, R: Threads>(
 }
 
 /// Joins the ends' threads, in order.
-fn join_ends<'a, V: Drop, R: Threads>(
+fn join_ends<'a, V: Accounts + Drop, R: Threads>(
     rt: &R,
     lanes: &[Lane],
     serving: Vec<PromisedHandle<Leaver<V>, EndDone<'a>>>,
@@ -135,6 +139,7 @@ fn join_ends<'a, V: Drop, R: Threads>(
     ensures all { (length lefts.new.items ≡ length serving.entry.items)
         × (length services.new.items ≡ length serving.entry.items) }
     ensures left { From (λ e l. Left lanes.now e l) 0 lefts.new.items }
+    ensures kept { AllKept V.fits (hands_of lefts.new.items) services.new.items }
 {
     let _ = lanes.len();
     for handle in serving {
@@ -183,9 +188,13 @@ fn run_threads<
     requires writers { From (λ g w. Ready lanes.now (length plans.items) g w.pass w.lent w.closed.items)
         0 writers.items }
     requires ends { From (λ e p. Open lanes.now e p.seat) 0 plans.items }
+    requires kept { From (λ e p. V.fits p.service e (count_of p.seat) (handed_by p.seat)) 0
+        plans.items }
     ensures lefts { IfOk result (λ seats. (length seats.lefts.items ≡ length plans.items)
         × From (λ e l. Left lanes.now e l) 0 seats.lefts.items) }
     ensures services { IfOk result (λ seats. length seats.services.items ≡ length plans.items) }
+    ensures kept { IfOk result
+        (λ seats. AllKept V.fits (hands_of seats.lefts.items) seats.services.items) }
     ensures writers { IfOk result (λ seats. (length seats.writers.items ≡ length writers.items)
         × From (λ g w. Ended lanes.now (length plans.items) g w.pass w.lent w.closed.items) 0
         seats.writers.items) }
@@ -257,9 +266,13 @@ pub fn serve_seats<
     requires writers { From (λ g w. Ready lanes.now (length plans.items) g w.pass w.lent w.closed.items)
         0 writers.items }
     requires ends { From (λ e p. Open lanes.now e p.seat) 0 plans.items }
+    requires kept { From (λ e p. V.fits p.service e (count_of p.seat) (handed_by p.seat)) 0
+        plans.items }
     ensures lefts { IfOk result (λ seats. (length seats.lefts.items ≡ length plans.items)
         × From (λ e l. Left lanes.now e l) 0 seats.lefts.items) }
     ensures services { IfOk result (λ seats. length seats.services.items ≡ length plans.items) }
+    ensures kept { IfOk result
+        (λ seats. AllKept V.fits (hands_of seats.lefts.items) seats.services.items) }
     ensures writers { IfOk result (λ seats. (length seats.writers.items ≡ length writers.items)
         × From (λ g w. Ended lanes.now (length plans.items) g w.pass w.lent w.closed.items) 0
         seats.writers.items) }
@@ -277,10 +290,14 @@ pub fn serve_seats<
             requires writers { From (λ g w. Ready lanes.now (length plans.items) g w.pass w.lent
                 w.closed.items) 0 writers.items }
             requires ends { From (λ e p. Open lanes.now e p.seat) 0 plans.items }
+            requires kept { From (λ e p. V.fits p.service e (count_of p.seat) (handed_by p.seat))
+                0 plans.items }
             ensures lefts { IfOk result (λ seats. (length seats.lefts.items ≡ length plans.items)
                 × From (λ e l. Left lanes.entry.now e l) 0 seats.lefts.items) }
             ensures services { IfOk result
                 (λ seats. length seats.services.items ≡ length plans.items) }
+            ensures kept { IfOk result
+                (λ seats. AllKept V.fits (hands_of seats.lefts.items) seats.services.items) }
             ensures writers { IfOk result
                 (λ seats. (length seats.writers.items ≡ length writers.items)
                 × From (λ g w. Ended lanes.entry.now (length plans.items) g w.pass w.lent

@@ -1,12 +1,14 @@
 //! The threads of ends and writers.
-ghost use Rattle.std.specs.Prelude.{◌≡◌, ◌+◌, ◌<◌, ◌≤◌, ℕ, true, false, Some, slice_get};
+ghost use Rattle.std.specs.Prelude.{◌≡◌, ◌+◌, ◌<◌, ◌≤◌, ℕ, List, true, false, Some, slice_get};
 ghost use Rattle.std.specs.Prelude.{length, vec_len, vec_capacity, map, IfOk, IfSome};
 ghost use Rattle.crossbeam_queue.specs.Passes.{IsPassOf};
+ghost use Rattle.job_queue.specs.declared.parcel.Handed.{Handed};
 ghost use Rattle.live_seats.specs.Lanes.{queue_of};
-ghost use Rattle.live_seats.specs.Seats.{IsSeatOf, HasLeft, end_of, left_end};
+ghost use Rattle.live_seats.specs.Seats.{IsSeatOf, HasLeft, end_of, count_of, handed_by};
+ghost use Rattle.live_seats.specs.Seats.{left_end, left_by};
 ghost use Rattle.live_seats.specs.Gathered.{AllClosed};
 ghost use Rattle.live_seats.specs.Rows.{From};
-ghost use Rattle.live_seats.specs.Started.{Ready, Runs, Open, Serves, Ended, Left};
+ghost use Rattle.live_seats.specs.Started.{Ready, Runs, Open, Serves, Ended, Left, HasKept};
 
 use crate::lane::Lane;
 use crate::outcome::Outcome;
@@ -17,14 +19,23 @@ use std::sync::atomic::{AtomicBool, Ordering};
 use std::sync::ledger::Ledger;
 use std::thread::{Promise, PromisedHandle, Scope, Threads};
 
-/// What an end does with its seat, in a thread of its own: it serves its connections, and hands
-/// over what they bring.
-pub trait Service<R> {
+/// What an end keeps of the jobs that it handed over.
+pub trait Accounts {
+    /// What it keeps is right, where the end of this number has handed over so many jobs, and to
+    /// each group these.
+    ghost fits: { Self → (end count : ℕ) → List (List Handed) → Type 0 };
+}
+
+/// What an end does with its seat, in a thread of its own: it serves its connections, hands over
+/// what they bring, and keeps its accounts of that.
+pub trait Service<R>: Accounts {
     /// Serves until there is nothing more to serve.
     fn serve(&mut self, rt: &R, lanes: &[Lane], seat: SessionSeat) -> SessionSeat
         requires seat { IsSeatOf lanes.now seat }
+        requires kept { Self.fits self.old (end_of seat) (count_of seat) (handed_by seat) }
         ensures seat { IsSeatOf lanes.now result }
-        ensures end { end_of result ≡ end_of seat };
+        ensures end { end_of result ≡ end_of seat }
+        ensures kept { Self.fits self.new (end_of result) (count_of result) (handed_by result) };
 }
 
 /// An end before its thread starts: its seat, and what it serves.
@@ -91,18 +102,20 @@ pub(crate) fn start_writer<
     scope.spawn_with(WriterDone { lane, ends }, body).ok()
 }
 
-/// An end's thread gives its seat back with the closing marks pushed.
+/// An end's thread gives its seat back with the closing marks pushed, and with its accounts.
 #[derive(Clone, Copy)]
 pub struct EndDone<'a> {
     pub lanes: &'a [Lane],
     pub end: u64,
 }
 
-impl<'a, V> Promise<Leaver<V>> for EndDone<'a> {
+impl<'a, V: Accounts> Promise<Leaver<V>> for EndDone<'a> {
     ghost use Rattle.std.specs.Prelude.{◌≡◌};
-    ghost use Rattle.live_seats.specs.Seats.{HasLeft, left_end};
+    ghost use Rattle.live_seats.specs.Seats.{HasLeft, left_end, left_by};
+    ghost use Rattle.live_seats.specs.Started.{HasKept};
 
-    ghost kept_by = { λ p r. (left_end r.seat ≡ p.end) × HasLeft p.lanes.now r.seat };
+    ghost kept_by = { λ p r. (left_end r.seat ≡ p.end) × HasLeft p.lanes.now r.seat
+        × HasKept V.fits r.service p.end (left_by r.seat) };
 }
 
 /// Serves an end, unless it is to leave at once, and then leaves.
@@ -113,8 +126,11 @@ fn serve_end<V: Service<R>, R: Wait>(
     leaves: &AtomicBool,
 ) -> Leaver<V>
     requires seat { IsSeatOf lanes.now plan.seat }
+    requires kept { V.fits plan.service (end_of plan.seat) (count_of plan.seat)
+        (handed_by plan.seat) }
     ensures left { HasLeft lanes.now result.seat }
     ensures end { left_end result.seat ≡ end_of plan.seat }
+    ensures kept { HasKept V.fits result.service (end_of plan.seat) (left_by result.seat) }
 {
     let Plan { seat, mut service } = plan;
     if leaves.load(Ordering::SeqCst) {
@@ -139,13 +155,17 @@ pub(crate) fn start_end<'s, E, V: Service<R> + Drop + Send + 's, R: Threads + Wa
     leaves: &'s AtomicBool,
 ) -> Option<PromisedHandle<Leaver<V>, EndDone<'s>>>
     requires seat { IsSeatOf lanes.now plan.seat }
+    requires kept { V.fits plan.service (end_of plan.seat) (count_of plan.seat)
+        (handed_by plan.seat) }
     ensures { IfSome result (λ h. (h.promise.lanes.now ≡ lanes.now)
         × (h.promise.end ≡ end_of plan.seat)) }
 {
     let end = plan.seat.end;
     let body = move || -> Leaver<V>
-        requires { IsSeatOf lanes.now plan.seat × (end_of plan.seat ≡ end) }
-        ensures { (left_end result.seat ≡ end) × HasLeft lanes.entry.now result.seat }
+        requires { IsSeatOf lanes.now plan.seat × (end_of plan.seat ≡ end)
+            × V.fits plan.service end (count_of plan.seat) (handed_by plan.seat) }
+        ensures { (left_end result.seat ≡ end) × HasLeft lanes.entry.now result.seat
+            × HasKept V.fits result.service end (left_by result.seat) }
     {
         let _ = &end;
         serve_end(rt, lanes, plan, leaves)

@@ -101,6 +101,12 @@ fn job_of(alloc: Global, end: u64, number: u64) -> Option<Job> {
     })
 }
 
+impl Accounts for Bringing {
+    ghost use Rattle.std.specs.Prelude.{⊤};
+
+    ghost fits = { λ bringing end count jobs. ⊤ };
+}
+
 impl<R: Wait> Service<R> for Bringing {
     fn serve(&mut self, rt: &R, lanes: &[Lane], seat: SessionSeat) -> SessionSeat {
         let mut seat = seat;

@@ -1,3 +1,6 @@
+pub mod Ends
+pub mod Figures
 pub mod Holding
 pub mod Making
+pub mod Sessions
 pub mod Slots

@@ -1,10 +1,11 @@
 //! A shard of the history under its lock.
-ghost use Rattle.std.specs.Prelude.{◌≡◌, ◌≢◌, ◌<◌, ◌+◌, true, false, IfOk};
+ghost use Rattle.std.specs.Prelude.{◌≡◌, ◌≢◌, ◌<◌, ◌+◌, ◌^◌, true, false, IfOk};
+ghost use Rattle.id_history.specs.Counts.{AtMost};
 ghost use Rattle.id_history.specs.declared.claims.Take.TheVariants as takes;
 
 use crossbeam_utils::sync::EventCount;
 use cyc_token::Token;
-use id_history::{Offer, Shard, Take};
+use id_history::{Counts, Offer, Shard, Take};
 use live_settle::CountedDesk;
 use nntp_text::MsgId;
 use std::alloc::{AllocError, Global};
@@ -41,6 +42,12 @@ impl Claims {
 
     pub(crate) fn look<R: Wait>(&self, rt: &R, id: &MsgId) -> Option<Token> {
         self.shard.lock(rt).look(id)
+    }
+
+    pub(crate) fn counts<R: Wait>(&self, rt: &R) -> Counts
+        ensures few { AtMost (2 ^ 63) result }
+    {
+        self.shard.lock(rt).counts()
     }
 
     pub(crate) fn refuse<R: Wait>(

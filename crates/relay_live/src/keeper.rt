@@ -6,6 +6,7 @@ ghost use Rattle.live_store.specs.Stores.{IsStored};
 ghost use Rattle.relay_live.specs.Holding.{has_buffer};
 
 use crate::holding;
+use crate::lending::Lends;
 use crate::shared::Shared;
 use block_shelf::Place;
 use buffer_group::{Accepted, Job};
@@ -16,7 +17,7 @@ use job_queue::Handed;
 use live_fates::{Fate, told_of};
 use live_seats::Store;
 use live_session::Clock;
-use live_store::{Archive, Register, Stored};
+use live_store::{Archive, Stored};
 use relay_conf::Buffers;
 use std::sync::Wait;
 use std::sync::ledger::{Ledger, Share};
@@ -24,24 +25,31 @@ use std::thread;
 
 /// What all writers store by: what the threads share, the register of this archive, the buffers'
 /// settings and a clock.
-pub struct Keeper<'a, S: BlockStore + Drop, J: Archive, L: Ledger, C: Clock> {
-    shared: &'a Shared<S, J, L>,
-    register: &'a Register,
+pub struct Keeper<'a, S: BlockStore + Drop, J: Archive, L: Ledger, C: Clock, Q: Lends> {
+    pub(crate) shared: &'a Shared<S, J, L>,
+    pub(crate) register: &'a Q,
     settings: &'a Buffers,
-    clock: &'a C,
-    ghost here: { register.now ≡ J.register },
+    pub(crate) clock: &'a C,
+    ghost here: { Q.lent register.now ≡ J.register },
     ghost holds: { J.holds ≡ has_buffer settings.now },
 }
 
-impl<'a, S: BlockStore + Drop, J: Archive, L: Ledger, C: Clock> Keeper<'a, S, J, L, C> {
+impl<'a, S: BlockStore + Drop, J: Archive, L: Ledger, C: Clock, Q: Lends> Keeper<
+    'a,
+    S,
+    J,
+    L,
+    C,
+    Q,
+> {
     /// What stores into these buffers, of which the archive says which are of a group.
     pub fn new(
         shared: &'a Shared<S, J, L>,
-        register: &'a Register,
+        register: &'a Q,
         settings: &'a Buffers,
         clock: &'a C,
-    ) -> Keeper<'a, S, J, L, C>
-        requires register { register.now ≡ J.register }
+    ) -> Keeper<'a, S, J, L, C, Q>
+        requires register { Q.lent register.now ≡ J.register }
         requires holds { J.holds ≡ has_buffer settings.now }
     {
         Keeper {
@@ -69,7 +77,14 @@ impl<'a, S: BlockStore + Drop, J: Archive, L: Ledger, C: Clock> Keeper<'a, S, J,
             return Stored::Mixed;
         };
         let text = article.text.as_vec();
-        let stored = live_store::store(rt, buffer, self.register, article.class, pick.fresh, text);
+        let stored = live_store::store(
+            rt,
+            buffer,
+            self.register.register(),
+            article.class,
+            pick.fresh,
+            text,
+        );
         if is_begun(&stored) {
             rack.lock(rt).begun(&pick, length);
         }
@@ -138,8 +153,11 @@ fn is_begun<J: Archive>(stored: &Stored<J>) -> bool {
     }
 }
 
-impl<'a, S: BlockStore + Drop, J: Archive, L: Ledger, C: Clock, R: Wait> Store<L, Fate<J>, R>
-    for Keeper<'a, S, J, L, C> {
+impl<'a, S: BlockStore + Drop, J: Archive, L: Ledger, C: Clock, Q: Lends, R: Wait> Store<
+    L,
+    Fate<J>,
+    R,
+> for Keeper<'a, S, J, L, C, Q> {
     fn store(&self, rt: &R, share: &mut Share<L>, handed: &Handed) -> Fate<J> {
         let fate = self.keep(rt, share, handed);
         self.shared

@@ -3,18 +3,26 @@
 //! session.
 //!
 //! Each call is one method of what lies under a lock, or settles under two. A `Keeper` stores the
-//! jobs that writers take, and sessions go by `Shares`.
+//! jobs that writers take, sessions go by `Shares`, an `End` serves a peer's connections, and
+//! `serve_all` runs all ends and writers in threads of their own.
 #![tactic(auto)]
 
 mod claims;
 mod drawing;
+mod end;
 mod holding;
 mod keeper;
+mod lending;
+mod looking;
 mod making;
+mod running;
 mod shared;
 mod sharing;
 mod slot;
 
+pub use end::End;
 pub use keeper::Keeper;
+pub use lending::Lends;
+pub use running::{Counted, Door, LiveError, serve_all};
 pub use shared::Shared;
 pub use slot::{Answer, Slot};

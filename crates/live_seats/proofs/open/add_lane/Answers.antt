@@ -2,7 +2,7 @@ use Rattle.std.proofs.Common.{◌≡◌, ◌+◌, ◌<◌, ◌∙◌, ◌++◌, 
 use Rattle.job_queue.specs.declared.known.Known.{Known}
 use Rattle.job_queue.specs.Delivery.{knows, end_knows}
 use Rattle.live_seats.specs.Started.{IsUnused}
-use Rattle.live_seats.proofs.Passes.{read_at, length_set, fits_snoc}
+use Rattle.live_seats.proofs.Passes.{read_at, length_set, fits_snoc, map_set_same}
 use Rattle.live_seats.proofs.Plans.{done_next, todo_next}
 use Rattle.live_seats.proofs.Unused.{unused_snoc}
 use Rattle.live_seats.proofs.Writers.{within}
@@ -18,6 +18,7 @@ loop-end-init g c =
     record {
       long = refl;
       first = (first.passes.0, first.first ∙ ap (λ (v : Known). knows v.low v.high v.handed false []) made.knows);
+      services = refl;
       done = λ k p none at. absurd (omega arith);
       todo = λ k p from at. subst (λ (n : ℕ). IsUnused c.args.lanes.now.items n p.seat) (zero_add k) (c.requires.fit k p at);
     }
@@ -35,6 +36,7 @@ loop-end-preserved g c =
     record {
       long = length_set c.loop-end.plans.items c.loop-end.end _ ∙ inv.long;
       first = (cut.passes.0, cut.first ∙ ap (λ (v : Known). knows (v.low + 1) v.high v.handed v.takes v.taken) inv.first.1);
+      services = map_set_same (λ p. p.service) _ _ _ _ at refl ∙ inv.services;
       done = done_next (λ n p. IsUnused (c.args.lanes.now.items ++ c.in_ok-lane.lane ∷ []) n p.seat) _ _ _ inv.done ((was.0.0, fits_snoc _ _ _ _ _ _ was.0.1 pushed cut.passes.1 fresh), was.1, unused_snoc _ _ _ _ _ _ was.2 pushed fresh);
       todo = todo_next (λ n p. IsUnused c.args.lanes.now.items n p.seat) _ _ _ inv.todo;
     }

@@ -1,5 +1,6 @@
 use Rattle.std.proofs.Common.{refl, arith}
 use Rattle.live_seats.specs.Started.{Fresh}
+use Rattle.live_seats.proofs.Plans.{services_next}
 use Rattle.live_seats.proofs.Rows.{each_snoc, length_snoc}
 use Rattle.live_seats.proofs.open.new_plans.Goals as goal
 
@@ -15,4 +16,5 @@ loop-service-preserved g c =
       count = omega (arith, long, inv.count, steps.1);
       room = omega (arith, inv.room, pushed.capacity);
       fresh = each_snoc (λ e p. Fresh e p.seat) _ _ _ inv.fresh pushed.items (omega (arith, count, here), c.new.ensures.items, refl);
+      services = services_next (λ p. p.service) _ _ _ _ _ _ _ inv.services pushed.items steps.0 refl;
     }

@@ -1,4 +1,4 @@
-use Rattle.std.proofs.Common.{◌≡◌, ◌+◌, length}
+use Rattle.std.proofs.Common.{◌≡◌, ◌+◌, length, map}
 use Rattle.live_seats.specs.Gathered.{RestsFit}
 use Rattle.live_seats.specs.Rows.{From}
 use Rattle.live_seats.specs.Started.{Ready, IsUnused}
@@ -9,6 +9,7 @@ invariant-loop-group g l = record {
   lanes : length l.lanes.items ≡ l._group;
   count : length l.writers.items ≡ l._group;
   ends : length l.plans.items ≡ length l.fn.services.items;
+  services : map (λ p. p.service) l.plans.items ≡ l.fn.services.items;
   parts : (l.rest.parts + l._group ≡ l.groups) × (l.rest.amount ≡ 0);
   plans : From (λ e p. IsUnused l.lanes.items e p.seat) 0 l.plans.items;
   rests : RestsFit l.lanes.items (length l.fn.services.items) l.rests.items;

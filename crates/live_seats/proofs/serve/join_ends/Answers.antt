@@ -1,7 +1,8 @@
-use Rattle.std.proofs.Common.{◌∙◌, sym, length, arith}
-use Rattle.live_seats.specs.Started.{Serves, Left}
+use Rattle.std.proofs.Common.{◌∙◌, sym, subst, length, arith}
+use Rattle.live_seats.specs.Seats.{left_by}
+use Rattle.live_seats.specs.Started.{Serves, Left, HasKept}
 use Rattle.live_seats.proofs.Rows.{from_head, from_next, from_start, from_none, each_snoc, length_snoc}
-use Rattle.live_seats.proofs.Plans.{left}
+use Rattle.live_seats.proofs.Plans.{left, none_kept, kept_snoc}
 use Rattle.live_seats.proofs.serve.join_ends.Goals as goal
 
 pub loop-handle-init : goal.loop-handle-init
@@ -15,6 +16,7 @@ loop-handle-init g c =
       both = c.requires.none.1 ∙ sym c.requires.none.0;
       spare = c.requires.room.1;
       fit = from_none (λ n x. Left c.args.lanes.now n x) _ c.requires.none.0;
+      kept = none_kept g.V.Accounts.fits c.args.lefts.now.items _ c.requires.none.1;
     }
 
 pub push_reserved-requires : goal.push_reserved-requires
@@ -43,4 +45,5 @@ loop-handle-preserved g c =
       both = omega (arith, inv.both, long, wide);
       spare = omega (arith, inv.spare, also.capacity);
       fit = each_snoc (λ n x. Left c.args.lanes.now n x) _ _ _ inv.fit pushed.items (left _ c.in-Some.handle.promise.lanes.now _ c.in-Some.handle.promise.end c.join-seat.result.seat head c.join-seat.ensures.0 c.join-seat.ensures.1);
+      kept = kept_snoc g.V.Accounts.fits _ _ c.join-seat.result.seat _ _ c.join-seat.result.service inv.kept inv.both pushed.items also.items (subst (λ n. HasKept g.V.Accounts.fits c.join-seat.result.service n (left_by c.join-seat.result.seat)) head.0 c.join-seat.ensures.2);
     }

@@ -2,7 +2,8 @@ use Rattle.std.proofs.Common.{◌≡◌, ◌+◌, ◌≤◌, length}
 use Rattle.std.specs.Prelude.{vec_capacity}
 use Rattle.std.specs.Vec.Iter.{into_iter_items, into_iter_len}
 use Rattle.live_seats.specs.Rows.{From}
-use Rattle.live_seats.specs.Started.{Serves, Left}
+use Rattle.live_seats.specs.Gathered.{hands_of}
+use Rattle.live_seats.specs.Started.{Serves, Left, AllKept}
 use Rattle.live_seats.proofs.serve.join_ends.Given as goal
 
 abbrev pub invariant-loop-handle : goal.invariant-loop-handle
@@ -14,4 +15,5 @@ invariant-loop-handle g l =
       both : length l.services.items ≡ length l.lefts.items;
       spare : length l.fn.serving.items ≤ vec_capacity l.services;
       fit : From (λ n x. Left l.lanes n x) 0 l.lefts.items;
+      kept : AllKept g.V.Accounts.fits (hands_of l.lefts.items) l.services.items;
     }

@@ -1,5 +1,5 @@
-use Rattle.std.proofs.Common.{◌∙◌, sym, refl, true≢false, length, arith}
-use Rattle.live_seats.specs.Seats.{IsSeatOf}
+use Rattle.std.proofs.Common.{◌∙◌, sym, refl, subst, true≢false, length, arith}
+use Rattle.live_seats.specs.Seats.{IsSeatOf, count_of, handed_by}
 use Rattle.live_seats.specs.Started.{Open, Serves}
 use Rattle.live_seats.proofs.Rows.{from_head, from_next, from_start, from_none, from_any, each_snoc, length_snoc}
 use Rattle.live_seats.proofs.serve.start_ends.Goals as goal
@@ -15,6 +15,7 @@ loop-plan-init g c =
       room = c.requires.room;
       open_seats = λ k p at. (fit k p at).1;
       todo = λ yes. from_start (λ n p. Open c.args.lanes.now n p.seat) _ _ _ fit (sym c.requires.none) refl;
+      kept = λ yes. from_start (λ n p. g.V.Accounts.fits p.service n (count_of p.seat) (handed_by p.seat)) _ _ _ c.requires.kept (sym c.requires.none) gives.0;
       fit = from_none (λ n h. Serves c.args.lanes.now n h.promise.lanes.now h.promise.end) _ c.requires.none;
     }
 
@@ -31,11 +32,21 @@ loop-plan-preserved-then-not-all g c =
       room = inv.room;
       open_seats = from_any (λ p. IsSeatOf c.args.lanes.now p.seat) _ _ _ inv.open_seats steps.0;
       todo = λ yes. absurd (true≢false (sym yes ∙ c.if-not-all.true));
+      kept = λ yes. absurd (true≢false (sym yes ∙ c.if-not-all.true));
       fit = inv.fit;
     }
 
 pub start_end-requires-clause-seat : goal.start_end-requires-clause-seat
 start_end-requires-clause-seat g c κs within = from_head (λ n p. IsSeatOf c.args.lanes.now p.seat) 0 _ _ _ c.loop-plan.invariant.open_seats c.in-Some.ensures.steps.0
+
+pub start_end-requires-clause-kept : goal.start_end-requires-clause-kept
+start_end-requires-clause-kept g c κs within =
+    let inv = c.loop-plan.invariant in
+    let steps = c.in-Some.ensures.steps in
+    let yes = c.if-not-all.false in
+    let this = from_head (λ n p. Open c.args.lanes.now n p.seat) (length c.loop-plan.serving.items) _ _ _ (inv.todo yes) steps.0 in
+    subst (λ n. g.V.Accounts.fits c.in-Some.plan.service n (count_of c.in-Some.plan.seat) (handed_by c.in-Some.plan.seat)) (sym this.0)
+    (from_head (λ n p. g.V.Accounts.fits p.service n (count_of p.seat) (handed_by p.seat)) (length c.loop-plan.serving.items) _ _ _ (inv.kept yes) steps.0)
 
 pub loop-plan-preserved-in-Some-start_end : goal.loop-plan-preserved-in-Some-start_end
 loop-plan-preserved-in-Some-start_end g c =
@@ -54,6 +65,7 @@ loop-plan-preserved-in-Some-start_end g c =
       room = (omega (arith, inv.room.0, pushed.capacity), inv.room.1);
       open_seats = from_any (λ p. IsSeatOf c.args.lanes.now p.seat) _ _ _ inv.open_seats steps.0;
       todo = λ all. from_next (λ n p. Open c.args.lanes.now n p.seat) _ _ _ _ _ todo steps.0 long;
+      kept = λ all. from_next (λ n p. g.V.Accounts.fits p.service n (count_of p.seat) (handed_by p.seat)) _ _ _ _ _ (inv.kept yes) steps.0 long;
       fit = each_snoc (λ n h. Serves c.args.lanes.now n h.promise.lanes.now h.promise.end) _ _ _ inv.fit pushed.items (told.1 ∙ head.0, told.0);
     }
 
@@ -67,5 +79,6 @@ loop-plan-preserved g c =
       room = inv.room;
       open_seats = from_any (λ p. IsSeatOf c.args.lanes.now p.seat) _ _ _ inv.open_seats steps.0;
       todo = λ yes. absurd (true≢false (sym yes));
+      kept = λ yes. absurd (true≢false (sym yes));
       fit = inv.fit;
     }

@@ -2,7 +2,7 @@ use Rattle.std.proofs.Common.{◌≡◌, ◌+◌, ◌≤◌, true, length}
 use Rattle.std.specs.Prelude.{vec_capacity}
 use Rattle.std.specs.Vec.Iter.{into_iter_items, into_iter_len}
 use Rattle.live_seats.specs.Rows.{From}
-use Rattle.live_seats.specs.Seats.{IsSeatOf}
+use Rattle.live_seats.specs.Seats.{IsSeatOf, count_of, handed_by}
 use Rattle.live_seats.specs.Started.{Open, Serves}
 use Rattle.live_seats.proofs.serve.start_ends.Given as goal
 
@@ -14,5 +14,6 @@ invariant-loop-plan g l =
       room : (length l.fn.plans.items ≤ vec_capacity l.serving) × (length l.fn.plans.items ≤ length l.leaves.items);
       open_seats : From (λ n p. IsSeatOf l.lanes p.seat) 0 (into_iter_items rest);
       todo : l.all ≡ true → From (λ n p. Open l.lanes n p.seat) (length l.serving.items) (into_iter_items rest);
+      kept : l.all ≡ true → From (λ n p. g.V.Accounts.fits p.service n (count_of p.seat) (handed_by p.seat)) (length l.serving.items) (into_iter_items rest);
       fit : From (λ n h. Serves l.lanes n h.promise.lanes.now h.promise.end) 0 l.serving.items;
     }

@@ -1,0 +1,73 @@
+-- Ends that have served nothing yet.
+use Rattle.std.proofs.Common.{◌≡◌, ℕ, zero, suc, Bool, List, [], ◌∷◌, ◌++◌, length, map, Some, ap}
+use Rattle.std.proofs.Common.{◌+◌, refl, sym, ◌∙◌, subst, arith}
+use Rattle.std.specs.Prelude.{slice_get}
+use Rattle.std.proofs.lemmas.List.{map-append}
+use Rattle.job_queue.specs.declared.parcel.Handed.{Handed}
+use Rattle.live_fates.specs.declared.fate.KeptJob.{KeptJob}
+use Rattle.live_seats.specs.Started.{no_jobs}
+use Rattle.live_seats.specs.declared.lane.Lane.{Lane}
+use Rattle.live_store.specs.declared.record.Archive.{Ghosts}
+use Rattle.relay_live.specs.Sessions.{Accounted, IsNothing, Sessions, NoneYet}
+use Rattle.relay_model.specs.Terms.{Terms}
+
+some_is : {X : Type 0} (x y : X) → Some x ≡ Some y → x ≡ y
+some_is x y e = cc
+
+nothing : (lanes : List Lane) → IsNothing (no_jobs lanes)
+nothing [] g list at = absurd (cc)
+nothing (lane ∷ lanes) zero list at = sym (some_is [] list at)
+nothing (lane ∷ lanes) (suc g) list at = nothing lanes g list at
+
+-- an end that has handed nothing over and kept nothing has its accounts right
+pub new_accounts : {J : Type 0} {g : Ghosts J} (trusted : Bool) (w : Terms) (end peer count : ℕ)
+    (lanes : List Lane) (jobs : List (List Handed)) (kept : List (KeptJob J g)) → count ≡ 0
+    → jobs ≡ no_jobs lanes → kept ≡ [] → Accounted trusted w end peer count jobs kept
+new_accounts {J} {g} trusted w end peer count lanes jobs kept unused none empty honest =
+    ∣ subst (λ (x : (List (List Handed) × ℕ) × List (KeptJob J g)). Sessions w end peer (record {
+      jobs = x.0.0;
+      count = x.0.1;
+      kept = map (λ k. k.number) x.1;
+    })) (λ i. ((sym none i, sym unused i), sym empty i)) (NoneYet (no_jobs lanes) (nothing lanes)) ∣₁
+
+module _ {X Y : Type 0} (f : X → Y) where
+  pub at_map : (xs : List X) (k : ℕ) (x : X) → slice_get xs k ≡ Some x
+      → slice_get (map f xs) k ≡ Some (f x)
+  at_map [] k x e = absurd (cc)
+  at_map (y ∷ xs) zero x e = ap (λ (z : X). Some (f z)) (some_is y x e)
+  at_map (y ∷ xs) (suc k) x e = at_map xs k x e
+
+  -- what is the same of all is so of each
+  pub each_same : {D : Type 0} (y : Y) (xs : List X) (ds : List D) (k : ℕ) (x : X)
+      → map f xs ≡ map (λ d. y) ds → slice_get xs k ≡ Some x → f x ≡ y
+  each_same {D} y xs ds k x same at =
+      only ds k (ap (λ (l : List Y). slice_get l k) (sym same) ∙ at_map xs k x at)
+    where
+      only : (es : List D) (j : ℕ) → slice_get (map (λ (d : D). y) es) j ≡ Some (f x) → f x ≡ y
+      only [] j e = absurd (cc)
+      only (d ∷ es) zero e = sym (some_is y (f x) e)
+      only (d ∷ es) (suc j) e = only es j e
+
+  -- a row that is read from the front while another grows
+  pub map_next : {P : Type 0} (g : P → Y) (ps now : List P) (p : P) (x : X) (all : List Y)
+      (rest next : List X) → map g ps ++ map f rest ≡ all → now ≡ ps ++ p ∷ [] → rest ≡ x ∷ next
+      → g p ≡ f x → map g now ++ map f next ≡ all
+  map_next {P} g ps now p x all rest next so_far more is same =
+      ap (λ (l : List P). map g l ++ map f next) more
+      ∙ ap (λ (l : List Y). l ++ map f next) (map-append g ps (p ∷ []))
+      ∙ front (map g ps)
+      ∙ ap (λ (l : List Y). map g ps ++ l)
+      (ap (λ (w : Y). w ∷ map f next) same ∙ ap (map f) (sym is))
+      ∙ so_far
+    where
+      front : (ys : List Y) → (ys ++ g p ∷ []) ++ map f next ≡ ys ++ g p ∷ map f next
+      front [] = refl
+      front (y ∷ ys) = ap (λ (l : List Y). y ∷ l) (front ys)
+
+pub length_snoc : {X : Type 0} (xs now : List X) (x : X) → now ≡ xs ++ x ∷ []
+    → length now ≡ length xs + 1
+length_snoc {X} xs now x is = ap length is ∙ go xs
+  where
+    go : (ys : List X) → length (ys ++ x ∷ []) ≡ length ys + 1
+    go [] = omega arith
+    go (y ∷ ys) = let h = go ys in omega arith

@@ -1,0 +1,15 @@
+use Rattle.std.proofs.Common.{◌≡◌, ◌+◌, ◌≤◌, ◌++◌, [], length, map}
+use Rattle.std.specs.Prelude.{vec_capacity}
+use Rattle.std.specs.Vec.Iter.{into_iter_items, into_iter_len}
+use Rattle.relay_live.specs.Ends.{kept_of, peer_of}
+use Rattle.relay_live.proofs.running.ends_of.Given as goal
+
+-- an end for each door so far
+abbrev pub invariant-loop-door : goal.invariant-loop-door
+invariant-loop-door g l =
+    let rest = l.door-iterator in record {
+      count : length l.ends.items + into_iter_len rest ≡ length l.fn.doors.items;
+      room : length l.fn.doors.items ≤ vec_capacity l.ends;
+      peers : map peer_of l.ends.items ++ map (λ d. d.peer) (into_iter_items rest) ≡ map (λ d. d.peer) l.fn.doors.items;
+      new : map kept_of l.ends.items ++ map (λ d. []) (into_iter_items rest) ≡ map (λ d. []) l.fn.doors.items;
+    }

@@ -1,0 +1,172 @@
+//! An end: the connections of a peer, one after the other, each a session.
+ghost use Rattle.std.specs.Prelude.{◌≡◌, [], length};
+ghost use Rattle.article_verdict.specs.Config.{terms_of};
+ghost use Rattle.live_seats.specs.Seats.{IsSeatOf, count_of, end_of, handed_by};
+ghost use Rattle.relay_live.specs.Sessions.{Accounted};
+
+use crate::keeper::Keeper;
+use crate::lending::Lends;
+use crate::shared::Shared;
+use cyc_block::BlockStore;
+use live_fates::KeptJob;
+use live_seats::{Accounts, Lane, Service, SessionSeat};
+use live_session::{Clock, Gate, Hall, Served, serve_session};
+use live_store::Archive;
+use live_wire::{Connections, Hears, Says};
+use relay_conf::Config;
+use std::alloc::Global;
+use std::hash::RandomState;
+use std::mem;
+use std::sync::Wait;
+use std::sync::ledger::Ledger;
+
+/// An end: a peer's connections, which it serves one after the other, each as a session of a number
+/// of its own.
+#[derive(Drop)]
+pub struct End<'a, X, S: BlockStore + Drop, J: Archive, L: Ledger, C: Clock, G, Q: Lends> {
+    pub(crate) alloc: Global,
+    pub(crate) hasher: RandomState,
+    pub(crate) shared: &'a Shared<S, J, L>,
+    pub(crate) register: &'a Q,
+    pub(crate) config: &'a Config,
+    pub(crate) clock: &'a C,
+    pub(crate) gate: &'a G,
+    /// The number of the peer.
+    pub(crate) peer: usize,
+    pub(crate) connections: X,
+    /// The jobs that its sessions answered kept, in the order of the answers.
+    pub(crate) kept: Vec<KeptJob<J>>,
+    ghost here: { Q.lent register.now ≡ J.register },
+}
+
+impl<'a, X, S: BlockStore + Drop, J: Archive, L: Ledger, C: Clock, G, Q: Lends> End<
+    'a,
+    X,
+    S,
+    J,
+    L,
+    C,
+    G,
+    Q,
+> {
+    ghost use Rattle.relay_live.specs.Ends.{kept_of, peer_of};
+
+    /// The end of this peer, by its number in the configuration, before its first connection.
+    pub fn new(
+        alloc: Global,
+        hasher: RandomState,
+        keeper: &Keeper<'a, S, J, L, C, Q>,
+        config: &'a Config,
+        gate: &'a G,
+        peer: usize,
+        connections: X,
+    ) -> End<'a, X, S, J, L, C, G, Q>
+        ensures none { kept_of result ≡ [] }
+        ensures peer { peer_of result ≡ peer }
+    {
+        End {
+            alloc,
+            hasher,
+            shared: keeper.shared,
+            register: keeper.register,
+            config,
+            clock: keeper.clock,
+            gate,
+            peer,
+            connections,
+            kept: Vec::new(alloc),
+        }
+    }
+
+    /// The jobs that its sessions answered kept (239, 235), in the order of the answers.
+    pub fn kept(&self) -> &[KeptJob<J>]
+        ensures { result.now ≡ kept_of self.now }
+    {
+        self.kept.as_slice()
+    }
+
+    /// Serves a connection as the session of this number.
+    fn serve_one<H: Hears + Drop, W: Says + Drop, R: Wait>(
+        &mut self,
+        rt: &R,
+        lanes: &[Lane],
+        seat: SessionSeat,
+        number: u64,
+        reader: H,
+        writer: W,
+    ) -> SessionSeat
+    where
+        G: Gate<R>,
+        requires seat { IsSeatOf lanes.now seat }
+        requires new { (H.heard reader ≡ []) × (W.said writer ≡ []) }
+        requires kept { Accounted J.trusted (terms_of self.old.config.now) (end_of seat)
+            self.old.peer (count_of seat) (handed_by seat) self.old.kept.items }
+        ensures seat { IsSeatOf lanes.now result }
+        ensures end { end_of result ≡ end_of seat }
+        ensures kept { Accounted J.trusted (terms_of self.new.config.now) (end_of result)
+            self.new.peer (count_of result) (handed_by result) self.new.kept.items }
+        ensures same { (self.new.config ≡ self.old.config) × (self.new.peer ≡ self.old.peer)
+            × (self.new.connections ≡ self.old.connections) }
+    {
+        let kept = mem::replace(&mut self.kept, Vec::new(self.alloc));
+        let hall = Hall {
+            shares: self.shared,
+            register: self.register.register(),
+            lanes,
+            config: self.config,
+            clock: self.clock,
+            gate: self.gate,
+        };
+        let served = serve_session(
+            rt,
+            self.alloc,
+            self.hasher,
+            &hall,
+            seat,
+            kept,
+            number,
+            self.peer,
+            reader,
+            writer,
+        );
+        self.kept = served.kept;
+        served.seat
+    }
+}
+
+impl<'a, X, S: BlockStore + Drop, J: Archive, L: Ledger, C: Clock, G, Q: Lends> Accounts
+    for End<'a, X, S, J, L, C, G, Q> {
+    ghost use Rattle.article_verdict.specs.Config.{terms_of};
+    ghost use Rattle.relay_live.specs.Sessions.{Accounted};
+
+    ghost fits = { λ end number count jobs. Accounted J.trusted (terms_of end.config.now) number
+        end.peer count jobs end.kept.items };
+}
+
+impl<'a, X, S, J, L, C, G, Q, R> Service<R> for End<'a, X, S, J, L, C, G, Q>
+where
+    X: Connections<R>,
+    <X as Connections<R>>::Reader: Drop,
+    <X as Connections<R>>::Writer: Drop,
+    S: BlockStore + Drop,
+    J: Archive,
+    L: Ledger,
+    C: Clock,
+    G: Gate<R>,
+    Q: Lends,
+    R: Wait,
+{
+    fn serve(&mut self, rt: &R, lanes: &[Lane], seat: SessionSeat) -> SessionSeat {
+        let mut seat = seat;
+        for _ in rt.forever() {
+            let Some((reader, writer)) = self.connections.next_one(rt) else {
+                return seat;
+            };
+            let Some(number) = self.shared.draw(rt) else {
+                continue;
+            };
+            seat = self.serve_one(rt, lanes, seat, number, reader, writer);
+        }
+        unreachable!()
+    }
+}

@@ -1,0 +1,184 @@
+//! A relay in threads, from the first connection to the last seat.
+ghost use Rattle.std.specs.Prelude.{◌≡◌, ◌<◌, ◌^◌, [], length, map, IfOk};
+ghost use Rattle.live_fates.specs.Doubles.{doubles_in};
+ghost use Rattle.live_fates.specs.Fates.{FitsJob, is_kept};
+ghost use Rattle.live_fates.specs.Strays.{strays_in};
+ghost use Rattle.live_seats.specs.Gathered.{AllTold, NoneElse, hands_of, kept_by_all};
+ghost use Rattle.live_seats.specs.Started.{AllKept};
+ghost use Rattle.live_settle.specs.Desks.{posts_in};
+ghost use Rattle.relay_live.specs.Ends.{kept_of, peer_of, terms_at};
+ghost use Rattle.relay_live.specs.Sessions.{Accounted};
+ghost use Rattle.relay_live.specs.declared.running.LiveError.TheVariants as errors;
+
+use crate::end::End;
+use crate::keeper::Keeper;
+use crate::lending::Lends;
+use cyc_block::BlockStore;
+use live_fates::{Fate, doubles, strays};
+use live_seats::{Opened, Seats, SeatsError, close, open_all, serve_seats};
+use live_session::{Clock, Gate};
+use live_settle::Posts;
+use live_store::Archive;
+use live_wire::Connections;
+use relay_conf::Config;
+use std::alloc::{AllocError, Global};
+use std::hash::RandomState;
+use std::sync::Wait;
+use std::sync::ledger::{Ledger, Share};
+use std::thread::Threads;
+
+/// Why nothing of a run is counted.
+#[derive(Clone, Copy, Debug, PartialEq, Eq)]
+pub enum LiveError {
+    /// Memory was refused.
+    Memory,
+    /// A thread couldn't be started.
+    NoThread,
+}
+
+impl From<AllocError> for LiveError {
+    ghost from_gives = { λ _ made. made ≡ errors.Memory };
+
+    fn from(_: AllocError) -> LiveError {
+        LiveError::Memory
+    }
+}
+
+/// What was counted of a run once all its threads have ended.
+#[derive(Clone, Copy, Debug, PartialEq, Eq)]
+pub struct Counted {
+    /// How many jobs the writers kept.
+    pub accepted: u64,
+    /// How many posts the feed desk made.
+    pub posted: Posts,
+    /// How many kept answers have another register number than the writer's receipt for the same
+    /// job, and how many jobs are mixed up.
+    pub strays: u128,
+    /// How many kept jobs there are less their different message-ids.
+    pub doubles: u128,
+}
+
+/// Where a peer's connections come from: the peer's number in the configuration, and its
+/// connections, one after the other.
+#[derive(Drop)]
+pub struct Door<X> {
+    pub peer: usize,
+    pub connections: X,
+}
+
+/// An end for each door, in this order, before its first connection.
+fn ends_of<'a, X: Drop, S: BlockStore + Drop, J: Archive, L: Ledger, C: Clock, G, Q: Lends>(
+    alloc: Global,
+    hasher: RandomState,
+    keeper: &Keeper<'a, S, J, L, C, Q>,
+    config: &'a Config,
+    gate: &'a G,
+    doors: Vec<Door<X>>,
+) -> Result<Vec<End<'a, X, S, J, L, C, G, Q>>, AllocError>
+    ensures peers { IfOk result (λ ends.
+        map peer_of ends.items ≡ map (λ d. d.peer) doors.items) }
+    ensures new { IfOk result (λ ends. map kept_of ends.items ≡ map (λ d. []) doors.items) }
+{
+    let mut ends = Vec::with_capacity(alloc, doors.len())?;
+    for door in doors {
+        ends.push_reserved(End::new(
+            alloc,
+            hasher,
+            keeper,
+            config,
+            gate,
+            door.peer,
+            door.connections,
+        ));
+    }
+    Ok(ends)
+}
+
+/// The strays of what the ends answered and the writers told.
+fn strays_of<'a, X, S: BlockStore + Drop, J: Archive, L: Ledger, C: Clock, G, Q: Lends>(
+    alloc: Global,
+    seats: &Seats<L, Fate<J>, End<'a, X, S, J, L, C, G, Q>>,
+) -> Result<u128, AllocError>
+    ensures { IfOk result (λ n. n ≡ strays_in (map kept_of seats.now.services.items)
+        (map (λ w. w.done.items) seats.now.writers.items)) }
+{
+    let mut answers = Vec::with_capacity(alloc, seats.services.len())?;
+    let ends = seats.services.as_slice();
+    for end in ends {
+        answers.push_reserved(end.kept());
+    }
+    strays(alloc, answers.as_slice(), seats.writers.as_slice())
+}
+
+/// Serves an end behind each door, one thread for each of them and for each group's writer, until
+/// every end has left and every writer has taken what was handed over to its group (docs/PROTOCOL.md, Threads 6).
+/// What each writer told of each end is what this end handed over to its group, each job once, in
+/// order, with what became of it; what each end keeps is what its sessions came to. The error is
+/// want of memory, before the threads start or where what came back is counted, or that a thread
+/// couldn't be started: then what was served stands, and nothing is counted.
+pub fn serve_all<
+    'a,
+    X: Connections<R> + Drop + Send,
+    S: BlockStore + Drop + Send,
+    J: Archive + Send + Sync,
+    L: Ledger + Send + Sync,
+    C: Clock + Sync,
+    G: Gate<R> + Sync,
+    Q: Lends + Sync,
+    R: Threads + Wait + Sync,
+>(
+    rt: &R,
+    alloc: Global,
+    hasher: RandomState,
+    keeper: &Keeper<'a, S, J, L, C, Q>,
+    config: &'a Config,
+    gate: &'a G,
+    groups: usize,
+    doors: Vec<Door<X>>,
+    all: Share<L>,
+) -> Result<(Seats<L, Fate<J>, End<'a, X, S, J, L, C, G, Q>>, Counted), LiveError>
+where
+    <X as Connections<R>>::Reader: Drop + Send,
+    <X as Connections<R>>::Writer: Drop + Send,
+    requires parts { (all.parts ≡ groups) × (all.amount ≡ 0) × (L.parts ≡ groups) × (0 < groups) }
+    requires few { length doors.items < 2 ^ 62 }
+    ensures jobs { IfOk result (λ ran. AllTold (FitsJob J.holds)
+        (map (λ w. w.done.items) ran.0.writers.items) (hands_of ran.0.lefts.items)) }
+    ensures none { IfOk result (λ ran. NoneElse (length doors.items)
+        (map (λ w. w.done.items) ran.0.writers.items)) }
+    ensures kept { IfOk result (λ ran. AllKept (λ end number count jobs.
+        Accounted J.trusted (terms_at end) number (peer_of end) count jobs (kept_of end))
+        (hands_of ran.0.lefts.items) ran.0.services.items) }
+    ensures accepted { IfOk result (λ ran. ran.1.accepted
+        ≡ kept_by_all is_kept (map (λ w. w.done.items) ran.0.writers.items)) }
+    ensures posted { IfOk result (λ ran. posts_in ran.1.posted ≡ ran.1.accepted) }
+    ensures strays { IfOk result (λ ran. ran.1.strays ≡ strays_in
+        (map kept_of ran.0.services.items)
+        (map (λ w. w.done.items) ran.0.writers.items)) }
+    ensures doubles { IfOk result (λ ran. ran.1.doubles
+        ≡ doubles_in (map (λ w. w.done.items) ran.0.writers.items)) }
+{
+    let ends = ends_of(alloc, hasher, keeper, config, gate, doors)?;
+    let Opened {
+        lanes,
+        mut rests,
+        plans,
+        writers,
+    } = open_all::<L, Fate<J>, End<'a, X, S, J, L, C, G, Q>>(alloc, groups, ends, all)?;
+    let lanes = lanes.as_slice();
+    let mut seats = match serve_seats(rt, lanes, keeper, plans, writers) {
+        Ok(seats) => seats,
+        Err(SeatsError::Memory) => return Err(LiveError::Memory),
+        Err(SeatsError::NoThread) => return Err(LiveError::NoThread),
+    };
+    let totals = close(rt, lanes, &keeper.shared.desk, &mut rests, &mut seats);
+    let strays = strays_of(alloc, &seats)?;
+    let doubles = doubles(alloc, seats.writers.as_slice())?;
+    let counted = Counted {
+        accepted: totals.accepted,
+        posted: totals.posted,
+        strays,
+        doubles,
+    };
+    Ok((seats, counted))
+}
