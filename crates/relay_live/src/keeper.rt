@@ -25,6 +25,7 @@ use std::thread;
 
 /// What all writers store by: what the threads share, the register of this archive, the buffers'
 /// settings and a clock.
+#[derive(Drop)]
 pub struct Keeper<'a, S: BlockStore + Drop, J: Archive, L: Ledger, C: Clock, Q: Lends> {
     pub(crate) shared: &'a Shared<S, J, L>,
     pub(crate) register: &'a Q,
