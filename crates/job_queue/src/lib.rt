@@ -19,6 +19,3 @@ pub use queue::{
     new_queue, take_one, writer_pass,
 };
 pub use rule::InOrder;
-
-#[cfg(test)]
-mod tests;

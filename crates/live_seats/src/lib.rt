@@ -24,6 +24,3 @@ pub use serve::{SeatsError, serve_seats};
 pub use session::{LeftSeat, SessionSeat, hang_up};
 pub use start::{Accounts, Leaver, Plan, Service};
 pub use writer::{Store, WriterSeat, run_writer};
-
-#[cfg(test)]
-mod tests;

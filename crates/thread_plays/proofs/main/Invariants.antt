@@ -1,5 +1,5 @@
 use Rattle.std.proofs.Common.{true, false}
-use Rattle.store_threads.proofs.main.Given as goal
+use Rattle.thread_plays.proofs.main.Given as goal
 
 -- the register that was just made, over stores in memory, which are honest; there are no groups
 abbrev pub ghosts-play : goal.ghosts-play

@@ -1,4 +1,4 @@
-//! The plays, each over a buffer of its own.
+//! The plays of buffers, each over a buffer of its own.
 ghost use Rattle.std.specs.Prelude.{◌≡◌};
 
 use crate::told::{tell_fetched, tell_stored};
@@ -15,7 +15,7 @@ use std::thread::{Threads, join};
 type Locked<J> = Mutex<NumberedBuffer<FailAt<MemoryBlocks>, J>>;
 
 /// An article of so many octets.
-fn sample(alloc: Global, octets: u32) -> io::Result<Sample> {
+pub(crate) fn sample(alloc: Global, octets: u32) -> io::Result<Sample> {
     match sample_article(alloc, octets)? {
         Some(sample) => Ok(sample),
         None => Err(io::Error::from(io::ErrorKind::InvalidInput)),

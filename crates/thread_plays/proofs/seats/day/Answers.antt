@@ -3,7 +3,7 @@ use Rattle.live_seats.specs.Gathered.{RestsFit}
 use Rattle.live_seats.specs.Rows.{From}
 use Rattle.live_seats.specs.Started.{Open}
 use Rattle.live_seats.specs.declared.lane.Lane.{Lane}
-use Rattle.live_seats.proofs.tests.day.Goals as goal
+use Rattle.thread_plays.proofs.seats.day.Goals as goal
 
 pub serve_seats-served-requires-clause-ends : goal.serve_seats-served-requires-clause-ends
 serve_seats-served-requires-clause-ends g c κs within =

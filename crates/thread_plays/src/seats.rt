@@ -1,22 +1,23 @@
-ghost use Rattle.std.specs.Prelude.{◌≡◌, ◌<◌, ◌+◌, ◌^◌, ℕ, true, length, IfOk};
+//! Plays of seats: ends and writers in threads of their own.
+ghost use Rattle.std.specs.Prelude.{◌≡◌, ◌<◌, ◌^◌, true, length};
 
-use super::*;
-use buffer_group::Job;
+use crate::jobs::job;
 use cyc_token::Token;
 use id_history::Shard;
 use job_queue::Handed;
+use live_seats::{
+    Accounts, Lane, Opened, Outcome, Service, SessionSeat, Store, close, open_all, serve_seats,
+};
 use live_settle::CountedDesk;
-use nntp_text::MsgId;
-use sample_articles::{LEAST_OCTETS, sample_article};
-use std::alloc::Global;
+use std::alloc::{AllocError, Global};
 use std::collections::hash_map::RandomState;
+use std::io;
 use std::marker::Brand;
 use std::sync::ledger::{Blank, Ledger, Share};
 use std::sync::{Mutex, Wait};
-use std::test::*;
 use std::thread::Threads;
 
-// Kept or not.
+/// Kept or not.
 #[derive(Drop)]
 struct Told {
     kept: bool,
@@ -34,7 +35,7 @@ impl Outcome for Told {
     }
 }
 
-// A history and a desk. Each job of which the number isn't 7 is settled.
+/// A history and a desk. Each job of which the number isn't 7 is settled.
 #[derive(Drop)]
 struct Settling<L: Ledger> {
     shard: Mutex<Shard>,
@@ -73,32 +74,11 @@ impl<L: Ledger, R: Wait> Store<L, Told, R> for Settling<L> {
     }
 }
 
-// Hands so many jobs over, to the groups in turn.
+/// Hands so many jobs over, to the groups in turn.
 #[derive(Drop)]
 struct Bringing {
     jobs: u64,
     alloc: Global,
-}
-
-// A job of the smallest sample, under a message-id of the two numbers, or none for want of memory.
-fn job_of(alloc: Global, end: u64, number: u64) -> Option<Job> {
-    let mut name = Vec::new(alloc);
-    name.extend_from_slice(b"<").ok()?;
-    for part in [end, number] {
-        let mut rest = part;
-        for _ in 0..6u8 {
-            name.push(b'0' + (rest % 10) as u8).ok()?;
-            rest /= 10;
-        }
-    }
-    name.extend_from_slice(b"@x>").ok()?;
-    let id = MsgId::parse(alloc, name.as_slice()).ok()?;
-    let sample = sample_article(alloc, LEAST_OCTETS).ok()??;
-    Some(Job {
-        session: end,
-        id,
-        article: sample.into_accepted(alloc),
-    })
 }
 
 impl Accounts for Bringing {
@@ -114,7 +94,10 @@ impl<R: Wait> Service<R> for Bringing {
             if lanes.is_empty() || seat.handed() >= 1 << 62 {
                 return seat;
             }
-            let Some(job) = job_of(self.alloc, seat.end(), number) else {
+            let Ok(name) = name_of(self.alloc, seat.end(), number) else {
+                return seat;
+            };
+            let Ok(job) = job(self.alloc, seat.end(), &name) else {
                 return seat;
             };
             let group = (number % lanes.len() as u64) as usize;
@@ -124,8 +107,23 @@ impl<R: Wait> Service<R> for Bringing {
     }
 }
 
-// A run: ends and writers in threads of their own, then the count. What was accepted, what was
-// posted, and of how many jobs something was told.
+/// The message-id of a job, of its end and its number below a million.
+fn name_of(alloc: Global, end: u64, number: u64) -> Result<Vec<u8>, AllocError> {
+    let mut name = Vec::new(alloc);
+    name.extend_from_slice(b"<")?;
+    for part in [end, number] {
+        let mut rest = part;
+        for _ in 0..6u8 {
+            name.push(b'0' + (rest % 10) as u8)?;
+            rest /= 10;
+        }
+    }
+    name.extend_from_slice(b"@x>")?;
+    Ok(name)
+}
+
+/// Ends and writers in threads of their own, then the count: what was accepted, what was posted,
+/// and of how many jobs something was told.
 fn day<L: Ledger + Send + Sync, R: Threads + Wait + Sync>(
     rt: &R,
     alloc: Global,
@@ -133,7 +131,7 @@ fn day<L: Ledger + Send + Sync, R: Threads + Wait + Sync>(
     blank: Blank,
     groups: usize,
     services: Vec<Bringing>,
-) -> Result<(u64, u64, usize), Fail>
+) -> Result<(u64, u64, usize), AllocError>
     requires name { blank.name ≡ L.name }
     requires parts { (blank.parts ≡ L.parts) × (blank.parts ≡ groups) × (0 < groups) }
     requires few { length services.items < 2 ^ 62 }
@@ -164,16 +162,20 @@ fn day<L: Ledger + Send + Sync, R: Threads + Wait + Sync>(
     Ok((totals.accepted, totals.posted.count(), told))
 }
 
-// The same, with a ledger of its own.
-fn run<R: Threads + Wait + Sync>(
+/// So many ends hand 300 jobs each over, with a ledger of their own.
+fn counts<R: Threads + Wait + Sync>(
     rt: &R,
     alloc: Global,
     hasher: RandomState,
     groups: u32,
-    services: Vec<Bringing>,
-) -> Result<(u64, u64, usize), Fail>
+    ends: u8,
+) -> Result<(u64, u64, usize), AllocError>
     requires some { 0 < groups }
 {
+    let mut services = Vec::new(alloc);
+    for _ in 0..ends {
+        services.push(Bringing { jobs: 300, alloc })?;
+    }
     if services.len() >= 1 << 62 {
         return Ok((0, 1, 0));
     }
@@ -187,24 +189,16 @@ fn run<R: Threads + Wait + Sync>(
     )
 }
 
-#[test]
-fn five_ends_and_three_groups(rt: HostRuntime) -> Result<(), Fail> {
-    let mut services = Vec::new(rt.alloc());
-    for _ in 0..5u8 {
-        services.push(Bringing {
-            jobs: 300,
-            alloc: rt.alloc(),
-        })?;
-    }
-    let counts = run(&rt, rt.alloc(), RandomState::new(&rt)?, 3, services)?;
-    assert_eq!(rt; counts, (1495, 1495, 1500));
-    Ok(())
-}
-
-#[test]
-fn no_end(rt: HostRuntime) -> Result<(), Fail> {
-    let services = Vec::new(rt.alloc());
-    let counts = run(&rt, rt.alloc(), RandomState::new(&rt)?, 2, services)?;
-    assert_eq!(rt; counts, (0, 0, 0));
-    Ok(())
+/// A run of so many ends and groups, and what was counted.
+pub(crate) fn seats<R: Threads + Wait + Print + Sync>(
+    rt: &R,
+    alloc: Global,
+    hasher: RandomState,
+    groups: u32,
+    ends: u8,
+) -> io::Result<()>
+    requires some { 0 < groups }
+{
+    let (accepted, posted, told) = counts(rt, alloc, hasher, groups, ends)?;
+    println!(rt; "{ends} ends, {groups} groups: {told} told, {accepted} accepted, {posted} posted")
 }
