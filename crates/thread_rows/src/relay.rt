@@ -20,34 +20,60 @@ use std::sync::{Mutex, Wait};
 use std::thread::Threads;
 use std::time::Clock;
 
-/// The lines of A(I, 1), with `#` in the place of I (docs/FORMATS.md, Example article).
+/// The lines of A(I, K), with `#` in the place of I, and `~` in that of the body (docs/FORMATS.md,
+/// Example article).
 const ARTICLE: &[u8] = b"Path: one.example!not-for-mail\r\nFrom: a@x.example\r\n\
     Newsgroups: misc.test\r\nSubject: t\r\nMessage-ID: <#@x>\r\n\
-    Date: Fri, 01 Jan 2021 00:00:00 +0000\r\n\r\nx\r\n.\r\n";
+    Date: Fri, 01 Jan 2021 00:00:00 +0000\r\n\r\n~\r\n.\r\n";
 
 /// Any error as one of input.
 fn failed() -> io::Error {
     io::Error::from(ErrorKind::Other)
 }
 
-/// Adds the lines of A(I, 1).
-fn add_article(text: &mut Vec<u8>, id: &[u8]) -> Result<(), AllocError> {
+/// Adds the lines of A(I, K), where the words are I and K with a blank between, or I alone for
+/// A(I, 1).
+fn add_article(text: &mut Vec<u8>, words: &[u8]) -> Result<(), AllocError> {
+    let mut parts = words.split(|octet| *octet == b' ');
+    let id = parts.next().unwrap_or(b"");
+    let size = match parts.next() {
+        Some(digits) => number_of(digits),
+        None => 1,
+    };
     for octet in ARTICLE {
-        if *octet == b'#' {
-            text.extend_from_slice(id)?;
-        } else {
-            text.push(*octet)?;
+        match *octet {
+            b'#' => text.extend_from_slice(id)?,
+            b'~' => add_body(text, size)?,
+            other => text.push(other)?,
         }
     }
     Ok(())
+}
+
+/// Adds a line of so many times `x`.
+fn add_body(text: &mut Vec<u8>, size: u32) -> Result<(), AllocError> {
+    for _ in 0..size {
+        text.push(b'x')?;
+    }
+    Ok(())
+}
+
+/// The number of which these are the decimal digits.
+fn number_of(digits: &[u8]) -> u32 {
+    let mut number = 0u32;
+    for digit in digits {
+        let value = u32::from(digit.saturating_sub(b'0'));
+        number = number.saturating_mul(10).saturating_add(value);
+    }
+    number
 }
 
 /// The octets of a script.
 fn sent(alloc: Global, script: &[u8]) -> Result<Vec<u8>, AllocError> {
     let mut text = Vec::new(alloc);
     for line in script.split(|octet| *octet == b'|') {
-        if let Some(id) = line.strip_prefix(b"{".as_slice()) {
-            add_article(&mut text, id)?;
+        if let Some(words) = line.strip_prefix(b"{".as_slice()) {
+            add_article(&mut text, words)?;
         } else if !line.is_empty() {
             text.extend_from_slice(line)?;
             text.extend_from_slice(b"\r\n")?;

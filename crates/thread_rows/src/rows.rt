@@ -9,8 +9,8 @@ pub(crate) struct Row {
     pub(crate) name: &'static [u8],
     /// Which call of the store fails, from 1; none where this is 0.
     pub(crate) failing: u64,
-    /// What each session sends, from a peer of its own: lines between `|`, of which `{I` stands for
-    /// the lines of A(I, 1).
+    /// What each session sends, from a peer of its own: lines between `|`, of which `{I K` stands
+    /// for the lines of A(I, K), and `{I` for those of A(I, 1).
     pub(crate) scripts: &'static [&'static [u8]],
     /// Session and command, in the order in which they are let in.
     pub(crate) order: &'static [(u64, u64)],
@@ -59,6 +59,58 @@ pub(crate) const ROWS: &[Row] = &[
             b"CHECK <a@x>|QUIT|",
         ],
         order: &[(1, 0), (1, 1), (1, GONE), (2, 0), (2, 1)],
+    },
+    Row {
+        name: b"one thread: the first session waits for the second's answers",
+        failing: 0,
+        scripts: &[b"DATE|QUIT|", b"DATE|CHECK <d@x>|QUIT|"],
+        order: &[(2, 0), (2, 1), (1, 0), (1, 1), (2, 2)],
+    },
+    Row {
+        name: b"sizes",
+        failing: 0,
+        scripts: &[
+            b"TAKETHIS <1@x>|{1 317|TAKETHIS <2@x>|{2 318|TAKETHIS <4@x>|{4 3678|QUIT|",
+        ],
+        order: &[(1, 0), (1, 1), (1, 2), (1, 3)],
+    },
+    Row {
+        name: b"overwrite",
+        failing: 0,
+        scripts: &[
+            b"TAKETHIS <1@x>|{1 1277|TAKETHIS <2@x>|{2 1277|TAKETHIS <3@x>|{3 1277|\
+                STAT <1@x>|XFETCH @01000000000000000000000005A0@|STAT <2@x>|\
+                XFETCH @01000000000200000000000005A0@|XFETCH @01000000000000000004000005A0@|QUIT|",
+        ],
+        order: &[
+            (1, 0),
+            (1, 1),
+            (1, 2),
+            (1, 3),
+            (1, 4),
+            (1, 5),
+            (1, 6),
+            (1, 7),
+            (1, 8),
+        ],
+    },
+    Row {
+        name: b"ring",
+        failing: 0,
+        scripts: &[
+            b"TAKETHIS <1@x>|{1|TAKETHIS <2@x>|{2|TAKETHIS <3@x>|{3|XTAKE 5|QUIT|",
+            b"XTAKE 5|XTAKE 5|QUIT|",
+        ],
+        order: &[
+            (1, 0),
+            (1, 1),
+            (1, 2),
+            (2, 0),
+            (2, 1),
+            (1, 3),
+            (2, 2),
+            (1, 4),
+        ],
     },
     Row {
         name: b"a gate that lets nothing in: both sessions are held",
