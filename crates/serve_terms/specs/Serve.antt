@@ -1,0 +1,57 @@
+-- What serving a relay answers, and what is printed of it (docs/PROTOCOL.md, `serve`).
+use Rattle.std.specs.Prelude.{◌≡◌, ◌≢◌, ℕ, List, map, All, Any, Option, Result, Ok, Err}
+use Rattle.std.specs.Prelude.{slice_get, string_bytes}
+use Rattle.std.specs.Str.Lossy.{utf8_lossy}
+use Rattle.std.specs.Io.KnownBytes.{Appends, Keeps}
+use Rattle.relay_conf.specs.declared.settings.Config.{Config}
+use Rattle.relay_core.specs.Figures.{name_of}
+use Rattle.relay_drill.specs.Written.{GainsFront}
+use Rattle.relay_report.specs.Totals.{text_of_totals}
+use Rattle.relay_report.specs.declared.totals.Totals.{Totals}
+use Rattle.serve_terms.specs.declared.fault.ServeError.{ServeError}
+use Rattle.serve_terms.specs.declared.fault.ServeError.TheVariants as faults
+
+-- The totals are of a relay of this configuration: they have its buffers and its feeds, in their
+-- order, and as many posts as jobs that were accepted.
+pub record AreOf (config : Config) (totals : Totals) : Type 0 where
+  pub buffers : map (λ b. b.name) totals.figures.buffers.items
+      ≡ map (λ b. b.name) config.buffers.buffers.items
+  pub feeds : map (λ f. f.peer) totals.figures.feeds.items
+      ≡ map (λ f. name_of (slice_get config.relay.peers.items f.peer)) config.relay.feeds.items
+  pub posted : totals.posted ≡ totals.accepted
+
+-- the text is the name of a buffer's file, with a mark in the place of what is no UTF-8
+abbrev pub NamesFile : Config → List ℕ → Type 0
+NamesFile config text = Any (λ b. text ≡ utf8_lossy b.file) config.buffers.buffers.items
+
+-- the number is that of a peer's port, and not the 0 of a peer that isn't served
+abbrev pub NamesPort : Config → ℕ → Type 0
+NamesPort config number = (number ≢ 0) × Any (λ p. p.port ≡ number) config.relay.peers.items
+
+-- the report of the totals was written, or memory for it was refused and nothing was, or the
+-- writer failed, with a front of it
+abbrev pub PrintGives : Totals → Result (Unit {0}) ServeError → (before after : Option (List ℕ))
+    → Type 0
+PrintGives totals (Ok done) before after = Appends before after (text_of_totals totals)
+PrintGives totals (Err faults.Memory) before after = Keeps before after
+PrintGives totals (Err faults.Unwritten) before after =
+    GainsFront (text_of_totals totals) before after
+PrintGives totals (Err error) before after = ⊥
+
+-- the failure names what can't be had, where it is a file or a port
+abbrev pub NamesFault : Config → ServeError → Type 0
+NamesFault config (faults.File name) = NamesFile config (string_bytes name)
+NamesFault config (faults.Port number) = NamesPort config number
+NamesFault config error = Unit {0}
+
+-- a relay of the configuration was served, and the report of its totals was written; or it wasn't,
+-- or memory for the report was refused, and nothing was written; or the writer failed, with a
+-- front of the report
+abbrev pub ServeGives : Config → Result (Unit {0}) ServeError → (before after : Option (List ℕ))
+    → Type 0
+ServeGives config (Ok done) before after =
+    (totals : Totals) × AreOf config totals × PrintGives totals (Ok done) before after
+ServeGives config (Err faults.Unwritten) before after =
+    (totals : Totals) × AreOf config totals
+    × PrintGives totals (Err faults.Unwritten) before after
+ServeGives config (Err error) before after = NamesFault config error × Keeps before after

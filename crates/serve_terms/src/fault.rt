@@ -1,0 +1,52 @@
+//! Why a relay is not served to its end.
+ghost use Rattle.std.specs.Prelude.{◌≡◌, Some};
+ghost use Rattle.serve_terms.specs.Text.{text_of};
+ghost use Rattle.serve_terms.specs.declared.fault.ServeError.TheVariants as faults;
+
+use std::alloc::AllocError;
+use std::error::Error;
+use std::fmt;
+use std::fmt::{Display, Formatter};
+
+/// Why a relay was not served, or its report not printed (docs/PROTOCOL.md, Statuses). Its text is
+/// what the program prints.
+#[derive(Debug, Drop)]
+pub enum ServeError {
+    /// The file of a buffer can't be had, by its name in cycbuff.conf. Nothing was served.
+    File(String),
+    /// The port of this number can't be had. Nothing was served.
+    Port(u16),
+    /// The system had no random numbers to seed the relay's tables with. Nothing was served.
+    Unseeded,
+    /// Memory was refused. What was served before stands.
+    Memory,
+    /// A thread couldn't be started. What the others served stands.
+    NoThread,
+    /// The writer of the report failed. All was served.
+    Unwritten,
+}
+
+impl Display for ServeError {
+    ghost output = { λ error. Some (text_of error) };
+
+    fn fmt<W: fmt::Write>(&self, formatter: &mut Formatter<W>) -> fmt::Result {
+        match self {
+            ServeError::File(name) => write!(formatter, "{name}: unusable"),
+            ServeError::Port(number) => write!(formatter, "serve: {number}: unusable"),
+            ServeError::Unseeded => formatter.write_str("relay: no random numbers to be had"),
+            ServeError::Memory => formatter.write_str("out of memory"),
+            ServeError::NoThread => formatter.write_str("serve: no thread to be had"),
+            ServeError::Unwritten => formatter.write_str("stdout: unwritten"),
+        }
+    }
+}
+
+impl Error for ServeError {}
+
+impl From<AllocError> for ServeError {
+    ghost from_gives = { λ _ made. made ≡ faults.Memory };
+
+    fn from(_error: AllocError) -> ServeError {
+        ServeError::Memory
+    }
+}
