@@ -1,0 +1,5 @@
+pub mod Figures
+pub mod Files
+pub mod Moments
+pub mod Ports
+pub mod Running

@@ -1,0 +1,136 @@
+//! What is counted of a relay once its threads have ended (docs/PROTOCOL.md, Threads 9).
+ghost use Rattle.std.specs.Prelude.{◌≡◌, ◌+◌, ◌≤◌, ◌<◌, IfOk, map, length, slice_get};
+ghost use Rattle.std.specs.Option.{ForSome};
+ghost use Rattle.live_settle.specs.Desks.{posts_in};
+ghost use Rattle.relay_core.specs.Figures.{feed_figures_view, name_of};
+ghost use Rattle.relay_live.specs.Making.{buffers_in};
+ghost use Rattle.relay_serve.specs.Figures.{HasNames, figures_by};
+
+use block_shelf::BufferFigures;
+use cyc_block::BlockStore;
+use feed_queue::Counts;
+use line_words::Octets;
+use live_store::Archive;
+use relay_conf::{Config, Feed, Peer};
+use relay_core::{FeedFigures, Figures, NamedBuffer, NamedFeed};
+use relay_live::{Counted, Shared};
+use relay_report::Totals;
+use std::alloc::{AllocError, Global};
+use std::sync::Wait;
+use std::sync::ledger::Ledger;
+
+/// What was counted of a run, with the figures of what its threads share.
+pub(crate) fn totals_of<S: BlockStore + Drop, J: Archive, L: Ledger, R: Wait>(
+    rt: &R,
+    alloc: Global,
+    config: &Config,
+    shared: &Shared<S, J, L>,
+    counted: &Counted,
+) -> Result<Totals, AllocError>
+    requires { buffers_in shared.now ≡ length config.now.buffers.buffers.items }
+    ensures names { IfOk result (λ totals. HasNames config.now totals.figures) }
+    ensures accepted { IfOk result (λ totals. totals.accepted ≡ counted.now.accepted) }
+    ensures posted { IfOk result (λ totals. totals.posted ≡ posts_in counted.now.posted) }
+    ensures strays { IfOk result (λ totals. totals.strays ≡ counted.now.strays) }
+    ensures doubles { IfOk result (λ totals. totals.doubles ≡ counted.now.doubles) }
+{
+    let buffers = buffers_of(rt, alloc, config, shared)?;
+    let feeds = feeds_of(rt, alloc, config, shared)?;
+    Ok(Totals {
+        figures: Figures {
+            buffers,
+            feeds,
+            ids: shared.id_counts(rt),
+        },
+        accepted: counted.accepted,
+        posted: counted.posted.count(),
+        strays: counted.strays,
+        doubles: counted.doubles,
+    })
+}
+
+/// Each buffer with its figures.
+fn buffers_of<S: BlockStore + Drop, J: Archive, L: Ledger, R: Wait>(
+    rt: &R,
+    alloc: Global,
+    config: &Config,
+    shared: &Shared<S, J, L>,
+) -> Result<Vec<NamedBuffer>, AllocError>
+    requires { buffers_in shared.now ≡ length config.now.buffers.buffers.items }
+    ensures { IfOk result (λ named. map (λ one. one.name) named.items
+        ≡ map (λ buffer. buffer.name) config.now.buffers.buffers.items) }
+{
+    let buffers = &config.buffers.buffers;
+    let mut named = Vec::with_capacity(alloc, buffers.len())?;
+    for (number, buffer) in buffers.iter().enumerate() {
+        let name = Octets::copied(alloc, buffer.name.as_slice())?;
+        let figures = figures_at(rt, shared, number);
+        named.push_reserved(NamedBuffer { name, figures });
+    }
+    Ok(named)
+}
+
+/// The figures of the buffer of this number.
+fn figures_at<S: BlockStore + Drop, J: Archive, L: Ledger, R: Wait>(
+    rt: &R,
+    shared: &Shared<S, J, L>,
+    number: usize,
+) -> BufferFigures
+    requires { number < buffers_in shared.now }
+{
+    match shared.buffer_figures(rt, number) {
+        Some(figures) => figures,
+        None => unreachable!(),
+    }
+}
+
+/// Each feed with its figures.
+fn feeds_of<S: BlockStore + Drop, J: Archive, L: Ledger, R: Wait>(
+    rt: &R,
+    alloc: Global,
+    config: &Config,
+    shared: &Shared<S, J, L>,
+) -> Result<Vec<NamedFeed>, AllocError>
+    ensures { IfOk result (λ named. map (λ one. one.peer) named.items
+        ≡ map (λ feed. name_of (slice_get config.now.relay.peers.items feed.peer))
+        config.now.relay.feeds.items) }
+{
+    let feeds = &config.relay.feeds;
+    let mut named = Vec::with_capacity(alloc, feeds.len())?;
+    for (number, feed) in feeds.iter().enumerate() {
+        let peer = peer_name(alloc, &config.relay.peers, feed)?;
+        let figures = feed_figures(shared.feed_counts(rt, number as u16));
+        named.push_reserved(NamedFeed { peer, figures });
+    }
+    Ok(named)
+}
+
+/// The name of a feed's peer.
+fn peer_name(alloc: Global, peers: &[Peer], feed: &Feed) -> Result<Octets, AllocError>
+    ensures { IfOk result (λ name. name ≡ name_of (slice_get peers.now feed.now.peer)) }
+{
+    match peers.get(usize::from(feed.peer)) {
+        Some(peer) => Octets::copied(alloc, peer.name.as_slice()),
+        None => Octets::copied(alloc, b""),
+    }
+}
+
+/// The figures of a feed with these counts: what was gained, and neither was taken nor waits, was
+/// overwritten. A feed without counts gained nothing.
+fn feed_figures(counts: Option<Counts>) -> FeedFigures
+    requires { ForSome counts (λ c. c.taken + c.waiting ≤ c.gained) }
+    ensures { feed_figures_view result ≡ figures_by counts }
+{
+    match counts {
+        Some(counts) => FeedFigures {
+            waiting: counts.waiting,
+            gained: counts.gained,
+            overwritten: counts.gained - counts.taken - counts.waiting,
+        },
+        None => FeedFigures {
+            waiting: 0,
+            gained: 0,
+            overwritten: 0,
+        },
+    }
+}

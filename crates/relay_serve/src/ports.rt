@@ -1,0 +1,43 @@
+//! The ports of the peers (docs/FORMATS.md, relay.conf).
+ghost use Rattle.std.specs.Prelude.{◌≡◌, ◌≤◌, All, IfErr, IfOk, length, map};
+ghost use Rattle.peer_ports.specs.Ports.{left_of};
+ghost use Rattle.relay_serve.specs.Ports.{IsPortFault, served_from};
+
+use peer_ports::Port;
+use relay_conf::Peer;
+use relay_live::Door;
+use serve_terms::ServeError;
+use std::alloc::Global;
+use std::net::{Net, TcpListener, TcpStream};
+
+/// A door for each peer that has a port, in the order of the peers: each takes so many connections,
+/// without a number as many as come. The error is want of memory, or the first port that can't be
+/// had.
+pub fn open_ports<N: Net<Listener = TcpListener, Stream = TcpStream>>(
+    net: &N,
+    alloc: Global,
+    peers: &[Peer],
+    sessions: Option<u32>,
+) -> Result<Vec<Door<Port>>, ServeError>
+    ensures peers { IfOk result (λ doors. map (λ door. door.peer) doors.items
+        ≡ served_from 0 peers.now) }
+    ensures left { IfOk result (λ doors.
+        All (λ door. left_of door.connections ≡ sessions) doors.items) }
+    ensures few { IfOk result (λ doors. length doors.items ≤ length peers.now) }
+    ensures fault { IfErr result (IsPortFault peers.now) }
+{
+    let mut doors = Vec::with_capacity(alloc, peers.len())?;
+    for (number, peer) in peers.iter().enumerate() {
+        if peer.port == 0 {
+            continue;
+        }
+        match Port::listen(net, peer.port, sessions) {
+            Ok(connections) => doors.push_reserved(Door {
+                peer: number,
+                connections,
+            }),
+            Err(_) => return Err(ServeError::Port(peer.port)),
+        }
+    }
+    Ok(doors)
+}

@@ -1,0 +1,89 @@
+//! A relay runs in threads, over stores and doors that are given.
+ghost use Rattle.std.specs.Prelude.{◌≡◌, ◌<◌, ◌^◌, true, All, IfErr, IfOk, length, map};
+ghost use Rattle.relay_live.specs.Holding.{has_buffer};
+ghost use Rattle.relay_serve.specs.Running.{IsRunFault, Ran};
+ghost use Rattle.serve_terms.specs.Serve.{AreOf};
+
+use crate::figures::totals_of;
+use cyc_block::BlockStore;
+use live_session::{Clock, Gate};
+use live_store::{Archive, Register};
+use live_wire::Connections;
+use relay_conf::Config;
+use relay_live::{Door, Keeper, LiveError, Shared, serve_all};
+use relay_report::Totals;
+use serve_terms::ServeError;
+use std::alloc::Global;
+use std::hash::RandomState;
+use std::io::ErrorKind;
+use std::random::RandomSource;
+use std::sync::Wait;
+use std::sync::ledger::{Blank, Ledger};
+use std::thread::Threads;
+
+/// Runs a relay of this configuration over these stores, the i-th for buffer i: an end behind each
+/// door, each end and each group's writer in a thread of its own, until all have ended. Each buffer
+/// is formatted anew. The totals are those of the run. The error is want of memory, of random
+/// numbers, or of a thread; what was served before stands, and nothing is counted.
+pub fn run_relay<
+    X: Connections<R> + Drop + Send,
+    S: BlockStore + Drop + Send,
+    J: Archive + Send + Sync,
+    L: Ledger + Send + Sync,
+    C: Clock + Sync,
+    G: Gate<R> + Sync,
+    R: Threads + Wait + RandomSource + Sync,
+>(
+    rt: &R,
+    alloc: Global,
+    config: &Config,
+    register: &Register,
+    blank: Blank,
+    stores: Vec<S>,
+    doors: Vec<Door<X>>,
+    clock: &C,
+    gate: &G,
+) -> Result<Totals, ServeError>
+where
+    <X as Connections<R>>::Reader: Drop + Send,
+    <X as Connections<R>>::Writer: Drop + Send,
+    requires register { register.now ≡ J.register }
+    requires holds { J.holds ≡ has_buffer config.now.buffers }
+    requires name { blank.name ≡ L.name }
+    requires parts { (blank.parts ≡ L.parts)
+        × (blank.parts ≡ length config.now.buffers.groups.items) × (0 < blank.parts) }
+    requires stores { map (λ store. length (S.blocks store)) stores.items
+        ≡ map (λ buffer. buffer.blocks) config.now.buffers.buffers.items }
+    requires honest { J.trusted ≡ true → All S.honest stores.items }
+    requires few { length doors.items < 2 ^ 62 }
+    ensures totals { IfOk result (AreOf config.now) }
+    ensures ran { IfOk result (Ran ⟦<J as Archive>⟧ (length doors.items)) }
+    ensures fault { IfErr result IsRunFault }
+{
+    let groups = config.buffers.groups.len();
+    let (book, all) = blank.open::<L>();
+    let shared = match Shared::new(rt, alloc, config, stores, book, doors.len()) {
+        Ok(shared) => shared,
+        Err(error) => return Err(unbegun(error.kind())),
+    };
+    let hasher = match RandomState::new(rt) {
+        Ok(hasher) => hasher,
+        Err(error) => return Err(unbegun(error.kind())),
+    };
+    let keeper = Keeper::new(&shared, register, &config.buffers, clock);
+    match serve_all(rt, alloc, hasher, &keeper, config, gate, groups, doors, all) {
+        Ok((_seats, counted)) => Ok(totals_of(rt, alloc, config, &shared, &counted)?),
+        Err(LiveError::Memory) => Err(ServeError::Memory),
+        Err(LiveError::NoThread) => Err(ServeError::NoThread),
+    }
+}
+
+/// Why a relay could not begin: memory ran out, or the system has no random numbers.
+fn unbegun(kind: ErrorKind) -> ServeError
+    ensures { result ≡ unbegun_as kind }
+{
+    match kind {
+        ErrorKind::OutOfMemory => ServeError::Memory,
+        _ => ServeError::Unseeded,
+    }
+}

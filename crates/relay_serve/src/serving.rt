@@ -1,0 +1,84 @@
+//! A relay is served on the ports of the machine, over its files.
+ghost use Rattle.std.specs.Prelude.{◌≡◌, ◌<◌, ◌≤◌, ◌^◌, IfErr, IfOk, length, map};
+ghost use Rattle.file_blocks.specs.Store.{count_of};
+ghost use Rattle.relay_serve.specs.Running.{IsRunFault};
+ghost use Rattle.serve_terms.specs.Serve.{AreOf};
+
+use crate::clock::MachineClock;
+use crate::files::open_stores;
+use crate::gate::OpenGate;
+use crate::ports::open_ports;
+use crate::running::run_relay;
+use file_blocks::FileBlocks;
+use live_store::Register;
+use peer_ports::Port;
+use relay_conf::Config;
+use relay_live::Door;
+use relay_report::Totals;
+use serve_terms::{ServeError, Serves, print_totals};
+use std::alloc::Global;
+use std::fs::{File, Files};
+use std::io::Write;
+use std::marker::Brand;
+use std::net::{Net, TcpListener, TcpStream};
+use std::random::RandomSource;
+use std::sync::Wait;
+use std::sync::ledger::Blank;
+use std::thread::Threads;
+use std::time::Clock;
+
+/// Serves on the ports of the machine, over its files: the files are opened first, in the order of
+/// the buffers, then the ports, in the order of the peers. Each start formats the buffers anew.
+#[derive(Clone, Copy, Debug, PartialEq, Eq)]
+pub struct OnPorts;
+
+impl<R> Serves<R> for OnPorts
+where
+    R: Threads
+        + Wait
+        + Net<Listener = TcpListener, Stream = TcpStream>
+        + Files<File = File>
+        + Clock
+        + RandomSource
+        + Sync,
+{
+    fn serve<W: Write>(
+        &self,
+        rt: &R,
+        alloc: Global,
+        config: &Config,
+        folder: &str,
+        sessions: Option<u32>,
+        writer: &mut W,
+    ) -> Result<(), ServeError> {
+        let stores = open_stores(rt, alloc, &config.buffers, folder)?;
+        let doors = open_ports(rt, alloc, &config.relay.peers, sessions)?;
+        let totals = run_on(rt, alloc, config, stores, doors)?;
+        print_totals(alloc, &totals, writer)
+    }
+}
+
+/// Runs the relay over these stores and ports, by the machine's clock. Nothing says that a file of
+/// the machine is honest, so nothing is promised of what the stores give.
+fn run_on<R>(
+    rt: &R,
+    alloc: Global,
+    config: &Config,
+    stores: Vec<FileBlocks>,
+    doors: Vec<Door<Port>>,
+) -> Result<Totals, ServeError>
+where
+    R: Threads + Wait + Clock + RandomSource + Sync,
+    requires stores { map count_of stores.items
+        ≡ map (λ buffer. buffer.blocks) config.now.buffers.buffers.items }
+    requires few { length doors.items < 2 ^ 62 }
+    ensures totals { IfOk result (AreOf config.now) }
+    ensures fault { IfErr result IsRunFault }
+{
+    let register: Register = boxcar::Vec::new(alloc)?;
+    let clock = MachineClock::new(rt);
+    let blank = Blank::new(config.buffers.groups.len() as u64);
+    run_relay::<Port, FileBlocks, Brand, Brand, MachineClock<'_, R>, OpenGate, R>(
+        rt, alloc, config, &register, blank, stores, doors, &clock, &OpenGate,
+    )
+}
