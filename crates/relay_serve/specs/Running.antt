@@ -12,6 +12,8 @@ use Rattle.live_seats.specs.Gathered.{AllTold, NoneElse, kept_by_all}
 use Rattle.live_seats.specs.declared.outcome.Done.{Done}
 use Rattle.live_store.specs.declared.record.Archive.{Ghosts}
 use Rattle.relay_live.specs.Sessions.{Accounted}
+use Rattle.relay_live.specs.declared.running.LiveError.{LiveError}
+use Rattle.relay_live.specs.declared.running.LiveError.TheVariants as errors
 use Rattle.relay_model.specs.Terms.{Terms}
 use Rattle.relay_report.specs.declared.totals.Totals.{Totals}
 use Rattle.serve_terms.specs.declared.fault.ServeError.{ServeError}
@@ -21,6 +23,11 @@ use Rattle.serve_terms.specs.declared.fault.ServeError.TheVariants as faults
 abbrev pub unbegun_as : ErrorKind → ServeError
 unbegun_as OutOfMemory = faults.Memory
 unbegun_as kind = faults.Unseeded
+
+-- why its threads ended before they had served: memory was refused, or no thread was to be had
+abbrev pub ended_as : LiveError → ServeError
+ended_as errors.Memory = faults.Memory
+ended_as errors.NoThread = faults.NoThread
 
 -- memory was refused, the system had no random numbers, or a thread couldn't be started
 abbrev pub IsRunFault : ServeError → Type 0

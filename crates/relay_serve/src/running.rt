@@ -1,7 +1,7 @@
 //! A relay runs in threads, over stores and doors that are given.
 ghost use Rattle.std.specs.Prelude.{◌≡◌, ◌<◌, ◌^◌, true, All, IfErr, IfOk, length, map};
 ghost use Rattle.relay_live.specs.Holding.{has_buffer};
-ghost use Rattle.relay_serve.specs.Running.{IsRunFault, Ran};
+ghost use Rattle.relay_serve.specs.Running.{IsRunFault, Ran, ended_as, unbegun_as};
 ghost use Rattle.serve_terms.specs.Serve.{AreOf};
 
 use crate::figures::totals_of;
@@ -73,8 +73,7 @@ where
     let keeper = Keeper::new(&shared, register, &config.buffers, clock);
     match serve_all(rt, alloc, hasher, &keeper, config, gate, groups, doors, all) {
         Ok((_seats, counted)) => Ok(totals_of(rt, alloc, config, &shared, &counted)?),
-        Err(LiveError::Memory) => Err(ServeError::Memory),
-        Err(LiveError::NoThread) => Err(ServeError::NoThread),
+        Err(error) => Err(ended(error)),
     }
 }
 
@@ -85,5 +84,15 @@ fn unbegun(kind: ErrorKind) -> ServeError
     match kind {
         ErrorKind::OutOfMemory => ServeError::Memory,
         _ => ServeError::Unseeded,
+    }
+}
+
+/// Why the threads of a relay ended before they had served.
+fn ended(error: LiveError) -> ServeError
+    ensures { result ≡ ended_as error }
+{
+    match error {
+        LiveError::Memory => ServeError::Memory,
+        LiveError::NoThread => ServeError::NoThread,
     }
 }
