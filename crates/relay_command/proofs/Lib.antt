@@ -1,3 +1,4 @@
 pub mod Checks
 pub mod CommandLines
+pub mod Numbers
 pub mod Scripts

@@ -1,13 +1,17 @@
 -- What the program's words ask for (docs/PROTOCOL.md, Commands), by what clap states of them.
 use Rattle.std.specs.Prelude.{◌≡◌, ◌⊎◌, ℕ, true, false, List, [], Option, Some, None}
 use Rattle.std.specs.Prelude.{Result, Ok, Err, unwrap_or, codes, string_bytes, if◌then◌else◌}
+use Rattle.std.specs.Prelude.{option_and_then, pos}
 use Rattle.std.specs.Str.{bytes_eq}
-use Rattle.clap.specs.Words.{App, app_of, Row, Rule, Text, first_of, new_app, new_rule}
+use Rattle.std.specs.Str.Parse.{digits_value, without_leading_plus}
+use Rattle.clap.specs.ValueTests.{is_unsigned_in}
+use Rattle.clap.specs.Words.{App, app_of, Row, Rule, Text, first_of, new_app, new_rule, one_of}
 use Rattle.clap.specs.Words.{subcommand_of, with_rule, with_subcommand}
 use Rattle.clap.specs.Words.{IsAmong, fault_of, kind_of}
 use Rattle.clap.specs.declared.builder.Command.{Command}
 use Rattle.clap.specs.declared.builder.Command.TheViews.{out-Command as fields_of}
 use Rattle.clap.specs.declared.builder.ArgAction.TheVariants.{Set}
+use Rattle.clap.specs.declared.builder.ValueParser.TheVariants.{Signed}
 use Rattle.clap.specs.declared.error.Error.{Error}
 use Rattle.clap.specs.declared.error.kind.ErrorKind.{ErrorKind}
 use Rattle.clap.specs.declared.error.kind.ErrorKind.TheVariants.{OutOfMemory}
@@ -22,12 +26,16 @@ pub data Asked : Type 0 where
   Checks : (folder : List ℕ) → Asked
   -- to tell the parts of a token
   Tells : (text : List ℕ) → Asked
+  -- to serve the configuration in a folder on its ports: each until it has served so many
+  -- connections, or without an end
+  Serves : (folder : List ℕ) (sessions : Option ℕ) → Asked
 
 -- a job as the words ask for it
 abbrev pub asked : Job → Asked
 asked (jobs.Drill folder script) = Drills (string_bytes folder) (string_bytes script)
 asked (jobs.Check folder) = Checks (string_bytes folder)
 asked (jobs.Token text) = Tells (string_bytes text)
+asked (jobs.Serve folder sessions) = Serves (string_bytes folder) sessions
 
 -- a word that has to be there
 abbrev pub needed : Text → Rule
@@ -42,6 +50,19 @@ abbrev pub drill_words : App
 drill_words =
     with_rule (with_rule (new_app (codes "drill")) (needed (codes "DIR"))) (needed (codes "SCRIPT"))
 
+-- `--sessions N`, a number of 1 to 1,000,000 that may be left out
+abbrev pub sessions_rule : Rule
+sessions_rule = record (new_rule (codes "sessions")) {
+  long = Some (codes "sessions");
+  value_names = 1;
+  parser = Some (Signed (pos 1) (pos 1000000));
+  action = Some Set;
+}
+
+-- `serve DIR [--sessions N]`
+abbrev pub serve_words : App
+serve_words = with_rule (with_rule (new_app (codes "serve")) (needed (codes "DIR"))) sessions_rule
+
 -- `token TEXT`
 abbrev pub token_words : App
 token_words = with_rule (new_app (codes "token")) (needed (codes "TEXT"))
@@ -54,8 +75,8 @@ version_words =
 -- the words that there are
 abbrev pub program_words : App
 program_words =
-    with_subcommand (with_subcommand (with_subcommand version_words check_words.top)
-    drill_words.top) token_words.top
+    with_subcommand (with_subcommand (with_subcommand (with_subcommand version_words
+    check_words.top) drill_words.top) serve_words.top) token_words.top
 
 -- the command reads these words, and has no argument that counts below it too
 pub record Reads (command : Command) (app : App) : Type 0 where
@@ -66,6 +87,19 @@ pub record Reads (command : Command) (app : App) : Type 0 where
 abbrev pub word_given : Text → List Row → List ℕ
 word_given name rows = unwrap_or (first_of name rows) []
 
+-- the number of a text that clap takes for a number of 32 bits
+abbrev pub number_of : Text → Option ℕ
+number_of text = if is_unsigned_in 0 4294967295 text
+    then Some (digits_value 10 (without_leading_plus text)) else None
+
+-- the number given for `--sessions`, where there is one
+abbrev pub sessions_given : List Row → Option ℕ
+sessions_given rows = option_and_then number_of (one_of (codes "sessions") rows)
+
+-- what `serve` asks, with what is given for its names
+abbrev pub serves_by : List Row → Asked
+serves_by rows = Serves (word_given (codes "DIR") rows) (sessions_given rows)
+
 -- what is asked by the subcommand that the words name, with what is given for its names; without
 -- one it is a drill with the built-in configuration, of the script on standard input
 abbrev pub asked_by : Option (Text × List Row) → Asked
@@ -73,6 +107,7 @@ asked_by None = Drills (codes "K1") (codes "stdin")
 asked_by (Some met) =
     if bytes_eq met.0 (codes "check") then Checks (word_given (codes "DIR") met.1)
     else if bytes_eq met.0 (codes "token") then Tells (word_given (codes "TEXT") met.1)
+    else if bytes_eq met.0 (codes "serve") then serves_by met.1
     else Drills (word_given (codes "DIR") met.1) (word_given (codes "SCRIPT") met.1)
 
 -- the words have a fault of this kind, by clap's reading of them; to ask for help or the version is

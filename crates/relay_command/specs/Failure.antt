@@ -15,10 +15,13 @@ use Rattle.relay_command.specs.Version.{version_line}
 use Rattle.relay_command.specs.declared.load.CheckError.TheVariants as check
 use Rattle.relay_command.specs.declared.failure.Failure.{Failure}
 use Rattle.relay_command.specs.declared.failure.Failure.TheVariants.{Unbegun, Words, Check}
-use Rattle.relay_command.specs.declared.failure.Failure.TheVariants.{Drill, Token, Unwritten}
+use Rattle.relay_command.specs.declared.failure.Failure.TheVariants.{Drill, Serve, Token}
+use Rattle.relay_command.specs.declared.failure.Failure.TheVariants.{Unwritten}
 use Rattle.relay_command.specs.declared.failure.Unbegun.TheVariants as unbegun
 use Rattle.relay_command.specs.declared.failure.Unbegun as begin
 use Rattle.relay_command.specs.declared.token.TokenFault.TheVariants as token
+use Rattle.serve_terms.specs.Text as serving
+use Rattle.serve_terms.specs.declared.fault.ServeError.TheVariants as serve
 
 -- why the words can't be had: memory ran out, or one is no UTF-8 (docs/PROTOCOL.md, Statuses)
 abbrev pub unbegun_as : io.ErrorKind → begin.Unbegun
@@ -30,8 +33,8 @@ abbrev pub words_status : ErrorKind → ℕ
 words_status OutOfMemory = 5
 words_status kind = 1
 
--- 1 for the command line, 2 for the configuration, 3 for the script or the token, 4 for the output
--- or a relay that can't start, 5 for memory
+-- 1 for the command line, 2 for the configuration, 3 for the script or the token, 4 for the output,
+-- a file, a port or a relay that can't start, 5 for memory or a thread
 abbrev pub status_of : Failure → ℕ
 status_of (Unbegun unbegun.Memory) = 5
 status_of (Unbegun unbegun.NoText) = 1
@@ -50,6 +53,12 @@ status_of (Token token.Marks) = 3
 status_of (Token token.Digit) = 3
 status_of (Token token.LowerCase) = 3
 status_of (Token token.Unwritten) = 4
+status_of (Serve (serve.File name)) = 4
+status_of (Serve (serve.Port number)) = 4
+status_of (Serve serve.Unseeded) = 4
+status_of (Serve serve.Memory) = 5
+status_of (Serve serve.NoThread) = 5
+status_of (Serve serve.Unwritten) = 4
 status_of Unwritten = 4
 
 -- 0 where all went well, else the failure's
@@ -79,6 +88,7 @@ told_of (Words error) = words_text (kind_of error)
 told_of (Check error) = Some (ended (check_text error))
 told_of (Drill error) = Some (ended (text_of error))
 told_of (Token fault) = Some (ended (fault_text fault))
+told_of (Serve error) = Some (ended (serving.text_of error))
 told_of Unwritten = Some (ended (codes "stdout: unwritten"))
 
 -- what is told of words with a fault of this kind was written

@@ -3,22 +3,31 @@ ghost use Rattle.std.specs.Prelude.{◌≡◌, false, map, string_bytes, None, S
 ghost use Rattle.clap.specs.Words.{found_of, rows_of, rule_of, subcommand_rows_of};
 ghost use Rattle.relay_command.specs.CommandLine.{Reads, ReadsWords, asked, asked_by};
 ghost use Rattle.relay_command.specs.CommandLine.{word_given, check_words, drill_words};
-ghost use Rattle.relay_command.specs.CommandLine.{token_words};
-ghost use Rattle.relay_command.specs.CommandLine.{needed, program_words};
+ghost use Rattle.relay_command.specs.CommandLine.{serves_by, sessions_given, sessions_rule};
+ghost use Rattle.relay_command.specs.CommandLine.{needed, program_words, serve_words, token_words};
 
 use crate::version::VERSION;
-use clap::{Arg, ArgAction, ArgMatches, Command, Error};
+use clap::{Arg, ArgAction, ArgMatches, Command, Error, value_parser};
 use std::alloc::{AllocError, Global};
 
 /// What the words ask for.
 #[derive(Debug, Drop)]
 pub enum Job {
     /// To run a script with the configuration in this folder, or the built-in one.
-    Drill { folder: String, script: String },
+    Drill {
+        folder: String,
+        script: String,
+    },
     /// To read the configuration in this folder, or the built-in one, and say what it has.
     Check(String),
     /// To say what this text of a token stands for.
     Token(String),
+    /// To serve the configuration in this folder, or the built-in one, on its peers' ports: each
+    /// until it has served so many connections, or without an end.
+    Serve {
+        folder: String,
+        sessions: Option<u32>,
+    },
 }
 
 /// Reads the words, the program's name first. Without further words they ask for a drill.
@@ -63,10 +72,29 @@ fn job_named(alloc: Global, name: &str, given: &ArgMatches<'_>) -> Result<Job, A
     if name == "token" {
         return Ok(Job::Token(word(alloc, given, "TEXT")?));
     }
+    if name == "serve" {
+        return service(alloc, given);
+    }
     Ok(Job::Drill {
         folder: word(alloc, given, "DIR")?,
         script: word(alloc, given, "SCRIPT")?,
     })
+}
+
+/// What `serve` asks for, with what was given for its words.
+fn service(alloc: Global, given: &ArgMatches<'_>) -> Result<Job, AllocError>
+    ensures { IfOk result (λ job. asked job ≡ serves_by (rows_of (found_of given.now))) }
+{
+    let folder = word(alloc, given, "DIR")?;
+    let sessions = sessions(given);
+    Ok(Job::Serve { folder, sessions })
+}
+
+/// How many connections each port is to serve, where a number was given.
+fn sessions(given: &ArgMatches<'_>) -> Option<u32>
+    ensures { result ≡ sessions_given (rows_of (found_of given.now)) }
+{
+    given.get_one::<u32>("sessions")
 }
 
 /// The word that was given for a name, empty where none was.
@@ -91,6 +119,7 @@ fn command<'a>(alloc: Global) -> Result<Command<'a>, AllocError>
         whole
             .subcommand(check(alloc)?)?
             .subcommand(drill(alloc)?)?
+            .subcommand(serve(alloc)?)?
             .subcommand(token(alloc)?)?,
     )
 }
@@ -123,6 +152,34 @@ fn drill<'a>(alloc: Global) -> Result<Command<'a>, AllocError>
             .arg(folder)?
             .arg(script)?,
     )
+}
+
+/// `serve DIR [--sessions N]`.
+fn serve<'a>(alloc: Global) -> Result<Command<'a>, AllocError>
+    ensures { IfOk result (λ command. Reads command serve_words) }
+{
+    let folder = needed(alloc, "DIR").help(
+        "The folder of the configuration: K1 is the built-in one",
+    );
+    let sessions = limit(alloc).help("Each port ends after so many connections: 1 to 1000000");
+    Ok(
+        Command::new(alloc, "serve")
+            .about("Serves a configuration on its peers' ports")
+            .arg(folder)?
+            .arg(sessions)?,
+    )
+}
+
+/// `--sessions N`.
+fn limit<'a>(alloc: Global) -> Arg<'a>
+    ensures rule { rule_of result ≡ sessions_rule }
+    ensures own { result.global ≡ false }
+{
+    Arg::new(alloc, "sessions")
+        .long("sessions")
+        .value_name("N")
+        .value_parser(value_parser!(u32).range(1..1_000_001))
+        .action(ArgAction::Set)
 }
 
 /// `token TEXT`.

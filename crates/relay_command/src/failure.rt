@@ -10,6 +10,7 @@ use crate::token::TokenFault;
 use crate::version::tell_version;
 use clap::error::ErrorKind;
 use relay_drill::DrillError;
+use serve_terms::ServeError;
 use std::fmt::{Display, Formatter};
 use std::io::Write;
 use std::process::ExitCode;
@@ -56,6 +57,9 @@ pub enum Failure {
     /// A token is not told.
     #[error(transparent)]
     Token(TokenFault),
+    /// A relay was not served to its end, or its report not written.
+    #[error(transparent)]
+    Serve(ServeError),
     /// Standard output took no more. What it took before stands.
     #[error("stdout: unwritten")]
     Unwritten,
@@ -76,8 +80,11 @@ impl Failure {
             Failure::Unwritten => 4,
             Failure::Check(CheckError::Unwritten) => 4,
             Failure::Drill(DrillError::Unwritten | DrillError::Unseeded) => 4,
+            Failure::Serve(ServeError::File(_) | ServeError::Port(_)) => 4,
+            Failure::Serve(ServeError::Unseeded | ServeError::Unwritten) => 4,
             Failure::Unbegun(Unbegun::Memory) => 5,
             Failure::Check(CheckError::Memory) | Failure::Drill(DrillError::Memory) => 5,
+            Failure::Serve(ServeError::Memory | ServeError::NoThread) => 5,
         }
     }
 }
@@ -104,6 +111,7 @@ pub fn print_failure<W: Write>(ran: &Result<(), Failure>, writer: &mut W) -> io:
         Err(Failure::Check(error)) => writeln!(writer, "{error}"),
         Err(Failure::Drill(error)) => writeln!(writer, "{error}"),
         Err(Failure::Token(fault)) => writeln!(writer, "{fault}"),
+        Err(Failure::Serve(error)) => writeln!(writer, "{error}"),
         Err(Failure::Unwritten) => writer.write_all(b"stdout: unwritten\n"),
     }
 }

@@ -1,8 +1,9 @@
 //! What the program does with its words (docs/PROTOCOL.md, Program): it runs a drill, says what a
-//! configuration has, or what a token stands for; and why it ends where it fails, with the status.
+//! configuration has, or what a token stands for, or has a relay served on ports; and why it ends
+//! where it fails, with the status.
 //!
 //! The words decide which of these is done, on which streams and with which failure (`run`). Where
-//! the words and the streams come from is the program's.
+//! the words and the streams come from is the program's, and so is what serves.
 #![tactic(auto)]
 
 mod check;
@@ -12,6 +13,7 @@ mod file;
 mod gathered;
 mod load;
 mod program;
+mod serve;
 mod token;
 mod version;
 

@@ -15,9 +15,11 @@ use crate::failure::{Failure, Unbegun};
 use crate::file::read_file;
 use crate::gathered::hand_on;
 use crate::load::load;
+use crate::serve::serve_in;
 use crate::token::tell;
 use relay_conf::Config;
 use relay_drill::{DrillError, drill};
+use serve_terms::Serves;
 use std::alloc::Global;
 use std::env;
 use std::env::{Args, Env};
@@ -60,10 +62,12 @@ fn unread(kind: ErrorKind) -> Unbegun
 
 /// Does what the words ask for, of which the first is the program's name. `reader` is standard
 /// input; what is printed where nothing fails goes to standard output by `writer`, and is handed on
-/// to its end before a failure is told. `rt` has the files, and seeds the core's hasher.
-pub fn run<S: Files + RandomSource, R: Read, W: Write + Drop>(
+/// to its end before a failure is told. `rt` has the files, and seeds the core's hasher; `server`
+/// is what serves a relay on ports.
+pub fn run<S: Files + RandomSource, V: Serves<S>, R: Read, W: Write + Drop>(
     rt: &S,
     alloc: Global,
+    server: &V,
     words: &[String],
     reader: &mut R,
     writer: &mut BufWriter<W>,
@@ -72,14 +76,15 @@ pub fn run<S: Files + RandomSource, R: Read, W: Write + Drop>(
         (writer_contents W.contents writer.old) (W.contents (writer_inner writer.new))
         (writer_buffer writer.new) }
 {
-    let ran = obey(rt, alloc, words, reader, writer);
+    let ran = obey(rt, alloc, server, words, reader, writer);
     hand_on(ran, writer)
 }
 
 /// Does what the words ask for.
-fn obey<S: Files + RandomSource, R: Read, W: Write>(
+fn obey<S: Files + RandomSource, V: Serves<S>, R: Read, W: Write>(
     rt: &S,
     alloc: Global,
+    server: &V,
     words: &[String],
     reader: &mut R,
     writer: &mut W,
@@ -88,15 +93,16 @@ fn obey<S: Files + RandomSource, R: Read, W: Write>(
         (W.contents writer.old) (W.contents writer.new) }
 {
     match read_words(alloc, words) {
-        Ok(job) => perform(rt, alloc, &job, reader, writer),
+        Ok(job) => perform(rt, alloc, server, &job, reader, writer),
         Err(error) => Err(Failure::Words(error)),
     }
 }
 
 /// Does what is asked for.
-fn perform<S: Files + RandomSource, R: Read, W: Write>(
+fn perform<S: Files + RandomSource, V: Serves<S>, R: Read, W: Write>(
     rt: &S,
     alloc: Global,
+    server: &V,
     job: &Job,
     reader: &mut R,
     writer: &mut W,
@@ -114,6 +120,7 @@ fn perform<S: Files + RandomSource, R: Read, W: Write>(
             Ok(()) => Ok(()),
             Err(fault) => Err(Failure::Token(fault)),
         },
+        Job::Serve { folder, sessions } => serve_in(rt, alloc, server, folder, *sessions, writer),
     }
 }
 

@@ -14,6 +14,9 @@ returns c =
     let drills = with_command c.in_ok-subcommand.field-0 c.in_ok-drill.field-0
     c.in_ok-subcommand-2.field-0 _ _ checks c.in_ok-drill.ensures
     c.in_ok-subcommand-2.ensures in
-    with_command c.in_ok-subcommand-2.field-0 c.in_ok-token.field-0
-    c.in_ok-subcommand-3.field-0 _ _ drills c.in_ok-token.ensures
-    c.in_ok-subcommand-3.ensures
+    let serves = with_command c.in_ok-subcommand-2.field-0 c.in_ok-serve.field-0
+    c.in_ok-subcommand-3.field-0 _ _ drills c.in_ok-serve.ensures
+    c.in_ok-subcommand-3.ensures in
+    with_command c.in_ok-subcommand-3.field-0 c.in_ok-token.field-0
+    c.in_ok-subcommand-4.field-0 _ _ serves c.in_ok-token.ensures
+    c.in_ok-subcommand-4.ensures
