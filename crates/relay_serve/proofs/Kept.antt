@@ -1,5 +1,5 @@
 -- What stands at a place of a row, of which another is made.
-use Rattle.std.proofs.Common.{◌≡◌, ℕ, zero, suc, List, [], ◌∷◌, map, refl}
+use Rattle.std.proofs.Common.{◌≡◌, ◌∙◌, ℕ, zero, suc, List, [], ◌∷◌, ap, map, refl, sym}
 use Rattle.std.specs.Prelude.{Some, slice_get}
 
 some_is : {X : Type 0} (x y : X) → Some x ≡ Some y → x ≡ y

@@ -1,8 +1,7 @@
-use Rattle.std.proofs.Common.{◌∙◌, ℕ, ap, length, map, subst, sym}
+use Rattle.std.proofs.Common.{◌∙◌, ℕ, ap, map, subst, sym}
 use Rattle.std.specs.Prelude.{slice_get}
 use Rattle.std.proofs.lemmas.List.{length-map}
 use Rattle.article_verdict.specs.Config.{terms_of}
-use Rattle.live_fates.specs.declared.fate.KeptJob.{KeptJob}
 use Rattle.live_seats.specs.Gathered.{NoneElse, hands_of}
 use Rattle.relay_live.specs.Ends.{kept_of, peer_of, terms_at}
 use Rattle.relay_live.specs.Sessions.{Accounted}
@@ -30,8 +29,9 @@ returns-in-Ok-serve_all-clause-ran g c =
           let its_peer = one_there _ _ end (peer_of at.0) peer ran.peers (made_there peer_of ends end at.0 at.1) at_peer in
           let its_terms = same_there (terms_of config) c.args.doors.items end (terms_at at.0) (ap (λ row. slice_get row end) (sym ran.terms) ∙ made_there terms_at ends end at.0 at.1) in (
             has.0,
-            subst (λ (x : (Terms × ℕ) × List (KeptJob _ _)). Accounted g.J.Archive.trusted x.0.0 end x.0.1 has.0 jobs x.1)
-                (λ i. ((its_terms i, its_peer i), at.2 i)) has.1,
+            subst (λ (x : Terms × ℕ). Accounted g.J.Archive.trusted x.0 end x.1 has.0 jobs answers)
+                (λ i. (its_terms i, its_peer i))
+                (subst (λ list. Accounted g.J.Archive.trusted (terms_at at.0) end (peer_of at.0) has.0 jobs list) at.2 has.1),
           );
       accepted = counted.accepted ∙ ran.accepted;
       strays = counted.strays ∙ ran.strays;
