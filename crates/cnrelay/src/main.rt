@@ -50,7 +50,9 @@ where
         &words,
         &mut rt.reader(),
         &mut output,
-        |config, folder, sessions, writer| serve_on(rt, alloc, config, folder, sessions, writer),
+        move |config, folder, sessions, writer| serve_on(
+            rt, alloc, config, folder, sessions, writer,
+        ),
     );
     let (_device, _unwritten) = output.into_parts();
     ran
