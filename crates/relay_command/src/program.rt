@@ -6,6 +6,7 @@ ghost use Rattle.std.specs.Io.Buffered.{writer_buffer, writer_contents, writer_i
 ghost use Rattle.relay_command.specs.Failure.{unbegun_as};
 ghost use Rattle.relay_command.specs.Gathered.{RunsGathered};
 ghost use Rattle.relay_command.specs.Run.{DrillsScript, Performs, RunGives};
+ghost use Rattle.serve_terms.specs.Serve.{AnswersRightly};
 ghost use Rattle.relay_command.specs.declared.failure.Failure.TheVariants as failures;
 ghost use Rattle.relay_command.specs.declared.failure.Unbegun.TheVariants as begin;
 
@@ -19,7 +20,7 @@ use crate::serve::serve_in;
 use crate::token::tell;
 use relay_conf::Config;
 use relay_drill::{DrillError, drill};
-use serve_terms::Serves;
+use serve_terms::ServeError;
 use std::alloc::Global;
 use std::env;
 use std::env::{Args, Env};
@@ -62,51 +63,64 @@ fn unread(kind: ErrorKind) -> Unbegun
 
 /// Does what the words ask for, of which the first is the program's name. `reader` is standard
 /// input; what is printed where nothing fails goes to standard output by `writer`, and is handed on
-/// to its end before a failure is told. `rt` has the files, and seeds the core's hasher; `server`
-/// is what serves a relay on ports.
-pub fn run<S: Files + RandomSource, V: Serves<S>, R: Read, W: Write + Drop>(
+/// to its end before a failure is told. `rt` has the files, and seeds the core's hasher; `serve` is
+/// asked to serve a relay on ports: with its configuration, the folder of its files, and after how
+/// many connections each port ends.
+pub fn run<S: Files + RandomSource, R: Read, W: Write + Drop, V>(
     rt: &S,
     alloc: Global,
-    server: &V,
     words: &[String],
     reader: &mut R,
     writer: &mut BufWriter<W>,
+    serve: V,
 ) -> Result<(), Failure>
+where
+    V: FnOnce(&Config, &str, Option<u32>, &mut BufWriter<W>) -> Result<(), ServeError>,
+    requires called { V.IsAlwaysCallable serve }
+    requires rightly { AnswersRightly (writer_contents W.contents) (V.post serve) }
     ensures { RunsGathered (map string_bytes words.now) result (R.remaining reader.old)
         (writer_contents W.contents writer.old) (W.contents (writer_inner writer.new))
         (writer_buffer writer.new) }
 {
-    let ran = obey(rt, alloc, server, words, reader, writer);
+    let ran = obey(rt, alloc, words, reader, writer, serve);
     hand_on(ran, writer)
 }
 
 /// Does what the words ask for.
-fn obey<S: Files + RandomSource, V: Serves<S>, R: Read, W: Write>(
+fn obey<S: Files + RandomSource, R: Read, W: Write, V>(
     rt: &S,
     alloc: Global,
-    server: &V,
     words: &[String],
     reader: &mut R,
     writer: &mut W,
+    serve: V,
 ) -> Result<(), Failure>
+where
+    V: FnOnce(&Config, &str, Option<u32>, &mut W) -> Result<(), ServeError>,
+    requires called { V.IsAlwaysCallable serve }
+    requires rightly { AnswersRightly W.contents (V.post serve) }
     ensures { RunGives (map string_bytes words.now) result (R.remaining reader.old)
         (W.contents writer.old) (W.contents writer.new) }
 {
     match read_words(alloc, words) {
-        Ok(job) => perform(rt, alloc, server, &job, reader, writer),
+        Ok(job) => perform(rt, alloc, &job, reader, writer, serve),
         Err(error) => Err(Failure::Words(error)),
     }
 }
 
 /// Does what is asked for.
-fn perform<S: Files + RandomSource, V: Serves<S>, R: Read, W: Write>(
+fn perform<S: Files + RandomSource, R: Read, W: Write, V>(
     rt: &S,
     alloc: Global,
-    server: &V,
     job: &Job,
     reader: &mut R,
     writer: &mut W,
+    serve: V,
 ) -> Result<(), Failure>
+where
+    V: FnOnce(&Config, &str, Option<u32>, &mut W) -> Result<(), ServeError>,
+    requires called { V.IsAlwaysCallable serve }
+    requires rightly { AnswersRightly W.contents (V.post serve) }
     ensures { Performs (asked job.now) result (R.remaining reader.old)
         (W.contents writer.old) (W.contents writer.new) }
 {
@@ -120,7 +134,7 @@ fn perform<S: Files + RandomSource, V: Serves<S>, R: Read, W: Write>(
             Ok(()) => Ok(()),
             Err(fault) => Err(Failure::Token(fault)),
         },
-        Job::Serve { folder, sessions } => serve_in(rt, alloc, server, folder, *sessions, writer),
+        Job::Serve { folder, sessions } => serve_in(rt, alloc, folder, *sessions, writer, serve),
     }
 }
 

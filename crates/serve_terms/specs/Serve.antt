@@ -1,5 +1,6 @@
 -- What serving a relay answers, and what is printed of it (docs/PROTOCOL.md, `serve`).
 use Rattle.std.specs.Prelude.{◌≡◌, ◌≢◌, ℕ, List, map, Any, Option, Result, Ok, Err}
+use denote.Ref.{Bor, MutBor}
 use Rattle.std.specs.Prelude.{slice_get, string_bytes}
 use Rattle.std.specs.Str.Lossy.{utf8_lossy}
 use Rattle.std.specs.Io.KnownBytes.{Appends, Keeps}
@@ -55,3 +56,15 @@ ServeGives config (Err faults.Unwritten) before after =
     (totals : Totals) × AreOf config totals
     × PrintGives totals (Err faults.Unwritten) before after
 ServeGives config (Err error) before after = NamesFault config error × Keeps before after
+
+-- Whatever serves answers rightly: where `post` says what it may answer of a configuration, a
+-- folder, a number of connections and a writer, and what writer it leaves, that is what serving a
+-- relay of the configuration gives.
+abbrev pub AnswersRightly : {W : Type 0} → (contents : W → Option (List ℕ))
+    → (post : Bor Config → Bor (List ℕ) → Option ℕ → MutBor W → Result (Unit {0}) ServeError
+    → MutBor W → Type 0) → Type 0
+AnswersRightly {W} contents post =
+    (config : Bor Config) (folder : Bor (List ℕ)) (sessions : Option ℕ) (writer : MutBor W)
+    (answer : Result (Unit {0}) ServeError) (after : MutBor W)
+    → post config folder sessions writer answer after
+    → ServeGives config.now answer (contents writer.now) (contents after.now)
