@@ -1,14 +1,23 @@
-//! cnrelay, the incoming side of a Netnews transit server: today it runs a drill, a script of
-//! events, over memory, and prints what the relay answers; it says how much a configuration has, or
-//! its first fault, and what a token stands for.
+//! cnrelay, the incoming side of a Netnews transit server: it serves peers on ports, over files; it
+//! runs a drill, a script of events, over memory, and prints what the relay answers; it says how
+//! much a configuration has, or its first fault, and what a token stands for.
 //!
-//! What it does with its words is a promise of `relay_command`. Here its calls are handed the
-//! words, the streams and the files of the system, and nothing is decided.
+//! What it does with its words is a promise of `relay_command`, and what serves of `relay_serve`.
+//! Here the calls of the one are handed the words, the streams and the files of the system, and the
+//! call of the other, and nothing is decided.
 #![tactic(auto)]
 
 use relay_command::{Failure, exit_code, gathering, print_failure, program_words, run};
+use relay_serve::serve_on;
+use std::env::Env;
+use std::fs::{File, Files};
 use std::io;
+use std::net::{Net, TcpListener, TcpStream};
 use std::process::ExitCode;
+use std::random::RandomSource;
+use std::sync::Wait;
+use std::thread::Threads;
+use std::time::Clock;
 
 fn main(rt: HostRuntime) -> ExitCode {
     let ran = run_here(&rt);
@@ -16,12 +25,33 @@ fn main(rt: HostRuntime) -> ExitCode {
     exit_code(&ran)
 }
 
-/// Does what the words of the system ask for, over its streams and files. What could not be handed
-/// on to standard output is let go of, and not written when its writer is.
-fn run_here(rt: &HostRuntime) -> Result<(), Failure> {
+/// Does what the words of the system ask for, over its streams, files and ports. What could not be
+/// handed on to standard output is let go of, and not written when its writer is.
+fn run_here<R>(rt: &R) -> Result<(), Failure>
+where
+    R: AllocGlobal
+        + Env
+        + Files<File = File>
+        + Input
+        + Print
+        + Clock
+        + RandomSource
+        + Net<Listener = TcpListener, Stream = TcpStream>
+        + Threads
+        + Wait
+        + Sync,
+{
+    let alloc = rt.alloc();
     let words = program_words(rt)?;
-    let mut output = gathering(rt.alloc(), io::writer(rt))?;
-    let ran = run(rt, rt.alloc(), &words, &mut rt.reader(), &mut output);
+    let mut output = gathering(alloc, io::writer(rt))?;
+    let ran = run(
+        rt,
+        alloc,
+        &words,
+        &mut rt.reader(),
+        &mut output,
+        |config, folder, sessions, writer| serve_on(rt, alloc, config, folder, sessions, writer),
+    );
     let (_device, _unwritten) = output.into_parts();
     ran
 }

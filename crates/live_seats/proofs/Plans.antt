@@ -153,6 +153,11 @@ module _ {P V : Type 0} (f : P → V) where
       front [] = refl
       front (x ∷ xs) = ap (λ (l : List V). x ∷ l) (front xs)
 
+  pub services_start : (ps : List P) (all rest : List V) → length ps ≡ 0 → rest ≡ all
+      → map f ps ++ rest ≡ all
+  services_start [] all rest none same = same
+  services_start (p ∷ ps) all rest none same = absurd (omega arith)
+
   pub services_end : (ps : List P) (all rest : List V) → map f ps ++ rest ≡ all → rest ≡ []
       → map f ps ≡ all
   services_end ps all rest so_far none =

@@ -2,11 +2,16 @@
 use Rattle.std.specs.Prelude.{◌≡◌, ℕ, Bool, false, List, [], length, map, Some, slice_get}
 use Rattle.job_queue.specs.Passes.{QueuePass}
 use Rattle.job_queue.specs.declared.parcel.Handed.{Handed}
-use Rattle.live_seats.specs.Gathered.{OfLane, AllClosed}
+use Rattle.live_seats.specs.Gathered.{OfLane, AllClosed, hands_of}
+use Rattle.live_seats.specs.Rows.{From}
 use Rattle.live_seats.specs.Seats.{IsSeatOf, HasLeft, end_of, count_of, handed_by, left_end}
+use Rattle.live_seats.specs.declared.gather.Seats.{Seats}
 use Rattle.live_seats.specs.declared.lane.Lane.{Lane}
+use Rattle.live_seats.specs.declared.outcome.Outcome.{Ghosts}
 use Rattle.live_seats.specs.declared.session.LeftSeat.{LeftSeat}
 use Rattle.live_seats.specs.declared.session.SessionSeat.{SessionSeat}
+use Rattle.live_seats.specs.declared.start.Plan.{Plan}
+use Rattle.live_seats.specs.declared.writer.WriterSeat.{WriterSeat}
 
 -- a writer that can be started: its pass is of the lane with this number, its share is here, and it
 -- has a flag for each end
@@ -60,3 +65,43 @@ abbrev pub AllKept : {V : Type 0} → (V → (end count : ℕ) → List (List Ha
 AllKept {V} fits hands services =
     (e : ℕ) (jobs : List (List Handed)) (service : V) → slice_get hands e ≡ Some jobs
     → slice_get services e ≡ Some service → HasKept fits service e jobs
+
+-- ---- the rows with which a run begins, and those with which it ends
+
+-- each writer can be started, and has a flag for each of so many ends
+abbrev pub AllReady : {L O : Type 0} {o : Ghosts O} → List Lane → (ends : ℕ)
+    → List (WriterSeat L O o) → Type 0
+AllReady lanes ends writers =
+    From (λ g w. Ready lanes ends g w.pass w.lent w.closed.items) 0 writers
+
+-- each end can be served
+abbrev pub AllOpen : {V : Type 0} → List Lane → List (Plan V) → Type 0
+AllOpen lanes plans = From (λ e p. Open lanes e p.seat) 0 plans
+
+-- what each end keeps is right
+abbrev pub AllRight : {V : Type 0} → (V → (end count : ℕ) → List (List Handed) → Type 0)
+    → List (Plan V) → Type 0
+AllRight fits plans =
+    From (λ e p. fits p.service e (count_of p.seat) (handed_by p.seat)) 0 plans
+
+-- each writer took the closing mark of each of so many ends
+abbrev pub AllEnded : {L O : Type 0} {o : Ghosts O} → List Lane → (ends : ℕ)
+    → List (WriterSeat L O o) → Type 0
+AllEnded lanes ends writers =
+    From (λ g w. Ended lanes ends g w.pass w.lent w.closed.items) 0 writers
+
+-- each end left these lanes
+abbrev pub AllLeft : List Lane → List LeftSeat → Type 0
+AllLeft lanes lefts = From (λ e l. Left lanes e l) 0 lefts
+
+-- All came back, in order: each end left these lanes, what it serves has the mark that it had, and
+-- what it keeps of what it handed over is right; each writer took the closing mark of each end.
+pub record CameBack {L O V M : Type 0} {o : Ghosts O}
+    (fits : V → (end count : ℕ) → List (List Handed) → Type 0) (mark : V → M) (lanes : List Lane)
+    (plans : List (Plan V)) (ready : List (WriterSeat L O o)) (seats : Seats L O V o) : Type 0 where
+  pub lefts : (length seats.lefts.items ≡ length plans) × AllLeft lanes seats.lefts.items
+  pub services : length seats.services.items ≡ length plans
+  pub marks : map mark seats.services.items ≡ map (λ p. mark p.service) plans
+  pub kept : AllKept fits (hands_of seats.lefts.items) seats.services.items
+  pub writers : (length seats.writers.items ≡ length ready)
+      × AllEnded lanes (length plans) seats.writers.items

@@ -9,7 +9,7 @@ ghost use Rattle.live_seats.specs.Gathered.{OfLane, AllClosed, LeftsFit, RestsFi
 ghost use Rattle.live_seats.specs.Gathered.{IsRest, hands_of, told_of, Told, ToldBelow, AllTold};
 ghost use Rattle.live_seats.specs.Gathered.{NoneElse, kept_by_all};
 ghost use Rattle.live_seats.specs.Rows.{From};
-ghost use Rattle.live_seats.specs.Started.{Ended, Left};
+ghost use Rattle.live_seats.specs.Started.{AllEnded, AllLeft};
 ghost use Rattle.live_settle.specs.Desks.{posts_in};
 
 use crate::count::count_all;
@@ -175,10 +175,9 @@ pub fn close<L: Ledger, O: Outcome, V, R: Wait>(
     rests: &mut Vec<QueuePass>,
     seats: &mut Seats<L, O, V>,
 ) -> Totals
-    requires lefts { From (λ e l. Left lanes.now e l) 0 seats.old.lefts.items }
+    requires lefts { AllLeft lanes.now seats.old.lefts.items }
     requires writers { (length seats.old.writers.items ≡ length lanes.now)
-        × From (λ g w. Ended lanes.now (length seats.old.lefts.items) g w.pass w.lent w.closed.items)
-        0 seats.old.writers.items }
+        × AllEnded lanes.now (length seats.old.lefts.items) seats.old.writers.items }
     requires rests { RestsFit lanes.now (length seats.old.lefts.items) rests.old.items }
     requires parts { (L.parts ≡ length seats.old.writers.items)
         × (0 < length seats.old.writers.items) }

@@ -9,10 +9,29 @@ use crossbeam_utils::sync::EventCount;
 use job_queue::{Handed, JobQueue, Parcel, QueuePass};
 use std::alloc::{AllocError, Global};
 use std::sync::Wait;
-use std::thread;
+use std::{hint, thread};
 
-/// How often a thread tries again before it sleeps.
-const TRIES: u32 = 16;
+/// How often a thread looks again before it sleeps.
+pub const LOOKS: u32 = 12;
+
+/// How many of these looks come before it gives way to other threads.
+const OWN_LOOKS: u32 = 8;
+
+/// How many hints a processor has between two looks: a microsecond or so.
+const HINTS: u32 = 32;
+
+/// Lets a little time go by after the look of this number, from 0 on: after the first ones without
+/// giving the processor away, since another thread is about to be done; after later ones it gives
+/// way to other threads, since there may be more of them than processors.
+pub fn linger(look: u32) {
+    if look >= OWN_LOOKS {
+        thread::yield_now();
+        return;
+    }
+    for _ in 0..HINTS {
+        hint::spin_loop();
+    }
+}
 
 /// The queue of a group. Who finds it full or empty sleeps until another thread tells of a parcel
 /// that was taken or pushed.
@@ -75,12 +94,12 @@ impl Lane {
         ensures full { IfErr result (λ back. (back ≡ job) × (view pass.new ≡ view pass.old)) }
     {
         let mut job = job;
-        for _ in 0..TRIES {
+        for look in 0..LOOKS {
             match self.try_hand_over(rt, pass, job) {
                 Ok(()) => return Ok(()),
                 Err(back) => job = back,
             }
-            thread::yield_now();
+            linger(look);
         }
         Err(job)
     }
@@ -170,10 +189,10 @@ impl Lane {
         ensures taken { IfSome result (λ parcel. HasTaken (view pass.old) parcel (view pass.new)) }
         ensures empty { result ≡ None → view pass.new ≡ view pass.old }
     {
-        for _ in 0..TRIES {
+        for look in 0..LOOKS {
             match self.try_take(rt, pass) {
                 Some(parcel) => return Some(parcel),
-                None => thread::yield_now(),
+                None => linger(look),
             }
         }
         None

@@ -7,7 +7,7 @@ ghost use Rattle.live_seats.specs.Lanes.{queue_of};
 ghost use Rattle.live_seats.specs.Rows.{From};
 ghost use Rattle.live_seats.specs.Seats.{count_of, handed_by};
 ghost use Rattle.live_seats.specs.Gathered.{IsRest, RestsFit};
-ghost use Rattle.live_seats.specs.Started.{Ready, Fresh, IsUnused};
+ghost use Rattle.live_seats.specs.Started.{AllReady, Fresh, IsUnused};
 
 use crate::lane::Lane;
 use crate::outcome::Outcome;
@@ -113,8 +113,8 @@ pub fn open_all<L: Ledger, O: Outcome + Drop, V: Drop>(
     ensures ends { IfOk result (λ o. From (λ e p. IsUnused o.lanes.items e p.seat) 0
         o.plans.items) }
     ensures services { IfOk result (λ o. map (λ p. p.service) o.plans.items ≡ services.items) }
-    ensures writers { IfOk result (λ o. From (λ g w. Ready o.lanes.items (length services.items) g
-        w.pass w.lent w.closed.items) 0 o.writers.items) }
+    ensures writers { IfOk result (λ o. AllReady o.lanes.items (length services.items)
+        o.writers.items) }
 {
     let ends = services.len();
     let mut rest = all;

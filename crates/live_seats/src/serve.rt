@@ -1,10 +1,9 @@
 //! Threads over rows of seats.
-ghost use Rattle.std.specs.Prelude.{◌≡◌, ◌+◌, ◌<◌, ◌≤◌, ℕ, true, false, Some, slice_get};
-ghost use Rattle.std.specs.Prelude.{length, vec_len, vec_capacity, IfOk};
+ghost use Rattle.std.specs.Prelude.{◌≡◌, ◌≤◌, true, map, length, vec_len, vec_capacity, IfOk};
 ghost use Rattle.live_seats.specs.Rows.{From};
 ghost use Rattle.live_seats.specs.Gathered.{hands_of};
-ghost use Rattle.live_seats.specs.Seats.{count_of, handed_by};
-ghost use Rattle.live_seats.specs.Started.{Ready, Runs, Open, Serves, Ended, Left, AllKept};
+ghost use Rattle.live_seats.specs.Started.{AllReady, AllOpen, AllRight, Runs, Serves};
+ghost use Rattle.live_seats.specs.Started.{AllEnded, AllLeft, AllKept, CameBack};
 
 use crate::gather::Seats;
 use crate::lane::Lane;
@@ -48,7 +47,7 @@ fn start_writers<
     requires none { length running.old.items ≡ 0 }
     requires room { vec_len writers ≤ vec_capacity running.old }
     requires lanes { length writers.items ≤ length lanes.now }
-    requires fit { From (λ g w. Ready lanes.now ends g w.pass w.lent w.closed.items) 0 writers.items }
+    requires fit { AllReady lanes.now ends writers.items }
     ensures all { result ≡ true → length running.new.items ≡ length writers.items }
     ensures some { length running.new.items ≤ length writers.items }
     ensures fit { From (λ g h. Runs lanes.now ends g h.promise.lane.now h.promise.ends) 0
@@ -72,18 +71,19 @@ fn start_ends<'s, E, V: Service<R> + Drop + Send + 's, R: Threads + Wait + Sync>
     lanes: &'s [Lane],
     plans: Vec<Plan<V>>,
     leaves: &'s Vec<AtomicBool>,
-    serving: &mut Vec<PromisedHandle<Leaver<V>, EndDone<'s>>>,
+    serving: &mut Vec<PromisedHandle<Leaver<V>, EndDone<'s, V>>>,
 ) -> bool
     requires none { length serving.old.items ≡ 0 }
     requires room { (length plans.items ≤ vec_capacity serving.old)
         × (length plans.items ≤ length leaves.now.items) }
-    requires fit { From (λ e p. Open lanes.now e p.seat) 0 plans.items }
-    requires kept { From (λ e p. V.fits p.service e (count_of p.seat) (handed_by p.seat)) 0
-        plans.items }
+    requires fit { AllOpen lanes.now plans.items }
+    requires kept { AllRight V.fits plans.items }
     ensures all { result ≡ true → length serving.new.items ≡ length plans.items }
     ensures some { length serving.new.items ≤ length plans.items }
     ensures fit { From (λ e h. Serves lanes.now e h.promise.lanes.now h.promise.end) 0
         serving.new.items }
+    ensures marks { result ≡ true → map (λ h. V.mark h.promise.service.value) serving.new.items
+        ≡ map (λ p. V.mark p.service) plans.items }
 {
     let mut all = true;
     for plan in plans {
@@ -113,8 +113,7 @@ fn join_writers<'a, L: Ledger, O: Outcome + Drop, R: Threads>(
     requires runs { From (λ g h. Runs lanes.now ends g h.promise.lane.now h.promise.ends) 0
         running.items }
     ensures all { length writers.new.items ≡ length running.entry.items }
-    ensures ended { From (λ g w. Ended lanes.now ends g w.pass w.lent w.closed.items) 0
-        writers.new.items }
+    ensures ended { AllEnded lanes.now ends writers.new.items }
 {
     let _ = lanes.len();
     let _ = ends;
@@ -127,7 +126,7 @@ fn join_writers<'a, L: Ledger, O: Outcome + Drop, R: Threads>(
 fn join_ends<'a, V: Accounts + Drop, R: Threads>(
     rt: &R,
     lanes: &[Lane],
-    serving: Vec<PromisedHandle<Leaver<V>, EndDone<'a>>>,
+    serving: Vec<PromisedHandle<Leaver<V>, EndDone<'a, V>>>,
     lefts: &mut Vec<LeftSeat>,
     services: &mut Vec<V>,
 )
@@ -138,8 +137,10 @@ fn join_ends<'a, V: Accounts + Drop, R: Threads>(
         serving.items }
     ensures all { (length lefts.new.items ≡ length serving.entry.items)
         × (length services.new.items ≡ length serving.entry.items) }
-    ensures left { From (λ e l. Left lanes.now e l) 0 lefts.new.items }
+    ensures left { AllLeft lanes.now lefts.new.items }
     ensures kept { AllKept V.fits (hands_of lefts.new.items) services.new.items }
+    ensures marks { map V.mark services.new.items
+        ≡ map (λ h. V.mark h.promise.service.value) serving.entry.items }
 {
     let _ = lanes.len();
     for handle in serving {
@@ -152,7 +153,7 @@ fn join_ends<'a, V: Accounts + Drop, R: Threads>(
 /// Pushes the closing mark of each end into so many lanes, the first ones, whose writers run.
 fn leave_running<V: Drop, R: Wait>(rt: &R, lanes: &[Lane], plans: Vec<Plan<V>>, groups: usize)
     requires groups { groups ≤ length lanes.now }
-    requires fit { From (λ e p. Open lanes.now e p.seat) 0 plans.items }
+    requires fit { AllOpen lanes.now plans.items }
 {
     for plan in plans {
         let Plan { seat, service: _ } = plan;
@@ -185,19 +186,10 @@ fn run_threads<
 ) -> Result<Seats<L, O, V>, SeatsError>
     requires leaves { length plans.items ≤ length leaves.now.items }
     requires lanes { length writers.items ≤ length lanes.now }
-    requires writers { From (λ g w. Ready lanes.now (length plans.items) g w.pass w.lent w.closed.items)
-        0 writers.items }
-    requires ends { From (λ e p. Open lanes.now e p.seat) 0 plans.items }
-    requires kept { From (λ e p. V.fits p.service e (count_of p.seat) (handed_by p.seat)) 0
-        plans.items }
-    ensures lefts { IfOk result (λ seats. (length seats.lefts.items ≡ length plans.items)
-        × From (λ e l. Left lanes.now e l) 0 seats.lefts.items) }
-    ensures services { IfOk result (λ seats. length seats.services.items ≡ length plans.items) }
-    ensures kept { IfOk result
-        (λ seats. AllKept V.fits (hands_of seats.lefts.items) seats.services.items) }
-    ensures writers { IfOk result (λ seats. (length seats.writers.items ≡ length writers.items)
-        × From (λ g w. Ended lanes.now (length plans.items) g w.pass w.lent w.closed.items) 0
-        seats.writers.items) }
+    requires writers { AllReady lanes.now (length plans.items) writers.items }
+    requires ends { AllOpen lanes.now plans.items }
+    requires kept { AllRight V.fits plans.items }
+    ensures { IfOk result (CameBack V.fits V.mark lanes.now plans.items writers.items) }
 {
     let ends = plans.len();
     let groups = writers.len();
@@ -263,19 +255,10 @@ pub fn serve_seats<
     writers: Vec<WriterSeat<L, O>>,
 ) -> Result<Seats<L, O, V>, SeatsError>
     requires lanes { length writers.items ≤ length lanes.now }
-    requires writers { From (λ g w. Ready lanes.now (length plans.items) g w.pass w.lent w.closed.items)
-        0 writers.items }
-    requires ends { From (λ e p. Open lanes.now e p.seat) 0 plans.items }
-    requires kept { From (λ e p. V.fits p.service e (count_of p.seat) (handed_by p.seat)) 0
-        plans.items }
-    ensures lefts { IfOk result (λ seats. (length seats.lefts.items ≡ length plans.items)
-        × From (λ e l. Left lanes.now e l) 0 seats.lefts.items) }
-    ensures services { IfOk result (λ seats. length seats.services.items ≡ length plans.items) }
-    ensures kept { IfOk result
-        (λ seats. AllKept V.fits (hands_of seats.lefts.items) seats.services.items) }
-    ensures writers { IfOk result (λ seats. (length seats.writers.items ≡ length writers.items)
-        × From (λ g w. Ended lanes.now (length plans.items) g w.pass w.lent w.closed.items) 0
-        seats.writers.items) }
+    requires writers { AllReady lanes.now (length plans.items) writers.items }
+    requires ends { AllOpen lanes.now plans.items }
+    requires kept { AllRight V.fits plans.items }
+    ensures { IfOk result (CameBack V.fits V.mark lanes.now plans.items writers.items) }
 {
     let Ok(leaves) = flags(*plans.allocator(), plans.len()) else {
         return Err(SeatsError::Memory);
@@ -287,21 +270,11 @@ pub fn serve_seats<
         move |scope| -> Result<Seats<L, O, V>, SeatsError>
             requires leaves { length plans.items ≤ length leaves.now.items }
             requires lanes { length writers.items ≤ length lanes.now }
-            requires writers { From (λ g w. Ready lanes.now (length plans.items) g w.pass w.lent
-                w.closed.items) 0 writers.items }
-            requires ends { From (λ e p. Open lanes.now e p.seat) 0 plans.items }
-            requires kept { From (λ e p. V.fits p.service e (count_of p.seat) (handed_by p.seat))
-                0 plans.items }
-            ensures lefts { IfOk result (λ seats. (length seats.lefts.items ≡ length plans.items)
-                × From (λ e l. Left lanes.entry.now e l) 0 seats.lefts.items) }
-            ensures services { IfOk result
-                (λ seats. length seats.services.items ≡ length plans.items) }
-            ensures kept { IfOk result
-                (λ seats. AllKept V.fits (hands_of seats.lefts.items) seats.services.items) }
-            ensures writers { IfOk result
-                (λ seats. (length seats.writers.items ≡ length writers.items)
-                × From (λ g w. Ended lanes.entry.now (length plans.items) g w.pass w.lent
-                w.closed.items) 0 seats.writers.items) }
+            requires writers { AllReady lanes.now (length plans.items) writers.items }
+            requires ends { AllOpen lanes.now plans.items }
+            requires kept { AllRight V.fits plans.items }
+            ensures { IfOk result
+                (CameBack V.fits V.mark lanes.entry.now plans.items writers.items) }
         { run_threads(scope, rt, lanes, store, plans, writers, leaves) },
     )
 }

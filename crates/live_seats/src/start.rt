@@ -14,13 +14,20 @@ use crate::lane::Lane;
 use crate::outcome::Outcome;
 use crate::session::{LeftSeat, SessionSeat, hang_up, push_marks};
 use crate::writer::{Store, WriterSeat, run_writer};
+use std::snapshot::Snapshot;
 use std::sync::Wait;
 use std::sync::atomic::{AtomicBool, Ordering};
 use std::sync::ledger::Ledger;
 use std::thread::{Promise, PromisedHandle, Scope, Threads};
 
-/// What an end keeps of the jobs that it handed over.
+/// What an end keeps of the jobs that it handed over, and what it is whatever it serves.
 pub trait Accounts {
+    /// What an end is, whatever it serves.
+    type Mark;
+
+    /// What it is, whatever it serves.
+    ghost mark: { Self → Self.Mark };
+
     /// What it keeps is right, where the end of this number has handed over so many jobs, and to
     /// each group these.
     ghost fits: { Self → (end count : ℕ) → List (List Handed) → Type 0 };
@@ -35,7 +42,8 @@ pub trait Service<R>: Accounts {
         requires kept { Self.fits self.old (end_of seat) (count_of seat) (handed_by seat) }
         ensures seat { IsSeatOf lanes.now result }
         ensures end { end_of result ≡ end_of seat }
-        ensures kept { Self.fits self.new (end_of result) (count_of result) (handed_by result) };
+        ensures kept { Self.fits self.new (end_of result) (count_of result) (handed_by result) }
+        ensures mark { Self.mark self.new ≡ Self.mark self.old };
 }
 
 /// An end before its thread starts: its seat, and what it serves.
@@ -102,20 +110,24 @@ pub(crate) fn start_writer<
     scope.spawn_with(WriterDone { lane, ends }, body).ok()
 }
 
-/// An end's thread gives its seat back with the closing marks pushed, and with its accounts.
-#[derive(Clone, Copy)]
-pub struct EndDone<'a> {
+/// An end's thread gives its seat back with the closing marks pushed, and what it serves with its
+/// mark and its accounts.
+#[derive(Drop)]
+pub struct EndDone<'a, V> {
     pub lanes: &'a [Lane],
     pub end: u64,
+    /// What the end serves, as it was before the thread started.
+    pub service: Snapshot<V>,
 }
 
-impl<'a, V: Accounts> Promise<Leaver<V>> for EndDone<'a> {
+impl<'a, V: Accounts> Promise<Leaver<V>> for EndDone<'a, V> {
     ghost use Rattle.std.specs.Prelude.{◌≡◌};
     ghost use Rattle.live_seats.specs.Seats.{HasLeft, left_end, left_by};
     ghost use Rattle.live_seats.specs.Started.{HasKept};
 
     ghost kept_by = { λ p r. (left_end r.seat ≡ p.end) × HasLeft p.lanes.now r.seat
-        × HasKept V.fits r.service p.end (left_by r.seat) };
+        × HasKept V.fits r.service p.end (left_by r.seat)
+        × (V.mark r.service ≡ V.mark p.service.value) };
 }
 
 /// Serves an end, unless it is to leave at once, and then leaves.
@@ -131,6 +143,7 @@ fn serve_end<V: Service<R>, R: Wait>(
     ensures left { HasLeft lanes.now result.seat }
     ensures end { left_end result.seat ≡ end_of plan.seat }
     ensures kept { HasKept V.fits result.service (end_of plan.seat) (left_by result.seat) }
+    ensures mark { V.mark result.service ≡ V.mark plan.service }
 {
     let Plan { seat, mut service } = plan;
     if leaves.load(Ordering::SeqCst) {
@@ -153,24 +166,31 @@ pub(crate) fn start_end<'s, E, V: Service<R> + Drop + Send + 's, R: Threads + Wa
     lanes: &'s [Lane],
     plan: Plan<V>,
     leaves: &'s AtomicBool,
-) -> Option<PromisedHandle<Leaver<V>, EndDone<'s>>>
+) -> Option<PromisedHandle<Leaver<V>, EndDone<'s, V>>>
     requires seat { IsSeatOf lanes.now plan.seat }
     requires kept { V.fits plan.service (end_of plan.seat) (count_of plan.seat)
         (handed_by plan.seat) }
     ensures { IfSome result (λ h. (h.promise.lanes.now ≡ lanes.now)
-        × (h.promise.end ≡ end_of plan.seat)) }
+        × (h.promise.end ≡ end_of plan.seat) × (h.promise.service.value ≡ plan.service)) }
 {
     let end = plan.seat.end;
+    let service = Snapshot::of(&plan.service);
     let body = move || -> Leaver<V>
         requires { IsSeatOf lanes.now plan.seat × (end_of plan.seat ≡ end)
             × V.fits plan.service end (count_of plan.seat) (handed_by plan.seat) }
         ensures { (left_end result.seat ≡ end) × HasLeft lanes.entry.now result.seat
-            × HasKept V.fits result.service end (left_by result.seat) }
+            × HasKept V.fits result.service end (left_by result.seat)
+            × (V.mark result.service ≡ V.mark plan.service) }
     {
         let _ = &end;
         serve_end(rt, lanes, plan, leaves)
     };
-    match scope.spawn_with(EndDone { lanes, end }, body) {
+    let promise = EndDone {
+        lanes,
+        end,
+        service,
+    };
+    match scope.spawn_with(promise, body) {
         Ok(handle) => Some(handle),
         Err(refused) => {
             leaves.store(true, Ordering::SeqCst);

@@ -71,3 +71,21 @@ length_snoc {X} xs now x is = ap length is ∙ go xs
     go : (ys : List X) → length (ys ++ x ∷ []) ≡ length ys + 1
     go [] = omega arith
     go (y ∷ ys) = let h = go ys in omega arith
+
+-- what is read of the marks is the same of the services that came back as of those that were given
+module _ {P V M Y : Type 0} (mark : V → M) (of : M → Y) (service : P → V) where
+  marks_of : (vs : List V) → map (λ v. of (mark v)) vs ≡ map of (map mark vs)
+  marks_of [] = refl
+  marks_of (v ∷ vs) = ap (λ (l : List Y). of (mark v) ∷ l) (marks_of vs)
+
+  marks_in : (ps : List P) → map (λ p. mark (service p)) ps ≡ map mark (map service ps)
+  marks_in [] = refl
+  marks_in (p ∷ ps) = ap (λ (l : List M). mark (service p) ∷ l) (marks_in ps)
+
+  pub marked : (services ends : List V) (plans : List P)
+      → map mark services ≡ map (λ p. mark (service p)) plans → map service plans ≡ ends
+      → map (λ v. of (mark v)) services ≡ map (λ v. of (mark v)) ends
+  marked services ends plans same is =
+      marks_of services
+      ∙ ap (map of) (same ∙ marks_in plans ∙ ap (map mark) is)
+      ∙ sym (marks_of ends)

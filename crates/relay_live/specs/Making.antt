@@ -14,6 +14,11 @@ abbrev pub groups_in : {S J L : Type 0} {s : blocks.Ghosts S} {j : archives.Ghos
     → Shared S J L s j → ℕ
 groups_in shared = length shared.racks.items
 
+-- how many feeds there are
+abbrev pub feeds_in : {S J L : Type 0} {s : blocks.Ghosts S} {j : archives.Ghosts J}
+    → Shared S J L s j → ℕ
+feeds_in shared = shared.feeds
+
 -- how many ends there are
 abbrev pub ends_in : {S J L : Type 0} {s : blocks.Ghosts S} {j : archives.Ghosts J}
     → Shared S J L s j → ℕ

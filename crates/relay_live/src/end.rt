@@ -49,7 +49,7 @@ impl<'a, X, S: BlockStore + Drop, J: Archive, L: Ledger, C: Clock, G, Q: Lends> 
     G,
     Q,
 > {
-    ghost use Rattle.relay_live.specs.Ends.{kept_of, peer_of};
+    ghost use Rattle.relay_live.specs.Ends.{kept_of, peer_of, terms_at};
 
     /// The end of this peer, by its number in the configuration, before its first connection.
     pub fn new(
@@ -63,6 +63,7 @@ impl<'a, X, S: BlockStore + Drop, J: Archive, L: Ledger, C: Clock, G, Q: Lends> 
     ) -> End<'a, X, S, J, L, C, G, Q>
         ensures none { kept_of result ≡ [] }
         ensures peer { peer_of result ≡ peer }
+        ensures terms { terms_at result ≡ terms_of config.now }
     {
         End {
             alloc,
@@ -138,6 +139,11 @@ impl<'a, X, S: BlockStore + Drop, J: Archive, L: Ledger, C: Clock, G, Q: Lends> 
     for End<'a, X, S, J, L, C, G, Q> {
     ghost use Rattle.article_verdict.specs.Config.{terms_of};
     ghost use Rattle.relay_live.specs.Sessions.{Accounted};
+
+    /// The number of its peer, and its configuration.
+    type Mark = (usize, Config);
+
+    ghost mark = { λ end. (end.peer, end.config.now) };
 
     ghost fits = { λ end number count jobs. Accounted J.trusted (terms_of end.config.now) number
         end.peer count jobs end.kept.items };

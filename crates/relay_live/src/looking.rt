@@ -19,7 +19,7 @@ use std::sync::ledger::Ledger;
 
 impl<S: BlockStore + Drop, J: Archive, L: Ledger> Shared<S, J, L> {
     ghost use Rattle.std.specs.Prelude.{◌≡◌, ◌≤◌, ◌+◌, ◌↔◌, None, IfSome};
-    ghost use Rattle.relay_live.specs.Making.{buffers_in};
+    ghost use Rattle.relay_live.specs.Making.{buffers_in, feeds_in};
 
     /// The figures of the buffer of this number, where there is one.
     pub fn buffer_figures<R: Wait>(&self, rt: &R, number: usize) -> Option<BufferFigures>
@@ -29,11 +29,16 @@ impl<S: BlockStore + Drop, J: Archive, L: Ledger> Shared<S, J, L> {
         Some(figures_of(&buffer.lock(rt)))
     }
 
-    /// The counts of the feed of this number, where there is one.
+    /// The counts of the feed of this number, where there is one. That the desk has as many feeds
+    /// each time that its lock is taken no type says, so none may come of a feed that there is.
     pub fn feed_counts<R: Wait>(&self, rt: &R, feed: u16) -> Option<FeedCounts>
         ensures within { IfSome result (λ counts.
             counts.taken + counts.waiting ≤ counts.gained) }
+        ensures missing { feeds_in self.now ≤ feed → result ≡ None }
     {
+        if usize::from(feed) >= self.feeds {
+            return None;
+        }
         self.desk.lock(rt).counts(feed)
     }
 

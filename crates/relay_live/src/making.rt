@@ -1,5 +1,7 @@
 //! The parts of what is shared are made.
 ghost use Rattle.std.specs.Prelude.{◌≡◌, ◌≤◌, true, All, length, IfOk};
+ghost use Rattle.feed_queue.specs.Feeds.{ring_count};
+ghost use Rattle.live_settle.specs.Desks.{desk_of};
 ghost use Rattle.relay_model.specs.Terms.{shard_count};
 
 use crate::claims::Claims;
@@ -7,12 +9,15 @@ use crate::slot::Slot;
 use block_shelf::Rack;
 use cyc_block::BlockStore;
 use id_history::SHARD_COUNT;
+use live_settle::CountedDesk;
 use live_store::{Archive, NumberedBuffer};
+use relay_conf::Config;
 use std::alloc::{AllocError, Global};
 use std::hash::RandomState;
 use std::io;
 use std::random::RandomSource;
 use std::sync::Mutex;
+use std::sync::ledger::{Book, Ledger};
 
 /// Sixteen shards to which every message-id is unknown. The hashers are seeded anew, since peers
 /// choose the message-ids; the error is that no seed was to be had, or memory.
@@ -42,6 +47,20 @@ pub(crate) fn new_buffers<S: BlockStore + Drop, J: Archive>(
         buffers.push_reserved(Mutex::new(buffer));
     }
     Ok(buffers)
+}
+
+/// The feed desk of the configuration, before anything has come. The book counts its posts.
+pub(crate) fn new_desk<L: Ledger>(
+    alloc: Global,
+    config: &Config,
+    book: Book<L>,
+) -> Result<CountedDesk<L>, AllocError>
+    requires { book.total ≡ 0 }
+    ensures { IfOk result (λ desk. ring_count (desk_of desk)
+        ≡ length config.now.relay.feeds.items) }
+{
+    let desk = CountedDesk::new(alloc, &config.relay.feeds, book)?;
+    Ok(desk)
 }
 
 /// A lock for each of these racks.

@@ -1,5 +1,6 @@
 //! A relay in threads, from the first connection to the last seat.
 ghost use Rattle.std.specs.Prelude.{◌≡◌, ◌<◌, ◌^◌, [], length, map, IfOk};
+ghost use Rattle.article_verdict.specs.Config.{terms_of};
 ghost use Rattle.live_fates.specs.Doubles.{doubles_in};
 ghost use Rattle.live_fates.specs.Fates.{FitsJob, is_kept};
 ghost use Rattle.live_fates.specs.Strays.{strays_in};
@@ -77,6 +78,8 @@ fn ends_of<'a, X: Drop, S: BlockStore + Drop, J: Archive, L: Ledger, C: Clock, G
 ) -> Result<Vec<End<'a, X, S, J, L, C, G, Q>>, AllocError>
     ensures peers { IfOk result (λ ends.
         map peer_of ends.items ≡ map (λ d. d.peer) doors.items) }
+    ensures terms { IfOk result (λ ends.
+        map terms_at ends.items ≡ map (λ d. terms_of config.now) doors.items) }
     ensures new { IfOk result (λ ends. map kept_of ends.items ≡ map (λ d. []) doors.items) }
 {
     let mut ends = Vec::with_capacity(alloc, doors.len())?;
@@ -146,9 +149,17 @@ where
         (map (λ w. w.done.items) ran.0.writers.items) (hands_of ran.0.lefts.items)) }
     ensures none { IfOk result (λ ran. NoneElse (length doors.items)
         (map (λ w. w.done.items) ran.0.writers.items)) }
+
+    // Each end that comes back has the peer of its door, and its terms are those of the
+    // configuration; what it kept is what its sessions came to by these.
+    ensures peers { IfOk result (λ ran.
+        map peer_of ran.0.services.items ≡ map (λ d. d.peer) doors.items) }
+    ensures terms { IfOk result (λ ran.
+        map terms_at ran.0.services.items ≡ map (λ d. terms_of config.now) doors.items) }
     ensures kept { IfOk result (λ ran. AllKept (λ end number count jobs.
         Accounted J.trusted (terms_at end) number (peer_of end) count jobs (kept_of end))
         (hands_of ran.0.lefts.items) ran.0.services.items) }
+
     ensures accepted { IfOk result (λ ran. ran.1.accepted
         ≡ kept_by_all is_kept (map (λ w. w.done.items) ran.0.writers.items)) }
     ensures posted { IfOk result (λ ran. posts_in ran.1.posted ≡ ran.1.accepted) }

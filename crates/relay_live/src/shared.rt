@@ -4,7 +4,7 @@ ghost use Rattle.relay_model.specs.Terms.{shard_count};
 
 use crate::claims::Claims;
 use crate::drawing::Numbers;
-use crate::making::{locked, new_buffers, new_shards, new_slots};
+use crate::making::{locked, new_buffers, new_desk, new_shards, new_slots};
 use crate::slot::Slot;
 use block_shelf::{Rack, new_racks};
 use cyc_block::BlockStore;
@@ -26,6 +26,8 @@ use std::sync::{Mutex, Wait};
 pub struct Shared<S: BlockStore + Drop, J: Archive, L: Ledger> {
     pub(crate) shards: Vec<Claims>,
     pub(crate) desk: Mutex<CountedDesk<L>>,
+    /// How many feeds the desk had when it was made.
+    pub(crate) feeds: usize,
     pub(crate) buffers: Vec<Mutex<NumberedBuffer<S, J>>>,
     pub(crate) racks: Vec<Mutex<Rack>>,
     pub(crate) slots: Vec<Slot<J>>,
@@ -35,7 +37,7 @@ pub struct Shared<S: BlockStore + Drop, J: Archive, L: Ledger> {
 
 impl<S: BlockStore + Drop, J: Archive, L: Ledger> Shared<S, J, L> {
     ghost use Rattle.std.specs.Prelude.{◌≡◌, true, map, length, All, IfOk};
-    ghost use Rattle.relay_live.specs.Making.{buffers_in, groups_in, ends_in};
+    ghost use Rattle.relay_live.specs.Making.{buffers_in, groups_in, feeds_in, ends_in};
 
     /// What so many ends share over these stores, the i-th for buffer i, before anything has come.
     /// All memory that no message-id takes is taken here. The error is that no seed for the shards
@@ -56,16 +58,19 @@ impl<S: BlockStore + Drop, J: Archive, L: Ledger> Shared<S, J, L> {
             buffers_in shared ≡ length config.now.buffers.buffers.items) }
         ensures groups { IfOk result (λ shared.
             groups_in shared ≡ length config.now.buffers.groups.items) }
+        ensures feeds { IfOk result (λ shared.
+            feeds_in shared ≡ length config.now.relay.feeds.items) }
         ensures ends { IfOk result (λ shared. ends_in shared ≡ ends) }
     {
         let shards = new_shards(rt, alloc)?;
-        let desk = CountedDesk::new(alloc, &config.relay.feeds, book)?;
+        let desk = new_desk(alloc, config, book)?;
         let racks = locked(alloc, new_racks(alloc, &config.buffers)?)?;
         let slots = new_slots(alloc, ends)?;
         let buffers = new_buffers(alloc, stores)?;
         Ok(Shared {
             shards,
             desk: Mutex::new(desk),
+            feeds: config.relay.feeds.len(),
             buffers,
             racks,
             slots,

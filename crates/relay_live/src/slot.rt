@@ -4,12 +4,9 @@ ghost use Rattle.relay_live.specs.Slots.{after_tell, told_to, left_by};
 
 use crossbeam_utils::sync::EventCount;
 use live_fates::Told;
+use live_seats::{LOOKS, linger};
 use live_store::Archive;
 use std::sync::{Mutex, Wait};
-use std::thread;
-
-/// How often a thread looks again before it sleeps.
-const TRIES: u32 = 16;
 
 /// What became of a job, with its number among those of its end.
 #[derive(Drop)]
@@ -63,13 +60,13 @@ impl<J: Archive> Slot<J> {
         take(&mut self.answer.lock(rt), number)
     }
 
-    // Looks so often, and gives way to other threads between.
+    // Looks some times, with a little time between.
     fn take_soon<R: Wait>(&self, rt: &R, number: u64) -> Option<Told<J>> {
-        for _ in 0..TRIES {
+        for look in 0..LOOKS {
             if let Some(told) = self.try_take(rt, number) {
                 return Some(told);
             }
-            thread::yield_now();
+            linger(look);
         }
         None
     }

@@ -2,6 +2,7 @@
 use Rattle.std.specs.Prelude.{◌≡◌, ◌⊎◌, ◌==◌, ℕ, List, length, slice_get, Some, if◌then◌else◌}
 use Rattle.std.specs.declared.io.ErrorKind.{ErrorKind}
 use Rattle.std.specs.declared.io.ErrorKind.TheVariants.{OutOfMemory}
+use Rattle.article_verdict.specs.Config.{terms_of}
 use Rattle.job_queue.specs.declared.parcel.Handed.{Handed}
 use Rattle.live_fates.specs.Doubles.{doubles_in}
 use Rattle.live_fates.specs.Fates.{FitsJob, is_kept}
@@ -15,7 +16,6 @@ use Rattle.relay_conf.specs.declared.settings.Config.{Config}
 use Rattle.relay_live.specs.Sessions.{Accounted}
 use Rattle.relay_live.specs.declared.running.LiveError.{LiveError}
 use Rattle.relay_live.specs.declared.running.LiveError.TheVariants as errors
-use Rattle.relay_model.specs.Terms.{Terms}
 use Rattle.relay_report.specs.declared.totals.Totals.{Totals}
 use Rattle.serve_terms.specs.declared.fault.ServeError.{ServeError}
 use Rattle.serve_terms.specs.declared.fault.ServeError.TheVariants as faults
@@ -40,28 +40,27 @@ abbrev pub lane_count : Config → ℕ
 lane_count config =
     let groups = length config.buffers.groups.items in if groups == 0 then 1 else groups
 
--- Over honest stores, what the end of this number has handed over and answered kept is what
--- sessions came to, one after the other, of one peer and by the terms of one relay.
-pub record HasServed {J : Type 0} {g : Ghosts J} (end : ℕ) (jobs : List (List Handed))
-    (kept : List (KeptJob J g))
-    : Type 0 where
-  pub terms : Terms
-  pub peer : ℕ
-  pub count : ℕ
-  pub accounted : Accounted g.trusted terms end peer count jobs kept
+-- Over honest stores, what the end of this number has handed over and answered kept is what the
+-- sessions of its peer came to, one after the other, by the terms of the configuration.
+abbrev pub HasServed : {J : Type 0} {g : Ghosts J} → Config → (end peer : ℕ)
+    → List (List Handed) → List (KeptJob J g) → Type 0
+HasServed {J} {g} config end peer jobs kept =
+    (count : ℕ) × Accounted g.trusted (terms_of config) end peer count jobs kept
 
--- The totals are of a run of so many ends: `done` is what the writer of each group told, `hands`
--- what each end handed over to each group, `kept` what each end answered kept. Each job was told
--- once, in order, with an outcome that fits it, and no other job was.
-pub record Ran {J : Type 0} (g : Ghosts J) (ends : ℕ) (totals : Totals) : Type 0 where
+-- The totals are of a run of these ends, each by the number of its peer: `done` is what the writer
+-- of each group told, `hands` what each end handed over to each group, `kept` what each end
+-- answered kept. Each job was told once, in order, with an outcome that fits it, and no other job
+-- was.
+pub record Ran {J : Type 0} (g : Ghosts J) (config : Config) (peers : List ℕ) (totals : Totals)
+    : Type 0 where
   pub done : List (List (Done (Fate J g)))
   pub hands : List (List (List Handed))
   pub kept : List (List (KeptJob J g))
   pub told : AllTold (FitsJob g.holds) done hands
-  pub none : NoneElse ends done
-  pub served : (end : ℕ) (jobs : List (List Handed)) (answers : List (KeptJob J g))
-      → slice_get hands end ≡ Some jobs → slice_get kept end ≡ Some answers
-      → HasServed end jobs answers
+  pub none : NoneElse (length peers) done
+  pub served : (end peer : ℕ) (jobs : List (List Handed)) (answers : List (KeptJob J g))
+      → slice_get peers end ≡ Some peer → slice_get hands end ≡ Some jobs
+      → slice_get kept end ≡ Some answers → HasServed config end peer jobs answers
   pub accepted : totals.accepted ≡ kept_by_all is_kept done
   pub strays : totals.strays ≡ strays_in kept done
   pub doubles : totals.doubles ≡ doubles_in done

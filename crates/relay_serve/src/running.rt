@@ -57,7 +57,8 @@ where
     requires honest { J.trusted ≡ true → All S.honest stores.items }
     requires few { length doors.items < 2 ^ 62 }
     ensures totals { IfOk result (AreOf config.now) }
-    ensures ran { IfOk result (Ran ⟦<J as Archive>⟧ (length doors.items)) }
+    ensures ran { IfOk result (Ran ⟦<J as Archive>⟧ config.now
+        (map (λ door. door.peer) doors.items)) }
     ensures fault { IfErr result IsRunFault }
 {
     let groups = lanes_of(config);

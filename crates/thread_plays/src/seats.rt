@@ -84,6 +84,10 @@ struct Bringing {
 impl Accounts for Bringing {
     ghost use Rattle.std.specs.Prelude.{⊤};
 
+    type Mark = u64;
+
+    ghost mark = { λ bringing. bringing.jobs };
+
     ghost fits = { λ bringing end count jobs. ⊤ };
 }
 

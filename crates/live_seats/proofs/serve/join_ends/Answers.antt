@@ -1,8 +1,8 @@
-use Rattle.std.proofs.Common.{◌∙◌, sym, subst, length, arith}
+use Rattle.std.proofs.Common.{◌∙◌, ap, sym, map, subst, length, arith}
 use Rattle.live_seats.specs.Seats.{left_by}
 use Rattle.live_seats.specs.Started.{Serves, Left, HasKept}
 use Rattle.live_seats.proofs.Rows.{from_head, from_next, from_start, from_none, each_snoc, length_snoc}
-use Rattle.live_seats.proofs.Plans.{left, none_kept, kept_snoc}
+use Rattle.live_seats.proofs.Plans.{left, none_kept, kept_snoc, services_start, services_next}
 use Rattle.live_seats.proofs.serve.join_ends.Goals as goal
 
 pub loop-handle-init : goal.loop-handle-init
@@ -16,6 +16,7 @@ loop-handle-init g c =
       both = c.requires.none.1 ∙ sym c.requires.none.0;
       spare = c.requires.room.1;
       fit = from_none (λ n x. Left c.args.lanes.now n x) _ c.requires.none.0;
+      marks = services_start g.V.Accounts.mark _ _ _ c.requires.none.1 (ap (map (λ h. g.V.Accounts.mark h.promise.service.value)) gives.0);
       kept = none_kept g.V.Accounts.fits c.args.lefts.now.items _ c.requires.none.1;
     }
 
@@ -45,5 +46,6 @@ loop-handle-preserved g c =
       both = omega (arith, inv.both, long, wide);
       spare = omega (arith, inv.spare, also.capacity);
       fit = each_snoc (λ n x. Left c.args.lanes.now n x) _ _ _ inv.fit pushed.items (left _ c.in-Some.handle.promise.lanes.now _ c.in-Some.handle.promise.end c.join-seat.result.seat head c.join-seat.ensures.0 c.join-seat.ensures.1);
+      marks = services_next g.V.Accounts.mark _ _ _ _ _ _ _ inv.marks also.items (ap (map (λ h. g.V.Accounts.mark h.promise.service.value)) steps.0) c.join-seat.ensures.3;
       kept = kept_snoc g.V.Accounts.fits _ _ c.join-seat.result.seat _ _ c.join-seat.result.service inv.kept inv.both pushed.items also.items (subst (λ n. HasKept g.V.Accounts.fits c.join-seat.result.service n (left_by c.join-seat.result.seat)) head.0 c.join-seat.ensures.2);
     }

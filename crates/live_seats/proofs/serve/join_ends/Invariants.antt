@@ -1,4 +1,4 @@
-use Rattle.std.proofs.Common.{◌≡◌, ◌+◌, ◌≤◌, length}
+use Rattle.std.proofs.Common.{◌≡◌, ◌+◌, ◌≤◌, ◌++◌, length, map}
 use Rattle.std.specs.Prelude.{vec_capacity}
 use Rattle.std.specs.Vec.Iter.{into_iter_items, into_iter_len}
 use Rattle.live_seats.specs.Rows.{From}
@@ -15,5 +15,6 @@ invariant-loop-handle g l =
       both : length l.services.items ≡ length l.lefts.items;
       spare : length l.fn.serving.items ≤ vec_capacity l.services;
       fit : From (λ n x. Left l.lanes n x) 0 l.lefts.items;
+      marks : map g.V.Accounts.mark l.services.items ++ map (λ h. g.V.Accounts.mark h.promise.service.value) (into_iter_items rest) ≡ map (λ h. g.V.Accounts.mark h.promise.service.value) l.fn.serving.items;
       kept : AllKept g.V.Accounts.fits (hands_of l.lefts.items) l.services.items;
     }

@@ -1,7 +1,8 @@
-use Rattle.std.proofs.Common.{◌∙◌, sym, refl, subst, true≢false, length, arith}
+use Rattle.std.proofs.Common.{◌∙◌, ap, sym, map, refl, subst, true≢false, length, arith}
 use Rattle.live_seats.specs.Seats.{IsSeatOf, count_of, handed_by}
 use Rattle.live_seats.specs.Started.{Open, Serves}
 use Rattle.live_seats.proofs.Rows.{from_head, from_next, from_start, from_none, from_any, each_snoc, length_snoc}
+use Rattle.live_seats.proofs.Plans.{services_start, services_next}
 use Rattle.live_seats.proofs.serve.start_ends.Goals as goal
 
 pub loop-plan-init : goal.loop-plan-init
@@ -16,6 +17,7 @@ loop-plan-init g c =
       open_seats = λ k p at. (fit k p at).1;
       todo = λ yes. from_start (λ n p. Open c.args.lanes.now n p.seat) _ _ _ fit (sym c.requires.none) refl;
       kept = λ yes. from_start (λ n p. g.V.Accounts.fits p.service n (count_of p.seat) (handed_by p.seat)) _ _ _ c.requires.kept (sym c.requires.none) gives.0;
+      marks = λ yes. services_start (λ h. g.V.Accounts.mark h.promise.service.value) _ _ _ c.requires.none (ap (map (λ p. g.V.Accounts.mark p.service)) gives.0);
       fit = from_none (λ n h. Serves c.args.lanes.now n h.promise.lanes.now h.promise.end) _ c.requires.none;
     }
 
@@ -33,6 +35,7 @@ loop-plan-preserved-then-not-all g c =
       open_seats = from_any (λ p. IsSeatOf c.args.lanes.now p.seat) _ _ _ inv.open_seats steps.0;
       todo = λ yes. absurd (true≢false (sym yes ∙ c.if-not-all.true));
       kept = λ yes. absurd (true≢false (sym yes ∙ c.if-not-all.true));
+      marks = λ yes. absurd (true≢false (sym yes ∙ c.if-not-all.true));
       fit = inv.fit;
     }
 
@@ -66,6 +69,7 @@ loop-plan-preserved-in-Some-start_end g c =
       open_seats = from_any (λ p. IsSeatOf c.args.lanes.now p.seat) _ _ _ inv.open_seats steps.0;
       todo = λ all. from_next (λ n p. Open c.args.lanes.now n p.seat) _ _ _ _ _ todo steps.0 long;
       kept = λ all. from_next (λ n p. g.V.Accounts.fits p.service n (count_of p.seat) (handed_by p.seat)) _ _ _ _ _ (inv.kept yes) steps.0 long;
+      marks = λ all. services_next (λ h. g.V.Accounts.mark h.promise.service.value) _ _ _ _ _ _ _ (inv.marks yes) pushed.items (ap (map (λ p. g.V.Accounts.mark p.service)) steps.0) (ap g.V.Accounts.mark told.2);
       fit = each_snoc (λ n h. Serves c.args.lanes.now n h.promise.lanes.now h.promise.end) _ _ _ inv.fit pushed.items (told.1 ∙ head.0, told.0);
     }
 
@@ -80,5 +84,6 @@ loop-plan-preserved g c =
       open_seats = from_any (λ p. IsSeatOf c.args.lanes.now p.seat) _ _ _ inv.open_seats steps.0;
       todo = λ yes. absurd (true≢false (sym yes));
       kept = λ yes. absurd (true≢false (sym yes));
+      marks = λ yes. absurd (true≢false (sym yes));
       fit = inv.fit;
     }

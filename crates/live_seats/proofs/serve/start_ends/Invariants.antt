@@ -1,4 +1,4 @@
-use Rattle.std.proofs.Common.{◌≡◌, ◌+◌, ◌≤◌, true, length}
+use Rattle.std.proofs.Common.{◌≡◌, ◌+◌, ◌≤◌, ◌++◌, true, length, map}
 use Rattle.std.specs.Prelude.{vec_capacity}
 use Rattle.std.specs.Vec.Iter.{into_iter_items, into_iter_len}
 use Rattle.live_seats.specs.Rows.{From}
@@ -15,5 +15,6 @@ invariant-loop-plan g l =
       open_seats : From (λ n p. IsSeatOf l.lanes p.seat) 0 (into_iter_items rest);
       todo : l.all ≡ true → From (λ n p. Open l.lanes n p.seat) (length l.serving.items) (into_iter_items rest);
       kept : l.all ≡ true → From (λ n p. g.V.Accounts.fits p.service n (count_of p.seat) (handed_by p.seat)) (length l.serving.items) (into_iter_items rest);
+      marks : l.all ≡ true → map (λ h. g.V.Accounts.mark h.promise.service.value) l.serving.items ++ map (λ p. g.V.Accounts.mark p.service) (into_iter_items rest) ≡ map (λ p. g.V.Accounts.mark p.service) l.fn.plans.items;
       fit : From (λ n h. Serves l.lanes n h.promise.lanes.now h.promise.end) 0 l.serving.items;
     }

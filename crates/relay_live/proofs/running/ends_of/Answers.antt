@@ -1,5 +1,6 @@
 use Rattle.std.proofs.Common.{[], arith}
-use Rattle.relay_live.specs.Ends.{kept_of, peer_of}
+use Rattle.article_verdict.specs.Config.{terms_of}
+use Rattle.relay_live.specs.Ends.{kept_of, peer_of, terms_at}
 use Rattle.relay_live.proofs.Accounts.{length_snoc, map_next}
 use Rattle.relay_live.proofs.running.ends_of.Goals as goal
 
@@ -13,5 +14,6 @@ loop-door-preserved g c =
       count = omega (arith, long, inv.count, steps.1);
       room = omega (arith, inv.room, pushed.capacity);
       peers = map_next (λ d. d.peer) peer_of _ _ _ _ _ _ _ inv.peers pushed.items steps.0 c.new.ensures.peer;
+      terms = map_next (λ d. terms_of c.args.config.now) terms_at _ _ _ _ _ _ _ inv.terms pushed.items steps.0 c.new.ensures.terms;
       new = map_next (λ d. []) kept_of _ _ _ _ _ _ _ inv.new pushed.items steps.0 c.new.ensures.none;
     }

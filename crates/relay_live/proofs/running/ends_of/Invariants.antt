@@ -1,7 +1,8 @@
 use Rattle.std.proofs.Common.{◌≡◌, ◌+◌, ◌≤◌, ◌++◌, [], length, map}
 use Rattle.std.specs.Prelude.{vec_capacity}
 use Rattle.std.specs.Vec.Iter.{into_iter_items, into_iter_len}
-use Rattle.relay_live.specs.Ends.{kept_of, peer_of}
+use Rattle.article_verdict.specs.Config.{terms_of}
+use Rattle.relay_live.specs.Ends.{kept_of, peer_of, terms_at}
 use Rattle.relay_live.proofs.running.ends_of.Given as goal
 
 -- an end for each door so far
@@ -11,5 +12,6 @@ invariant-loop-door g l =
       count : length l.ends.items + into_iter_len rest ≡ length l.fn.doors.items;
       room : length l.fn.doors.items ≤ vec_capacity l.ends;
       peers : map peer_of l.ends.items ++ map (λ d. d.peer) (into_iter_items rest) ≡ map (λ d. d.peer) l.fn.doors.items;
+      terms : map terms_at l.ends.items ++ map (λ d. terms_of l.config) (into_iter_items rest) ≡ map (λ d. terms_of l.config) l.fn.doors.items;
       new : map kept_of l.ends.items ++ map (λ d. []) (into_iter_items rest) ≡ map (λ d. []) l.fn.doors.items;
     }

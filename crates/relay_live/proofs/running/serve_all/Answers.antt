@@ -1,6 +1,7 @@
 use Rattle.std.proofs.Common.{◌∙◌, ℕ, List, [], ap, length, map, subst, sym}
 use Rattle.std.specs.Prelude.{slice_get}
 use Rattle.std.proofs.lemmas.List.{length-map}
+use Rattle.article_verdict.specs.Config.{terms_of}
 use Rattle.job_queue.specs.declared.parcel.Handed.{Handed}
 use Rattle.live_fates.specs.Fates.{FitsJob}
 use Rattle.live_seats.specs.Gathered.{AllTold, NoneElse, RestsFit, hands_of}
@@ -10,7 +11,7 @@ use Rattle.live_seats.specs.declared.lane.Lane.{Lane}
 use Rattle.live_seats.specs.declared.outcome.Done.{Done}
 use Rattle.relay_live.specs.Ends.{kept_of, peer_of, terms_at}
 use Rattle.relay_live.specs.Sessions.{Accounted}
-use Rattle.relay_live.proofs.Accounts.{at_map, each_same, new_accounts}
+use Rattle.relay_live.proofs.Accounts.{at_map, each_same, marked, new_accounts}
 use Rattle.relay_live.proofs.running.serve_all.Goals as goal
 
 pub serve_seats-requires-clause-ends : goal.serve_seats-requires-clause-ends
@@ -56,6 +57,19 @@ pub serve_seats-requires-clause-writers : goal.serve_seats-requires-clause-write
 serve_seats-requires-clause-writers g c κs within =
     subst (λ (x : List Lane × ℕ). From (λ k w. Ready x.0 x.1 k w.pass w.lent w.closed.items) 0 c.in_ok-lanes.field-0.writers.items)
     (λ i. (sym c.as_slice-lanes.ensures.value i, sym c.in_ok-lanes.ensures.lanes.2 i)) c.in_ok-lanes.ensures.writers
+
+-- what an end is stays, whatever it serves
+pub returns-clause-peers : goal.returns-clause-peers
+returns-clause-peers g c =
+    ap (map peer_of) c.close-totals.ensures.services
+    ∙ marked _ (λ m. m.0) (λ p. p.service) _ _ _ c.in-Ok.ensures.marks c.in_ok-lanes.ensures.services
+    ∙ c.in_ok-ends.ensures.peers
+
+pub returns-clause-terms : goal.returns-clause-terms
+returns-clause-terms g c =
+    ap (map terms_at) c.close-totals.ensures.services
+    ∙ marked _ (λ m. terms_of m.1) (λ p. p.service) _ _ _ c.in-Ok.ensures.marks c.in_ok-lanes.ensures.services
+    ∙ c.in_ok-ends.ensures.terms
 
 -- the seats are compared, and what the ends keep stays
 pub returns-clause-kept : goal.returns-clause-kept

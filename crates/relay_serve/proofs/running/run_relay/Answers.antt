@@ -1,8 +1,13 @@
-use Rattle.std.proofs.Common.{◌∙◌, map, subst}
-use Rattle.live_seats.specs.Gathered.{hands_of}
+use Rattle.std.proofs.Common.{◌∙◌, ℕ, ap, length, map, subst, sym}
+use Rattle.std.specs.Prelude.{slice_get}
+use Rattle.std.proofs.lemmas.List.{length-map}
+use Rattle.article_verdict.specs.Config.{terms_of}
+use Rattle.live_fates.specs.declared.fate.KeptJob.{KeptJob}
+use Rattle.live_seats.specs.Gathered.{NoneElse, hands_of}
 use Rattle.relay_live.specs.Ends.{kept_of, peer_of, terms_at}
 use Rattle.relay_live.specs.Sessions.{Accounted}
-use Rattle.relay_serve.proofs.Kept.{made_of}
+use Rattle.relay_model.specs.Terms.{Terms}
+use Rattle.relay_serve.proofs.Kept.{made_of, made_there, one_there, same_there}
 use Rattle.relay_serve.proofs.running.run_relay.Goals as goal
 
 -- what the seats had is what the totals are of
@@ -11,21 +16,23 @@ returns-in-Ok-serve_all-clause-ran g c =
     let ran = c.in-Ok-serve_all.ensures in
     let counted = c.in_ok-totals_of-in-Ok-serve_all.ensures in
     let seats = c.in-Ok-serve_all._seats in
+    let ends = seats.services.items in
+    let config = c.args.config.now in
     record {
       done = map (λ w. w.done.items) seats.writers.items;
       hands = hands_of seats.lefts.items;
-      kept = map kept_of seats.services.items;
+      kept = map kept_of ends;
       told = ran.jobs;
-      none = ran.none;
-      served = λ end jobs answers handed kept.
-          let at = made_of kept_of seats.services.items end answers kept in
+      none = subst (λ (n : ℕ). NoneElse n (map (λ w. w.done.items) seats.writers.items)) (sym (length-map c.args.doors.items (λ door. door.peer))) ran.none;
+      served = λ end peer jobs answers at_peer handed kept.
+          let at = made_of kept_of ends end answers kept in
           let has = ran.kept end jobs at.0 handed at.1 in
-          record {
-            terms = terms_at at.0;
-            peer = peer_of at.0;
-            count = has.0;
-            accounted = subst (λ list. Accounted g.J.Archive.trusted (terms_at at.0) end (peer_of at.0) has.0 jobs list) at.2 has.1;
-          };
+          let its_peer = one_there _ _ end (peer_of at.0) peer ran.peers (made_there peer_of ends end at.0 at.1) at_peer in
+          let its_terms = same_there (terms_of config) c.args.doors.items end (terms_at at.0) (ap (λ row. slice_get row end) (sym ran.terms) ∙ made_there terms_at ends end at.0 at.1) in (
+            has.0,
+            subst (λ (x : (Terms × ℕ) × List (KeptJob _ _)). Accounted g.J.Archive.trusted x.0.0 end x.0.1 has.0 jobs x.1)
+                (λ i. ((its_terms i, its_peer i), at.2 i)) has.1,
+          );
       accepted = counted.accepted ∙ ran.accepted;
       strays = counted.strays ∙ ran.strays;
       doubles = counted.doubles ∙ ran.doubles;
