@@ -3,7 +3,7 @@
 use crate::expand::expanded;
 use crate::machine::Machine;
 use crate::manner::{Manner, add_cut, counted, joined};
-use crate::server::Server;
+use crate::server::{ending_of, serve};
 use crate::streams::{Input, Output};
 use crate::words::Words;
 use line_words::cut;
@@ -143,7 +143,17 @@ impl<'a> Row<'a> {
         let words = program_words(&(Words(&self.words), rt.alloc()))?;
         let mut input = Input::new(script, self.input);
         let machine = Machine::new(rt, self.machine);
-        let server = Server(self.server);
-        run(&machine, rt.alloc(), &server, &words, &mut input, output)
+        let alloc = rt.alloc();
+        let ending = ending_of(self.server);
+        run(
+            &machine,
+            alloc,
+            &words,
+            &mut input,
+            output,
+            move |config, folder, sessions, writer| {
+                serve(alloc, ending, config, folder, sessions, writer)
+            },
+        )
     }
 }

@@ -11,70 +11,100 @@ use line_words::Octets;
 use relay_conf::{BufferConf, Config, Peer, Relay};
 use relay_core::{FeedFigures, Figures, NamedBuffer, NamedFeed};
 use relay_report::Totals;
-use serve_terms::{ServeError, Serves, print_totals};
+use serve_terms::{ServeError, print_totals};
 use std::alloc::{AllocError, Global};
 use std::io::Write;
 
-/// What serves in a row: by `file` the first buffer's file can't be had, by `port` the first peer's
-/// port, by `unseeded` there are no random numbers, by `memory` no memory, by `thread` no thread; by
-/// `unwritten` the report takes none of its octets. Otherwise it serves.
+/// How what serves in a row ends.
 #[derive(Clone, Copy)]
-pub struct Server<'a>(pub &'a [u8]);
+pub enum Ending {
+    /// The report is written.
+    Reported,
+    /// `file`: the first buffer's file can't be had.
+    File,
+    /// `port`: the port of the first peer that has one can't be had.
+    Port,
+    /// `unseeded`: there are no random numbers.
+    Unseeded,
+    /// `memory`: there is no memory.
+    Memory,
+    /// `thread`: there is no thread.
+    Thread,
+    /// `unwritten`: the report takes none of its octets.
+    Unwritten,
+}
 
-impl<R> Serves<R> for Server<'_> {
-    fn serve<W: Write>(
-        &self,
-        _rt: &R,
-        alloc: Global,
-        config: &Config,
-        folder: &str,
-        sessions: Option<u32>,
-        writer: &mut W,
-    ) -> Result<(), ServeError> {
-        let totals = totals_of(alloc, config, folder, sessions)?;
-        if self.0 == b"unwritten".as_slice() {
-            return Err(ServeError::Unwritten);
-        }
-        match failure_of(alloc, config, self.0)? {
-            Some(error) => Err(error),
-            None => print_totals(alloc, &totals, writer),
-        }
+/// The ending that a row's line names.
+pub fn ending_of(manner: &[u8]) -> Ending {
+    if manner == b"file".as_slice() {
+        return Ending::File;
+    }
+    if manner == b"port".as_slice() {
+        return Ending::Port;
+    }
+    if manner == b"unseeded".as_slice() {
+        return Ending::Unseeded;
+    }
+    if manner == b"memory".as_slice() {
+        return Ending::Memory;
+    }
+    if manner == b"thread".as_slice() {
+        return Ending::Thread;
+    }
+    if manner == b"unwritten".as_slice() {
+        return Ending::Unwritten;
+    }
+    Ending::Reported
+}
+
+/// Serves in a row, with this ending.
+pub fn serve<W: Write>(
+    alloc: Global,
+    ending: Ending,
+    config: &Config,
+    folder: &str,
+    sessions: Option<u32>,
+    writer: &mut W,
+) -> Result<(), ServeError>
+    ensures { ServeGives config.now result (W.contents writer.old) (W.contents writer.new) }
+{
+    let totals = totals_of(alloc, config, folder, sessions)?;
+    if matches!(ending, Ending::Unwritten) {
+        return Err(ServeError::Unwritten);
+    }
+    match failure_of(alloc, config, ending)? {
+        Some(error) => Err(error),
+        None => print_totals(alloc, &totals, writer),
     }
 }
 
-/// The failure that the row says, where it says one.
+/// The failure of this ending, where it is one that writes nothing.
 fn failure_of(
     alloc: Global,
     config: &Config,
-    manner: &[u8],
+    ending: Ending,
 ) -> Result<Option<ServeError>, AllocError>
     ensures { IfOk result (λ said. IfSome said (λ error. (held : Option (List ℕ))
         → ServeGives config.now (Err error) held held)) }
 {
-    if manner == b"file".as_slice() {
-        return file_of(alloc, config);
+    match ending {
+        Ending::File => file_of(alloc, config),
+        Ending::Port => Ok(port_of(config)),
+        other => Ok(plain_failure(other)),
     }
-    if manner == b"port".as_slice() {
-        return Ok(port_of(config));
-    }
-    Ok(plain_failure(manner))
 }
 
-/// The failure that the row says, where it is neither a file nor a port.
-fn plain_failure(manner: &[u8]) -> Option<ServeError>
+/// The failure of this ending, where it is neither a file nor a port.
+fn plain_failure(ending: Ending) -> Option<ServeError>
     ensures { IfSome result (λ error. (config : Config) (held : Option (List ℕ))
         → ServeGives config (Err error) held held) }
 {
-    if manner == b"unseeded".as_slice() {
-        return Some(ServeError::Unseeded);
+    match ending {
+        Ending::Unseeded => Some(ServeError::Unseeded),
+        Ending::Memory => Some(ServeError::Memory),
+        Ending::Thread => Some(ServeError::NoThread),
+        _ => None,
     }
-    if manner == b"memory".as_slice() {
-        return Some(ServeError::Memory);
-    }
-    if manner == b"thread".as_slice() {
-        return Some(ServeError::NoThread);
-    }
-    None
 }
 
 /// That the first buffer's file can't be had.

@@ -1,6 +1,6 @@
 use Rattle.relay_report.specs.Totals.{text_of_totals}
 use Rattle.relay_rows.proofs.Serving.{printed, takes_none}
-use Rattle.relay_rows.proofs.server.ServerServes.serve.Goals as goal
+use Rattle.relay_rows.proofs.server.serve.Goals as goal
 
 pub returns-then-eq : goal.returns-then-eq
 returns-then-eq g c = (
