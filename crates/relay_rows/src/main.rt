@@ -12,6 +12,7 @@ mod expand;
 mod machine;
 mod manner;
 mod row;
+mod server;
 mod streams;
 mod words;
 

@@ -1,8 +1,9 @@
-//! A row: what it shows, the program's words, how its streams and its machine behave, and its
-//! standard input.
+//! A row: what it shows, the program's words, how its streams, its machine and what serves behave,
+//! and its standard input.
 use crate::expand::expanded;
 use crate::machine::Machine;
 use crate::manner::{Manner, add_cut, counted, joined};
+use crate::server::{ending_of, serve};
 use crate::streams::{Input, Output};
 use crate::words::Words;
 use line_words::cut;
@@ -29,6 +30,8 @@ pub struct Row<'a> {
     output: &'a [u8],
     /// How the machine behaves: the line behind `!`.
     machine: &'a [u8],
+    /// How what serves fails: the line behind `@`.
+    server: &'a [u8],
     /// The lines below those, with an LF between each two: none stands behind the last.
     script: Vec<u8>,
     /// Whether such a line was added.
@@ -45,6 +48,7 @@ impl<'a> Row<'a> {
             input: b"",
             output: b"",
             machine: b"",
+            server: b"",
             script: Vec::new(alloc),
             begun: false,
         }
@@ -65,6 +69,9 @@ impl<'a> Row<'a> {
             return Ok(());
         } else if let Some(machine) = line.strip_prefix(b"! ".as_slice()) {
             self.machine = machine;
+            return Ok(());
+        } else if let Some(server) = line.strip_prefix(b"@ ".as_slice()) {
+            self.server = server;
             return Ok(());
         }
         self.begun = true;
@@ -136,6 +143,17 @@ impl<'a> Row<'a> {
         let words = program_words(&(Words(&self.words), rt.alloc()))?;
         let mut input = Input::new(script, self.input);
         let machine = Machine::new(rt, self.machine);
-        run(&machine, rt.alloc(), &words, &mut input, output)
+        let alloc = rt.alloc();
+        let ending = ending_of(self.server);
+        run(
+            &machine,
+            alloc,
+            &words,
+            &mut input,
+            output,
+            move |config, folder, sessions, writer| {
+                serve(alloc, ending, config, folder, sessions, writer)
+            },
+        )
     }
 }

@@ -1,0 +1,30 @@
+-- What serving answers that ends with a report.
+use Rattle.std.proofs.Common.{Err, List, None, Ok, Option, Result, Some, [], ℕ, refl, sym, append-nil}
+use Rattle.std.specs.Io.KnownBytes.{Appends}
+use Rattle.relay_conf.specs.declared.settings.Config.{Config}
+use Rattle.relay_drill.specs.Written.{GainsFront}
+use Rattle.relay_report.specs.declared.totals.Totals.{Totals}
+use Rattle.serve_terms.specs.Serve.{AreOf, PrintGives, ServeGives}
+use Rattle.serve_terms.specs.declared.fault.ServeError.{ServeError}
+use Rattle.serve_terms.specs.declared.fault.ServeError.TheVariants as faults
+
+-- A writer that takes nothing gains nothing.
+gains_none : (held : Option (List ℕ)) → Appends held held []
+gains_none None = tt
+gains_none (Some xs) = sym (append-nil xs)
+
+-- A writer that takes nothing of a text has a front of it.
+pub takes_none : (text : List ℕ) (held : Option (List ℕ)) → GainsFront text held held
+takes_none text held = record { front = []; left = text; cut = refl; gained = gains_none held }
+
+-- What the printing of a relay's totals answers is what serving it answers.
+pub printed : (config : Config) (totals : Totals) (result : Result (Unit {0}) ServeError)
+    (before after : Option (List ℕ)) → AreOf config totals
+    → PrintGives totals result before after → ServeGives config result before after
+printed config totals (Ok done) before after of gives = (totals, of, gives)
+printed config totals (Err (faults.File name)) before after of gives = absurd gives
+printed config totals (Err (faults.Port number)) before after of gives = absurd gives
+printed config totals (Err faults.Unseeded) before after of gives = absurd gives
+printed config totals (Err faults.Memory) before after of gives = (tt, gives)
+printed config totals (Err faults.NoThread) before after of gives = absurd gives
+printed config totals (Err faults.Unwritten) before after of gives = (totals, of, gives)

@@ -1,0 +1,213 @@
+//! What serves in a row: it opens no port and no file, fails as a line of the row says, and tells
+//! what it was asked.
+ghost use Rattle.std.specs.Prelude.{◌≡◌, ℕ, List, Option, Err, IfOk, IfSome, map, slice_get};
+ghost use Rattle.relay_conf.specs.declared.settings.Config.{Config};
+ghost use Rattle.relay_core.specs.Figures.{name_of};
+ghost use Rattle.serve_terms.specs.Serve.{AreOf, ServeGives};
+
+use block_shelf::BufferFigures;
+use id_history::Counts;
+use line_words::Octets;
+use relay_conf::{BufferConf, Config, Peer, Relay};
+use relay_core::{FeedFigures, Figures, NamedBuffer, NamedFeed};
+use relay_report::Totals;
+use serve_terms::{ServeError, print_totals};
+use std::alloc::{AllocError, Global};
+use std::io::Write;
+
+/// How what serves in a row ends.
+#[derive(Clone, Copy)]
+pub enum Ending {
+    /// The report is written.
+    Reported,
+    /// `file`: the first buffer's file can't be had.
+    File,
+    /// `port`: the port of the first peer that has one can't be had.
+    Port,
+    /// `unseeded`: there are no random numbers.
+    Unseeded,
+    /// `memory`: there is no memory.
+    Memory,
+    /// `thread`: there is no thread.
+    Thread,
+    /// `unwritten`: the report takes none of its octets.
+    Unwritten,
+}
+
+/// The ending that a row's line names.
+pub fn ending_of(manner: &[u8]) -> Ending {
+    if manner == b"file".as_slice() {
+        return Ending::File;
+    }
+    if manner == b"port".as_slice() {
+        return Ending::Port;
+    }
+    if manner == b"unseeded".as_slice() {
+        return Ending::Unseeded;
+    }
+    if manner == b"memory".as_slice() {
+        return Ending::Memory;
+    }
+    if manner == b"thread".as_slice() {
+        return Ending::Thread;
+    }
+    if manner == b"unwritten".as_slice() {
+        return Ending::Unwritten;
+    }
+    Ending::Reported
+}
+
+/// Serves in a row, with this ending.
+pub fn serve<W: Write>(
+    alloc: Global,
+    ending: Ending,
+    config: &Config,
+    folder: &str,
+    sessions: Option<u32>,
+    writer: &mut W,
+) -> Result<(), ServeError>
+    ensures { ServeGives config.now result (W.contents writer.old) (W.contents writer.new) }
+{
+    let totals = totals_of(alloc, config, folder, sessions)?;
+    if matches!(ending, Ending::Unwritten) {
+        return Err(ServeError::Unwritten);
+    }
+    match failure_of(alloc, config, ending)? {
+        Some(error) => Err(error),
+        None => print_totals(alloc, &totals, writer),
+    }
+}
+
+/// The failure of this ending, where it is one that writes nothing.
+fn failure_of(
+    alloc: Global,
+    config: &Config,
+    ending: Ending,
+) -> Result<Option<ServeError>, AllocError>
+    ensures { IfOk result (λ said. IfSome said (λ error. (held : Option (List ℕ))
+        → ServeGives config.now (Err error) held held)) }
+{
+    match ending {
+        Ending::File => file_of(alloc, config),
+        Ending::Port => Ok(port_of(config)),
+        other => Ok(plain_failure(other)),
+    }
+}
+
+/// The failure of this ending, where it is neither a file nor a port.
+fn plain_failure(ending: Ending) -> Option<ServeError>
+    ensures { IfSome result (λ error. (config : Config) (held : Option (List ℕ))
+        → ServeGives config (Err error) held held) }
+{
+    match ending {
+        Ending::Unseeded => Some(ServeError::Unseeded),
+        Ending::Memory => Some(ServeError::Memory),
+        Ending::Thread => Some(ServeError::NoThread),
+        _ => None,
+    }
+}
+
+/// That the first buffer's file can't be had.
+fn file_of(alloc: Global, config: &Config) -> Result<Option<ServeError>, AllocError>
+    ensures { IfOk result (λ said. IfSome said (λ error. (held : Option (List ℕ))
+        → ServeGives config.now (Err error) held held)) }
+{
+    match config.buffers.buffers.first() {
+        Some(buffer) => Ok(Some(ServeError::File(String::from_utf8_lossy(
+            alloc,
+            buffer.file.as_slice(),
+        )?))),
+        None => Ok(None),
+    }
+}
+
+/// That the port of the first peer that has one can't be had.
+fn port_of(config: &Config) -> Option<ServeError>
+    ensures { IfSome result (λ error. (held : Option (List ℕ))
+        → ServeGives config.now (Err error) held held) }
+{
+    for peer in &config.relay.peers {
+        if peer.port != 0 {
+            return Some(ServeError::Port(peer.port));
+        }
+    }
+    None
+}
+
+/// The totals of a relay to which nothing came, but for its message-ids: as many are offered as the
+/// folder's name has octets, and as many stored as connections were asked for.
+fn totals_of(
+    alloc: Global,
+    config: &Config,
+    folder: &str,
+    sessions: Option<u32>,
+) -> Result<Totals, AllocError>
+    ensures { IfOk result (AreOf config.now) }
+{
+    let buffers = buffers_of(alloc, &config.buffers.buffers)?;
+    let feeds = feeds_of(alloc, &config.relay)?;
+    Ok(Totals {
+        figures: Figures {
+            buffers,
+            feeds,
+            ids: Counts {
+                offered: folder.len() as u128,
+                storing: 0,
+                stored: u128::from(sessions.unwrap_or(0)),
+                refused: 0,
+            },
+        },
+        accepted: 0,
+        posted: 0,
+        strays: 0,
+        doubles: 0,
+    })
+}
+
+/// Each buffer by its name, empty.
+fn buffers_of(alloc: Global, buffers: &[BufferConf]) -> Result<Vec<NamedBuffer>, AllocError>
+    ensures { IfOk result (λ named. map (λ one. one.name) named.items
+        ≡ map (λ buffer. buffer.name) buffers.now) }
+{
+    let figures = BufferFigures {
+        cycle: 0,
+        front: 0,
+        begun: 0,
+        stored: 0,
+    };
+    let mut named = Vec::new(alloc);
+    for buffer in buffers {
+        let name = Octets::copied(alloc, buffer.name.as_slice())?;
+        named.push(NamedBuffer { name, figures })?;
+    }
+    Ok(named)
+}
+
+/// Each feed by its peer's name, empty.
+fn feeds_of(alloc: Global, relay: &Relay) -> Result<Vec<NamedFeed>, AllocError>
+    ensures { IfOk result (λ named. map (λ one. one.peer) named.items
+        ≡ map (λ feed. name_of (slice_get relay.now.peers.items feed.peer))
+        relay.now.feeds.items) }
+{
+    let figures = FeedFigures {
+        waiting: 0,
+        gained: 0,
+        overwritten: 0,
+    };
+    let mut named = Vec::new(alloc);
+    for feed in &relay.feeds {
+        let peer = peer_name(alloc, &relay.peers, feed.peer)?;
+        named.push(NamedFeed { peer, figures })?;
+    }
+    Ok(named)
+}
+
+/// The name of the peer of this number, empty where there is none.
+fn peer_name(alloc: Global, peers: &[Peer], number: u16) -> Result<Octets, AllocError>
+    ensures { IfOk result (λ name. name ≡ name_of (slice_get peers.now number)) }
+{
+    match peers.get(usize::from(number)) {
+        Some(peer) => Octets::copied(alloc, peer.name.as_slice()),
+        None => Octets::copied(alloc, b""),
+    }
+}
