@@ -62,7 +62,7 @@ where
 {
     let groups = config.buffers.groups.len();
     let (book, all) = blank.open::<L>();
-    let shared = match Shared::new(rt, alloc, config, stores, book, doors.len()) {
+    let shared: Shared<S, J, L> = match Shared::new(rt, alloc, config, stores, book, doors.len()) {
         Ok(shared) => shared,
         Err(error) => return Err(unbegun(error.kind())),
     };
