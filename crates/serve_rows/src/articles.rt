@@ -10,8 +10,18 @@ const BEHIND: &[u8] = b"@x>\r\nDate: Fri, 01 Jan 2021 00:00:00 +0000\r\n\r\n";
 
 /// The article of this id, with so many octets in its one line, where this stands before the Path
 /// that its sender gave it.
-pub(crate) fn kept(alloc: Global, before: &[u8], id: &[u8], size: usize) -> Result<Vec<u8>, AllocError> {
-    let path = [b"Path: ".as_slice(), before, b"one.example!not-for-mail\r\n"].concat(alloc)?;
+pub(crate) fn kept(
+    alloc: Global,
+    before: &[u8],
+    id: &[u8],
+    size: usize,
+) -> Result<Vec<u8>, AllocError> {
+    let path = [
+        b"Path: ".as_slice(),
+        before,
+        b"one.example!not-for-mail\r\n",
+    ]
+    .concat(alloc)?;
     let mut text = [path.as_slice(), AHEAD, id, BEHIND].concat(alloc)?;
     let length = text.len().saturating_add(size);
     text.resize(length, b'x')?;

@@ -6,7 +6,7 @@ use std::alloc::Global;
 use std::io::{ErrorKind, Read, Write};
 use std::sync::{Mutex, Wait};
 use std::time::{Clock, Duration};
-use std::{io, thread};
+use std::{io, mem, thread};
 
 /// What the answers were.
 #[derive(Clone, Copy, Debug, PartialEq, Eq)]
@@ -95,41 +95,22 @@ enum Stage {
     Gone,
 }
 
-/// Asks for each article again and again, in turn, until the others have ended, and then for each
-/// one once more.
-#[derive(Drop)]
-pub(crate) struct Asker<'a, R: Sync> {
-    rt: &'a R,
-    alloc: Global,
-    room: &'a Mutex<Vec<u8>>,
-    tally: &'a Mutex<Tally>,
-    ended: &'a Point,
-    stage: Stage,
+/// What an asker goes by.
+#[derive(Clone, Copy, Drop)]
+pub(crate) struct Notes<'a> {
+    pub(crate) alloc: Global,
+    /// What it is answered stands there.
+    pub(crate) room: &'a Mutex<Vec<u8>>,
+    pub(crate) tally: &'a Mutex<Tally>,
+    /// Whether the others have ended.
+    pub(crate) ended: &'a Point,
 }
 
-impl<'a, R: Wait + Clock + Sync> Asker<'a, R> {
-    /// It is not greeted yet; what it is answered stands in the room.
-    pub(crate) fn new(
-        rt: &'a R,
-        alloc: Global,
-        room: &'a Mutex<Vec<u8>>,
-        tally: &'a Mutex<Tally>,
-        ended: &'a Point,
-    ) -> Asker<'a, R> {
-        Asker {
-            rt,
-            alloc,
-            room,
-            tally,
-            ended,
-            stage: Stage::Greeting,
-        }
-    }
-
+impl Notes<'_> {
     /// What was answered since the last time.
-    fn answered(&self) -> Vec<u8> {
-        let mut room = self.room.lock(self.rt);
-        std::mem::replace(&mut *room, Vec::new(self.alloc))
+    fn answered<R: Wait>(&self, rt: &R) -> Vec<u8> {
+        let mut room = self.room.lock(rt);
+        mem::replace(&mut *room, Vec::new(self.alloc))
     }
 
     /// What this answer is to ARTICLE of an id.
@@ -146,10 +127,10 @@ impl<'a, R: Wait + Clock + Sync> Asker<'a, R> {
     }
 
     /// The answer to what was asked last is counted.
-    fn note(&self, at: usize, is_last: bool) -> io::Result<()> {
-        let answered = self.answered();
+    fn note<R: Wait>(&self, rt: &R, at: usize, is_last: bool) -> io::Result<()> {
+        let answered = self.answered(rt);
         let answer = self.judge(&[character(at)], answered.as_slice())?;
-        let mut tally = self.tally.lock(self.rt);
+        let mut tally = self.tally.lock(rt);
         if is_last {
             tally.since.count(answer);
         } else {
@@ -159,14 +140,29 @@ impl<'a, R: Wait + Clock + Sync> Asker<'a, R> {
     }
 
     /// What comes behind this one.
-    fn behind(&self, at: usize, is_last: bool) -> Stage {
+    fn behind<R: Wait>(&self, rt: &R, at: usize, is_last: bool) -> Stage {
         if at < CHARACTERS.len() - 1 {
             return Stage::Asking(at + 1, is_last);
         }
         if is_last {
             return Stage::Gone;
         }
-        Stage::Asking(0, self.ended.has(self.rt, 2))
+        Stage::Asking(0, self.ended.has(rt, 2))
+    }
+
+    /// What comes behind this stage, once the answer is counted.
+    fn next<R: Wait>(&self, rt: &R, stage: Stage) -> io::Result<Stage> {
+        match stage {
+            Stage::Greeting => {
+                drop(self.answered(rt));
+                Ok(Stage::Asking(0, false))
+            }
+            Stage::Asking(at, is_last) => {
+                self.note(rt, at, is_last)?;
+                Ok(self.behind(rt, at, is_last))
+            }
+            Stage::Gone => Ok(Stage::Gone),
+        }
     }
 
     /// What is asked at this stage.
@@ -183,23 +179,35 @@ fn character(at: usize) -> u8 {
     CHARACTERS.get(at).copied().unwrap_or(b'0')
 }
 
+/// Asks for each article again and again, in turn, until the others have ended, and then for each
+/// one once more.
+#[derive(Drop)]
+pub(crate) struct Asker<'a, R: Sync> {
+    rt: &'a R,
+    notes: Notes<'a>,
+    stage: Stage,
+}
+
+impl<'a, R: Sync> Asker<'a, R> {
+    /// It is not greeted yet.
+    pub(crate) fn new(rt: &'a R, notes: Notes<'a>) -> Asker<'a, R> {
+        Asker {
+            rt,
+            notes,
+            stage: Stage::Greeting,
+        }
+    }
+}
+
 impl<R: Wait + Clock + Sync> Read for Asker<'_, R> {
     /// Once the answer to the last line is there, it is judged, and the next line is given.
     fn read(&mut self, room: &mut [u8]) -> io::Result<usize> {
-        let next = match self.stage {
-            Stage::Greeting => {
-                self.answered();
-                Stage::Asking(0, false)
-            }
-            Stage::Asking(at, is_last) => {
-                self.note(at, is_last)?;
-                self.behind(at, is_last)
-            }
-            Stage::Gone => return Ok(0),
-        };
-        self.stage = next;
+        if self.stage == Stage::Gone {
+            return Ok(0);
+        }
+        self.stage = self.notes.next(self.rt, self.stage)?;
         thread::sleep(self.rt, Duration::from_micros(1));
-        let line = self.asked(next)?;
+        let line = self.notes.asked(self.stage)?;
         (&mut line.as_slice()).read(room)
     }
 }

@@ -8,13 +8,12 @@ use crate::site::{Ports, run, two_ports};
 use relay_conf::Config;
 use relay_serve::OpenGate;
 use std::alloc::Global;
-use std::io;
 use std::net::{Net, TcpListener, TcpStream};
 use std::random::RandomSource;
 use std::sync::Wait;
-use std::thread;
 use std::thread::Threads;
 use std::time::{Clock, Duration};
+use std::{io, thread};
 
 /// How many connections p1 makes.
 const CONNECTIONS: u32 = 7;

@@ -61,7 +61,8 @@ impl Caller {
     /// Sends octets again and again until it can't for so many milliseconds. The error is that of a
     /// connection that breaks before.
     pub(crate) fn send_until_full(&mut self, octets: &[u8], patience: u64) -> io::Result<()> {
-        self.writer.set_write_timeout(Some(Duration::from_millis(patience)))?;
+        self.writer
+            .set_write_timeout(Some(Duration::from_millis(patience)))?;
         for _ in 0..MOST_WRITES {
             match self.writer.write(octets) {
                 Ok(_) => {}
@@ -82,11 +83,13 @@ impl Caller {
     /// Adds the next line to what is told, or that the connection has ended.
     pub(crate) fn hear(&mut self, text: &mut Vec<u8>) -> io::Result<()> {
         let line = self.line()?;
-        let told = match line.strip_suffix(b"\r\n".as_slice()) {
-            Some(told) => told,
-            None => b"(ended)".as_slice(),
-        };
-        text.extend_from_slice(&[self.name, b" ", told, b"\n"].concat(self.alloc)?)?;
+        text.extend_from_slice(self.name)?;
+        text.push(b' ')?;
+        match line.strip_suffix(b"\r\n".as_slice()) {
+            Some(told) => text.extend_from_slice(told)?,
+            None => text.extend_from_slice(b"(ended)")?,
+        }
+        text.push(b'\n')?;
         Ok(())
     }
 

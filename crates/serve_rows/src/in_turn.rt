@@ -8,13 +8,12 @@ use crate::site::{one_port, run};
 use relay_conf::Config;
 use relay_serve::OpenGate;
 use std::alloc::Global;
-use std::io;
 use std::net::{Net, TcpListener, TcpStream};
 use std::random::RandomSource;
 use std::sync::Wait;
-use std::thread;
 use std::thread::Threads;
 use std::time::Clock;
+use std::{io, thread};
 
 /// Both connections: the second one asks before the first one has brought the article.
 fn converse<N>(net: &N, alloc: Global, port: u16) -> io::Result<Vec<u8>>
@@ -45,7 +44,10 @@ fn finds(second: &mut Caller, alloc: Global, text: &mut Vec<u8>) -> io::Result<(
     second.hear(text)?;
     second.hear(text)?;
     let is_whole = second.is_given(&given(alloc, FROM_FIRST, b"a", 1)?)?;
-    add(text, format!(in alloc; "ARTICLE, whole: {is_whole}")?.as_str())?;
+    add(
+        text,
+        format!(in alloc; "ARTICLE, whole: {is_whole}")?.as_str(),
+    )?;
     second.leave()
 }
 

@@ -30,11 +30,31 @@ fn print<R: Print>(rt: &R, name: &[u8], text: &[u8]) -> io::Result<()> {
 }
 
 fn main(rt: HostRuntime) -> io::Result<()> {
-    print(&rt, b"sixty-two articles", &sixty_two::play(&rt, rt.alloc())?)?;
+    print(
+        &rt,
+        b"sixty-two articles",
+        &sixty_two::play(&rt, rt.alloc())?,
+    )?;
     print(&rt, b"one thread", &one_thread::play(&rt, rt.alloc())?)?;
-    print(&rt, b"peers that break off", &broken::play(&rt, rt.alloc())?)?;
+    print(
+        &rt,
+        b"peers that break off",
+        &broken::play(&rt, rt.alloc())?,
+    )?;
     print(&rt, b"pipelines", &pipelines::play(&rt, rt.alloc())?)?;
-    print(&rt, b"one after the other", &in_turn::play(&rt, rt.alloc())?)?;
-    print(&rt, b"on ports, over files", &on_ports::good(&rt, rt.alloc())?)?;
-    print(&rt, b"what can't be had", &on_ports::refused(&rt, rt.alloc())?)
+    print(
+        &rt,
+        b"one after the other",
+        &in_turn::play(&rt, rt.alloc())?,
+    )?;
+    print(
+        &rt,
+        b"on ports, over files",
+        &on_ports::good(&rt, rt.alloc())?,
+    )?;
+    print(
+        &rt,
+        b"what can't be had",
+        &on_ports::refused(&rt, rt.alloc())?,
+    )
 }

@@ -96,7 +96,10 @@ where
     caller.ask(&takethis(alloc, b"a", 1)?, &mut text)?;
     caller.send(b"ARTICLE <a@x>\r\n")?;
     let is_whole = caller.is_given(&given(alloc, FROM_FIRST, b"a", 1)?)?;
-    add(&mut text, format!(in alloc; "ARTICLE, whole: {is_whole}")?.as_str())?;
+    add(
+        &mut text,
+        format!(in alloc; "ARTICLE, whole: {is_whole}")?.as_str(),
+    )?;
     caller.ask(b"QUIT\r\n", &mut text)?;
     caller.hear(&mut text)?;
     Ok(text)
@@ -190,7 +193,11 @@ where
 {
     /// Files that can't be had; the port of p1 is taken too, but files come first.
     fn files(&self, text: &mut Vec<u8>) -> io::Result<()> {
-        self.file(text, "no such folder", b"cycbuff:A:none/a.buf:4\nmetacycbuff:G:A\n")?;
+        self.file(
+            text,
+            "no such folder",
+            b"cycbuff:A:none/a.buf:4\nmetacycbuff:G:A\n",
+        )?;
         self.file(text, "a folder", b"cycbuff:A:folder:4\nmetacycbuff:G:A\n")?;
         self.file(
             text,
@@ -218,7 +225,13 @@ where
     fn ports(&self, text: &mut Vec<u8>) -> io::Result<()> {
         let free = free_port(self.rt)?;
         self.port(text, "a port that is taken", self.taken, 0, self.taken)?;
-        self.port(text, "the second one is taken", free, self.taken, self.taken)?;
+        self.port(
+            text,
+            "the second one is taken",
+            free,
+            self.taken,
+            self.taken,
+        )?;
         self.port(text, "one port twice", free, free, free)
     }
 

@@ -5,12 +5,11 @@ use crate::gate::{SecondFirst, Still};
 use crate::site::{Ports, run, two_ports};
 use relay_conf::Config;
 use std::alloc::Global;
-use std::io;
 use std::net::{Net, TcpListener, TcpStream};
 use std::random::RandomSource;
 use std::sync::Wait;
-use std::thread;
 use std::thread::Threads;
+use std::{io, thread};
 
 /// Both sessions: the first one asks first, the second one is answered first.
 fn converse<N>(net: &N, alloc: Global, ports: Ports) -> io::Result<Vec<u8>>

@@ -7,13 +7,12 @@ use crate::site::{config_of, one_port, run};
 use relay_conf::K1_RELAY;
 use relay_serve::OpenGate;
 use std::alloc::Global;
-use std::io;
 use std::net::{Net, TcpListener, TcpStream};
 use std::random::RandomSource;
 use std::sync::Wait;
-use std::thread;
 use std::thread::Threads;
 use std::time::Clock;
+use std::{io, thread};
 
 /// A buffer of 2,084 blocks.
 const CYCBUFF: &[u8] = b"cycbuff:A:a.buf:1042\nmetacycbuff:G:A\n";
@@ -80,7 +79,10 @@ fn many_articles(caller: &mut Caller, alloc: Global, text: &mut Vec<u8>) -> io::
 /// A large article, by TAKETHIS and ARTICLE.
 fn large_article(caller: &mut Caller, alloc: Global, text: &mut Vec<u8>) -> io::Result<()> {
     let sent = takethis(alloc, b"z", LARGE)?;
-    add(text, format!(in alloc; "TAKETHIS of {} octets", sent.len())?.as_str())?;
+    add(
+        text,
+        format!(in alloc; "TAKETHIS of {} octets", sent.len())?.as_str(),
+    )?;
     caller.ask(&sent, text)?;
     caller.send(b"ARTICLE <z@x>\r\n")?;
     let reply = given(alloc, FROM_FIRST, b"z", LARGE)?;

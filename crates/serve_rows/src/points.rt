@@ -1,7 +1,7 @@
 //! How far the clients of a play have come.
 use std::sync::{Mutex, Wait};
-use std::time::{Clock, Duration};
 use std::thread;
+use std::time::{Clock, Duration};
 
 /// How often one looks whether the others have come as far, a microsecond apart.
 const MOST_LOOKS: u32 = 1 << 20;

@@ -7,8 +7,9 @@ use live_session::{Clock, Gate};
 use live_store::Register;
 use live_wire::Connections;
 use peer_ports::Port;
-use relay_conf::{Buffers, ConfError, Config, Method, read_cycbuff, read_relay, read_storage};
-use relay_conf::K1_STORAGE;
+use relay_conf::{
+    Buffers, ConfError, Config, K1_STORAGE, Method, read_cycbuff, read_relay, read_storage,
+};
 use relay_live::Door;
 use relay_report::Totals;
 use relay_serve::run_relay;
@@ -22,11 +23,7 @@ use std::sync::ledger::Blank;
 use std::thread::Threads;
 
 /// The configuration of these texts, with the storage.conf of K1.
-pub(crate) fn config_of(
-    alloc: Global,
-    cycbuff: &[u8],
-    relay: &[u8],
-) -> Result<Config, ConfError> {
+pub(crate) fn config_of(alloc: Global, cycbuff: &[u8], relay: &[u8]) -> Result<Config, ConfError> {
     let buffers = read_cycbuff(alloc, cycbuff)?;
     let methods = methods_of(alloc, &buffers)?;
     let relay = read_relay(alloc, relay)?;

@@ -1,7 +1,7 @@
 //! *Sixty-two articles* (docs/PROTOCOL.md, `serve`): two peers bring the same articles at the same
 //! time, and a third asks for them meanwhile.
 use crate::articles::{line, takethis};
-use crate::asker::{Asker, Pen, Tally};
+use crate::asker::{Asker, Notes, Pen, Tally};
 use crate::caller::{Caller, failed};
 use crate::doors::Way;
 use crate::points::Point;
@@ -13,13 +13,12 @@ use relay_live::Door;
 use relay_report::Totals;
 use relay_serve::{MachineClock, OpenGate};
 use std::alloc::{AllocError, Global};
-use std::io;
 use std::net::{Net, TcpListener, TcpStream};
 use std::random::RandomSource;
 use std::sync::{Mutex, Wait};
-use std::thread;
 use std::thread::Threads;
 use std::time::Clock;
+use std::{io, thread};
 
 /// The ids: the ASCII letters and digits.
 pub(crate) const CHARACTERS: &[u8; 62] =
@@ -157,7 +156,13 @@ where
     };
     let room = Mutex::new(Vec::new(alloc));
     let tally = Mutex::new(Tally::new());
-    let asker = Asker::new(rt, alloc, &room, &tally, &points.ended);
+    let notes = Notes {
+        alloc,
+        room: &room,
+        tally: &tally,
+        ended: &points.ended,
+    };
+    let asker = Asker::new(rt, notes);
     let pen = Pen { rt, room: &room };
     let doors = three_doors(alloc, one, two, Way::Memory(Some((asker, pen))))?;
     let clock = MachineClock::new(rt);
@@ -219,7 +224,10 @@ where
 fn tell(alloc: Global, outcome: &Outcome) -> io::Result<Vec<u8>> {
     let mut text = Vec::new(alloc);
     let once = taken_once(&outcome.first, &outcome.second);
-    add(&mut text, format!(in alloc; "239 to one peer and 439 to the other: {once}")?.as_str())?;
+    add(
+        &mut text,
+        format!(in alloc; "239 to one peer and 439 to the other: {once}")?.as_str(),
+    )?;
     let other = outcome.tally.before.other;
     let line = format!(in alloc; "asked meanwhile: neither 430 nor a whole text: {other}")?;
     add(&mut text, line.as_str())?;
