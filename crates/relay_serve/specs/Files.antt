@@ -1,7 +1,5 @@
 -- The files of the buffers (docs/FORMATS.md, cycbuff.conf).
-use Rattle.std.specs.Prelude.{◌≡◌, ◌==◌, ◌&&◌, Bool, Any, List, Option, None, Some, string_bytes}
-use Rattle.std.specs.Prelude.{if◌then◌else◌}
-use Rattle.std.specs.List.{list_any}
+use Rattle.std.specs.Prelude.{◌≡◌, Any, string_bytes}
 use Rattle.std.specs.Str.Lossy.{utf8_lossy}
 use Rattle.file_blocks.specs.Host.{identity_of}
 use Rattle.file_blocks.specs.Store.{file_of}
@@ -24,12 +22,5 @@ IsFileFault settings (faults.File name) =
 IsFileFault settings error = error ≡ faults.Memory
 
 -- both stores are over one file, whatever its names: the same inode of the same device
-abbrev pub is_same : FileBlocks HostFile → FileBlocks HostFile → Bool
-is_same store other =
-    let one = identity_of (file_of store) in
-    let two = identity_of (file_of other) in
-    (one.device == two.device) && (one.inode == two.inode)
-
--- the store, unless its file is that of one of the others
-abbrev pub own_of : List (FileBlocks HostFile) → FileBlocks HostFile → Option (FileBlocks HostFile)
-own_of others store = if list_any (is_same store) others then None else Some store
+abbrev pub SharesFile : (store other : FileBlocks HostFile) → Type 0
+SharesFile store other = identity_of (file_of store) ≡ identity_of (file_of other)

@@ -1,5 +1,5 @@
 -- What a run of a relay in threads comes to (docs/PROTOCOL.md, Threads).
-use Rattle.std.specs.Prelude.{◌≡◌, ◌⊎◌, ℕ, List, slice_get, Some}
+use Rattle.std.specs.Prelude.{◌≡◌, ◌⊎◌, ◌==◌, ℕ, List, length, slice_get, Some, if◌then◌else◌}
 use Rattle.std.specs.declared.io.ErrorKind.{ErrorKind}
 use Rattle.std.specs.declared.io.ErrorKind.TheVariants.{OutOfMemory}
 use Rattle.job_queue.specs.declared.parcel.Handed.{Handed}
@@ -11,6 +11,7 @@ use Rattle.live_fates.specs.declared.fate.KeptJob.{KeptJob}
 use Rattle.live_seats.specs.Gathered.{AllTold, NoneElse, kept_by_all}
 use Rattle.live_seats.specs.declared.outcome.Done.{Done}
 use Rattle.live_store.specs.declared.record.Archive.{Ghosts}
+use Rattle.relay_conf.specs.declared.settings.Config.{Config}
 use Rattle.relay_live.specs.Sessions.{Accounted}
 use Rattle.relay_live.specs.declared.running.LiveError.{LiveError}
 use Rattle.relay_live.specs.declared.running.LiveError.TheVariants as errors
@@ -33,6 +34,11 @@ ended_as errors.NoThread = faults.NoThread
 abbrev pub IsRunFault : ServeError → Type 0
 IsRunFault error =
     (error ≡ faults.Memory) ⊎ ((error ≡ faults.Unseeded) ⊎ (error ≡ faults.NoThread))
+
+-- how many writers a relay of a configuration has: one for each group, and one where there is none
+abbrev pub lane_count : Config → ℕ
+lane_count config =
+    let groups = length config.buffers.groups.items in if groups == 0 then 1 else groups
 
 -- Over honest stores, what the end of this number has handed over and answered kept is what
 -- sessions came to, one after the other, of one peer and by the terms of one relay.

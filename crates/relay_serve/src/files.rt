@@ -1,7 +1,7 @@
 //! The files of the buffers (docs/FORMATS.md, cycbuff.conf).
-ghost use Rattle.std.specs.Prelude.{◌≡◌, map, IfErr, IfOk, IfSome};
+ghost use Rattle.std.specs.Prelude.{◌≡◌, map, All, Any, IfErr, IfNone, IfOk, IfSome};
 ghost use Rattle.file_blocks.specs.Store.{count_of};
-ghost use Rattle.relay_serve.specs.Files.{IsFaultOf, IsFileFault, own_of};
+ghost use Rattle.relay_serve.specs.Files.{IsFaultOf, IsFileFault, SharesFile};
 ghost use Rattle.serve_terms.specs.declared.fault.ServeError.TheVariants as faults;
 
 use file_blocks::{FileBlocks, Unusable};
@@ -63,7 +63,9 @@ fn open_store<R: Files<File = File>>(
 
 /// The store, unless it is over the file of one of the others.
 fn taken_by_none(store: FileBlocks, others: &[FileBlocks]) -> Option<FileBlocks>
-    ensures own { result ≡ own_of others.now store }
+    ensures none { IfNone result (Any (SharesFile store) others.now) }
+    ensures own { IfSome result (λ own. (own ≡ store)
+        × All (λ other. ¬ SharesFile store other) others.now) }
 {
     for other in others {
         if store.same_file(other) {

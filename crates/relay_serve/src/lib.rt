@@ -1,7 +1,7 @@
 //! A relay that is served on ports, over files (docs/PROTOCOL.md, `serve`).
 //!
 //! `run_relay` runs a relay in threads over any stores and any doors, and says what was counted
-//! once all threads have ended. `OnPorts` opens the files of a configuration's buffers and the ports
+//! once all threads have ended. `serve_on` opens the files of a configuration's buffers and the ports
 //! of its peers, runs the relay over them, and writes the report.
 #![tactic(auto)]
 
@@ -18,4 +18,4 @@ pub use files::open_stores;
 pub use gate::OpenGate;
 pub use ports::open_ports;
 pub use running::run_relay;
-pub use serving::OnPorts;
+pub use serving::serve_on;

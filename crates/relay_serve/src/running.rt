@@ -1,7 +1,8 @@
 //! A relay runs in threads, over stores and doors that are given.
 ghost use Rattle.std.specs.Prelude.{◌≡◌, ◌<◌, ◌^◌, true, All, IfErr, IfOk, length, map};
 ghost use Rattle.relay_live.specs.Holding.{has_buffer};
-ghost use Rattle.relay_serve.specs.Running.{IsRunFault, Ran, ended_as, unbegun_as};
+ghost use Rattle.relay_serve.specs.Running.{IsRunFault, Ran, ended_as, lane_count};
+ghost use Rattle.relay_serve.specs.Running.{unbegun_as};
 ghost use Rattle.serve_terms.specs.Serve.{AreOf};
 
 use crate::figures::totals_of;
@@ -50,8 +51,7 @@ where
     requires register { register.now ≡ J.register }
     requires holds { J.holds ≡ has_buffer config.now.buffers }
     requires name { blank.name ≡ L.name }
-    requires parts { (blank.parts ≡ L.parts)
-        × (blank.parts ≡ length config.now.buffers.groups.items) × (0 < blank.parts) }
+    requires parts { (blank.parts ≡ L.parts) × (blank.parts ≡ lane_count config.now) }
     requires stores { map (λ store. length (S.blocks store)) stores.items
         ≡ map (λ buffer. buffer.blocks) config.now.buffers.buffers.items }
     requires honest { J.trusted ≡ true → All S.honest stores.items }
@@ -60,7 +60,7 @@ where
     ensures ran { IfOk result (Ran ⟦<J as Archive>⟧ (length doors.items)) }
     ensures fault { IfErr result IsRunFault }
 {
-    let groups = config.buffers.groups.len();
+    let groups = lanes_of(config);
     let (book, all) = blank.open::<L>();
     let shared: Shared<S, J, L> = match Shared::new(rt, alloc, config, stores, book, doors.len()) {
         Ok(shared) => shared,
@@ -77,9 +77,19 @@ where
     }
 }
 
+/// How many writers a relay has: one for each group, and one where there is no group.
+pub(crate) fn lanes_of(config: &Config) -> usize
+    ensures count { result ≡ lane_count config.now }
+    ensures some { 0 < result }
+{
+    let groups = config.buffers.groups.len();
+    if groups == 0 { 1 } else { groups }
+}
+
 /// Why a relay could not begin: memory ran out, or the system has no random numbers.
 fn unbegun(kind: ErrorKind) -> ServeError
-    ensures { result ≡ unbegun_as kind }
+    ensures error { result ≡ unbegun_as kind }
+    ensures fault { IsRunFault result }
 {
     match kind {
         ErrorKind::OutOfMemory => ServeError::Memory,
@@ -89,7 +99,8 @@ fn unbegun(kind: ErrorKind) -> ServeError
 
 /// Why the threads of a relay ended before they had served.
 fn ended(error: LiveError) -> ServeError
-    ensures { result ≡ ended_as error }
+    ensures error { result ≡ ended_as error }
+    ensures fault { IsRunFault result }
 {
     match error {
         LiveError::Memory => ServeError::Memory,
