@@ -1,0 +1,245 @@
+//! *Sixty-two articles* (docs/PROTOCOL.md, `serve`): two peers bring the same articles at the same
+//! time, and a third asks for them meanwhile.
+use crate::articles::{line, takethis};
+use crate::asker::{Asker, Notes, Pen, Tally};
+use crate::caller::{Caller, failed};
+use crate::doors::Way;
+use crate::points::Point;
+use crate::printing::{add, add_counted, add_lines};
+use crate::site::{config_of, run};
+use peer_ports::Port;
+use relay_conf::{Config, K1_CYCBUFF};
+use relay_live::Door;
+use relay_report::Totals;
+use relay_serve::{MachineClock, OpenGate};
+use std::alloc::{AllocError, Global};
+use std::net::{Net, TcpListener, TcpStream};
+use std::random::RandomSource;
+use std::sync::{Mutex, Wait};
+use std::thread::Threads;
+use std::time::Clock;
+use std::{io, thread};
+
+/// The ids: the ASCII letters and digits.
+pub(crate) const CHARACTERS: &[u8; 62] =
+    b"abcdefghijklmnopqrstuvwxyzABCDEFGHIJKLMNOPQRSTUVWXYZ0123456789";
+
+/// The octets of an article's body, without its end.
+pub(crate) const SIZE: usize = 1200;
+
+/// K1's, with a longer cutoff.
+const RELAY: &[u8] = b"own relay.example\ncutoff 4000000000\npeer p1 one.example 0\n\
+    peer p2 two.example 0\nfeed p2 2 *\n";
+
+/// What the two peers go by.
+#[derive(Drop)]
+struct Points {
+    greeted: Point,
+    ended: Point,
+}
+
+/// Offers all articles, one after the other: those at an odd place and the one before them change
+/// places where it is turned. For each it says whether the article was taken (239) or not (439).
+fn offer_all<R>(
+    rt: &R,
+    alloc: Global,
+    points: &Points,
+    port: u16,
+    is_turned: bool,
+) -> io::Result<Vec<bool>>
+where
+    R: Wait + Clock + Net<Listener = TcpListener, Stream = TcpStream>,
+{
+    let mut caller = Caller::call(rt, alloc, port, b"")?;
+    caller.greeted()?;
+    points.greeted.reach(rt);
+    points.greeted.await_all(rt, 2);
+    let mut taken = Vec::new(alloc);
+    taken.resize(CHARACTERS.len(), false)?;
+    for place in 0..CHARACTERS.len() {
+        let at = if is_turned { place ^ 1 } else { place };
+        let is_taken = offer(&mut caller, alloc, at)?;
+        if let Some(mark) = taken.get_mut(at) {
+            *mark = is_taken;
+        }
+    }
+    caller.leave()?;
+    Ok(taken)
+}
+
+/// Sends the article at this place: whether it was taken.
+fn offer(caller: &mut Caller, alloc: Global, at: usize) -> io::Result<bool> {
+    let id = [CHARACTERS.get(at).copied().unwrap_or(b'0')];
+    caller.send(&takethis(alloc, &id, SIZE)?)?;
+    let reply = caller.line()?;
+    if reply == line(alloc, b"239", &id)? {
+        return Ok(true);
+    }
+    if reply == line(alloc, b"439", &id)? {
+        return Ok(false);
+    }
+    Err(failed())
+}
+
+/// A peer of the play, to its end.
+fn bring<R>(
+    rt: &R,
+    alloc: Global,
+    points: &Points,
+    port: u16,
+    is_turned: bool,
+) -> io::Result<Vec<bool>>
+where
+    R: Wait + Clock + Net<Listener = TcpListener, Stream = TcpStream>,
+{
+    let taken = offer_all(rt, alloc, points, port, is_turned);
+    points.ended.reach(rt);
+    taken
+}
+
+/// How many articles one of the peers was taken, and the other not.
+fn taken_once(first: &[bool], second: &[bool]) -> usize {
+    first
+        .iter()
+        .zip(second.iter())
+        .filter(|(one, other)| one != other)
+        .count()
+}
+
+/// How many articles a peer was taken.
+fn count_of(taken: &[bool]) -> u64 {
+    let mut count = 0u64;
+    for is_taken in taken {
+        if *is_taken {
+            count = count.saturating_add(1);
+        }
+    }
+    count
+}
+
+/// Whether the feed of p2 gained so many, of which two wait and the others were overwritten.
+fn has_gained(totals: &Totals, number: u64) -> bool {
+    match totals.figures.feeds.get(0) {
+        Some(feed) => {
+            let waiting = number.min(2);
+            let figures = &feed.figures;
+            figures.gained == number
+                && figures.waiting == waiting
+                && figures.overwritten == number.saturating_sub(waiting)
+        }
+        None => false,
+    }
+}
+
+/// What came of the play.
+#[derive(Drop)]
+struct Outcome {
+    first: Vec<bool>,
+    second: Vec<bool>,
+    tally: Tally,
+    totals: Totals,
+}
+
+/// The peers and the relay, at once.
+fn race<R>(rt: &R, alloc: Global, config: &Config) -> io::Result<Outcome>
+where
+    R: Threads + Wait + Clock + RandomSource + Sync,
+    R: Net<Listener = TcpListener, Stream = TcpStream>,
+{
+    let one = Port::listen(rt, 0, Some(1))?;
+    let two = Port::listen(rt, 0, Some(1))?;
+    let first = one.number()?;
+    let second = two.number()?;
+    let points = Points {
+        greeted: Point::new(),
+        ended: Point::new(),
+    };
+    let room = Mutex::new(Vec::new(alloc));
+    let tally = Mutex::new(Tally::new());
+    let notes = Notes {
+        alloc,
+        room: &room,
+        tally: &tally,
+        ended: &points.ended,
+    };
+    let asker = Asker::new(rt, notes);
+    let pen = Pen { rt, room: &room };
+    let doors = three_doors(alloc, one, two, Way::Memory(Some((asker, pen))))?;
+    let clock = MachineClock::new(rt);
+    let (first, (second, totals)) = thread::join(
+        rt,
+        || bring(rt, alloc, &points, first, false),
+        || thread::join(
+            rt,
+            || bring(rt, alloc, &points, second, true),
+            || run(rt, alloc, config, doors, &clock, &OpenGate),
+        ),
+    );
+    let tally = *tally.lock(rt);
+    Ok(Outcome {
+        first: first?,
+        second: second?,
+        tally,
+        totals: totals?,
+    })
+}
+
+/// The doors of p1 and p2, and a further one of p2.
+fn three_doors<'a, R: Wait + Clock + Sync>(
+    alloc: Global,
+    first: Port,
+    second: Port,
+    third: Way<'a, R>,
+) -> Result<Vec<Door<Way<'a, R>>>, AllocError> {
+    let mut doors = Vec::new(alloc);
+    doors.push(Door {
+        peer: 0,
+        connections: Way::Port(first),
+    })?;
+    doors.push(Door {
+        peer: 1,
+        connections: Way::Port(second),
+    })?;
+    doors.push(Door {
+        peer: 1,
+        connections: third,
+    })?;
+    Ok(doors)
+}
+
+/// Plays it, and says what came of it.
+pub(crate) fn play<R>(rt: &R, alloc: Global) -> io::Result<Vec<u8>>
+where
+    R: Threads + Wait + Clock + RandomSource + Sync,
+    R: Net<Listener = TcpListener, Stream = TcpStream>,
+{
+    let Ok(config) = config_of(alloc, K1_CYCBUFF, RELAY) else {
+        return Err(failed());
+    };
+    let outcome = race(rt, alloc, &config)?;
+    tell(alloc, &outcome)
+}
+
+/// What came of it.
+fn tell(alloc: Global, outcome: &Outcome) -> io::Result<Vec<u8>> {
+    let mut text = Vec::new(alloc);
+    let once = taken_once(&outcome.first, &outcome.second);
+    add(
+        &mut text,
+        format!(in alloc; "239 to one peer and 439 to the other: {once}")?.as_str(),
+    )?;
+    let other = outcome.tally.before.other;
+    let line = format!(in alloc; "asked meanwhile: neither 430 nor a whole text: {other}")?;
+    add(&mut text, line.as_str())?;
+    let since = outcome.tally.since;
+    let (whole, none, other) = (since.whole, since.none, since.other);
+    let line = format!(in alloc; "asked afterwards: whole {whole}, 430 {none}, other {other}")?;
+    add(&mut text, line.as_str())?;
+    let gained = has_gained(&outcome.totals, count_of(&outcome.first));
+    let line = format!(in alloc; "the feed of p2 gained what p1 brought: {gained}")?;
+    add(&mut text, line.as_str())?;
+    add_lines(&mut text, alloc, &outcome.totals, b"buffer")?;
+    add_lines(&mut text, alloc, &outcome.totals, b"ids")?;
+    add_counted(&mut text, alloc, &outcome.totals)?;
+    Ok(text)
+}
