@@ -6,6 +6,7 @@ run all the time; each round does everything once with each of them in turn, the
 folder for both servers' files, made and taken away again. Ends with status 1 where a server answers what it shouldn't.
 """
 import shutil
+import signal
 import statistics
 import subprocess
 import sys
@@ -47,6 +48,9 @@ CASES = [
     ("CHECK, known", "known", 1, KNOWN, "check code=438"),
     ("CHECK, known", "known", 4, KNOWN, "check code=438"),
     ("CHECK, new, 200 a connection", "new", 1, 10_000, "new code=238"),
+    ("TAKETHIS of 1 KB, acknowledged late", "late", 1, 5_000, "take octets=1024 lazy=1 gather=64"),
+    ("TAKETHIS of 1 KB, acknowledged late", "late", 4, 2_000, "take octets=1024 lazy=1 gather=64"),
+    ("TAKETHIS of 1 KB, known, acknowledged late", "known", 1, 5_000, "take octets=1024 code=439 lazy=1 gather=64"),
 ]
 # Waits for answers: as the system acknowledges, which is where stalls come from.
 PACES = [
@@ -217,6 +221,7 @@ def run(folder):
 
 
 def main():
+    signal.signal(signal.SIGTERM, lambda *_: sys.exit(143))
     folder = Path(tempfile.mkdtemp(prefix="cnrelay-bench-", dir=FOLDER))
     folder.chmod(0o755)
     try:

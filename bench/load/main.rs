@@ -15,6 +15,7 @@
 //! group=NAME,.. of each article in turn; run=TAG the part of the message-ids that tells runs apart;
 //! count=N articles a connection; octets=N of an article; window=N unanswered, bytes=N of them.
 //! A connection of another kind of answer than code, or with another message-id, ends it with status 1.
+mod readers;
 mod soak;
 mod texts;
 mod wire;

@@ -1,7 +1,9 @@
 //! Articles: of a given size for measuring, and of many kinds, told by their number, for trying.
+use crate::wire::find;
+use std::sync::OnceLock;
 use std::time::{SystemTime, UNIX_EPOCH};
 
-/// What an article of either kind says of where it comes from.
+/// What an article for measuring says of where it comes from.
 pub struct Origin {
     pub identity: String,
     pub date: String,
@@ -36,23 +38,18 @@ fn today() -> String {
     )
 }
 
-/// Adds the header that each article has, up to its Date.
-fn push_header(text: &mut Vec<u8>, origin: &Origin, path: &str, group: &str, id: &str) {
-    text.extend_from_slice(
-        format!(
-            "Path: {}{path}!not-for-mail\r\nFrom: poster@bench.example\r\nNewsgroups: {group}\r\n\
-             Subject: an article\r\nMessage-ID: {id}\r\nDate: {}\r\n",
-            origin.identity, origin.date
-        )
-        .as_bytes(),
-    );
-}
 
 /// Adds an article of so many octets, lines of 62 with their ends 64, none with a dot in front.
 pub fn push_plain(text: &mut Vec<u8>, origin: &Origin, group: &str, id: &str, octets: usize) {
     let begin = text.len();
-    push_header(text, origin, "", group, id);
-    text.extend_from_slice(b"\r\n");
+    text.extend_from_slice(
+        format!(
+            "Path: {}!not-for-mail\r\nFrom: poster@bench.example\r\nNewsgroups: {group}\r\n\
+             Subject: an article\r\nMessage-ID: {id}\r\nDate: {}\r\n\r\n",
+            origin.identity, origin.date
+        )
+        .as_bytes(),
+    );
     let line = b"The quick brown fox jumps over the lazy dog, and over one more\r\n";
     while text.len() - begin + line.len() + 3 <= octets {
         text.extend_from_slice(line);
@@ -83,66 +80,120 @@ impl Chance {
     }
 }
 
-/// The octets of the body of article `number`: mostly small, now and then large, sometimes none.
+/// The octets of the body of an article: mostly few, now and then many, sometimes none.
 fn body_octets(chance: &mut Chance, largest: u64) -> u64 {
     let wanted = match chance.below(1_000) {
         0..=19 => 0,
         20..=899 => 200 + chance.below(4_000),
         900..=979 => chance.below(24_000),
-        980..=995 => chance.below(100_000),
+        980..=996 => chance.below(100_000),
         _ => chance.below(900_000),
     };
     wanted.min(largest)
 }
 
-/// Adds the octets of a line: letters, now and then octets past ASCII, a dot in front of some.
+/// Octets that lines are taken from: letters, and octets past ASCII; no octet of a line's end.
+struct Noise {
+    letters: Vec<u8>,
+    high: Vec<u8>,
+}
+
+const NOISE: u64 = 1 << 16;
+
+fn noise() -> &'static Noise {
+    static NOISE_ONCE: OnceLock<Noise> = OnceLock::new();
+    NOISE_ONCE.get_or_init(|| {
+        let mut chance = Chance::new(7);
+        let known = b"abcdefghijklmnopqrstuvwxyz ABCDEFGHIJKLMNOPQRSTUVWXYZ.:-0123456789 \t";
+        let letters = (0..2 * NOISE).map(|_| known[chance.below(known.len() as u64) as usize]).collect();
+        let high = (0..2 * NOISE).map(|_| 0x80 | chance.next() as u8).collect();
+        Noise { letters, high }
+    })
+}
+
+/// Adds a line without its end: some have dots in front, some octets past ASCII.
 fn push_line(text: &mut Vec<u8>, chance: &mut Chance, octets: u64) {
-    let kind = chance.below(16);
-    for _ in 0..octets.min(match kind { 0 => 1, 1 => 2, 2 => 3, _ => 0 }) {
-        text.push(b'.');
-    }
-    let letters = b"abcdefghijklmnopqrstuvwxyz ABCDEFGHIJKLMNOPQRSTUVWXYZ.:-0123456789 ";
-    for _ in 0..octets {
-        let drawn = chance.next();
-        text.push(if kind == 3 { 0x80 | drawn as u8 } else { letters[(drawn % letters.len() as u64) as usize] });
-    }
+    let drawn = chance.next();
+    let (kind, from) = (drawn % 16, (drawn / 16 % NOISE) as usize);
+    text.extend_from_slice(match kind {
+        0 => b".",
+        1 => b"..",
+        2 => b"...",
+        _ => b"",
+    });
+    let source = if kind == 3 { &noise().high } else { &noise().letters };
+    text.extend_from_slice(&source[from..from + octets as usize]);
 }
 
-/// The message-id of the article `number` of a run.
-pub fn number_id(run: &str, number: u64) -> String {
-    format!("<{run}.{number}@try.example>")
+/// The articles of a run, each of which follows from its number.
+pub struct Articles {
+    pub run: String,
+    pub groups: Vec<String>,
+    pub date: String,
+    /// The octets of the largest body, but for dots and line ends.
+    pub largest: u64,
 }
 
-/// The number in a message-id of `number_id`.
-pub fn number_of(run: &str, id: &[u8]) -> Option<u64> {
-    std::str::from_utf8(id).ok()?.strip_prefix(&format!("<{run}."))?.strip_suffix("@try.example>")?.parse().ok()
-}
+impl Articles {
+    pub fn new(run: &str, groups: Vec<String>, largest: u64) -> Articles {
+        Articles { run: run.to_string(), groups, date: today(), largest }
+    }
 
-/// What follows the Path line of the article `number` of a run, as it follows from the number alone.
-pub fn push_rest(text: &mut Vec<u8>, run: &str, number: u64, groups: &[String], date: &str, largest: u64) {
-    let mut chance = Chance::new(number + 1);
-    let group = &groups[(number % groups.len() as u64) as usize];
-    text.extend_from_slice(
-        format!(
-            "From: poster@try.example\r\nNewsgroups: {group}\r\nSubject: article {number}\r\nMessage-ID: {}\r\nDate: {date}\r\n",
-            number_id(run, number)
-        )
-        .as_bytes(),
-    );
-    if chance.below(8) == 0 {
-        text.extend_from_slice(b"References: <1@try.example>\r\n <2@try.example>\r\n\t<3@try.example>\r\n");
+    pub fn id(&self, number: u64) -> String {
+        format!("<{}.{number}@try.example>", self.run)
     }
-    if chance.below(8) == 0 {
-        text.extend_from_slice(b"X-Octets: \xC3\xA4\xF6 .\r\n .\r\n");
+
+    pub fn number_of(&self, id: &str) -> Option<u64> {
+        id.strip_prefix(&format!("<{}.", self.run))?.strip_suffix("@try.example>")?.parse().ok()
     }
-    text.extend_from_slice(b"\r\n");
-    let mut left = body_octets(&mut chance, largest);
-    while left > 0 {
-        let drawn = chance.below(150);
-        let octets = if chance.below(200) == 0 { 20 * drawn } else { drawn }.min(left);
-        push_line(text, &mut chance, octets);
+
+    fn references(chance: &mut Chance) -> &'static str {
+        if chance.below(8) == 0 { "<1@try.example>\r\n <2@try.example>\r\n\t<3@try.example>" } else { "" }
+    }
+
+    /// Adds what follows the Path line of the article of that number.
+    pub fn push_rest(&self, text: &mut Vec<u8>, number: u64) {
+        let mut chance = Chance::new(number + 1);
+        let group = &self.groups[(number % self.groups.len() as u64) as usize];
+        text.extend_from_slice(
+            format!(
+                "From: poster@try.example\r\nNewsgroups: {group}\r\nSubject: article {number}\r\n\
+                 Message-ID: {}\r\nDate: {}\r\n",
+                self.id(number),
+                self.date
+            )
+            .as_bytes(),
+        );
+        let references = Articles::references(&mut chance);
+        if !references.is_empty() {
+            text.extend_from_slice(format!("References: {references}\r\n").as_bytes());
+        }
+        if chance.below(8) == 0 {
+            text.extend_from_slice(b"X-Octets: \xC3\xA4\xF6 .\r\n .\r\n");
+        }
         text.extend_from_slice(b"\r\n");
-        left -= octets.max(1).min(left);
+        let mut left = body_octets(&mut chance, self.largest);
+        while left > 0 {
+            let drawn = chance.below(150);
+            let octets = if chance.below(200) == 0 { 20 * drawn } else { drawn }.min(left);
+            push_line(text, &mut chance, octets);
+            text.extend_from_slice(b"\r\n");
+            left -= octets.max(1);
+        }
+    }
+
+    /// The overview line of the article of that number, whose whole text is given.
+    pub fn overview(&self, number: u64, text: &[u8]) -> String {
+        let mut chance = Chance::new(number + 1);
+        let references = Articles::references(&mut chance).replace("\r\n", "").replace('\t', " ");
+        let body = find(text, b"\r\n\r\n").map_or(text.len(), |at| at + 4);
+        let lines = text[body..].iter().filter(|octet| **octet == b'\n').count();
+        format!(
+            "0\tarticle {number}\tposter@try.example\t{}\t{}\t{references}\t{}\t{lines}",
+            self.date,
+            self.id(number),
+            text.len()
+        )
     }
 }
 
