@@ -133,6 +133,7 @@ noreader: true
 maxconnections: 50
 doinnwatch: false
 htmlstatus: false
+nnrpdloadlimit: 0
 """
 
 
