@@ -94,14 +94,18 @@ def write_buffers(folder, kilobytes, buffers, path="{}.buf"):
     return names
 
 
-def relay(program, folder, port, kilobytes=262_144, buffers=1, relay_lines=(), words=(), **settings):
-    """`cnrelay serve` with the four peers at `port` and the ports behind it, and other peers of `relay_lines`."""
+def write_relay(folder, port, kilobytes=262_144, buffers=1, relay_lines=()):
+    """A configuration with the four peers at `port` and the ports behind it, and the lines given; all its ports."""
     folder.mkdir()
     write_buffers(folder, kilobytes, buffers)
     peers = [f"peer {name} {name}.example {port + number}" for number, name in enumerate(PEERS)]
     (folder / "relay.conf").write_text("\n".join([f"own {OWN}", *peers, *relay_lines]) + "\n")
-    ports = [port + number for number in range(len(PEERS))]
-    ports += [int(line.split()[3]) for line in relay_lines if line.startswith("peer ")]
+    return [int(line.split()[3]) for line in (*peers, *relay_lines) if line.startswith("peer ")]
+
+
+def relay(program, folder, port, kilobytes=262_144, buffers=1, relay_lines=(), words=(), **settings):
+    """`cnrelay serve` with such a configuration."""
+    ports = write_relay(folder, port, kilobytes, buffers, relay_lines)
     return Server("cnrelay", [program, "serve", str(folder), *words], ports, **settings)
 
 
