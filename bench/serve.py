@@ -7,6 +7,7 @@ folder for both servers' files, made and taken away again. Ends with status 1 wh
 """
 import shutil
 import signal
+import socket
 import statistics
 import subprocess
 import sys
@@ -191,7 +192,9 @@ def run(folder):
             begun = time.monotonic()
             relay = servers.relay(PROGRAM, folder / "relay", RELAY_PORT, KILOBYTES)
             started.append(relay)
-            print(f"cnrelay listened after {time.monotonic() - begun:.2f} seconds", file=sys.stderr)
+            with socket.create_connection(("127.0.0.1", RELAY_PORT), 60) as peer:
+                peer.recv(3)
+            print(f"cnrelay greeted after {time.monotonic() - begun:.2f} seconds", file=sys.stderr)
             addresses = [f"127.0.0.1:{RELAY_PORT + number}" for number in range(4)]
             sides["cnrelay"] = Side("cnrelay", relay, relay, addresses, ["127.0.0.1"] * 4, addresses)
         at_innd, at_nnrpd = [f"127.0.0.1:{INND_PORT}"] * 4, [f"127.0.0.1:{NNRPD_PORT}"] * 4
