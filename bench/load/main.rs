@@ -9,12 +9,11 @@
 //! try      articles of many kinds by TAKETHIS, which `push_rest` makes
 //! soak     many peers and readers for some minutes (soak.rs)
 //!
-//! to=ADDRESS:PORT,.. a connection each; from=ADDRESS,.. identity=NAME,.. of each connection in turn;
-//! gather=N sends more once an N-th of the window is free;
-//! lazy=1 leaves it to the system when to acknowledge what was read, up to 40 ms later, else at once;
-//! group=NAME,.. of each article in turn; run=TAG the part of the message-ids that tells runs apart;
-//! count=N articles a connection; octets=N of an article; window=N unanswered, bytes=N of them.
-//! A connection of another kind of answer than code, or with another message-id, ends it with status 1.
+//! to=ADDRESS:PORT,.. a connection each, from=ADDRESS,.. and identity=NAME,.. of each; group=NAME,.. of each article in
+//! turn; run=TAG the part of the message-ids that tells runs apart; count=N commands a connection, distinct=N of them with
+//! ids of their own; octets=N of an article; window=N unanswered at most, bytes=N of articles among them; gather=N sends
+//! more once an N-th of the window is free; lazy=1 leaves it to the system when to acknowledge what was read, up to 40 ms
+//! later, else at once. An answer with another code, or on another message-id, ends the program with status 1.
 mod readers;
 mod soak;
 mod texts;
@@ -36,8 +35,10 @@ pub struct Load {
     origin: Origin,
     groups: Vec<String>,
     run: String,
+    ids: Vec<String>,
     number: usize,
     count: usize,
+    distinct: usize,
     octets: usize,
     window: usize,
     bytes: usize,
@@ -63,28 +64,33 @@ struct Seen {
 }
 
 impl Load {
-    fn id(&self, number: usize) -> String {
-        format!("<{}.{}.{number:08}@bench.example>", self.run, self.number)
+    /// Makes the message-ids, before the time is taken.
+    fn make_ids(&mut self) {
+        let ids = (0..self.distinct).map(|number| format!("<{}.{}.{number:08}@bench.example>", self.run, self.number));
+        self.ids = ids.collect();
     }
 
     /// Adds the command number `number`, with its article where it has one.
     fn push(&self, what: &str, octets: &mut Vec<u8>, number: usize) {
-        let id = self.id(number);
-        match what {
-            "take" => {
-                octets.extend_from_slice(format!("TAKETHIS {id}\r\n").as_bytes());
-                let group = &self.groups[number % self.groups.len()];
-                texts::push_plain(octets, &self.origin, group, &id, self.octets);
-                octets.extend_from_slice(b".\r\n");
-            }
-            "check" => octets.extend_from_slice(format!("CHECK {id}\r\n").as_bytes()),
-            _ => octets.extend_from_slice(format!("{} {id}\r\n", self.command).as_bytes()),
+        let id = &self.ids[number % self.ids.len()];
+        let keyword = match what {
+            "take" => "TAKETHIS",
+            "check" => "CHECK",
+            _ => &self.command,
+        };
+        for part in [keyword, " ", id, "\r\n"] {
+            octets.extend_from_slice(part.as_bytes());
+        }
+        if what == "take" {
+            let group = &self.groups[number % self.groups.len()];
+            texts::push_plain(octets, &self.origin, group, id, self.octets);
+            octets.extend_from_slice(b".\r\n");
         }
     }
 
     /// Reads the answer to the command number `number`; the octets of the text that came with it.
     fn hear(&self, what: &str, wire: &mut Wire, number: usize) -> io::Result<usize> {
-        let id = self.id(number);
+        let id = &self.ids[number % self.ids.len()];
         if what != "fetch" {
             let code = wire.answer_on(id.as_bytes())?;
             return if code == self.code { Ok(0) } else { wrong(format!("{code} for {what} of {id}")) };
@@ -146,7 +152,7 @@ impl Load {
             }
             loop {
                 let Some((wanted, number)) = awaited.pop_front() else { break };
-                let id = self.id(number);
+                let id = &self.ids[number % self.ids.len()];
                 let code = wire.answer_on(id.as_bytes())?;
                 if code != wanted {
                     return wrong(format!("{code} for {id}, not {wanted}"));
@@ -235,8 +241,10 @@ fn loads(words: &Words) -> Vec<Load> {
             origin: Origin::new(&identity[number % identity.len()]),
             groups: words.list("group", "bench.a.x"),
             run: words.text("run", "r"),
+            ids: Vec::new(),
             number,
             count: words.number("count", 1_000) as usize,
+            distinct: words.number("distinct", words.number("count", 1_000)) as usize,
             octets: words.number("octets", 1_024) as usize,
             window: words.number("window", 64) as usize,
             bytes: words.number("bytes", 1 << 20) as usize,
@@ -292,7 +300,9 @@ fn main() {
         }
         return;
     }
-    let loads = Arc::new(loads(&words));
+    let mut loads = loads(&words);
+    loads.iter_mut().for_each(Load::make_ids);
+    let loads = Arc::new(loads);
     let start = Arc::new(Barrier::new(loads.len()));
     let threads: Vec<_> = (0..loads.len())
         .map(|number| {

@@ -27,6 +27,7 @@ unsafe extern "C" {
     fn bind(descriptor: i32, address: *const SystemAddress, length: u32) -> i32;
     fn connect(descriptor: i32, address: *const SystemAddress, length: u32) -> i32;
     fn setsockopt(descriptor: i32, level: i32, name: i32, value: *const i32, length: u32) -> i32;
+    fn memchr(text: *const u8, octet: i32, length: usize) -> *const u8;
     fn memmem(text: *const u8, length: usize, part: *const u8, part_length: usize) -> *const u8;
 }
 
@@ -42,6 +43,12 @@ fn system_address(address: SocketAddrV4) -> SystemAddress {
 /// Where `part` first begins in `text`.
 pub fn find(text: &[u8], part: &[u8]) -> Option<usize> {
     let at = unsafe { memmem(text.as_ptr(), text.len(), part.as_ptr(), part.len()) };
+    if at.is_null() { None } else { Some(at as usize - text.as_ptr() as usize) }
+}
+
+/// Where this octet first stands in `text`.
+fn first_of(octet: u8, text: &[u8]) -> Option<usize> {
+    let at = unsafe { memchr(text.as_ptr(), i32::from(octet), text.len()) };
     if at.is_null() { None } else { Some(at as usize - text.as_ptr() as usize) }
 }
 
@@ -119,7 +126,7 @@ impl Wire {
 
     /// Whether a whole line has been read already.
     pub fn has_line(&self) -> bool {
-        find(&self.read[self.begin..self.end], b"\r\n").is_some()
+        first_of(b'\n', &self.read[self.begin..self.end]).is_some()
     }
 
     /// What stands before the next `mark`, which is dropped.
@@ -145,13 +152,19 @@ impl Wire {
 
     /// The code of the next line, whose second word has to be `id`.
     pub fn answer_on(&mut self, id: &[u8]) -> io::Result<u16> {
-        let (begin, end) = self.until(b"\r\n")?;
-        let line = &self.read[begin..end];
-        let mut words = line.split(|octet| *octet == b' ');
-        let code = code_of(words.next().unwrap_or(b""));
-        if words.next() != Some(id) {
+        while !self.has_line() {
+            self.fill()?;
+        }
+        let unread = &self.read[self.begin..self.end];
+        let line = &unread[..first_of(b'\n', unread).unwrap_or(0)];
+        let is_of = line.get(3) == Some(&b' ') && line[4..].starts_with(id)
+            && matches!(line.get(4 + id.len()), Some(b' ' | b'\r'));
+        if !is_of {
             return wrong(format!("{} for {}", text_of(line), text_of(id)));
         }
+        let digit = |at: usize| u16::from(line[at].wrapping_sub(b'0'));
+        let code = 100 * digit(0) + 10 * digit(1) + digit(2);
+        self.begin += line.len() + 1;
         Ok(code)
     }
 
