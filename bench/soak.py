@@ -1,0 +1,147 @@
+#!/usr/bin/env python3
+"""Lets four peers and two readers at `cnrelay serve` for some minutes, and checks what they and the report say.
+
+soak.py CNRELAY LOAD [MINUTES [FOLDER]]: CNRELAY is the program, LOAD that of bench/load, whose soak.rs says what peers and
+readers do. Four buffers of 16 MB go round many times. Ends with status 1 where a text isn't whole and right, an article is
+gone that can't be, the report differs from what was counted, or memory grows by more than what is remembered of an article.
+"""
+import re
+import shutil
+import signal
+import statistics
+import subprocess
+import sys
+import tempfile
+import time
+from pathlib import Path
+
+import servers
+
+PROGRAM, LOAD = sys.argv[1:3]
+MINUTES = float(sys.argv[3]) if len(sys.argv) > 3 else 10
+FOLDER = sys.argv[4] if len(sys.argv) > 4 else "/var/tmp"
+PORT = 21931
+KILOBYTES = 16_384
+BLOCKS = 2 * KILOBYTES
+CONNECTIONS = 4
+RING = 5_000
+# The most octets of memory for each article that was stored: what is remembered of it, never its text.
+MOST = 600
+
+
+def numbers(line):
+    """The words KEY=NUMBER of a line."""
+    return {key: float(value) for key, value in re.findall(r"(\w+)=([\d.]+)", line)}
+
+
+def read_report(text):
+    """The numbers of a report's lines, by their first two words."""
+    found = {}
+    for line in text.splitlines():
+        words = line.split()
+        if words[0] == "ids":
+            found["ids"] = [int(word) for word in words[1:]]
+        else:
+            found[words[0], words[1]] = [int(word) for word in words[2:]]
+    return found
+
+
+def faults_of(report, lines):
+    """What of the report, and of the lines that the load printed, doesn't agree."""
+    def only(front):
+        return numbers(next(line for line in lines if line.startswith(front)))
+
+    sent, taken = only("sent "), only("by token ")
+    stored = int(sent["stored"])
+    wanted = [
+        ("ids offered, storing, stored, refused", report["ids"], [0, 0, stored, 0]),
+        ("tokens waiting, gained, overwritten", report["feed", "tokens"], [0, stored, int(taken["missed"])]),
+        ("tokens taken", [int(taken["taken"])], [stored - int(taken["missed"])]),
+    ]
+    buffers = [(name[1], row) for name, row in report.items() if name[0] == "buffer"]
+    wanted.append(("begun and stored of all buffers", [sum(row[at] for _, row in buffers) for at in (2, 3)], [stored, stored]))
+    waiting, gained, overwritten = report["feed", "two"]
+    wanted.append(("waiting of a ring that nobody takes from", [waiting], [min(100, gained)]))
+    wanted.append(("its overwritten tokens", [overwritten], [gained - waiting]))
+    faults = [f"{what}: {found}, not {right}" for what, found, right in wanted if found != right]
+    for line in lines:
+        if line.startswith("kept "):
+            kept = numbers(line.replace("there=18446744073709551615", ""))
+            front = buffers[int(kept["buffer"])][1][1]
+            if kept.get("there", front) + BLOCKS < front or kept["gone"] - 1 + BLOCKS >= front > 0 < kept["gone"]:
+                faults.append(f"{line}: front {front}")
+    if MINUTES >= 2:
+        faults += [f"buffer {name} went round {row[0]} times alone" for name, row in buffers if row[0] < 3]
+    return faults
+
+
+def print_memory(lines):
+    """Prints what memory came to, and gives the octets for each id: over the last two thirds of the ids."""
+    seen = [numbers(line) for line in lines if line.startswith("memory ")]
+    most = seen[-1]["stored"]
+    points = [(one["stored"], 1024 * one["kilobytes"]) for one in seen if one["stored"] >= most / 3]
+    each = statistics.linear_regression(*zip(*points)).slope if len(points) > 2 else 0
+    for one in seen[:: max(1, len(seen) // 12)]:
+        print(f"{one['seconds']:6.0f} seconds {one['stored']:12,.0f} ids {1024 * one['kilobytes'] / 1e6:8.1f} MB")
+    print(f"memory: {each:.0f} octets for each id over the last two thirds, {each:.0f} MB for a million")
+    return each
+
+
+def soak(folder):
+    peers = [f"peer ids ids.example {PORT + 4}", f"peer tokens tokens.example {PORT + 5}",
+             f"feed tokens {RING} *", "feed two 100 bench.a.*"]
+    with open(folder / "report", "w+") as report, open(folder / "told", "w+") as told:
+        relay = servers.relay(PROGRAM, folder / "relay", PORT, KILOBYTES, 2, peers, ("--sessions", str(CONNECTIONS)),
+                              stdout=report, stderr=told)
+        try:
+            addresses = [f"127.0.0.1:{PORT + number}" for number in range(6)]
+            words = [LOAD, "soak", f"seconds={60 * MINUTES:.0f}", "to=" + ",".join(addresses[:4]), f"pid={relay.process.pid}",
+                     "readers=" + ",".join(addresses[4:]), f"connections={CONNECTIONS}", f"blocks={BLOCKS}", f"kept={BLOCKS}"]
+            begun = time.monotonic()
+            load = subprocess.Popen(words, stdout=subprocess.PIPE, text=True)
+            try:
+                printed, _ = load.communicate(timeout=60 * MINUTES + 300)
+            finally:
+                load.kill()
+            seconds, lines = time.monotonic() - begun, printed.splitlines()
+            print("\n".join(line for line in lines if not line.startswith("memory ")))
+            if load.returncode:
+                raise servers.Trouble(f"the load ended with {load.returncode}; {told_of(told)}")
+            relay.process.wait(60)
+        finally:
+            relay.stop()
+        report.seek(0)
+        text = report.read()
+        print(text, end="")
+        if relay.process.returncode:
+            raise servers.Trouble(f"serve ended with {relay.process.returncode}: {told_of(told)}")
+    each = print_memory(lines)
+    faults = faults_of(read_report(text), lines)
+    if each > MOST:
+        faults.append(f"memory grows by {each:.0f} octets for each article, more than {MOST}")
+    stored = read_report(text)["ids"][2]
+    print(f"{stored:,} articles in {seconds:.0f} seconds, {stored / seconds:,.0f} a second")
+    return faults
+
+
+def told_of(told):
+    told.seek(0)
+    return told.read().strip()
+
+
+def main():
+    signal.signal(signal.SIGTERM, lambda *_: sys.exit(143))
+    folder = Path(tempfile.mkdtemp(prefix="cnrelay-soak-", dir=FOLDER))
+    try:
+        faults = soak(folder)
+    except (servers.Trouble, subprocess.TimeoutExpired) as trouble:
+        sys.exit(f"soak.py: {trouble}")
+    finally:
+        shutil.rmtree(folder)
+    for fault in faults:
+        print(f"WRONG: {fault}")
+    print("the report agrees with what was counted" if not faults else f"{len(faults)} faults")
+    sys.exit(1 if faults else 0)
+
+
+main()
