@@ -134,7 +134,8 @@ pub(crate) fn two_threads<J: Archive + Send + Sync, R: Threads + Wait + Print + 
     let one = sample(alloc, 1440)?;
     let two = sample(alloc, 1200)?;
     let buffers = one_buffer::<J>(alloc, 0, 0)?;
-    overwritten(rt, alloc, &buffers, register, &one, &two)
+    overwritten(rt, alloc, &buffers, register, &one, &two)?;
+    never_stored(rt, alloc, &buffers, register, &two)
 }
 
 /// The same over a buffer that is there.
@@ -155,6 +156,20 @@ fn overwritten<J: Archive + Send + Sync, R: Threads + Wait + Print + Sync>(
     put(rt, buffers, register, "third", two)?;
     get(rt, alloc, buffers, register, (0, 0), one)?;
     get(rt, alloc, buffers, register, (0, 3), two)
+}
+
+/// Fetches by a token of a cycle to come, and by one of a place where no article begins.
+fn never_stored<J: Archive, R: Wait + Print>(
+    rt: &R,
+    alloc: Global,
+    buffers: &Vec<Locked<J>>,
+    register: &Register,
+    article: &Sample,
+) -> io::Result<()>
+    requires { register.now ≡ J.register }
+{
+    get(rt, alloc, buffers, register, (2, 0), article)?;
+    get(rt, alloc, buffers, register, (0, 4), article)
 }
 
 /// Call number 2, the write of a second block, fails; and so does call 4, the read of one.
