@@ -2,8 +2,8 @@ use Rattle.relay_report.specs.Totals.{text_of_totals}
 use Rattle.relay_rows.proofs.Serving.{printed, takes_none}
 use Rattle.relay_rows.proofs.server.serve.Goals as goal
 
-pub returns-then-eq : goal.returns-then-eq
-returns-then-eq g c = (
+pub returns-then-matches : goal.returns-then-matches
+returns-then-matches g c = (
   c.in_ok-totals.totals,
   c.in_ok-totals.ensures,
   takes_none (text_of_totals c.in_ok-totals.totals) (g.W.Write.contents c.args.writer.now),
