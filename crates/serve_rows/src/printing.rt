@@ -18,7 +18,7 @@ pub(crate) fn add_lines(
 ) -> Result<(), AllocError> {
     let report = report_totals(alloc, totals)?;
     for line in report.split(|octet| *octet == b'\n') {
-        if line.starts_with(word) {
+        if !line.is_empty() && line.starts_with(word) {
             text.extend_from_slice(line)?;
             text.push(b'\n')?;
         }
