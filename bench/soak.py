@@ -117,7 +117,7 @@ def soak(folder):
             raise servers.Trouble(f"serve ended with {relay.process.returncode}: {told_of(told)}")
     each = print_memory(lines)
     faults = faults_of(read_report(text), lines)
-    if each > MOST:
+    if each > MOST and MINUTES >= 2:
         faults.append(f"memory grows by {each:.0f} octets for each article, more than {MOST}")
     stored = read_report(text)["ids"][2]
     print(f"{stored:,} articles in {seconds:.0f} seconds, {stored / seconds:,.0f} a second")

@@ -9,12 +9,15 @@
 //! try      articles of many kinds by TAKETHIS, which `push_rest` makes
 //! soak     many peers and readers for some minutes (soak.rs)
 //!
-//! to=ADDRESS:PORT,.. a connection each, from=ADDRESS,.. and identity=NAME,.. of each; group=NAME,.. of each article in
-//! turn; run=TAG the part of the message-ids that tells runs apart; count=N commands a connection, distinct=N of them with
-//! ids of their own; octets=N of an article; window=N unanswered at most, bytes=N of articles among them; gather=N sends
-//! more once an N-th of the window is free; lazy=1 leaves it to the system when to acknowledge what was read, up to 40 ms
-//! later, else at once. An answer with another code, or on another message-id, ends the program with status 1.
+//! to=ADDRESS:PORT,.. a connection each, from=ADDRESS,.. and identity=NAME,.. of each; group=NAME,..
+//! of each article in turn; run=TAG the part of the message-ids that tells runs apart; count=N
+//! commands a connection, distinct=N of them with ids of their own; octets=N of an article;
+//! window=N unanswered at most, bytes=N of articles among them; gather=N sends more once an N-th of
+//! the window is free; lazy=1 leaves it to the system when to acknowledge what was read, up to 40 ms
+//! later, else at once. An answer with another code, or on another message-id, ends the program
+//! with status 1.
 mod readers;
+mod sender;
 mod soak;
 mod texts;
 mod wire;
@@ -66,7 +69,8 @@ struct Seen {
 impl Load {
     /// Makes the message-ids, before the time is taken.
     fn make_ids(&mut self) {
-        let ids = (0..self.distinct).map(|number| format!("<{}.{}.{number:08}@bench.example>", self.run, self.number));
+        let ids = (0..self.distinct)
+            .map(|number| format!("<{}.{}.{number:08}@bench.example>", self.run, self.number));
         self.ids = ids.collect();
     }
 
@@ -93,14 +97,27 @@ impl Load {
         let id = &self.ids[number % self.ids.len()];
         if what != "fetch" {
             let code = wire.answer_on(id.as_bytes())?;
-            return if code == self.code { Ok(0) } else { wrong(format!("{code} for {what} of {id}")) };
+            return if code == self.code {
+                Ok(0)
+            } else {
+                wrong(format!("{code} for {what} of {id}"))
+            };
         }
         let line = wire.line()?;
         let code = wire::code_of(&line);
-        if !(220..=223).contains(&code) || !line.windows(id.len()).any(|part| part == id.as_bytes()) {
-            return wrong(format!("{} for {} {id}", wire::text_of(&line), self.command));
+        if !(220..=223).contains(&code) || !line.windows(id.len()).any(|part| part == id.as_bytes())
+        {
+            return wrong(format!(
+                "{} for {} {id}",
+                wire::text_of(&line),
+                self.command
+            ));
         }
-        if code == 223 { Ok(0) } else { wire.skip_block() }
+        if code == 223 {
+            Ok(0)
+        } else {
+            wire.skip_block()
+        }
     }
 
     /// Commands in a row from `first` to before `last`, as many unanswered as the window lets.
@@ -111,7 +128,8 @@ impl Load {
             out.clear();
             let free = self.window - unanswered.len();
             if self.gather * free >= self.window || unanswered.len() < 2 {
-                while next < last && unanswered.len() < self.window
+                while next < last
+                    && unanswered.len() < self.window
                     && (unanswered.len() < 2 || pending < self.bytes)
                 {
                     let before = out.len();
@@ -151,7 +169,9 @@ impl Load {
                 out.clear();
             }
             loop {
-                let Some((wanted, number)) = awaited.pop_front() else { break };
+                let Some((wanted, number)) = awaited.pop_front() else {
+                    break;
+                };
                 let id = &self.ids[number % self.ids.len()];
                 let code = wire.answer_on(id.as_bytes())?;
                 if code != wanted {
@@ -193,7 +213,11 @@ impl Load {
         wire.is_lazy = self.is_lazy;
         let line = wire.ask("MODE STREAM")?;
         // A server for readers has no such mode.
-        if line.starts_with("203") || line.starts_with("50") { Ok(wire) } else { wrong(line) }
+        if line.starts_with("203") || line.starts_with("50") {
+            Ok(wire)
+        } else {
+            wrong(line)
+        }
     }
 
     /// CHECKs of new ids, in further connections too; seconds of the CHECKs alone.
@@ -226,14 +250,23 @@ impl Load {
         }
         let ended = Instant::now();
         wire.ask("QUIT")?;
-        Ok(Seen { begun, ended, timed, waits, octets })
+        Ok(Seen {
+            begun,
+            ended,
+            timed,
+            waits,
+            octets,
+        })
     }
 }
 
 /// The loads that the words ask for, one a connection.
 fn loads(words: &Words) -> Vec<Load> {
     let to = words.list("to", "127.0.0.1:11901");
-    let (from, identity) = (words.list("from", "127.0.0.1"), words.list("identity", "one.example"));
+    let (from, identity) = (
+        words.list("from", "127.0.0.1"),
+        words.list("identity", "one.example"),
+    );
     (0..to.len())
         .map(|number| Load {
             to: to[number].parse().expect("an address and a port"),
@@ -261,25 +294,55 @@ fn loads(words: &Words) -> Vec<Load> {
 /// Processor seconds of this program so far.
 fn own_seconds() -> f64 {
     let stat = std::fs::read_to_string("/proc/self/stat").unwrap_or_default();
-    let fields: Vec<&str> = stat.rsplit(')').next().unwrap_or("").split_whitespace().collect();
-    let ticks: f64 = fields.iter().skip(11).take(2).filter_map(|ticks| ticks.parse::<f64>().ok()).sum();
+    let fields: Vec<&str> = stat
+        .rsplit(')')
+        .next()
+        .unwrap_or("")
+        .split_whitespace()
+        .collect();
+    let ticks: f64 = fields
+        .iter()
+        .skip(11)
+        .take(2)
+        .filter_map(|ticks| ticks.parse::<f64>().ok())
+        .sum();
     ticks / 100.0
 }
 
 fn print_seen(loads: &[Load], seen: &[Seen]) {
-    let begun = seen.iter().map(|seen| seen.begun).min().expect("a connection");
-    let ended = seen.iter().map(|seen| seen.ended).max().expect("a connection");
+    let begun = seen
+        .iter()
+        .map(|seen| seen.begun)
+        .min()
+        .expect("a connection");
+    let ended = seen
+        .iter()
+        .map(|seen| seen.ended)
+        .max()
+        .expect("a connection");
     let done: usize = loads.iter().map(|load| load.count).sum();
     let octets: usize = seen.iter().map(|seen| seen.octets).sum();
-    let timed = seen.iter().filter_map(|seen| seen.timed).max_by(f64::total_cmp);
+    let timed = seen
+        .iter()
+        .filter_map(|seen| seen.timed)
+        .max_by(f64::total_cmp);
     let seconds = timed.unwrap_or((ended - begun).as_secs_f64());
-    print!("done={done} seconds={seconds:.6} octets={octets} own={:.2}", own_seconds());
-    let mut waits: Vec<f64> = seen.iter().flat_map(|seen| seen.waits.iter().copied()).collect();
+    print!(
+        "done={done} seconds={seconds:.6} octets={octets} own={:.2}",
+        own_seconds()
+    );
+    let mut waits: Vec<f64> = seen
+        .iter()
+        .flat_map(|seen| seen.waits.iter().copied())
+        .collect();
     waits.sort_by(f64::total_cmp);
     if let Some(most) = waits.last() {
         let stalls = waits.iter().filter(|wait| **wait > 30_000.0).count();
         let (middle, high) = (waits[waits.len() / 2], waits[waits.len() * 99 / 100]);
-        print!(" waits={} middle={middle:.1} high={high:.1} most={most:.1} stalls={stalls}", waits.len());
+        print!(
+            " waits={} middle={middle:.1} high={high:.1} most={most:.1} stalls={stalls}",
+            waits.len()
+        );
     }
     println!();
 }
@@ -289,11 +352,19 @@ fn main() {
     let word = arguments.next().unwrap_or_default();
     let words = Words(
         arguments
-            .map(|word| word.split_once('=').map(|(key, value)| (key.to_string(), value.to_string())).expect("KEY=VALUE"))
+            .map(|word| {
+                word.split_once('=')
+                    .map(|(key, value)| (key.to_string(), value.to_string()))
+                    .expect("KEY=VALUE")
+            })
             .collect::<HashMap<_, _>>(),
     );
     if word == "soak" || word == "try" {
-        let ended = if word == "soak" { soak::soak(&words) } else { soak::send_tried(&words) };
+        let ended = if word == "soak" {
+            soak::soak(&words)
+        } else {
+            soak::send_tried(&words)
+        };
         if let Err(error) = ended {
             eprintln!("load {word}: {error}");
             std::process::exit(1);

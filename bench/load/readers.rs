@@ -1,5 +1,6 @@
-//! The two readers of a soak: one fetches by message-id, one takes its feed's tokens and fetches by token. What comes has
-//! to be the article of that number, octet for octet, with one of the Paths that it may have been stored with.
+//! The two readers of a soak: one fetches by message-id, one takes its feed's tokens and fetches by
+//! token. What comes has to be the article of that number, octet for octet, with one of the Paths
+//! that it may have been stored with.
 use crate::soak::Soak;
 use crate::texts::Chance;
 use crate::wire::{Wire, code_of, find, text_of, wrong};
@@ -27,11 +28,19 @@ fn fault_of(soak: &Soak, number: u64, text: &[u8]) -> Option<String> {
     if text[line..] == rest[..] {
         return None;
     }
-    let at = text[line..].iter().zip(&rest).take_while(|(left, right)| left == right).count();
-    Some(format!("number {number} has {} octets behind its Path, not {}, and differs from {at} on", text.len() - line, rest.len()))
+    let at = text[line..]
+        .iter()
+        .zip(&rest)
+        .take_while(|(left, right)| left == right)
+        .count();
+    Some(format!(
+        "number {number} has {} octets behind its Path, not {}, and differs from {at} on",
+        text.len() - line,
+        rest.len()
+    ))
 }
 
-/// The whole text of an article, with the first Path line under which it has so many octets.
+/// Whether this is the overview line of an article under one of its Paths.
 fn is_over(soak: &Soak, number: u64, line: &str) -> bool {
     soak.stored_paths(number).iter().any(|path| {
         let mut text = path.clone().into_bytes();
@@ -40,7 +49,7 @@ fn is_over(soak: &Soak, number: u64, line: &str) -> bool {
     })
 }
 
-/// Whether article `number` is surely still there, having been accepted when so many blocks had been.
+/// Whether an article is surely still there that was accepted when so many blocks had been.
 fn is_kept(soak: &Soak, number: u64, passed: u64, blocks: u64) -> bool {
     let now = soak.passed[soak.group_of(number)].load(SeqCst);
     now - passed + ON_THE_WAY < blocks
@@ -49,13 +58,21 @@ fn is_kept(soak: &Soak, number: u64, passed: u64, blocks: u64) -> bool {
 /// Asks for one article in one of the ways, and checks the answer; whether it was there.
 fn ask(soak: &Soak, wire: &mut Wire, number: u64, way: u64) -> io::Result<bool> {
     let id = soak.articles.id(number);
-    let command = ["ARTICLE", "ARTICLE", "ARTICLE", "HEAD", "BODY", "STAT", "OVER"][way as usize];
+    let command = [
+        "ARTICLE", "ARTICLE", "ARTICLE", "HEAD", "BODY", "STAT", "OVER",
+    ][way as usize];
     let line = wire.ask(&format!("{command} {id}"))?;
     let code = code_of(line.as_bytes());
     if code == 430 {
         return Ok(false);
     }
-    let wanted = match command { "ARTICLE" => 220, "HEAD" => 221, "BODY" => 222, "STAT" => 223, _ => 224 };
+    let wanted = match command {
+        "ARTICLE" => 220,
+        "HEAD" => 221,
+        "BODY" => 222,
+        "STAT" => 223,
+        _ => 224,
+    };
     if code != wanted || (code != 224 && line != format!("{code} 0 {id}")) {
         return wrong(format!("{line} for {command} {id}"));
     }
@@ -71,7 +88,8 @@ fn ask(soak: &Soak, wire: &mut Wire, number: u64, way: u64) -> io::Result<bool> 
         // The header alone is looked at as if the body followed.
         221 => fault_of(soak, number, &[&text[..], &rest[head..]].concat()),
         222 => (text != rest[head + 2..]).then(|| format!("the body of {id} differs")),
-        _ => (!is_over(soak, number, text_of(&text).trim_end_matches("\r\n"))).then(|| format!("the overview of {id}: {}", text_of(&text))),
+        _ => (!is_over(soak, number, text_of(&text).trim_end_matches("\r\n")))
+            .then(|| format!("the overview of {id}: {}", text_of(&text))),
     };
     match fault {
         Some(fault) => wrong(format!("{command}: {fault}")),
@@ -94,27 +112,46 @@ pub fn by_id(soak: &Soak) -> io::Result<()> {
                 let at = chance.below(recent.len().max(1) as u64) as usize;
                 recent.get(at).copied()
             };
-            let least = soak.begun.iter().map(|begun| begun.load(SeqCst)).min().unwrap_or(0);
+            let least = soak
+                .begun
+                .iter()
+                .map(|begun| begun.load(SeqCst))
+                .min()
+                .unwrap_or(0);
             match recent {
                 Some(accepted) if chance.below(2) == 0 => {
                     let is_there = ask(soak, &mut wire, accepted.number, way)?;
                     let is_due = is_kept(soak, accepted.number, accepted.passed, blocks);
                     if is_due && !is_there {
-                        return wrong(format!("{} is gone too early", soak.articles.id(accepted.number)));
+                        return wrong(format!(
+                            "{} is gone too early",
+                            soak.articles.id(accepted.number)
+                        ));
                     }
                     surely += u64::from(is_due);
                     if is_there { whole += 1 } else { gone += 1 }
                 }
                 _ => {
                     let number = chance.below(least + 1_000);
-                    if ask(soak, &mut wire, number, way)? { whole += 1 } else { gone += 1 }
+                    if ask(soak, &mut wire, number, way)? {
+                        whole += 1
+                    } else {
+                        gone += 1
+                    }
                 }
             }
         }
         // Now and then it goes away in the middle of what it asked for.
         if connection % 2 == 1 {
-            let asked: String = soak.recent.lock().expect("a lock").iter().rev().take(50)
-                .map(|accepted| format!("ARTICLE {}\r\n", soak.articles.id(accepted.number))).collect();
+            let asked: String = soak
+                .recent
+                .lock()
+                .expect("a lock")
+                .iter()
+                .rev()
+                .take(50)
+                .map(|accepted| format!("ARTICLE {}\r\n", soak.articles.id(accepted.number)))
+                .collect();
             wire.send(asked.as_bytes())?;
         } else {
             wire.ask("QUIT")?;
@@ -124,17 +161,22 @@ pub fn by_id(soak: &Soak) -> io::Result<()> {
     Ok(())
 }
 
-/// A token's buffer, its place in blocks (cycle times the buffer's blocks, and the first), and its octets.
+/// A token's buffer, its place (cycle times the buffer's blocks, and its first), and its octets.
 fn parts_of(token: &str, blocks: u64) -> Option<(u64, u64, u64)> {
     let digits = token.strip_prefix('@')?.strip_suffix('@')?;
     let number = |from: usize, to: usize| u64::from_str_radix(digits.get(from..to)?, 16).ok();
-    Some((number(2, 4)?, number(4, 12)? * blocks + number(12, 20)?, number(20, 28)?))
+    Some((
+        number(2, 4)?,
+        number(4, 12)? * blocks + number(12, 20)?,
+        number(20, 28)?,
+    ))
 }
 
 /// What the reader by token has seen.
 #[derive(Default)]
 struct Tokens {
-    /// The last place that was listed of each buffer: they rise, since a writer's articles settle in its order.
+    /// The last place that was listed of each buffer: they rise, since a writer's articles settle
+    /// in its order.
     places: BTreeMap<u64, u64>,
     kept: VecDeque<String>,
     serial: u64,
@@ -153,7 +195,10 @@ impl Tokens {
         }
         let listed = text_of(&wire.block()?);
         let mut lines = listed.lines();
-        let missed: u64 = lines.next().and_then(|line| line.parse().ok()).unwrap_or(u64::MAX);
+        let missed: u64 = lines
+            .next()
+            .and_then(|line| line.parse().ok())
+            .unwrap_or(u64::MAX);
         self.missed += missed;
         self.serial += missed;
         let mut tokens = Vec::new();
@@ -161,10 +206,15 @@ impl Tokens {
             let (serial, token) = line.split_once(' ').unwrap_or(("", ""));
             self.serial += 1;
             self.taken += 1;
-            let Some((buffer, place, _)) = parts_of(token, soak.buffer_blocks) else { return wrong(line.to_string()) };
+            let Some((buffer, place, _)) = parts_of(token, soak.buffer_blocks) else {
+                return wrong(line.to_string());
+            };
             let before = self.places.insert(buffer, place);
             if serial.parse() != Ok(self.serial) || before.is_some_and(|before| before >= place) {
-                return wrong(format!("XTAKE lists {line:?} where serial {} is due, behind {before:?}", self.serial));
+                return wrong(format!(
+                    "XTAKE lists {line:?} where serial {} is due, behind {before:?}",
+                    self.serial
+                ));
             }
             if self.kept.len() == KEPT {
                 self.kept.pop_front();
@@ -179,7 +229,13 @@ impl Tokens {
     fn fetch(&mut self, soak: &Soak, wire: &mut Wire, tokens: &[String]) -> io::Result<Vec<bool>> {
         let mut found = Vec::new();
         for eight in tokens.chunks(8) {
-            wire.send(eight.iter().map(|token| format!("XFETCH {token}\r\n")).collect::<String>().as_bytes())?;
+            wire.send(
+                eight
+                    .iter()
+                    .map(|token| format!("XFETCH {token}\r\n"))
+                    .collect::<String>()
+                    .as_bytes(),
+            )?;
             for token in eight {
                 let line = text_of(&wire.line()?);
                 if line == format!("492 {token} gone") {
@@ -192,9 +248,13 @@ impl Tokens {
                 }
                 let text = wire.block()?;
                 let octets = parts_of(token, 1).map_or(0, |(_, _, octets)| octets);
-                let id = text_of(&text).lines().find_map(|line| line.strip_prefix("Message-ID: ").map(str::to_string));
+                let id = text_of(&text)
+                    .lines()
+                    .find_map(|line| line.strip_prefix("Message-ID: ").map(str::to_string));
                 let Some(number) = id.and_then(|id| soak.articles.number_of(&id)) else {
-                    return wrong(format!("{token} gives a text without one of the message-ids"));
+                    return wrong(format!(
+                        "{token} gives a text without one of the message-ids"
+                    ));
                 };
                 if text.len() as u64 != octets {
                     return wrong(format!("{token} gives {} octets", text.len()));
@@ -210,7 +270,7 @@ impl Tokens {
     }
 }
 
-/// Takes its feed's tokens and fetches them; once all is sent, what is left and some of what it had.
+/// Takes its feed's tokens and fetches them; once all is sent, what is left, and some again.
 pub fn by_token(soak: &Soak) -> io::Result<()> {
     let mut tokens = Tokens::default();
     for connection in 0..soak.connections {
@@ -218,7 +278,11 @@ pub fn by_token(soak: &Soak) -> io::Result<()> {
         let end = soak.end_of(connection);
         let is_last = connection + 1 == soak.connections;
         loop {
-            let is_over = if is_last { soak.sent.load(SeqCst) } else { Instant::now() >= end };
+            let is_over = if is_last {
+                soak.sent.load(SeqCst)
+            } else {
+                Instant::now() >= end
+            };
             let taken = tokens.take(soak, &mut wire, 100)?;
             tokens.fetch(soak, &mut wire, &taken)?;
             if taken.is_empty() {
@@ -233,19 +297,29 @@ pub fn by_token(soak: &Soak) -> io::Result<()> {
         }
         wire.ask("QUIT")?;
     }
-    println!("by token whole={} gone={} taken={} missed={}", tokens.whole, tokens.gone, tokens.taken, tokens.missed);
+    println!(
+        "by token whole={} gone={} taken={} missed={}",
+        tokens.whole, tokens.gone, tokens.taken, tokens.missed
+    );
     Ok(())
 }
 
-/// Fetches kept tokens once more, now that nothing is written: of each buffer the last place gone and the first found.
+/// Fetches kept tokens once more, now that nothing is written, and prints of each buffer the last
+/// place that is gone and the first that is found.
 fn print_kept(soak: &Soak, tokens: &mut Tokens, wire: &mut Wire) -> io::Result<()> {
     let kept: Vec<String> = tokens.kept.iter().rev().step_by(7).cloned().collect();
     let found = tokens.fetch(soak, wire, &kept)?;
     let mut buffers: BTreeMap<u64, (u64, u64)> = BTreeMap::new();
     for (token, is_found) in kept.iter().zip(found) {
-        let Some((buffer, place, _)) = parts_of(token, soak.buffer_blocks) else { return wrong(token.clone()) };
+        let Some((buffer, place, _)) = parts_of(token, soak.buffer_blocks) else {
+            return wrong(token.clone());
+        };
         let (gone, there) = buffers.entry(buffer).or_insert((0, u64::MAX));
-        if is_found { *there = place.min(*there) } else { *gone = (place + 1).max(*gone) }
+        if is_found {
+            *there = place.min(*there)
+        } else {
+            *gone = (place + 1).max(*gone)
+        }
     }
     for (buffer, (gone, there)) in buffers {
         println!("kept buffer={buffer} gone={gone} there={there}");

@@ -11,24 +11,33 @@ pub struct Origin {
 
 impl Origin {
     pub fn new(identity: &str) -> Origin {
-        Origin { identity: identity.to_string(), date: today() }
+        Origin {
+            identity: identity.to_string(),
+            date: today(),
+        }
     }
 }
 
 /// The moment, as a Date field has it.
 fn today() -> String {
-    let seconds = SystemTime::now().duration_since(UNIX_EPOCH).expect("after 1970").as_secs();
+    let seconds = SystemTime::now()
+        .duration_since(UNIX_EPOCH)
+        .expect("after 1970")
+        .as_secs();
     let (days, second) = (seconds / 86_400, seconds % 86_400);
     // Howard Hinnant's days to civil date, for dates after 1970.
     let shifted = days + 719_468;
     let (era, day_of_era) = (shifted / 146_097, shifted % 146_097);
-    let year_of_era = (day_of_era - day_of_era / 1_460 + day_of_era / 36_524 - day_of_era / 146_096) / 365;
+    let year_of_era =
+        (day_of_era - day_of_era / 1_460 + day_of_era / 36_524 - day_of_era / 146_096) / 365;
     let day_of_year = day_of_era - (365 * year_of_era + year_of_era / 4 - year_of_era / 100);
     let part = (5 * day_of_year + 2) / 153;
     let day = day_of_year - (153 * part + 2) / 5 + 1;
     let month = if part < 10 { part + 3 } else { part - 9 };
     let year = year_of_era + era * 400 + u64::from(month <= 2);
-    let names = ["Jan", "Feb", "Mar", "Apr", "May", "Jun", "Jul", "Aug", "Sep", "Oct", "Nov", "Dec"];
+    let names = [
+        "Jan", "Feb", "Mar", "Apr", "May", "Jun", "Jul", "Aug", "Sep", "Oct", "Nov", "Dec",
+    ];
     format!(
         "{day:02} {} {year} {:02}:{:02}:{:02} +0000",
         names[month as usize - 1],
@@ -37,7 +46,6 @@ fn today() -> String {
         second % 60
     )
 }
-
 
 /// Adds an article of so many octets, lines of 62 with their ends 64, none with a dot in front.
 pub fn push_plain(text: &mut Vec<u8>, origin: &Origin, group: &str, id: &str, octets: usize) {
@@ -105,7 +113,9 @@ fn noise() -> &'static Noise {
     NOISE_ONCE.get_or_init(|| {
         let mut chance = Chance::new(7);
         let known = b"abcdefghijklmnopqrstuvwxyz ABCDEFGHIJKLMNOPQRSTUVWXYZ.:-0123456789 \t";
-        let letters = (0..2 * NOISE).map(|_| known[chance.below(known.len() as u64) as usize]).collect();
+        let letters = (0..2 * NOISE)
+            .map(|_| known[chance.below(known.len() as u64) as usize])
+            .collect();
         let high = (0..2 * NOISE).map(|_| 0x80 | chance.next() as u8).collect();
         Noise { letters, high }
     })
@@ -121,7 +131,11 @@ fn push_line(text: &mut Vec<u8>, chance: &mut Chance, octets: u64) {
         2 => b"...",
         _ => b"",
     });
-    let source = if kind == 3 { &noise().high } else { &noise().letters };
+    let source = if kind == 3 {
+        &noise().high
+    } else {
+        &noise().letters
+    };
     text.extend_from_slice(&source[from..from + octets as usize]);
 }
 
@@ -136,7 +150,12 @@ pub struct Articles {
 
 impl Articles {
     pub fn new(run: &str, groups: Vec<String>, largest: u64) -> Articles {
-        Articles { run: run.to_string(), groups, date: today(), largest }
+        Articles {
+            run: run.to_string(),
+            groups,
+            date: today(),
+            largest,
+        }
     }
 
     pub fn id(&self, number: u64) -> String {
@@ -144,11 +163,18 @@ impl Articles {
     }
 
     pub fn number_of(&self, id: &str) -> Option<u64> {
-        id.strip_prefix(&format!("<{}.", self.run))?.strip_suffix("@try.example>")?.parse().ok()
+        id.strip_prefix(&format!("<{}.", self.run))?
+            .strip_suffix("@try.example>")?
+            .parse()
+            .ok()
     }
 
     fn references(chance: &mut Chance) -> &'static str {
-        if chance.below(8) == 0 { "<1@try.example>\r\n <2@try.example>\r\n\t<3@try.example>" } else { "" }
+        if chance.below(8) == 0 {
+            "<1@try.example>\r\n <2@try.example>\r\n\t<3@try.example>"
+        } else {
+            ""
+        }
     }
 
     /// Adds what follows the Path line of the article of that number.
@@ -175,7 +201,12 @@ impl Articles {
         let mut left = body_octets(&mut chance, self.largest);
         while left > 0 {
             let drawn = chance.below(150);
-            let octets = if chance.below(200) == 0 { 20 * drawn } else { drawn }.min(left);
+            let octets = if chance.below(200) == 0 {
+                20 * drawn
+            } else {
+                drawn
+            }
+            .min(left);
             push_line(text, &mut chance, octets);
             text.extend_from_slice(b"\r\n");
             left -= octets.max(1);
@@ -185,7 +216,9 @@ impl Articles {
     /// The overview line of the article of that number, whose whole text is given.
     pub fn overview(&self, number: u64, text: &[u8]) -> String {
         let mut chance = Chance::new(number + 1);
-        let references = Articles::references(&mut chance).replace("\r\n", "").replace('\t', " ");
+        let references = Articles::references(&mut chance)
+            .replace("\r\n", "")
+            .replace('\t', " ");
         let body = find(text, b"\r\n\r\n").map_or(text.len(), |at| at + 4);
         let lines = text[body..].iter().filter(|octet| **octet == b'\n').count();
         format!(

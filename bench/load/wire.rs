@@ -43,13 +43,21 @@ fn system_address(address: SocketAddrV4) -> SystemAddress {
 /// Where `part` first begins in `text`.
 pub fn find(text: &[u8], part: &[u8]) -> Option<usize> {
     let at = unsafe { memmem(text.as_ptr(), text.len(), part.as_ptr(), part.len()) };
-    if at.is_null() { None } else { Some(at as usize - text.as_ptr() as usize) }
+    if at.is_null() {
+        None
+    } else {
+        Some(at as usize - text.as_ptr() as usize)
+    }
 }
 
 /// Where this octet first stands in `text`.
 fn first_of(octet: u8, text: &[u8]) -> Option<usize> {
     let at = unsafe { memchr(text.as_ptr(), i32::from(octet), text.len()) };
-    if at.is_null() { None } else { Some(at as usize - text.as_ptr() as usize) }
+    if at.is_null() {
+        None
+    } else {
+        Some(at as usize - text.as_ptr() as usize)
+    }
 }
 
 pub fn wrong<T>(what: String) -> io::Result<T> {
@@ -62,7 +70,8 @@ pub fn text_of(octets: &[u8]) -> String {
 
 pub struct Wire {
     stream: TcpStream,
-    /// Whether what is read is acknowledged when the system thinks fit, up to 40 ms later, instead of at once.
+    /// Whether what is read is acknowledged when the system thinks fit, up to 40 ms later, instead
+    /// of at once.
     pub is_lazy: bool,
     read: Vec<u8>,
     begin: usize,
@@ -90,7 +99,13 @@ impl Wire {
         stream.set_nodelay(true)?;
         stream.set_read_timeout(Some(PATIENCE))?;
         stream.set_write_timeout(Some(PATIENCE))?;
-        let mut wire = Wire { stream, is_lazy: false, read: vec![0; 1 << 17], begin: 0, end: 0 };
+        let mut wire = Wire {
+            stream,
+            is_lazy: false,
+            read: vec![0; 1 << 17],
+            begin: 0,
+            end: 0,
+        };
         let greeting = wire.line()?;
         if !greeting.starts_with(b"20") {
             return wrong(format!("greeted by {}", text_of(&greeting)));
@@ -118,7 +133,10 @@ impl Wire {
         }
         let count = self.stream.read(&mut self.read[self.end..])?;
         if count == 0 {
-            return Err(io::Error::new(ErrorKind::UnexpectedEof, "the server closed"));
+            return Err(io::Error::new(
+                ErrorKind::UnexpectedEof,
+                "the server closed",
+            ));
         }
         self.end += count;
         Ok(())
@@ -157,7 +175,8 @@ impl Wire {
         }
         let unread = &self.read[self.begin..self.end];
         let line = &unread[..first_of(b'\n', unread).unwrap_or(0)];
-        let is_of = line.get(3) == Some(&b' ') && line[4..].starts_with(id)
+        let is_of = line.get(3) == Some(&b' ')
+            && line[4..].starts_with(id)
             && matches!(line.get(4 + id.len()), Some(b' ' | b'\r'));
         if !is_of {
             return wrong(format!("{} for {}", text_of(line), text_of(id)));
@@ -198,7 +217,10 @@ impl Wire {
 
 /// The number that a reply begins with, 0 where it has none.
 pub fn code_of(line: &[u8]) -> u16 {
-    std::str::from_utf8(line.get(..3).unwrap_or(b"")).ok().and_then(|digits| digits.parse().ok()).unwrap_or(0)
+    std::str::from_utf8(line.get(..3).unwrap_or(b""))
+        .ok()
+        .and_then(|digits| digits.parse().ok())
+        .unwrap_or(0)
 }
 
 /// The words KEY=VALUE of the command line.
@@ -206,14 +228,24 @@ pub struct Words(pub HashMap<String, String>);
 
 impl Words {
     pub fn text(&self, key: &str, without: &str) -> String {
-        self.0.get(key).cloned().unwrap_or_else(|| without.to_string())
+        self.0
+            .get(key)
+            .cloned()
+            .unwrap_or_else(|| without.to_string())
     }
 
     pub fn number(&self, key: &str, without: u64) -> u64 {
-        self.0.get(key).map_or(without, |value| value.parse().unwrap_or_else(|_| panic!("{key}={value}: no number")))
+        self.0.get(key).map_or(without, |value| {
+            value
+                .parse()
+                .unwrap_or_else(|_| panic!("{key}={value}: no number"))
+        })
     }
 
     pub fn list(&self, key: &str, without: &str) -> Vec<String> {
-        self.text(key, without).split(',').map(str::to_string).collect()
+        self.text(key, without)
+            .split(',')
+            .map(str::to_string)
+            .collect()
     }
 }
