@@ -9,6 +9,7 @@ mod caller;
 mod doors;
 mod gate;
 mod in_turn;
+mod on_ports;
 mod one_thread;
 mod pipelines;
 mod points;
@@ -17,6 +18,7 @@ mod site;
 mod sixty_two;
 
 use std::alloc::Global;
+use std::fs::{File, Files};
 use std::io;
 use std::io::Write;
 use std::net::{Net, TcpListener, TcpStream};
@@ -36,7 +38,8 @@ fn print<R: Print>(rt: &R, name: &[u8], text: &[u8]) -> io::Result<()> {
 
 fn main(rt: HostRuntime) -> io::Result<()> {
     at_once(&rt, rt.alloc())?;
-    one_alone(&rt, rt.alloc())
+    one_alone(&rt, rt.alloc())?;
+    over_files(&rt, rt.alloc())
 }
 
 /// Plays of peers at the same time.
@@ -58,4 +61,14 @@ where
 {
     print(rt, b"pipelines", &pipelines::play(rt, alloc)?)?;
     print(rt, b"one after the other", &in_turn::play(rt, alloc)?)
+}
+
+/// Plays over files.
+fn over_files<R>(rt: &R, alloc: Global) -> io::Result<()>
+where
+    R: Threads + Wait + Clock + RandomSource + Files<File = File> + Print + Sync,
+    R: Net<Listener = TcpListener, Stream = TcpStream>,
+{
+    print(rt, b"on ports, over files", &on_ports::good(rt, alloc)?)?;
+    print(rt, b"what can't be had", &on_ports::refused(rt, alloc)?)
 }
