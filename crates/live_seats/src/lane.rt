@@ -9,29 +9,12 @@ use crossbeam_utils::sync::EventCount;
 use job_queue::{Handed, JobQueue, Parcel, QueuePass};
 use std::alloc::{AllocError, Global};
 use std::sync::Wait;
-use std::{hint, thread};
 
-/// How often a thread looks again before it sleeps.
-pub const LOOKS: u32 = 12;
-
-/// How many of these looks come before it gives way to other threads.
-const OWN_LOOKS: u32 = 8;
-
-/// How many hints a processor has between two looks: a microsecond or so.
-const HINTS: u32 = 32;
-
-/// Lets a little time go by after the look of this number, from 0 on: after the first ones without
-/// giving the processor away, since another thread is about to be done; after later ones it gives
-/// way to other threads, since there may be more of them than processors.
-pub fn linger(look: u32) {
-    if look >= OWN_LOOKS {
-        thread::yield_now();
-        return;
-    }
-    for _ in 0..HINTS {
-        hint::spin_loop();
-    }
-}
+/// How often a thread looks before it sleeps. That takes some microseconds, about as long as a
+/// hand-over to a thread that is at work; then what it waits for may take longer than to be woken.
+/// Between two looks it doesn't give its processor away, since whoever gets it may keep it for
+/// milliseconds.
+pub const LOOKS: u32 = 200;
 
 /// The queue of a group. Who finds it full or empty sleeps until another thread tells of a parcel
 /// that was taken or pushed.
@@ -84,7 +67,7 @@ impl Lane {
         }
     }
 
-    // Tries so often, and gives way to other threads between.
+    // Tries so often.
     fn try_often<R: Wait>(&self, rt: &R, pass: &mut QueuePass, job: Handed) -> Result<(), Handed>
         requires pass { IsPassOf (queue_of self.now) pass.old }
         requires open { IsOpen job.end (view pass.old) }
@@ -94,12 +77,11 @@ impl Lane {
         ensures full { IfErr result (λ back. (back ≡ job) × (view pass.new ≡ view pass.old)) }
     {
         let mut job = job;
-        for look in 0..LOOKS {
+        for _ in 0..LOOKS {
             match self.try_hand_over(rt, pass, job) {
                 Ok(()) => return Ok(()),
                 Err(back) => job = back,
             }
-            linger(look);
         }
         Err(job)
     }
@@ -180,7 +162,7 @@ impl Lane {
         }
     }
 
-    // Tries so often, and gives way to other threads between.
+    // Looks so often.
     fn take_soon<R: Wait>(&self, rt: &R, pass: &mut QueuePass) -> Option<Parcel>
         requires pass { IsPassOf (queue_of self.now) pass.old }
         requires writer { OfWriter (view pass.old) }
@@ -189,10 +171,9 @@ impl Lane {
         ensures taken { IfSome result (λ parcel. HasTaken (view pass.old) parcel (view pass.new)) }
         ensures empty { result ≡ None → view pass.new ≡ view pass.old }
     {
-        for look in 0..LOOKS {
-            match self.try_take(rt, pass) {
-                Some(parcel) => return Some(parcel),
-                None => linger(look),
+        for _ in 0..LOOKS {
+            if let Some(parcel) = self.try_take(rt, pass) {
+                return Some(parcel);
             }
         }
         None

@@ -17,7 +17,7 @@ mod start;
 mod writer;
 
 pub use gather::{Seats, Totals, close};
-pub use lane::{LOOKS, Lane, linger};
+pub use lane::{LOOKS, Lane};
 pub use open::{Opened, open_all};
 pub use outcome::{Done, Outcome};
 pub use serve::{SeatsError, serve_seats};

@@ -4,7 +4,7 @@ ghost use Rattle.relay_live.specs.Slots.{after_tell, told_to, left_by};
 
 use crossbeam_utils::sync::EventCount;
 use live_fates::Told;
-use live_seats::{LOOKS, linger};
+use live_seats::LOOKS;
 use live_store::Archive;
 use std::sync::{Mutex, Wait};
 
@@ -60,13 +60,12 @@ impl<J: Archive> Slot<J> {
         take(&mut self.answer.lock(rt), number)
     }
 
-    // Looks some times, with a little time between.
+    // Looks so often.
     fn take_soon<R: Wait>(&self, rt: &R, number: u64) -> Option<Told<J>> {
-        for look in 0..LOOKS {
+        for _ in 0..LOOKS {
             if let Some(told) = self.try_take(rt, number) {
                 return Some(told);
             }
-            linger(look);
         }
         None
     }

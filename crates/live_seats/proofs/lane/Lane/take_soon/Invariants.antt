@@ -3,6 +3,6 @@ use Rattle.crossbeam_queue.specs.Passes.{view, IsPassOf}
 use Rattle.live_seats.specs.Lanes.{queue_of}
 use Rattle.live_seats.proofs.lane.Lane.take_soon.Given as goal
 
-abbrev pub invariant-loop-look : goal.invariant-loop-look
-invariant-loop-look g l =
+abbrev pub invariant-loop : goal.invariant-loop
+invariant-loop g l =
     IsPassOf (queue_of l.self) l.pass × (view l.pass ≡ view l.fn.pass)
