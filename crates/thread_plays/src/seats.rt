@@ -1,19 +1,22 @@
 //! Plays of seats: ends and writers in threads of their own.
-ghost use Rattle.std.specs.Prelude.{◌≡◌, ◌<◌, ◌^◌, true, length};
+ghost use Rattle.std.specs.Prelude.{◌≡◌, ◌<◌, ◌+◌, ◌^◌, true, false, length};
 
 use crate::jobs::job;
+use crate::told::add;
+use buffer_group::Job;
 use cyc_token::Token;
 use id_history::Shard;
 use job_queue::Handed;
 use live_seats::{
-    Accounts, Lane, Opened, Outcome, Service, SessionSeat, Store, close, open_all, serve_seats,
+    Accounts, Lane, Opened, Outcome, Service, SessionSeat, Store, WriterSeat, close, open_all,
+    serve_seats,
 };
 use live_settle::CountedDesk;
 use std::alloc::{AllocError, Global};
 use std::collections::hash_map::RandomState;
 use std::io;
 use std::marker::Brand;
-use std::sync::ledger::{Blank, Ledger, Share};
+use std::sync::ledger::{Blank, Book, Ledger, Share};
 use std::sync::{Mutex, Wait};
 use std::thread::Threads;
 
@@ -44,13 +47,29 @@ struct Settling<L: Ledger> {
 
 impl<L: Ledger, R: Wait> Store<L, Told, R> for Settling<L> {
     fn store(&self, rt: &R, share: &mut Share<L>, handed: &Handed) -> Told {
-        if handed.number == 7 {
+        if handed.number == 7 || !self.is_taken(rt, handed) {
             return Told { kept: false };
         }
-        let id = &handed.job.id;
-        if self.shard.lock(rt).take(id, handed.end).is_err() {
-            return Told { kept: false };
+        Told {
+            kept: self.is_settled(rt, share, handed),
         }
+    }
+}
+
+impl<L: Ledger> Settling<L> {
+    /// Whether the job's message-id is taken for its end.
+    fn is_taken<R: Wait>(&self, rt: &R, handed: &Handed) -> bool {
+        let taken = self.shard.lock(rt).take(&handed.job.id, handed.end);
+        taken.is_ok()
+    }
+
+    /// Whether the job is settled: then it is a post.
+    fn is_settled<R: Wait>(&self, rt: &R, share: &mut Share<L>, handed: &Handed) -> bool
+        requires { 0 < share.old.parts }
+        ensures counted { result ≡ true → share.new.amount ≡ share.old.amount + 1 }
+        ensures same { result ≡ false → share.new.amount ≡ share.old.amount }
+        ensures parts { share.new.parts ≡ share.old.parts }
+    {
         let token = Token {
             class: 0,
             buffer: 0,
@@ -59,18 +78,17 @@ impl<L: Ledger, R: Wait> Store<L, Told, R> for Settling<L> {
             length: 1,
         };
         let none: [u16; 0] = [];
-        let kept = live_settle::settle(
+        live_settle::settle(
             rt,
             &self.shard,
             &self.desk,
             share,
-            id,
+            &handed.job.id,
             handed.end,
             token,
             none.as_slice(),
             1,
-        );
-        Told { kept }
+        )
     }
 }
 
@@ -98,10 +116,7 @@ impl<R: Wait> Service<R> for Bringing {
             if lanes.is_empty() || seat.handed() >= 1 << 62 {
                 return seat;
             }
-            let Ok(name) = name_of(self.alloc, seat.end(), number) else {
-                return seat;
-            };
-            let Ok(job) = job(self.alloc, seat.end(), &name) else {
+            let Ok(job) = job_of(self.alloc, seat.end(), number) else {
                 return seat;
             };
             let group = (number % lanes.len() as u64) as usize;
@@ -111,19 +126,29 @@ impl<R: Wait> Service<R> for Bringing {
     }
 }
 
-/// The message-id of a job, of its end and its number below a million.
-fn name_of(alloc: Global, end: u64, number: u64) -> Result<Vec<u8>, AllocError> {
-    let mut name = Vec::new(alloc);
-    name.extend_from_slice(b"<")?;
-    for part in [end, number] {
-        let mut rest = part;
-        for _ in 0..6u8 {
-            name.push(b'0' + (rest % 10) as u8)?;
-            rest /= 10;
-        }
-    }
-    name.extend_from_slice(b"@x>")?;
-    Ok(name)
+/// The job of this number of an end, under a message-id of its own.
+fn job_of(alloc: Global, end: u64, number: u64) -> io::Result<Job> {
+    let mut id = Vec::new(alloc);
+    add(alloc, &mut id, "<", &end)?;
+    add(alloc, &mut id, ".", &number)?;
+    id.extend_from_slice(b"@x>")?;
+    job(alloc, end, &id)
+}
+
+/// A history, and a desk without feeds, whose posts this book counts.
+fn settling_of<L: Ledger>(
+    alloc: Global,
+    hasher: RandomState,
+    book: Book<L>,
+) -> Result<Settling<L>, AllocError>
+    requires { book.total ≡ 0 }
+{
+    let feeds = Vec::new(alloc);
+    let desk = CountedDesk::new(alloc, feeds.as_slice(), book)?;
+    Ok(Settling {
+        shard: Mutex::new(Shard::new(alloc, hasher)),
+        desk: Mutex::new(desk),
+    })
 }
 
 /// Ends and writers in threads of their own, then the count: what was accepted, what was posted,
@@ -141,12 +166,7 @@ fn day<L: Ledger + Send + Sync, R: Threads + Wait + Sync>(
     requires few { length services.items < 2 ^ 62 }
 {
     let (book, all) = blank.open::<L>();
-    let feeds = Vec::new(alloc);
-    let desk = CountedDesk::new(alloc, feeds.as_slice(), book)?;
-    let settling = Settling {
-        shard: Mutex::new(Shard::new(alloc, hasher)),
-        desk: Mutex::new(desk),
-    };
+    let settling = settling_of(alloc, hasher, book)?;
     let Opened {
         lanes,
         mut rests,
@@ -159,11 +179,17 @@ fn day<L: Ledger + Send + Sync, R: Threads + Wait + Sync>(
         return Ok((0, 1, 0));
     };
     let totals = close(rt, lanes, &settling.desk, &mut rests, &mut seats);
+    let told = told_by(seats.writers.as_slice());
+    Ok((totals.accepted, totals.posted.count(), told))
+}
+
+/// Of how many jobs writers told something.
+fn told_by<L: Ledger>(writers: &[WriterSeat<L, Told>]) -> usize {
     let mut told = 0;
-    for writer in seats.writers.as_slice() {
+    for writer in writers {
         told = writer.done.len().wrapping_add(told);
     }
-    Ok((totals.accepted, totals.posted.count(), told))
+    told
 }
 
 /// So many ends hand 300 jobs each over, with a ledger of their own.
@@ -194,15 +220,27 @@ fn counts<R: Threads + Wait + Sync>(
 }
 
 /// A run of so many ends and groups, and what was counted.
-pub(crate) fn seats<R: Threads + Wait + Print + Sync>(
+pub(crate) fn seats<R: Threads + Wait + Sync>(
     rt: &R,
     alloc: Global,
+    text: &mut Vec<u8>,
     hasher: RandomState,
     groups: u32,
     ends: u8,
-) -> io::Result<()>
+) -> Result<(), AllocError>
     requires some { 0 < groups }
 {
     let (accepted, posted, told) = counts(rt, alloc, hasher, groups, ends)?;
-    println!(rt; "{ends} ends, {groups} groups: {told} told, {accepted} accepted, {posted} posted")
+    let words = ["", " ends, ", " groups: ", " told, ", " accepted, "];
+    let numbers = [
+        u64::from(ends),
+        u64::from(groups),
+        told as u64,
+        accepted,
+        posted,
+    ];
+    for (word, number) in words.iter().zip(numbers.iter()) {
+        add(alloc, text, word, number)?;
+    }
+    text.extend_from_slice(b" posted\n")
 }

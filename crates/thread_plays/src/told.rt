@@ -1,39 +1,66 @@
-//! What a play prints of an answer.
+//! What is printed of an answer: words, and values as `{:?}` has them.
 use live_store::{Archive, Fetched, Stored};
-use std::io;
+use std::alloc::{AllocError, Global};
+use std::fmt::Debug;
+
+/// Adds words and a value behind them.
+pub(crate) fn add<T: Debug>(
+    alloc: Global,
+    text: &mut Vec<u8>,
+    words: &str,
+    value: &T,
+) -> Result<(), AllocError> {
+    let written = format!(in alloc; "{value:?}")?;
+    text.extend_from_slice(words.as_bytes())?;
+    text.extend_from_slice(written.as_bytes())
+}
+
+/// Adds words and a value behind them, and ends the line.
+pub(crate) fn add_line<T: Debug>(
+    alloc: Global,
+    text: &mut Vec<u8>,
+    words: &str,
+    value: &T,
+) -> Result<(), AllocError> {
+    add(alloc, text, words, value)?;
+    Ok(text.push(b'\n')?)
+}
 
 /// How the storing of a text ended.
-pub(crate) fn tell_stored<J: Archive, R: Print>(
-    rt: &R,
-    name: &str,
+pub(crate) fn add_stored<J: Archive>(
+    alloc: Global,
+    text: &mut Vec<u8>,
     stored: &Stored<J>,
-) -> io::Result<()> {
+) -> Result<(), AllocError> {
     match stored {
         Stored::Kept(receipt) => {
-            println!(rt;
-                "{name}: kept, record {}, {:?}",
-                receipt.number(),
-                receipt.token()
-            )
+            add(alloc, text, "kept, record ", &receipt.number())?;
+            add(alloc, text, ", ", &receipt.token())
         }
-        Stored::Failed(fault) => println!(rt; "{name}: failed, {fault:?}"),
-        Stored::Mixed => println!(rt; "{name}: mixed"),
+        Stored::Failed(fault) => add(alloc, text, "failed, ", fault),
+        Stored::Mixed => text.extend_from_slice(b"mixed"),
     }
 }
 
 /// What a fetch found, and whether a text that was found is this one.
-pub(crate) fn tell_fetched<J: Archive, R: Print>(
-    rt: &R,
+pub(crate) fn add_fetched<J: Archive>(
+    alloc: Global,
+    text: &mut Vec<u8>,
     fetched: &Fetched<J>,
-    text: &[u8],
-) -> io::Result<()> {
+    octets: &[u8],
+) -> Result<(), AllocError> {
     match fetched {
         Fetched::Whole(whole) => {
-            let same = whole.octets() == text;
-            println!(rt; "fetched: record {}, the same text: {same}", whole.number())
+            add(alloc, text, "record ", &whole.number())?;
+            add(
+                alloc,
+                text,
+                ", the same text: ",
+                &(whole.octets() == octets),
+            )
         }
-        Fetched::Gone(front) => println!(rt; "fetched: gone, {front:?}"),
-        Fetched::Unknown => println!(rt; "fetched: unknown"),
-        Fetched::Device(fault) => println!(rt; "fetched: failed, {fault:?}"),
+        Fetched::Gone(front) => add(alloc, text, "gone, ", front),
+        Fetched::Unknown => text.extend_from_slice(b"unknown"),
+        Fetched::Device(fault) => add(alloc, text, "failed, ", fault),
     }
 }
