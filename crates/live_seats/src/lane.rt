@@ -14,7 +14,7 @@ use std::sync::Wait;
 /// hand-over to a thread that is at work; then what it waits for may take longer than to be woken.
 /// Between two looks it doesn't give its processor away, since whoever gets it may keep it for
 /// milliseconds.
-pub const LOOKS: u32 = 200;
+pub const LOOKS: u32 = 400;
 
 /// The queue of a group. Who finds it full or empty sleeps until another thread tells of a parcel
 /// that was taken or pushed.
