@@ -2,3 +2,4 @@ pub mod Checks
 pub mod CommandLines
 pub mod Numbers
 pub mod Scripts
+pub mod Servings

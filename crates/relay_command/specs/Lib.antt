@@ -4,5 +4,6 @@ pub mod Failure
 pub mod Files
 pub mod Gathered
 pub mod Run
+pub mod Serving
 pub mod Tell
 pub mod Version

@@ -9,6 +9,7 @@ use Rattle.relay_command.specs.Check.{CheckGives, HasError, IsIn}
 use Rattle.relay_command.specs.CommandLine.{Asked, Drills, Checks, Tells, Serves}
 use Rattle.relay_command.specs.CommandLine.{IsAskedBy, IsRefusedBy}
 use Rattle.relay_command.specs.Files.{CannotBeRead}
+use Rattle.relay_command.specs.Serving.{Serving}
 use Rattle.relay_command.specs.Tell.{TellGives}
 use Rattle.relay_command.specs.declared.failure.Failure.{Failure}
 use Rattle.relay_command.specs.declared.failure.Failure.TheVariants.{Words, Check, Drill, Serve}
@@ -37,44 +38,61 @@ abbrev pub DrillsIn : (folder script : List ℕ) → Result (Unit {0}) DrillErro
 DrillsIn folder script result input before after =
     (config : Config) × IsIn folder config × DrillsScript config script result input before after
 
--- what serving a relay with the configuration in a folder answers
-abbrev pub ServesIn : (folder : List ℕ) → Result (Unit {0}) ServeError
-    → (before after : Option (List ℕ)) → Type 0
-ServesIn folder result before after =
-    (config : Config) × IsIn folder config × ServeGives config result before after
+-- a drill with the configuration in a folder is done, or failed so; where the configuration is at
+-- fault, nothing was written
+abbrev pub DrillsFolder : (folder script : List ℕ) → Result (Unit {0}) Failure
+    → (input before after : Option (List ℕ)) → Type 0
+DrillsFolder folder script (Ok done) input before after =
+    DrillsIn folder script (Ok done) input before after
+DrillsFolder folder script (Err (Drill error)) input before after =
+    DrillsIn folder script (Err error) input before after
+DrillsFolder folder script (Err (Check error)) input before after =
+    HasError folder error × Keeps before after
+DrillsFolder folder script (Err failure) input before after = ⊥
+
+-- What serving a relay with the configuration in a folder answers: what came is what serving comes
+-- to with that configuration, that folder and that number of connections, and what serving a relay
+-- of the configuration gives.
+abbrev pub ServesIn : Serving → (folder : List ℕ) (sessions : Option ℕ)
+    → Result (Unit {0}) ServeError → (before after : Option (List ℕ)) → Type 0
+ServesIn serving folder sessions result before after =
+    (config : Config) × IsIn folder config × serving config folder sessions result before after
+    × ServeGives config result before after
 
 -- what was to be served with the configuration in a folder was, or failed so; where the
 -- configuration is at fault, nothing was served or written
-abbrev pub ServesFolder : (folder : List ℕ) → Result (Unit {0}) Failure
-    → (before after : Option (List ℕ)) → Type 0
-ServesFolder folder (Ok done) before after = ServesIn folder (Ok done) before after
-ServesFolder folder (Err (Serve error)) before after = ServesIn folder (Err error) before after
-ServesFolder folder (Err (Check error)) before after = HasError folder error × Keeps before after
-ServesFolder folder (Err failure) before after = ⊥
+abbrev pub ServesFolder : Serving → (folder : List ℕ) (sessions : Option ℕ)
+    → Result (Unit {0}) Failure → (before after : Option (List ℕ)) → Type 0
+ServesFolder serving folder sessions (Ok done) before after =
+    ServesIn serving folder sessions (Ok done) before after
+ServesFolder serving folder sessions (Err (Serve error)) before after =
+    ServesIn serving folder sessions (Err error) before after
+ServesFolder serving folder sessions (Err (Check error)) before after =
+    HasError folder error × Keeps before after
+ServesFolder serving folder sessions (Err failure) before after = ⊥
 
 -- what was asked for is done, or failed with a failure of its own; only a drill reads standard
--- input, and where its configuration is at fault nothing was written
-abbrev pub Performs : Asked → Result (Unit {0}) Failure → (input before after : Option (List ℕ))
-    → Type 0
-Performs (Drills folder script) (Ok done) input before after =
-    DrillsIn folder script (Ok done) input before after
-Performs (Drills folder script) (Err (Drill error)) input before after =
-    DrillsIn folder script (Err error) input before after
-Performs (Drills folder script) (Err (Check error)) input before after =
-    HasError folder error × Keeps before after
-Performs (Checks folder) (Ok done) input before after = CheckGives (Ok done) folder before after
-Performs (Checks folder) (Err (Check error)) input before after =
+-- input
+abbrev pub Performs : Serving → Asked → Result (Unit {0}) Failure
+    → (input before after : Option (List ℕ)) → Type 0
+Performs serving (Drills folder script) result input before after =
+    DrillsFolder folder script result input before after
+Performs serving (Checks folder) (Ok done) input before after =
+    CheckGives (Ok done) folder before after
+Performs serving (Checks folder) (Err (Check error)) input before after =
     CheckGives (Err error) folder before after
-Performs (Tells text) (Ok done) input before after = TellGives (Ok done) text before after
-Performs (Tells text) (Err (Token fault)) input before after =
+Performs serving (Tells text) (Ok done) input before after =
+    TellGives (Ok done) text before after
+Performs serving (Tells text) (Err (Token fault)) input before after =
     TellGives (Err fault) text before after
-Performs (Serves folder sessions) result input before after =
-    ServesFolder folder result before after
-Performs asked (Err failure) input before after = ⊥
+Performs serving (Serves folder sessions) result input before after =
+    ServesFolder serving folder sessions result before after
+Performs serving asked (Err failure) input before after = ⊥
 
 -- what the words ask for is done or failed; or they ask for nothing, and nothing was written
-abbrev pub RunGives : List Text → Result (Unit {0}) Failure
+abbrev pub RunGives : Serving → List Text → Result (Unit {0}) Failure
     → (input before after : Option (List ℕ)) → Type 0
-RunGives words (Err (Words error)) input before after = IsRefusedBy words error × Keeps before after
-RunGives words result input before after =
-    (asked : Asked) × IsAskedBy words asked × Performs asked result input before after
+RunGives serving words (Err (Words error)) input before after =
+    IsRefusedBy words error × Keeps before after
+RunGives serving words result input before after =
+    (asked : Asked) × IsAskedBy words asked × Performs serving asked result input before after

@@ -1,11 +1,12 @@
 //! Doing what the words ask for (docs/PROTOCOL.md, Program).
 ghost use Rattle.std.specs.Prelude.{◌≡◌, ◌⊎◌, map, bytes_eq, codes, string_bytes, IfOk, IfErr};
-ghost use Rattle.relay_command.specs.CommandLine.{Drills, asked};
+ghost use Rattle.relay_command.specs.CommandLine.{asked};
 ghost use Rattle.std.specs.Vec.Iter.{into_iter_items};
 ghost use Rattle.std.specs.Io.Buffered.{writer_buffer, writer_contents, writer_inner};
 ghost use Rattle.relay_command.specs.Failure.{unbegun_as};
 ghost use Rattle.relay_command.specs.Gathered.{RunsGathered};
-ghost use Rattle.relay_command.specs.Run.{DrillsScript, Performs, RunGives};
+ghost use Rattle.relay_command.specs.Run.{DrillsFolder, DrillsScript, Performs, RunGives};
+ghost use Rattle.relay_command.specs.Serving.{Handed};
 ghost use Rattle.serve_terms.specs.Serve.{AnswersRightly};
 ghost use Rattle.relay_command.specs.declared.failure.Failure.TheVariants as failures;
 ghost use Rattle.relay_command.specs.declared.failure.Unbegun.TheVariants as begin;
@@ -78,7 +79,8 @@ where
     V: FnOnce(&Config, &str, Option<u32>, &mut BufWriter<W>) -> Result<(), ServeError>,
     requires called { V.IsAlwaysCallable serve }
     requires rightly { AnswersRightly (writer_contents W.contents) (V.post serve) }
-    ensures { RunsGathered (map string_bytes words.now) result (R.remaining reader.old)
+    ensures { RunsGathered (Handed (writer_contents W.contents) (V.post serve))
+        (map string_bytes words.now) result (R.remaining reader.old)
         (writer_contents W.contents writer.old) (W.contents (writer_inner writer.new))
         (writer_buffer writer.new) }
 {
@@ -99,8 +101,8 @@ where
     V: FnOnce(&Config, &str, Option<u32>, &mut W) -> Result<(), ServeError>,
     requires called { V.IsAlwaysCallable serve }
     requires rightly { AnswersRightly W.contents (V.post serve) }
-    ensures { RunGives (map string_bytes words.now) result (R.remaining reader.old)
-        (W.contents writer.old) (W.contents writer.new) }
+    ensures { RunGives (Handed W.contents (V.post serve)) (map string_bytes words.now) result
+        (R.remaining reader.old) (W.contents writer.old) (W.contents writer.new) }
 {
     match read_words(alloc, words) {
         Ok(job) => perform(rt, alloc, &job, reader, writer, serve),
@@ -121,8 +123,8 @@ where
     V: FnOnce(&Config, &str, Option<u32>, &mut W) -> Result<(), ServeError>,
     requires called { V.IsAlwaysCallable serve }
     requires rightly { AnswersRightly W.contents (V.post serve) }
-    ensures { Performs (asked job.now) result (R.remaining reader.old)
-        (W.contents writer.old) (W.contents writer.new) }
+    ensures { Performs (Handed W.contents (V.post serve)) (asked job.now) result
+        (R.remaining reader.old) (W.contents writer.old) (W.contents writer.new) }
 {
     match job {
         Job::Drill { folder, script } => drill_in(rt, alloc, folder, script, reader, writer),
@@ -147,7 +149,7 @@ fn drill_in<S: Files + RandomSource, R: Read, W: Write>(
     reader: &mut R,
     writer: &mut W,
 ) -> Result<(), Failure>
-    ensures { Performs (Drills folder.now script.now) result (R.remaining reader.old)
+    ensures { DrillsFolder folder.now script.now result (R.remaining reader.old)
         (W.contents writer.old) (W.contents writer.new) }
 {
     let config = match load(rt, alloc, folder) {

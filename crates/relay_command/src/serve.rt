@@ -1,5 +1,6 @@
 //! Serving a relay with the configuration in a folder (docs/PROTOCOL.md, `serve`).
 ghost use Rattle.relay_command.specs.Run.{ServesFolder};
+ghost use Rattle.relay_command.specs.Serving.{Handed};
 ghost use Rattle.serve_terms.specs.Serve.{AnswersRightly};
 
 use crate::failure::Failure;
@@ -24,7 +25,8 @@ where
     V: FnOnce(&Config, &str, Option<u32>, &mut W) -> Result<(), ServeError>,
     requires called { V.IsAlwaysCallable serve }
     requires rightly { AnswersRightly W.contents (V.post serve) }
-    ensures { ServesFolder folder.now result (W.contents writer.old) (W.contents writer.new) }
+    ensures { ServesFolder (Handed W.contents (V.post serve)) folder.now sessions result
+        (W.contents writer.old) (W.contents writer.new) }
 {
     let config = match load(rt, alloc, folder) {
         Ok(config) => config,

@@ -1,7 +1,6 @@
 use Rattle.std.proofs.Common.{List, ℕ, Ok, string_bytes, subst}
 use Rattle.relay_command.specs.Check.{CheckGives}
-use Rattle.relay_command.specs.CommandLine.{Drills}
-use Rattle.relay_command.specs.Run.{Performs}
+use Rattle.relay_command.specs.Run.{DrillsFolder}
 use Rattle.relay_command.proofs.program.perform.Goals as goal
 
 pub returns-in-Ok : goal.returns-in-Ok
@@ -12,7 +11,7 @@ returns-in-Ok g c =
 
 pub returns-in-Drill : goal.returns-in-Drill
 returns-in-Drill g c =
-    let gives : List ℕ → List ℕ → Type 0 = λ folder script. Performs (Drills folder script)
+    let gives : List ℕ → List ℕ → Type 0 = λ folder script. DrillsFolder folder script
     c.drill_in.result (g.R.Read.remaining c.args.reader.now)
     (g.W.Write.contents c.args.writer.now) (g.W.Write.contents c.drill_in.new.writer) in
     rw c.in-Drill.is

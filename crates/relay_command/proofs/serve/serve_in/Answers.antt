@@ -1,11 +1,21 @@
 use Rattle.std.proofs.Common.{subst}
+use Rattle.relay_command.proofs.Servings.{handed}
 use Rattle.relay_command.proofs.serve.serve_in.Goals as goal
 
--- what serves answers rightly, of the configuration that the folder has
+-- what serves was handed the configuration that the folder has, the folder and the number, and
+-- answers rightly
 pub returns-in-Ok-serve : goal.returns-in-Ok-serve
-returns-in-Ok-serve g c =
-    (c.in-Ok.config, c.in-Ok.ensures, c.requires.rightly _ _ _ _ _ _ c.in-Ok-serve.ensures)
+returns-in-Ok-serve g c = (
+  c.in-Ok.config,
+  c.in-Ok.ensures,
+  handed _ _ _ _ _ _ _ _ c.in-Ok-serve.ensures,
+  c.requires.rightly _ _ _ _ _ _ c.in-Ok-serve.ensures,
+)
 
 pub returns : goal.returns
-returns g c =
-    (c.in-Ok.config, c.in-Ok.ensures, c.requires.rightly _ _ _ _ _ _ c.in-Err-serve.ensures)
+returns g c = (
+  c.in-Ok.config,
+  c.in-Ok.ensures,
+  handed _ _ _ _ _ _ _ _ c.in-Err-serve.ensures,
+  c.requires.rightly _ _ _ _ _ _ c.in-Err-serve.ensures,
+)
