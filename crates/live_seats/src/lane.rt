@@ -9,12 +9,11 @@ use crossbeam_utils::sync::EventCount;
 use job_queue::{Handed, JobQueue, Parcel, QueuePass};
 use std::alloc::{AllocError, Global};
 use std::sync::Wait;
+use std::thread;
 
-/// How often a thread looks before it sleeps. That takes some microseconds, about as long as a
-/// hand-over to a thread that is at work; then what it waits for may take longer than to be woken.
-/// Between two looks it doesn't give its processor away, since whoever gets it may keep it for
-/// milliseconds.
-pub const LOOKS: u32 = 400;
+/// How often a thread looks before it sleeps. Between two looks it gives way to other threads, so
+/// that those run which it waits for; that takes less than a microsecond where none wants to run.
+pub const LOOKS: u32 = 64;
 
 /// The queue of a group. Who finds it full or empty sleeps until another thread tells of a parcel
 /// that was taken or pushed.
@@ -67,7 +66,7 @@ impl Lane {
         }
     }
 
-    // Tries so often.
+    // Tries so often, and gives way between.
     fn try_often<R: Wait>(&self, rt: &R, pass: &mut QueuePass, job: Handed) -> Result<(), Handed>
         requires pass { IsPassOf (queue_of self.now) pass.old }
         requires open { IsOpen job.end (view pass.old) }
@@ -82,6 +81,7 @@ impl Lane {
                 Ok(()) => return Ok(()),
                 Err(back) => job = back,
             }
+            thread::yield_now();
         }
         Err(job)
     }
@@ -162,7 +162,7 @@ impl Lane {
         }
     }
 
-    // Looks so often.
+    // Looks so often, and gives way between.
     fn take_soon<R: Wait>(&self, rt: &R, pass: &mut QueuePass) -> Option<Parcel>
         requires pass { IsPassOf (queue_of self.now) pass.old }
         requires writer { OfWriter (view pass.old) }
@@ -175,6 +175,7 @@ impl Lane {
             if let Some(parcel) = self.try_take(rt, pass) {
                 return Some(parcel);
             }
+            thread::yield_now();
         }
         None
     }

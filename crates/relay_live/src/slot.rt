@@ -7,6 +7,7 @@ use live_fates::Told;
 use live_seats::LOOKS;
 use live_store::Archive;
 use std::sync::{Mutex, Wait};
+use std::thread;
 
 /// What became of a job, with its number among those of its end.
 #[derive(Drop)]
@@ -60,12 +61,13 @@ impl<J: Archive> Slot<J> {
         take(&mut self.answer.lock(rt), number)
     }
 
-    // Looks so often.
+    // Looks so often, and gives way between.
     fn take_soon<R: Wait>(&self, rt: &R, number: u64) -> Option<Told<J>> {
         for _ in 0..LOOKS {
             if let Some(told) = self.try_take(rt, number) {
                 return Some(told);
             }
+            thread::yield_now();
         }
         None
     }
