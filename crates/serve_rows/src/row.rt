@@ -59,7 +59,7 @@ where
     };
     let (first, rest) = number_of(connections);
     let (second, _rest) = number_of(rest);
-    let (doors, ports) = two_ports(rt, alloc, first as u32, second as u32)?;
+    let (doors, ports) = two_ports(rt, alloc, count_of(first), count_of(second))?;
     let gate = SecondFirst::new(is_open);
     let ended = Point::new();
     let (text, totals) = thread::join(
@@ -71,6 +71,11 @@ where
     let mut text = text?;
     add_told(&mut text, alloc, &totals, lines)?;
     Ok(text)
+}
+
+/// So many connections, as many as can be said.
+fn count_of(number: usize) -> u32 {
+    u32::try_from(number).unwrap_or(u32::MAX)
 }
 
 /// Adds what the lines ask of what was counted.
