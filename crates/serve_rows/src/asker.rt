@@ -9,7 +9,7 @@ use std::time::{Clock, Duration};
 use std::{io, mem, thread};
 
 /// What the answers were.
-#[derive(Clone, Copy, Debug, PartialEq, Eq)]
+#[derive(Clone, Copy)]
 pub(crate) struct Answers {
     /// How many were one of the two texts, whole.
     pub(crate) whole: u64,
@@ -20,7 +20,7 @@ pub(crate) struct Answers {
 }
 
 /// What was answered, before the others had ended and since.
-#[derive(Clone, Copy, Debug, PartialEq, Eq)]
+#[derive(Clone, Copy)]
 pub(crate) struct Tally {
     pub(crate) before: Answers,
     pub(crate) since: Answers,
@@ -44,7 +44,7 @@ impl Tally {
 }
 
 /// What an answer is.
-#[derive(Clone, Copy, Debug, PartialEq, Eq)]
+#[derive(Clone, Copy)]
 enum Answer {
     Whole,
     None,
@@ -84,7 +84,7 @@ impl<R: Wait + Sync> Write for Pen<'_, R> {
 }
 
 /// What an asker is about to do.
-#[derive(Clone, Copy, Debug, PartialEq, Eq)]
+#[derive(Clone, Copy)]
 enum Stage {
     /// It awaits the greeting.
     Greeting,
@@ -202,7 +202,7 @@ impl<'a, R: Sync> Asker<'a, R> {
 impl<R: Wait + Clock + Sync> Read for Asker<'_, R> {
     /// Once the answer to the last line is there, it is judged, and the next line is given.
     fn read(&mut self, room: &mut [u8]) -> io::Result<usize> {
-        if self.stage == Stage::Gone {
+        if matches!(self.stage, Stage::Gone) {
             return Ok(0);
         }
         self.stage = self.notes.next(self.rt, self.stage)?;

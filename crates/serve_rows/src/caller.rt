@@ -8,6 +8,12 @@ use std::time::Duration;
 /// How many seconds it waits for an answer.
 const PATIENCE: u64 = 60;
 
+/// How many milliseconds it waits until its side is taken to be full.
+const FULL: u64 = 500;
+
+/// How many writes are made at most until no more can be sent.
+const MOST_WRITES: u32 = 1 << 12;
+
 /// Any failure of a play.
 pub(crate) fn failed() -> io::Error {
     io::Error::from(ErrorKind::Other)
@@ -17,8 +23,6 @@ pub(crate) fn failed() -> io::Error {
 #[derive(Drop)]
 pub(crate) struct Caller {
     alloc: Global,
-    /// By which name the play tells of it.
-    name: &'static [u8],
     reader: BufReader<TcpStream>,
     writer: TcpStream,
 }
@@ -29,7 +33,6 @@ impl Caller {
         net: &N,
         alloc: Global,
         port: u16,
-        name: &'static [u8],
     ) -> io::Result<Caller> {
         let address = SocketAddr::from((Ipv4Addr::LOCALHOST, port));
         let writer = TcpStream::connect(net, address)?;
@@ -37,17 +40,16 @@ impl Caller {
         if writer.local_addr()? == address {
             return Err(failed());
         }
-        Caller::new(alloc, name, writer)
+        Caller::new(alloc, writer)
     }
 
     /// What is connected by this socket.
-    fn new(alloc: Global, name: &'static [u8], writer: TcpStream) -> io::Result<Caller> {
+    fn new(alloc: Global, writer: TcpStream) -> io::Result<Caller> {
         writer.set_nodelay(true)?;
         writer.set_read_timeout(Some(Duration::from_secs(PATIENCE)))?;
         let reader = BufReader::new(alloc, writer.try_clone()?)?;
         Ok(Caller {
             alloc,
-            name,
             reader,
             writer,
         })
@@ -58,11 +60,11 @@ impl Caller {
         self.writer.write_all(octets)
     }
 
-    /// Sends octets again and again until it can't for so many milliseconds. The error is that of a
-    /// connection that breaks before.
-    pub(crate) fn send_until_full(&mut self, octets: &[u8], patience: u64) -> io::Result<()> {
+    /// Sends octets again and again until it can't for a while. The error is that of a connection
+    /// that breaks before.
+    pub(crate) fn send_until_full(&mut self, octets: &[u8]) -> io::Result<()> {
         self.writer
-            .set_write_timeout(Some(Duration::from_millis(patience)))?;
+            .set_write_timeout(Some(Duration::from_millis(FULL)))?;
         for _ in 0..MOST_WRITES {
             match self.writer.write(octets) {
                 Ok(_) => {}
@@ -73,30 +75,18 @@ impl Caller {
         Err(failed())
     }
 
-    /// The next line with its end; nothing where the connection has ended.
-    pub(crate) fn line(&mut self) -> io::Result<Vec<u8>> {
+    /// The next line without its end, or that the connection has ended, or is cut off in a line.
+    pub(crate) fn told(&mut self) -> io::Result<Vec<u8>> {
         let mut line = Vec::new(self.alloc);
         self.reader.read_until(b'\n', &mut line)?;
-        Ok(line)
-    }
-
-    /// Adds the next line to what is told, or that the connection has ended.
-    pub(crate) fn hear(&mut self, text: &mut Vec<u8>) -> io::Result<()> {
-        let line = self.line()?;
-        text.extend_from_slice(self.name)?;
-        text.push(b' ')?;
-        match line.strip_suffix(b"\r\n".as_slice()) {
-            Some(told) => text.extend_from_slice(told)?,
-            None => text.extend_from_slice(b"(ended)")?,
+        if line.ends_with(b"\r\n".as_slice()) {
+            line.truncate(line.len().saturating_sub(2));
+            return Ok(line);
         }
-        text.push(b'\n')?;
-        Ok(())
-    }
-
-    /// Sends octets, and adds the next line to what is told.
-    pub(crate) fn ask(&mut self, octets: &[u8], text: &mut Vec<u8>) -> io::Result<()> {
-        self.send(octets)?;
-        self.hear(text)
+        if line.is_empty() {
+            return Ok(Vec::from_slice(self.alloc, b"(ended)")?);
+        }
+        Ok(Vec::from_slice(self.alloc, b"(cut off)")?)
     }
 
     /// Whether the next octets are these.
@@ -109,25 +99,10 @@ impl Caller {
 
     /// The next line has to be this one.
     pub(crate) fn expect(&mut self, line: &[u8]) -> io::Result<()> {
-        if self.line()?.as_slice() == line {
+        if self.told()?.as_slice() == line {
             Ok(())
         } else {
             Err(failed())
         }
     }
-
-    /// It is greeted.
-    pub(crate) fn greeted(&mut self) -> io::Result<()> {
-        self.expect(b"201 cnrelay ready, posting prohibited\r\n")
-    }
-
-    /// It leaves, and the connection ends.
-    pub(crate) fn leave(&mut self) -> io::Result<()> {
-        self.send(b"QUIT\r\n")?;
-        self.expect(b"205 Bye\r\n")?;
-        self.expect(b"")
-    }
 }
-
-/// How many writes are made at most until no more can be sent.
-const MOST_WRITES: u32 = 1 << 12;

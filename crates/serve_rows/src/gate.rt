@@ -1,19 +1,21 @@
-//! The gate of *one thread*, and a clock that stands.
+//! A gate that holds a command or none, and a clock that stands.
 use crate::points::Point;
 use live_session::{Clock, Gate};
 use std::sync::Wait;
 use std::time;
 
-/// Holds the first command of session 1 until that of session 2 is answered.
+/// Holds the first command of session 1 until that of session 2 is answered, or lets all in.
 #[derive(Drop)]
 pub(crate) struct SecondFirst {
+    is_open: bool,
     answered: Point,
 }
 
 impl SecondFirst {
     /// Nothing is answered.
-    pub(crate) fn new() -> SecondFirst {
+    pub(crate) fn new(is_open: bool) -> SecondFirst {
         SecondFirst {
+            is_open,
             answered: Point::new(),
         }
     }
@@ -21,7 +23,7 @@ impl SecondFirst {
 
 impl<R: Wait + time::Clock> Gate<R> for SecondFirst {
     fn enter(&self, rt: &R, session: u64, command: u64) -> bool {
-        if session != 1 || command != 0 {
+        if self.is_open || session != 1 || command != 0 {
             return true;
         }
         self.answered.await_all(rt, 1);
@@ -29,7 +31,7 @@ impl<R: Wait + time::Clock> Gate<R> for SecondFirst {
     }
 
     fn is_one_by_one(&self) -> bool {
-        true
+        !self.is_open
     }
 
     fn leave(&self, rt: &R, session: u64, command: u64) {
@@ -40,7 +42,7 @@ impl<R: Wait + time::Clock> Gate<R> for SecondFirst {
 }
 
 /// A clock that stands at the first second of 2021.
-#[derive(Clone, Copy, Debug, PartialEq, Eq)]
+#[derive(Clone, Copy)]
 pub(crate) struct Still;
 
 impl Clock for Still {

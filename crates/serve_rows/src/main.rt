@@ -1,61 +1,66 @@
 //! Plays of a relay that is served on real sockets (docs/PROTOCOL.md, `serve` and Threads): clients
 //! over the loopback address, on ports that the system chooses.
+//!
+//! Standard input holds rows, each under a line `== what it shows`. The line is printed again, with
+//! what came of the row. The rows stand in the file `stdin` of this crate, what they have to print
+//! in `stdout`.
 #![tactic(auto)]
 
 mod articles;
 mod asker;
-mod broken;
 mod caller;
 mod doors;
 mod gate;
-mod in_turn;
-mod one_thread;
-mod pipelines;
+mod on_ports;
 mod points;
 mod printing;
+mod row;
+mod script;
 mod site;
 mod sixty_two;
+mod trials;
+mod words;
 
 use std::alloc::Global;
+use std::fs::{File, Files};
 use std::io;
-use std::io::Write;
+use std::io::{Read, Write};
 use std::net::{Net, TcpListener, TcpStream};
 use std::random::RandomSource;
 use std::sync::Wait;
 use std::thread::Threads;
 use std::time::Clock;
 
-/// Prints what came of a play.
-fn print<R: Print>(rt: &R, name: &[u8], text: &[u8]) -> io::Result<()> {
-    let mut output = io::writer(rt);
-    output.write_all(b"== ")?;
-    output.write_all(name)?;
-    output.write_all(b"\n")?;
-    output.write_all(text)
-}
-
 fn main(rt: HostRuntime) -> io::Result<()> {
-    at_once(&rt, rt.alloc())?;
-    one_alone(&rt, rt.alloc())
+    let alloc = rt.alloc();
+    let mut input = Vec::new(alloc);
+    rt.reader().read_to_end(&mut input)?;
+    let mut lines: Vec<&[u8]> = Vec::new(alloc);
+    for line in input.as_slice().split(|octet| *octet == b'\n') {
+        if line.starts_with(b"== ".as_slice()) {
+            print(&rt, alloc, lines.as_slice())?;
+            lines = Vec::new(alloc);
+        }
+        lines.push(line)?;
+    }
+    print(&rt, alloc, lines.as_slice())
 }
 
-/// Plays of peers at the same time.
-fn at_once<R>(rt: &R, alloc: Global) -> io::Result<()>
+/// Prints the first line of a row and what came of it. What stands before the first row is none.
+fn print<R>(rt: &R, alloc: Global, lines: &[&[u8]]) -> io::Result<()>
 where
-    R: Threads + Wait + Clock + RandomSource + Print + Sync,
+    R: Threads + Wait + Clock + RandomSource + Files<File = File> + Print + Sync,
     R: Net<Listener = TcpListener, Stream = TcpStream>,
 {
-    print(rt, b"sixty-two articles", &sixty_two::play(rt, alloc)?)?;
-    print(rt, b"one thread", &one_thread::play(rt, alloc)?)?;
-    print(rt, b"peers that break off", &broken::play(rt, alloc)?)
-}
-
-/// Plays of one peer.
-fn one_alone<R>(rt: &R, alloc: Global) -> io::Result<()>
-where
-    R: Threads + Wait + Clock + RandomSource + Print + Sync,
-    R: Net<Listener = TcpListener, Stream = TcpStream>,
-{
-    print(rt, b"pipelines", &pipelines::play(rt, alloc)?)?;
-    print(rt, b"one after the other", &in_turn::play(rt, alloc)?)
+    let Some(head) = lines.first() else {
+        return Ok(());
+    };
+    if !head.starts_with(b"== ".as_slice()) {
+        return Ok(());
+    }
+    let text = row::play(rt, alloc, lines)?;
+    let mut output = io::writer(rt);
+    output.write_all(head)?;
+    output.write_all(b"\n")?;
+    output.write_all(&text)
 }

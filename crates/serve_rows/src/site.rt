@@ -81,27 +81,31 @@ where
     }
 }
 
-/// The numbers of two ports.
-#[derive(Clone, Copy, Debug, PartialEq, Eq)]
+/// The numbers of the ports of p1 and p2.
+#[derive(Clone, Copy)]
 pub(crate) struct Ports {
     pub(crate) first: u16,
     pub(crate) second: u16,
 }
 
-/// A port of p1, for so many connections, with its number.
-pub(crate) fn one_port<N: Net<Listener = TcpListener, Stream = TcpStream>>(
-    net: &N,
-    alloc: Global,
-    connections: u32,
-) -> io::Result<(Vec<Door<Port>>, u16)> {
-    let port = Port::listen(net, 0, Some(connections))?;
-    let number = port.number()?;
-    let mut doors = Vec::new(alloc);
-    doors.push(Door {
-        peer: 0,
-        connections: port,
-    })?;
-    Ok((doors, number))
+impl Ports {
+    /// That of p2 where it is named so, otherwise that of p1.
+    pub(crate) fn named(self, word: &[u8]) -> u16 {
+        if word == b"p2".as_slice() {
+            self.second
+        } else {
+            self.first
+        }
+    }
+
+    /// That of p2 where it has one, otherwise that of p1.
+    pub(crate) fn last(self) -> u16 {
+        if self.second == 0 {
+            self.first
+        } else {
+            self.second
+        }
+    }
 }
 
 /// A port of p1 and one of p2, for so many connections each, with their numbers.
@@ -111,12 +115,25 @@ pub(crate) fn two_ports<N: Net<Listener = TcpListener, Stream = TcpStream>>(
     first: u32,
     second: u32,
 ) -> io::Result<(Vec<Door<Port>>, Ports)> {
-    let (mut doors, first) = one_port(net, alloc, first)?;
-    let port = Port::listen(net, 0, Some(second))?;
-    let second = port.number()?;
+    let one = Port::listen(net, 0, Some(first))?;
+    let two = Port::listen(net, 0, Some(second))?;
+    let ports = Ports {
+        first: one.number()?,
+        second: two.number()?,
+    };
+    Ok((doors_of(alloc, one, two)?, ports))
+}
+
+/// A door of p1 and one of p2.
+fn doors_of(alloc: Global, first: Port, second: Port) -> Result<Vec<Door<Port>>, AllocError> {
+    let mut doors = Vec::new(alloc);
+    doors.push(Door {
+        peer: 0,
+        connections: first,
+    })?;
     doors.push(Door {
         peer: 1,
-        connections: port,
+        connections: second,
     })?;
-    Ok((doors, Ports { first, second }))
+    Ok(doors)
 }

@@ -1,12 +1,13 @@
 //! *Sixty-two articles* (docs/PROTOCOL.md, `serve`): two peers bring the same articles at the same
 //! time, and a third asks for them meanwhile.
-use crate::articles::{line, takethis};
+use crate::articles::takethis;
 use crate::asker::{Asker, Notes, Pen, Tally};
 use crate::caller::{Caller, failed};
 use crate::doors::Way;
 use crate::points::Point;
 use crate::printing::{add, add_counted, add_lines};
 use crate::site::{config_of, run};
+use crate::words::numbered;
 use peer_ports::Port;
 use relay_conf::{Config, K1_CYCBUFF};
 use relay_live::Door;
@@ -50,8 +51,8 @@ fn offer_all<R>(
 where
     R: Wait + Clock + Net<Listener = TcpListener, Stream = TcpStream>,
 {
-    let mut caller = Caller::call(rt, alloc, port, b"")?;
-    caller.greeted()?;
+    let mut caller = Caller::call(rt, alloc, port)?;
+    caller.expect(b"201 cnrelay ready, posting prohibited")?;
     points.greeted.reach(rt);
     points.greeted.await_all(rt, 2);
     let mut taken = Vec::new(alloc);
@@ -63,19 +64,26 @@ where
             *mark = is_taken;
         }
     }
-    caller.leave()?;
+    leave(&mut caller)?;
     Ok(taken)
+}
+
+/// A peer leaves, and its connection ends.
+fn leave(caller: &mut Caller) -> io::Result<()> {
+    caller.send(b"QUIT\r\n")?;
+    caller.expect(b"205 Bye")?;
+    caller.expect(b"(ended)")
 }
 
 /// Sends the article at this place: whether it was taken.
 fn offer(caller: &mut Caller, alloc: Global, at: usize) -> io::Result<bool> {
     let id = [CHARACTERS.get(at).copied().unwrap_or(b'0')];
     caller.send(&takethis(alloc, &id, SIZE)?)?;
-    let reply = caller.line()?;
-    if reply == line(alloc, b"239", &id)? {
+    let reply = caller.told()?;
+    if reply.as_slice() == [b"239 <".as_slice(), &id, b"@x>"].concat(alloc)?.as_slice() {
         return Ok(true);
     }
-    if reply == line(alloc, b"439", &id)? {
+    if reply.as_slice() == [b"439 <".as_slice(), &id, b"@x>"].concat(alloc)?.as_slice() {
         return Ok(false);
     }
     Err(failed())
@@ -97,13 +105,20 @@ where
     taken
 }
 
+/// Whether a peer was taken the article at this place.
+fn is_taken(taken: &[bool], place: usize) -> bool {
+    taken.get(place).copied().unwrap_or(false)
+}
+
 /// How many articles one of the peers was taken, and the other not.
-fn taken_once(first: &[bool], second: &[bool]) -> usize {
-    first
-        .iter()
-        .zip(second.iter())
-        .filter(|(one, other)| one != other)
-        .count()
+fn taken_once(first: &[bool], second: &[bool]) -> u64 {
+    let mut count = 0u64;
+    for place in 0..CHARACTERS.len() {
+        if is_taken(first, place) != is_taken(second, place) {
+            count = count.saturating_add(1);
+        }
+    }
+    count
 }
 
 /// How many articles a peer was taken.
@@ -220,24 +235,43 @@ where
     tell(alloc, &outcome)
 }
 
+/// Adds this text with the number in the place of `#`.
+fn add_number(
+    text: &mut Vec<u8>,
+    alloc: Global,
+    line: &[u8],
+    number: u64,
+) -> Result<(), AllocError> {
+    let number = usize::try_from(number).unwrap_or(usize::MAX);
+    text.extend_from_slice(&numbered(alloc, line, number)?)
+}
+
+/// What the third end was answered.
+fn tell_asked(text: &mut Vec<u8>, alloc: Global, tally: Tally) -> Result<(), AllocError> {
+    let line = b"asked meanwhile: neither 430 nor a whole text: #\n";
+    add_number(text, alloc, line, tally.before.other)?;
+    add_number(text, alloc, b"asked afterwards: whole #", tally.since.whole)?;
+    add_number(text, alloc, b", 430 #", tally.since.none)?;
+    add_number(text, alloc, b", other #\n", tally.since.other)
+}
+
 /// What came of it.
 fn tell(alloc: Global, outcome: &Outcome) -> io::Result<Vec<u8>> {
     let mut text = Vec::new(alloc);
     let once = taken_once(&outcome.first, &outcome.second);
-    add(
+    add_number(
         &mut text,
-        format!(in alloc; "239 to one peer and 439 to the other: {once}")?.as_str(),
+        alloc,
+        b"239 to one peer and 439 to the other: #\n",
+        once,
     )?;
-    let other = outcome.tally.before.other;
-    let line = format!(in alloc; "asked meanwhile: neither 430 nor a whole text: {other}")?;
-    add(&mut text, line.as_str())?;
-    let since = outcome.tally.since;
-    let (whole, none, other) = (since.whole, since.none, since.other);
-    let line = format!(in alloc; "asked afterwards: whole {whole}, 430 {none}, other {other}")?;
-    add(&mut text, line.as_str())?;
-    let gained = has_gained(&outcome.totals, count_of(&outcome.first));
-    let line = format!(in alloc; "the feed of p2 gained what p1 brought: {gained}")?;
-    add(&mut text, line.as_str())?;
+    tell_asked(&mut text, alloc, outcome.tally)?;
+    let line = if has_gained(&outcome.totals, count_of(&outcome.first)) {
+        "the feed of p2 gained what p1 brought: true"
+    } else {
+        "the feed of p2 gained what p1 brought: false"
+    };
+    add(&mut text, line)?;
     add_lines(&mut text, alloc, &outcome.totals, b"buffer")?;
     add_lines(&mut text, alloc, &outcome.totals, b"ids")?;
     add_counted(&mut text, alloc, &outcome.totals)?;
