@@ -4,12 +4,12 @@
 set -euo pipefail
 cd "$(dirname "${BASH_SOURCE[0]}")"
 word="${1:-cutting}"
-# Without words the programs do nothing: this proves and builds them.
+out=../crates/relay_bench/out
+# Without words the program does nothing: this proves and builds it.
+(cd ../crates/relay_bench && rt run)
 if [ "$word" = relay ]; then
-    (cd ../crates/core_bench && rt run)
-    rustc -O -o ../crates/core_bench/out/copies copies.rs
-    python3 relay.py ../crates/core_bench/out/core_bench ../crates/core_bench/out/copies ${2:+"$2"}
+    rustc -O -o "$out/copies" copies.rs
+    python3 relay.py "$out/relay_bench" "$out/copies" ${2:+"$2"}
 else
-    (cd ../crates/relay_bench && rt run)
-    python3 parts.py ../crates/relay_bench/out/relay_bench "$word"
+    python3 parts.py "$out/relay_bench" "$word"
 fi

@@ -4,8 +4,9 @@ ghost use Rattle.std.specs.Prelude.{◌<◌, All, length, IfOk};
 use relay_conf::{Buffers, ConfError, Config, Method, read_cycbuff, read_relay, read_storage};
 use std::alloc::Global;
 
-/// Two buffers of 8 blocks, each of a group of its own.
-const CYCBUFF: &[u8] = b"cycbuff:A:a.buf:4\ncycbuff:B:b.buf:4\nmetacycbuff:G:A\nmetacycbuff:H:B\n";
+/// A group of a buffer of 8 blocks, and one of such a buffer and one of 6, which it fills in turn.
+const CYCBUFF: &[u8] = b"cycbuff:A:a.buf:4\ncycbuff:B:b.buf:4\ncycbuff:C:c.buf:3\n\
+    metacycbuff:G:A\nmetacycbuff:H:B,C:SEQUENTIAL\n";
 
 /// Articles of `misc` go to the first group, those of `news` to the second.
 const STORAGE: &[u8] = b"method cnfs {\nclass: 1\nnewsgroups: misc.*\noptions: G\n}\n\
