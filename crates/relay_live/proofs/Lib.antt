@@ -1,2 +1,3 @@
 pub mod Accounts
+mod Lists
 pub mod Sessions

@@ -1,5 +1,5 @@
 -- The sessions that an end has served, one after the other (docs/PROTOCOL.md, Threads).
-use Rattle.std.specs.Prelude.{◌≡◌, ℕ, Bool, true, List, [], map, Some, slice_get}
+use Rattle.std.specs.Prelude.{◌≡◌, ℕ, Bool, true, List, [], length, map, Some, slice_get}
 use Rattle.job_queue.specs.declared.parcel.Handed.{Handed}
 use Rattle.live_fates.specs.declared.fate.KeptJob.{KeptJob}
 use Rattle.live_session.specs.Carried.{IsServed}
@@ -20,6 +20,11 @@ pub data Sessions (w : Terms) (end peer : ℕ) : Hands → Type 0 where
   Then : (before after : Hands) (s : ℕ) (finish : Finish) (heard said : List ℕ)
       → Sessions w end peer before → IsServed w s end peer before [] [] finish after heard said
       → Sessions w end peer after
+
+-- each end has a list for each of so many groups
+abbrev pub HasLists : (groups : ℕ) → List (List (List Handed)) → Type 0
+HasLists groups hands =
+    (e : ℕ) (lists : List (List Handed)) → slice_get hands e ≡ Some lists → length lists ≡ groups
 
 -- over honest stores, what an end has kept of so many jobs, of each group these, is what its
 -- sessions have come to

@@ -18,7 +18,7 @@ use std::sync::{Mutex, Wait};
 #[derive(Drop)]
 pub(crate) struct Claims {
     shard: Mutex<Shard>,
-    // Told of each article whose storing ended, and of each offer.
+    // Told of each article whose storing ended.
     ended: EventCount,
 }
 
@@ -92,7 +92,6 @@ impl Claims {
 
     pub(crate) fn release<R: Wait>(&self, rt: &R, id: &MsgId, session: u64) {
         self.shard.lock(rt).release(id, session);
-        self.ended.notify_all();
     }
 
     pub(crate) fn forget<R: Wait>(&self, rt: &R, id: &MsgId, session: u64) {

@@ -10,6 +10,7 @@
 mod claims;
 mod drawing;
 mod end;
+mod fetching;
 mod holding;
 mod keeper;
 mod lending;

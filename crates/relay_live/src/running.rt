@@ -8,7 +8,7 @@ ghost use Rattle.live_seats.specs.Gathered.{AllTold, NoneElse, hands_of, kept_by
 ghost use Rattle.live_seats.specs.Started.{AllKept};
 ghost use Rattle.live_settle.specs.Desks.{posts_in};
 ghost use Rattle.relay_live.specs.Ends.{kept_of, peer_of, terms_at};
-ghost use Rattle.relay_live.specs.Sessions.{Accounted};
+ghost use Rattle.relay_live.specs.Sessions.{Accounted, HasLists};
 ghost use Rattle.relay_live.specs.declared.running.LiveError.TheVariants as errors;
 
 use crate::end::End;
@@ -145,6 +145,15 @@ where
     <X as Connections<R>>::Writer: Drop + Send,
     requires parts { (all.parts ≡ groups) × (all.amount ≡ 0) × (L.parts ≡ groups) × (0 < groups) }
     requires few { length doors.items < 2 ^ 62 }
+
+    // The seats that come back are all: one for each door, with a list for each group, and one for
+    // each group.
+    ensures lefts { IfOk result (λ ran. length ran.0.lefts.items ≡ length doors.items) }
+    ensures lists { IfOk result (λ ran. HasLists groups (hands_of ran.0.lefts.items)) }
+    ensures writers { IfOk result (λ ran. length ran.0.writers.items ≡ groups) }
+
+    // Of each end each job was told once, in order, with an outcome that fits it, and of no other
+    // end anything.
     ensures jobs { IfOk result (λ ran. AllTold (FitsJob J.holds)
         (map (λ w. w.done.items) ran.0.writers.items) (hands_of ran.0.lefts.items)) }
     ensures none { IfOk result (λ ran. NoneElse (length doors.items)

@@ -1,4 +1,4 @@
-use Rattle.std.proofs.Common.{◌∙◌, ℕ, List, [], ap, length, map, subst, sym}
+use Rattle.std.proofs.Common.{◌≡◌, ◌∙◌, ℕ, List, [], ap, length, map, subst, sym}
 use Rattle.std.specs.Prelude.{slice_get}
 use Rattle.std.proofs.lemmas.List.{length-map}
 use Rattle.article_verdict.specs.Config.{terms_of}
@@ -6,12 +6,14 @@ use Rattle.job_queue.specs.declared.parcel.Handed.{Handed}
 use Rattle.live_fates.specs.Fates.{FitsJob}
 use Rattle.live_seats.specs.Gathered.{AllTold, NoneElse, RestsFit, hands_of}
 use Rattle.live_seats.specs.Rows.{From}
+use Rattle.live_seats.specs.Seats.{left_by}
 use Rattle.live_seats.specs.Started.{AllKept, Ended, Open, Ready}
 use Rattle.live_seats.specs.declared.lane.Lane.{Lane}
 use Rattle.live_seats.specs.declared.outcome.Done.{Done}
 use Rattle.relay_live.specs.Ends.{kept_of, peer_of, terms_at}
-use Rattle.relay_live.specs.Sessions.{Accounted}
+use Rattle.relay_live.specs.Sessions.{Accounted, HasLists}
 use Rattle.relay_live.proofs.Accounts.{at_map, each_same, marked, new_accounts}
+use Rattle.relay_live.proofs.Lists.{lists_of_all}
 use Rattle.relay_live.proofs.running.serve_all.Goals as goal
 
 pub serve_seats-requires-clause-ends : goal.serve_seats-requires-clause-ends
@@ -40,6 +42,30 @@ pub close-totals-requires-clause-rests : goal.close-totals-requires-clause-rests
 close-totals-requires-clause-rests g c =
     let long = sym (c.in-Ok.ensures.lefts.0 ∙ c.in_ok-lanes.ensures.lanes.2) in
     subst (λ (x : List Lane × ℕ). RestsFit x.0 x.1 c.in_ok-lanes.field-0.rests.items) (λ i. (sym c.as_slice-lanes.ensures.value i, long i)) c.in_ok-lanes.ensures.rests
+
+-- all ends come back, and nobody of them is let go where they are compared
+pub returns-clause-lefts : goal.returns-clause-lefts
+returns-clause-lefts g c =
+    let doors = sym (length-map c.in_ok-ends.ends.items kept_of) ∙ ap length c.in_ok-ends.ensures.new ∙ length-map c.args.doors.items _ in
+    sym (length-map c.close-totals.new.seats.lefts.items left_by)
+    ∙ ap length c.close-totals.ensures.handed
+    ∙ length-map c.in-Ok.seats.lefts.items left_by
+    ∙ c.in-Ok.ensures.lefts.0 ∙ c.in_ok-lanes.ensures.lanes.2 ∙ doors
+
+pub returns-clause-lists : goal.returns-clause-lists
+returns-clause-lists g c =
+    subst (HasLists c.args.groups) (sym c.close-totals.ensures.handed)
+    (lists_of_all c.as_slice-lanes.result.now c.args.groups c.in-Ok.seats.lefts.items
+    (ap length c.as_slice-lanes.ensures.value ∙ c.in_ok-lanes.ensures.lanes.0)
+    (λ k left at. (c.in-Ok.ensures.lefts.1 k left at).1))
+
+-- so do all writers
+pub returns-clause-writers : goal.returns-clause-writers
+returns-clause-writers g c =
+    sym (length-map c.close-totals.new.seats.writers.items (λ w. w.done.items))
+    ∙ ap length c.close-totals.ensures.done
+    ∙ length-map c.in-Ok.seats.writers.items (λ w. w.done.items)
+    ∙ c.in-Ok.ensures.writers.0 ∙ c.in_ok-lanes.ensures.lanes.1
 
 pub returns-clause-jobs : goal.returns-clause-jobs
 returns-clause-jobs g c =

@@ -1,0 +1,32 @@
+//! A fetch out of the buffers that threads share.
+ghost use Rattle.std.specs.Prelude.{◌≡◌};
+
+use crate::shared::Shared;
+use cyc_block::BlockStore;
+use cyc_token::Token;
+use live_store::{Archive, Fetched, Register, fetch};
+use std::alloc::{AllocError, Global};
+use std::sync::Wait;
+use std::sync::ledger::Ledger;
+
+impl<S: BlockStore + Drop, J: Archive, L: Ledger> Shared<S, J, L> {
+    ghost use Rattle.std.specs.Prelude.{IfOk};
+    ghost use Rattle.cyc_token.specs.Token.{token_view};
+    ghost use Rattle.live_store.specs.Fetches.{IsFetched};
+
+    /// Fetches the text under a token, in any thread: one block at a time under the lock of the
+    /// token's buffer. A text that is given whole is that of the record of its number, which has
+    /// the token; gone is said with a front, and a device's failure with its fault.
+    pub fn fetch<R: Wait>(
+        &self,
+        rt: &R,
+        alloc: Global,
+        register: &Register,
+        token: &Token,
+    ) -> Result<Fetched<J>, AllocError>
+        requires { register.now ≡ J.register }
+        ensures { IfOk result (IsFetched J.trusted (token_view token.now)) }
+    {
+        fetch(rt, alloc, &self.buffers, register, token)
+    }
+}
