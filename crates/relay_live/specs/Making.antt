@@ -2,6 +2,8 @@
 use Rattle.std.specs.Prelude.{ℕ, length}
 use Rattle.cyc_block.specs.declared.store.BlockStore as blocks
 use Rattle.live_store.specs.declared.record.Archive as archives
+use Rattle.relay_live.specs.declared.keeper.Keeper.{Keeper}
+use Rattle.relay_live.specs.declared.lending.Lends as lending
 use Rattle.relay_live.specs.declared.shared.Shared.{Shared}
 
 -- how many buffers there are
@@ -23,3 +25,8 @@ feeds_in shared = shared.feeds
 abbrev pub ends_in : {S J L : Type 0} {s : blocks.Ghosts S} {j : archives.Ghosts J}
     → Shared S J L s j → ℕ
 ends_in shared = length shared.slots.items
+
+-- how many ends what stores the jobs can tell what became of theirs
+abbrev pub slots_of : {S J L C Q : Type 0} {s : blocks.Ghosts S} {j : archives.Ghosts J}
+    {q : lending.Ghosts Q} → Keeper S J L C Q s j q → ℕ
+slots_of keeper = ends_in keeper.shared.now

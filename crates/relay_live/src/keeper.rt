@@ -43,6 +43,8 @@ impl<'a, S: BlockStore + Drop, J: Archive, L: Ledger, C: Clock, Q: Lends> Keeper
     C,
     Q,
 > {
+    ghost use Rattle.relay_live.specs.Making.{ends_in, slots_of};
+
     /// What stores into these buffers, of which the archive says which are of a group.
     pub fn new(
         shared: &'a Shared<S, J, L>,
@@ -52,6 +54,7 @@ impl<'a, S: BlockStore + Drop, J: Archive, L: Ledger, C: Clock, Q: Lends> Keeper
     ) -> Keeper<'a, S, J, L, C, Q>
         requires register { Q.lent register.now ≡ J.register }
         requires holds { J.holds ≡ has_buffer settings.now }
+        ensures slots { slots_of result ≡ ends_in shared.now }
     {
         Keeper {
             shared,

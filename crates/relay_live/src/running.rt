@@ -8,6 +8,7 @@ ghost use Rattle.live_seats.specs.Gathered.{AllTold, NoneElse, hands_of, kept_by
 ghost use Rattle.live_seats.specs.Started.{AllKept};
 ghost use Rattle.live_settle.specs.Desks.{posts_in};
 ghost use Rattle.relay_live.specs.Ends.{kept_of, peer_of, terms_at};
+ghost use Rattle.relay_live.specs.Making.{slots_of};
 ghost use Rattle.relay_live.specs.Sessions.{Accounted, HasLists};
 ghost use Rattle.relay_live.specs.declared.running.LiveError.TheVariants as errors;
 
@@ -15,7 +16,7 @@ use crate::end::End;
 use crate::keeper::Keeper;
 use crate::lending::Lends;
 use cyc_block::BlockStore;
-use live_fates::{Fate, doubles, strays};
+use live_fates::{Fate, KeptJob, doubles, strays};
 use live_seats::{Opened, Seats, SeatsError, close, open_all, serve_seats};
 use live_session::{Clock, Gate};
 use live_settle::Posts;
@@ -97,6 +98,21 @@ fn ends_of<'a, X: Drop, S: BlockStore + Drop, J: Archive, L: Ledger, C: Clock, G
     Ok(ends)
 }
 
+/// What each of the ends kept, in their order, from ends that are through.
+pub fn all_kept<'a, X: Drop, S: BlockStore + Drop, J: Archive, L: Ledger, C: Clock, G, Q: Lends>(
+    alloc: Global,
+    ends: Vec<End<'a, X, S, J, L, C, G, Q>>,
+) -> Result<Vec<Vec<KeptJob<J>>>, AllocError>
+    ensures { IfOk result (λ all. map (λ kept. kept.items) all.items
+        ≡ map kept_of ends.entry.items) }
+{
+    let mut all = Vec::with_capacity(alloc, ends.len())?;
+    for end in ends {
+        all.push_reserved(end.into_kept());
+    }
+    Ok(all)
+}
+
 /// The strays of what the ends answered and the writers told.
 fn strays_of<'a, X, S: BlockStore + Drop, J: Archive, L: Ledger, C: Clock, G, Q: Lends>(
     alloc: Global,
@@ -114,7 +130,8 @@ fn strays_of<'a, X, S: BlockStore + Drop, J: Archive, L: Ledger, C: Clock, G, Q:
 }
 
 /// Serves an end behind each door, one thread for each of them and for each group's writer, until
-/// every end has left and every writer has taken what was handed over to its group (docs/PROTOCOL.md, Threads 6).
+/// every end has left and every writer has taken what was handed over to its group
+/// (docs/PROTOCOL.md, Threads 6). There is a slot for each door, where its end is told.
 /// What each writer told of each end is what this end handed over to its group, each job once, in
 /// order, with what became of it; what each end keeps is what its sessions came to. The error is
 /// want of memory, before the threads start or where what came back is counted, or that a thread
@@ -145,6 +162,7 @@ where
     <X as Connections<R>>::Writer: Drop + Send,
     requires parts { (all.parts ≡ groups) × (all.amount ≡ 0) × (L.parts ≡ groups) × (0 < groups) }
     requires few { length doors.items < 2 ^ 62 }
+    requires slots { slots_of keeper.now ≡ length doors.items }
 
     // The seats that come back are all: one for each door, with a list for each group, and one for
     // each group.
