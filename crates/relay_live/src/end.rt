@@ -86,15 +86,6 @@ impl<'a, X, S: BlockStore + Drop, J: Archive, L: Ledger, C: Clock, G, Q: Lends> 
         self.kept.as_slice()
     }
 
-    /// The same, of an end that is through.
-    pub fn into_kept(self) -> Vec<KeptJob<J>>
-    where
-        X: Drop,
-        ensures { result.items ≡ kept_of self.entry }
-    {
-        self.kept
-    }
-
     /// Serves a connection as the session of this number.
     fn serve_one<H: Hears + Drop, W: Says + Drop, R: Wait>(
         &mut self,

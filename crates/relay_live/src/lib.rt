@@ -24,6 +24,6 @@ mod slot;
 pub use end::End;
 pub use keeper::Keeper;
 pub use lending::Lends;
-pub use running::{Counted, Door, LiveError, all_kept, serve_all};
+pub use running::{Counted, Door, LiveError, serve_all};
 pub use shared::Shared;
 pub use slot::{Answer, Slot};

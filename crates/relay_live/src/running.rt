@@ -7,6 +7,7 @@ ghost use Rattle.live_fates.specs.Strays.{strays_in};
 ghost use Rattle.live_seats.specs.Gathered.{AllTold, NoneElse, hands_of, kept_by_all};
 ghost use Rattle.live_seats.specs.Started.{AllKept};
 ghost use Rattle.live_settle.specs.Desks.{posts_in};
+ghost use Rattle.relay_live.specs.Counts.{accepted_in, posted_in, strays_of, doubles_of};
 ghost use Rattle.relay_live.specs.Ends.{kept_of, peer_of, terms_at};
 ghost use Rattle.relay_live.specs.Making.{slots_of};
 ghost use Rattle.relay_live.specs.Sessions.{Accounted, HasLists};
@@ -16,7 +17,7 @@ use crate::end::End;
 use crate::keeper::Keeper;
 use crate::lending::Lends;
 use cyc_block::BlockStore;
-use live_fates::{Fate, KeptJob, doubles, strays};
+use live_fates::{Fate, doubles, strays};
 use live_seats::{Opened, Seats, SeatsError, close, open_all, serve_seats};
 use live_session::{Clock, Gate};
 use live_settle::Posts;
@@ -46,18 +47,46 @@ impl From<AllocError> for LiveError {
     }
 }
 
-/// What was counted of a run once all its threads have ended.
+/// What was counted of a run once all its threads have ended. Only `serve_all` makes one.
 #[derive(Clone, Copy, Debug, PartialEq, Eq)]
 pub struct Counted {
+    accepted: u64,
+    posted: Posts,
+    strays: u128,
+    doubles: u128,
+}
+
+impl Counted {
+    ghost use Rattle.relay_live.specs.Counts.{accepted_in, posted_in, strays_of, doubles_of};
+
     /// How many jobs the writers kept.
-    pub accepted: u64,
+    pub fn accepted(&self) -> u64
+        ensures { result ≡ accepted_in self.now }
+    {
+        self.accepted
+    }
+
     /// How many posts the feed desk made.
-    pub posted: Posts,
+    pub fn posted(&self) -> Posts
+        ensures { result ≡ posted_in self.now }
+    {
+        self.posted
+    }
+
     /// How many kept answers have another register number than the writer's receipt for the same
     /// job, and how many jobs are mixed up.
-    pub strays: u128,
+    pub fn strays(&self) -> u128
+        ensures { result ≡ strays_of self.now }
+    {
+        self.strays
+    }
+
     /// How many kept jobs there are less their different message-ids.
-    pub doubles: u128,
+    pub fn doubles(&self) -> u128
+        ensures { result ≡ doubles_of self.now }
+    {
+        self.doubles
+    }
 }
 
 /// Where a peer's connections come from: the peer's number in the configuration, and its
@@ -96,21 +125,6 @@ fn ends_of<'a, X: Drop, S: BlockStore + Drop, J: Archive, L: Ledger, C: Clock, G
         ));
     }
     Ok(ends)
-}
-
-/// What each of the ends kept, in their order, from ends that are through.
-pub fn all_kept<'a, X: Drop, S: BlockStore + Drop, J: Archive, L: Ledger, C: Clock, G, Q: Lends>(
-    alloc: Global,
-    ends: Vec<End<'a, X, S, J, L, C, G, Q>>,
-) -> Result<Vec<Vec<KeptJob<J>>>, AllocError>
-    ensures { IfOk result (λ all. map (λ kept. kept.items) all.items
-        ≡ map kept_of ends.entry.items) }
-{
-    let mut all = Vec::with_capacity(alloc, ends.len())?;
-    for end in ends {
-        all.push_reserved(end.into_kept());
-    }
-    Ok(all)
 }
 
 /// The strays of what the ends answered and the writers told.
@@ -187,13 +201,13 @@ where
         Accounted J.trusted (terms_at end) number (peer_of end) count jobs (kept_of end))
         (hands_of ran.0.lefts.items) ran.0.services.items) }
 
-    ensures accepted { IfOk result (λ ran. ran.1.accepted
+    ensures accepted { IfOk result (λ ran. accepted_in ran.1
         ≡ kept_by_all is_kept (map (λ w. w.done.items) ran.0.writers.items)) }
-    ensures posted { IfOk result (λ ran. posts_in ran.1.posted ≡ ran.1.accepted) }
-    ensures strays { IfOk result (λ ran. ran.1.strays ≡ strays_in
+    ensures posted { IfOk result (λ ran. posts_in (posted_in ran.1) ≡ accepted_in ran.1) }
+    ensures strays { IfOk result (λ ran. strays_of ran.1 ≡ strays_in
         (map kept_of ran.0.services.items)
         (map (λ w. w.done.items) ran.0.writers.items)) }
-    ensures doubles { IfOk result (λ ran. ran.1.doubles
+    ensures doubles { IfOk result (λ ran. doubles_of ran.1
         ≡ doubles_in (map (λ w. w.done.items) ran.0.writers.items)) }
 {
     let ends = ends_of(alloc, hasher, keeper, config, gate, doors)?;

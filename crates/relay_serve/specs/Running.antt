@@ -13,7 +13,10 @@ use Rattle.live_seats.specs.Gathered.{AllTold, NoneElse, kept_by_all}
 use Rattle.live_seats.specs.declared.outcome.Done.{Done}
 use Rattle.live_store.specs.declared.record.Archive.{Ghosts}
 use Rattle.relay_conf.specs.declared.settings.Config.{Config}
-use Rattle.relay_live.specs.Sessions.{Accounted}
+use Rattle.live_settle.specs.Desks.{posts_in}
+use Rattle.relay_live.specs.Counts.{accepted_in, posted_in, strays_of, doubles_of}
+use Rattle.relay_live.specs.Sessions.{Accounted, HasLists}
+use Rattle.relay_live.specs.declared.running.Counted.{Counted}
 use Rattle.relay_live.specs.declared.running.LiveError.{LiveError}
 use Rattle.relay_live.specs.declared.running.LiveError.TheVariants as errors
 use Rattle.relay_report.specs.declared.totals.Totals.{Totals}
@@ -47,20 +50,31 @@ abbrev pub HasServed : {J : Type 0} {g : Ghosts J} → Config → (end peer : �
 HasServed {J} {g} config end peer jobs kept =
     (count : ℕ) × Accounted g.trusted (terms_of config) end peer count jobs kept
 
--- The totals are of a run of these ends, each by the number of its peer: `done` is what the writer
--- of each group told, `hands` what each end handed over to each group, `kept` what each end
--- answered kept. Each job was told once, in order, with an outcome that fits it, and no other job
--- was.
-pub record Ran {J : Type 0} (g : Ghosts J) (config : Config) (peers : List ℕ) (totals : Totals)
+-- What was counted is of a run of these ends, each by the number of its peer: `done` is what the
+-- writer of each group told, `hands` what each end handed over to each group, `kept` what each end
+-- answered kept. None of them is missing; each job was told once, in order, with an outcome that
+-- fits it, and no other job was.
+pub record Ran {J : Type 0} (g : Ghosts J) (config : Config) (peers : List ℕ) (counted : Counted)
     : Type 0 where
   pub done : List (List (Done (Fate J g)))
   pub hands : List (List (List Handed))
   pub kept : List (List (KeptJob J g))
+  pub writers : length done ≡ lane_count config
+  pub ends : (length hands ≡ length peers) × (length kept ≡ length peers)
+  pub lists : HasLists (lane_count config) hands
   pub told : AllTold (FitsJob g.holds) done hands
   pub none : NoneElse (length peers) done
   pub served : (end peer : ℕ) (jobs : List (List Handed)) (answers : List (KeptJob J g))
       → slice_get peers end ≡ Some peer → slice_get hands end ≡ Some jobs
       → slice_get kept end ≡ Some answers → HasServed config end peer jobs answers
-  pub accepted : totals.accepted ≡ kept_by_all is_kept done
-  pub strays : totals.strays ≡ strays_in kept done
-  pub doubles : totals.doubles ≡ doubles_in done
+  pub accepted : accepted_in counted ≡ kept_by_all is_kept done
+  pub posted : posts_in (posted_in counted) ≡ accepted_in counted
+  pub strays : strays_of counted ≡ strays_in kept done
+  pub doubles : doubles_of counted ≡ doubles_in done
+
+-- the numbers of the totals are those that were counted
+pub record CountsOf (totals : Totals) (counted : Counted) : Type 0 where
+  pub accepted : totals.accepted ≡ accepted_in counted
+  pub posted : totals.posted ≡ posts_in (posted_in counted)
+  pub strays : totals.strays ≡ strays_of counted
+  pub doubles : totals.doubles ≡ doubles_of counted

@@ -3,6 +3,7 @@ ghost use Rattle.std.specs.Prelude.{◌≡◌, ◌+◌, ◌≤◌, ◌<◌, IfOk
 ghost use Rattle.std.specs.Option.{ForSome};
 ghost use Rattle.live_settle.specs.Desks.{posts_in};
 ghost use Rattle.relay_core.specs.Figures.{feed_figures_view, name_of};
+ghost use Rattle.relay_live.specs.Counts.{accepted_in, posted_in, strays_of, doubles_of};
 ghost use Rattle.relay_live.specs.Making.{buffers_in};
 ghost use Rattle.relay_serve.specs.Figures.{HasNames, figures_by};
 
@@ -29,10 +30,10 @@ pub(crate) fn totals_of<S: BlockStore + Drop, J: Archive, L: Ledger, R: Wait>(
 ) -> Result<Totals, AllocError>
     requires { buffers_in shared.now ≡ length config.now.buffers.buffers.items }
     ensures names { IfOk result (λ totals. HasNames config.now totals.figures) }
-    ensures accepted { IfOk result (λ totals. totals.accepted ≡ counted.now.accepted) }
-    ensures posted { IfOk result (λ totals. totals.posted ≡ posts_in counted.now.posted) }
-    ensures strays { IfOk result (λ totals. totals.strays ≡ counted.now.strays) }
-    ensures doubles { IfOk result (λ totals. totals.doubles ≡ counted.now.doubles) }
+    ensures accepted { IfOk result (λ totals. totals.accepted ≡ accepted_in counted.now) }
+    ensures posted { IfOk result (λ totals. totals.posted ≡ posts_in (posted_in counted.now)) }
+    ensures strays { IfOk result (λ totals. totals.strays ≡ strays_of counted.now) }
+    ensures doubles { IfOk result (λ totals. totals.doubles ≡ doubles_of counted.now) }
 {
     let buffers = buffers_of(rt, alloc, config, shared)?;
     let feeds = feeds_of(rt, alloc, config, shared)?;
@@ -42,10 +43,10 @@ pub(crate) fn totals_of<S: BlockStore + Drop, J: Archive, L: Ledger, R: Wait>(
             feeds,
             ids: shared.id_counts(rt),
         },
-        accepted: counted.accepted,
-        posted: counted.posted.count(),
-        strays: counted.strays,
-        doubles: counted.doubles,
+        accepted: counted.accepted(),
+        posted: counted.posted().count(),
+        strays: counted.strays(),
+        doubles: counted.doubles(),
     })
 }
 

@@ -1,7 +1,7 @@
 //! A relay runs in threads, over stores and doors that are given.
 ghost use Rattle.std.specs.Prelude.{◌≡◌, ◌<◌, ◌^◌, true, All, IfErr, IfOk, length, map};
 ghost use Rattle.relay_live.specs.Holding.{has_buffer};
-ghost use Rattle.relay_serve.specs.Running.{IsRunFault, Ran, ended_as, lane_count};
+ghost use Rattle.relay_serve.specs.Running.{CountsOf, IsRunFault, Ran, ended_as, lane_count};
 ghost use Rattle.relay_serve.specs.Running.{unbegun_as};
 ghost use Rattle.serve_terms.specs.Serve.{AreOf};
 
@@ -11,7 +11,7 @@ use live_session::{Clock, Gate};
 use live_store::{Archive, Register};
 use live_wire::Connections;
 use relay_conf::Config;
-use relay_live::{Door, Keeper, LiveError, Shared, serve_all};
+use relay_live::{Counted, Door, Keeper, LiveError, Shared, serve_all};
 use relay_report::Totals;
 use serve_terms::ServeError;
 use std::alloc::Global;
@@ -24,8 +24,9 @@ use std::thread::Threads;
 
 /// Runs a relay of this configuration over these stores, the i-th for buffer i: an end behind each
 /// door, each end and each group's writer in a thread of its own, until all have ended. Each buffer
-/// is formatted anew. The totals are those of the run. The error is want of memory, of random
-/// numbers, or of a thread; what was served before stands, and nothing is counted.
+/// is formatted anew. What comes back is what the run itself counted, and the totals, with the same
+/// numbers. The error is want of memory, of random numbers, or of a thread; what was served
+/// before stands, and nothing is counted.
 pub fn run_relay<
     X: Connections<R> + Drop + Send,
     S: BlockStore + Drop + Send,
@@ -44,7 +45,7 @@ pub fn run_relay<
     doors: Vec<Door<X>>,
     clock: &C,
     gate: &G,
-) -> Result<Totals, ServeError>
+) -> Result<(Totals, Counted), ServeError>
 where
     <X as Connections<R>>::Reader: Drop + Send,
     <X as Connections<R>>::Writer: Drop + Send,
@@ -56,9 +57,10 @@ where
         ≡ map (λ buffer. buffer.blocks) config.now.buffers.buffers.items }
     requires honest { J.trusted ≡ true → All S.honest stores.items }
     requires few { length doors.items < 2 ^ 62 }
-    ensures totals { IfOk result (AreOf config.now) }
-    ensures ran { IfOk result (Ran ⟦<J as Archive>⟧ config.now
-        (map (λ door. door.peer) doors.items)) }
+    ensures totals { IfOk result (λ run. AreOf config.now run.0) }
+    ensures counted { IfOk result (λ run. CountsOf run.0 run.1) }
+    ensures ran { IfOk result (λ run. Ran ⟦<J as Archive>⟧ config.now
+        (map (λ door. door.peer) doors.items) run.1) }
     ensures fault { IfErr result IsRunFault }
 {
     let groups = lanes_of(config);
@@ -73,7 +75,10 @@ where
     };
     let keeper = Keeper::new(&shared, register, &config.buffers, clock);
     match serve_all(rt, alloc, hasher, &keeper, config, gate, groups, doors, all) {
-        Ok((_seats, counted)) => Ok(totals_of(rt, alloc, config, &shared, &counted)?),
+        Ok((_seats, counted)) => {
+            let totals = totals_of(rt, alloc, config, &shared, &counted)?;
+            Ok((totals, counted))
+        }
         Err(error) => Err(ended(error)),
     }
 }

@@ -75,7 +75,10 @@ where
     let register: Register = boxcar::Vec::new(alloc)?;
     let clock = MachineClock::new(rt);
     let blank = Blank::new(lanes_of(config) as u64);
-    run_relay::<Port, FileBlocks, Brand, Brand, MachineClock<'_, R>, OpenGate, R>(
+    match run_relay::<Port, FileBlocks, Brand, Brand, MachineClock<'_, R>, OpenGate, R>(
         rt, alloc, config, &register, blank, stores, doors, &clock, &OpenGate,
-    )
+    ) {
+        Ok((totals, _counted)) => Ok(totals),
+        Err(error) => Err(error),
+    }
 }

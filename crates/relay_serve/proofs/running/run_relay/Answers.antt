@@ -1,10 +1,11 @@
-use Rattle.std.proofs.Common.{◌∙◌, ℕ, ap, map, subst, sym}
+use Rattle.std.proofs.Common.{◌∙◌, ℕ, ap, length, map, subst, sym}
 use Rattle.std.specs.Prelude.{slice_get}
 use Rattle.std.proofs.lemmas.List.{length-map}
 use Rattle.article_verdict.specs.Config.{terms_of}
 use Rattle.live_seats.specs.Gathered.{NoneElse, hands_of}
+use Rattle.live_seats.specs.Seats.{left_by}
 use Rattle.relay_live.specs.Ends.{kept_of, peer_of, terms_at}
-use Rattle.relay_live.specs.Sessions.{Accounted}
+use Rattle.relay_live.specs.Sessions.{Accounted, HasLists}
 use Rattle.relay_model.specs.Terms.{Terms}
 use Rattle.relay_serve.proofs.Kept.{made_of, made_there, one_there, same_there}
 use Rattle.relay_serve.proofs.running.run_relay.Goals as goal
@@ -13,16 +14,22 @@ use Rattle.relay_serve.proofs.running.run_relay.Goals as goal
 pub returns-in-Ok-serve_all-clause-ran : goal.returns-in-Ok-serve_all-clause-ran
 returns-in-Ok-serve_all-clause-ran g c =
     let ran = c.in-Ok-serve_all.ensures in
-    let counted = c.in_ok-totals_of-in-Ok-serve_all.ensures in
     let seats = c.in-Ok-serve_all._seats in
     let ends = seats.services.items in
     let config = c.args.config.now in
+    let doors = length-map c.args.doors.items (λ door. door.peer) in
     record {
       done = map (λ w. w.done.items) seats.writers.items;
       hands = hands_of seats.lefts.items;
       kept = map kept_of ends;
+      writers = length-map seats.writers.items (λ w. w.done.items) ∙ ran.writers ∙ c.lanes_of-groups.ensures.count;
+      ends = (
+        length-map seats.lefts.items left_by ∙ ran.lefts ∙ sym doors,
+        length-map ends kept_of ∙ sym (length-map ends peer_of) ∙ ap length ran.peers,
+      );
+      lists = subst (λ n. HasLists n (hands_of seats.lefts.items)) c.lanes_of-groups.ensures.count ran.lists;
       told = ran.jobs;
-      none = subst (λ (n : ℕ). NoneElse n (map (λ w. w.done.items) seats.writers.items)) (sym (length-map c.args.doors.items (λ door. door.peer))) ran.none;
+      none = subst (λ (n : ℕ). NoneElse n (map (λ w. w.done.items) seats.writers.items)) (sym doors) ran.none;
       served = λ end peer jobs answers at_peer handed kept.
           let at = made_of kept_of ends end answers kept in
           let has = ran.kept end jobs at.0 handed at.1 in
@@ -33,7 +40,8 @@ returns-in-Ok-serve_all-clause-ran g c =
                 (λ i. (its_terms i, its_peer i))
                 (subst (λ list. Accounted g.J.Archive.trusted (terms_at at.0) end (peer_of at.0) has.0 jobs list) at.2 has.1),
           );
-      accepted = counted.accepted ∙ ran.accepted;
-      strays = counted.strays ∙ ran.strays;
-      doubles = counted.doubles ∙ ran.doubles;
+      accepted = ran.accepted;
+      posted = ran.posted;
+      strays = ran.strays;
+      doubles = ran.doubles;
     }
