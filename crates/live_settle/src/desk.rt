@@ -1,14 +1,17 @@
-//! The feed desk with the count of its posts.
+//! The feed desk with the count of its posts, and the one step that posts.
 ghost use Rattle.std.specs.Prelude.{◌≡◌};
 ghost use Rattle.live_settle.specs.Posting.{KeepsAtMost};
 
+mod both;
+
+pub use both::settle_both;
 use feed_queue::{Counts, FeedDesk, Taken};
 use id_history::Settled;
 use std::alloc::{AllocError, Global};
 use std::sync::ledger::{Book, Ledger, Share};
 
 /// The most posts that a desk makes.
-pub(crate) const MOST_POSTS: u64 = 1 << 62;
+const MOST_POSTS: u64 = 1 << 62;
 
 /// How many posts a desk had made, which a desk alone says.
 #[derive(Clone, Copy, Debug, PartialEq, Eq)]
@@ -30,8 +33,8 @@ impl Posts {
 /// The feed desk, and how many posts it made, which a ledger counts with it.
 #[derive(Drop)]
 pub struct CountedDesk<L: Ledger> {
-    pub(crate) desk: FeedDesk,
-    pub(crate) posts: u64,
+    desk: FeedDesk,
+    posts: u64,
     book: Book<L>,
     ghost counted: { posts ≡ book.total },
     ghost kept: { ∥ KeepsAtMost desk posts ∥₁ },
@@ -69,8 +72,8 @@ impl<L: Ledger> CountedDesk<L> {
     }
 
     /// Each permitted feed gains the token of an article that was settled, which counts in the
-    /// share. It takes no memory.
-    pub(crate) fn post(&mut self, share: &mut Share<L>, permitted: &[u16], settled: Settled)
+    /// share. It takes no memory. Only `settle_both` can call it, who holds the article's shard too.
+    fn post(&mut self, share: &mut Share<L>, permitted: &[u16], settled: Settled)
         requires room { self.old.posts < 2 ^ 62 }
         requires share { 0 < share.old.parts }
         ensures gained { (sizes : List ℕ) (feeds : ℕ → Feed)

@@ -4,7 +4,7 @@ use Rattle.cyc_token.specs.declared.Token.{Token}
 use Rattle.feed_queue.specs.Feeds.{KeepsFeeds}
 use Rattle.relay_model.specs.Writers.{gaining}
 use Rattle.live_settle.specs.Desks.{desk_of}
-use Rattle.live_settle.proofs.settling.settle_both.Goals as goal
+use Rattle.live_settle.proofs.desk.both.settle_both.Goals as goal
 
 -- what was settled has the token
 pub returns-in-Some-clause-gained : goal.returns-in-Some-clause-gained
