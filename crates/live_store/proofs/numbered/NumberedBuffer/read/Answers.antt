@@ -43,6 +43,13 @@ returns-in-Some-Some-clause-shown g c = read_shown g.J.Archive.register g.J.Arch
     c.in-Some-Some.ensures.lookup.0 c.in-Some-Some.ensures.lookup.1 c.in-Some-Some.field-0-is
     c.again.ensures)
 
+pub returns-in-Some-Some-clause-number : goal.returns-in-Some-Some-clause-number
+returns-in-Some-Some-clause-number g c =
+    number_found c.args.self.now.numbers.items c.deref.result.now c.args.token.now.first
+    c.in-Some-Some.field-0.now c.in-Some-Some.shown c.again.result c.deref.ensures.value
+    c.in-Some-Some.ensures.lookup.0 c.in-Some-Some.ensures.lookup.1 c.in-Some-Some.field-0-is
+    c.again.ensures
+
 pub returns-in-Ok-Gone-clause-gone : goal.returns-in-Ok-Gone-clause-gone
 returns-in-Ok-Gone-clause-gone g c = read_gone g.J.Archive.register g.J.Archive.trusted
     c.args.self.now.buffer c.read_block.new.self c.args.self.now.beside
