@@ -1,8 +1,7 @@
 use Rattle.std.proofs.Common.{sym, ◌∙◌, subst}
-use Rattle.std.specs.Prelude.{IfSome, IsSomeAnd}
+use Rattle.std.specs.Prelude.{IfSome}
 use Rattle.boxcar.specs.Table.{Shows}
 use Rattle.std.proofs.Math.Logic.{∥∥₁_map}
-use Rattle.live_store.specs.Steps.{IsOfWrite}
 use Rattle.live_store.specs.Tied.{Tied}
 use Rattle.live_store.proofs.TiedLemmas.{tied_abandon}
 use Rattle.live_store.proofs.OpenLemmas.{owns_of, shows_of}
@@ -38,7 +37,3 @@ returns-clause-abandoned g c = c.abandon.ensures.abandoned
     (subst (λ b. ∥ Tied g.J.Archive.trusted g.J.Archive.register c.args.self.now.buffer b
     c.args.self.now.numbers.items ∥₁) (sym c.take.ensures.value ∙ c.in-Some-take.is)
     c.args.self.now.tied))
-
-pub returns-clause-own : goal.returns-clause-own
-returns-clause-own g c = subst (λ o. IsSomeAnd o (λ b. IsOfWrite b c.args.shown.now))
-    (sym c.in-Some.is) (c.is_named.ensures.0 c.if-not-is_named.false)

@@ -1,8 +1,6 @@
-use Rattle.std.proofs.Common.{refl, sym, ◌∙◌, ap, subst, Some}
-use Rattle.std.specs.Prelude.{IsSomeAnd}
+use Rattle.std.proofs.Common.{sym, ◌∙◌, ap, subst, Some}
 use Rattle.std.proofs.Math.Logic.{∥∥₁_map, ∥∥₁_elim}
 use Rattle.cyc_token.specs.Token.{token_view}
-use Rattle.live_store.specs.Steps.{IsBegunAs}
 use Rattle.live_store.specs.Tied.{Tied}
 use Rattle.live_store.proofs.TiedLemmas.{tied_begin, tied_kept, none_beside}
 use Rattle.live_store.proofs.OpenLemmas.{begin_fault, begin_class}
@@ -49,12 +47,3 @@ returns-clause-class g c = begin_class g.J.Archive.register g.J.Archive.trusted
     c.args.length c.args.fresh (token_view c.token-token.result) c.args.self.now.tied
     (λ trusted h agrees. ap (λ t. Some (token_view t)) c.token-token.ensures
     ∙ c.in-Ok.ensures.token trusted h agrees)
-
-pub returns-clause-beside : goal.returns-clause-beside
-returns-clause-beside g c = subst (λ o. IsSomeAnd o (IsBegunAs c.token-token.result))
-    (sym c.replace.ensures.after) (record {
-      named = sym c.token-token.ensures;
-      unnumbered = refl;
-      none_written = refl;
-      unbroken = refl;
-    })

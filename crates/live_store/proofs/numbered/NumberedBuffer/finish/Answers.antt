@@ -1,5 +1,5 @@
 use Rattle.std.proofs.Common.{sym, ◌∙◌, ap, subst, arith, Some, None, set}
-use Rattle.std.specs.Prelude.{IfSome, IsSomeAnd}
+use Rattle.std.specs.Prelude.{IfSome}
 use Rattle.boxcar.specs.Table.{Shows, Where}
 use Rattle.cyc_token.specs.Token.{token_view}
 use Rattle.live_store.specs.declared.record.Record.{Record}
@@ -84,7 +84,3 @@ returns-clause-finished g c =
     (can_finish g.J.Archive.register g.J.Archive.trusted c.args.self.now.buffer field
     c.args.self.now.numbers.items tied c.args.shown.now can) in
     follows
-
-pub returns-clause-own : goal.returns-clause-own
-returns-clause-own g c = subst (λ o. IsSomeAnd o (λ b. CanFinishFor b c.args.shown.now))
-    (sym c.in-Some.is) (c.can_finish.ensures.0 c.if-not-can_finish.false)
