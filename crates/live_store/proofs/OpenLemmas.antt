@@ -46,7 +46,7 @@ owns_prop : (write : Open) (o : Option Progress) → IsProp (IsTheOpen write o)
 owns_prop write None = λ x y. absurd x
 owns_prop write (Some p) = hlevel props
 
-no_prop : IsProp ⊥
+pub no_prop : IsProp ⊥
 no_prop x y = absurd x
 
 token_by : (register : Shelves) (h : History) (b : Beside) (shown : Where Record)

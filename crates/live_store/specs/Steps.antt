@@ -121,6 +121,13 @@ IsBeginFault octets (errors.Worn fault) = (fault.kind ≡ kinds.Worn) × (fault.
 IsBeginFault octets errors.Busy = Unit {0}
 IsBeginFault octets (errors.Device fault) = ⊥
 
+-- what a reading is without its number, as the buffer answers it
+abbrev pub as_found : Result Reading Fault → Result Found BufError
+as_found (Ok (readings.Chunk n shown)) = Ok (found.Chunk n)
+as_found (Ok (readings.Gone front)) = Ok (found.Gone front)
+as_found (Ok readings.Unknown) = Ok found.Unknown
+as_found (Err fault) = Err (errors.Device fault)
+
 -- these octets are chunk k of the text of the record of this number, which has the token
 pub record IsChunkOf (register : Shelves) (token : Token) (k : ℕ) (octets : List ℕ)
     (shown : Where Record)

@@ -1,5 +1,5 @@
 //! The steps under a buffer's lock, each one call of the buffer.
-ghost use Rattle.std.specs.Prelude.{◌≡◌, ◌↔◌, IsTrue, None, Some, IfSome, length};
+ghost use Rattle.std.specs.Prelude.{◌≡◌, ◌↔◌, IsTrue, None, Some, IfSome, length, slice_index_or};
 ghost use Rattle.boxcar.specs.Table.{Shows};
 ghost use Rattle.live_store.specs.Tied.{text_in};
 ghost use Rattle.live_store.specs.Steps.{CanWriteFor, CanFinishFor, IsOfWrite, IsDevice};
@@ -20,7 +20,7 @@ impl<S: BlockStore, J: Archive> NumberedBuffer<S, J> {
     ghost use Rattle.cyc_token.specs.Token.{token_view};
     ghost use Rattle.cyc_buffer.specs.Agreement.{Agrees, Follows, register_of, store_of};
     ghost use Rattle.cyc_buffer.specs.Answers.{refusal, error_of};
-    ghost use Rattle.cyc_buffer.specs.Calls.{LeavesDevice};
+    ghost use Rattle.cyc_buffer.specs.Calls.{ReadsBlock};
     ghost use Rattle.cyc_buffer.specs.History.{History, with_begin, with_finish, without_write};
     ghost use Rattle.cyc_buffer.specs.History.{open_token};
     ghost use Rattle.live_store.specs.Tied.{text_in, token_in};
@@ -28,7 +28,7 @@ impl<S: BlockStore, J: Archive> NumberedBuffer<S, J> {
     ghost use Rattle.live_store.specs.Steps.{WritesOrMixed, CanWriteFor, IsNumberedAt};
     ghost use Rattle.live_store.specs.Steps.{CanFinishFor, IsOfWrite, IsReading, IsPassed};
     ghost use Rattle.live_store.specs.Steps.{IsReadFault, HasOctets, IsShown, IsBeginFault};
-    ghost use Rattle.live_store.specs.Steps.{IsWriteFault};
+    ghost use Rattle.live_store.specs.Steps.{IsWriteFault, as_found};
 
     /// Begins an article of a class and of so many octets, at least 1; `fresh` at the front of a
     /// cycle. What the front passes is gone from now on.
@@ -201,7 +201,7 @@ impl<S: BlockStore, J: Archive> NumberedBuffer<S, J> {
         Ok(())
     }
 
-    /// Reads block k of the article under a token.
+    /// Reads block k of the article under a token. With each chunk a number comes.
     pub fn read(
         &mut self,
         token: &Token,
@@ -218,23 +218,32 @@ impl<S: BlockStore, J: Archive> NumberedBuffer<S, J> {
         ensures gone { IfOk result (IsPassed (token_view token.now)) }
         // An error is the device's fault at a read of this article.
         ensures fault { IfErr result (IsReadFault (token_view token.now)) }
-        // The buffer agrees with the same histories, and keeps in memory what it kept.
-        ensures same { Follows (λ h. h) (buffer_of self.old) (buffer_of self.new) }
-        ensures register { register_of (buffer_of self.new) ≡ register_of (buffer_of self.old) }
+        // It is the buffer's own read: what is found, the slice, the buffer after and its device.
+        ensures reads { ReadsBlock (buffer_of self.old) token.now k chunk.old (as_found result)
+            chunk.new (buffer_of self.new) }
         ensures beside { beside_of self.new ≡ beside_of self.old }
         ensures numbers { numbers_of self.new ≡ numbers_of self.old }
-        ensures failed { OnErr result (S.failures (store_of (buffer_of self.old))
-            < S.failures (store_of (buffer_of self.new))) }
     {
         match self.buffer.read_block(token, k, chunk) {
-            Ok(Found::Chunk(octets)) => match self.numbers.get(token.first as usize) {
-                Some(Some(shown)) => Ok(Reading::Chunk(octets, shown.again())),
-                _ => Ok(Reading::Unknown),
+            Ok(Found::Chunk(octets)) => match number_at(&self.numbers, token.first) {
+                Some(shown) => Ok(Reading::Chunk(octets, shown)),
+                None => unreachable!(),
             },
             Ok(Found::Gone(front)) => Ok(Reading::Gone(front)),
             Ok(Found::Unknown) => Ok(Reading::Unknown),
             Err(error) => Err(device_fault(error)),
         }
+    }
+}
+
+/// The number that stands at a block.
+fn number_at(numbers: &Vec<Option<Shown>>, block: u32) -> Option<Shown>
+    ensures { result ≡ slice_index_or numbers.now.items block None }
+{
+    match numbers.get(block as usize) {
+        Some(Some(shown)) => Some(shown.again()),
+        Some(None) => None,
+        None => None,
     }
 }
 

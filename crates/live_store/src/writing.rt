@@ -19,8 +19,8 @@ use std::marker::PhantomData;
 use std::sync::{Mutex, Wait};
 
 /// Stores an article in any thread: the buffer begins it, the register gets its record, each block
-/// is written, and the buffer finishes it. Each step of the buffer takes the lock anew. Where memory
-/// is refused to the register, the same step is tried again.
+/// is written, and the buffer finishes it. Each step of the buffer takes the lock anew. Where
+/// memory is refused to the register, the same step is tried again.
 pub fn store<S: BlockStore, J: Archive, R: Wait>(
     rt: &R,
     buffer: &Mutex<NumberedBuffer<S, J>>,
