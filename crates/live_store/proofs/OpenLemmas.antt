@@ -32,7 +32,9 @@ use Rattle.live_store.specs.declared.beside.Beside.{Beside}
 use Rattle.live_store.specs.declared.record.Record.{Record}
 use Rattle.live_store.specs.Tied.{Tied, HasNumber, IsNamed, token_in, text_in}
 use Rattle.live_store.specs.Steps.{IsDevice, IsBeginFault, CanWriteFor, CanFinishFor}
-use Rattle.live_store.specs.Steps.{WritesRecord}
+use Rattle.live_store.specs.Steps.{WritesRecord, after_write}
+use Rattle.live_store.specs.declared.numbered.NumberedBuffer.{NumberedBuffer}
+use Rattle.live_store.specs.declared.record.Archive as archives
 use Rattle.live_store.proofs.TiedLemmas.{place_of_write, beside_of, named, named_again, tied_next}
 use Rattle.live_store.proofs.TiedLemmas.{tied_failed, tied_finish}
 
@@ -44,7 +46,7 @@ owns_prop : (write : Open) (o : Option Progress) → IsProp (IsTheOpen write o)
 owns_prop write None = λ x y. absurd x
 owns_prop write (Some p) = hlevel props
 
-no_prop : IsProp ⊥
+pub no_prop : IsProp ⊥
 no_prop x y = absurd x
 
 token_by : (register : Shelves) (h : History) (b : Beside) (shown : Where Record)
@@ -117,18 +119,6 @@ module _ {S : Type 0} {g : Ghosts S} (register : Shelves) (trusted : Bool) (buff
       }
 
   module _ (new : Buffer S g) (shown : Where Record) where
-    -- what is written of it is written for the record
-    pub writes_record : (r : Result Bool BufError) → CanWriteFor b shown
-        → WritesNext buffer b.write (text_in shown) r new → LeavesDevice buffer r new
-        → WritesRecord buffer shown (text_in shown) r new
-    writes_record r can writes device = record {
-      write = b.write;
-      named = named_token shown can.unbroken can.named;
-      can = can_write shown can;
-      writes = writes;
-      device = device;
-    }
-
     -- after one more block
     pub tied_written : (last : Bool) → CanWriteFor b shown → Shows register shown
         → WritesNext buffer b.write (text_in shown) (Ok last) new
@@ -157,6 +147,44 @@ module _ {S : Type 0} {g : Ghosts S} (register : Shelves) (trusted : Bool) (buff
         tied_finish register trusted buffer new b numbers shown t
         (named_again register t.history b shown b.shown can.begun whole.number can.named shows)
         (sym whole.written ∙ can.written) follows)
+
+module _ {S : Type 0} {s : Ghosts S} {J : Type 0} {j : archives.Ghosts J}
+    (old new : NumberedBuffer S J s j) (b : Beside) (stood : old.beside ≡ Some b)
+    (shown : Where Record) (text : List ℕ) (same : text ≡ text_in shown)
+    (own : CanWriteFor b shown) where
+  -- what is written of an open write is written for the record
+  pub writes_record : (r : Result Bool BufError)
+      → (CanWrite old.buffer b.write text → WritesNext old.buffer b.write text r new.buffer)
+      → LeavesDevice old.buffer r new.buffer → new.beside ≡ Some (after_write shown r b)
+      → new.numbers.items ≡ old.numbers.items → WritesRecord old shown text r new
+  writes_record r writes device stands numbers =
+      let tied = subst (λ o. ∥ Tied j.trusted j.register old.buffer o old.numbers.items ∥₁) stood
+      old.tied in
+      let can = subst (λ x. CanWrite old.buffer b.write x) (sym same)
+      (can_write j.register j.trusted old.buffer b old.numbers.items tied shown own) in
+      record {
+        beside = b;
+        stood = stood;
+        own = own;
+        named = named_token j.register j.trusted old.buffer b old.numbers.items tied shown
+            own.unbroken own.named;
+        can = can;
+        writes = writes can;
+        device = device;
+        stands = stands;
+        numbers = numbers;
+      }
+
+  -- or the device fails at it
+  pub writes_failed : (e : BufError) (f : Fault) → e ≡ errors.Device f
+      → (CanWrite old.buffer b.write text → WritesNext old.buffer b.write text (Err e) new.buffer)
+      → LeavesDevice {X = Bool} old.buffer (Err e) new.buffer
+      → new.beside ≡ Some (beside_of b.write shown b.written true)
+      → new.numbers.items ≡ old.numbers.items
+      → WritesRecord old shown text (Err (errors.Device f)) new
+  writes_failed e f is writes device stands numbers =
+      subst (λ (x : BufError). WritesRecord old shown text (Err x) new) is
+      (writes_record (Err e) writes device stands numbers)
 
 pub same_device : {f h : Fault} → errors.Device f ≡ errors.Device h → f ≡ h
 same_device e = cc

@@ -2,12 +2,11 @@
 use Rattle.std.proofs.Common.{◌≡◌, ◌∙◌, ℕ, ◌+◌, ◌<◌, ◌≤◌, inl, inr, refl, sym, ap, subst, arith}
 use Rattle.std.proofs.Common.{Bool, true, false, not, cond, nat_lt, nat_le, ◌==◌, ◌||◌, List}
 use Rattle.std.proofs.Common.{length, take}
-use Rattle.std.proofs.Common.{get_or, Option, None, Some, is_some, Ok, Err}
+use Rattle.std.proofs.Common.{Option, None, Some, is_some, Ok, Err}
 use Rattle.std.proofs.Math.Logic.{∥∥₁_elim}
 use Rattle.std.proofs.Props.{props}
 use Rattle.std.specs.Coded.{le_prop}
 use Rattle.std.proofs.lemmas.Bool.{or_parts, eqb-true, ltb-true, ltb-false, leb-false}
-use Rattle.std.proofs.lemmas.List.{get_or_default}
 use Rattle.boxcar.specs.Table.{Shelves, Where, Shows}
 use Rattle.news_terms.specs.BlockImage.{chunk}
 use Rattle.news_terms.specs.Places as places
@@ -21,7 +20,7 @@ use Rattle.cyc_buffer.specs.Answers.{or_by_text, answer, front_view, IsOther, Is
 use Rattle.cyc_buffer.specs.Answers.{IsDeviceFault}
 use Rattle.cyc_buffer.specs.Answers as answers
 use Rattle.cyc_buffer.specs.Calls.{ReadsBlock}
-use Rattle.cyc_buffer.specs.History.{History, front_of, text_under}
+use Rattle.cyc_buffer.specs.History.{History, Article, front_of, finished_at, text_under}
 use Rattle.cyc_buffer.specs.declared.answers.BufError.{BufError}
 use Rattle.cyc_buffer.specs.declared.answers.BufError.TheVariants as errors
 use Rattle.cyc_buffer.specs.declared.answers.Fault.{Fault}
@@ -36,7 +35,7 @@ use Rattle.live_store.specs.declared.beside.Beside.{Beside}
 use Rattle.live_store.specs.declared.record.Record.{Record}
 use Rattle.live_store.specs.Tied.{Tied, HasRecord, number_at, token_in, text_in}
 use Rattle.live_store.specs.Steps.{IsChunkOf, IsGoneBy, IsReadFault}
-use Rattle.live_store.proofs.OpenLemmas.{same_device, kind_prop}
+use Rattle.live_store.proofs.OpenLemmas.{same_device, kind_prop, no_prop}
 
 -- what is known where a chunk is shown
 record IsShownChunk (h : History) (token : Token) (k n : ℕ) (slice : List ℕ) : Type 0 where
@@ -57,16 +56,6 @@ chunk_by h token k n slice (Some Unknown) u is_o is_u shows = absurd shows
 chunk_by h token k n slice None None is_o is_u shows = absurd shows
 chunk_by h token k n slice None (Some text) is_o is_u shows =
     record { text = text; under = is_u; undecided = is_o; same = shows.1 }
-
--- what a look at the numbers finds is the number at the block
-pub number_found : (numbers found : List (Option (Where Record))) (i : ℕ)
-    (x : Option (Where Record)) (v w : Where Record)
-    → found ≡ numbers → true ≡ nat_lt i (length found) → x ≡ get_or found i x → x ≡ Some v → w ≡ v
-    → number_at numbers i ≡ Some w
-number_found numbers found i x v w same within is some again =
-    ap (λ l. get_or l i None) (sym same)
-    ∙ (get_or_default found i None x (ltb-true i (length found) (sym within))
-    ∙ sym is ∙ some ∙ ap Some (sym again))
 
 same_gone : {f p : Front} → Some (Gone f) ≡ Some (Gone p) → f ≡ p
 same_gone e = cc
@@ -208,6 +197,46 @@ module _ {S : Type 0} {g : Ghosts S} (register : Shelves) (trusted : Bool)
         inside = parts.3;
         chunk = parts.4;
       }
+
+  -- no chunk is shown where no number stands at the article's first block
+  unnumbered : (n : ℕ) → (t : Tied trusted register old b numbers)
+      → answers.Shows (found.Chunk n) after (answer t.history (token_view token) k)
+      → number_at numbers token.first ≡ None → ⊥
+  unnumbered n t shows none =
+      let h = t.history in
+      let c = chunk_by h (token_view token) k n after
+      (by_numbers h.buffer (front_of h) (token_view token) k) (text_under h (token_view token))
+      refl refl shows in
+      let u = under h (token_view token) c.text c.under in
+      let d = undecided h.buffer (front_of h) (token_view token) k c.undecided in
+      subst (HasRecord register h.buffer token.cycle token.first u.article) none
+      (t.numbered token.cycle token.first u.article u.finished
+      (record { begun = d.begun; here = d.live }))
+
+  unnumbered_by : (n : ℕ) → (t : Tied trusted register old b numbers) → (o : Option Answer)
+      (finished : Option Article)
+      → by_numbers t.history.buffer (front_of t.history) (token_view token) k ≡ o
+      → finished_at t.history.buffer t.history.begins token.cycle token.first ≡ finished
+      → (IsUnread t.history (token_view token) k
+      → answers.Shows (found.Chunk n) after (answer t.history (token_view token) k))
+      → number_at numbers token.first ≡ None → ⊥
+  unnumbered_by n t (Some a) finished is_o is shows none =
+      unnumbered n t (shows (inl (ap is_some is_o))) none
+  unnumbered_by n t None None is_o is shows none = unnumbered n t (shows (inr (inl is))) none
+  unnumbered_by n t None (Some article) is_o is shows none =
+      let h = t.history in
+      let d = undecided h.buffer (front_of h) (token_view token) k is_o in
+      subst (HasRecord register h.buffer token.cycle token.first article) none
+      (t.numbered token.cycle token.first article is
+      (record { begun = d.begun; here = d.live }))
+
+  -- where a chunk is read, over any store, a number stands at the article's first block
+  pub read_numbered : (n : ℕ) → ReadsBlock old token k before (Ok (found.Chunk n)) after new
+      → number_at numbers token.first ≡ None → ⊥
+  read_numbered n reads none = ∥∥₁_elim tied no_prop (λ t. unnumbered_by n t
+      (by_numbers t.history.buffer (front_of t.history) (token_view token) k)
+      (finished_at t.history.buffer t.history.begins token.cycle token.first) refl refl
+      (λ p. reads.unread trusted t.history t.agrees p) none)
 
   -- its number is the register's
   pub read_shown : (w : Where Record) → number_at numbers token.first ≡ Some w → Shows register w

@@ -93,7 +93,7 @@ module _ {S : Type 0} {g : Ghosts S} (register : Shelves) (trusted : Bool) where
       first_cycle = first_cycle;
     });
     agrees = agrees trusted honest;
-    open_write = tt;
+    open_write = refl;
     numbered = λ cycle first article finished live. absurd (none_is_none finished);
     shown = λ block shown is. absurd (no_number (length (g.blocks store)) block shown
         (ap (λ l. number_at l block) (sym none) ∙ is));
@@ -104,7 +104,7 @@ module _ {S : Type 0} {g : Ghosts S} (register : Shelves) (trusted : Bool) where
     -- where memory is the same, so is what stands beside it
     beside_same : (h : History) → register_of new ≡ register_of old → (b : Option Beside)
         → IsBeside register old h b → IsBeside register new h b
-    beside_same h same None is = tt
+    beside_same h same None is = is
     beside_same h same (Some b) is = record {
       owns = subst (λ (r : Register). IsTheOpen b.write r.progress) (sym same) is.owns;
       shown = is.shown;
@@ -209,7 +209,7 @@ module _ {S : Type 0} {g : Ghosts S} (register : Shelves) (trusted : Bool) where
     tied_abandon b t follows = record {
       history = without_write t.history;
       agrees = follows trusted t.history t.agrees;
-      open_write = tt;
+      open_write = refl;
       numbered = t.numbered;
       shown = t.shown;
       places = t.places;
@@ -243,7 +243,7 @@ module _ {S : Type 0} {g : Ghosts S} (register : Shelves) (trusted : Bool) where
   tied_finish old new b numbers shown t number all follows = record {
     history = with_finish t.history;
     agrees = follows trusted t.history t.agrees;
-    open_write = tt;
+    open_write = refl;
     numbered = numbered_finish register t.history b.write shown numbers number t.numbered t.places
         old.register t.agrees.keeps t.open_write.owns all;
     shown = shown_set register numbers (token_of b.write).first shown

@@ -1,6 +1,6 @@
 -- What the steps under a buffer's lock answer.
 use Rattle.std.specs.Prelude.{◌≡◌, ℕ, ◌+◌, ◌<◌, ◌≤◌, Bool, false, List, length, take, Option}
-use Rattle.std.specs.Prelude.{Result, Ok, Err, is_none, IsSomeAnd}
+use Rattle.std.specs.Prelude.{true, None, Some, Result, Ok, Err, is_none, IsSome, IsSomeAnd}
 use Rattle.boxcar.specs.Table.{Shelves, Where, Shows}
 use Rattle.cyc_block.specs.declared.store.BlockStore.{Ghosts}
 use Rattle.cyc_buffer.specs.Agreement.{CanWrite, length_of, token_of}
@@ -13,8 +13,8 @@ use Rattle.cyc_buffer.specs.declared.answers.Found.{Found}
 use Rattle.cyc_buffer.specs.declared.answers.Found.TheVariants as found
 use Rattle.cyc_buffer.specs.declared.answers.Front.{Front}
 use Rattle.cyc_buffer.specs.declared.buffer.Buffer.{Buffer}
-use Rattle.cyc_buffer.specs.declared.register.Open.{Open}
 use Rattle.cyc_token.specs.Token.{token_view}
+use Rattle.cyc_token.specs.declared.Token as codes
 use Rattle.live_store.specs.declared.answers.Reading.{Reading}
 use Rattle.live_store.specs.declared.answers.Reading.TheVariants as readings
 use Rattle.live_store.specs.declared.answers.WriteFault.{WriteFault}
@@ -23,7 +23,7 @@ use Rattle.live_store.specs.declared.beside.Beside.{Beside}
 use Rattle.live_store.specs.declared.numbered.NumberedBuffer.{NumberedBuffer}
 use Rattle.live_store.specs.declared.record.Archive as archives
 use Rattle.live_store.specs.declared.record.Record.{Record}
-use Rattle.live_store.specs.Tied.{token_in, text_in, IsNamed, IsSameRecord}
+use Rattle.live_store.specs.Tied.{token_in, text_in, number_at, IsNamed, IsSameRecord}
 use Rattle.news_terms.specs.BlockImage.{chunk, chunk_size}
 use Rattle.news_terms.specs.Places.{IsGone, size_of, on_line}
 use Rattle.news_terms.specs.Token.{Token}
@@ -37,6 +37,18 @@ buffer_of numbered = numbered.buffer
 abbrev pub beside_of : {S : Type 0} {s : Ghosts S} {J : Type 0} {j : archives.Ghosts J}
     → NumberedBuffer S J s j → Option Beside
 beside_of numbered = numbered.beside
+
+-- the numbers that stand at its blocks
+abbrev pub numbers_of : {S : Type 0} {s : Ghosts S} {J : Type 0} {j : archives.Ghosts J}
+    → NumberedBuffer S J s j → List (Option (Where Record))
+numbers_of numbered = numbered.numbers.items
+
+-- a write that is begun under this token: it has no number yet, and no block of it is written
+pub record IsBegunAs (token : codes.Token) (b : Beside) : Type 0 where
+  pub named : token_of b.write ≡ token
+  pub unnumbered : b.shown ≡ None
+  pub none_written : b.written ≡ 0
+  pub unbroken : b.broken ≡ false
 
 -- the next block of an open write can be written for a record: no write of a block failed, it is
 -- the record's, a block of it is left, and the record's text is as long as the article
@@ -58,21 +70,35 @@ pub record CanFinishFor (b : Beside) (shown : Where Record) : Type 0 where
 abbrev pub IsOfWrite : Beside → Where Record → Type 0
 IsOfWrite b shown = IsNamed b.write b.shown shown
 
--- the open write has the record's token, and the next block of the text is written for it, or the
--- device fails
-pub record WritesRecord {S : Type 0} {g : Ghosts S} (old : Buffer S g) (shown : Where Record)
-    (text : List ℕ) (result : Result Bool BufError) (new : Buffer S g)
+-- what stands beside a buffer after the write of a block: the same write with the record's number,
+-- of which one more block is written, or of which a write has failed
+abbrev pub after_write : Where Record → Result Bool BufError → Beside → Beside
+after_write shown (Ok last) b =
+    record { write = b.write; shown = Some shown; written = b.written + 1; broken = false }
+after_write shown (Err e) b =
+    record { write = b.write; shown = Some shown; written = b.written; broken = true }
+
+-- the open write is the record's by its number and has its token, and the next block of the text is
+-- written for it, or the device fails; either way it stays open
+pub record WritesRecord {S : Type 0} {s : Ghosts S} {J : Type 0} {j : archives.Ghosts J}
+    (old : NumberedBuffer S J s j) (shown : Where Record) (text : List ℕ)
+    (result : Result Bool BufError) (new : NumberedBuffer S J s j)
     : Type 0 where
-  pub write : Open
-  pub named : token_view (token_of write) ≡ token_in shown
-  pub can : CanWrite old write text
-  pub writes : WritesNext old write text result new
-  pub device : LeavesDevice old result new
+  pub beside : Beside
+  pub stood : beside_of old ≡ Some beside
+  pub own : CanWriteFor beside shown
+  pub named : token_view (token_of beside.write) ≡ token_in shown
+  pub can : CanWrite (buffer_of old) beside.write text
+  pub writes : WritesNext (buffer_of old) beside.write text result (buffer_of new)
+  pub device : LeavesDevice (buffer_of old) result (buffer_of new)
+  pub stands : beside_of new ≡ Some (after_write shown result beside)
+  pub numbers : numbers_of new ≡ numbers_of old
 
 -- the record's next block is written, or the device fails; or the write is mixed up, and nothing
 -- is changed
-abbrev pub WritesOrMixed : {S : Type 0} {g : Ghosts S} (old : Buffer S g) (shown : Where Record)
-    (text : List ℕ) → Result Bool WriteFault → (new : Buffer S g) → Type 0
+abbrev pub WritesOrMixed : {S : Type 0} {s : Ghosts S} {J : Type 0} {j : archives.Ghosts J}
+    (old : NumberedBuffer S J s j) (shown : Where Record) (text : List ℕ) → Result Bool WriteFault
+    → (new : NumberedBuffer S J s j) → Type 0
 WritesOrMixed old shown text (Ok last) new = WritesRecord old shown text (Ok last) new
 WritesOrMixed old shown text (Err (writes.Device fault)) new =
     WritesRecord old shown text (Err (errors.Device fault)) new
@@ -94,6 +120,13 @@ IsBeginFault octets errors.TooBig = Unit {0}
 IsBeginFault octets (errors.Worn fault) = (fault.kind ≡ kinds.Worn) × (fault.length ≡ octets)
 IsBeginFault octets errors.Busy = Unit {0}
 IsBeginFault octets (errors.Device fault) = ⊥
+
+-- what a reading is without its number, as the buffer answers it
+abbrev pub as_found : Result Reading Fault → Result Found BufError
+as_found (Ok (readings.Chunk n shown)) = Ok (found.Chunk n)
+as_found (Ok (readings.Gone front)) = Ok (found.Gone front)
+as_found (Ok readings.Unknown) = Ok found.Unknown
+as_found (Err fault) = Err (errors.Device fault)
 
 -- these octets are chunk k of the text of the record of this number, which has the token
 pub record IsChunkOf (register : Shelves) (token : Token) (k : ℕ) (octets : List ℕ)
@@ -117,6 +150,12 @@ abbrev pub IsShown : Shelves → Reading → Type 0
 IsShown register (readings.Chunk n shown) = Shows register shown
 IsShown register (readings.Gone front) = Unit {0}
 IsShown register readings.Unknown = Unit {0}
+
+-- a chunk's number is the one that stands at this block
+abbrev pub IsNumberedAt : List (Option (Where Record)) → (block : ℕ) → Reading → Type 0
+IsNumberedAt numbers block (readings.Chunk n shown) = number_at numbers block ≡ Some shown
+IsNumberedAt numbers block (readings.Gone front) = Unit {0}
+IsNumberedAt numbers block readings.Unknown = Unit {0}
 
 -- a chunk has no more octets than a block holds
 abbrev pub HasOctets : Reading → Type 0
@@ -149,6 +188,13 @@ IsFoundIn register token k slice own (found.Chunk n) =
     IsSomeAnd own (IsChunkOf register token k (take n slice))
 IsFoundIn register token k slice own (found.Gone front) = Unit {0}
 IsFoundIn register token k slice own found.Unknown = Unit {0}
+
+-- with a chunk the reads have a record; else theirs is the one that it was
+abbrev pub IsRecordAfter : Result Found Fault → (old new : Option (Where Record)) → Type 0
+IsRecordAfter (Ok (found.Chunk n)) old new = IsSome new
+IsRecordAfter (Ok (found.Gone front)) old new = new ≡ old
+IsRecordAfter (Ok found.Unknown) old new = new ≡ old
+IsRecordAfter (Err fault) old new = new ≡ old
 
 -- what was found to be gone is so by the front
 abbrev pub IsFoundGone : Token → Found → Type 0

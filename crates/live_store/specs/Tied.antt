@@ -109,13 +109,14 @@ pub record IsOpen {S : Type 0} {g : Ghosts S} (register : Shelves) (buffer : Buf
   pub shown : IfSome b.shown (λ shown. Shows register shown)
   pub whole : b.broken ≡ false → IsWhole register buffer h b
 
--- where something stands beside a buffer, it is its open write
+-- what stands beside a buffer is its open write, and where nothing stands there none is open
 abbrev pub IsBeside : {S : Type 0} {g : Ghosts S} → Shelves → Buffer S g → History → Option Beside
     → Type 0
-IsBeside register buffer h None = Unit {0}
+IsBeside register buffer h None = h.writing ≡ None
 IsBeside register buffer h (Some b) = IsOpen register buffer h b
 
--- The buffer agrees with a history, in which the open write is the one beside it, and each live
+-- The buffer agrees with a history, in which the open write is the one beside it, or none is open
+-- and none stands there; and each live
 -- finished article has its record's number at its first block.
 pub record Tied {S : Type 0} {g : Ghosts S} (trusted : Bool) (register : Shelves)
     (buffer : Buffer S g) (beside : Option Beside) (numbers : List (Option (Where Record)))

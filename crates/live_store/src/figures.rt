@@ -13,7 +13,7 @@ impl<S: BlockStore, J: Archive> NumberedBuffer<S, J> {
     ghost use Rattle.cyc_buffer.specs.Agreement.{Agrees, store_of};
     ghost use Rattle.cyc_buffer.specs.History.{History, new_history, front_of, cycle_of};
     ghost use Rattle.cyc_buffer.specs.History.{stored_count};
-    ghost use Rattle.live_store.specs.Steps.{buffer_of};
+    ghost use Rattle.live_store.specs.Steps.{buffer_of, beside_of, numbers_of};
 
     /// A buffer over all blocks of a store, in which nothing was begun yet. All memory is taken
     /// here: beside the buffer's own, 32 octets for each block.
@@ -32,6 +32,9 @@ impl<S: BlockStore, J: Archive> NumberedBuffer<S, J> {
               blocks = length (S.blocks store);
               first_cycle = first_cycle;
             }))) }
+        ensures free { IfOk result (λ numbered. beside_of numbered ≡ None) }
+        ensures numbers { IfOk result (λ numbered. numbers_of numbered
+            ≡ replicate (length (S.blocks store)) None) }
         // The device isn't called.
         ensures store { IfOk result (λ numbered. store_of (buffer_of numbered) ≡ store) }
     {

@@ -25,7 +25,7 @@ impl<J: Archive> OneRecord<J> {
     ghost use Rattle.std.specs.Prelude.{◌≡◌, true, None, Some, IfOk, IfErr, IfSome};
     ghost use Rattle.cyc_buffer.specs.Answers.{HasRoom};
     ghost use Rattle.cyc_token.specs.Token.{token_view};
-    ghost use Rattle.live_store.specs.Steps.{IsFoundIn, IsFoundGone, IsReadFault};
+    ghost use Rattle.live_store.specs.Steps.{IsFoundIn, IsFoundGone, IsReadFault, IsRecordAfter};
 
     /// Nothing is read yet.
     pub fn new() -> OneRecord<J>
@@ -54,6 +54,8 @@ impl<J: Archive> OneRecord<J> {
             (IsFoundIn J.register (token_view token.now) k chunk.new self.new.shown) }
         // Once there is a record it stays.
         ensures kept { IfSome self.old.shown (λ w. self.new.shown ≡ Some w) }
+        // With a chunk there is one, over any store; else it is as it was.
+        ensures after { IsRecordAfter result self.old.shown self.new.shown }
         ensures room { IfOk result HasRoom }
         ensures gone { IfOk result (IsFoundGone (token_view token.now)) }
         ensures fault { IfErr result (IsReadFault (token_view token.now)) }

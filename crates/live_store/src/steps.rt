@@ -1,5 +1,5 @@
 //! The steps under a buffer's lock, each one call of the buffer.
-ghost use Rattle.std.specs.Prelude.{◌≡◌, ◌↔◌, IsTrue, None, Some, IfSome, length};
+ghost use Rattle.std.specs.Prelude.{◌≡◌, ◌↔◌, IsTrue, None, Some, IfSome, length, slice_index_or};
 ghost use Rattle.boxcar.specs.Table.{Shows};
 ghost use Rattle.live_store.specs.Tied.{text_in};
 ghost use Rattle.live_store.specs.Steps.{CanWriteFor, CanFinishFor, IsOfWrite, IsDevice};
@@ -14,20 +14,21 @@ use cyc_buffer::{BufError, Fault, Found, Open, size_of};
 use cyc_token::Token;
 
 impl<S: BlockStore, J: Archive> NumberedBuffer<S, J> {
-    ghost use Rattle.std.specs.Prelude.{◌≡◌, ◌≤◌, ◌<◌, Bool, true, Some, Ok, Err, IfOk, OnOk};
-    ghost use Rattle.std.specs.Prelude.{OnErr, IfErr, IsSomeAnd};
+    ghost use Rattle.std.specs.Prelude.{◌≡◌, ◌≤◌, ◌<◌, Bool, true, None, Some, Ok, Err, IfOk};
+    ghost use Rattle.std.specs.Prelude.{OnOk, OnErr, IfErr, IsSomeAnd, slice_set};
     ghost use Rattle.boxcar.specs.Table.{Shows};
     ghost use Rattle.cyc_token.specs.Token.{token_view};
     ghost use Rattle.cyc_buffer.specs.Agreement.{Agrees, Follows, register_of, store_of};
     ghost use Rattle.cyc_buffer.specs.Answers.{refusal, error_of};
-    ghost use Rattle.cyc_buffer.specs.Calls.{LeavesDevice};
+    ghost use Rattle.cyc_buffer.specs.Calls.{ReadsBlock};
     ghost use Rattle.cyc_buffer.specs.History.{History, with_begin, with_finish, without_write};
     ghost use Rattle.cyc_buffer.specs.History.{open_token};
     ghost use Rattle.live_store.specs.Tied.{text_in, token_in};
-    ghost use Rattle.live_store.specs.Steps.{buffer_of, beside_of, WritesOrMixed, CanWriteFor};
+    ghost use Rattle.live_store.specs.Steps.{buffer_of, beside_of, numbers_of, IsBegunAs};
+    ghost use Rattle.live_store.specs.Steps.{WritesOrMixed, CanWriteFor, IsNumberedAt};
     ghost use Rattle.live_store.specs.Steps.{CanFinishFor, IsOfWrite, IsReading, IsPassed};
     ghost use Rattle.live_store.specs.Steps.{IsReadFault, HasOctets, IsShown, IsBeginFault};
-    ghost use Rattle.live_store.specs.Steps.{IsWriteFault};
+    ghost use Rattle.live_store.specs.Steps.{IsWriteFault, as_found};
 
     /// Begins an article of a class and of so many octets, at least 1; `fresh` at the front of a
     /// cycle. What the front passes is gone from now on.
@@ -47,6 +48,11 @@ impl<S: BlockStore, J: Archive> NumberedBuffer<S, J> {
         ensures length { IfOk result (λ token. token.length ≡ length) }
         ensures class { IfOk result (λ token. token.class ≡ class) }
         ensures fault { IfErr result (IsBeginFault length) }
+        // It is begun where none was open, and stands beside the buffer from now on.
+        ensures free { OnOk result (beside_of self.old ≡ None) }
+        ensures beside { IfOk result (λ token. IsSomeAnd (beside_of self.new) (IsBegunAs token)) }
+        ensures kept { OnErr result (beside_of self.new ≡ beside_of self.old) }
+        ensures numbers { numbers_of self.new ≡ numbers_of self.old }
         // The device isn't called.
         ensures store { store_of (buffer_of self.new) ≡ store_of (buffer_of self.old) }
     {
@@ -78,8 +84,7 @@ impl<S: BlockStore, J: Archive> NumberedBuffer<S, J> {
         requires register { register.now ≡ J.register }
         requires shown { Shows J.register shown.now }
         requires text { text.now ≡ text_in shown.now }
-        ensures writes { WritesOrMixed (buffer_of self.old) shown.now text.now result
-            (buffer_of self.new) }
+        ensures writes { WritesOrMixed self.old shown.now text.now result self.new }
         ensures fault { IfErr result (IsWriteFault text.now) }
         // Mixed says that no block can be written for the record.
         ensures mixed { result ≡ Err WriteFault.Mixed
@@ -122,10 +127,17 @@ impl<S: BlockStore, J: Archive> NumberedBuffer<S, J> {
         ensures named { IfOk result (λ token. token_view token ≡ token_in shown.now) }
         ensures finished { OnOk result
             (Follows with_finish (buffer_of self.old) (buffer_of self.new)) }
+        // It was the record's, all of it written, and nothing stands beside the buffer any more.
+        ensures own { OnOk result
+            (IsSomeAnd (beside_of self.old) (λ b. CanFinishFor b shown.now)) }
+        ensures closed { OnOk result (beside_of self.new ≡ None) }
+        // The record's number stands at its first block, and nowhere else anything is changed.
+        ensures numbers { IfOk result (λ token. numbers_of self.new
+            ≡ slice_set (numbers_of self.old) token.first (Some shown.now)) }
         // Mixed says that it can't be finished for the record, and nothing is changed.
         ensures mixed { OnErr result
             (IsSomeAnd (beside_of self.old) (λ b. CanFinishFor b shown.now) → ⊥) }
-        ensures refused { OnErr result (buffer_of self.new ≡ buffer_of self.old) }
+        ensures refused { OnErr result (self.new ≡ self.old) }
         // The device isn't called.
         ensures store { store_of (buffer_of self.new) ≡ store_of (buffer_of self.old) }
     {
@@ -157,10 +169,14 @@ impl<S: BlockStore, J: Archive> NumberedBuffer<S, J> {
         requires shown { Shows J.register shown.now }
         ensures abandoned { OnOk result
             (Follows without_write (buffer_of self.old) (buffer_of self.new)) }
+        // It was the record's, and nothing stands beside the buffer any more.
+        ensures own { OnOk result (IsSomeAnd (beside_of self.old) (λ b. IsOfWrite b shown.now)) }
+        ensures closed { OnOk result (beside_of self.new ≡ None) }
+        ensures numbers { numbers_of self.new ≡ numbers_of self.old }
         // Mixed says that the open write isn't the record's, and nothing is changed.
         ensures mixed { OnErr result
             (IsSomeAnd (beside_of self.old) (λ b. IsOfWrite b shown.now) → ⊥) }
-        ensures refused { OnErr result (buffer_of self.new ≡ buffer_of self.old) }
+        ensures refused { OnErr result (self.new ≡ self.old) }
         // The device isn't called.
         ensures store { store_of (buffer_of self.new) ≡ store_of (buffer_of self.old) }
     {
@@ -185,7 +201,7 @@ impl<S: BlockStore, J: Archive> NumberedBuffer<S, J> {
         Ok(())
     }
 
-    /// Reads block k of the article under a token.
+    /// Reads block k of the article under a token. With each chunk a number comes.
     pub fn read(
         &mut self,
         token: &Token,
@@ -196,25 +212,38 @@ impl<S: BlockStore, J: Archive> NumberedBuffer<S, J> {
         ensures chunk { J.trusted ≡ true
             → IfOk result (IsReading J.register (token_view token.now) k chunk.new) }
         ensures shown { IfOk result (IsShown J.register) }
+        // Over any store the number is the one that stands at the token's first block.
+        ensures number { IfOk result (IsNumberedAt (numbers_of self.old) token.now.first) }
         ensures room { IfOk result HasOctets }
         ensures gone { IfOk result (IsPassed (token_view token.now)) }
         // An error is the device's fault at a read of this article.
         ensures fault { IfErr result (IsReadFault (token_view token.now)) }
-        // The buffer agrees with the same histories, and keeps in memory what it kept.
-        ensures same { Follows (λ h. h) (buffer_of self.old) (buffer_of self.new) }
-        ensures register { register_of (buffer_of self.new) ≡ register_of (buffer_of self.old) }
-        ensures failed { OnErr result (S.failures (store_of (buffer_of self.old))
-            < S.failures (store_of (buffer_of self.new))) }
+        // It is the buffer's own read: what is found, the slice, the buffer after and its device.
+        ensures reads { ReadsBlock (buffer_of self.old) token.now k chunk.old (as_found result)
+            chunk.new (buffer_of self.new) }
+        ensures beside { beside_of self.new ≡ beside_of self.old }
+        ensures numbers { numbers_of self.new ≡ numbers_of self.old }
     {
         match self.buffer.read_block(token, k, chunk) {
-            Ok(Found::Chunk(octets)) => match self.numbers.get(token.first as usize) {
-                Some(Some(shown)) => Ok(Reading::Chunk(octets, shown.again())),
-                _ => Ok(Reading::Unknown),
+            Ok(Found::Chunk(octets)) => match number_at(&self.numbers, token.first) {
+                Some(shown) => Ok(Reading::Chunk(octets, shown)),
+                None => unreachable!(),
             },
             Ok(Found::Gone(front)) => Ok(Reading::Gone(front)),
             Ok(Found::Unknown) => Ok(Reading::Unknown),
             Err(error) => Err(device_fault(error)),
         }
+    }
+}
+
+/// The number that stands at a block.
+fn number_at(numbers: &Vec<Option<Shown>>, block: u32) -> Option<Shown>
+    ensures { result ≡ slice_index_or numbers.now.items block None }
+{
+    match numbers.get(block as usize) {
+        Some(Some(shown)) => Some(shown.again()),
+        Some(None) => None,
+        None => None,
     }
 }
 

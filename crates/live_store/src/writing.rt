@@ -1,5 +1,5 @@
 //! Storing a text, a step at a time, each under the lock.
-ghost use Rattle.std.specs.Prelude.{◌≡◌, ◌≤◌, length, IfSome, IfErr};
+ghost use Rattle.std.specs.Prelude.{◌≡◌, ◌≤◌, length, IfErr};
 ghost use Rattle.boxcar.specs.Table.{Shows};
 ghost use Rattle.cyc_token.specs.Token.{token_view};
 ghost use Rattle.live_store.specs.Tied.{text_in, token_in, named_in};
@@ -18,9 +18,9 @@ use cyc_token::Token;
 use std::marker::PhantomData;
 use std::sync::{Mutex, Wait};
 
-/// Stores an article in any thread: the buffer begins it, the register gets its record, each block is
-/// written, and the buffer finishes it. Each step of the buffer takes the lock anew. Where memory
-/// is refused to the register, the same step is tried again.
+/// Stores an article in any thread: the buffer begins it, the register gets its record, each block
+/// is written, and the buffer finishes it. Each step of the buffer takes the lock anew. Where
+/// memory is refused to the register, the same step is tried again.
 pub fn store<S: BlockStore, J: Archive, R: Wait>(
     rt: &R,
     buffer: &Mutex<NumberedBuffer<S, J>>,
@@ -45,9 +45,7 @@ pub fn store<S: BlockStore, J: Archive, R: Wait>(
         Err(BufError::Worn(fault)) => return Stored::Failed(fault),
         Err(_) => return Stored::Mixed,
     };
-    let Some(shown) = entered(rt, register, token, text) else {
-        return Stored::Mixed;
-    };
+    let shown = entered(rt, register, token, text);
     match write_all(rt, buffer, register, &shown, text) {
         Ok(()) => finish(rt, buffer, register, shown),
         Err(WriteFault::Mixed) => Stored::Mixed,
@@ -58,19 +56,20 @@ pub fn store<S: BlockStore, J: Archive, R: Wait>(
     }
 }
 
-/// Enters the text, again and again where memory is refused.
-fn entered<R: Wait>(rt: &R, register: &Register, token: Token, text: &Vec<u8>) -> Option<Shown>
+/// Enters the text, again and again where memory is refused: it answers with the record's number,
+/// or never.
+fn entered<R: Wait>(rt: &R, register: &Register, token: Token, text: &Vec<u8>) -> Shown
     requires article { ∥ IsArticle text.now.items ∥₁ }
-    ensures shown { IfSome result (λ shown. Shows register.now shown) }
-    ensures token { IfSome result (λ shown. named_in shown ≡ token) }
-    ensures text { IfSome result (λ shown. text_in shown ≡ text.now.items) }
+    ensures shown { Shows register.now result }
+    ensures token { named_in result ≡ token }
+    ensures text { text_in result ≡ text.now.items }
 {
     for _ in rt.forever() {
         if let Ok(shown) = enter(rt, register, token, text) {
-            return Some(shown);
+            return shown;
         }
     }
-    None
+    unreachable!()
 }
 
 /// Writes all blocks of a record's text, each under the lock.

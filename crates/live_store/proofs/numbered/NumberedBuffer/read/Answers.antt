@@ -1,10 +1,10 @@
-use Rattle.std.proofs.Common.{◌∙◌, ap, subst, Ok}
+use Rattle.std.proofs.Common.{sym, ◌∙◌, ap, subst, Ok}
 use Rattle.std.proofs.Math.Logic.{∥∥₁_map}
 use Rattle.cyc_buffer.specs.Calls.{ReadsBlock}
 use Rattle.cyc_buffer.specs.declared.answers.FaultKind.TheVariants as kinds
 use Rattle.live_store.proofs.TiedLemmas.{tied_same}
 use Rattle.live_store.proofs.OpenLemmas.{device_fails}
-use Rattle.live_store.proofs.ReadLemmas.{number_found, read_chunk, read_shown, read_gone}
+use Rattle.live_store.proofs.ReadLemmas.{read_numbered, read_chunk, read_shown, read_gone}
 use Rattle.live_store.proofs.ReadLemmas.{read_fails}
 use Rattle.live_store.proofs.numbered.NumberedBuffer.read.Goals as goal
 
@@ -20,28 +20,32 @@ device_fault-requires g c = device_fails g.J.Archive.register g.J.Archive.truste
     c.args.self.now.buffer c.args.self.now.beside c.args.self.now.numbers.items
     c.args.self.now.tied kinds.Read c.args.token.now.length c.in-Err.error c.in-Err.ensures.fault
 
-pub returns-in-Some-Some-clause-chunk : goal.returns-in-Some-Some-clause-chunk
-returns-in-Some-Some-clause-chunk g c = read_chunk g.J.Archive.register g.J.Archive.trusted
+pub unreachable-requires : goal.unreachable-requires
+unreachable-requires g c = read_numbered g.J.Archive.register g.J.Archive.trusted
     c.args.self.now.buffer c.read_block.new.self c.args.self.now.beside
     c.args.self.now.numbers.items c.args.self.now.tied c.args.token.now c.args.k
-    c.args.chunk.now c.read_block.new.chunk c.in-Ok-Chunk.octets c.again.result
+    c.args.chunk.now c.read_block.new.chunk c.in-Ok-Chunk.octets
     (subst (λ r. ReadsBlock c.args.self.now.buffer c.args.token.now c.args.k c.args.chunk.now r
     c.read_block.new.chunk c.read_block.new.self)
     (c.in-Ok-Chunk.is ∙ ap Ok c.in-Ok-Chunk.field-0-is) c.read_block.ensures)
-    (number_found c.args.self.now.numbers.items c.deref.result.now c.args.token.now.first
-    c.in-Some-Some.field-0.now c.in-Some-Some.shown c.again.result c.deref.ensures.value
-    c.in-Some-Some.ensures.lookup.0 c.in-Some-Some.ensures.lookup.1 c.in-Some-Some.field-0-is
-    c.again.ensures)
+    (sym c.number_at.ensures ∙ c.in-None.is)
 
-pub returns-in-Some-Some-clause-shown : goal.returns-in-Some-Some-clause-shown
-returns-in-Some-Some-clause-shown g c = read_shown g.J.Archive.register g.J.Archive.trusted
+pub returns-in-Some-clause-chunk : goal.returns-in-Some-clause-chunk
+returns-in-Some-clause-chunk g c = read_chunk g.J.Archive.register g.J.Archive.trusted
     c.args.self.now.buffer c.read_block.new.self c.args.self.now.beside
     c.args.self.now.numbers.items c.args.self.now.tied c.args.token.now c.args.k
-    c.args.chunk.now c.read_block.new.chunk c.again.result
-    (number_found c.args.self.now.numbers.items c.deref.result.now c.args.token.now.first
-    c.in-Some-Some.field-0.now c.in-Some-Some.shown c.again.result c.deref.ensures.value
-    c.in-Some-Some.ensures.lookup.0 c.in-Some-Some.ensures.lookup.1 c.in-Some-Some.field-0-is
-    c.again.ensures)
+    c.args.chunk.now c.read_block.new.chunk c.in-Ok-Chunk.octets c.in-Some.shown
+    (subst (λ r. ReadsBlock c.args.self.now.buffer c.args.token.now c.args.k c.args.chunk.now r
+    c.read_block.new.chunk c.read_block.new.self)
+    (c.in-Ok-Chunk.is ∙ ap Ok c.in-Ok-Chunk.field-0-is) c.read_block.ensures)
+    (sym c.number_at.ensures ∙ c.in-Some.is)
+
+pub returns-in-Some-clause-shown : goal.returns-in-Some-clause-shown
+returns-in-Some-clause-shown g c = read_shown g.J.Archive.register g.J.Archive.trusted
+    c.args.self.now.buffer c.read_block.new.self c.args.self.now.beside
+    c.args.self.now.numbers.items c.args.self.now.tied c.args.token.now c.args.k
+    c.args.chunk.now c.read_block.new.chunk c.in-Some.shown
+    (sym c.number_at.ensures ∙ c.in-Some.is)
 
 pub returns-in-Ok-Gone-clause-gone : goal.returns-in-Ok-Gone-clause-gone
 returns-in-Ok-Gone-clause-gone g c = read_gone g.J.Archive.register g.J.Archive.trusted

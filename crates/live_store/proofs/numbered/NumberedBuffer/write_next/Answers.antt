@@ -1,18 +1,17 @@
-use Rattle.std.proofs.Common.{sym, ◌∙◌, ap, subst, Some, Ok, Err, length, ◌+◌, false}
+use Rattle.std.proofs.Common.{refl, sym, ◌∙◌, ap, subst, Some, Ok, Err, length, ◌+◌, false}
 use Rattle.std.proofs.Common.{true}
 use Rattle.std.specs.Prelude.{IfSome}
 use Rattle.boxcar.specs.Table.{Shows, Where}
 use Rattle.cyc_buffer.specs.Agreement.{CanWrite, length_of}
 use Rattle.cyc_buffer.specs.Calls.{WritesNext}
-use Rattle.cyc_buffer.specs.declared.answers.BufError.{BufError}
-use Rattle.cyc_buffer.specs.declared.answers.BufError.TheVariants as errors
 use Rattle.cyc_buffer.specs.declared.answers.FaultKind.TheVariants as kinds
 use Rattle.live_store.specs.declared.record.Record.{Record}
-use Rattle.live_store.specs.Tied.{Tied, text_in}
-use Rattle.live_store.specs.Steps.{CanWriteFor, WritesRecord}
+use Rattle.live_store.specs.Tied.{Tied}
+use Rattle.live_store.specs.Steps.{CanWriteFor}
 use Rattle.live_store.proofs.TiedLemmas.{beside_of}
-use Rattle.live_store.proofs.OpenLemmas.{the_same, shows_of, can_write, writes_record, tied_written}
-use Rattle.live_store.proofs.OpenLemmas.{tied_broken, device_fails, device_fault_is}
+use Rattle.live_store.proofs.OpenLemmas.{the_same, shows_of, can_write, writes_record}
+use Rattle.live_store.proofs.OpenLemmas.{writes_failed, tied_written, tied_broken, device_fails}
+use Rattle.live_store.proofs.OpenLemmas.{device_fault_is}
 use Rattle.live_store.proofs.numbered.NumberedBuffer.write_next.Goals as goal
 
 pub can_write-requires-clause-own : goal.can_write-requires-clause-own
@@ -92,44 +91,28 @@ device_fault-requires g c =
 pub returns-in-Ok-clause-writes : goal.returns-in-Ok-clause-writes
 returns-in-Ok-clause-writes g c =
     let field = c.in-Some-take.field-0 in
-    let tied = subst (λ b. ∥ Tied g.J.Archive.trusted g.J.Archive.register
-    c.args.self.now.buffer b c.args.self.now.numbers.items ∥₁)
-    (sym c.take.ensures.value ∙ c.in-Some-take.is) c.args.self.now.tied in
     let can = subst (λ b. CanWriteFor b c.args.shown.now)
     (the_same c.args.self.now.beside c.take.result c.in-Some.beside field c.in-Some.is
     c.take.ensures.value c.in-Some-take.is) (c.can_write.ensures.0 c.if-not-can_write.false) in
-    let writes = subst (λ x. CanWrite c.args.self.now.buffer field.write x
-    → WritesNext c.args.self.now.buffer field.write x (Ok c.in-Ok.last) c.write_next.new.self)
-    c.requires.text c.in-Ok.ensures.written
-    (can_write g.J.Archive.register g.J.Archive.trusted c.args.self.now.buffer field
-    c.args.self.now.numbers.items tied c.args.shown.now can) in
-    subst (λ x. WritesRecord c.args.self.now.buffer c.args.shown.now x (Ok c.in-Ok.last)
-    c.write_next.new.self) (sym c.requires.text)
-    (writes_record g.J.Archive.register g.J.Archive.trusted c.args.self.now.buffer field
-    c.args.self.now.numbers.items tied c.write_next.new.self c.args.shown.now
-    (Ok c.in-Ok.last) can writes c.in-Ok.ensures.device)
+    writes_record c.args.self.now _ field (sym c.take.ensures.value ∙ c.in-Some-take.is)
+    c.args.shown.now c.args.text.now c.requires.text can (Ok c.in-Ok.last) c.in-Ok.ensures.written
+    c.in-Ok.ensures.device
+    (c.put.ensures ∙ ap (λ (w : Where Record). Some (beside_of field.write w
+    (field.written + 1) false)) c.again.ensures)
+    refl
 
 pub returns-in-Err-clause-writes : goal.returns-in-Err-clause-writes
 returns-in-Err-clause-writes g c =
     let field = c.in-Some-take.field-0 in
-    let tied = subst (λ b. ∥ Tied g.J.Archive.trusted g.J.Archive.register
-    c.args.self.now.buffer b c.args.self.now.numbers.items ∥₁)
-    (sym c.take.ensures.value ∙ c.in-Some-take.is) c.args.self.now.tied in
     let can = subst (λ b. CanWriteFor b c.args.shown.now)
     (the_same c.args.self.now.beside c.take.result c.in-Some.beside field c.in-Some.is
     c.take.ensures.value c.in-Some-take.is) (c.can_write.ensures.0 c.if-not-can_write.false) in
-    let writes = subst (λ x. CanWrite c.args.self.now.buffer field.write x
-    → WritesNext c.args.self.now.buffer field.write x (Err c.in-Err.error) c.write_next.new.self)
-    c.requires.text c.in-Err.ensures.written
-    (can_write g.J.Archive.register g.J.Archive.trusted c.args.self.now.buffer field
-    c.args.self.now.numbers.items tied c.args.shown.now can) in
-    subst (λ x. WritesRecord c.args.self.now.buffer c.args.shown.now x
-    (Err (errors.Device c.device_fault.result)) c.write_next.new.self) (sym c.requires.text)
-    (subst (λ (e : BufError). WritesRecord c.args.self.now.buffer c.args.shown.now
-    (text_in c.args.shown.now) (Err e) c.write_next.new.self) c.device_fault.ensures
-    (writes_record g.J.Archive.register g.J.Archive.trusted c.args.self.now.buffer field
-    c.args.self.now.numbers.items tied c.write_next.new.self c.args.shown.now
-    (Err c.in-Err.error) can writes c.in-Err.ensures.device))
+    writes_failed c.args.self.now _ field (sym c.take.ensures.value ∙ c.in-Some-take.is)
+    c.args.shown.now c.args.text.now c.requires.text can c.in-Err.error c.device_fault.result
+    c.device_fault.ensures c.in-Err.ensures.written c.in-Err.ensures.device
+    (c.put-in-Err.ensures ∙ ap (λ (w : Where Record). Some (beside_of field.write w
+    field.written true)) c.again-in-Err.ensures)
+    refl
 
 pub returns-in-Err-clause-fault : goal.returns-in-Err-clause-fault
 returns-in-Err-clause-fault g c =
