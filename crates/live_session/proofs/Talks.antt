@@ -5,7 +5,7 @@ use Rattle.std.proofs.Common.{None, Some, refl, sym, ap, subst, ◌∙◌, take,
 use Rattle.std.proofs.Math.Logic.{∥∥₁_map, ∥∥₁_elim, ∥∥₁_prop}
 use Rattle.std.proofs.lemmas.List.{append-nil, append_assoc}
 use Rattle.std.specs.Option.{IsSomeAnd}
-use Rattle.boxcar.specs.Table.{Where}
+use Rattle.boxcar.specs.Table.{Shelves, Where}
 use Rattle.live_seats.specs.Seats.{end_of}
 use Rattle.live_session.specs.Carried.{Begins, Carried, Carries, CarriesOn, CarriesSame, IsServed}
 use Rattle.live_session.specs.Carried.{Serves, ServesOn}
@@ -189,6 +189,7 @@ module _ {J : Type 0} {g : Ghosts J} (w : Terms) (old new : Talk J g) where
             due = plan.is_due;
             hears = subst (λ n. Hears n plan.due.after plan.due.ask shared.told heard.heard)
                 number heard.hears;
+            found = shared.found;
           }) hands;
           gathered = heard.later;
           stands = heard.stands;
@@ -356,7 +357,7 @@ module _ {J : Type 0} {g : Ghosts J} (w : Terms) (talk : Talk J g) (peer : ℕ)
   pub ended : (s end : ℕ) (before : Hands) (c : Carried) (finish : Finish)
       → c.finish ≡ Some finish → c.waiting ≡ []
       → Serves w s end (greeted peer before) read written talk c
-      → IsServed w s end peer before read written finish (hands_of talk) c.heard c.written
+      → IsServed g.register w s end peer before read written finish (hands_of talk) c.heard c.written
   ended s end before c finish is none serves = record {
     at = serves.at;
     course = serves.going.course;
@@ -377,9 +378,10 @@ module _ {J : Type 0} {g : Ghosts J} (w : Terms) (talk : Talk J g) (peer : ℕ)
   }
 
 -- a session for which there was no memory read and wrote nothing
-pub unbegun : (w : Terms) (s end peer : ℕ) (hands : Hands) (read written : List ℕ)
-    → IsServed w s end peer hands read written finishes.Broken hands read written
-unbegun w s end peer hands read written = record {
+pub unbegun : (register : Shelves) (w : Terms) (s end peer : ℕ) (hands : Hands)
+    (read written : List ℕ)
+    → IsServed register w s end peer hands read written finishes.Broken hands read written
+unbegun register w s end peer hands read written = record {
   at = greeted peer hands;
   course = course.Begins;
   carries = record {

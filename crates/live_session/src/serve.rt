@@ -72,8 +72,8 @@ pub fn serve_session<S: Shares<J, R>, C: Clock, G: Gate<R>, J: Archive, H: Hears
     requires seat { IsSeatOf hall.now.lanes.now seat }
     ensures seat { IsSeatOf hall.now.lanes.now result.seat }
     ensures end { end_of result.seat ≡ end_of seat }
-    ensures served { J.trusted ≡ true → ∥ IsServed (terms_of hall.now.config.now) number
-        (end_of seat) peer (hands_at seat kept.items) (H.heard reader) (W.said writer)
+    ensures served { J.trusted ≡ true → ∥ IsServed J.register (terms_of hall.now.config.now)
+        number (end_of seat) peer (hands_at seat kept.items) (H.heard reader) (W.said writer)
         result.finish (hands_at result.seat result.kept.items) (H.heard result.reader)
         (W.said result.writer) ∥₁ }
     ensures many { 2 ^ 62 ≤ count_of seat → (result.finish ≡ finishes.Broken)

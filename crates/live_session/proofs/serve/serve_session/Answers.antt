@@ -14,15 +14,15 @@ use Rattle.live_session.specs.declared.wire.Finish.TheVariants as finishes
 
 pub returns-then-handed-ge-MOST_JOBS-clause-served : goal.returns-then-handed-ge-MOST_JOBS-clause-served
 returns-then-handed-ge-MOST_JOBS-clause-served g c trusted =
-    ∣ unbegun (terms_of c.args.hall.now.config.now) c.args.number (end_of c.args.seat) c.args.peer
-    (hands_at c.args.seat c.args.kept.items) (g.H.Hears.heard c.args.reader)
-    (g.W.Says.said c.args.writer) ∣₁
+    ∣ unbegun g.J.Archive.register (terms_of c.args.hall.now.config.now) c.args.number
+    (end_of c.args.seat) c.args.peer (hands_at c.args.seat c.args.kept.items)
+    (g.H.Hears.heard c.args.reader) (g.W.Says.said c.args.writer) ∣₁
 
 pub returns-in-Err-clause-served : goal.returns-in-Err-clause-served
 returns-in-Err-clause-served g c trusted =
-    ∣ unbegun (terms_of c.args.hall.now.config.now) c.args.number (end_of c.args.seat) c.args.peer
-    (hands_at c.args.seat c.args.kept.items) (g.H.Hears.heard c.args.reader)
-    (g.W.Says.said c.args.writer) ∣₁
+    ∣ unbegun g.J.Archive.register (terms_of c.args.hall.now.config.now) c.args.number
+    (end_of c.args.seat) c.args.peer (hands_at c.args.seat c.args.kept.items)
+    (g.H.Hears.heard c.args.reader) (g.W.Says.said c.args.writer) ∣₁
 
 pub leave-requires-clause-seat : goal.leave-requires-clause-seat
 leave-requires-clause-seat g c =
