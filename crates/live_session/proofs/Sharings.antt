@@ -1,5 +1,5 @@
 -- The step that a session planned is done, by each of its kinds.
-use Rattle.std.proofs.Common.{◌≡◌, ◌≢◌, ◌≤◌, ℕ, ◌+◌, ◌-◌, ◌*◌, ◌++◌, Bool, true, false, List, []}
+use Rattle.std.proofs.Common.{◌≡◌, ◌≤◌, ℕ, ◌+◌, ◌-◌, ◌*◌, ◌++◌, true, false, List, []}
 use Rattle.std.proofs.Common.{◌∷◌, Option, None, Some, refl, sym, ap, subst, ◌∙◌, length, map, take}
 use Rattle.std.proofs.Common.{slice_index_or, slice_set, inl, inr}
 use Rattle.std.proofs.Math.Logic.{∥∥₁_map}
@@ -35,7 +35,6 @@ use Rattle.nntp_text.specs.Reply.{item_view}
 use Rattle.peer_session.specs.Answers.{IsAnswerTo, SharesNone, handed}
 use Rattle.peer_session.specs.Planning.{HandsOver, Planned}
 use Rattle.peer_session.specs.declared.steps.Outcome.TheVariants as outcomes
-use Rattle.peer_session.specs.declared.session.Session.{Session}
 use Rattle.peer_session.specs.declared.steps.Answer.{Answer}
 use Rattle.peer_session.specs.declared.steps.Answer.TheVariants as answers
 use Rattle.peer_session.specs.declared.steps.Step.{Step}

@@ -1,6 +1,6 @@
 -- What a session of an end does, by the moments and the answers that it had: what it says to what
 -- came to it, and which jobs its end hands over (docs/PROTOCOL.md, Sessions, Threads).
-use Rattle.std.specs.Prelude.{◌≡◌, ◌≤◌, ℕ, ◌+◌, ◌-◌, ◌++◌, Bool, true, false, List, [], ◌∷◌}
+use Rattle.std.specs.Prelude.{◌≡◌, ◌≤◌, ℕ, ◌+◌, ◌-◌, ◌++◌, true, List, [], ◌∷◌}
 use Rattle.std.specs.Prelude.{Option, None, Some, slice_set, slice_index_or}
 use Rattle.boxcar.specs.Table.{Shelves, Shows, Where}
 use Rattle.buffer_group.specs.Jobs.{job_view}
@@ -18,7 +18,7 @@ use Rattle.relay_model.specs.Hears.{Heard, Hears}
 use Rattle.relay_model.specs.Run.{is_reading, new_session}
 use Rattle.relay_model.specs.Shares.{Answer, ToRead, ToPush, InSlot}
 use Rattle.relay_model.specs.State as model
-use Rattle.relay_model.specs.State.{Session, Leaving, in_phase, with_unread}
+use Rattle.relay_model.specs.State.{Session, Leaving, Ended, in_phase, with_unread}
 use Rattle.relay_model.specs.Terms.{Terms, last_moment}
 use Rattle.relay_model.specs.World.{IsKept, Said, Silent, Speaks, Parts}
 
@@ -98,6 +98,12 @@ greeted peer hands =
       parted = None;
       hands = hands;
     }
+
+-- a session that is closed has nothing left: no job in its hand, and no open offer
+pub record IsClosed (session : Session) : Type 0 where
+  pub phase : session.phase ≡ Ended
+  pub hand : session.hand ≡ None
+  pub offers : session.offers ≡ []
 
 -- a piece has come
 abbrev pub with_piece : List ℕ → Point → Point

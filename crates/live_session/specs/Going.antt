@@ -1,6 +1,6 @@
 -- Where the session of a thread is on its course.
 use Rattle.std.specs.Prelude.{◌≡◌, ◌≢◌, ◌⊎◌, ℕ, ◌*◌, ◌++◌, Bool, true, false, List, [], ◌∷◌, take}
-use Rattle.std.specs.Prelude.{map, Option, None, Some}
+use Rattle.std.specs.Prelude.{map, Option, Some}
 use Rattle.std.specs.Option.{IsSomeAnd}
 use Rattle.article_fetch.specs.Fetch.{FoundAs}
 use Rattle.article_fetch.specs.declared.chunk.Chunk.{Chunk}

@@ -1,4 +1,4 @@
-use Rattle.std.proofs.Common.{◌∙◌, ◌++◌, None, Some, ap, subst, sym}
+use Rattle.std.proofs.Common.{◌∙◌, ◌++◌, Some, ap, subst, sym}
 use Rattle.std.proofs.Math.Logic.{∥∥₁_map}
 use Rattle.article_verdict.specs.Config.{terms_of}
 use Rattle.live_seats.specs.Seats.{IsSeatOf, end_of}
@@ -59,7 +59,7 @@ returns-clause-served g c trusted =
     c.unwrap_or.result
     (end_of_some last.finish finishes.Broken c.stop.ensures.ended
     ∙ ap Some (sym c.unwrap_or.ensures))
-    (ap (λ v. v.items) c.stop.ensures.waiting ∙ c.flush.ensures.none)
+    (ap (λ v. v.items) c.stop.ensures.waiting ∙ c.flush.ensures.none) c.leave.ensures.closed
     (record {
       at = one.at;
       going = one.going;
