@@ -10,7 +10,6 @@ use Rattle.live_session.specs.Carried.{WrittenAs, finish_of, is_break, is_broken
 use Rattle.live_session.specs.Going.{parted_after}
 use Rattle.live_session.specs.declared.wire.Finish.{Finish}
 use Rattle.live_session.specs.declared.wire.Finish.TheVariants as finishes
-use Rattle.std.specs.Option.{IsSomeAnd}
 
 -- nothing more was read
 heard_more : (broken : Bool) (read came : List ℕ) → HeardAs broken read came

@@ -1,3 +1,4 @@
 pub mod Carrying
+pub mod Closing
 pub mod Sharings
 pub mod Talks

@@ -1,5 +1,5 @@
 -- The step that a session planned is done, by each of its kinds.
-use Rattle.std.proofs.Common.{◌≡◌, ◌≢◌, ◌≤◌, ℕ, ◌+◌, ◌-◌, ◌*◌, ◌++◌, Bool, true, false, List, []}
+use Rattle.std.proofs.Common.{◌≡◌, ◌≤◌, ℕ, ◌+◌, ◌-◌, ◌*◌, ◌++◌, true, false, List, []}
 use Rattle.std.proofs.Common.{◌∷◌, Option, None, Some, refl, sym, ap, subst, ◌∙◌, length, map, take}
 use Rattle.std.proofs.Common.{slice_index_or, slice_set, inl, inr}
 use Rattle.std.proofs.Math.Logic.{∥∥₁_map}
@@ -21,11 +21,11 @@ use Rattle.id_history.specs.declared.claims.Offer.{Offer}
 use Rattle.id_history.specs.declared.claims.Take.{Take}
 use Rattle.live_fates.specs.declared.fate.KeptJob.{KeptJob}
 use Rattle.live_seats.specs.Seats.{count_of, end_of, handed_by}
-use Rattle.live_session.specs.Course.{Hands, HandsAfter, with_job, with_kept}
+use Rattle.live_session.specs.Course.{Hands, HandsAfter, IsToldFor, with_job, with_kept}
 use Rattle.live_session.specs.Going.{AskFits, IsFrontOf, IsReadOf, KeepsButReads, ReadOf, ReadsFor}
 use Rattle.live_session.specs.Going.{Shared, SharesFor, chunk_view, hands_of, numbers_of}
 use Rattle.live_session.specs.declared.talk.Talk.{Talk}
-use Rattle.live_store.specs.Steps.{IsChunkOf, IsFoundIn}
+use Rattle.live_store.specs.Steps.{IsChunkOf, IsFoundGone, IsFoundIn}
 use Rattle.live_store.specs.Tied.{text_in}
 use Rattle.live_store.specs.declared.record.Archive.{Ghosts}
 use Rattle.live_store.specs.declared.record.Record.{Record}
@@ -35,7 +35,6 @@ use Rattle.nntp_text.specs.Reply.{item_view}
 use Rattle.peer_session.specs.Answers.{IsAnswerTo, SharesNone, handed}
 use Rattle.peer_session.specs.Planning.{HandsOver, Planned}
 use Rattle.peer_session.specs.declared.steps.Outcome.TheVariants as outcomes
-use Rattle.peer_session.specs.declared.session.Session.{Session}
 use Rattle.peer_session.specs.declared.steps.Answer.{Answer}
 use Rattle.peer_session.specs.declared.steps.Answer.TheVariants as answers
 use Rattle.peer_session.specs.declared.steps.Step.{Step}
@@ -106,13 +105,15 @@ module _ {J : Type 0} {g : Ghosts J} (w : Terms) (talk : Talk J g) where
   pub answered : (new : Talk J g) (answer : Answer) (told : shares.Answer) (m : model.Session)
       (d : Due) (gathered : List ℕ) (ask : Ask) → d.ask ≡ ask
       → IsAnswerTo ask gathered answer told → IsReadOf new.reads.shown told
+      → IsToldFor g.register d.ask told
       → HandsAfter (end_of talk.seat) ask told (hands_of talk) (hands_of new)
       → Planned w new.session m d gathered (handed answer)
       → ∥ Shared w m d gathered talk answer new ∥₁
-  answered new answer told m d gathered ask asked is read hands planned = ∣ record {
+  answered new answer told m d gathered ask asked is read found hands planned = ∣ record {
     told = told;
     answers = subst (λ a. IsAnswerTo a gathered answer told) (sym asked) is;
     read = read;
+    found = found;
     hands = subst (λ a. HandsAfter (end_of talk.seat) a told (hands_of talk) (hands_of new))
         (sym asked) hands;
     planned = planned;
@@ -126,6 +127,7 @@ module _ {J : Type 0} {g : Ghosts J} (w : Terms) (talk : Talk J g) where
     told = shares.Nothing;
     answers = none_answered d.ask gathered is;
     read = tt;
+    found = tt;
     hands = none_handed (end_of talk.seat) d.ask (hands_of talk) is;
     planned = planned;
   } ∣₁
@@ -134,40 +136,40 @@ module _ {J : Type 0} {g : Ghosts J} (w : Terms) (talk : Talk J g) where
       → SharesFor w (steps.Offer id) talk (answers.Offer offer) talk
   offered id offer m d gathered planned is fits some =
       answered talk (answers.Offer offer) (shares.ToOffer (offer_view offer)) m d gathered
-      (asks.Offers is.0 id) is.1 (offer, refl, refl) tt refl planned
+      (asks.Offers is.0 id) is.1 (offer, refl, refl) tt tt refl planned
 
   pub looked : (id : List ℕ) (token : Option codes.Token)
       → SharesFor w (steps.Look id) talk (answers.Look token) talk
   looked id token m d gathered planned is fits some =
       answered talk (answers.Look token) (shares.ToLook (option_map token_view token)) m d gathered
-      (asks.Looks is.0 id) is.1 (token, refl, refl) tt refl planned
+      (asks.Looks is.0 id) is.1 (token, refl, refl) tt tt refl planned
 
   pub queued : (feed most : ℕ) (taken : Taken) → length taken.items.items ≤ most
       → SharesFor w (steps.TakeQueue feed most) talk (answers.Queue taken) talk
   queued feed most taken few m d gathered planned is fits some =
       answered talk (answers.Queue taken)
       (shares.ToTakeQueue taken.missed (map item_view taken.items.items)) m d gathered
-      (asks.TakesQueue feed most) is (taken, refl, few, refl) tt refl planned
+      (asks.TakesQueue feed most) is (taken, refl, few, refl) tt tt refl planned
 
   pub refused : (id : List ℕ) → SharesFor w (steps.Refuse id) talk answers.Nothing talk
   refused id m d gathered planned is fits some =
       answered talk answers.Nothing shares.Nothing m d gathered (asks.Refuses is.0 id) is.1 refl tt
-      refl planned
+      tt refl planned
 
   pub taken_up : (id : List ℕ) (take : Take)
       → SharesFor w (steps.Take id) talk (answers.Take take) talk
   taken_up id take m d gathered planned is fits some =
       answered talk (answers.Take take) (shares.ToTake (take_view take)) m d gathered
-      (asks.Takes is.0 id is.1) is.2 (take, refl, refl) tt refl planned
+      (asks.Takes is.0 id is.1) is.2 (take, refl, refl) tt tt refl planned
 
   pub released : (id : List ℕ) → SharesFor w (steps.Release id) talk answers.Nothing talk
   released id m d gathered planned is fits some =
-      answered talk answers.Nothing shares.Nothing m d gathered (asks.Releases id) is refl tt refl
-      planned
+      answered talk answers.Nothing shares.Nothing m d gathered (asks.Releases id) is refl tt tt
+      refl planned
 
   pub was_read : (token : codes.Token) (k : ℕ) (chunk : Chunk) (new : Talk J g)
       → KeepsButReads talk new
-      → ReadsFor (token_view token) k talk.reads.shown chunk new.reads.shown
+      → ReadsFor g.register (token_view token) k talk.reads.shown chunk new.reads.shown
       → SharesFor w (steps.Read token k) talk (answers.Chunk chunk) new
   was_read token k chunk new keeps reads m d gathered planned is fits some =
       let ask = asks.Reads is.0 (token_view token) k in
@@ -179,6 +181,7 @@ module _ {J : Type 0} {g : Ghosts J} (w : Terms) (talk : Talk J g) where
             (shares.ToRead one.found)) (sym is.1)
             (chunk, one.found, refl, refl, one.is_found);
         read = one.read;
+        found = subst (λ a. IsToldFor g.register a (shares.ToRead one.found)) (sym is.1) one.under;
         hands = subst (λ a. HandsAfter (end_of talk.seat) a (shares.ToRead one.found)
             (hands_of talk) (hands_of new)) (sym is.1) keeps.hands;
         planned = subst (λ s. Planned w s m d gathered false) (sym keeps.session) planned;
@@ -199,7 +202,7 @@ module _ {J : Type 0} {g : Ghosts J} (w : Terms) (talk : Talk J g) where
       let here : group ≡ gives.one.article.group =
       sym is.2 ∙ sym (ap (λ (j : model.Job). j.article.group) gives.job_is) in
       answered new (answers.Pushed true) (shares.ToPush true) m d gathered (asks.Pushes is.0) is.1
-      (true, refl, refl) tt (
+      (true, refl, refl) tt tt (
         gives.one,
         gives.job_is,
         hands_are (hands_of new) (with_job (end_of talk.seat) gives.one (hands_of talk))
@@ -230,20 +233,20 @@ module _ {J : Type 0} {g : Ghosts J} (w : Terms) (talk : Talk J g) where
   pub not_pushed : (group : ℕ) → SharesFor w (steps.Push group) talk (answers.Pushed false) talk
   not_pushed group m d gathered planned is fits some =
       answered talk (answers.Pushed false) (shares.ToPush false) m d gathered (asks.Pushes is.0)
-      is.1 (false, refl, refl) tt refl planned
+      is.1 (false, refl, refl) tt tt refl planned
 
   -- nothing is in the slot
   pub slot_empty : SharesFor w steps.Slot talk (answers.Slot None) talk
   slot_empty m d gathered planned is fits some =
       answered talk (answers.Slot None) (shares.InSlot None) m d gathered
-      (asks.LooksInSlot is.0 is.1) is.2 (None, refl, refl) tt refl planned
+      (asks.LooksInSlot is.0 is.1) is.2 (None, refl, refl) tt tt refl planned
 
   -- the job failed
   pub slot_failed : (new : Talk J g) → new.session ≡ talk.session → hands_of new ≡ hands_of talk
       → SharesFor w steps.Slot talk (answers.Slot (Some outcomes.Failed)) new
   slot_failed new session hands m d gathered planned is fits some =
       answered new (answers.Slot (Some outcomes.Failed)) (shares.InSlot (Some world.HasFailed)) m d
-      gathered (asks.LooksInSlot is.0 is.1) is.2 (Some outcomes.Failed, refl, refl) tt hands
+      gathered (asks.LooksInSlot is.0 is.1) is.2 (Some outcomes.Failed, refl, refl) tt tt hands
       (subst (λ s. Planned w s m d gathered false) (sym session) planned)
 
   -- the job is kept, and its receipt joins the others
@@ -253,22 +256,22 @@ module _ {J : Type 0} {g : Ghosts J} (w : Terms) (talk : Talk J g) where
       → SharesFor w steps.Slot talk (answers.Slot (Some outcomes.Kept)) new
   slot_kept new one session jobs count kept number m d gathered planned is fits some =
       answered new (answers.Slot (Some outcomes.Kept)) (shares.InSlot (Some world.IsKept)) m d
-      gathered (asks.LooksInSlot is.0 is.1) is.2 (Some outcomes.Kept, refl, refl) tt
+      gathered (asks.LooksInSlot is.0 is.1) is.2 (Some outcomes.Kept, refl, refl) tt tt
       (hands_are (hands_of new) (with_kept (hands_of talk)) jobs count
       (ap (λ l. numbers_of l) kept ∙ map-append (λ (k : KeptJob J g). k.number) talk.kept.items
       (one ∷ []) ∙ ap (λ n. numbers_of talk.kept.items ++ n ∷ []) number))
       (subst (λ s. Planned w s m d gathered false) (sym session) planned)
 
 -- what was found of a block is of the record of the reads, whichever they were before
-module _ (token : Token) (k : ℕ) (old new : Option (Where Record)) where
-  chunk_found : (register : Shelves) (octets : List ℕ) → IfSome old (λ w. new ≡ Some w)
+module _ (register : Shelves) (token : Token) (k : ℕ) (old new : Option (Where Record)) where
+  chunk_found : (octets : List ℕ) → IfSome old (λ w. new ≡ Some w)
       → IsSomeAnd new (IsChunkOf register token k octets)
-      → ReadsFor token k old (chunks.Found octets) new
-  chunk_found register octets stays is asked gathered front = by new refl is
+      → ReadsFor register token k old (chunks.Found octets) new
+  chunk_found octets stays is asked gathered front = by new refl is
     where
       by : (now : Option (Where Record)) → new ≡ now
           → IsSomeAnd now (IsChunkOf register token k octets)
-          → ∥ ReadOf asked token k gathered (chunks.Found octets) new ∥₁
+          → ∥ ReadOf register asked token k gathered (chunks.Found octets) new ∥₁
       by None at none = absurd none
       by (Some one) at here =
           ∥∥₁_map one.value.is_article (λ article. record {
@@ -285,6 +288,7 @@ module _ (token : Token) (k : ℕ) (old new : Option (Where Record)) where
               },
             );
             read = subst (λ o. IsSomeAnd o (λ w. text_in one ≡ text_in w)) (sym at) refl;
+            under = record { shown = one; shows = here.shows; named = here.named; octets = refl };
           })
         where
           front_of : (one : Where Record) → new ≡ Some one
@@ -299,24 +303,24 @@ module _ (token : Token) (k : ℕ) (old new : Option (Where Record)) where
               front_in (Some w) stays (inr some) =
                   some ∙ ap (λ o. take (chunk_size * k) (text_or o)) (sym stays ∙ at)
 
-  pub block_found : (register : Shelves) (slice : List ℕ) (what : Found)
+  pub block_found : (slice : List ℕ) (what : Found)
       → IfSome old (λ w. new ≡ Some w) → IsFoundIn register token k slice new what
-      → ReadsFor token k old (chunk_view what slice) new
-  block_found register slice (found.Chunk n) stays is asked gathered fits =
-      chunk_found register (take n slice) stays is asked gathered fits
-  block_found register slice (found.Gone front) stays is asked gathered fits =
-      ∣ record { found = fetches.Gone; is_found = refl; read = tt } ∣₁
-  block_found register slice found.Unknown stays is asked gathered fits =
-      ∣ record { found = fetches.NotKnown; is_found = refl; read = tt } ∣₁
+      → IsFoundGone token what → ReadsFor register token k old (chunk_view what slice) new
+  block_found slice (found.Chunk n) stays is gone asked gathered fits =
+      chunk_found (take n slice) stays is asked gathered fits
+  block_found slice (found.Gone front) stays is gone asked gathered fits =
+      ∣ record { found = fetches.Gone; is_found = refl; read = tt; under = (front, gone) } ∣₁
+  block_found slice found.Unknown stays is gone asked gathered fits =
+      ∣ record { found = fetches.NotKnown; is_found = refl; read = tt; under = tt } ∣₁
 
-  pub block_failed : ReadsFor token k old chunks.Device new
+  pub block_failed : ReadsFor register token k old chunks.Device new
   block_failed asked gathered fits =
-      ∣ record { found = fetches.NotRead; is_found = refl; read = tt } ∣₁
+      ∣ record { found = fetches.NotRead; is_found = refl; read = tt; under = tt } ∣₁
 
   -- the reads began anew before
   pub block_begun : (mid : Option (Where Record)) (chunk : Chunk)
       → ((gathered : List ℕ) → IsFrontOf old k gathered → IsFrontOf mid k gathered)
-      → ReadsFor token k mid chunk new → ReadsFor token k old chunk new
+      → ReadsFor register token k mid chunk new → ReadsFor register token k old chunk new
   block_begun mid chunk begins reads asked gathered front =
       reads asked gathered (begins gathered front)
 

@@ -5,17 +5,18 @@ use Rattle.std.proofs.Common.{None, Some, refl, sym, ap, subst, ◌∙◌, take,
 use Rattle.std.proofs.Math.Logic.{∥∥₁_map, ∥∥₁_elim, ∥∥₁_prop}
 use Rattle.std.proofs.lemmas.List.{append-nil, append_assoc}
 use Rattle.std.specs.Option.{IsSomeAnd}
-use Rattle.boxcar.specs.Table.{Where}
+use Rattle.boxcar.specs.Table.{Shelves, Where}
 use Rattle.live_seats.specs.Seats.{end_of}
+use Rattle.live_session.proofs.Closing.{course_ends}
 use Rattle.live_session.specs.Carried.{Begins, Carried, Carries, CarriesOn, CarriesSame, IsServed}
 use Rattle.live_session.specs.Carried.{Serves, ServesOn}
 use Rattle.live_session.specs.Course as course
 use Rattle.live_session.specs.Course.{Course, Breaks, Comes, Goes, Hands, HandsAfter, IsTurnOf}
 use Rattle.live_session.specs.Course.{Point, Turn, after_turn, broken_off, greeted, octets_of}
 use Rattle.live_session.specs.Course.{parted_by, with_piece}
-use Rattle.live_session.specs.Going.{AskFits, FrontFits, Going, HearsAnswer, IsFrontOf, IsReadOf}
-use Rattle.live_session.specs.Going.{KeepsButSession, KeepsPlace, LetsGo, SharesFor, Shared}
-use Rattle.live_session.specs.Going.{StaysSame, WentOn, WentTo, hands_of, parted_after}
+use Rattle.live_session.specs.Going.{AskFits, FrontFits, HearsAnswer, IsFrontOf, IsReadOf}
+use Rattle.live_session.specs.Going.{KeepsButSession, KeepsPlace, LetsGo, SharesFor}
+use Rattle.live_session.specs.Going.{StaysSame, WentOn, hands_of, parted_after}
 use Rattle.live_session.specs.declared.talk.Talk.{Talk}
 use Rattle.live_session.specs.declared.wire.Finish.{Finish}
 use Rattle.live_session.specs.declared.wire.Finish.TheVariants as finishes
@@ -23,24 +24,22 @@ use Rattle.live_store.specs.Tied.{text_in}
 use Rattle.live_store.specs.declared.record.Archive.{Ghosts}
 use Rattle.live_store.specs.declared.record.Record.{Record}
 use Rattle.news_terms.specs.Reply.{Greeting, reply_text}
-use Rattle.news_terms.specs.Token.{Token}
-use Rattle.peer_session.specs.Answers.{AsksOf, handed}
+use Rattle.peer_session.specs.Answers.{AsksOf}
 use Rattle.peer_session.specs.Hearing.{Gathers}
 use Rattle.peer_session.specs.Planning.{DueGiven, Planned}
-use Rattle.peer_session.specs.Said.{IsReply, IsSaid}
-use Rattle.peer_session.specs.Session.{BrokenOff, Fed, Stands, StandsAsBefore, has_parted}
+use Rattle.peer_session.specs.Said.{IsSaid}
+use Rattle.peer_session.specs.Session.{BrokenOff, Fed, Stands, has_parted}
 use Rattle.peer_session.specs.Session.{session_view}
-use Rattle.peer_session.specs.declared.session.Session.{Session}
 use Rattle.peer_session.specs.declared.steps.Answer.{Answer}
 use Rattle.peer_session.specs.declared.steps.Answer.TheVariants as answers
 use Rattle.peer_session.specs.declared.steps.Step.{Step}
 use Rattle.relay_model.specs.Asks as asks
 use Rattle.relay_model.specs.Asks.{Ask, Due}
-use Rattle.relay_model.specs.Fetches as fetches
-use Rattle.relay_model.specs.Hears.{Heard, Hears}
-use Rattle.relay_model.specs.Run.{is_reading}
+use Rattle.relay_model.specs.Hears.{Hears, silent}
+use Rattle.relay_model.specs.Run.{is_reading, is_running, new_session}
 use Rattle.relay_model.specs.Shares as shares
 use Rattle.relay_model.specs.State as model
+use Rattle.relay_model.specs.State.{in_phase}
 use Rattle.relay_model.specs.Terms.{Terms, last_moment}
 use Rattle.relay_model.specs.World.{Parts, Said, Silent, Speaks}
 
@@ -189,6 +188,7 @@ module _ {J : Type 0} {g : Ghosts J} (w : Terms) (old new : Talk J g) where
             due = plan.is_due;
             hears = subst (λ n. Hears n plan.due.after plan.due.ask shared.told heard.heard)
                 number heard.hears;
+            found = shared.found;
           }) hands;
           gathered = heard.later;
           stands = heard.stands;
@@ -328,6 +328,16 @@ module _ {J : Type 0} {g : Ghosts J} (w : Terms) (old new : Talk J g) where
             (same (read ++ one.at.heard) (written ++ one.at.said) one.at.parted one.carries)));
       }))
 
+-- a phase that doesn't run is the last
+not_running : (phase : model.Phase) → is_running phase ≡ false → phase ≡ model.Ended
+not_running model.Ready h = cc
+not_running (model.Owes transfer id) h = cc
+not_running (model.Holds id article) h = cc
+not_running (model.Waits transfer id) h = cc
+not_running (model.Fetches asked token had) h = cc
+not_running model.Leaving h = cc
+not_running model.Ended h = refl
+
 module _ {J : Type 0} {g : Ghosts J} (w : Terms) (talk : Talk J g) (peer : ℕ)
     (read written : List ℕ) where
   -- a session that has just been opened is on its course, and its greeting waits
@@ -352,39 +362,62 @@ module _ {J : Type 0} {g : Ghosts J} (w : Terms) (talk : Talk J g) (peer : ℕ)
     };
   }
 
-  -- a session that ended, with nothing left to write, was served
+  -- a session that is closed, with nothing left to write, was served
   pub ended : (s end : ℕ) (before : Hands) (c : Carried) (finish : Finish)
       → c.finish ≡ Some finish → c.waiting ≡ []
+      → is_running (session_view talk.session).phase ≡ false
       → Serves w s end (greeted peer before) read written talk c
-      → IsServed w s end peer before read written finish (hands_of talk) c.heard c.written
-  ended s end before c finish is none serves = record {
-    at = serves.at;
-    course = serves.going.course;
-    carries = subst (λ l. Carries (record {
-      heard = c.heard;
-      written = c.written;
-      waiting = l;
-      finish = Some finish;
-    }) (read ++ serves.at.heard) (written ++ serves.at.said) serves.at.parted) none
-        (subst (λ f. Carries (record {
+      → IsServed g.register w s end peer before read written finish (hands_of talk) c.heard
+      c.written
+  ended s end before c finish is none closes serves =
+      let here = not_running serves.at.session.phase
+      (ap (λ (m : model.Session). is_running m.phase) serves.going.stands.is ∙ closes) in
+      let nothing = course_ends g.register w s end (greeted peer before) serves.at (λ at. cc)
+      serves.going.course here in
+      record {
+        at = serves.at;
+        course = serves.going.course;
+        closed = record { phase = here; hand = nothing.0; offers = nothing.1 };
+        carries = subst (λ l. Carries (record {
           heard = c.heard;
           written = c.written;
-          waiting = c.waiting;
-          finish = f;
-        }) (read ++ serves.at.heard) (written ++ serves.at.said) serves.at.parted) is
-        serves.carries);
-    hands = serves.going.hands;
-  }
+          waiting = l;
+          finish = Some finish;
+        }) (read ++ serves.at.heard) (written ++ serves.at.said) serves.at.parted) none
+            (subst (λ f. Carries (record {
+              heard = c.heard;
+              written = c.written;
+              waiting = c.waiting;
+              finish = f;
+            }) (read ++ serves.at.heard) (written ++ serves.at.said) serves.at.parted) is
+            serves.carries);
+        hands = serves.going.hands;
+      }
+
+-- a session that breaks off at its greeting, with no job and no offer, ends by its next turn
+abbrev last_turn : ℕ → Turn
+last_turn peer =
+    let left = in_phase (new_session peer) model.Leaving in
+    record {
+      now = 0;
+      due = asks.due_as asks.Ends left;
+      told = shares.Nothing;
+      heard = silent (in_phase left model.Ended);
+    }
 
 -- a session for which there was no memory read and wrote nothing
-pub unbegun : (w : Terms) (s end peer : ℕ) (hands : Hands) (read written : List ℕ)
-    → IsServed w s end peer hands read written finishes.Broken hands read written
-unbegun w s end peer hands read written = record {
-  at = greeted peer hands;
-  course = course.Begins;
+pub unbegun : (register : Shelves) (w : Terms) (s end peer : ℕ) (hands : Hands)
+    (read written : List ℕ)
+    → IsServed register w s end peer hands read written finishes.Broken hands read written
+unbegun register w s end peer hands read written = record {
+  at = after_turn (broken_off (greeted peer hands)) (last_turn peer) hands;
+  course = Goes (broken_off (greeted peer hands)) (last_turn peer) hands
+      (Breaks (greeted peer hands) course.Begins refl)
+      (record { moment = omega arith; due = refl; hears = refl; found = tt }) refl;
+  closed = record { phase = refl; hand = refl; offers = refl };
   carries = record {
     heard = ([], sym (append-nil (read ++ []) ∙ append-nil read));
-    written = (reply_text Greeting, refl);
+    written = (reply_text Greeting ++ [], refl);
     ends = tt;
   };
   hands = refl;

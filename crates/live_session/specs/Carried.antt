@@ -3,7 +3,8 @@ use Rattle.std.specs.Prelude.{◌≡◌, ℕ, ◌++◌, Bool, true, false, List,
 use Rattle.std.specs.Prelude.{Option, None, Some, if◌then◌else◌}
 use Rattle.std.specs.Global.{Vec}
 use Rattle.std.specs.Option.{IsSomeAnd}
-use Rattle.live_session.specs.Course.{Course, Hands, Point, greeted}
+use Rattle.boxcar.specs.Table.{Shelves}
+use Rattle.live_session.specs.Course.{Course, Hands, IsClosed, Point, greeted}
 use Rattle.live_session.specs.Going.{Going, parted_after}
 use Rattle.live_session.specs.declared.talk.Talk.{Talk}
 use Rattle.live_session.specs.declared.wire.Finish.{Finish}
@@ -114,13 +115,15 @@ CarriesSame old new =
     (came replies : List ℕ) (parted : Option (List ℕ)) → Carries old came replies parted
     → Carries new came replies parted
 
--- What a connection that is over was: its session came from the greeting to a point, the reader
--- has read what came to it, the writer has written what it said, and the end has handed over what
--- it handed over.
-pub record IsServed (w : Terms) (s end peer : ℕ) (before : Hands) (read written : List ℕ)
-    (finish : Finish) (after : Hands) (read' written' : List ℕ) : Type 0 where
+-- What a connection that is over was: its session came from the greeting to a point at which it is
+-- closed, the reader has read what came to it, the writer has written what it said, and the end has
+-- handed over what it handed over.
+pub record IsServed (register : Shelves) (w : Terms) (s end peer : ℕ) (before : Hands)
+    (read written : List ℕ) (finish : Finish) (after : Hands) (read' written' : List ℕ)
+    : Type 0 where
   pub at : Point
-  pub course : Course w s end (greeted peer before) at
+  pub course : Course register w s end (greeted peer before) at
+  pub closed : IsClosed at.session
   pub carries : Carries (record {
     heard = read';
     written = written';

@@ -1,17 +1,24 @@
 -- What a session of an end does, by the moments and the answers that it had: what it says to what
 -- came to it, and which jobs its end hands over (docs/PROTOCOL.md, Sessions, Threads).
-use Rattle.std.specs.Prelude.{◌≡◌, ◌≤◌, ℕ, ◌+◌, ◌-◌, ◌++◌, Bool, true, false, List, [], ◌∷◌}
+use Rattle.std.specs.Prelude.{◌≡◌, ◌≤◌, ℕ, ◌+◌, ◌-◌, ◌++◌, true, List, [], ◌∷◌}
 use Rattle.std.specs.Prelude.{Option, None, Some, slice_set, slice_index_or}
+use Rattle.boxcar.specs.Table.{Shelves, Shows, Where}
 use Rattle.buffer_group.specs.Jobs.{job_view}
 use Rattle.buffer_group.specs.declared.job.Job.{Job}
+use Rattle.cyc_buffer.specs.declared.answers.Front.{Front}
 use Rattle.job_queue.specs.declared.parcel.Handed.{Handed}
+use Rattle.live_store.specs.Steps.{IsGoneBy}
+use Rattle.live_store.specs.Tied.{text_in, token_in}
+use Rattle.live_store.specs.declared.record.Record.{Record}
 use Rattle.news_terms.specs.Reply.{Greeting, reply_text}
-use Rattle.relay_model.specs.Asks.{Ask, Due, IsDue, Pushes, LooksInSlot}
+use Rattle.news_terms.specs.Token.{Token}
+use Rattle.relay_model.specs.Asks.{Ask, Due, IsDue, Reads, Pushes, LooksInSlot}
+use Rattle.relay_model.specs.Fetches.{Fetched, Article, Gone, NotKnown, NotRead}
 use Rattle.relay_model.specs.Hears.{Heard, Hears}
 use Rattle.relay_model.specs.Run.{is_reading, new_session}
-use Rattle.relay_model.specs.Shares.{Answer, ToPush, InSlot}
+use Rattle.relay_model.specs.Shares.{Answer, ToRead, ToPush, InSlot}
 use Rattle.relay_model.specs.State as model
-use Rattle.relay_model.specs.State.{Session, Leaving, in_phase, with_unread}
+use Rattle.relay_model.specs.State.{Session, Leaving, Ended, in_phase, with_unread}
 use Rattle.relay_model.specs.Terms.{Terms, last_moment}
 use Rattle.relay_model.specs.World.{IsKept, Said, Silent, Speaks, Parts}
 
@@ -92,6 +99,12 @@ greeted peer hands =
       hands = hands;
     }
 
+-- a session that is closed has nothing left: no job in its hand, and no open offer
+pub record IsClosed (session : Session) : Type 0 where
+  pub phase : session.phase ≡ Ended
+  pub hand : session.hand ≡ None
+  pub offers : session.offers ≡ []
+
 -- a piece has come
 abbrev pub with_piece : List ℕ → Point → Point
 with_piece piece p =
@@ -104,11 +117,39 @@ with_piece piece p =
 abbrev pub broken_off : Point → Point
 broken_off p = record p { session = in_phase p.session Leaving }
 
--- the turn is one of session s: this was due at its moment, and the session made that of the answer
-pub record IsTurnOf (w : Terms) (s : ℕ) (p : Point) (turn : Turn) : Type 0 where
+-- one record of the register has this token and this text
+pub record IsTextUnder (register : Shelves) (token : Token) (text : List ℕ) : Type 0 where
+  pub shown : Where Record
+  pub shows : Shows register shown
+  pub named : token_in shown ≡ token
+  pub octets : text_in shown ≡ text
+
+-- what was found of a token: the text of one record of the register, which has that very token; or
+-- that a front of the token's buffer has passed the article
+abbrev pub IsFoundUnder : Shelves → Token → Fetched → Type 0
+IsFoundUnder register token (Article text) = IsTextUnder register token text
+IsFoundUnder register token Gone = (front : Front) × IsGoneBy front token
+IsFoundUnder register token NotKnown = Unit {0}
+IsFoundUnder register token NotRead = Unit {0}
+
+-- where a token was to be read, this was found of it
+abbrev pub IsFoundFor : Shelves → Ask → Fetched → Type 0
+IsFoundFor register (Reads asked token had) found = IsFoundUnder register token found
+IsFoundFor register other found = Unit {0}
+
+-- what a read answers is of the token that was to be read
+abbrev pub IsToldFor : Shelves → Ask → Answer → Type 0
+IsToldFor register ask (ToRead found) = IsFoundFor register ask found
+IsToldFor register ask other = Unit {0}
+
+-- the turn is one of session s: this was due at its moment, the session made that of the answer,
+-- and what it read is of one record of the register with the token that was due
+pub record IsTurnOf (register : Shelves) (w : Terms) (s : ℕ) (p : Point) (turn : Turn)
+    : Type 0 where
   pub moment : turn.now ≤ last_moment
   pub due : IsDue w p.session turn.now turn.due
   pub hears : Hears s turn.due.after turn.due.ask turn.told turn.heard
+  pub found : IsToldFor register turn.due.ask turn.told
 
 -- a turn was had, and the end has handed over this
 abbrev pub after_turn : Point → Turn → Hands → Point
@@ -122,12 +163,13 @@ after_turn p turn hands =
 
 -- How session s of this end comes from one point to another: pieces come and the connection may
 -- break while it reads, and it has turns.
-pub data Course (w : Terms) (s end : ℕ) (first : Point) : Point → Type 0 where
-  Begins : Course w s end first first
-  Comes : (p : Point) (piece : List ℕ) → Course w s end first p
-      → is_reading p.session.phase ≡ true → Course w s end first (with_piece piece p)
-  Goes : (p : Point) (turn : Turn) (hands : Hands) → Course w s end first p
-      → IsTurnOf w s p turn → HandsAfter end turn.due.ask turn.told p.hands hands
-      → Course w s end first (after_turn p turn hands)
-  Breaks : (p : Point) → Course w s end first p → is_reading p.session.phase ≡ true
-      → Course w s end first (broken_off p)
+pub data Course (register : Shelves) (w : Terms) (s end : ℕ) (first : Point)
+    : Point → Type 0 where
+  Begins : Course register w s end first first
+  Comes : (p : Point) (piece : List ℕ) → Course register w s end first p
+      → is_reading p.session.phase ≡ true → Course register w s end first (with_piece piece p)
+  Goes : (p : Point) (turn : Turn) (hands : Hands) → Course register w s end first p
+      → IsTurnOf register w s p turn → HandsAfter end turn.due.ask turn.told p.hands hands
+      → Course register w s end first (after_turn p turn hands)
+  Breaks : (p : Point) → Course register w s end first p → is_reading p.session.phase ≡ true
+      → Course register w s end first (broken_off p)

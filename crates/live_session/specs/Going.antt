@@ -1,16 +1,16 @@
 -- Where the session of a thread is on its course.
 use Rattle.std.specs.Prelude.{◌≡◌, ◌≢◌, ◌⊎◌, ℕ, ◌*◌, ◌++◌, Bool, true, false, List, [], ◌∷◌, take}
-use Rattle.std.specs.Prelude.{map, Option, None, Some}
+use Rattle.std.specs.Prelude.{map, Option, Some}
 use Rattle.std.specs.Option.{IsSomeAnd}
 use Rattle.article_fetch.specs.Fetch.{FoundAs}
 use Rattle.article_fetch.specs.declared.chunk.Chunk.{Chunk}
 use Rattle.article_fetch.specs.declared.chunk.Chunk.TheVariants as chunks
-use Rattle.boxcar.specs.Table.{Where}
+use Rattle.boxcar.specs.Table.{Shelves, Where}
 use Rattle.cyc_buffer.specs.declared.answers.Found.{Found}
 use Rattle.cyc_buffer.specs.declared.answers.Found.TheVariants as found
 use Rattle.live_fates.specs.declared.fate.KeptJob.{KeptJob}
 use Rattle.live_seats.specs.Seats.{count_of, end_of, handed_by}
-use Rattle.live_session.specs.Course.{Course, Hands, HandsAfter, Point}
+use Rattle.live_session.specs.Course.{Course, Hands, HandsAfter, IsFoundUnder, IsToldFor, Point}
 use Rattle.live_seats.specs.declared.session.SessionSeat.{SessionSeat}
 use Rattle.live_session.specs.declared.talk.Talk.{Talk}
 use Rattle.live_session.specs.declared.talk.Turned.{Turned}
@@ -69,7 +69,7 @@ FrontFits shown phase gathered =
 -- the session of the thread, of this number and end, came to this point from the first one
 pub record Going {J : Type 0} {g : Ghosts J} (w : Terms) (s end : ℕ) (first : Point)
     (talk : Talk J g) (p : Point) : Type 0 where
-  pub course : Course w s end first p
+  pub course : Course g.register w s end first p
   pub gathered : List ℕ
   pub stands : Stands w talk.session p.session gathered
   pub front : FrontFits talk.reads.shown p.session.phase gathered
@@ -88,9 +88,9 @@ AskFits shown (asks.Reads asked token had) gathered = IsFrontOf shown had gather
 AskFits shown other gathered = Unit {0}
 
 -- what a read of block k finds is the next block of a fetch of the token that has gathered the
--- front of its record's text
-pub record ReadOf (asked : model.Asked) (token : Token) (k : ℕ) (gathered : List ℕ)
-    (chunk : Chunk) (shown : Option (Where Record)) : Type 0 where
+-- front of its record's text, and the record is one of the register and has the token
+pub record ReadOf (register : Shelves) (asked : model.Asked) (token : Token) (k : ℕ)
+    (gathered : List ℕ) (chunk : Chunk) (shown : Option (Where Record)) : Type 0 where
   pub found : fetches.Fetched
   pub is_found : FoundAs (record {
     asked = asked;
@@ -100,13 +100,14 @@ pub record ReadOf (asked : model.Asked) (token : Token) (k : ℕ) (gathered : Li
     prepared = true;
   }) chunk found
   pub read : IsReadOf shown (shares.ToRead found)
+  pub under : IsFoundUnder register token found
 
 -- block k of the token is read for whatever fetch has gathered the front of its record's text
-abbrev pub ReadsFor : Token → (k : ℕ) → Option (Where Record) → Chunk → Option (Where Record)
-    → Type 0
-ReadsFor token k old chunk new =
+abbrev pub ReadsFor : Shelves → Token → (k : ℕ) → Option (Where Record) → Chunk
+    → Option (Where Record) → Type 0
+ReadsFor register token k old chunk new =
     (asked : model.Asked) (gathered : List ℕ) → IsFrontOf old k gathered
-    → ∥ ReadOf asked token k gathered chunk new ∥₁
+    → ∥ ReadOf register asked token k gathered chunk new ∥₁
 
 -- the step was done, and is answered as the definitions say
 pub record Shared {J : Type 0} {g : Ghosts J} (w : Terms) (m : model.Session) (d : Due)
@@ -114,6 +115,7 @@ pub record Shared {J : Type 0} {g : Ghosts J} (w : Terms) (m : model.Session) (d
   pub told : shares.Answer
   pub answers : IsAnswerTo d.ask gathered answer told
   pub read : IsReadOf new.reads.shown told
+  pub found : IsToldFor g.register d.ask told
   pub hands : HandsAfter (end_of old.seat) d.ask told (hands_of old) (hands_of new)
   pub planned : Planned w new.session m d gathered (handed answer)
 

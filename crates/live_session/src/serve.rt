@@ -1,11 +1,13 @@
 //! A session is served over a connection.
-ghost use Rattle.std.specs.Prelude.{◌≡◌, ◌≤◌, ◌^◌, [], true, IfOk};
+ghost use Rattle.std.specs.Prelude.{◌≡◌, ◌≤◌, ◌^◌, [], true, false, IfOk};
 ghost use Rattle.article_verdict.specs.Config.{terms_of};
 ghost use Rattle.live_seats.specs.Seats.{IsSeatOf, count_of, end_of};
 ghost use Rattle.live_session.specs.Carried.{Begins, Carried, CarriesSame, IsServed, ServesOn};
 ghost use Rattle.live_session.specs.Carried.{carried};
 ghost use Rattle.live_session.specs.Going.{hands_at};
 ghost use Rattle.live_session.specs.declared.wire.Finish.TheVariants as finishes;
+ghost use Rattle.peer_session.specs.Session.{session_view};
+ghost use Rattle.relay_model.specs.Run.{is_running};
 ghost use Rattle.relay_model.specs.Terms.{Terms};
 
 use crate::shares::{Clock, Gate, Shares};
@@ -23,13 +25,10 @@ use std::alloc::{AllocError, Global};
 use std::hash::RandomState;
 use std::io::ErrorKind;
 use std::sync::Wait;
+use std::thread;
 
 /// Turns of a session, at most.
 const TURNS: u64 = 1 << 40;
-
-/// Turns of a session that leaves, at most. It needs no more than one for each open offer and two
-/// more, but one that is refused memory tries again.
-const LEAVING_TURNS: u64 = 1 << 20;
 
 /// Jobs of an end: with so many or more, no connection of it is greeted.
 const MOST_JOBS: u64 = 1 << 62;
@@ -54,8 +53,9 @@ pub struct Served<J: Archive, H: Hears, W: Says> {
 /// Serves session `number` of a peer over a connection, from the greeting until it is closed. What
 /// was written is what its machine says to the bytes read; where the connection broke, a front of
 /// that. A session whose connection breaks, that is held or has had 2^40 turns leaves, as the other
-/// ones do: its job is handed over, and its open offers end. Where the end has handed over 2^62
-/// jobs or more, the connection is broken before its greeting (docs/PROTOCOL.md, Threads).
+/// ones do: its job is handed over, and its open offers end, however often it is refused memory for
+/// that. Where the end has handed over 2^62 jobs or more, the connection is broken before its
+/// greeting (docs/PROTOCOL.md, Threads).
 pub fn serve_session<S: Shares<J, R>, C: Clock, G: Gate<R>, J: Archive, H: Hears, W: Says, R: Wait>(
     rt: &R,
     alloc: Global,
@@ -72,8 +72,8 @@ pub fn serve_session<S: Shares<J, R>, C: Clock, G: Gate<R>, J: Archive, H: Hears
     requires seat { IsSeatOf hall.now.lanes.now seat }
     ensures seat { IsSeatOf hall.now.lanes.now result.seat }
     ensures end { end_of result.seat ≡ end_of seat }
-    ensures served { J.trusted ≡ true → ∥ IsServed (terms_of hall.now.config.now) number
-        (end_of seat) peer (hands_at seat kept.items) (H.heard reader) (W.said writer)
+    ensures served { J.trusted ≡ true → ∥ IsServed J.register (terms_of hall.now.config.now)
+        number (end_of seat) peer (hands_at seat kept.items) (H.heard reader) (W.said writer)
         result.finish (hands_at result.seat result.kept.items) (H.heard result.reader)
         (W.said result.writer) ∥₁ }
     ensures many { 2 ^ 62 ≤ count_of seat → (result.finish ≡ finishes.Broken)
@@ -271,7 +271,7 @@ fn receive<J: Archive, H: Hears, W: Says>(talk: &mut Talk<J>, wire: &mut Wire<H,
 }
 
 /// Turns of a session that leaves, until it is closed: its job is handed over and its open offers
-/// end. What it still says is to be written.
+/// end, since an id that stays offered is lost to every peer. What it still says is to be written.
 fn leave<S: Shares<J, R>, C: Clock, G: Gate<R>, J: Archive, H: Hears, W: Says, R: Wait>(
     rt: &R,
     alloc: Global,
@@ -287,16 +287,18 @@ fn leave<S: Shares<J, R>, C: Clock, G: Gate<R>, J: Archive, H: Hears, W: Says, R
         (carried (H.heard wire.old.reader) (W.said wire.old.writer) wire.old.outbox wire.old.finish)
         (carried (H.heard wire.new.reader) (W.said wire.new.writer)
         wire.new.outbox wire.new.finish) }
+    ensures closed { is_running (session_view talk.new.session).phase ≡ false }
 {
-    for _ in 0..LEAVING_TURNS {
+    for _ in rt.forever() {
         if !talk.session.is_running() {
-            break;
+            return;
         }
         last_turn(rt, alloc, hall, talk, wire);
     }
+    unreachable!()
 }
 
-/// One turn of a session that leaves.
+/// One turn of a session that leaves. Where it is refused memory it gives way.
 fn last_turn<S: Shares<J, R>, C: Clock, G: Gate<R>, J: Archive, H: Hears, W: Says, R: Wait>(
     rt: &R,
     alloc: Global,
@@ -317,7 +319,7 @@ fn last_turn<S: Shares<J, R>, C: Clock, G: Gate<R>, J: Archive, H: Hears, W: Say
         Turned::Says(said) => put(wire, said, talk.session.has_parted()),
         Turned::Rests => {}
         Turned::Held => {}
-        Turned::Memory => {}
+        Turned::Memory => thread::yield_now(),
     }
 }
 

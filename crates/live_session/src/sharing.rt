@@ -92,8 +92,8 @@ fn read<S: Shares<J, R>, C, G, J: Archive, R: Wait>(
     requires register { hall.now.register.now ≡ J.register }
     ensures rest { KeepsButReads talk.old talk.new }
     ensures seat { talk.new.seat ≡ talk.old.seat }
-    ensures read { J.trusted ≡ true → ReadsFor (token_view token.now) k talk.old.reads.shown
-        result talk.new.reads.shown }
+    ensures read { J.trusted ≡ true → ReadsFor J.register (token_view token.now) k
+        talk.old.reads.shown result talk.new.reads.shown }
 {
     begin_reads(&mut talk.reads, k);
     let mut octets = [0; CHUNK_OCTETS];

@@ -1,5 +1,6 @@
 -- The sessions that an end has served, one after the other (docs/PROTOCOL.md, Threads).
 use Rattle.std.specs.Prelude.{◌≡◌, ℕ, Bool, true, List, [], length, map, Some, slice_get}
+use Rattle.boxcar.specs.Table.{Shelves}
 use Rattle.job_queue.specs.declared.parcel.Handed.{Handed}
 use Rattle.live_fates.specs.declared.fate.KeptJob.{KeptJob}
 use Rattle.live_session.specs.Carried.{IsServed}
@@ -14,12 +15,13 @@ IsNothing jobs = (g : ℕ) (list : List Handed) → slice_get jobs g ≡ Some li
 
 -- What an end of a peer has handed over and answered kept: nothing before its first session; each
 -- session goes on from there, over a connection of which nothing was read or written before.
-pub data Sessions (w : Terms) (end peer : ℕ) : Hands → Type 0 where
+pub data Sessions (register : Shelves) (w : Terms) (end peer : ℕ) : Hands → Type 0 where
   NoneYet : (jobs : List (List Handed)) → IsNothing jobs
-      → Sessions w end peer (record { jobs = jobs; count = 0; kept = [] })
+      → Sessions register w end peer (record { jobs = jobs; count = 0; kept = [] })
   Then : (before after : Hands) (s : ℕ) (finish : Finish) (heard said : List ℕ)
-      → Sessions w end peer before → IsServed w s end peer before [] [] finish after heard said
-      → Sessions w end peer after
+      → Sessions register w end peer before
+      → IsServed register w s end peer before [] [] finish after heard said
+      → Sessions register w end peer after
 
 -- each end has a list for each of so many groups
 abbrev pub HasLists : (groups : ℕ) → List (List (List Handed)) → Type 0
@@ -30,8 +32,8 @@ HasLists groups hands =
 -- sessions have come to
 abbrev pub Accounted : {J : Type 0} {g : Ghosts J} → (trusted : Bool) → Terms
     → (end peer count : ℕ) → List (List Handed) → List (KeptJob J g) → Type 0
-Accounted trusted w end peer count jobs kept =
-    trusted ≡ true → ∥ Sessions w end peer (record {
+Accounted {J} {g} trusted w end peer count jobs kept =
+    trusted ≡ true → ∥ Sessions g.register w end peer (record {
       jobs = jobs;
       count = count;
       kept = map (λ k. k.number) kept;

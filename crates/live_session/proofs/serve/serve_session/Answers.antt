@@ -1,4 +1,4 @@
-use Rattle.std.proofs.Common.{◌∙◌, ◌++◌, None, Some, ap, subst, sym}
+use Rattle.std.proofs.Common.{◌∙◌, ◌++◌, Some, ap, subst, sym}
 use Rattle.std.proofs.Math.Logic.{∥∥₁_map}
 use Rattle.article_verdict.specs.Config.{terms_of}
 use Rattle.live_seats.specs.Seats.{IsSeatOf, end_of}
@@ -14,15 +14,15 @@ use Rattle.live_session.specs.declared.wire.Finish.TheVariants as finishes
 
 pub returns-then-handed-ge-MOST_JOBS-clause-served : goal.returns-then-handed-ge-MOST_JOBS-clause-served
 returns-then-handed-ge-MOST_JOBS-clause-served g c trusted =
-    ∣ unbegun (terms_of c.args.hall.now.config.now) c.args.number (end_of c.args.seat) c.args.peer
-    (hands_at c.args.seat c.args.kept.items) (g.H.Hears.heard c.args.reader)
-    (g.W.Says.said c.args.writer) ∣₁
+    ∣ unbegun g.J.Archive.register (terms_of c.args.hall.now.config.now) c.args.number
+    (end_of c.args.seat) c.args.peer (hands_at c.args.seat c.args.kept.items)
+    (g.H.Hears.heard c.args.reader) (g.W.Says.said c.args.writer) ∣₁
 
 pub returns-in-Err-clause-served : goal.returns-in-Err-clause-served
 returns-in-Err-clause-served g c trusted =
-    ∣ unbegun (terms_of c.args.hall.now.config.now) c.args.number (end_of c.args.seat) c.args.peer
-    (hands_at c.args.seat c.args.kept.items) (g.H.Hears.heard c.args.reader)
-    (g.W.Says.said c.args.writer) ∣₁
+    ∣ unbegun g.J.Archive.register (terms_of c.args.hall.now.config.now) c.args.number
+    (end_of c.args.seat) c.args.peer (hands_at c.args.seat c.args.kept.items)
+    (g.H.Hears.heard c.args.reader) (g.W.Says.said c.args.writer) ∣₁
 
 pub leave-requires-clause-seat : goal.leave-requires-clause-seat
 leave-requires-clause-seat g c =
@@ -59,7 +59,7 @@ returns-clause-served g c trusted =
     c.unwrap_or.result
     (end_of_some last.finish finishes.Broken c.stop.ensures.ended
     ∙ ap Some (sym c.unwrap_or.ensures))
-    (ap (λ v. v.items) c.stop.ensures.waiting ∙ c.flush.ensures.none)
+    (ap (λ v. v.items) c.stop.ensures.waiting ∙ c.flush.ensures.none) c.leave.ensures.closed
     (record {
       at = one.at;
       going = one.going;

@@ -10,9 +10,9 @@ returns-in-Ok-clause-read g c trusted =
     let token = token_view c.args.token.now in
     let mid = c.begin_reads.new.reads.shown in
     let new = c.read.new.reads.shown in
-    let P : Chunk → Type 0 = λ one. ReadsFor token c.args.k mid one new in
-    block_begun token c.args.k c.args.talk.now.reads.shown new mid c.chunk_of.result
-    c.begin_reads.ensures
+    let P : Chunk → Type 0 = λ one. ReadsFor g.J.Archive.register token c.args.k mid one new in
+    block_begun g.J.Archive.register token c.args.k c.args.talk.now.reads.shown new mid
+    c.chunk_of.result c.begin_reads.ensures
     (subst P (sym c.chunk_of.ensures)
-    (block_found token c.args.k mid new g.J.Archive.register c.read.new.chunk c.in-Ok.found
-    c.in-Ok.ensures.kept (c.in-Ok.ensures.chunk trusted)))
+    (block_found g.J.Archive.register token c.args.k mid new c.read.new.chunk c.in-Ok.found
+    c.in-Ok.ensures.kept (c.in-Ok.ensures.chunk trusted) c.in-Ok.ensures.gone))
