@@ -13,7 +13,8 @@ pub(crate) fn stores_of<S: BlockStore + Drop, F: Fn(usize, MemoryBlocks) -> S>(
     made_of: F,
 ) -> Result<Vec<S>, AllocError>
     requires called { F.IsAlwaysCallable made_of }
-    requires same { (number : _) (store : MemoryBlocks) (made : S) → F.post made_of number store made
+    requires same { (number : _) (store : MemoryBlocks) (made : S)
+        → F.post made_of number store made
         → length (S.blocks made) ≡ length (⟦<MemoryBlocks as BlockStore>⟧.blocks store) }
     ensures { IfOk result (λ stores.
         map (λ store. length (S.blocks store)) stores.items

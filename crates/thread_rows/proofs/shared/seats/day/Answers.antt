@@ -13,4 +13,5 @@ serve_seats-served-requires-clause-ends g c κs within =
 pub close-totals-requires-clause-rests : goal.close-totals-requires-clause-rests
 close-totals-requires-clause-rests g c =
     let long = sym (c.in-Ok.ensures.lefts.0 ∙ c.in_ok-lanes.ensures.lanes.2) in
-    subst (λ (x : List Lane × ℕ). RestsFit x.0 x.1 c.in_ok-lanes.field-0.rests.items) (λ i. (sym c.as_slice-lanes.ensures.value i, long i)) c.in_ok-lanes.ensures.rests
+    subst (λ (x : List Lane × ℕ). RestsFit x.0 x.1 c.in_ok-lanes.field-0.rests.items)
+    (λ i. (sym c.as_slice-lanes.ensures.value i, long i)) c.in_ok-lanes.ensures.rests
