@@ -1,210 +1,35 @@
-//! A row, played.
-ghost use Rattle.std.specs.Prelude.{◌≡◌, ◌<◌};
-ghost use Rattle.relay_live.specs.Holding.{has_buffer};
+//! Rows of the relay, played over threads: an end for each session and a writer for each group, a
+//! gate that lets commands in by turns, stores that wait, and connections in memory
+//! (docs/PROTOCOL.md, Threads). Each row stands under a line `== what it shows`.
 
-use crate::board::{Board, Sign};
-use crate::gate::{Manner, Still, Turns};
-use crate::printing::{add_codes, add_counted, add_figures, add_sessions};
-use crate::rooms::Visit;
-use crate::row::Row;
-use crate::settings::config_of;
-use crate::stores::{Waiting, stores_of};
-use live_store::{Archive, Register};
-use relay_conf::Config;
-use relay_live::{Counted, Door, Keeper, Shared, serve_all};
-use std::alloc::{AllocError, Global};
-use std::hash::RandomState;
+mod board;
+mod configs;
+mod figures;
+mod gate;
+mod rooms;
+mod row;
+mod script;
+mod serving;
+mod waiting;
+
+use crate::sections::sections;
+use row::Row;
+use serving::played;
+use std::alloc::Global;
 use std::io;
-use std::io::ErrorKind;
-use std::marker::Brand;
 use std::random::RandomSource;
 use std::sync::Wait;
-use std::sync::ledger::{Blank, Ledger, Share};
 use std::thread::Threads;
 use std::time::Clock;
 
-/// Any error as one of input.
-fn failed() -> io::Error {
-    io::Error::from(ErrorKind::Other)
-}
-
-/// What a session waits for before it begins: where commands come by turns, that the one before it
-/// was greeted, so that sessions have numbers in this order.
-fn before(row: &Row<'_>, number: u64) -> Sign {
-    if row.manner == Manner::Open || number < 2 {
-        return Sign::Always;
-    }
-    Sign::Greeted(number.saturating_sub(1))
-}
-
-/// The peer of a session: of those of odd numbers the first, of those of even ones the second.
-fn peer_of(row: &Row<'_>, number: u64) -> usize {
-    if row.has_one_peer || number % 2 == 1 {
-        0
-    } else {
-        1
-    }
-}
-
-/// A door for each session.
-fn doors_of<'a, R: Sync>(
-    rt: &'a R,
-    alloc: Global,
-    board: &'a Board,
-    turns: &'a Turns<'a>,
-    row: &'a Row<'_>,
-) -> Result<Vec<Door<Visit<'a, R>>>, AllocError> {
-    let mut doors = Vec::new(alloc);
-    let mut number = 0u64;
-    for script in &row.sessions {
-        number = number.saturating_add(1);
-        let connections = Visit {
-            rt,
-            board,
-            turns,
-            number,
-            script: Some(script),
-            after: before(row, number),
-        };
-        doors.push(Door {
-            peer: peer_of(row, number),
-            connections,
-        })?;
-    }
-    Ok(doors)
-}
-
-/// Serves the sessions of a row over what is shared, in threads.
-fn run<J: Archive + Send + Sync, L: Ledger + Send + Sync, R>(
-    rt: &R,
-    alloc: Global,
-    config: &Config,
-    register: &Register,
-    shared: &Shared<Waiting<'_, R>, J, L>,
-    all: Share<L>,
-    groups: usize,
-    board: &Board,
-    row: &Row<'_>,
-) -> io::Result<Counted>
+/// Plays the rows.
+pub(crate) fn play<R>(rt: &R, alloc: Global, lines: &[&[u8]]) -> io::Result<()>
 where
-    R: Threads + Wait + Clock + RandomSource + Sync + 'static,
-    requires register { register.now ≡ J.register }
-    requires holds { J.holds ≡ has_buffer config.now.buffers }
-    requires parts { (all.parts ≡ groups) × (all.amount ≡ 0) × (L.parts ≡ groups) × (0 < groups) }
+    R: Threads + Wait + Clock + RandomSource + Print + Sync + 'static,
 {
-    let clock = Still { moment: row.moment };
-    let keeper = Keeper::new(shared, register, &config.buffers, &clock);
-    let turns = Turns::new(board, row.manner, row.order.as_slice());
-    let doors = doors_of(rt, alloc, board, &turns, row)?;
-    if doors.len() >= 1 << 62 {
-        return Err(failed());
+    for section in &sections(alloc, lines, b"== ")? {
+        let row = Row::read(alloc, section.lines)?;
+        section.print(rt, &played(rt, alloc, &row)?)?;
     }
-    let hasher = RandomState::new(rt)?;
-    match serve_all(
-        rt, alloc, hasher, &keeper, config, &turns, groups, doors, all,
-    ) {
-        Ok((_seats, counted)) => Ok(counted),
-        Err(_) => Err(failed()),
-    }
-}
-
-/// Serves the sessions of a row, and says what came of it.
-fn serve<J: Archive + Send + Sync, L: Ledger + Send + Sync, R>(
-    rt: &R,
-    alloc: Global,
-    config: &Config,
-    register: &Register,
-    blank: Blank,
-    groups: usize,
-    row: &Row<'_>,
-    failing: u64,
-) -> io::Result<Vec<u8>>
-where
-    R: Threads + Wait + Clock + RandomSource + Sync + 'static,
-    requires register { register.now ≡ J.register }
-    requires holds { J.holds ≡ has_buffer config.now.buffers }
-    requires name { blank.name ≡ L.name }
-    requires parts { (blank.parts ≡ L.parts) × (blank.parts ≡ groups) × (0 < groups) }
-{
-    let (book, all) = blank.open::<L>();
-    let board = Board::new(alloc, row.sessions.len())?;
-    let stores = stores_of(rt, alloc, &board, &config.buffers, failing, row.waits)?;
-    let ends = row.sessions.len();
-    let shared: Shared<Waiting<'_, R>, J, L> = Shared::new(rt, alloc, config, stores, book, ends)?;
-    let counted = run(
-        rt, alloc, config, register, &shared, all, groups, &board, row,
-    )?;
-    let mut text = told(rt, alloc, &board, row)?;
-    add_counted(rt, alloc, &mut text, &board, &counted)?;
-    add_figures(rt, alloc, &mut text, &shared, config.buffers.buffers.len())?;
-    Ok(text)
-}
-
-/// What the sessions of a row were written, or how often each code was.
-fn told<R: Wait>(
-    rt: &R,
-    alloc: Global,
-    board: &Board,
-    row: &Row<'_>,
-) -> Result<Vec<u8>, AllocError> {
-    let mut text = Vec::new(alloc);
-    let sessions = row.sessions.len() as u64;
-    if row.is_counted {
-        add_codes(rt, alloc, &mut text, board, sessions)?;
-    } else {
-        add_sessions(rt, alloc, &mut text, board, sessions)?;
-    }
-    Ok(text)
-}
-
-/// Plays a row with this call of each store failing, and says what came of it.
-fn play<R>(rt: &R, alloc: Global, row: &Row<'_>, failing: u64) -> io::Result<Vec<u8>>
-where
-    R: Threads + Wait + Clock + RandomSource + Sync + 'static,
-{
-    let Ok(config) = config_of(alloc, row.has_two_groups) else {
-        return Err(failed());
-    };
-    let groups = config.buffers.groups.len();
-    if groups == 0 {
-        return Err(failed());
-    }
-    let register: Register = boxcar::Vec::new(alloc)?;
-    let blank = Blank::new(groups as u64);
-    serve::<Brand, Brand, R>(rt, alloc, &config, &register, blank, groups, row, failing)
-}
-
-/// Plays a row, and says what came of it: once, or with each call of a store failing in turn; then
-/// what came of a call is told wherever it isn't what came of the one before.
-pub(crate) fn played<R>(rt: &R, alloc: Global, row: &Row<'_>) -> io::Result<Vec<u8>>
-where
-    R: Threads + Wait + Clock + RandomSource + Sync + 'static,
-{
-    if row.sweep == 0 {
-        return play(rt, alloc, row, row.failing);
-    }
-    let mut whole = Vec::new(alloc);
-    let mut last = Vec::new(alloc);
-    for failing in 1..=row.sweep {
-        let text = play(rt, alloc, row, failing)?;
-        add_call(alloc, &mut whole, failing, &last, &text)?;
-        last = text;
-    }
-    Ok(whole)
-}
-
-/// Adds what came of a call that fails, where it isn't what came of the one before.
-fn add_call(
-    alloc: Global,
-    whole: &mut Vec<u8>,
-    failing: u64,
-    last: &Vec<u8>,
-    text: &Vec<u8>,
-) -> Result<(), AllocError> {
-    if last.as_slice() == text.as_slice() {
-        return Ok(());
-    }
-    let head = format!(in alloc; "-- call {failing} fails\n")?;
-    whole.extend_from_slice(head.as_bytes())?;
-    whole.extend_from_slice(text)
+    Ok(())
 }

@@ -1,88 +1,30 @@
-//! Stores that wait.
-ghost use Rattle.std.specs.Prelude.{◌≡◌, map, length, IfOk};
+//! The stores of a configuration's buffers.
+ghost use Rattle.std.specs.Prelude.{◌≡◌, length, map, IfOk};
 
-use crate::board::{Board, Sign};
-use cyc_block::{BLOCK_OCTETS, BlockStore, DeviceFailed, FailAt, MemoryBlocks};
+use cyc_block::{BlockStore, MemoryBlocks};
 use relay_conf::Buffers;
 use std::alloc::{AllocError, Global};
-use std::sync::Wait;
-use std::time::Clock;
 
-/// What the reads and the writes of a store wait for.
-#[derive(Clone, Copy)]
-pub(crate) struct Waits {
-    pub(crate) reads: Sign,
-    pub(crate) writes: Sign,
-}
-
-/// Nothing is waited for.
-const NO_WAITS: Waits = Waits {
-    reads: Sign::Always,
-    writes: Sign::Always,
-};
-
-/// A store that hands each call on, once what it waits for is there.
-#[derive(Drop)]
-pub(crate) struct Waiting<'a, R: Sync> {
-    store: FailAt<MemoryBlocks>,
-    rt: &'a R,
-    board: &'a Board,
-    waits: Waits,
-}
-
-impl<R: Wait + Clock + Sync> BlockStore for Waiting<'_, R> {
-    ghost blocks = { λ waiting. ⟦<FailAt<MemoryBlocks> as BlockStore>⟧.blocks waiting.store };
-
-    ghost calls = { λ waiting. ⟦<FailAt<MemoryBlocks> as BlockStore>⟧.calls waiting.store };
-
-    ghost failures = { λ waiting. ⟦<FailAt<MemoryBlocks> as BlockStore>⟧.failures waiting.store };
-
-    ghost honest = { λ waiting. ⟦<FailAt<MemoryBlocks> as BlockStore>⟧.honest waiting.store };
-
-    fn count(&self) -> u32 {
-        self.store.count()
-    }
-
-    fn read(&mut self, k: u32, octets: &mut [u8; BLOCK_OCTETS]) -> Result<(), DeviceFailed> {
-        self.board.wait(self.rt, self.waits.reads);
-        self.store.read(k, octets)
-    }
-
-    fn write(&mut self, k: u32, octets: &[u8; BLOCK_OCTETS]) -> Result<(), DeviceFailed> {
-        self.board.writing(self.rt);
-        self.board.wait(self.rt, self.waits.writes);
-        self.store.write(k, octets)
-    }
-}
-
-/// What buffer `number` waits for, where buffer 0 waits so.
-fn waits_of(number: usize, waits: Waits) -> Waits {
-    if number == 0 { waits } else { NO_WAITS }
-}
-
-/// A store in memory for each buffer, of as many blocks, of which this call fails, and of which
-/// that of buffer 0 waits.
-pub(crate) fn stores_of<'a, R: Wait + Clock + Sync>(
-    rt: &'a R,
+/// A store for each buffer, of as many blocks: what is made of the buffer's number and of a store
+/// in memory.
+pub(crate) fn stores_of<S: BlockStore + Drop, F: Fn(usize, MemoryBlocks) -> S>(
     alloc: Global,
-    board: &'a Board,
     settings: &Buffers,
-    failing: u64,
-    waits: Waits,
-) -> Result<Vec<Waiting<'a, R>>, AllocError>
+    made_of: F,
+) -> Result<Vec<S>, AllocError>
+    requires called { F.IsAlwaysCallable made_of }
+    requires same { (number : _) (store : MemoryBlocks) (made : S)
+        → F.post made_of number store made
+        → length (S.blocks made) ≡ length (⟦<MemoryBlocks as BlockStore>⟧.blocks store) }
     ensures { IfOk result (λ stores.
-        map (λ store. length (⟦<Waiting<'a, R> as BlockStore>⟧.blocks store)) stores.items
+        map (λ store. length (S.blocks store)) stores.items
         ≡ map (λ buffer. buffer.blocks) settings.now.buffers.items) }
 {
     let mut stores = Vec::with_capacity(alloc, settings.buffers.len())?;
     for buffer in &settings.buffers {
-        let waits = waits_of(stores.len(), waits);
-        stores.push(Waiting {
-            store: FailAt::new(MemoryBlocks::new(alloc, buffer.blocks)?, failing),
-            rt,
-            board,
-            waits,
-        })?;
+        let memory = MemoryBlocks::new(alloc, buffer.blocks)?;
+        let store = made_of(stores.len(), memory);
+        stores.push(store)?;
     }
     Ok(stores)
 }

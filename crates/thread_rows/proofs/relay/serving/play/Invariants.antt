@@ -1,0 +1,15 @@
+use Rattle.std.proofs.Common.{false}
+use Rattle.relay_live.specs.Holding.{has_buffer}
+use Rattle.thread_rows.proofs.relay.serving.play.Given as goal
+
+-- the register that was just made, over the buffers of the configuration
+abbrev pub ghosts-serve-J-Archive : goal.ghosts-serve-J-Archive
+ghosts-serve-J-Archive g a = record {
+  register = a.register.now;
+  trusted = false;
+  holds = has_buffer a.config.now.buffers;
+}
+
+-- a ledger of one part
+abbrev pub ghosts-serve-L-Ledger : goal.ghosts-serve-L-Ledger
+ghosts-serve-L-Ledger g a = record { name = a.blank.name; parts = a.blank.parts }

@@ -1,0 +1,15 @@
+use Rattle.std.proofs.Common.{false}
+use Rattle.relay_live.specs.Holding.{has_buffer}
+use Rattle.thread_rows.proofs.sockets.site.run.Given as goal
+
+-- the register that was just made, over the buffers of the configuration; no store is trusted
+abbrev pub ghosts-run_relay-J-Archive : goal.ghosts-run_relay-J-Archive
+ghosts-run_relay-J-Archive g a = record {
+  register = a.register.now;
+  trusted = false;
+  holds = has_buffer a.config.now.buffers;
+}
+
+-- a ledger of as many parts as there are writers
+abbrev pub ghosts-run_relay-L-Ledger : goal.ghosts-run_relay-L-Ledger
+ghosts-run_relay-L-Ledger g a = record { name = a.blank.name; parts = a.blank.parts }

@@ -1,0 +1,216 @@
+//! A row, played.
+ghost use Rattle.std.specs.Prelude.{◌≡◌, ◌<◌};
+ghost use Rattle.relay_live.specs.Holding.{has_buffer};
+
+use crate::clock::Still;
+use crate::failed;
+use crate::printing::put_line;
+use crate::relay::board::{Board, Sign};
+use crate::relay::configs::row_config;
+use crate::relay::figures::{add_codes, add_counted, add_figures, add_sessions};
+use crate::relay::gate::{Manner, Turns};
+use crate::relay::rooms::Visit;
+use crate::relay::row::Row;
+use crate::relay::waiting::{Waiting, waiting_stores};
+use live_store::{Archive, Register};
+use relay_conf::Config;
+use relay_live::{Counted, Door, Keeper, Shared, serve_all};
+use std::alloc::{AllocError, Global};
+use std::hash::RandomState;
+use std::io;
+use std::marker::Brand;
+use std::random::RandomSource;
+use std::sync::Wait;
+use std::sync::ledger::{Blank, Ledger, Share};
+use std::thread::Threads;
+use std::time::Clock;
+
+/// What a session waits for before it begins: where commands come by turns, that the one before it
+/// was greeted, so that sessions have numbers in this order.
+fn before(row: &Row, number: u64) -> Sign {
+    if row.manner == Manner::Open || number < 2 {
+        return Sign::Always;
+    }
+    Sign::Greeted(number.saturating_sub(1))
+}
+
+/// The peer of a session: of those of odd numbers the first, of those of even ones the second.
+fn peer_of(row: &Row, number: u64) -> usize {
+    if row.has_one_peer || number % 2 == 1 {
+        0
+    } else {
+        1
+    }
+}
+
+/// A door for each session.
+fn doors_of<'a, R: Sync>(
+    rt: &'a R,
+    alloc: Global,
+    board: &'a Board,
+    turns: &'a Turns<'a>,
+    row: &'a Row,
+) -> Result<Vec<Door<Visit<'a, R>>>, AllocError> {
+    let mut doors = Vec::new(alloc);
+    let mut number = 0u64;
+    for script in &row.sessions {
+        number = number.saturating_add(1);
+        let connections = Visit {
+            rt,
+            board,
+            turns,
+            number,
+            script: Some(script),
+            after: before(row, number),
+        };
+        doors.push(Door {
+            peer: peer_of(row, number),
+            connections,
+        })?;
+    }
+    Ok(doors)
+}
+
+/// Serves the sessions of a row over what is shared, in threads.
+fn run<J: Archive + Send + Sync, L: Ledger + Send + Sync, R>(
+    rt: &R,
+    alloc: Global,
+    config: &Config,
+    register: &Register,
+    shared: &Shared<Waiting<'_, R>, J, L>,
+    all: Share<L>,
+    groups: usize,
+    board: &Board,
+    row: &Row,
+) -> io::Result<Counted>
+where
+    R: Threads + Wait + Clock + RandomSource + Sync + 'static,
+    requires register { register.now ≡ J.register }
+    requires holds { J.holds ≡ has_buffer config.now.buffers }
+    requires parts { (all.parts ≡ groups) × (all.amount ≡ 0) × (L.parts ≡ groups) × (0 < groups) }
+{
+    let clock = Still { moment: row.moment };
+    let keeper = Keeper::new(shared, register, &config.buffers, &clock);
+    let turns = Turns::new(board, row.manner, row.order.as_slice());
+    let doors = doors_of(rt, alloc, board, &turns, row)?;
+    if doors.len() >= 1 << 62 {
+        return Err(failed());
+    }
+    let hasher = RandomState::new(rt)?;
+    match serve_all(
+        rt, alloc, hasher, &keeper, config, &turns, groups, doors, all,
+    ) {
+        Ok((_seats, counted)) => Ok(counted),
+        Err(_) => Err(failed()),
+    }
+}
+
+/// Serves the sessions of a row, and says what came of it.
+fn serve<J: Archive + Send + Sync, L: Ledger + Send + Sync, R>(
+    rt: &R,
+    alloc: Global,
+    config: &Config,
+    register: &Register,
+    blank: Blank,
+    groups: usize,
+    row: &Row,
+    failing: u64,
+) -> io::Result<Vec<u8>>
+where
+    R: Threads + Wait + Clock + RandomSource + Sync + 'static,
+    requires register { register.now ≡ J.register }
+    requires holds { J.holds ≡ has_buffer config.now.buffers }
+    requires name { blank.name ≡ L.name }
+    requires parts { (blank.parts ≡ L.parts) × (blank.parts ≡ groups) × (0 < groups) }
+{
+    let (book, all) = blank.open::<L>();
+    let board = Board::new(alloc, row.sessions.len())?;
+    let stores = waiting_stores(rt, alloc, &board, &config.buffers, failing, row.waits)?;
+    let ends = row.sessions.len();
+    let shared: Shared<Waiting<'_, R>, J, L> = Shared::new(rt, alloc, config, stores, book, ends)?;
+    let counted = run(
+        rt, alloc, config, register, &shared, all, groups, &board, row,
+    )?;
+    let mut text = told(rt, alloc, &board, row)?;
+    add_counted(rt, alloc, &mut text, &board, &counted)?;
+    add_figures(rt, alloc, &mut text, &shared, config.buffers.buffers.len())?;
+    Ok(text)
+}
+
+/// What the sessions of a row were written, or how often each code was.
+fn told<R: Wait>(rt: &R, alloc: Global, board: &Board, row: &Row) -> Result<Vec<u8>, AllocError> {
+    let mut text = Vec::new(alloc);
+    let sessions = row.sessions.len() as u64;
+    if row.is_counted {
+        add_codes(rt, alloc, &mut text, board, sessions)?;
+    } else {
+        add_sessions(rt, alloc, &mut text, board, sessions)?;
+    }
+    Ok(text)
+}
+
+/// Plays a row with this call of each store failing, and says what came of it.
+fn play<R>(rt: &R, alloc: Global, row: &Row, failing: u64) -> io::Result<Vec<u8>>
+where
+    R: Threads + Wait + Clock + RandomSource + Sync + 'static,
+{
+    let config = row_config(alloc, row.has_two_groups)?;
+    let groups = config.buffers.groups.len();
+    if groups == 0 {
+        return Err(failed());
+    }
+    let register: Register = boxcar::Vec::new(alloc)?;
+    let blank = Blank::new(groups as u64);
+    serve::<Brand, Brand, R>(rt, alloc, &config, &register, blank, groups, row, failing)
+}
+
+/// Plays a row, and says what came of it, behind how many of its lines are bad.
+pub(crate) fn played<R>(rt: &R, alloc: Global, row: &Row) -> io::Result<Vec<u8>>
+where
+    R: Threads + Wait + Clock + RandomSource + Sync + 'static,
+{
+    let bad = row.bad;
+    let mut text = Vec::new(alloc);
+    if bad > 0 {
+        put_line(&mut text, format!(in alloc; "{bad} bad lines")?.as_str())?;
+    }
+    if row.sweep == 0 {
+        text.extend_from_slice(&play(rt, alloc, row, row.failing)?)?;
+    } else {
+        sweep(rt, alloc, &mut text, row)?;
+    }
+    Ok(text)
+}
+
+/// Plays a row with each call of a store failing in turn: what came of a call is told wherever it
+/// isn't what came of the one before.
+fn sweep<R>(rt: &R, alloc: Global, whole: &mut Vec<u8>, row: &Row) -> io::Result<()>
+where
+    R: Threads + Wait + Clock + RandomSource + Sync + 'static,
+{
+    let mut last = Vec::new(alloc);
+    for failing in 1..=row.sweep {
+        let text = play(rt, alloc, row, failing)?;
+        add_call(alloc, whole, failing, &last, &text)?;
+        last = text;
+    }
+    Ok(())
+}
+
+/// Adds what came of a call that fails, where it isn't what came of the one before.
+fn add_call(
+    alloc: Global,
+    whole: &mut Vec<u8>,
+    failing: u64,
+    last: &Vec<u8>,
+    text: &Vec<u8>,
+) -> Result<(), AllocError> {
+    if last.as_slice() == text.as_slice() {
+        return Ok(());
+    }
+    put_line(
+        whole,
+        format!(in alloc; "-- call {failing} fails")?.as_str(),
+    )?;
+    whole.extend_from_slice(text)
+}

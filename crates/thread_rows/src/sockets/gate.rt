@@ -1,0 +1,41 @@
+//! A gate that holds a command or none.
+use crate::sockets::points::Point;
+use live_session::Gate;
+use std::sync::Wait;
+use std::time::Clock;
+
+/// Holds the first command of session 1 until that of session 2 is answered, or lets all in.
+#[derive(Drop)]
+pub(crate) struct SecondFirst {
+    is_open: bool,
+    answered: Point,
+}
+
+impl SecondFirst {
+    /// Nothing is answered.
+    pub(crate) fn new(is_open: bool) -> SecondFirst {
+        SecondFirst {
+            is_open,
+            answered: Point::new(),
+        }
+    }
+}
+
+impl<R: Wait + Clock> Gate<R> for SecondFirst {
+    fn enter(&self, rt: &R, session: u64, command: u64) -> bool {
+        if self.is_open || session != 1 || command != 0 {
+            return true;
+        }
+        self.answered.await_all(rt, 1)
+    }
+
+    fn is_one_by_one(&self) -> bool {
+        !self.is_open
+    }
+
+    fn leave(&self, rt: &R, session: u64, command: u64) {
+        if session == 2 && command == 0 {
+            self.answered.reach(rt);
+        }
+    }
+}
