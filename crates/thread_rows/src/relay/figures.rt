@@ -128,10 +128,10 @@ pub(crate) fn add_counted<R: Wait>(
     counted: &Counted,
 ) -> Result<(), AllocError> {
     let counts = Counts {
-        accepted: counted.accepted,
-        posted: counted.posted.count(),
-        strays: counted.strays,
-        doubles: counted.doubles,
+        accepted: counted.accepted(),
+        posted: counted.posted().count(),
+        strays: counted.strays(),
+        doubles: counted.doubles(),
     };
     let counted = counts.told(alloc)?;
     let late = board.late(rt);

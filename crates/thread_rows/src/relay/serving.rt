@@ -1,6 +1,7 @@
 //! A row, played.
-ghost use Rattle.std.specs.Prelude.{◌≡◌, ◌<◌};
+ghost use Rattle.std.specs.Prelude.{◌≡◌, ◌<◌, length};
 ghost use Rattle.relay_live.specs.Holding.{has_buffer};
+ghost use Rattle.relay_live.specs.Making.{ends_in};
 
 use crate::clock::Still;
 use crate::failed;
@@ -88,12 +89,13 @@ where
     requires register { register.now ≡ J.register }
     requires holds { J.holds ≡ has_buffer config.now.buffers }
     requires parts { (all.parts ≡ groups) × (all.amount ≡ 0) × (L.parts ≡ groups) × (0 < groups) }
+    requires slots { ends_in shared.now ≡ length row.now.sessions.items }
 {
     let clock = Still { moment: row.moment };
     let keeper = Keeper::new(shared, register, &config.buffers, &clock);
     let turns = Turns::new(board, row.manner, row.order.as_slice());
     let doors = doors_of(rt, alloc, board, &turns, row)?;
-    if doors.len() >= 1 << 62 {
+    if doors.len() >= 1 << 62 || doors.len() != row.sessions.len() {
         return Err(failed());
     }
     let hasher = RandomState::new(rt)?;

@@ -45,7 +45,7 @@ where
         rt, alloc, config, &register, blank, stores, doors, clock, gate,
     );
     match ran {
-        Ok(totals) => Ok(totals),
+        Ok((totals, _counted)) => Ok(totals),
         Err(_) => Err(failed()),
     }
 }
