@@ -116,8 +116,8 @@ IsBeside register buffer h None = h.writing ≡ None
 IsBeside register buffer h (Some b) = IsOpen register buffer h b
 
 -- The buffer agrees with a history, in which the open write is the one beside it, or none is open
--- and none stands there; and each live
--- finished article has its record's number at its first block.
+-- where nothing stands there; and each live finished article has its record's number at its first
+-- block.
 pub record Tied {S : Type 0} {g : Ghosts S} (trusted : Bool) (register : Shelves)
     (buffer : Buffer S g) (beside : Option Beside) (numbers : List (Option (Where Record)))
     : Type 0 where

@@ -131,7 +131,7 @@ impl<S: BlockStore, J: Archive> NumberedBuffer<S, J> {
         ensures own { OnOk result
             (IsSomeAnd (beside_of self.old) (λ b. CanFinishFor b shown.now)) }
         ensures closed { OnOk result (beside_of self.new ≡ None) }
-        // The record's number stands at its first block, and nowhere else anything is changed.
+        // The record's number stands at the article's first block; the other numbers stay.
         ensures numbers { IfOk result (λ token. numbers_of self.new
             ≡ slice_set (numbers_of self.old) token.first (Some shown.now)) }
         // Mixed says that it can't be finished for the record, and nothing is changed.
