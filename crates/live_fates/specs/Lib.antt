@@ -3,3 +3,4 @@ pub mod Examples
 pub mod Fates
 pub mod Sets
 pub mod Strays
+pub mod Texts

@@ -6,6 +6,7 @@ mod answers;
 pub mod examples;
 mod fate;
 mod ids;
+pub mod laws;
 
 pub use answers::strays;
 pub use fate::{Fate, KeptJob, Told, told_of};
