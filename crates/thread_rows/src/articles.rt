@@ -10,6 +10,9 @@ const BETWEEN: &[u8] = b"\r\nSubject: t\r\nMessage-ID: <";
 /// Those behind its message-id, up to its body.
 const BEHIND: &[u8] = b"@x>\r\nDate: Fri, 01 Jan 2021 00:00:00 +0000\r\n\r\n";
 
+/// What stands before the Path of an article of p1, which is the first of it.
+pub(crate) const FROM_FIRST: &[u8] = b"relay.example!!";
+
 /// The article A(id, octets), in these newsgroups.
 #[derive(Clone, Copy)]
 pub(crate) struct Example<'a> {

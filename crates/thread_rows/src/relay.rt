@@ -4,6 +4,7 @@
 
 mod board;
 mod configs;
+mod fetches;
 mod figures;
 mod gate;
 mod rooms;

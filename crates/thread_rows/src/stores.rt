@@ -1,12 +1,12 @@
 //! The stores of a configuration's buffers.
-ghost use Rattle.std.specs.Prelude.{◌≡◌, length, map, IfOk};
+ghost use Rattle.std.specs.Prelude.{◌≡◌, length, map, All, IfOk};
 
 use cyc_block::{BlockStore, MemoryBlocks};
 use relay_conf::Buffers;
 use std::alloc::{AllocError, Global};
 
-/// A store for each buffer, of as many blocks: what is made of the buffer's number and of a store
-/// in memory.
+/// A store for each buffer, of as many blocks, and honest: what is made of the buffer's number and
+/// of a store in memory.
 pub(crate) fn stores_of<S: BlockStore + Drop, F: Fn(usize, MemoryBlocks) -> S>(
     alloc: Global,
     settings: &Buffers,
@@ -16,9 +16,12 @@ pub(crate) fn stores_of<S: BlockStore + Drop, F: Fn(usize, MemoryBlocks) -> S>(
     requires same { (number : _) (store : MemoryBlocks) (made : S)
         → F.post made_of number store made
         → length (S.blocks made) ≡ length (⟦<MemoryBlocks as BlockStore>⟧.blocks store) }
-    ensures { IfOk result (λ stores.
+    requires honest { (number : _) (store : MemoryBlocks) (made : S)
+        → F.post made_of number store made → S.honest made }
+    ensures blocks { IfOk result (λ stores.
         map (λ store. length (S.blocks store)) stores.items
         ≡ map (λ buffer. buffer.blocks) settings.now.buffers.items) }
+    ensures honest { IfOk result (λ stores. All S.honest stores.items) }
 {
     let mut stores = Vec::with_capacity(alloc, settings.buffers.len())?;
     for buffer in &settings.buffers {

@@ -1,7 +1,7 @@
 //! The configurations that rows are played over.
 use crate::failed;
 use crate::settings::config_of;
-use relay_conf::Config;
+use relay_conf::{Config, K1_CYCBUFF, K1_STORAGE};
 use std::alloc::Global;
 use std::io;
 
@@ -17,10 +17,27 @@ const STORAGE: &[u8] = b"method cnfs {\nclass: 1\nnewsgroups: misc.*\noptions: G
 const RELAY: &[u8] = b"own relay.example\npeer p1 one.example 0\npeer p2 two.example 0\n\
     feed p2 2 *\n";
 
-/// The configuration of two groups, or K1.
-pub(crate) fn row_config(alloc: Global, has_two_groups: bool) -> io::Result<Config> {
-    if has_two_groups {
-        return config_of(alloc, CYCBUFF, STORAGE, RELAY);
+/// A third peer, and the first feed is its own: of `misc`, with a ring of 2. The second one is of
+/// the second peer: of all newsgroups, with a ring of 3.
+const TWO_FEEDS: &[u8] = b"own relay.example\npeer p1 one.example 0\npeer p2 two.example 0\n\
+    peer p3 three.example 0\nfeed p3 2 misc.*\nfeed p2 3 *\n";
+
+/// The configuration of a row.
+#[derive(Clone, Copy)]
+pub(crate) enum Site {
+    /// K1.
+    K1,
+    /// Two groups in place of the one of K1.
+    TwoGroups,
+    /// Three peers and two feeds in place of those of K1.
+    TwoFeeds,
+}
+
+/// The configuration of a row.
+pub(crate) fn row_config(alloc: Global, site: Site) -> io::Result<Config> {
+    match site {
+        Site::K1 => Config::k1(alloc).map_err(|_| failed()),
+        Site::TwoGroups => config_of(alloc, CYCBUFF, STORAGE, RELAY),
+        Site::TwoFeeds => config_of(alloc, K1_CYCBUFF, K1_STORAGE, TWO_FEEDS),
     }
-    Config::k1(alloc).map_err(|_| failed())
 }

@@ -4,6 +4,7 @@ use crate::printing::{Counts, put_line};
 use crate::relay::board::Board;
 use cyc_block::BlockStore;
 use live_store::Archive;
+use relay_conf::Config;
 use relay_live::{Counted, Shared};
 use std::alloc::{AllocError, Global};
 use std::sync::Wait;
@@ -145,12 +146,14 @@ pub(crate) fn add_figures<S: BlockStore + Drop, J: Archive, L: Ledger, R: Wait>(
     alloc: Global,
     text: &mut Vec<u8>,
     shared: &Shared<S, J, L>,
-    buffers: usize,
+    config: &Config,
 ) -> Result<(), AllocError> {
-    for number in 0..buffers {
+    for number in 0..config.buffers.buffers.len() {
         add_buffer(rt, alloc, text, shared, number)?;
     }
-    add_feed(rt, alloc, text, shared, 0)?;
+    for number in 0..config.relay.feeds.len() {
+        add_feed(rt, alloc, text, shared, number)?;
+    }
     let ids = shared.id_counts(rt);
     let (offered, storing) = (ids.offered, ids.storing);
     let (stored, refused) = (ids.stored, ids.refused);
@@ -185,9 +188,12 @@ fn add_feed<S: BlockStore + Drop, J: Archive, L: Ledger, R: Wait>(
     alloc: Global,
     text: &mut Vec<u8>,
     shared: &Shared<S, J, L>,
-    number: u16,
+    number: usize,
 ) -> Result<(), AllocError> {
-    let Some(counts) = shared.feed_counts(rt, number) else {
+    let Ok(feed) = u16::try_from(number) else {
+        return Ok(());
+    };
+    let Some(counts) = shared.feed_counts(rt, feed) else {
         return Ok(());
     };
     let (gained, taken, waiting) = (counts.gained, counts.taken, counts.waiting);

@@ -2,6 +2,8 @@
 
 use crate::clock::USUAL_MOMENT;
 use crate::relay::board::Sign;
+use crate::relay::configs::Site;
+use crate::relay::fetches::Fetch;
 use crate::relay::gate::{Manner, Turn};
 use crate::relay::script::Script;
 use crate::relay::waiting::Waits;
@@ -21,8 +23,8 @@ pub(crate) struct Row {
     /// It is played so many times, with each call of a store up to this one failing.
     pub(crate) sweep: u64,
     pub(crate) moment: u64,
-    /// It is played over two groups, in place of K1.
-    pub(crate) has_two_groups: bool,
+    /// The configuration that it is played over.
+    pub(crate) site: Site,
     /// All its sessions are of the first peer.
     pub(crate) has_one_peer: bool,
     /// In place of what the sessions were written it is counted by code.
@@ -32,6 +34,8 @@ pub(crate) struct Row {
     pub(crate) waits: Waits,
     pub(crate) sessions: Vec<Script>,
     pub(crate) order: Vec<Turn>,
+    /// What is fetched once all have ended.
+    pub(crate) fetches: Vec<Fetch>,
     /// The lines that say nothing known.
     pub(crate) bad: u64,
 }
@@ -52,7 +56,7 @@ impl Row {
             failing: 0,
             sweep: 0,
             moment: USUAL_MOMENT,
-            has_two_groups: false,
+            site: Site::K1,
             has_one_peer: false,
             is_counted: false,
             manner: Manner::ByTurns,
@@ -62,6 +66,7 @@ impl Row {
             },
             sessions: Vec::new(alloc),
             order: Vec::new(alloc),
+            fetches: Vec::new(alloc),
             bad: 0,
         }
     }
@@ -75,12 +80,31 @@ impl Row {
         if first == b"each".as_slice() {
             return self.add_each(alloc, rest);
         }
+        if first == b"fetch".as_slice() {
+            return self.add_fetch(alloc, rest);
+        }
         match number_within(1, MOST_SESSIONS, first) {
             Some(session) => self.add_of(alloc, session, rest),
             None => {
                 if !self.set(first, rest) {
-                    self.bad = self.bad.saturating_add(1);
+                    self.count_bad();
                 }
+                Ok(())
+            }
+        }
+    }
+
+    /// Counts a line that says nothing known.
+    fn count_bad(&mut self) {
+        self.bad = self.bad.saturating_add(1);
+    }
+
+    /// Adds a fetch once all have ended.
+    fn add_fetch(&mut self, alloc: Global, rest: &[u8]) -> Result<(), AllocError> {
+        match Fetch::read(alloc, rest)? {
+            Some(fetch) => Ok(self.fetches.push(fetch)?),
+            None => {
+                self.count_bad();
                 Ok(())
             }
         }
@@ -167,7 +191,8 @@ impl Row {
             "fails" => self.failing = number_in(rest),
             "sweep" => self.sweep = number_in(rest),
             "clock" => self.moment = number_in(rest),
-            "groups" => self.has_two_groups = true,
+            "groups" => self.site = Site::TwoGroups,
+            "feeds" => self.site = Site::TwoFeeds,
             "peer" => self.has_one_peer = true,
             "counts" => self.is_counted = true,
             "open" => self.manner = Manner::Open,

@@ -8,6 +8,7 @@ use crate::failed;
 use crate::printing::put_line;
 use crate::relay::board::{Board, Sign};
 use crate::relay::configs::row_config;
+use crate::relay::fetches::add_fetches;
 use crate::relay::figures::{add_codes, add_counted, add_figures, add_sessions};
 use crate::relay::gate::{Manner, Turns};
 use crate::relay::rooms::Visit;
@@ -35,13 +36,13 @@ fn before(row: &Row, number: u64) -> Sign {
     Sign::Greeted(number.saturating_sub(1))
 }
 
-/// The peer of a session: of those of odd numbers the first, of those of even ones the second.
-fn peer_of(row: &Row, number: u64) -> usize {
-    if row.has_one_peer || number % 2 == 1 {
-        0
-    } else {
-        1
+/// The peer of a session: each of the configuration in turn.
+fn peer_of(row: &Row, peers: usize, number: u64) -> usize {
+    if row.has_one_peer {
+        return 0;
     }
+    let before = usize::try_from(number.saturating_sub(1)).unwrap_or(0);
+    before.checked_rem(peers).unwrap_or(0)
 }
 
 /// A door for each session.
@@ -51,6 +52,7 @@ fn doors_of<'a, R: Sync>(
     board: &'a Board,
     turns: &'a Turns<'a>,
     row: &'a Row,
+    peers: usize,
 ) -> Result<Vec<Door<Visit<'a, R>>>, AllocError> {
     let mut doors = Vec::new(alloc);
     let mut number = 0u64;
@@ -65,7 +67,7 @@ fn doors_of<'a, R: Sync>(
             after: before(row, number),
         };
         doors.push(Door {
-            peer: peer_of(row, number),
+            peer: peer_of(row, peers, number),
             connections,
         })?;
     }
@@ -94,7 +96,8 @@ where
     let clock = Still { moment: row.moment };
     let keeper = Keeper::new(shared, register, &config.buffers, &clock);
     let turns = Turns::new(board, row.manner, row.order.as_slice());
-    let doors = doors_of(rt, alloc, board, &turns, row)?;
+    let peers = config.relay.peers.len();
+    let doors = doors_of(rt, alloc, board, &turns, row, peers)?;
     if doors.len() >= 1 << 62 || doors.len() != row.sessions.len() {
         return Err(failed());
     }
@@ -135,7 +138,8 @@ where
     )?;
     let mut text = told(rt, alloc, &board, row)?;
     add_counted(rt, alloc, &mut text, &board, &counted)?;
-    add_figures(rt, alloc, &mut text, &shared, config.buffers.buffers.len())?;
+    add_figures(rt, alloc, &mut text, &shared, config)?;
+    add_fetches(rt, alloc, &mut text, &shared, register, &row.fetches)?;
     Ok(text)
 }
 
@@ -156,7 +160,7 @@ fn play<R>(rt: &R, alloc: Global, row: &Row, failing: u64) -> io::Result<Vec<u8>
 where
     R: Threads + Wait + Clock + RandomSource + Sync + 'static,
 {
-    let config = row_config(alloc, row.has_two_groups)?;
+    let config = row_config(alloc, row.site)?;
     let groups = config.buffers.groups.len();
     if groups == 0 {
         return Err(failed());

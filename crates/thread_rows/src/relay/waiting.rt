@@ -1,5 +1,5 @@
 //! Stores that wait.
-ghost use Rattle.std.specs.Prelude.{◌≡◌, map, length, IfOk};
+ghost use Rattle.std.specs.Prelude.{◌≡◌, map, length, All, IfOk};
 
 use crate::relay::board::{Board, Sign};
 use crate::stores::stores_of;
@@ -62,7 +62,7 @@ fn waits_of(number: usize, waits: Waits) -> Waits {
 }
 
 /// A store in memory for each buffer, of as many blocks, of which this call fails, and of which
-/// that of buffer 0 waits.
+/// that of buffer 0 waits. A store that fails and waits is honest all the same.
 pub(crate) fn waiting_stores<'a, R: Wait + Clock + Sync>(
     rt: &'a R,
     alloc: Global,
@@ -71,9 +71,11 @@ pub(crate) fn waiting_stores<'a, R: Wait + Clock + Sync>(
     failing: u64,
     waits: Waits,
 ) -> Result<Vec<Waiting<'a, R>>, AllocError>
-    ensures { IfOk result (λ stores.
+    ensures blocks { IfOk result (λ stores.
         map (λ store. length (⟦<Waiting<'a, R> as BlockStore>⟧.blocks store)) stores.items
         ≡ map (λ buffer. buffer.blocks) settings.now.buffers.items) }
+    ensures honest { IfOk result (λ stores.
+        All ⟦<Waiting<'a, R> as BlockStore>⟧.honest stores.items) }
 {
     stores_of(
         alloc,

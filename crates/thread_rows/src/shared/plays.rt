@@ -2,8 +2,9 @@
 ghost use Rattle.std.specs.Prelude.{◌≡◌, true};
 
 use crate::failed;
+use crate::printing::{add, add_fetched};
 use crate::shared::rows::Row;
-use crate::shared::told::{add, add_fetched, add_stored};
+use crate::shared::told::add_stored;
 use cyc_block::BlockStore;
 use cyc_token::Token;
 use live_store::{Archive, Fetched, NumberedBuffer, Register, Stored, fetch, store};

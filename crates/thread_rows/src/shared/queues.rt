@@ -3,8 +3,9 @@ ghost use Rattle.std.specs.Prelude.{OnOk};
 ghost use Rattle.crossbeam_queue.specs.Passes.{view, IsPassOf};
 ghost use Rattle.job_queue.specs.Delivery.{IsOpen, IsClosed, OfWriter};
 
+use crate::printing::add;
 use crate::shared::jobs::job;
-use crate::shared::told::{add, add_line};
+use crate::shared::told::add_line;
 use job_queue::{
     Handed, JobQueue, Parcel, QueuePass, close_end, compare, compare_rest, end_pass, hand_over,
     mark_closed, new_queue, take_one, writer_pass,

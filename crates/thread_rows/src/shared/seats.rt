@@ -1,8 +1,8 @@
 //! Plays of seats: ends and writers in threads of their own.
 ghost use Rattle.std.specs.Prelude.{◌≡◌, ◌<◌, ◌+◌, ◌^◌, true, false, length};
 
+use crate::printing::add;
 use crate::shared::jobs::job;
-use crate::shared::told::add;
 use buffer_group::Job;
 use cyc_token::Token;
 use id_history::Shard;

@@ -26,8 +26,5 @@ pub(crate) fn given(
     Ok(reply)
 }
 
-/// What stands before the Path of an article of p1, which is the first of it.
-pub(crate) const FROM_FIRST: &[u8] = b"relay.example!!";
-
 /// What stands before the Path of an article of p2, which isn't the first of it.
 pub(crate) const FROM_SECOND: &[u8] = b"relay.example!.MISMATCH.two.example!";

@@ -1,6 +1,7 @@
 //! A third end, in memory: it asks for the articles while the others bring them.
+use crate::articles::FROM_FIRST;
 use crate::looks::pause;
-use crate::sockets::articles::{FROM_FIRST, FROM_SECOND, given, line};
+use crate::sockets::articles::{FROM_SECOND, given, line};
 use crate::sockets::points::Point;
 use crate::sockets::sixty_two::{CHARACTERS, SIZE};
 use std::alloc::Global;

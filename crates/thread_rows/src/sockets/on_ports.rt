@@ -1,9 +1,8 @@
 //! The relay on the machine's ports, over files in a folder.
-use crate::articles::Example;
+use crate::articles::{Example, FROM_FIRST};
 use crate::failed;
 use crate::printing::put_line;
 use crate::settings::config_of;
-use crate::sockets::articles::FROM_FIRST;
 use crate::sockets::points::Point;
 use crate::sockets::script::converse;
 use crate::sockets::site::Ports;

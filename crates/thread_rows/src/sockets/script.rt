@@ -1,6 +1,7 @@
 //! What the clients of a row do, line by line (README.md, A row).
+use crate::articles::FROM_FIRST;
 use crate::failed;
-use crate::sockets::articles::{FROM_FIRST, given, takethis};
+use crate::sockets::articles::{given, takethis};
 use crate::sockets::caller::Caller;
 use crate::sockets::points::Point;
 use crate::sockets::site::Ports;

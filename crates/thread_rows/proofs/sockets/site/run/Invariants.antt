@@ -1,12 +1,12 @@
-use Rattle.std.proofs.Common.{false}
+use Rattle.std.proofs.Common.{true}
 use Rattle.relay_live.specs.Holding.{has_buffer}
 use Rattle.thread_rows.proofs.sockets.site.run.Given as goal
 
--- the register that was just made, over the buffers of the configuration; no store is trusted
+-- the register that was just made, over the buffers of the configuration; the stores are honest
 abbrev pub ghosts-run_relay-J-Archive : goal.ghosts-run_relay-J-Archive
 ghosts-run_relay-J-Archive g a = record {
   register = a.register.now;
-  trusted = false;
+  trusted = true;
   holds = has_buffer a.config.now.buffers;
 }
 
