@@ -1,6 +1,7 @@
 //! Readers and writers that tell their octets.
 ghost use Rattle.std.specs.Prelude.{◌≡◌, ◌≤◌, ◌<◌, ◌+◌, ◌++◌, ℕ, List, [], length, take, drop};
-ghost use Rattle.std.specs.Prelude.{IfOk, OnErr, OnOk, IfErr, IfNone, IfSome};
+ghost use Rattle.std.specs.Prelude.{IfOk, OnErr, OnOk, IfErr, IfNone, IfSome, Option};
+ghost use Rattle.std.specs.Io.KnownBytes.{ReadConsumes, WriteAppends};
 ghost use Rattle.live_wire.specs.Wire.{heard_of, said_of};
 
 use http_server::Log;
@@ -12,12 +13,18 @@ pub trait Hears {
     /// All that was read.
     ghost heard: { Self → List ℕ };
 
+    /// What is still to be read, where that is known of what it reads from: of octets in memory it
+    /// is, of a socket it isn't.
+    ghost left: { Self → Option (List ℕ) };
+
     /// Reads once, to the front of the room: how many octets came, none at the end of the input.
     /// The error is the reader's; then nothing was read.
     fn hear(&mut self, room: &mut Vec<u8>) -> io::Result<usize>
         ensures ok { IfOk result (λ n. (n ≤ length room.new.items)
             × (heard self.new ≡ heard self.old ++ take n room.new.items)) }
-        ensures err { OnErr result (heard self.new ≡ heard self.old) };
+        ensures err { OnErr result (heard self.new ≡ heard self.old) }
+        // These octets came from what it reads from, and no others left that.
+        ensures taken { ReadConsumes (left self.old) (left self.new) result room.new.items };
 }
 
 /// A writer that tells what was written.
@@ -25,13 +32,20 @@ pub trait Says {
     /// All that was written.
     ghost said: { Self → List ℕ };
 
+    /// What stands in what it writes to, where that is known: of octets in memory it is, of a
+    /// socket it isn't.
+    ghost held: { Self → Option (List ℕ) };
+
     /// Writes once, the octets from a place on: how many of them went. The error is the writer's;
     /// then nothing was written.
     fn say(&mut self, octets: &Vec<u8>, from: usize) -> io::Result<usize>
         requires { from ≤ length octets.now.items }
         ensures ok { IfOk result (λ n. (from + n ≤ length octets.now.items)
             × (said self.new ≡ said self.old ++ take n (drop from octets.now.items))) }
-        ensures err { OnErr result (said self.new ≡ said self.old) };
+        ensures err { OnErr result (said self.new ≡ said self.old) }
+        // These octets went to what it writes to, and no others.
+        ensures given { WriteAppends (held self.old) (held self.new) result
+            (drop from octets.now.items) };
 }
 
 /// Any reader of std.
@@ -55,6 +69,8 @@ impl<R: Read> Ear<R> {
 
 impl<R: Read> Hears for Ear<R> {
     ghost heard = { λ e. heard_of e.heard.items };
+
+    ghost left = { λ e. R.remaining e.reader };
 
     fn hear(&mut self, room: &mut Vec<u8>) -> io::Result<usize> {
         match self.reader.read(room.as_mut_slice()) {
@@ -88,6 +104,8 @@ impl<W: Write> Mouth<W> {
 
 impl<W: Write> Says for Mouth<W> {
     ghost said = { λ m. said_of m.said.items };
+
+    ghost held = { λ m. W.contents m.writer };
 
     fn say(&mut self, octets: &Vec<u8>, from: usize) -> io::Result<usize> {
         let rest = &octets.as_slice()[from..];

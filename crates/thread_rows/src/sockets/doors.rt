@@ -1,6 +1,6 @@
 //! Connections of a run of which some are sockets, and one is in memory.
 ghost use Rattle.std.specs.Prelude.{◌≡◌, ◌≤◌, ◌<◌, ◌+◌, ◌++◌, [], length, take, drop};
-ghost use Rattle.std.specs.Prelude.{IfOk, OnErr};
+ghost use Rattle.std.specs.Prelude.{None, IfOk, OnErr};
 ghost use Rattle.thread_rows.specs.Doors.{heard_at, said_at};
 
 use crate::sockets::asker::{Asker, Pen};
@@ -21,6 +21,9 @@ pub(crate) enum Hearing<'a, R: Wait + Clock + Sync> {
 impl<R: Wait + Clock + Sync> Hears for Hearing<'_, R> {
     ghost heard = { λ h. heard_at h };
 
+    // Of a socket it isn't known, and what is asked in memory is asked as it goes.
+    ghost left = { λ _. None };
+
     fn hear(&mut self, room: &mut Vec<u8>) -> io::Result<usize> {
         match self {
             Hearing::Socket(ear) => ear.hear(room),
@@ -38,6 +41,8 @@ pub(crate) enum Saying<'a, R: Wait + Sync> {
 
 impl<R: Wait + Sync> Says for Saying<'_, R> {
     ghost said = { λ s. said_at s };
+
+    ghost held = { λ _. None };
 
     fn say(&mut self, octets: &Vec<u8>, from: usize) -> io::Result<usize> {
         match self {
