@@ -1,4 +1,4 @@
-use Rattle.std.proofs.Common.{◌≡◌, ◌∙◌, sym, ap, ◌++◌, take, drop, append_assoc}
+use Rattle.std.proofs.Common.{◌∙◌, sym, ap, ◌++◌, take, drop, append_assoc}
 use Rattle.std.proofs.Math.Seq.{take-add}
 use Rattle.live_wire.proofs.wire.say_all.Goals as goal
 
