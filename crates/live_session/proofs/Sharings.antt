@@ -28,7 +28,7 @@ use Rattle.live_session.specs.declared.talk.Talk.{Talk}
 use Rattle.live_store.specs.Steps.{IsChunkOf, IsFoundGone, IsFoundIn}
 use Rattle.live_store.specs.Tied.{text_in}
 use Rattle.live_store.specs.declared.record.Archive.{Ghosts}
-use Rattle.live_store.specs.declared.record.Record.{Record}
+use Rattle.live_store.specs.declared.writing.entering.Record.{Record}
 use Rattle.news_terms.specs.BlockImage.{chunk_size}
 use Rattle.news_terms.specs.Token.{Token}
 use Rattle.nntp_text.specs.Reply.{item_view}

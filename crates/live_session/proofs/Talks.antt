@@ -22,7 +22,7 @@ use Rattle.live_session.specs.declared.wire.Finish.{Finish}
 use Rattle.live_session.specs.declared.wire.Finish.TheVariants as finishes
 use Rattle.live_store.specs.Tied.{text_in}
 use Rattle.live_store.specs.declared.record.Archive.{Ghosts}
-use Rattle.live_store.specs.declared.record.Record.{Record}
+use Rattle.live_store.specs.declared.writing.entering.Record.{Record}
 use Rattle.news_terms.specs.Reply.{Greeting, reply_text}
 use Rattle.peer_session.specs.Answers.{AsksOf}
 use Rattle.peer_session.specs.Hearing.{Gathers}

@@ -9,7 +9,7 @@ use Rattle.cyc_buffer.specs.declared.answers.Front.{Front}
 use Rattle.job_queue.specs.declared.parcel.Handed.{Handed}
 use Rattle.live_store.specs.Steps.{IsGoneBy}
 use Rattle.live_store.specs.Tied.{text_in, token_in}
-use Rattle.live_store.specs.declared.record.Record.{Record}
+use Rattle.live_store.specs.declared.writing.entering.Record.{Record}
 use Rattle.news_terms.specs.Reply.{Greeting, reply_text}
 use Rattle.news_terms.specs.Token.{Token}
 use Rattle.relay_model.specs.Asks.{Ask, Due, IsDue, Reads, Pushes, LooksInSlot}

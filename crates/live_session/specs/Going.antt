@@ -17,7 +17,7 @@ use Rattle.live_session.specs.declared.talk.Turned.{Turned}
 use Rattle.live_session.specs.declared.talk.Turned.TheVariants as turned
 use Rattle.live_store.specs.Tied.{text_in}
 use Rattle.live_store.specs.declared.record.Archive.{Ghosts}
-use Rattle.live_store.specs.declared.record.Record.{Record}
+use Rattle.live_store.specs.declared.writing.entering.Record.{Record}
 use Rattle.news_terms.specs.BlockImage.{chunk_size}
 use Rattle.news_terms.specs.Token.{Token}
 use Rattle.peer_session.specs.Answers.{IsAnswerTo, IsStepOf, handed}

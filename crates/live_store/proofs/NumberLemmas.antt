@@ -20,7 +20,7 @@ use Rattle.cyc_buffer.specs.declared.register.Register.{Register}
 use Rattle.cyc_buffer.proofs.Finished.{was_finished, lies, at_parts, same_some}
 use Rattle.cyc_buffer.proofs.Finishing.{newest, place, finished_now, whole_text, history_of}
 use Rattle.cyc_buffer.proofs.Finishing.{old_history}
-use Rattle.live_store.specs.declared.record.Record.{Record}
+use Rattle.live_store.specs.declared.writing.entering.Record.{Record}
 use Rattle.live_store.specs.Tied.{AreNumbered, AreShown, HasRecord, IsWrittenAs, number_at}
 use Rattle.live_store.specs.Tied.{token_in, text_in}
 use Rattle.live_store.proofs.FrontLemmas.{lived, overwrites, first_within}

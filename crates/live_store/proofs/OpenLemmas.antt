@@ -29,7 +29,7 @@ use Rattle.cyc_buffer.specs.declared.register.Open.{Open}
 use Rattle.cyc_buffer.specs.declared.register.Progress.{Progress}
 use Rattle.cyc_buffer.proofs.Finished.{none_is_none, same_some}
 use Rattle.live_store.specs.declared.beside.Beside.{Beside}
-use Rattle.live_store.specs.declared.record.Record.{Record}
+use Rattle.live_store.specs.declared.writing.entering.Record.{Record}
 use Rattle.live_store.specs.Tied.{Tied, HasNumber, IsNamed, token_in, text_in}
 use Rattle.live_store.specs.Steps.{IsDevice, IsBeginFault, CanWriteFor, CanFinishFor}
 use Rattle.live_store.specs.Steps.{WritesRecord, after_write}

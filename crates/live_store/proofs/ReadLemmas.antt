@@ -32,7 +32,7 @@ use Rattle.cyc_buffer.proofs.Numbers.{undecided, no_chunk}
 use Rattle.cyc_buffer.proofs.Places.{chosen}
 use Rattle.cyc_buffer.proofs.Reading.{under}
 use Rattle.live_store.specs.declared.beside.Beside.{Beside}
-use Rattle.live_store.specs.declared.record.Record.{Record}
+use Rattle.live_store.specs.declared.writing.entering.Record.{Record}
 use Rattle.live_store.specs.Tied.{Tied, HasRecord, number_at, token_in, text_in}
 use Rattle.live_store.specs.Steps.{IsChunkOf, IsGoneBy, IsReadFault}
 use Rattle.live_store.proofs.OpenLemmas.{same_device, kind_prop, no_prop}

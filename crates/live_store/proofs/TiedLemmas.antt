@@ -28,7 +28,7 @@ use Rattle.cyc_buffer.specs.declared.register.Progress.{Progress}
 use Rattle.cyc_buffer.specs.declared.register.Register.{Register}
 use Rattle.cyc_buffer.proofs.Finished.{none_is_none}
 use Rattle.live_store.specs.declared.beside.Beside.{Beside}
-use Rattle.live_store.specs.declared.record.Record.{Record}
+use Rattle.live_store.specs.declared.writing.entering.Record.{Record}
 use Rattle.live_store.specs.Tied.{Tied, IsWhole, IsBeside, IsNamed, IsWrittenAs, HasNumber}
 use Rattle.live_store.specs.Tied.{number_at, text_in}
 use Rattle.live_store.proofs.FrontLemmas.{first_within}

@@ -6,7 +6,7 @@ use Rattle.live_store.specs.declared.fetched.Fetched.TheVariants as fetched
 use Rattle.live_store.specs.declared.fetched.Rest.{Rest}
 use Rattle.live_store.specs.declared.fetched.Rest.TheVariants as rests
 use Rattle.live_store.specs.declared.record.Archive.{Ghosts}
-use Rattle.live_store.specs.declared.record.Record.{Record}
+use Rattle.live_store.specs.declared.writing.entering.Record.{Record}
 use Rattle.live_store.specs.Steps.{IsGoneBy, IsReadFault}
 use Rattle.live_store.specs.Tied.{token_in, text_in}
 use Rattle.news_terms.specs.BlockImage.{chunk}

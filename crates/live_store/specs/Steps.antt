@@ -22,7 +22,7 @@ use Rattle.live_store.specs.declared.answers.WriteFault.TheVariants as writes
 use Rattle.live_store.specs.declared.beside.Beside.{Beside}
 use Rattle.live_store.specs.declared.numbered.NumberedBuffer.{NumberedBuffer}
 use Rattle.live_store.specs.declared.record.Archive as archives
-use Rattle.live_store.specs.declared.record.Record.{Record}
+use Rattle.live_store.specs.declared.writing.entering.Record.{Record}
 use Rattle.live_store.specs.Tied.{token_in, text_in, number_at, IsNamed, IsSameRecord}
 use Rattle.news_terms.specs.BlockImage.{chunk, chunk_size}
 use Rattle.news_terms.specs.Places.{IsGone, size_of, on_line}

@@ -4,7 +4,7 @@ use Rattle.boxcar.specs.Table.{Where}
 use Rattle.cyc_buffer.specs.declared.answers.Fault.{Fault}
 use Rattle.cyc_buffer.specs.declared.answers.FaultKind.TheVariants as kinds
 use Rattle.live_store.specs.declared.record.Archive.{Ghosts}
-use Rattle.live_store.specs.declared.record.Record.{Record}
+use Rattle.live_store.specs.declared.writing.entering.Record.{Record}
 use Rattle.live_store.specs.declared.stored.Stored.{Stored}
 use Rattle.live_store.specs.declared.stored.Stored.TheVariants as stored
 use Rattle.live_store.specs.Tied.{text_in, token_in}

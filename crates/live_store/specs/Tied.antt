@@ -11,7 +11,7 @@ use Rattle.cyc_buffer.specs.declared.register.Open.{Open}
 use Rattle.cyc_token.specs.Token.{token_view}
 use Rattle.cyc_token.specs.declared.Token as codes
 use Rattle.live_store.specs.declared.beside.Beside.{Beside}
-use Rattle.live_store.specs.declared.record.Record.{Record}
+use Rattle.live_store.specs.declared.writing.entering.Record.{Record}
 use Rattle.news_terms.specs.Places as places
 use Rattle.news_terms.specs.Places.{IsLive, on_line}
 use Rattle.news_terms.specs.Token.{Token}

@@ -7,7 +7,6 @@
 
 mod answers;
 mod beside;
-mod entering;
 mod fetched;
 mod fetching;
 mod figures;
@@ -20,12 +19,11 @@ mod stored;
 mod writing;
 
 pub use answers::{Mixed, Reading, WriteFault};
-pub use entering::enter;
 pub use fetched::{Fetched, Text, same_text};
 pub use fetching::fetch;
 pub use following::OneRecord;
 pub use numbered::NumberedBuffer;
 pub use reading::read_block;
-pub use record::{Archive, Record, Register, Shown};
+pub use record::{Archive, Register, Shown};
 pub use stored::{Receipt, Stored};
-pub use writing::store;
+pub use writing::{Record, store};

@@ -311,7 +311,7 @@ fn is_named(register: &Register, beside: &Beside, shown: &Shown) -> bool
     ensures { IsTrue result ↔ IsOfWrite beside.now shown.now }
 {
     match &beside.shown {
-        None => register.value(shown).token == beside.write.token(),
+        None => register.value(shown).token() == beside.write.token(),
         Some(own) => {
             if own.index() != shown.index() {
                 return false;

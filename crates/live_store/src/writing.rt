@@ -1,22 +1,23 @@
 //! Storing a text, a step at a time, each under the lock.
 ghost use Rattle.std.specs.Prelude.{◌≡◌, ◌≤◌, length, IfErr};
 ghost use Rattle.boxcar.specs.Table.{Shows};
-ghost use Rattle.cyc_token.specs.Token.{token_view};
-ghost use Rattle.live_store.specs.Tied.{text_in, token_in, named_in};
+ghost use Rattle.live_store.specs.Tied.{text_in};
 ghost use Rattle.live_store.specs.Steps.{IsWriteFault};
 ghost use Rattle.live_store.specs.Stores.{IsStored, IsKeptAs};
 ghost use Rattle.news_terms.specs.ArticleTexts.{IsArticle};
 
 use crate::answers::{Mixed, WriteFault};
-use crate::entering::enter;
 use crate::numbered::NumberedBuffer;
 use crate::record::{Archive, Register, Shown};
 use crate::stored::{Receipt, Stored};
 use cyc_block::{BlockStore, CHUNK_OCTETS};
 use cyc_buffer::BufError;
-use cyc_token::Token;
 use std::marker::PhantomData;
 use std::sync::{Mutex, Wait};
+
+mod entering;
+
+pub use entering::Record;
 
 /// Stores an article in any thread: the buffer begins it, the register gets its record, each block
 /// is written, and the buffer finishes it. Each step of the buffer takes the lock anew. Where
@@ -45,7 +46,7 @@ pub fn store<S: BlockStore, J: Archive, R: Wait>(
         Err(BufError::Worn(fault)) => return Stored::Failed(fault),
         Err(_) => return Stored::Mixed,
     };
-    let shown = entered(rt, register, token, text);
+    let shown = Record::enter(rt, register, token, text);
     match write_all(rt, buffer, register, &shown, text) {
         Ok(()) => finish(rt, buffer, register, shown),
         Err(WriteFault::Mixed) => Stored::Mixed,
@@ -54,22 +55,6 @@ pub fn store<S: BlockStore, J: Archive, R: Wait>(
             Stored::Failed(fault)
         }
     }
-}
-
-/// Enters the text, again and again where memory is refused: it answers with the record's number,
-/// or never.
-fn entered<R: Wait>(rt: &R, register: &Register, token: Token, text: &Vec<u8>) -> Shown
-    requires article { ∥ IsArticle text.now.items ∥₁ }
-    ensures shown { Shows register.now result }
-    ensures token { named_in result ≡ token }
-    ensures text { text_in result ≡ text.now.items }
-{
-    for _ in rt.forever() {
-        if let Ok(shown) = enter(rt, register, token, text) {
-            return shown;
-        }
-    }
-    unreachable!()
 }
 
 /// Writes all blocks of a record's text, each under the lock.

@@ -1,6 +1,6 @@
 use Rattle.std.proofs.Common.{ap, subst, take}
 use Rattle.cyc_token.specs.Token.{token_view}
-use Rattle.live_store.specs.declared.record.Record.{Record}
+use Rattle.live_store.specs.declared.writing.entering.Record.{Record}
 use Rattle.live_store.specs.Tied.{text_in}
 use Rattle.live_store.specs.Steps.{IsReading, IsOfRecord}
 use Rattle.live_store.proofs.FetchLemmas.{one_more}

@@ -2,7 +2,7 @@ use Rattle.std.proofs.Common.{sym, ◌∙◌, ap, subst, arith, Some, None, set}
 use Rattle.std.specs.Prelude.{IfSome}
 use Rattle.boxcar.specs.Table.{Shows, Where}
 use Rattle.cyc_token.specs.Token.{token_view}
-use Rattle.live_store.specs.declared.record.Record.{Record}
+use Rattle.live_store.specs.declared.writing.entering.Record.{Record}
 use Rattle.live_store.specs.Tied.{Tied}
 use Rattle.live_store.specs.Steps.{CanFinishFor}
 use Rattle.live_store.proofs.OpenLemmas.{the_same, shows_of, can_finish, named_token}

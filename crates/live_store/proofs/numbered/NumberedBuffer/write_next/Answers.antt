@@ -5,7 +5,7 @@ use Rattle.boxcar.specs.Table.{Shows, Where}
 use Rattle.cyc_buffer.specs.Agreement.{CanWrite, length_of}
 use Rattle.cyc_buffer.specs.Calls.{WritesNext}
 use Rattle.cyc_buffer.specs.declared.answers.FaultKind.TheVariants as kinds
-use Rattle.live_store.specs.declared.record.Record.{Record}
+use Rattle.live_store.specs.declared.writing.entering.Record.{Record}
 use Rattle.live_store.specs.Tied.{Tied}
 use Rattle.live_store.specs.Steps.{CanWriteFor}
 use Rattle.live_store.proofs.TiedLemmas.{beside_of}
