@@ -1,2 +1,3 @@
 pub mod Desks
+pub mod Posted
 pub mod Posting

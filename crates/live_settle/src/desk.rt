@@ -4,7 +4,7 @@ ghost use Rattle.live_settle.specs.Posting.{KeepsAtMost};
 
 mod both;
 
-pub use both::settle_both;
+pub use both::{Posted, settle_both};
 use feed_queue::{Counts, FeedDesk, Taken};
 use id_history::Settled;
 use std::alloc::{AllocError, Global};

@@ -10,5 +10,5 @@
 mod desk;
 mod settling;
 
-pub use desk::{CountedDesk, Posts, settle_both};
+pub use desk::{CountedDesk, Posted, Posts, settle_both};
 pub use settling::settle;

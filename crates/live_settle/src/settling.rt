@@ -1,7 +1,8 @@
 //! The step that settles an article, in any thread.
-ghost use Rattle.std.specs.Prelude.{◌≡◌, ◌+◌, ◌<◌, true, false};
+ghost use Rattle.std.specs.Prelude.{◌≡◌, ◌+◌, ◌<◌, None, IfSome};
+ghost use Rattle.live_settle.specs.Posted.{IsPostOf};
 
-use crate::desk::{CountedDesk, settle_both};
+use crate::desk::{CountedDesk, Posted, settle_both};
 use cyc_token::Token;
 use id_history::Shard;
 use nntp_text::MsgId;
@@ -18,12 +19,13 @@ pub fn settle<L: Ledger>(
     id: &MsgId,
     session: u64,
     token: Token,
-    permitted: &[u16],
+    permitted: &Vec<u16>,
     now: u64,
-) -> bool
+) -> Option<Posted>
     requires { 0 < share.old.parts }
-    ensures counted { result ≡ true → share.new.amount ≡ share.old.amount + 1 }
-    ensures same { result ≡ false → share.new.amount ≡ share.old.amount }
+    ensures posted { IfSome result (IsPostOf id.now session token permitted.now.items) }
+    ensures counted { IfSome result (λ posted. share.new.amount ≡ share.old.amount + 1) }
+    ensures same { result ≡ None → share.new.amount ≡ share.old.amount }
     ensures parts { share.new.parts ≡ share.old.parts }
 {
     let mut shard = shard.lock(rt);
