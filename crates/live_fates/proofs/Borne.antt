@@ -50,8 +50,9 @@ receipt_of {J} {g} end answer d is =
     of_fate : (f : Fate J g) → d.outcome ≡ f → (d.end == end) ≡ true
         → (d.number == answer.number) ≡ true → is_kept_as answer.receipt.shown.index f ≡ true
         → BearsOut end answer d
-    of_fate (fates.Kept receipt) kept one two three = record {
+    of_fate (fates.Kept receipt posted) kept one two three = record {
       receipt = receipt;
+      posted = posted;
       kept = kept;
       same_end = eqb-true d.end end one;
       same_number = eqb-true d.number answer.number two;

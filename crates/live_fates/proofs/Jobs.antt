@@ -15,6 +15,7 @@ use Rattle.live_fates.specs.Strays.{is_kept_as, is_mixed, is_receipt_of, mixed_i
 use Rattle.live_fates.specs.Sets.{has_job}
 use Rattle.live_fates.specs.Strays.{astray_of, astray_from}
 use Rattle.live_fates.specs.Sets.{unlisted_of, unlisted_from}
+use Rattle.live_settle.specs.declared.desk.both.Posted.{Posted}
 use Rattle.live_store.specs.declared.record.Archive.{Ghosts}
 use Rattle.live_seats.specs.declared.outcome.Done.{Done}
 use Rattle.live_fates.specs.declared.fate.Fate.{Fate}
@@ -58,15 +59,16 @@ one_apart false old false false was = was
 
 -- after one more kept job
 pub one_more_job : {J : Type 0} {g : Ghosts J} (done : List (Done (Fate J g))) (i : ℕ)
-    (d : Done (Fate J g)) (receipt : Receipt J g) (told : ℕ) (old new first : Bool)
-    (end number register : ℕ)
-    → i < length done → d ≡ get_or done i d → d.outcome ≡ fates.Kept receipt
+    (d : Done (Fate J g)) (receipt : Receipt J g) (posted : Posted) (told : ℕ)
+    (old new first : Bool) (end number register : ℕ)
+    → i < length done → d ≡ get_or done i d → d.outcome ≡ fates.Kept receipt posted
     → told ≡ receipt.shown.index
     → new ≡ cond (is_eq (ordering_then (ordering_then (nat_cmp d.end end) (nat_cmp d.number number))
     (nat_cmp told register))) true old
     → old ≡ (first || list_any (is_receipt_of end number register) (take i done))
     → new ≡ (first || list_any (is_receipt_of end number register) (take (i + 1) done))
-one_more_job {J} {g} done i d receipt told old new first e n register below at is read put was =
+one_more_job {J} {g} done i d receipt posted told old new first e n register below at is read put
+    was =
     let test : Done (Fate J g) → Bool = is_receipt_of e n register in
     let named : Bool → Bool = λ kept. (d.end == e) && ((d.number == n) && kept) in
     put
@@ -80,10 +82,10 @@ one_more_job {J} {g} done i d receipt told old new first e n register below at i
 
 -- a kept job isn't mixed up
 pub not_mixed : {J : Type 0} {g : Ghosts J} (done : List (Done (Fate J g))) (i : ℕ)
-    (d : Done (Fate J g)) (receipt : Receipt J g)
-    → i < length done → d ≡ get_or done i d → d.outcome ≡ fates.Kept receipt
+    (d : Done (Fate J g)) (receipt : Receipt J g) (posted : Posted)
+    → i < length done → d ≡ get_or done i d → d.outcome ≡ fates.Kept receipt posted
     → mixed_in (take (i + 1) done) ≡ mixed_in (take i done)
-not_mixed {J} {g} done i d receipt below at is =
+not_mixed {J} {g} done i d receipt posted below at is =
     count_by_more_no (λ (one : Done (Fate J g)). is_mixed one.outcome) done i d below
     (ap (λ (one : Done (Fate J g)). is_mixed one.outcome) (sym at) ∙ ap is_mixed is)
 

@@ -6,12 +6,15 @@ use Rattle.live_fates.specs.declared.fate.Fate.{Fate}
 use Rattle.live_fates.specs.declared.fate.Fate.TheVariants as fates
 use Rattle.live_fates.specs.declared.fate.Told.{Told}
 use Rattle.live_fates.specs.declared.fate.Told.TheVariants as told
+use Rattle.live_settle.specs.Posted.{IsPostOf}
+use Rattle.live_settle.specs.declared.desk.both.Posted.{Posted}
 use Rattle.live_store.specs.declared.record.Archive.{Ghosts}
 use Rattle.live_store.specs.Stores.{IsTextOf, IsStoreFault}
+use Rattle.live_store.specs.declared.stored.Receipt.{Receipt}
 
 -- the article is kept
 abbrev pub is_kept : {J : Type 0} {g : Ghosts J} → Fate J g → Bool
-is_kept (fates.Kept receipt) = true
+is_kept (fates.Kept receipt posted) = true
 is_kept (fates.Failed fault) = false
 is_kept fates.Mixed = false
 
@@ -20,20 +23,29 @@ pub record IsJobFault (holds : ℕ → ℕ → Bool) (handed : Handed) (fault : 
   pub stores : IsStoreFault handed.job.article.text fault
   pub held : holds handed.job.article.group fault.buffer ≡ true
 
--- the receipt's record has the text of the job, its class and its length; or the fault is one of
--- the storing of the text, of a buffer of the job's group
+-- the receipt's record has the text of the job, its class and its length; and the article of the
+-- job's message-id was settled for the job's session, under the receipt's token, and posted to the
+-- feeds that the job is permitted for
+pub record IsKeptJob {J : Type 0} {g : Ghosts J} (handed : Handed) (receipt : Receipt J g)
+    (post : Posted)
+    : Type 0 where
+  pub text : IsTextOf handed.job.article.class handed.job.article.text receipt.shown
+  pub posted : IsPostOf handed.job.id handed.job.session receipt.token
+      handed.job.article.permitted.items post
+
+-- the job is stored, settled and posted; or the fault is one of the storing of the text, of a
+-- buffer of the job's group
 abbrev pub FitsJob : {J : Type 0} {g : Ghosts J} → (holds : ℕ → ℕ → Bool) → Fate J g → Handed
     → Type 0
-FitsJob holds (fates.Kept receipt) handed =
-    IsTextOf handed.job.article.class handed.job.article.text receipt.shown
+FitsJob holds (fates.Kept receipt posted) handed = IsKeptJob handed receipt posted
 FitsJob holds (fates.Failed fault) handed = IsJobFault holds handed fault
 FitsJob holds fates.Mixed handed = Unit {0}
 
 -- what a fate tells: the same receipt, or that the job failed
 abbrev pub IsToldOf : {J : Type 0} {g : Ghosts J} → Fate J g → Told J g → Type 0
-IsToldOf (fates.Kept one) (told.Kept other) =
+IsToldOf (fates.Kept one posted) (told.Kept other) =
     (one.token ≡ other.token) × (one.shown ≡ other.shown)
-IsToldOf (fates.Kept one) told.Failed = ⊥
+IsToldOf (fates.Kept one posted) told.Failed = ⊥
 IsToldOf (fates.Failed fault) (told.Kept other) = ⊥
 IsToldOf (fates.Failed fault) told.Failed = Unit {0}
 IsToldOf fates.Mixed (told.Kept other) = ⊥

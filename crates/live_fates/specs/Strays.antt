@@ -7,18 +7,19 @@ use Rattle.live_fates.specs.declared.fate.Fate.{Fate}
 use Rattle.live_fates.specs.declared.fate.Fate.TheVariants as fates
 use Rattle.live_fates.specs.declared.fate.KeptJob.{KeptJob}
 use Rattle.live_seats.specs.declared.outcome.Done.{Done}
+use Rattle.live_settle.specs.declared.desk.both.Posted.{Posted}
 use Rattle.live_store.specs.declared.record.Archive.{Ghosts}
 use Rattle.live_store.specs.declared.stored.Receipt.{Receipt}
 
 -- the article is kept, and this is the register number of its receipt
 abbrev pub is_kept_as : {J : Type 0} {g : Ghosts J} → ℕ → Fate J g → Bool
-is_kept_as number (fates.Kept receipt) = receipt.shown.index == number
+is_kept_as number (fates.Kept receipt posted) = receipt.shown.index == number
 is_kept_as number (fates.Failed fault) = false
 is_kept_as number fates.Mixed = false
 
 -- the job is mixed up
 abbrev pub is_mixed : {J : Type 0} {g : Ghosts J} → Fate J g → Bool
-is_mixed (fates.Kept receipt) = false
+is_mixed (fates.Kept receipt posted) = false
 is_mixed (fates.Failed fault) = false
 is_mixed fates.Mixed = true
 
@@ -62,7 +63,8 @@ pub record BearsOut {J : Type 0} {g : Ghosts J} (end : ℕ) (answer : KeptJob J 
     (d : Done (Fate J g))
     : Type 0 where
   pub receipt : Receipt J g
-  pub kept : d.outcome ≡ fates.Kept receipt
+  pub posted : Posted
+  pub kept : d.outcome ≡ fates.Kept receipt posted
   pub same_end : d.end ≡ end
   pub same_number : d.number ≡ answer.number
   pub same_record : receipt.shown.index ≡ answer.receipt.shown.index

@@ -49,7 +49,7 @@ fn add_jobs<J: Archive>(jobs: &mut Jobs, done: &[Done<Fate<J>>]) -> Result<u64, 
     let mut mixed = 0;
     for one in done {
         match &one.outcome {
-            Fate::Kept(receipt) => {
+            Fate::Kept(receipt, _) => {
                 jobs.insert((one.end, one.number, receipt.number()))?;
                 continue;
             }

@@ -3,13 +3,15 @@ ghost use Rattle.live_fates.specs.Fates.{IsToldOf};
 
 use cyc_buffer::Fault;
 use live_seats::Outcome;
+use live_settle::Posted;
 use live_store::{Archive, Receipt};
 
 /// What became of a job in its writer's hands (docs/PROTOCOL.md, Threads).
 #[derive(Drop)]
 pub enum Fate<J: Archive> {
-    /// The article is stored, the id is Stored and the feeds have its token.
-    Kept(Receipt<J>),
+    /// The article is stored, the id is Stored and the feeds have its token: what the store and
+    /// what the settling say of it.
+    Kept(Receipt<J>, Posted),
     /// The device failed, or the buffer has no further cycle.
     Failed(Fault),
     /// What the core can't meet: another write was open, or the text is none for the buffer.
@@ -24,7 +26,7 @@ impl<J: Archive> Outcome for Fate<J> {
     ghost fits = { FitsJob J.holds };
 
     fn is_kept(&self) -> bool {
-        matches!(self, Fate::Kept(_))
+        matches!(self, Fate::Kept(..))
     }
 }
 
@@ -48,7 +50,7 @@ pub fn told_of<J: Archive>(fate: &Fate<J>) -> Told<J>
     ensures { IsToldOf fate.now result }
 {
     match fate {
-        Fate::Kept(receipt) => Told::Kept(receipt.again()),
+        Fate::Kept(receipt, _) => Told::Kept(receipt.again()),
         Fate::Failed(_) | Fate::Mixed => Told::Failed,
     }
 }

@@ -43,7 +43,7 @@ fn add_kept<'a, J: Archive>(
 {
     let mut kept = 0;
     for one in done {
-        let Fate::Kept(_) = one.outcome else {
+        let Fate::Kept(..) = one.outcome else {
             continue;
         };
         ids.insert(one.id.as_str())?;

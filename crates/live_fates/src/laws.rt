@@ -26,7 +26,7 @@ pub fn fetched_is_handed_in<J: Archive>(
     requires fits { FitsJob J.holds done.now.outcome job.1 }
     ensures { J.trusted ≡ true → octets_in text.now ≡ job.1.job.article.text }
 {
-    if let Fate::Kept(receipt) = &done.outcome {
+    if let Fate::Kept(receipt, _) = &done.outcome {
         same_text(register, text, receipt.shown());
     }
 }

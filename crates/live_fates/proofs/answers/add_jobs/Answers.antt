@@ -12,10 +12,10 @@ loop-one-preserved-in-Kept g c =
     let below = c.loop-one-test.true in
     let at = c.one-item.is in
     let updates = c.in_ok-insert-in-Kept.ensures.updates in
-    let same = not_mixed done i one c.in-Kept.receipt below at c.in-Kept.is in
+    let same = not_mixed done i one c.in-Kept.receipt c.in-Kept.field-1 below at c.in-Kept.is in
     record {
       jobs = λ end number register.
-          one_more_job done i one c.in-Kept.receipt c.number.result
+          one_more_job done i one c.in-Kept.receipt c.in-Kept.field-1 c.number.result
           (has_job c.loop-one.jobs end number register)
           (has_job c.insert.new.self end number register)
           (has_job c.args.jobs.now end number register) end number register below at c.in-Kept.is
