@@ -1,23 +1,38 @@
 -- An end goes on by one session more.
-use Rattle.std.proofs.Common.{◌≡◌, ℕ, List, [], sym, subst}
+use Rattle.std.proofs.Common.{◌≡◌, ℕ, List, [], subst, sym}
 use Rattle.std.proofs.Math.Logic.{∥∥₁_map, ∥∥₁_elim, ∥∥₁_prop}
 use Rattle.boxcar.specs.Table.{Shelves}
 use Rattle.live_session.specs.Carried.{IsServed}
 use Rattle.live_session.specs.Course.{Hands}
 use Rattle.live_session.specs.declared.wire.Finish.{Finish}
-use Rattle.relay_live.specs.Sessions.{Sessions, Then}
+use Rattle.relay_live.specs.Sessions.{IsOneMore, Sessions, Then}
 use Rattle.relay_model.specs.Terms.{Terms}
 
-pub goes_on : (register : Shelves) (w : Terms) (end later peer s : ℕ) (before after : Hands)
-    (read written : List ℕ) (finish : Finish) (heard said : List ℕ) → read ≡ [] → written ≡ [] → later ≡ end
+-- what was served over a connection that was new is one session more, of its number
+pub one_more : (register : Shelves) (w : Terms) (end peer number spent : ℕ) (before begun after : Hands)
+    (read written : List ℕ) (finish : Finish) (heard said : List ℕ)
+    → spent ≡ number → begun ≡ before → read ≡ [] → written ≡ []
+    → ∥ IsServed register w spent end peer begun read written finish after heard said ∥₁
+    → ∥ IsOneMore register w end peer number before after ∥₁
+one_more register w end peer number spent before begun after read written finish heard said same first unread unwritten served =
+    ∥∥₁_map served (λ one. record {
+      finish = finish;
+      heard = heard;
+      said = said;
+      served = subst (λ (x : ℕ × Hands × List ℕ × List ℕ).
+          IsServed register w x.0 end peer x.1 x.2 x.3 finish after heard said)
+          (λ i. (same i, first i, unread i, unwritten i)) one;
+    })
+
+-- what the sessions of an end have come to goes on by one session more
+pub goes_on : (register : Shelves) (w w' : Terms) (end end' peer peer' number : ℕ) (before after : Hands)
+    → w' ≡ w → end' ≡ end → peer' ≡ peer
     → ∥ Sessions register w end peer before ∥₁
-    → ∥ IsServed register w s end peer before read written finish after heard said ∥₁
-    → ∥ Sessions register w later peer after ∥₁
-goes_on register w end later peer s before after read written finish heard said unread unwritten same old served =
+    → ∥ IsOneMore register w end peer number before after ∥₁
+    → ∥ Sessions register w' end' peer' after ∥₁
+goes_on register w w' end end' peer peer' number before after terms ends peers old more =
     ∥∥₁_elim old (∥∥₁_prop) (λ so_far.
-    ∥∥₁_map served (λ one.
-    subst (λ (e : ℕ). Sessions register w e peer after) (sym same)
-    (Then before after s finish heard said so_far
-    (subst (λ (x : List ℕ × List ℕ).
-    IsServed register w s end peer before x.0 x.1 finish after heard said)
-    (λ i. (unread i, unwritten i)) one))))
+    ∥∥₁_map more (λ one.
+    subst (λ (x : Terms × ℕ × ℕ). Sessions register x.0 x.1 x.2 after)
+    (λ i. (sym terms i, sym ends i, sym peers i))
+    (Then number before after so_far one)))

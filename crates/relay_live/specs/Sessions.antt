@@ -13,14 +13,22 @@ use Rattle.relay_model.specs.Terms.{Terms}
 abbrev pub IsNothing : List (List Handed) → Type 0
 IsNothing jobs = (g : ℕ) (list : List Handed) → slice_get jobs g ≡ Some list → list ≡ []
 
+-- An end of a peer has served one session more, that of this number, over a connection of which
+-- nothing was read or written before.
+pub record IsOneMore (register : Shelves) (w : Terms) (end peer number : ℕ) (before after : Hands)
+    : Type 0 where
+  pub finish : Finish
+  pub heard : List ℕ
+  pub said : List ℕ
+  pub served : IsServed register w number end peer before [] [] finish after heard said
+
 -- What an end of a peer has handed over and answered kept: nothing before its first session; each
--- session goes on from there, over a connection of which nothing was read or written before.
+-- session, of a number, goes on from there.
 pub data Sessions (register : Shelves) (w : Terms) (end peer : ℕ) : Hands → Type 0 where
   NoneYet : (jobs : List (List Handed)) → IsNothing jobs
       → Sessions register w end peer (record { jobs = jobs; count = 0; kept = [] })
-  Then : (before after : Hands) (s : ℕ) (finish : Finish) (heard said : List ℕ)
-      → Sessions register w end peer before
-      → IsServed register w s end peer before [] [] finish after heard said
+  Then : (number : ℕ) (before after : Hands) → Sessions register w end peer before
+      → IsOneMore register w end peer number before after
       → Sessions register w end peer after
 
 -- each end has a list for each of so many groups

@@ -1,35 +1,27 @@
 //! The numbers of sessions.
-ghost use Rattle.std.specs.Prelude.{◌≡◌, ◌+◌, ◌-◌, ◌^◌, ◌↔◌, None, IfSome};
+mod last;
 
+use last::Last;
+pub(crate) use last::Number;
+use std::sync::ledger::{Book, Ledger};
 use std::sync::{Mutex, Wait};
 
-/// The number of the session that was drawn last, 0 before the first.
+/// Gives each session of a relay a number of its own: the one that was drawn last, behind its lock.
 #[derive(Drop)]
-pub(crate) struct Numbers {
-    last: Mutex<u64>,
+pub(crate) struct Numbers<L: Ledger> {
+    last: Mutex<Last<L>>,
 }
 
-impl Numbers {
-    /// No number is drawn yet.
-    pub(crate) fn new() -> Numbers {
+impl<L: Ledger> Numbers<L> {
+    /// No number is drawn yet in the relay of this book.
+    pub(crate) fn new(book: &Book<L>) -> Numbers<L> {
         Numbers {
-            last: Mutex::new(0),
+            last: Mutex::new(Last::new(book)),
         }
     }
 
     /// Draws the number one above the last, none after the greatest.
-    pub(crate) fn draw<R: Wait>(&self, rt: &R) -> Option<u64> {
-        next(&mut self.last.lock(rt))
+    pub(crate) fn draw<R: Wait>(&self, rt: &R) -> Option<Number<L>> {
+        self.last.lock(rt).next()
     }
-}
-
-/// One above the last, which is the last from now on; none after the greatest number of 64 bits.
-fn next(last: &mut u64) -> Option<u64>
-    ensures some { IfSome result (λ n. (n ≡ last.old + 1) × (last.new ≡ n)) }
-    ensures none { (result ≡ None) ↔ (last.old ≡ 2 ^ 64 - 1) }
-    ensures same { result ≡ None → last.new ≡ last.old }
-{
-    let number = last.checked_add(1)?;
-    *last = number;
-    Some(number)
 }

@@ -1,9 +1,12 @@
 //! An end: the connections of a peer, one after the other, each a session.
-ghost use Rattle.std.specs.Prelude.{◌≡◌, [], length};
+ghost use Rattle.std.specs.Prelude.{◌≡◌, [], true};
 ghost use Rattle.article_verdict.specs.Config.{terms_of};
-ghost use Rattle.live_seats.specs.Seats.{IsSeatOf, count_of, end_of, handed_by};
-ghost use Rattle.relay_live.specs.Sessions.{Accounted};
+ghost use Rattle.live_seats.specs.Seats.{IsSeatOf, end_of};
+ghost use Rattle.live_session.specs.Going.{hands_at};
+ghost use Rattle.relay_live.specs.Numbers.{number_of};
+ghost use Rattle.relay_live.specs.Sessions.{IsOneMore};
 
+use crate::drawing::Number;
 use crate::keeper::Keeper;
 use crate::lending::Lends;
 use crate::shared::Shared;
@@ -86,13 +89,13 @@ impl<'a, X, S: BlockStore + Drop, J: Archive, L: Ledger, C: Clock, G, Q: Lends> 
         self.kept.as_slice()
     }
 
-    /// Serves a connection as the session of this number.
+    /// Serves a connection as the session of this number, which is spent.
     fn serve_one<H: Hears + Drop, W: Says + Drop, R: Wait>(
         &mut self,
         rt: &R,
         lanes: &[Lane],
         seat: SessionSeat,
-        number: u64,
+        number: Number<L>,
         reader: H,
         writer: W,
     ) -> SessionSeat
@@ -100,12 +103,11 @@ impl<'a, X, S: BlockStore + Drop, J: Archive, L: Ledger, C: Clock, G, Q: Lends> 
         G: Gate<R>,
         requires seat { IsSeatOf lanes.now seat }
         requires new { (H.heard reader ≡ []) × (W.said writer ≡ []) }
-        requires kept { Accounted J.trusted (terms_of self.old.config.now) (end_of seat)
-            self.old.peer (count_of seat) (handed_by seat) self.old.kept.items }
         ensures seat { IsSeatOf lanes.now result }
         ensures end { end_of result ≡ end_of seat }
-        ensures kept { Accounted J.trusted (terms_of self.new.config.now) (end_of result)
-            self.new.peer (count_of result) (handed_by result) self.new.kept.items }
+        ensures one_more { J.trusted ≡ true → ∥ IsOneMore J.register (terms_of self.old.config.now)
+            (end_of seat) self.old.peer (number_of number) (hands_at seat self.old.kept.items)
+            (hands_at result self.new.kept.items) ∥₁ }
         ensures same { (self.new.config ≡ self.old.config) × (self.new.peer ≡ self.old.peer)
             × (self.new.connections ≡ self.old.connections) }
     {
@@ -125,7 +127,7 @@ impl<'a, X, S: BlockStore + Drop, J: Archive, L: Ledger, C: Clock, G, Q: Lends> 
             &hall,
             seat,
             kept,
-            number,
+            number.into_value(),
             self.peer,
             reader,
             writer,

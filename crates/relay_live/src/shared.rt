@@ -3,7 +3,7 @@ ghost use Rattle.std.specs.Prelude.{◌≡◌, length};
 ghost use Rattle.relay_model.specs.Terms.{shard_count};
 
 use crate::claims::Claims;
-use crate::drawing::Numbers;
+use crate::drawing::{Number, Numbers};
 use crate::making::{locked, new_buffers, new_desk, new_shards, new_slots};
 use crate::slot::Slot;
 use block_shelf::{Rack, new_racks};
@@ -31,7 +31,7 @@ pub struct Shared<S: BlockStore + Drop, J: Archive, L: Ledger> {
     pub(crate) buffers: Vec<Mutex<NumberedBuffer<S, J>>>,
     pub(crate) racks: Vec<Mutex<Rack>>,
     pub(crate) slots: Vec<Slot<J>>,
-    numbers: Numbers,
+    numbers: Numbers<L>,
     ghost sixteen: { length shards.items ≡ shard_count },
 }
 
@@ -62,6 +62,7 @@ impl<S: BlockStore + Drop, J: Archive, L: Ledger> Shared<S, J, L> {
             feeds_in shared ≡ length config.now.relay.feeds.items) }
         ensures ends { IfOk result (λ shared. ends_in shared ≡ ends) }
     {
+        let numbers = Numbers::new(&book);
         let shards = new_shards(rt, alloc)?;
         let desk = new_desk(alloc, config, book)?;
         let racks = locked(alloc, new_racks(alloc, &config.buffers)?)?;
@@ -74,12 +75,12 @@ impl<S: BlockStore + Drop, J: Archive, L: Ledger> Shared<S, J, L> {
             buffers,
             racks,
             slots,
-            numbers: Numbers::new(),
+            numbers,
         })
     }
 
     /// Draws the number of a session: one above the last, from 1 on, none after the greatest.
-    pub fn draw<R: Wait>(&self, rt: &R) -> Option<u64> {
+    pub(crate) fn draw<R: Wait>(&self, rt: &R) -> Option<Number<L>> {
         self.numbers.draw(rt)
     }
 
