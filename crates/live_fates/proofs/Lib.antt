@@ -1,4 +1,5 @@
 pub mod Borne
+pub mod HandedIn
 pub mod Jobs
 pub mod KeptIds
 pub mod Texts

@@ -1,32 +1,54 @@
 //! What is so of a text that is fetched under the number of a kept answer.
-ghost use Rattle.std.specs.Prelude.{◌≡◌, ℕ, true};
+ghost use Rattle.std.specs.Prelude.{◌≡◌, ◌<◌, ℕ, true, List, length, Some, slice_get};
 ghost use Rattle.job_queue.specs.declared.parcel.Handed.{Handed};
+ghost use Rattle.live_fates.specs.Doubles.{all_told};
 ghost use Rattle.live_fates.specs.Fates.{FitsJob};
 ghost use Rattle.live_fates.specs.Strays.{BearsOut};
-ghost use Rattle.live_fates.specs.Texts.{number_in, octets_in};
+ghost use Rattle.live_fates.specs.Texts.{Run, ToldJob, IsHandedIn, number_in, octets_in};
+ghost use Rattle.live_seats.specs.Gathered.{AllTold};
 
 use crate::fate::{Fate, KeptJob};
 use live_seats::Done;
 use live_store::{Archive, Register, Text, same_text};
 
-/// Where what a writer told of a job of an end bears out the end's kept answer, as it does of each
-/// answer where there are no strays, and fits the job that was handed over, a text that is fetched
-/// whole under the answer's register number is the text that was handed in: in any thread, over
-/// honest stores.
+/// Where a job that a writer told of bears out a kept answer of an end, a text that is fetched
+/// whole under the answer's register number is that of a job of the answer's number which the end
+/// handed over: in any thread, over honest stores.
+///
+/// The premises are what is known of a run once all seats have come back: `serve_all` of relay_live
+/// says `told` of its lists (`jobs`); where it counted no strays, `strays` (`borne_out`) gives for
+/// each kept answer of each end a job that bears it out, among all that were told of; and that is
+/// one by `is_told_job`.
 pub fn fetched_is_handed_in<J: Archive>(
     register: &Register,
     text: &Text<J>,
     answer: &KeptJob<J>,
     done: &Done<Fate<J>>,
 )
-    ghost job: { ℕ × Handed }
+    ghost run: { Run J J.Archive }
     requires register { register.now ≡ J.register }
     requires number { number_in text.now ≡ answer.now.receipt.shown.index }
-    requires borne { BearsOut job.0 answer.now done.now }
-    requires fits { FitsJob J.holds done.now.outcome job.1 }
-    ensures { J.trusted ≡ true → octets_in text.now ≡ job.1.job.article.text }
+    requires told { AllTold (FitsJob J.holds) run.dones run.hands }
+    requires among { ToldJob run done.now }
+    requires borne { BearsOut run.end answer.now done.now }
+    ensures { J.trusted ≡ true
+        → ∥ IsHandedIn run.hands run.end answer.now.number (octets_in text.now) ∥₁ }
 {
     if let Fate::Kept(receipt, _) = &done.outcome {
         same_text(register, text, receipt.shown());
     }
+}
+
+/// A job that stands among all that the writers told of is one that the writer of some group told
+/// of. `serve_all` of relay_live says of its lists that there is one of each end (`lefts`), in it
+/// one for each group (`lists`), and as many writers as groups (`writers`).
+pub fn is_told_job<J: Archive>(done: &Done<Fate<J>>)
+    ghost run: { Run J J.Archive }
+    requires told { (j : ℕ) × (slice_get (all_told run.dones) j ≡ Some done.now) }
+    requires ends { run.end < length run.hands }
+    requires lists { (e : ℕ) (lists : List (List Handed)) → slice_get run.hands e ≡ Some lists
+        → length lists ≡ length run.dones }
+    ensures { ∥ ToldJob run done.now ∥₁ }
+{
+    let _ = done;
 }
