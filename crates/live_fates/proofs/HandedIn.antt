@@ -17,6 +17,7 @@ use Rattle.live_fates.specs.declared.fate.KeptJob.{KeptJob}
 use Rattle.live_seats.specs.Gathered.{told_of, AllTold}
 use Rattle.live_seats.specs.Taken.{Name, done_name, name_of}
 use Rattle.live_seats.specs.declared.outcome.Done.{Done}
+use Rattle.live_settle.specs.declared.desk.both.Posted.{Posted}
 use Rattle.live_store.specs.Tied.{text_in}
 use Rattle.live_store.specs.declared.record.Archive.{Ghosts}
 use Rattle.live_store.specs.declared.stored.Receipt.{Receipt}
@@ -63,9 +64,12 @@ named_at : {O : Type 0} (done : List (Done O)) (jobs : List Handed) (k : ℕ) (d
     → (job : Handed) × (slice_get jobs k ≡ Some job) × (done_name d ≡ name_of job)
 named_at [] jobs k d named at = absurd (cc)
 named_at (x ∷ xs) [] k d named at = absurd (cc)
-named_at {O} (x ∷ xs) (job ∷ jobs) zero d named at =
-    (job, refl, ap (λ (y : Done O). done_name y) same
-    ∙ same_head (done_name x) (name_of job) (map done_name xs) (map name_of jobs) named)
+named_at {O} (x ∷ xs) (job ∷ jobs) zero d named at = (
+  job,
+  refl,
+  ap (λ (y : Done O). done_name y) same
+      ∙ same_head (done_name x) (name_of job) (map done_name xs) (map name_of jobs) named,
+)
   where
     same : d ≡ x
     same = cc
@@ -114,25 +118,26 @@ is_told {J} {g} run d told ends lists =
       among = at.4;
       of_end = of_end;
       of_group = slice_get-get_or handed at.0 []
-      (omega (arith, within, lists run.end handed of_end));
+          (omega (arith, within, lists run.end handed of_end));
     }
 
 -- the record of a kept job's receipt has the text of the job that the receipt fits
 text_of_job : {J : Type 0} {g : Ghosts J} (holds : ℕ → ℕ → Bool) (fate : Fate J g)
-    (receipt : Receipt J g) (handed : Handed)
-    → fate ≡ fates.Kept receipt → FitsJob holds fate handed
+    (receipt : Receipt J g) (posted : Posted) (handed : Handed)
+    → fate ≡ fates.Kept receipt posted → FitsJob holds fate handed
     → text_in receipt.shown ≡ handed.job.article.text
-text_of_job {J} {g} holds fate receipt handed kept fits =
-    (subst (λ (f : Fate J g). FitsJob holds f handed) kept fits).text
+text_of_job {J} {g} holds fate receipt posted handed kept fits =
+    (subst (λ (f : Fate J g). FitsJob holds f handed) kept fits).text.text
 
 -- where a job bears out a kept answer of the run's end, the text of its receipt's record was handed
 -- in by this end, with a job of the answer's number
 pub handed_in : {J : Type 0} {g : Ghosts J} (holds : ℕ → ℕ → Bool) (run : Run J g)
-    (answer : KeptJob J g) (d : Done (Fate J g)) (receipt : Receipt J g) (octets : List ℕ)
+    (answer : KeptJob J g) (d : Done (Fate J g)) (receipt : Receipt J g) (posted : Posted)
+    (octets : List ℕ)
     → AllTold (FitsJob holds) run.dones run.hands → ToldJob run d → BearsOut run.end answer d
-    → d.outcome ≡ fates.Kept receipt → octets ≡ text_in receipt.shown
+    → d.outcome ≡ fates.Kept receipt posted → octets ≡ text_in receipt.shown
     → ∥ IsHandedIn run.hands run.end answer.number octets ∥₁
-handed_in {J} {g} holds run answer d receipt octets told job borne kept read =
+handed_in {J} {g} holds run answer d receipt posted octets told job borne kept read =
     let all = told job.group run.end job.done job.handed job.jobs job.of_writer job.of_end
     job.of_group in
     let own = among_told run.end job.place job.done d job.among borne.same_end in
@@ -147,5 +152,5 @@ handed_in {J} {g} holds run answer d receipt octets told job borne kept read =
       of_group = job.of_group;
       among = there.1;
       same_number = sym (ap (λ (n : Name). n.number) there.2) ∙ borne.same_number;
-      text = sym (read ∙ text_of_job holds d.outcome receipt there.0 kept fits);
+      text = sym (read ∙ text_of_job holds d.outcome receipt posted there.0 kept fits);
     })

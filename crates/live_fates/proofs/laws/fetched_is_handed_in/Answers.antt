@@ -10,5 +10,5 @@ pub returns-in-Kept : goal.returns-in-Kept
 returns-in-Kept g c =
     let after = c.requires.1.1.1 in
     λ trusted. handed_in g.J.Archive.holds g.run c.args.answer.now c.args.done.now
-    c.in-Kept.receipt (octets_in c.args.text.now) after.0 after.1.0 after.1.1 c.in-Kept.is
+    c.in-Kept.receipt _ (octets_in c.args.text.now) after.0 after.1.0 after.1.1 c.in-Kept.is
     (c.same_text.ensures trusted ∙ ap (λ (w : Where Record). text_in w) c.shown.ensures)
