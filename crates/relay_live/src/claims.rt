@@ -1,12 +1,13 @@
 //! A shard of the history under its lock.
-ghost use Rattle.std.specs.Prelude.{◌≡◌, ◌≢◌, ◌<◌, ◌+◌, ◌^◌, true, false, IfOk};
+ghost use Rattle.std.specs.Prelude.{◌≡◌, ◌≢◌, ◌<◌, ◌+◌, ◌^◌, None, IfOk, IfSome};
 ghost use Rattle.id_history.specs.Counts.{AtMost};
 ghost use Rattle.id_history.specs.declared.claims.Take.TheVariants as takes;
+ghost use Rattle.live_settle.specs.Posted.{IsPostOf};
 
 use crossbeam_utils::sync::EventCount;
 use cyc_token::Token;
 use id_history::{Counts, Offer, Shard, Take};
-use live_settle::CountedDesk;
+use live_settle::{CountedDesk, Posted};
 use nntp_text::MsgId;
 use std::alloc::{AllocError, Global};
 use std::hash::RandomState;
@@ -108,15 +109,16 @@ impl Claims {
         id: &MsgId,
         session: u64,
         token: Token,
-        permitted: &[u16],
+        permitted: &Vec<u16>,
         now: u64,
-    ) -> bool
+    ) -> Option<Posted>
         requires { 0 < share.old.parts }
-        ensures counted { result ≡ true → share.new.amount ≡ share.old.amount + 1 }
-        ensures same { result ≡ false → share.new.amount ≡ share.old.amount }
+        ensures posted { IfSome result (IsPostOf id.now session token permitted.now.items) }
+        ensures counted { IfSome result (λ posted. share.new.amount ≡ share.old.amount + 1) }
+        ensures same { result ≡ None → share.new.amount ≡ share.old.amount }
         ensures parts { share.new.parts ≡ share.old.parts }
     {
-        let settled = live_settle::settle(
+        let posted = live_settle::settle(
             rt,
             &self.shard,
             desk,
@@ -127,9 +129,9 @@ impl Claims {
             permitted,
             now,
         );
-        if settled {
+        if posted.is_some() {
             self.ended.notify_all();
         }
-        settled
+        posted
     }
 }

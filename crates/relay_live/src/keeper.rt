@@ -1,7 +1,8 @@
 //! What stores the jobs of the writers.
-ghost use Rattle.std.specs.Prelude.{◌≡◌, ◌<◌, ◌+◌, true, false, IfOk};
+ghost use Rattle.std.specs.Prelude.{◌≡◌, ◌<◌, ◌+◌, None, IfSome};
 ghost use Rattle.live_fates.specs.Fates.{is_kept, FitsJob};
 ghost use Rattle.live_seats.specs.Taken.{worth};
+ghost use Rattle.live_settle.specs.Posted.{IsPostOf};
 ghost use Rattle.live_store.specs.Stores.{IsStored};
 ghost use Rattle.relay_live.specs.Holding.{has_buffer};
 
@@ -17,6 +18,7 @@ use job_queue::Handed;
 use live_fates::{Fate, told_of};
 use live_seats::Store;
 use live_session::Clock;
+use live_settle::Posted;
 use live_store::{Archive, Stored};
 use relay_conf::Buffers;
 use std::sync::Wait;
@@ -96,23 +98,41 @@ impl<'a, S: BlockStore + Drop, J: Archive, L: Ledger, C: Clock, Q: Lends> Keeper
     }
 
     /// The article is settled at the moment that the clock gives. It is tried again until the job's
-    /// id is its session's, and false only where the desk makes no further post.
-    fn settle<R: Wait>(&self, rt: &R, share: &mut Share<L>, job: &Job, token: Token) -> bool
+    /// id is its session's, and `None` only where the desk makes no further post.
+    fn settle<R: Wait>(
+        &self,
+        rt: &R,
+        share: &mut Share<L>,
+        job: &Job,
+        token: Token,
+    ) -> Option<Posted>
         requires { 0 < share.old.parts }
-        ensures counted { result ≡ true → share.new.amount ≡ share.old.amount + 1 }
-        ensures same { result ≡ false → share.new.amount ≡ share.old.amount }
+        ensures posted { IfSome result (IsPostOf job.now.id job.now.session token
+            job.now.article.permitted.items) }
+        ensures counted { IfSome result (λ posted. share.new.amount ≡ share.old.amount + 1) }
+        ensures same { result ≡ None → share.new.amount ≡ share.old.amount }
         ensures parts { share.new.parts ≡ share.old.parts }
     {
         let claims = self.shared.claims(&job.id);
         let desk = &self.shared.desk;
-        let permitted = job.article.permitted.as_slice();
+        let permitted = &job.article.permitted;
         for _ in rt.forever() {
             let now = self.clock.now();
-            if claims.settle(rt, desk, share, &job.id, job.session, token, permitted, now) {
-                return true;
+            let posted = claims.settle(
+                rt,
+                desk,
+                share,
+                &job.id,
+                job.session,
+                token,
+                permitted,
+                now,
+            );
+            if posted.is_some() {
+                return posted;
             }
             if desk.lock(rt).is_full() {
-                return false;
+                return None;
             }
             thread::yield_now();
         }
@@ -129,8 +149,8 @@ impl<'a, S: BlockStore + Drop, J: Archive, L: Ledger, C: Clock, Q: Lends> Keeper
         let job = &handed.job;
         let fate = match self.write(rt, &job.article) {
             Stored::Kept(receipt) => {
-                if self.settle(rt, share, job, receipt.token()) {
-                    return Fate::Kept(receipt);
+                if let Some(posted) = self.settle(rt, share, job, receipt.token()) {
+                    return Fate::Kept(receipt, posted);
                 }
                 Fate::Mixed
             }

@@ -77,8 +77,7 @@ impl<L: Ledger> Settling<L> {
             first: 0,
             length: 1,
         };
-        let none: [u16; 0] = [];
-        live_settle::settle(
+        let posted = live_settle::settle(
             rt,
             &self.shard,
             &self.desk,
@@ -86,9 +85,10 @@ impl<L: Ledger> Settling<L> {
             &handed.job.id,
             handed.end,
             token,
-            none.as_slice(),
+            &handed.job.article.permitted,
             1,
-        )
+        );
+        posted.is_some()
     }
 }
 
