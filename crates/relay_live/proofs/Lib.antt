@@ -1,3 +1,4 @@
 pub mod Accounts
 mod Lists
 pub mod Sessions
+pub mod Sent

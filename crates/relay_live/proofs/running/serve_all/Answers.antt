@@ -1,4 +1,5 @@
 use Rattle.std.proofs.Common.{◌≡◌, ◌∙◌, ℕ, List, [], ap, length, map, subst, sym}
+use denote.Param.Send.{sendable}
 use Rattle.std.specs.Prelude.{slice_get}
 use Rattle.std.proofs.lemmas.List.{length-map}
 use Rattle.article_verdict.specs.Config.{terms_of}
@@ -14,6 +15,7 @@ use Rattle.relay_live.specs.Ends.{kept_of, peer_of, terms_at}
 use Rattle.relay_live.specs.Sessions.{Accounted, HasLists}
 use Rattle.relay_live.proofs.Accounts.{at_map, each_same, marked, new_accounts}
 use Rattle.relay_live.proofs.Lists.{lists_of_all}
+use Rattle.relay_live.proofs.Sent.{fate_send}
 use Rattle.relay_live.proofs.running.serve_all.Goals as goal
 
 pub serve_seats-requires-clause-ends : goal.serve_seats-requires-clause-ends
@@ -104,3 +106,7 @@ returns-clause-kept g c =
     (sym c.close-totals.ensures.handed)
     (subst (AllKept (λ end number count jobs. Accounted g.J.Archive.trusted (terms_at end) number (peer_of end) count jobs (kept_of end)) (hands_of c.in-Ok.seats.lefts.items))
     (sym c.close-totals.ensures.services) c.in-Ok.ensures.kept)
+
+-- what was posted has parts for contracts alone, which any thread may have
+pub serve_seats-requires-send-O : goal.serve_seats-requires-send-O
+serve_seats-requires-send-O g c κs within = search (sendable, fate_send)
