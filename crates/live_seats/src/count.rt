@@ -1,5 +1,5 @@
 //! The posts are counted, once all seats have come back.
-ghost use Rattle.std.specs.Prelude.{◌≡◌, ◌+◌, ◌<◌, ◌≤◌, ◌^◌, ℕ, List, Bool, false, Some};
+ghost use Rattle.std.specs.Prelude.{◌≡◌, ◌+◌, ◌<◌, ◌≤◌, ℕ, false, Some};
 ghost use Rattle.std.specs.Prelude.{slice_get, length, map};
 ghost use Rattle.live_settle.specs.Desks.{posts_in};
 ghost use Rattle.live_seats.specs.Gathered.{kept_by_all};

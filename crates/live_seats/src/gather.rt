@@ -8,7 +8,6 @@ ghost use Rattle.live_seats.specs.Seats.{jobs_in, HasLeft, left_end, left_by};
 ghost use Rattle.live_seats.specs.Gathered.{OfLane, AllClosed, LeftsFit, RestsFit, WritersFit};
 ghost use Rattle.live_seats.specs.Gathered.{IsRest, hands_of, told_of, Told, ToldBelow, AllTold};
 ghost use Rattle.live_seats.specs.Gathered.{NoneElse, kept_by_all};
-ghost use Rattle.live_seats.specs.Rows.{From};
 ghost use Rattle.live_seats.specs.Started.{AllEnded, AllLeft};
 ghost use Rattle.live_settle.specs.Desks.{posts_in};
 

@@ -1,11 +1,10 @@
 //! The lanes and the seats of a run are made.
-ghost use Rattle.std.specs.Prelude.{◌≡◌, ◌+◌, ◌<◌, ◌≤◌, ◌^◌, ◌++◌, [], ◌∷◌, ℕ, false};
-ghost use Rattle.std.specs.Prelude.{length, map, replicate, IfOk};
+ghost use Rattle.std.specs.Prelude.{◌≡◌, ◌+◌, ◌<◌, ◌^◌, ◌++◌, [], ◌∷◌, false};
+ghost use Rattle.std.specs.Prelude.{length, map, IfOk};
 ghost use Rattle.crossbeam_queue.specs.Passes.{view, IsPassOf};
 ghost use Rattle.job_queue.specs.Delivery.{writer_knows};
 ghost use Rattle.live_seats.specs.Lanes.{queue_of};
 ghost use Rattle.live_seats.specs.Rows.{From};
-ghost use Rattle.live_seats.specs.Seats.{count_of, handed_by};
 ghost use Rattle.live_seats.specs.Gathered.{IsRest, RestsFit};
 ghost use Rattle.live_seats.specs.Started.{AllReady, Fresh, IsUnused};
 

@@ -1,5 +1,5 @@
 //! What becomes of a job that a writer took.
-ghost use Rattle.std.specs.Prelude.{◌≡◌, ℕ, Bool};
+ghost use Rattle.std.specs.Prelude.{◌≡◌, Bool};
 ghost use Rattle.job_queue.specs.declared.parcel.Handed.{Handed};
 
 use nntp_text::MsgId;

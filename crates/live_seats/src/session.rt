@@ -1,6 +1,6 @@
 //! The seat of an end.
-ghost use Rattle.std.specs.Prelude.{◌≡◌, ◌+◌, ◌<◌, ◌≤◌, ◌^◌, ◌++◌, [], ◌∷◌, ℕ};
-ghost use Rattle.std.specs.Prelude.{true, false, length, slice_set, slice_index_or, IfOk, IfErr};
+ghost use Rattle.std.specs.Prelude.{◌≡◌, ◌+◌, ◌<◌, ◌≤◌, ◌^◌, ◌++◌, [], ◌∷◌};
+ghost use Rattle.std.specs.Prelude.{length, slice_set, slice_index_or, IfOk, IfErr};
 ghost use lib.Dec.{ltb};
 ghost use Rattle.live_seats.specs.Seats.{PassesFit, AreOpen, handed_of};
 ghost use Rattle.live_seats.specs.Seats.{IsSeatOf, HasLeft, end_of, count_of, handed_by};

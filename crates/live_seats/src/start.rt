@@ -1,14 +1,13 @@
 //! The threads of ends and writers.
-ghost use Rattle.std.specs.Prelude.{◌≡◌, ◌+◌, ◌<◌, ◌≤◌, ℕ, List, true, false, Some, slice_get};
-ghost use Rattle.std.specs.Prelude.{length, vec_len, vec_capacity, map, IfOk, IfSome};
+ghost use Rattle.std.specs.Prelude.{◌≡◌, ◌+◌, ◌<◌, ℕ, List, true, false, Some};
+ghost use Rattle.std.specs.Prelude.{length, IfSome};
 ghost use Rattle.crossbeam_queue.specs.Passes.{IsPassOf};
 ghost use Rattle.job_queue.specs.declared.parcel.Handed.{Handed};
 ghost use Rattle.live_seats.specs.Lanes.{queue_of};
 ghost use Rattle.live_seats.specs.Seats.{IsSeatOf, HasLeft, end_of, count_of, handed_by};
 ghost use Rattle.live_seats.specs.Seats.{left_end, left_by};
 ghost use Rattle.live_seats.specs.Gathered.{AllClosed};
-ghost use Rattle.live_seats.specs.Rows.{From};
-ghost use Rattle.live_seats.specs.Started.{Ready, Runs, Open, Serves, Ended, Left, HasKept};
+ghost use Rattle.live_seats.specs.Started.{Serves, HasKept};
 
 use crate::lane::Lane;
 use crate::outcome::Outcome;

@@ -2,7 +2,7 @@
 ghost use Rattle.std.specs.Prelude.{◌≡◌, true};
 ghost use Rattle.article_verdict.specs.Config.{terms_of};
 ghost use Rattle.live_seats.specs.Seats.{IsSeatOf, end_of};
-ghost use Rattle.live_session.specs.Going.{HearsAnswer, KeepsButSession, KeepsPlace, LetsGo};
+ghost use Rattle.live_session.specs.Going.{HearsAnswer, KeepsButSession, LetsGo};
 ghost use Rattle.live_session.specs.Going.{WentOn, said_in};
 ghost use Rattle.peer_session.specs.declared.steps.Answer.TheVariants as answers;
 

@@ -1,5 +1,5 @@
 //! Storing a text, a step at a time, each under the lock.
-ghost use Rattle.std.specs.Prelude.{◌≡◌, ◌≤◌, length, IfErr};
+ghost use Rattle.std.specs.Prelude.{◌≡◌, IfErr};
 ghost use Rattle.boxcar.specs.Table.{Shows};
 ghost use Rattle.live_store.specs.Tied.{text_in};
 ghost use Rattle.live_store.specs.Steps.{IsWriteFault};

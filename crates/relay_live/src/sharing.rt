@@ -1,5 +1,4 @@
 //! What sessions share: each call is one step under one lock.
-ghost use Rattle.std.specs.Prelude.{◌≡◌};
 
 use crate::shared::Shared;
 use cyc_block::{BlockStore, CHUNK_OCTETS};

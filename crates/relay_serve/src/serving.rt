@@ -1,5 +1,5 @@
 //! A relay is served on the ports of the machine, over its files.
-ghost use Rattle.std.specs.Prelude.{◌≡◌, ◌<◌, ◌≤◌, ◌^◌, IfErr, IfOk, length, map};
+ghost use Rattle.std.specs.Prelude.{◌≡◌, ◌<◌, ◌^◌, IfErr, IfOk, length, map};
 ghost use Rattle.file_blocks.specs.Store.{count_of};
 ghost use Rattle.relay_serve.specs.Running.{IsRunFault};
 ghost use Rattle.serve_terms.specs.Serve.{AreOf, ServeGives};

@@ -1,6 +1,6 @@
 //! Connections of a run of which some are sockets, and one is in memory.
-ghost use Rattle.std.specs.Prelude.{◌≡◌, ◌≤◌, ◌<◌, ◌+◌, ◌++◌, [], length, take, drop};
-ghost use Rattle.std.specs.Prelude.{None, IfOk, OnErr};
+ghost use Rattle.std.specs.Prelude.{◌<◌, ◌+◌, take};
+ghost use Rattle.std.specs.Prelude.{None};
 ghost use Rattle.thread_rows.specs.Doors.{heard_at, said_at};
 
 use crate::sockets::asker::{Asker, Pen};
