@@ -6,6 +6,7 @@ use cyc_token::Token;
 use std::mem::size_of;
 use std::snapshot::Snapshot;
 use std::sync::Wait;
+use std::thread;
 
 /// An article that was begun: its token and, for contracts alone, the octets of its text. Only
 /// `store` makes one, and enters it.
@@ -34,8 +35,8 @@ impl Record {
         self.token
     }
 
-    /// Enters an article under its token in the register, again and again where memory is refused:
-    /// it answers with the record's number, or never.
+    /// Enters an article under its token in the register. Where memory is refused it gives way and
+    /// tries again: it answers with the record's number, or never.
     pub(super) fn enter<R: Wait>(rt: &R, register: &Register, token: Token, text: &Vec<u8>) -> Shown
         requires article { ∥ IsArticle text.now.items ∥₁ }
         ensures shown { Shows register.now result }
@@ -47,8 +48,9 @@ impl Record {
                 token,
                 text: Snapshot::of(text),
             };
-            if let Ok(shown) = register.push_shown(rt, record) {
-                return shown;
+            match register.push_shown(rt, record) {
+                Ok(shown) => return shown,
+                Err(_) => thread::yield_now(),
             }
         }
         unreachable!()
