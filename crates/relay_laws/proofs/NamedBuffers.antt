@@ -9,7 +9,7 @@ use Rattle.news_terms.specs.Settings.{IsBufferAt}
 use Rattle.relay_facts.specs.Sound.{IsSound}
 
 -- what was found passes the test
-found_passes : {A : Type 0} (test : A → Bool) (xs : List A) (x : A) → find test xs ≡ Some x
+pub found_passes : {A : Type 0} (test : A → Bool) (xs : List A) (x : A) → find test xs ≡ Some x
     → test x ≡ true
 found_passes test [] x e = absurd (none-some x e)
 found_passes test (first ∷ xs) x e =
@@ -21,7 +21,7 @@ found_passes test (first ∷ xs) x e =
     by_test later false fails is = later is
 
 -- one that passes, where no other does, is found
-only_found : {A : Type 0} (test : A → Bool) (xs : List A) (k : ℕ) (x : A)
+pub only_found : {A : Type 0} (test : A → Bool) (xs : List A) (k : ℕ) (x : A)
     → slice_get xs k ≡ Some x → test x ≡ true
     → ((j : ℕ) (y : A) → slice_get xs j ≡ Some y → test y ≡ true → j ≡ k)
     → find test xs ≡ Some x

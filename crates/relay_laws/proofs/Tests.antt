@@ -94,3 +94,24 @@ same_places one other same =
       cycle = eqb-true one.cycle other.cycle tests.2;
       first = eqb-true one.first other.first tests.3;
     }
+
+-- tokens that agree are one
+pub same_one : (one other : Token) → same_token one other ≡ true → one ≡ other
+same_one one other same =
+    let tests : ((one.class == other.class) ≡ true) × ((one.buffer == other.buffer) ≡ true)
+    × ((one.cycle == other.cycle) ≡ true) × ((one.first == other.first) ≡ true)
+    × ((one.length == other.length) ≡ true) =
+    five_tests (one.class == other.class) (one.buffer == other.buffer) (one.cycle == other.cycle)
+    (one.first == other.first) (one.length == other.length) same in
+    let class : one.class ≡ other.class = eqb-true one.class other.class tests.0 in
+    let buffer : one.buffer ≡ other.buffer = eqb-true one.buffer other.buffer tests.1 in
+    let cycle : one.cycle ≡ other.cycle = eqb-true one.cycle other.cycle tests.2 in
+    let first : one.first ≡ other.first = eqb-true one.first other.first tests.3 in
+    let length : one.length ≡ other.length = eqb-true one.length other.length tests.4 in
+    λ i. record {
+      class = class i;
+      buffer = buffer i;
+      cycle = cycle i;
+      first = first i;
+      length = length i;
+    }

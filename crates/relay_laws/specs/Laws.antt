@@ -1,18 +1,20 @@
 -- The laws: what holds after every list of events, whatever they were answered.
-use Rattle.std.specs.Prelude.{◌≡◌, ℕ, ◌≤◌, ◌==◌, ◌&&◌, nat_eq, Bool, true, false, List, [], ◌∷◌}
-use Rattle.std.specs.Prelude.{map, filter, count_by, bytes_eq, All, Some}
+use Rattle.std.specs.Prelude.{◌≡◌, ◌≢◌, ℕ, ◌≤◌, ◌==◌, ◌&&◌, nat_eq, Bool, true, false, List, [], ◌∷◌}
+use Rattle.std.specs.Prelude.{map, filter, count_by, bytes_eq, All, None, Some}
 use Rattle.std.specs.List.{list_any}
+use Rattle.news_terms.specs.Command.{Part}
 use Rattle.news_terms.specs.Token.{Token, same_token}
 use Rattle.relay_model.specs.Asks.{is_open}
 use Rattle.relay_model.specs.Claims.{Claim, Unknown, Offered, Storing, Stored, Refused, Stage}
 use Rattle.relay_model.specs.Claims.{Accepted}
 use Rattle.relay_model.specs.Fetches as fetches
-use Rattle.relay_model.specs.Fetches.{Gone, fetched}
+use Rattle.relay_model.specs.Fetches.{Gone, NotKnown, fetched}
 use Rattle.relay_model.specs.Invariants.{places_of}
 use Rattle.relay_model.specs.Run.{Event, Run, Step}
-use Rattle.relay_model.specs.State.{State, Session, Kept}
+use Rattle.relay_model.specs.State.{State, Session, Kept, Job, Fetches, OfId, Ended}
 use Rattle.relay_model.specs.Terms.{Terms}
-use Rattle.relay_model.specs.World.{World, Output, empty_world}
+use Rattle.relay_model.specs.World.{World, Output, Writing, empty_world}
+use Rattle.relay_model.specs.Writers.{job_size}
 use Rattle.relay_laws.specs.Rules.{IsGoneToken}
 
 -- after every list of events from this world on, whatever they were answered, the world is such
@@ -114,3 +116,22 @@ abbrev pub FindsUntilGone : Terms → World → Type 0
 FindsUntilGone w x =
     All (λ (kept : Kept). ¬ IsGoneToken w x.state kept.token
     → fetched w x.state kept.token ≡ fetches.Article kept.text) x.state.kept
+
+-- a fetch by message-id that is under way is never of a token that is unknown
+abbrev pub FetchesKnown : Terms → World → Type 0
+FetchesKnown w x =
+    (s : ℕ) (session : Session) (part : Part) (id : List ℕ) (token : Token) (had : ℕ)
+    → x.state.session s ≡ Some session → session.phase ≡ Fetches (OfId part id) token had
+    → fetched w x.state token ≢ NotKnown
+
+-- a session that has ended has no job in its hand
+abbrev pub EndedHaveNoJob : World → Type 0
+EndedHaveNoJob x =
+    (s : ℕ) (session : Session) → x.state.session s ≡ Some session → session.phase ≡ Ended
+    → session.hand ≡ None
+
+-- no writer has written more blocks than its job has
+abbrev pub WritesWithin : World → Type 0
+WritesWithin x =
+    (g : ℕ) (job : Job) (token : Token) (written : ℕ)
+    → x.work.writer g ≡ Writing job token written → written ≤ job_size job

@@ -1,4 +1,6 @@
 pub mod Calm
 pub mod Counts
+pub mod Forgetting
 pub mod Laws
+pub mod Reasons
 pub mod Rules

@@ -5,8 +5,8 @@ ghost use Rattle.relay_model.specs.Run.{Event};
 ghost use Rattle.relay_model.specs.Terms.{Terms};
 ghost use Rattle.relay_model.specs.World.{World, Output, empty_world};
 ghost use Rattle.relay_facts.specs.Sound.{IsSound};
-ghost use Rattle.relay_laws.specs.Laws.{Always, GainsPermitted, IsInOnePlace, OffersAreOpen};
-ghost use Rattle.relay_laws.specs.Laws.{RunRemembering, texts_of};
+ghost use Rattle.relay_laws.specs.Laws.{Always, EndedHaveNoJob, FetchesKnown, GainsPermitted};
+ghost use Rattle.relay_laws.specs.Laws.{IsInOnePlace, OffersAreOpen, RunRemembering, texts_of};
 
 /// In a run that doesn't forget it, a message-id has at most one text.
 pub fn stored_once()
@@ -28,4 +28,15 @@ pub fn in_one_place()
 /// A message-id that is offered to a session is one of its open offers.
 pub fn offers_are_open()
     ensures { (w : Terms) → IsSound w → Always w OffersAreOpen }
+{}
+
+/// A fetch by message-id that is under way is never of an unknown token: its article is found, or
+/// gone.
+pub fn fetches_are_known()
+    ensures { (w : Terms) → IsSound w → Always w (FetchesKnown w) }
+{}
+
+/// A session that has ended has no job in its hand.
+pub fn ended_have_no_job()
+    ensures { (w : Terms) → IsSound w → Always w EndedHaveNoJob }
 {}

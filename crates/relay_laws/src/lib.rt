@@ -4,6 +4,9 @@
 #![tactic(auto)]
 
 pub mod claims;
+pub mod devices;
+pub mod forgetting;
+pub mod judging;
 pub mod rules;
 pub mod stores;
 pub mod writes;

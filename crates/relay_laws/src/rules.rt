@@ -1,25 +1,26 @@
 //! Laws of single rules.
-ghost use Rattle.std.specs.Prelude.{◌≡◌, ◌≢◌, ◌++◌, ◌∷◌, [], ◌↔◌, ℕ, true, List, Option, Some};
-ghost use Rattle.std.specs.Prelude.{Result, Contains, IsSomeAnd, slice_get};
+ghost use Rattle.std.specs.Prelude.{◌≡◌, ◌≢◌, ◌++◌, ◌∷◌, [], ◌↔◌, ◌+◌, ◌≤◌, ℕ, true, false, List};
+ghost use Rattle.std.specs.Prelude.{Option, None, Some, Result, Contains, IsSomeAnd, slice_get};
 ghost use Rattle.news_terms.specs.Article.{Article};
-ghost use Rattle.news_terms.specs.Places.{Buffer};
+ghost use Rattle.news_terms.specs.Places.{Buffer, size_of};
 ghost use Rattle.news_terms.specs.Reply as replies;
 ghost use Rattle.news_terms.specs.Token.{Token};
-ghost use Rattle.relay_model.specs.Asks.{Due, IsDue, Pushes};
+ghost use Rattle.relay_model.specs.Asks.{Due, IsDue, Pushes, feed_of};
 ghost use Rattle.relay_model.specs.Claims.{Accepted, Claim, Offered, Storing, Waiting, Wanted};
-ghost use Rattle.relay_model.specs.Claims.{Mine};
+ghost use Rattle.relay_model.specs.Claims.{Mine, Stage, Stored, is_storing, is_storing_for};
+ghost use Rattle.relay_model.specs.Claims.{look_answer};
 ghost use Rattle.relay_model.specs.Claims.{offer_answer, after_offer, take_answer, after_take};
 ghost use Rattle.relay_model.specs.Claims.{after_refuse, after_release, after_forget, after_settle};
 ghost use Rattle.relay_model.specs.Fetches as fetches;
-ghost use Rattle.relay_model.specs.Fetches.{Gone, NotRead, fetched, front_of, text_under};
+ghost use Rattle.relay_model.specs.Fetches.{Gone, NotRead, buffer_of, fetched, front_of, text_under};
 ghost use Rattle.relay_model.specs.Hears.{outcome_heard};
 ghost use Rattle.relay_model.specs.Judging.{Judges, is_permitted, permitted};
-ghost use Rattle.relay_model.specs.Run.{Event, Step, Write, Break, Expire};
+ghost use Rattle.relay_model.specs.Run.{Event, Step, Bytes, Write, Break, Expire, refusal};
 ghost use Rattle.relay_model.specs.Shares.{Reading, ToRead};
-ghost use Rattle.relay_model.specs.State.{State, Session, Transfer, Job, Waits, Leaving};
-ghost use Rattle.relay_model.specs.Terms.{Terms, Reason};
+ghost use Rattle.relay_model.specs.State.{State, Session, Transfer, Job, Waits, Leaving, Ended};
+ghost use Rattle.relay_model.specs.Terms.{Terms, FeedTerms, Reason};
 ghost use Rattle.relay_model.specs.World.{World, Output, Outcome, IsKept, Speaks};
-ghost use Rattle.relay_model.specs.World.{Refuses, Memory};
+ghost use Rattle.relay_model.specs.World.{Refuses, Memory, NoSession};
 ghost use Rattle.relay_model.specs.Writers.{Stores, Fails, Accepts, Abandons};
 ghost use Rattle.relay_laws.specs.Calm.{IsCalm, CalmRun};
 ghost use Rattle.relay_laws.specs.Rules.{IsNotOf, IsGoneToken, IsLiveToken};
@@ -33,6 +34,37 @@ pub fn others_keep_theirs()
     ensures forgotten { (s : ℕ) (claim : Claim) → IsNotOf s claim → after_forget s claim ≡ claim }
     ensures settled { (s : ℕ) (token : Token) (now : ℕ) (claim : Claim) → IsNotOf s claim
         → after_settle s token now claim ≡ claim }
+{}
+
+/// An id is being stored for a session just where its claim says so.
+pub fn storing_is_storing()
+    ensures for_it { (s : ℕ) (claim : Claim) → (is_storing_for s claim ≡ true)
+        ↔ ((article : Accepted) × (stage : Stage) × (claim ≡ Storing s article stage)) }
+    ensures for_any { (claim : Claim) → (is_storing claim ≡ true)
+        ↔ ((s : ℕ) × (article : Accepted) × (stage : Stage)
+        × (claim ≡ Storing s article stage)) }
+{}
+
+/// The writer settles and forgets the ids alone that are being stored for the session.
+pub fn only_storing_ends()
+    ensures forgotten { (s : ℕ) (claim : Claim) → is_storing_for s claim ≡ false
+        → after_forget s claim ≡ claim }
+    ensures settled { (s : ℕ) (token : Token) (now : ℕ) (claim : Claim)
+        → is_storing_for s claim ≡ false → after_settle s token now claim ≡ claim }
+{}
+
+/// A look is answered the token of an id that is stored, and of no other.
+pub fn looks_are_stored()
+    ensures { (claim : Claim) (token : Token) → (look_answer claim ≡ Some token)
+        ↔ ((moment : ℕ) × (claim ≡ Stored token moment)) }
+{}
+
+/// The feed that a peer takes from is one of its own, and a peer that has one is given it.
+pub fn own_feed_is_taken()
+    ensures own { (w : Terms) (peer feed : ℕ) → feed_of w peer ≡ Some feed
+        → IsSomeAnd (slice_get w.feeds feed) (λ one. one.peer ≡ peer) }
+    ensures given { (w : Terms) (peer feed : ℕ) (one : FeedTerms)
+        → slice_get w.feeds feed ≡ Some one → one.peer ≡ peer → feed_of w peer ≢ None }
 {}
 
 /// A session that is told to send an article has the offer of its id; else nothing has changed.
@@ -98,6 +130,34 @@ pub fn fetches_are_true()
     ensures found { (w : Terms) (σ : State) (token : Token) (text : List ℕ)
         → IsLiveToken w σ token → text_under σ.kept token ≡ Some text
         → fetched w σ token ≡ fetches.Article text }
+{}
+
+/// What is gone had an octet at least, and lay whole in its buffer.
+pub fn gone_was_whole_in_its_buffer()
+    ensures some { (w : Terms) (σ : State) (token : Token) → fetched w σ token ≡ Gone
+        → 1 ≤ token.length }
+    ensures inside { (w : Terms) (σ : State) (token : Token) (buffer : Buffer)
+        → fetched w σ token ≡ Gone → buffer_of w token ≡ Some buffer
+        → token.first + size_of token.length ≤ buffer.blocks }
+{}
+
+/// Octets and a break may come to a session in every phase but where it leaves or has ended, and in
+/// these two they are refused.
+pub fn octets_may_come()
+    ensures taken { (w : Terms) (σ : State) (s : ℕ) (piece : List ℕ) (session : Session)
+        → σ.session s ≡ Some session → session.phase ≢ Leaving → session.phase ≢ Ended
+        → (refusal w σ (Bytes s piece) ≡ None) × (refusal w σ (Break s) ≡ None) }
+    ensures leaving { (w : Terms) (σ : State) (s : ℕ) (piece : List ℕ) (session : Session)
+        → σ.session s ≡ Some session → session.phase ≡ Leaving
+        → (refusal w σ (Bytes s piece) ≡ Some NoSession)
+        × (refusal w σ (Break s) ≡ Some NoSession) }
+    ensures ended { (w : Terms) (σ : State) (s : ℕ) (piece : List ℕ) (session : Session)
+        → σ.session s ≡ Some session → session.phase ≡ Ended
+        → (refusal w σ (Bytes s piece) ≡ Some NoSession)
+        × (refusal w σ (Break s) ≡ Some NoSession) }
+    ensures absent { (w : Terms) (σ : State) (s : ℕ) (piece : List ℕ) → σ.session s ≡ None
+        → (refusal w σ (Bytes s piece) ≡ Some NoSession)
+        × (refusal w σ (Break s) ≡ Some NoSession) }
 {}
 
 /// A read fails only of a token whose place is live: what the numbers decide, no device is asked.

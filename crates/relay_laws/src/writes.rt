@@ -5,6 +5,8 @@ ghost use Rattle.relay_model.specs.State.{Job};
 ghost use Rattle.relay_model.specs.Terms.{Terms};
 ghost use Rattle.relay_model.specs.World.{World, Output, Idle, Popped, with_failures};
 ghost use Rattle.relay_model.specs.Writers.{Writes, job_size};
+ghost use Rattle.relay_facts.specs.Sound.{IsSound};
+ghost use Rattle.relay_laws.specs.Laws.{Always, WritesWithin};
 ghost use Rattle.relay_laws.specs.Counts.{FindsNoFault, IsOther, WritesInTurn, writes_left};
 
 /// A Write that finds a job leaves one Write less, or fewer where it finds a fault. One that finds
@@ -47,4 +49,9 @@ pub fn one_outcome()
     ensures { (w : Terms) (x y z : World) (g now : ℕ) → Writes w x g now y → Writes w x g now z
         → FindsNoFault x y g → FindsNoFault x z g
         → with_failures y x.work.failures ≡ with_failures z x.work.failures }
+{}
+
+/// No writer has written more blocks than its job has.
+pub fn never_too_many()
+    ensures { (w : Terms) → IsSound w → Always w WritesWithin }
 {}

@@ -1,0 +1,71 @@
+-- What the laws of forgetting and of a Restart speak of (docs/PROTOCOL.md, Forgetting, Clean stop
+-- and start).
+use Rattle.std.specs.Prelude.{◌≡◌, ◌≢◌, ℕ, ◌+◌, ◌≤◌, List, [], All, slice_get, Option, None, Some}
+use Rattle.news_terms.specs.Places.{Buffer}
+use Rattle.news_terms.specs.Token.{Token}
+use Rattle.relay_model.specs.Claims.{Claim, Unknown, Offered, Storing, Stored, Refused, Passed}
+use Rattle.relay_model.specs.Fetches.{front_of}
+use Rattle.relay_model.specs.Run.{Event, Expire, Step, shard_of}
+use Rattle.relay_model.specs.State.{State}
+use Rattle.relay_model.specs.Terms.{Terms}
+use Rattle.relay_model.specs.World.{World, Output, Work, Expirer, Reading, Forgetting, Idle}
+use Rattle.relay_laws.specs.Rules.{IsGoneToken}
+
+-- what was begun, stored, gained and accepted stays, and so does the number of the newest session
+pub record KeepsStore (σ τ : State) : Type 0 where
+  pub begun : τ.begun ≡ σ.begun
+  pub kept : τ.kept ≡ σ.kept
+  pub feed : τ.feed ≡ σ.feed
+  pub accepted : τ.accepted ≡ σ.accepted
+  pub newest : τ.newest ≡ σ.newest
+
+-- nobody has anything to do
+pub record IsAtRest (work : Work) : Type 0 where
+  pub queue : (g : ℕ) → work.queue g ≡ []
+  pub writer : (g : ℕ) → work.writer g ≡ Idle
+  pub slot : (s : ℕ) → work.slot s ≡ None
+  pub expirer : work.expirer ≡ Reading []
+
+-- the moment at which a remembered id was stored or refused
+abbrev pub remembered_at : Claim → Option ℕ
+remembered_at Unknown = None
+remembered_at (Offered session) = None
+remembered_at (Storing session article stage) = None
+remembered_at (Stored token moment) = Some moment
+remembered_at (Refused moment) = Some moment
+
+-- the event is an Expire of the id's shard, and what was remembered at this moment is old enough
+-- then
+pub record ForgetsOld (w : Terms) (id : List ℕ) (moment : ℕ) (event : Event) : Type 0 where
+  pub shard : ℕ
+  pub now : ℕ
+  pub remember : ℕ
+  pub is : event ≡ Expire shard now
+  pub own : shard_of id ≡ shard
+  pub asked : w.remember ≡ Some remember
+  pub old : moment + remember ≤ now
+
+-- a front that was read is of a buffer, with its blocks, and the buffer's front is there or past it
+pub record IsReadFront (w : Terms) (σ : State) (one : Passed) : Type 0 where
+  pub index : ℕ
+  pub buffer : Buffer
+  pub there : slice_get w.buffers index ≡ Some buffer
+  pub number : one.buffer ≡ buffer.number
+  pub blocks : one.blocks ≡ buffer.blocks
+  pub past : one.front ≤ front_of w σ buffer
+
+-- the fronts that the expirer has read
+abbrev pub fronts_read : Expirer → List Passed
+fronts_read (Reading fronts) = fronts
+fronts_read (Forgetting fronts left) = fronts
+
+-- each front that the expirer has read is of a buffer, and the buffer's front is there or past it
+abbrev pub FrontsAreRead : Terms → World → Type 0
+FrontsAreRead w x = All (IsReadFront w x.state) (fronts_read x.work.expirer)
+
+-- what a next step forgets of what is stored is gone
+abbrev pub ForgetsGone : Terms → World → Type 0
+ForgetsGone w x =
+    (event : Event) (output : Output) (y : World) (id : List ℕ) (token : Token) (moment : ℕ)
+    → Step w x event output y → x.state.claim id ≡ Stored token moment
+    → y.state.claim id ≢ Stored token moment → IsGoneToken w x.state token
