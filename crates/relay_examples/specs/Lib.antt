@@ -1,4 +1,6 @@
 pub mod Answered
+pub mod Figures
+pub mod Judgements
 pub mod Rows
 pub mod StateRows
 pub mod Terms

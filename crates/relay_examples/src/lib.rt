@@ -3,6 +3,9 @@
 //! and its contract is what is proved.
 #![tactic(auto)]
 
+pub mod figures;
+pub mod judgements;
 pub mod rows;
+pub mod rules;
 pub mod states;
 pub mod worlds;
