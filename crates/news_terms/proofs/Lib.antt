@@ -28,6 +28,7 @@ pub mod RunPlaces
 pub mod SequentialFronts
 pub mod StuffLemmas
 pub mod StuffRoom
+pub mod TokenTexts
 pub mod UnfoldedLines
 pub mod UpdatedArticles
 pub mod UpdatedTexts

@@ -1,7 +1,7 @@
 //! Articles: laws and worked examples.
 
 ghost use Rattle.std.specs.Prelude.{◌≡◌, ◌++◌, ◌∷◌, [], ◌↔◌, ℕ, List, true, false, codes, length};
-ghost use Rattle.std.specs.Prelude.{take, remove, Some, IsTrue, IsFalse, slice_index};
+ghost use Rattle.std.specs.Prelude.{take, drop, remove, map, Some, IsTrue, IsFalse, slice_index};
 ghost use Rattle.std.specs.List.{list_any, AllByRecursion};
 ghost use Rattle.std.specs.Str.{byte};
 ghost use Rattle.news_terms.specs.Article.{Article, Fault, Nul, BareCrLf, NoBlankLine};
@@ -12,6 +12,10 @@ ghost use Rattle.news_terms.specs.Article.{carriage_return, line_feed, are_heade
 ghost use Rattle.news_terms.specs.Article.{first_content, has_empty_line, header_lines, is_folded};
 ghost use Rattle.news_terms.specs.Article.{is_newsgroup_name, is_paired, message_id, newsgroups};
 ghost use Rattle.news_terms.specs.Article.{newsgroups_in, trimmed, unfolded, is_of_line_end};
+ghost use Rattle.news_terms.specs.Article.{Date, From, MessageId, Newsgroups, InjectionDate};
+ghost use Rattle.news_terms.specs.Article.{EmptyField, BadId, BadGroups, faults_in_order, name_of};
+ghost use Rattle.news_terms.specs.Article.{is_field_name, is_set_off, contents_of};
+ghost use Rattle.news_terms.specs.Article.{content_or_empty};
 
 /// A text is laid out as one article at most.
 pub fn one_reading()
@@ -66,6 +70,51 @@ pub fn fault_examples()
         IsFirstFault (article_text (record a { fields = remove a.fields 3 })) (Missing Subject) }
     ensures two_paths { let a = worked_article (byte "a") 1 in
         IsFirstFault (codes "Path: x\r\n" ++ article_text a) (Twice Path) }
+    ensures no_date_and_no_from { let a = worked_article (byte "a") 1 in
+        IsFirstFault (article_text (record a { fields = remove (remove a.fields 5) 1 }))
+        (Missing Date) }
+{}
+
+/// The order in which the faults are tried, and the names of the fields that are looked at.
+pub fn order_examples()
+    ensures faults { faults_in_order
+        ≡ Nul ∷ BareCrLf ∷ NoBlankLine ∷ BadHeader
+        ∷ Missing Date ∷ Twice Date ∷ EmptyField Date
+        ∷ Missing From ∷ Twice From ∷ EmptyField From
+        ∷ Missing MessageId ∷ Twice MessageId ∷ EmptyField MessageId
+        ∷ Missing Newsgroups ∷ Twice Newsgroups ∷ EmptyField Newsgroups
+        ∷ Missing Path ∷ Twice Path ∷ EmptyField Path
+        ∷ Missing Subject ∷ Twice Subject ∷ EmptyField Subject
+        ∷ Twice InjectionDate ∷ EmptyField InjectionDate ∷ BadId ∷ BadGroups ∷ [] }
+    ensures names { map name_of
+        (Date ∷ From ∷ MessageId ∷ Newsgroups ∷ Path ∷ Subject ∷ InjectionDate ∷ [])
+        ≡ codes "Date" ∷ codes "From" ∷ codes "Message-ID" ∷ codes "Newsgroups" ∷ codes "Path"
+        ∷ codes "Subject" ∷ codes "Injection-Date" ∷ [] }
+{}
+
+/// What may stand as a field's name and behind its colon, and which of two fields is read.
+pub fn field_examples()
+    ensures first_and_last_octet { is_field_name (codes "!~") ≡ true }
+    ensures past_last_octet { is_field_name (0x7F ∷ []) ≡ false }
+    ensures space_in_name { is_field_name (codes "a b") ≡ false }
+    ensures colon_in_name { is_field_name (codes "a:b") ≡ false }
+    ensures no_name { is_field_name (codes "") ≡ false }
+    ensures nothing_behind_colon { is_set_off (codes "") ≡ true }
+    ensures space_behind_colon { is_set_off (codes " x") ≡ true }
+    ensures tab_behind_colon { is_set_off (codes "\tx") ≡ true }
+    ensures folded_behind_colon { is_set_off (codes "\r\n x") ≡ true }
+    ensures name_behind_colon { is_set_off (codes "x") ≡ false }
+    ensures both_in_order { contents_of (codes "A")
+        (record { name = codes "a"; content = codes "1" }
+        ∷ record { name = codes "b"; content = codes "2" }
+        ∷ record { name = codes "A"; content = codes "3" } ∷ [])
+        ≡ codes "1" ∷ codes "3" ∷ [] }
+    ensures first_of_two { first_content (codes "A")
+        (record { name = codes "a"; content = codes "1" }
+        ∷ record { name = codes "A"; content = codes "3" } ∷ [])
+        ≡ Some (codes "1") }
+    ensures none { content_or_empty (codes "A") (record { name = codes "b"; content = codes "2" }
+        ∷ []) ≡ [] }
 {}
 
 /// Line ends are pairs, and a folded line continues its field.
@@ -100,6 +149,9 @@ pub fn content_examples()
     ensures name { is_newsgroup_name (codes "comp.lang.c++") ≡ true }
     ensures empty_component { is_newsgroup_name (codes "comp..x") ≡ false }
     ensures empty_name { is_newsgroup_name (codes "") ≡ false }
+    ensures every_mark { is_newsgroup_name (codes "alt.a_b-c") ≡ true }
+    ensures other_mark { is_newsgroup_name (codes "alt.a/b") ≡ false }
+    ensures ends_with_dot { is_newsgroup_name (codes "alt.") ≡ false }
 {}
 
 /// The worked article A(a, 1).
@@ -111,4 +163,6 @@ pub fn worked_article_examples()
     ensures groups { newsgroups (worked_article (byte "a") 1).fields ≡ codes "misc.test" ∷ [] }
     ensures any_case { first_content (codes "subject") (worked_article (byte "a") 1).fields
         ≡ Some (codes " t") }
+    ensures other_id { message_id (worked_article (byte "b") 1).fields ≡ codes "<b@x>" }
+    ensures body { (worked_article (byte "b") 3).body ≡ codes "xxx\r\n" }
 {}

@@ -57,4 +57,14 @@ pub fn class_examples()
         (chosen_entry (small ∷ large ∷ []) (codes "comp.x" ∷ []) size))
         (99 ∷ 100 ∷ 200 ∷ 201 ∷ [])
         ≡ None ∷ Some 1 ∷ Some 1 ∷ Some 2 ∷ [] }
+    ensures without_a_group { let any : Entry = record {
+      smallest = 0;
+      largest = None;
+      newsgroups = worked_expression;
+      exactmatch = false;
+      class = 1;
+      group = 0;
+    } in
+        map (λ entry. takes entry [] 0) (any ∷ record any { exactmatch = true } ∷ [])
+        ≡ false ∷ false ∷ [] }
 {}

@@ -104,6 +104,8 @@ pub fn dots()
     ensures invented_dot { next_block 100 (codes ".x" ++ crlf ++ codes "." ++ crlf)
         ≡ blocks.Whole (codes "x" ++ crlf) [] }
     ensures unended { stuffed (codes "a") ≡ codes "a" ++ crlf ++ codes "." ++ crlf }
+    ensures room_for_one { length (stuffed (codes ".")) ≡ stuffed_room 1 }
+    ensures room_for_two { length (stuffed (codes "." ++ crlf ++ codes ".")) ≡ stuffed_room 4 }
 {}
 
 /// The limit is of the text without its dots: met it is whole, passed by one octet it is oversize.

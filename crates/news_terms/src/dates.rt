@@ -1,7 +1,7 @@
 //! Dates: worked examples, of which now is 1609459200, the first second of 2021.
 
 ghost use Rattle.std.specs.Prelude.{◌≡◌, ◌++◌, ◌∷◌, ◌↔◌, ◌+◌, ◌+ℤ◌, ◌≤ℤ◌, ◌<ℤ◌, ℕ, ℤ, List, codes};
-ghost use Rattle.std.specs.Prelude.{◌<◌, Some, None, pos, negsuc};
+ghost use Rattle.std.specs.Prelude.{◌<◌, [], Some, None, pos, negsuc};
 ghost use Rattle.news_terms.specs.Article.{worked_article};
 ghost use Rattle.news_terms.specs.Dates.{seconds_ahead, prepared_date, date_fault, judged_date};
 ghost use Rattle.news_terms.specs.Dates.{BadDate, Future, TooOld, two_digits, four_digits};
@@ -43,6 +43,41 @@ pub fn preparation_examples()
         ≡ Some (codes "1 Jan") }
     ensures falls_back { judged_date (worked_article 97 1).fields
         ≡ codes " Fri, 01 Jan 2021 00:00:00 +0000" }
+{}
+
+/// An Injection-Date is judged by, wherever it stands; without any date nothing is.
+pub fn judged_examples()
+    ensures behind_date { judged_date (record { name = codes "Date"; content = codes " 1" }
+        ∷ record { name = codes "Injection-Date"; content = codes " 2" } ∷ []) ≡ codes " 2" }
+    ensures before_date { judged_date
+        (record { name = codes "injection-date"; content = codes " 2" }
+        ∷ record { name = codes "Date"; content = codes " 1" } ∷ []) ≡ codes " 2" }
+    ensures date_alone { judged_date (record { name = codes "Date"; content = codes " 1" } ∷ [])
+        ≡ codes " 1" }
+    ensures no_date { judged_date [] ≡ [] }
+{}
+
+/// The words for Greenwich that become a number, in any case, and what stays as it is.
+pub fn zone_examples()
+    ensures universal { prepared_date (codes " Fri, 01 Jan 2021 00:00:00 UT")
+        ≡ Some (codes "01 Jan 2021 00:00:00 +0000") }
+    ensures coordinated { prepared_date (codes " Fri, 01 Jan 2021 00:00:00 utc")
+        ≡ Some (codes "01 Jan 2021 00:00:00 +0000") }
+    ensures mean { prepared_date (codes " Fri, 01 Jan 2021 00:00:00 gmt")
+        ≡ Some (codes "01 Jan 2021 00:00:00 +0000") }
+    ensures behind_tab { prepared_date (codes " 1 Jan 2021 00:00:00\tGMT")
+        ≡ Some (codes "1 Jan 2021 00:00:00\t+0000") }
+    ensures behind_comment { prepared_date (codes " 1 Jan 2021 00:00:00 GMT (noon)")
+        ≡ Some (codes "1 Jan 2021 00:00:00 +0000") }
+    ensures other_word { prepared_date (codes " Fri, 01 Jan 2021 00:00:00 EST")
+        ≡ Some (codes "01 Jan 2021 00:00:00 EST") }
+    ensures not_last { prepared_date (codes " UT 2021") ≡ Some (codes "UT 2021") }
+    ensures part_of_a_word { prepared_date (codes " 1 Jan XUT") ≡ Some (codes "1 Jan XUT") }
+    ensures space_before_comma { prepared_date (codes " Fri , 1 Jan")
+        ≡ Some (codes "Fri , 1 Jan") }
+    ensures folded { prepared_date (codes "\r\n Fri,\r\n 1 Jan") ≡ Some (codes "1 Jan") }
+    ensures last_ascii { prepared_date (0x7F ∷ []) ≡ Some (0x7F ∷ []) }
+    ensures first_past_ascii { prepared_date (0x80 ∷ []) ≡ None }
 {}
 
 /// The window of a cutoff of 864,000 seconds.

@@ -1,6 +1,6 @@
 //! Laws and worked examples of message-ids.
 ghost use Rattle.std.specs.Prelude.{◌≡◌, ◌≢◌, ℕ, ◌-◌, ◌≤◌, ◌↔◌, List, ◌++◌, codes, length, take};
-ghost use Rattle.std.specs.Prelude.{slice_index, All, Some, None, replicate};
+ghost use Rattle.std.specs.Prelude.{slice_index, All, Some, None, replicate, ◌∷◌};
 ghost use Rattle.news_terms.specs.MessageId.{id_fault, IsMessageId};
 ghost use Rattle.news_terms.specs.MessageId as ids;
 
@@ -15,6 +15,10 @@ pub fn id_examples()
     ensures not_opened { id_fault (codes "a@x>") ≡ Some ids.Brackets }
     ensures not_closed { id_fault (codes "<a@x") ≡ Some ids.Brackets }
     ensures space { id_fault (codes "<a b>") ≡ Some ids.Octet }
+    ensures first_and_last_octet { id_fault (codes "<!~>") ≡ None }
+    ensures past_last_octet { id_fault (codes "<" ++ 0x7F ∷ codes ">") ≡ Some ids.Octet }
+    ensures brackets_before_octets { id_fault (codes "<a b") ≡ Some ids.Brackets }
+    ensures length_before_brackets { id_fault (codes "a ") ≡ Some ids.Length }
 {}
 
 /// A text has no fault exactly where it is a message-id, and else the first fault in that order:

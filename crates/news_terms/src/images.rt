@@ -1,7 +1,7 @@
 //! Blocks on the device: laws and worked examples.
 
 ghost use Rattle.std.specs.Prelude.{◌≡◌, ◌≤◌, ◌<◌, ◌+◌, ◌*◌, ◌∷◌, ◌++◌, ℕ, List};
-ghost use Rattle.std.specs.Prelude.{length, take, replicate};
+ghost use Rattle.std.specs.Prelude.{length, take, replicate, []};
 ghost use Rattle.news_terms.specs.BlockImage.{Block, IsBlock, block_size, chunk_size, block_image};
 ghost use Rattle.news_terms.specs.BlockImage.{block_of, block_head, chunk};
 
@@ -36,4 +36,22 @@ pub fn image_examples()
         ∷ 0 ∷ 0 ∷ 0x01 ∷ 0xE1 ∷ 0 ∷ 1 ∷ 1 ∷ replicate 9 0 ++ 120 ∷ replicate 479 0 }
     ensures octets { length (block_image (block_of 0 0 1 (replicate 481 120) 1)) ≡ 512 }
     ensures first_chunk { chunk 0 (replicate 481 120) ≡ replicate 480 120 }
+    ensures each_in_its_place { block_head
+        (block_of 0x01020304 0x05060708 0x14 (replicate 961 120) 2)
+        ≡ 0x43 ∷ 0x4E ∷ 0x42 ∷ 0x31 ∷ 1 ∷ 2 ∷ 3 ∷ 4 ∷ 5 ∷ 6 ∷ 7 ∷ 8 ∷ 0 ∷ 0 ∷ 0 ∷ 2
+        ∷ 0 ∷ 0 ∷ 0x03 ∷ 0xC1 ∷ 0 ∷ 1 ∷ 0x14 ∷ replicate 9 0 }
+{}
+
+/// The numbers that a block has room for, and the octets that it may hold.
+pub fn block_examples()
+    ensures greatest { IsBlock (record {
+      cycle = 0xFFFFFFFF;
+      first = 0xFFFFFFFF;
+      index = 0xFFFFFFFF;
+      article_length = 0xFFFFFFFF;
+      class = 0xFF;
+      payload = replicate 480 120;
+    }) }
+    ensures one_octet { IsBlock (block_of 0 0 0 (120 ∷ []) 0) }
+    ensures nothing { ¬ IsBlock (block_of 0 0 0 (120 ∷ []) 1) }
 {}

@@ -22,3 +22,4 @@ pub mod picks;
 pub mod places;
 pub mod replies;
 pub mod rings;
+pub mod settings;

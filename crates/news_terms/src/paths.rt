@@ -1,12 +1,12 @@
 //! Path: laws and worked examples.
 
-ghost use Rattle.std.specs.Prelude.{◌≡◌, ◌∷◌, [], true, false, codes, length, map, Some};
+ghost use Rattle.std.specs.Prelude.{◌≡◌, ◌∷◌, ◌++◌, [], true, false, codes, length, map, Some};
 ghost use Rattle.std.specs.Prelude.{None, List, ℕ, IsTrue};
 ghost use Rattle.std.specs.Str.{byte, str_eq_ignore_ascii_case};
 ghost use Rattle.news_terms.specs.Article.{Article, IsArticleText, contents_of, article_text};
 ghost use Rattle.news_terms.specs.Article.{worked_article};
 ghost use Rattle.news_terms.specs.Path.{is_agent, IsUpdateOf, Loops, path_pieces, tail_entry};
-ghost use Rattle.news_terms.specs.Path.{path_identities};
+ghost use Rattle.news_terms.specs.Path.{path_identities, HasBadPath, is_posted};
 ghost use Rattle.news_terms.specs.Path.{leftmost_identity, has_identity, updated_content};
 ghost use Rattle.news_terms.specs.Path.{updated_field, updated_article};
 
@@ -55,6 +55,9 @@ pub fn identity_examples()
     ensures posted_in_full { path_identities (codes "a!.POSTEDLY!b!x")
         ≡ codes "a" ∷ codes "b" ∷ [] }
     ensures posted_in_case { path_identities (codes "a!.posted!b!x") ≡ codes "a" ∷ codes "b" ∷ [] }
+    ensures posted_alone { path_identities (codes "a!.POSTED!b!x") ≡ codes "a" ∷ [] }
+    ensures posted_tail { path_identities (codes "a!b!.POSTED") ≡ codes "a" ∷ codes "b" ∷ [] }
+    ensures tail_alone { path_identities (codes "x") ≡ [] }
     ensures leftmost { leftmost_identity (codes "one.example!x") ≡ Some (codes "one.example") }
     ensures none_leftmost { leftmost_identity (codes "x") ≡ None }
     ensures tail_is_no_loop { has_identity (codes "relay.example")
@@ -63,6 +66,24 @@ pub fn identity_examples()
         (codes "one.example!.POSTED.h!relay.example!x") ≡ false }
     ensures any_case_is_loop { has_identity (codes "relay.example")
         (codes "one.example!Relay.Example!x") ≡ true }
+{}
+
+/// What an agent may be called, and which octets a Path may have.
+pub fn agent_examples()
+    ensures agent { is_agent (codes "relay.example") ≡ true }
+    ensures first_and_last_octet { is_agent (0x22 ∷ 0x7E ∷ []) ≡ true }
+    ensures nothing { is_agent (codes "") ≡ false }
+    ensures dot_first { is_agent (codes ".relay") ≡ false }
+    ensures bang { is_agent (codes "relay!x") ≡ false }
+    ensures space { is_agent (codes "relay x") ≡ false }
+    ensures past_last_octet { is_agent (codes "a" ++ 0x7F ∷ []) ≡ false }
+    ensures posted { map is_posted (codes ".POSTED" ∷ codes ".POSTED.h" ∷ codes ".POSTED." ∷ [])
+        ≡ true ∷ true ∷ true ∷ [] }
+    ensures not_posted { map is_posted (codes "POSTED" ∷ codes ".POSTEDh" ∷ codes "a.POSTED" ∷ [])
+        ≡ false ∷ false ∷ false ∷ [] }
+    ensures white_is_no_fault { ¬ HasBadPath (codes " a!\t~\r\n x") }
+    ensures past_printable { HasBadPath (codes " a!" ++ 0x7F ∷ codes "!x") }
+    ensures octet_zero { HasBadPath (codes " a!" ++ 0 ∷ codes "!x") }
 {}
 
 /// The update of a Path that came from one.example.
@@ -81,6 +102,17 @@ pub fn update_examples()
     ensures folded { updated_field (codes "relay.example") (codes "one.example")
         (record { name = codes "Path"; content = codes "\r\n one.example!x" })
         ≡ record { name = codes "Path"; content = codes " relay.example!!one.example!x" } }
+    ensures name_in_any_case { updated_field (codes "relay.example") (codes "one.example")
+        (record { name = codes "PATH"; content = codes "\t one.example!x\r\n\ty " })
+        ≡ record { name = codes "PATH"; content = codes " relay.example!!one.example!x\r\n\ty " } }
+    ensures other_field { updated_field (codes "relay.example") (codes "one.example")
+        (record { name = codes "Paths"; content = codes " one.example!x" })
+        ≡ record { name = codes "Paths"; content = codes " one.example!x" } }
+    ensures whole_text { IsUpdateOf (codes "relay.example") (codes "one.example")
+        (article_text (worked_article (byte "a") 1))
+        (codes "Path: relay.example!!one.example!not-for-mail\r\nFrom: a@x.example\r\n"
+        ++ codes "Newsgroups: misc.test\r\nSubject: t\r\nMessage-ID: <a@x>\r\n"
+        ++ codes "Date: Fri, 01 Jan 2021 00:00:00 +0000\r\n\r\nx\r\n") }
     ensures worked { length
         (article_text (updated_article (codes "relay.example") (codes "one.example")
         (worked_article (byte "a") 1))) ≡ 164 }

@@ -1,14 +1,15 @@
 //! Patterns: laws and worked examples.
 
 ghost use Rattle.std.specs.Prelude.{◌≡◌, ◌++◌, ◌∷◌, [], ◌↔◌, ℕ, List, true, false, codes, map, All};
-ghost use Rattle.std.specs.Prelude.{IsTrue};
+ghost use Rattle.std.specs.Prelude.{IsTrue, Some, None};
 ghost use Rattle.std.specs.Str.{byte};
 ghost use Rattle.news_terms.specs.Pattern.{ExpressionFault, Item, Matches, Marked, Match, Fail};
 ghost use Rattle.news_terms.specs.Pattern.{Poison, Star};
 ghost use Rattle.news_terms.specs.Pattern.{AnyOctet, Literal, Escaped, OneOf, NoneOf, OpenSet};
 ghost use Rattle.news_terms.specs.Pattern.{EmptySet, BadRange, DanglingEscape, NonAscii};
 ghost use Rattle.news_terms.specs.Pattern.{IsExpressionText, HasLeftmostFault, matches, verdict};
-ghost use Rattle.news_terms.specs.Pattern.{worked_expression};
+ghost use Rattle.news_terms.specs.Pattern.{worked_expression, is_item, is_marked, permits};
+ghost use Rattle.news_terms.specs.Pattern.{set_fault};
 
 /// A text is one expression at most.
 pub fn one_expression()
@@ -67,6 +68,64 @@ pub fn match_examples()
     ensures escaped { matches (Escaped (byte "*") ∷ []) (codes "*") ≡ true }
 {}
 
+/// Sets: which octets they have, each by its verdict of the names `a` to `d` and `-`.
+pub fn set_examples()
+    ensures two { map (matches (OneOf (codes "bc") ∷ []))
+        (codes "a" ∷ codes "b" ∷ codes "c" ∷ codes "d" ∷ codes "-" ∷ [])
+        ≡ false ∷ true ∷ true ∷ false ∷ false ∷ [] }
+    ensures three { map (matches (OneOf (codes "abd") ∷ []))
+        (codes "a" ∷ codes "b" ∷ codes "c" ∷ codes "d" ∷ codes "-" ∷ [])
+        ≡ true ∷ true ∷ false ∷ true ∷ false ∷ [] }
+    ensures one { map (matches (OneOf (codes "b") ∷ []))
+        (codes "a" ∷ codes "b" ∷ codes "c" ∷ codes "d" ∷ codes "-" ∷ [])
+        ≡ false ∷ true ∷ false ∷ false ∷ false ∷ [] }
+    ensures range { map (matches (OneOf (codes "b-c") ∷ []))
+        (codes "a" ∷ codes "b" ∷ codes "c" ∷ codes "d" ∷ codes "-" ∷ [])
+        ≡ false ∷ true ∷ true ∷ false ∷ false ∷ [] }
+    ensures dash_first { map (matches (OneOf (codes "-b") ∷ []))
+        (codes "a" ∷ codes "b" ∷ codes "c" ∷ codes "d" ∷ codes "-" ∷ [])
+        ≡ false ∷ true ∷ false ∷ false ∷ true ∷ [] }
+    ensures dash_last { map (matches (OneOf (codes "b-") ∷ []))
+        (codes "a" ∷ codes "b" ∷ codes "c" ∷ codes "d" ∷ codes "-" ∷ [])
+        ≡ false ∷ true ∷ false ∷ false ∷ true ∷ [] }
+    ensures range_in_middle { map (matches (OneOf (codes "ac-d") ∷ []))
+        (codes "a" ∷ codes "b" ∷ codes "c" ∷ codes "d" ∷ codes "-" ∷ [])
+        ≡ true ∷ false ∷ true ∷ true ∷ false ∷ [] }
+    ensures reverse_of_two { map (matches (NoneOf (codes "bc") ∷ []))
+        (codes "a" ∷ codes "b" ∷ codes "c" ∷ codes "d" ∷ codes "-" ∷ [])
+        ≡ true ∷ false ∷ false ∷ true ∷ true ∷ [] }
+    ensures no_octet { map (matches (NoneOf (codes "b") ∷ [])) (codes "" ∷ codes "ac" ∷ [])
+        ≡ false ∷ false ∷ [] }
+    ensures fault_of_first_range { set_fault (codes "z-a" ++ 0xE4 ∷ []) ≡ Some BadRange }
+    ensures fault_past_ascii_first { set_fault (0xE4 ∷ codes "z-a") ≡ Some NonAscii }
+    ensures range_of_one { set_fault (codes "a-a") ≡ None }
+{}
+
+/// What can be written: octets that stand for themselves, sets, and a pattern without a mark.
+pub fn written_examples()
+    ensures special { map (λ c. is_item (Literal c)) (codes "*?[\\,")
+        ≡ false ∷ false ∷ false ∷ false ∷ false ∷ [] }
+    ensures plain { map (λ c. is_item (Literal c)) (codes "]!@^-~")
+        ≡ true ∷ true ∷ true ∷ true ∷ true ∷ true ∷ [] }
+    ensures past_ascii { map (λ c. is_item (Escaped c)) (0x7F ∷ 0x80 ∷ []) ≡ true ∷ false ∷ [] }
+    ensures reversed { map is_item
+        (OneOf (codes "^a") ∷ NoneOf (codes "^a") ∷ OneOf (codes "a^") ∷ [])
+        ≡ false ∷ true ∷ true ∷ [] }
+    ensures marks { map (λ c. is_marked (record { mark = Match; pattern = Literal c ∷ [] }))
+        (codes "!@a") ≡ false ∷ false ∷ true ∷ [] }
+    ensures behind_a_mark { map (λ c. is_marked (record { mark = Fail; pattern = Literal c ∷ [] }))
+        (codes "!@a") ≡ true ∷ true ∷ true ∷ [] }
+{}
+
+/// What an expression permits: a group that matches, and none that is poison.
+pub fn permitting_examples()
+    ensures some_match { permits worked_expression (codes "alt.a" ∷ codes "comp.x" ∷ []) ≡ true }
+    ensures none_matches { permits worked_expression (codes "alt.a" ∷ []) ≡ false }
+    ensures poison { permits worked_expression (codes "comp.x" ∷ codes "alt.binaries.b" ∷ [])
+        ≡ false }
+    ensures no_group { permits worked_expression [] ≡ false }
+{}
+
 /// Expressions as they are written.
 pub fn expression_examples()
     ensures three_patterns { IsExpressionText (codes "*,!alt.*,@alt.binaries.*") worked_expression }
@@ -76,6 +135,14 @@ pub fn expression_examples()
           pattern = Literal (byte "a") ∷ OneOf (codes ",b") ∷ Literal (byte "c") ∷ [];
         } ∷ []) }
     ensures empty { IsExpressionText [] (record { mark = Match; pattern = [] } ∷ []) }
+    ensures escaped_comma { IsExpressionText (codes "\\,")
+        (record { mark = Match; pattern = Escaped (byte ",") ∷ [] } ∷ []) }
+    ensures escaped_mark { IsExpressionText (codes "\\!a,@!?[^a]")
+        (record { mark = Match; pattern = Escaped (byte "!") ∷ Literal (byte "a") ∷ [] }
+        ∷ record {
+          mark = Poison;
+          pattern = Literal (byte "!") ∷ AnyOctet ∷ NoneOf (codes "a") ∷ [];
+        } ∷ []) }
 {}
 
 /// The leftmost fault of a text that is no expression.

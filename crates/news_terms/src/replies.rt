@@ -1,8 +1,8 @@
 //! Worked examples of tokens and replies: each reply once.
-ghost use Rattle.std.specs.Prelude.{◌≡◌, ◌++◌, codes, [], ◌∷◌};
+ghost use Rattle.std.specs.Prelude.{◌≡◌, ◌++◌, ◌↔◌, codes, [], ◌∷◌, true};
 ghost use Rattle.news_terms.specs.Reply.{reply_text};
 ghost use Rattle.news_terms.specs.Reply as replies;
-ghost use Rattle.news_terms.specs.Token.{token_text};
+ghost use Rattle.news_terms.specs.Token.{Token, IsToken, same_token, token_text};
 
 /// The tokens of three articles of 1,440 octets in a buffer of eight blocks, and of one of 164.
 pub fn token_examples()
@@ -18,6 +18,30 @@ pub fn token_examples()
     ensures small { token_text
         (record { class = 1; buffer = 0; cycle = 0; first = 0; length = 164 })
         ≡ codes "@01000000000000000000000000A4@" }
+    ensures each_part_in_its_place { token_text (record {
+      class = 0xFE;
+      buffer = 0xDC;
+      cycle = 0xBA987654;
+      first = 0x32100123;
+      length = 0x456789AB;
+    }) ≡ codes "@FEDCBA98765432100123456789AB@" }
+    ensures second_buffer { token_text
+        (record { class = 1; buffer = 2; cycle = 3; first = 4; length = 5 })
+        ≡ codes "@0102000000030000000400000005@" }
+    ensures greatest { IsToken (record {
+      class = 0xFF;
+      buffer = 0xFF;
+      cycle = 0xFFFFFFFF;
+      first = 0xFFFFFFFF;
+      length = 0xFFFFFFFF;
+    }) }
+{}
+
+/// Tokens are the same exactly where the test says so, and two tokens have two texts.
+pub fn token_laws()
+    ensures same { (a b : Token) → (same_token a b ≡ true) ↔ (a ≡ b) }
+    ensures one_text { (a b : Token) → IsToken a → IsToken b → token_text a ≡ token_text b
+        → a ≡ b }
 {}
 
 /// The greeting, and what a session says of itself.
@@ -82,6 +106,13 @@ pub fn feed_reply_examples()
     ensures queue { reply_text (replies.QueueFollows 1
         ((2, record { class = 1; buffer = 0; cycle = 0; first = 1; length = 164 }) ∷ []))
         ≡ codes "290 Queue follows\r\n1\r\n2 @01000000000000000001000000A4@\r\n.\r\n" }
+    ensures queue_of_two { reply_text (replies.QueueFollows 10
+        ((11, record { class = 1; buffer = 0; cycle = 0; first = 1; length = 164 })
+        ∷ (12, record { class = 1; buffer = 0; cycle = 0; first = 2; length = 164 }) ∷ []))
+        ≡ codes "290 Queue follows\r\n10\r\n11 @01000000000000000001000000A4@\r\n"
+        ++ codes "12 @01000000000000000002000000A4@\r\n.\r\n" }
+    ensures empty_queue { reply_text (replies.QueueFollows 0 [])
+        ≡ codes "290 Queue follows\r\n0\r\n.\r\n" }
     ensures no_feed { reply_text replies.NoFeed ≡ codes "490 No feed\r\n" }
     ensures token { reply_text (replies.TokenFollows
         (record { class = 1; buffer = 0; cycle = 0; first = 0; length = 164 })

@@ -137,3 +137,30 @@ returns-clause-two_paths c =
           );
       is_fault = (with_path, h, omega arith);
     }
+
+-- A(a, 1) without its Date and its From
+abbrev without_date_and_from : Article
+without_date_and_from = record worked { fields = remove (remove worked.fields 5) 1 }
+
+without_date_and_from_laid_out
+    : IsLaidOut (article_text without_date_and_from) without_date_and_from
+without_date_and_from_laid_out = record {
+  without_nul = refl;
+  paired = refl;
+  spelled = refl;
+  each_field =
+      let all = worked_laid_out.each_field in
+      (all.0, (all.1.1.0, (all.1.1.1.0, (all.1.1.1.1.0, tt))));
+}
+
+pub returns-clause-no_date_and_no_from : goal.returns-clause-no_date_and_no_from
+returns-clause-no_date_and_no_from c =
+    let text = article_text without_date_and_from in
+    let h = without_date_and_from_laid_out in
+    record {
+      earlier = take 4 faults_in_order;
+      later = drop 5 faults_in_order;
+      tried = refl;
+      none_earlier = none_of_text text without_date_and_from h;
+      is_fault = (without_date_and_from, h, refl);
+    }
