@@ -1,9 +1,10 @@
 -- What a fetch makes of the next block, by the octets that it has then gathered.
 use Rattle.std.proofs.Common.{◌≡◌, ℕ, ◌+◌, ◌*◌, ◌≤◌, ◌<◌, false, List, ◌++◌, length, take}
-use Rattle.std.proofs.Common.{drop, None, refl, sym, ap, subst, ◌∙◌, arith, length-take}
+use Rattle.std.proofs.Common.{drop, None, Some, refl, sym, ap, subst, ◌∙◌, arith, length-take}
 use Rattle.std.proofs.Math.Seq.{take-add}
 use Rattle.std.proofs.lemmas.Bool.{lt-ltb, le-ltb}
 use Rattle.std.proofs.lemmas.List.{take_all}
+use Rattle.std.specs.Global.{Vec}
 use Rattle.std.specs.Prelude.{max}
 use Rattle.news_terms.specs.BlockImage.{chunk, chunk_size}
 use Rattle.news_terms.specs.Command.{Presence, WholeText, Header, BodyLines, OverviewLine}
@@ -14,6 +15,7 @@ use Rattle.relay_model.specs.Hears.{goes_on, turns_of}
 use Rattle.relay_model.specs.State.{Asked, OfId, OfToken}
 use Rattle.article_fetch.specs.Fetch.{Fetch, FoundAs, HearsBlock, Replies}
 use Rattle.article_fetch.specs.Inside.{most_due}
+use Rattle.article_fetch.specs.Malformed.{FaultsAsked, SaysFault}
 use Rattle.article_fetch.specs.Shown.{SaysLast, ServesAsked}
 use Rattle.article_fetch.specs.declared.chunk.Chunk.{Chunk}
 use Rattle.article_fetch.specs.declared.chunk.Chunk.TheVariants as chunks
@@ -107,6 +109,31 @@ heard_last fetch octets now said found e last says (text, is, next) = (
       (last_serves fetch.asked fetch.token fetch.had text fetch.gathered octets next.whole last
       next.front next.next))),
 )
+
+-- of what is shown of a text, the whole of a block counts
+pub all_due : (asked : Asked) (gathered octets said : List ℕ) → length octets ≤ chunk_size
+    → FaultsAsked asked (gathered ++ take (most_due asked) octets) said
+    → FaultsAsked asked (gathered ++ octets) said
+all_due (OfId Presence id) gathered octets said short faults = tt
+all_due (OfId WholeText id) gathered octets said short faults = tt
+all_due (OfId Header id) gathered octets said short faults =
+    subst (λ (x : List ℕ). FaultsAsked (OfId Header id) (gathered ++ x) said)
+    (take_all chunk_size octets short) faults
+all_due (OfId BodyLines id) gathered octets said short faults =
+    subst (λ (x : List ℕ). FaultsAsked (OfId BodyLines id) (gathered ++ x) said)
+    (take_all chunk_size octets short) faults
+all_due (OfId OverviewLine id) gathered octets said short faults =
+    subst (λ (x : List ℕ). FaultsAsked (OfId OverviewLine id) (gathered ++ x) said)
+    (take_all chunk_size octets short) faults
+all_due OfToken gathered octets said short faults = tt
+
+-- where no block was found, no text is shown
+pub no_text : (fetch : Fetch) (last : Chunk) (said : Vec ℕ)
+    → ((octets : List ℕ) → last ≡ chunks.Found octets → ⊥) → SaysFault fetch last (Some said)
+no_text fetch (chunks.Found octets) said none = absurd (none octets refl)
+no_text fetch chunks.Gone said none = tt
+no_text fetch chunks.Unknown said none = tt
+no_text fetch chunks.Device said none = tt
 
 -- it ends where nothing was found, and that is said
 pub heard_nothing : (fetch : Fetch) (last : Chunk) (now said : List ℕ) (found : Fetched)

@@ -33,10 +33,14 @@ pub record HasRoom (asked : Asked) (token : Token) (had : ℕ) (gathered room : 
   pub reply : most_said asked token had (vec_len gathered) ≤ vec_capacity room
 
 -- a fetch has Turns to come, it has gathered no more than the blocks of its Turns hold, its reply
--- isn't begun, and where it says that memory is there, so it is
+-- isn't begun, and where it says that memory is there, so it is; it has taken room for twice the
+-- blocks that were found and one more, and for its reply no more than may be said after the next:
+-- what a token says of its length takes none
 pub record IsReading (asked : Asked) (token : Token) (had : ℕ) (gathered room : Vec ℕ)
     (prepared : Bool) : Type 0 where
   pub turns : had < turns_of asked token
   pub short : vec_len gathered ≤ chunk_size * had
   pub unsaid : room.items ≡ []
+  pub held : vec_capacity gathered ≤ chunk_size * (2 * had + 1)
+  pub reserved : vec_capacity room ≤ most_said asked token had (vec_len gathered)
   pub ready : prepared ≡ true → HasRoom asked token had gathered room

@@ -10,6 +10,7 @@ ghost use Rattle.article_fetch.specs.Fetch.{asked_view, FoundAs, HearsBlock, new
 ghost use Rattle.article_fetch.specs.Fetch.{prepared_fetch, StaysSame};
 ghost use Rattle.article_fetch.specs.Inside.{most_due};
 ghost use Rattle.article_fetch.specs.Inside as terms;
+ghost use Rattle.article_fetch.specs.Malformed.{SaysFault};
 
 use crate::asked::Asked;
 use crate::chunk::Chunk;
@@ -90,7 +91,7 @@ impl Reading {
 
     /// Takes all the memory that hearing the next block can need: for its octets behind those
     /// gathered, and where it is the last for the whole reply. What a token says of its length
-    /// takes no memory before blocks are found. A fetch that is prepared takes none.
+    /// takes no memory before blocks are found (`IsReading`). A fetch that is prepared takes none.
     pub fn prepare(&mut self) -> Result<(), AllocError>
         ensures ok { OnOk result (self.new ≡ prepared_fetch self.old) }
         ensures err { OnErr result (self.new ≡ self.old) }
@@ -99,9 +100,9 @@ impl Reading {
         if self.prepared {
             return Ok(());
         }
-        self.gathered.reserve(self.asked.octets_due())?;
+        make_room(&mut self.gathered, self.asked.octets_due())?;
         let most = most_said(&self.asked, &self.token, self.had, self.gathered.len());
-        self.room.reserve(most)?;
+        self.room.reserve_exact(most)?;
         self.prepared = true;
         Ok(())
     }
@@ -113,6 +114,7 @@ impl Reading {
         ensures heard { (found : Fetched) → self.old.prepared ≡ true → FoundAs self.old chunk found
             → HearsBlock self.old found result self.new }
         ensures same { self.old.prepared ≡ true → StaysSame self.old result self.new }
+        ensures fault { self.old.prepared ≡ true → SaysFault self.old chunk result }
         ensures deaf { self.old.prepared ≡ false → (result ≡ None) × (self.new ≡ self.old) }
     {
         if self.prepared {
@@ -128,6 +130,7 @@ impl Reading {
         ensures heard { (found : Fetched) → FoundAs self.old chunk found
             → HearsBlock self.old found result self.new }
         ensures same { StaysSame self.old result self.new }
+        ensures fault { SaysFault self.old chunk result }
     {
         self.prepared = false;
         let mut text = mem::replace(&mut self.gathered, Vec::new(self.alloc));
@@ -143,6 +146,24 @@ impl Reading {
         let room = mem::replace(&mut self.room, Vec::new(self.alloc));
         Some(last_reply(room, &self.asked, self.token, &chunk, &text))
     }
+}
+
+/// Makes room for so many octets more. Where there is none, the room becomes twice the octets that
+/// are there and one that many more, so that a long text is copied a few times only.
+fn make_room(text: &mut Vec<u8>, due: usize) -> Result<(), AllocError>
+    requires { due ≤ chunk_size }
+    ensures items { text.new.items ≡ text.old.items }
+    ensures len { vec_len text.new ≡ vec_len text.old }
+    ensures ok { OnOk result (vec_len text.new + due ≤ vec_capacity text.new) }
+    ensures within { vec_capacity text.new ≤ max (vec_capacity text.old) (2 * vec_len text.old + due) }
+    ensures err { OnErr result (vec_capacity text.new ≡ vec_capacity text.old) }
+    ensures enough { vec_len text.old + due ≤ vec_capacity text.old → IsOk result }
+{
+    let had = text.len();
+    if due <= text.capacity() - had {
+        return Ok(());
+    }
+    text.reserve_exact(had + due)
 }
 
 /// The most octets of the reply that may come of the next block, once so many were had and so many

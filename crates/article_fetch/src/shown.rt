@@ -10,6 +10,7 @@ ghost use Rattle.nntp_text.specs.Command.{part_view};
 ghost use Rattle.nntp_text.specs.Reply.{reply_room, reply_view, room_of};
 ghost use Rattle.relay_model.specs.Fetches as fetches;
 ghost use Rattle.article_fetch.specs.Fetch.{asked_view, Replies};
+ghost use Rattle.article_fetch.specs.Malformed.{FaultsAsked, FaultsLast, FaultsPart, IsNoArticle};
 ghost use Rattle.article_fetch.specs.Shown.{SaysLast, ShowsArticle, ShowsPart, most_by};
 
 use crate::asked::Asked;
@@ -33,6 +34,7 @@ pub(crate) fn last_reply(
     requires room { most_by chunk.now text.now ≤ vec_capacity room }
     ensures says { SaysLast (asked_view asked.now) (token_view token) chunk.now text.now
         result.items }
+    ensures fault { FaultsLast (asked_view asked.now) chunk.now text.now result.items }
     ensures some { 1 ≤ length result.items }
 {
     match chunk {
@@ -75,6 +77,7 @@ fn found_reply(room: Vec<u8>, asked: &Asked, token: Token, text: &[u8]) -> Vec<u
     requires empty { room.items ≡ [] }
     requires room { reply_room + stuffed_room (length text.now) ≤ vec_capacity room }
     ensures says { ShowsArticle (asked_view asked.now) (token_view token) text.now result.items }
+    ensures fault { FaultsAsked (asked_view asked.now) text.now result.items }
     ensures some { 1 ≤ length result.items }
 {
     match asked {
@@ -88,6 +91,7 @@ fn part_reply(room: Vec<u8>, part: Part, id: &MsgId, text: &[u8]) -> Vec<u8>
     requires empty { room.items ≡ [] }
     requires room { reply_room + stuffed_room (length text.now) ≤ vec_capacity room }
     ensures says { ShowsPart (part_view part) id.now text.now result.items }
+    ensures fault { FaultsPart (part_view part) text.now result.items }
     ensures some { 1 ≤ length result.items }
 {
     match part {
@@ -106,6 +110,7 @@ fn header_reply(room: Vec<u8>, id: &MsgId, text: &[u8]) -> Vec<u8>
     requires room { reply_room + stuffed_room (length text.now) ≤ vec_capacity room }
     ensures octets { (a : Article) → IsLaidOut text.now a → result.items
         ≡ reply_text (terms.HeaderFollows id.now (flat_map field_text a.fields)) }
+    ensures fault { IsNoArticle text.now → result.items ≡ reply_text terms.DeviceFault }
     ensures some { 1 ≤ length result.items }
 {
     match empty_line_place(text) {
@@ -121,6 +126,7 @@ fn body_reply(room: Vec<u8>, id: &MsgId, text: &[u8]) -> Vec<u8>
     requires room { reply_room + stuffed_room (length text.now) ≤ vec_capacity room }
     ensures octets { (a : Article) → IsLaidOut text.now a → result.items
         ≡ reply_text (terms.BodyFollows id.now a.body) }
+    ensures fault { IsNoArticle text.now → result.items ≡ reply_text terms.DeviceFault }
     ensures some { 1 ≤ length result.items }
 {
     match empty_line_place(text) {
@@ -136,6 +142,7 @@ fn overview_reply(mut room: Vec<u8>, text: &[u8]) -> Vec<u8>
     requires room { reply_room + stuffed_room (length text.now) ≤ vec_capacity room }
     ensures octets { (a : Article) → IsLaidOut text.now a → result.items
         ≡ reply_text (terms.OverviewFollows (overview_line a)) }
+    ensures fault { IsNoArticle text.now → result.items ≡ reply_text terms.DeviceFault }
     ensures some { 1 ≤ length result.items }
 {
     put_octets(&mut room, b"224 Overview follows\r\n");

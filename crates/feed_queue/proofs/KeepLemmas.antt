@@ -134,6 +134,21 @@ items-keeps old size most feed keeps =
     (passed-keeps old size feed keeps)
     ∙ sym (items-ring size most (as_ring feed))
 
+-- where a take gives nothing, nothing is asked or nothing waits
+pub none_listed : (old : Ring) (size most : ℕ) (feed : Feed) → KeepsFeed old size feed
+    → taken_items size most (as_ring feed) ≡ [] → min most (length old.tokens.items) ≡ 0
+none_listed old size most feed keeps none =
+    let count = min most (length old.tokens.items) in
+    let first = old.gained - length old.tokens.items + 1 in
+    let listed = take count old.tokens.items in
+    omega (
+      arith,
+      ap length (items-keeps old size most feed keeps ∙ none),
+      length-map (enumerate_from first listed) item_view,
+      length-enumerate_from first listed,
+      length-take count old.tokens.items,
+    )
+
 -- one more token is numbered
 pub numbered-more : (items all : List (ℕ × tokens.Token)) (number : ℕ) (token : tokens.Token)
     (n left : ℕ) (waits rest : List tokens.Token) → waits ≡ token ∷ rest → left + 1 ≡ n

@@ -1,10 +1,12 @@
 //! All rings.
 ghost use Rattle.std.specs.Prelude.{◌≡◌, ◌+◌, ◌-◌, ◌^◌, ◌≤◌, ◌<◌, ◌↔◌, ℕ, List, map, slice_index};
-ghost use Rattle.std.specs.Prelude.{Ok, None, ◌++◌, ◌∷◌, [], IfOk, IfSome, OnErr, not, nat_eq};
+ghost use Rattle.std.specs.Prelude.{Ok, None, ◌++◌, ◌∷◌, [], IfOk, IfSome, IsOk, OnErr, not, nat_eq};
+ghost use Rattle.std.specs.Prelude.{vec_capacity, vec_len};
 ghost use Rattle.std.specs.List.{All, list_any};
 ghost use Rattle.cyc_token.specs.Token.{token_view};
 ghost use Rattle.id_history.specs.Answers.{token_of};
-ghost use Rattle.relay_model.specs.Shares.{after_take_of};
+ghost use Rattle.news_terms.specs.Ring.{taken_items};
+ghost use Rattle.relay_model.specs.Shares.{after_take_of, as_ring};
 ghost use Rattle.relay_model.specs.State.{Feed, put_at};
 ghost use Rattle.relay_model.specs.Writers.{gaining};
 ghost use Rattle.feed_queue.specs.Feeds.{KeepsFeeds, CountBelow, HasRoomToCount, ring_count};
@@ -123,6 +125,13 @@ impl FeedDesk {
             (put_at feeds feed (after_take_of (slice_index sizes feed) most (feeds feed))))) }
         ensures none { result ≡ Ok None → self.new ≡ self.old }
         ensures err { OnErr result (self.new ≡ self.old) }
+
+        // Memory is taken for as many as are given, and for none where none is.
+        ensures room { IfOk result (λ answer. IfSome answer (λ taken.
+            vec_capacity taken.items ≡ vec_len taken.items)) }
+        ensures nothing { (sizes : List ℕ) (feeds : ℕ → Feed) → KeepsFeeds self.old sizes feeds
+            → taken_items (slice_index sizes feed) most (as_ring (feeds feed)) ≡ []
+            → IsOk result }
 
         // That there is no such feed is said whatever memory there is.
         ensures missing { (result ≡ Ok None) ↔ (ring_count self.old ≤ feed) }

@@ -1,5 +1,6 @@
 //! One ring.
 ghost use Rattle.std.specs.Prelude.{◌≡◌, ◌+◌, ◌-◌, ◌≤◌, ◌<◌, ◌^◌, ℕ, length, map, min, take, IfOk};
+ghost use Rattle.std.specs.Prelude.{IsOk, vec_capacity, vec_len};
 ghost use Rattle.std.specs.List.{enumerate_from};
 
 use crate::desk::Counts;
@@ -58,8 +59,13 @@ impl Ring {
 
     /// The oldest tokens that wait, at most so many, each with its number in the list.
     pub(crate) fn oldest(&self, alloc: Global, most: usize) -> Result<Vec<(u64, Token)>, AllocError>
-        ensures { IfOk result (λ items. (size : ℕ) (feed : Feed) → KeepsFeed self.now size feed
+        ensures items { IfOk result (λ items. (size : ℕ) (feed : Feed)
+            → KeepsFeed self.now size feed
             → map item_view items.items ≡ taken_items size most (as_ring feed)) }
+
+        // Room is taken for what is listed, and for no more.
+        ensures room { IfOk result (λ items. vec_capacity items ≡ vec_len items) }
+        ensures none { min most (length self.now.tokens.items) ≡ 0 → IsOk result }
     {
         let count = most.min(self.tokens.len());
         numbered(alloc, &self.tokens, self.passed_now(), count)
@@ -115,8 +121,11 @@ fn numbered(
 ) -> Result<Vec<(u64, Token)>, AllocError>
     requires waits { count ≤ length tokens.now.items }
     requires counts { passed + count < 2 ^ 64 }
-    ensures { IfOk result (λ items. items.items
+    ensures items { IfOk result (λ items. items.items
         ≡ enumerate_from (passed + 1) (take count tokens.now.items)) }
+    ensures len { IfOk result (λ items. vec_len items ≡ count) }
+    ensures room { IfOk result (λ items. vec_capacity items ≡ count) }
+    ensures none { count ≡ 0 → IsOk result }
 {
     let mut items = Vec::with_capacity(alloc, count)?;
     let mut number = passed;

@@ -20,7 +20,8 @@ pub returns-in-EmptyLine : goal.returns-in-EmptyLine
 returns-in-EmptyLine c =
     let s = c.args.text.now in
     let l = c.loop-octets in
-    place_found s _ l.invariant.0 l.at (take_rest s l.at) l.invariant.1 c.in-EmptyLine.ensures
+    place_found s _ l.invariant.0 l.at c.requires.nul c.requires.paired (take_rest s l.at)
+    l.invariant.1 c.in-EmptyLine.ensures
 
 pub returns-in-NoBlankLine : goal.returns-in-NoBlankLine
 returns-in-NoBlankLine c =

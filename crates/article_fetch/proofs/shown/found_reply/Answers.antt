@@ -2,6 +2,7 @@ use Rattle.std.proofs.Common.{refl, sym, subst, ap, ◌∙◌, List, ℕ}
 use Rattle.cyc_token.specs.Token.{token_view}
 use Rattle.news_terms.specs.Reply.{TokenFollows, reply_text}
 use Rattle.article_fetch.specs.Fetch.{asked_view}
+use Rattle.article_fetch.specs.Malformed.{FaultsAsked}
 use Rattle.article_fetch.specs.Shown.{ShowsArticle}
 use Rattle.article_fetch.specs.declared.asked.Asked.{Asked}
 use Rattle.article_fetch.proofs.shown.found_reply.Goals as goal
@@ -20,5 +21,8 @@ returns-in-OfToken c =
             said.ensures.octets ∙ ap (λ (x : List ℕ). reply_text (TokenFollows token x)) same,
             said.ensures.some,
           ));
+      fault = subst (λ (asked : Asked).
+          FaultsAsked (asked_view asked) c.args.text.now said.result.items)
+          (sym c.in-OfToken.is) tt;
       some = said.ensures.some;
     }

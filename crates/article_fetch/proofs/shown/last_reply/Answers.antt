@@ -1,6 +1,7 @@
 use Rattle.std.proofs.Common.{sym, subst}
 use Rattle.cyc_token.specs.Token.{token_view}
 use Rattle.article_fetch.specs.Fetch.{asked_view}
+use Rattle.article_fetch.specs.Malformed.{FaultsLast}
 use Rattle.article_fetch.specs.Shown.{SaysLast}
 use Rattle.article_fetch.specs.declared.chunk.Chunk.{Chunk}
 use Rattle.article_fetch.proofs.FaultReplies.{fault_said}
@@ -15,5 +16,7 @@ returns-in-Device c =
       says = subst (λ (chunk : Chunk). SaysLast asked token chunk given c.said.result.items)
           (sym c.in-Device.is)
           (fault_said asked token c.said.result.items c.said.ensures.octets c.said.ensures.some);
+      fault = subst (λ (chunk : Chunk). FaultsLast asked chunk given c.said.result.items)
+          (sym c.in-Device.is) tt;
       some = c.said.ensures.some;
     }

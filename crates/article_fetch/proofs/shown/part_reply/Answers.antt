@@ -6,6 +6,7 @@ use Rattle.news_terms.specs.Reply.{ArticleFollows, HeaderFollows, BodyFollows, O
 use Rattle.news_terms.specs.Reply.{Exists, reply_text}
 use Rattle.nntp_text.specs.Command.{part_view}
 use Rattle.nntp_text.specs.declared.command.Part.{Part}
+use Rattle.article_fetch.specs.Malformed.{FaultsPart}
 use Rattle.article_fetch.specs.Shown.{ShowsPart}
 use Rattle.article_fetch.proofs.shown.part_reply.Goals as goal
 
@@ -24,6 +25,8 @@ returns-in-WholeText c =
             said.ensures.some,
           ));
       some = said.ensures.some;
+      fault = subst (λ (part : Part). FaultsPart (part_view part) given said.result.items)
+          (sym c.in-WholeText.is) tt;
     }
 
 pub returns-in-Header : goal.returns-in-Header
@@ -41,6 +44,8 @@ returns-in-Header c =
             said.ensures.some,
           ));
       some = said.ensures.some;
+      fault = subst (λ (part : Part). FaultsPart (part_view part) given said.result.items)
+          (sym c.in-Header.is) said.ensures.fault;
     }
 
 pub returns-in-BodyLines : goal.returns-in-BodyLines
@@ -58,6 +63,8 @@ returns-in-BodyLines c =
             said.ensures.some,
           ));
       some = said.ensures.some;
+      fault = subst (λ (part : Part). FaultsPart (part_view part) given said.result.items)
+          (sym c.in-BodyLines.is) said.ensures.fault;
     }
 
 pub returns-in-OverviewLine : goal.returns-in-OverviewLine
@@ -75,6 +82,8 @@ returns-in-OverviewLine c =
             said.ensures.some,
           ));
       some = said.ensures.some;
+      fault = subst (λ (part : Part). FaultsPart (part_view part) given said.result.items)
+          (sym c.in-OverviewLine.is) said.ensures.fault;
     }
 
 pub returns-in-Presence : goal.returns-in-Presence
@@ -87,4 +96,6 @@ returns-in-Presence c =
           (sym c.in-Presence.is)
           (λ text a is same. (Exists id, refl, said.ensures.octets, said.ensures.some));
       some = said.ensures.some;
+      fault = subst (λ (part : Part). FaultsPart (part_view part) given said.result.items)
+          (sym c.in-Presence.is) tt;
     }

@@ -1,5 +1,5 @@
 use Rattle.std.proofs.Common.{◌≡◌, ◌+◌, ◌<◌, ◌≤◌, ◌++◌, ◌∙◌, ap, subst, take, List, ℕ, [], None}
-use Rattle.std.proofs.Common.{arith, false, length, refl, Vec}
+use Rattle.std.proofs.Common.{arith, false, length, refl, sym, Some, Vec}
 use Rattle.std.specs.Global.{Global}
 use Rattle.cyc_token.specs.Token.{token_view}
 use Rattle.relay_model.specs.Fetches.{Fetched}
@@ -7,10 +7,12 @@ use Rattle.relay_model.specs.Hears.{goes_on, turns_of}
 use Rattle.article_fetch.specs.Fetch.{asked_view, ended, Fetch, FoundAs, HearsBlock, Replies}
 use Rattle.article_fetch.specs.Fetch.{StaysSame}
 use Rattle.article_fetch.specs.Inside.{most_due}
+use Rattle.article_fetch.specs.Malformed.{FaultsAsked, FaultsLast, SaysFault}
 use Rattle.article_fetch.specs.Shown.{SaysLast}
+use Rattle.news_terms.specs.BlockImage.{chunk_size}
 use Rattle.article_fetch.specs.contracts.reading.Reading.{the_view}
 use Rattle.article_fetch.specs.declared.chunk.Chunk.{Chunk}
-use Rattle.article_fetch.proofs.Hearing.{heard_on, heard_last, heard_nothing}
+use Rattle.article_fetch.proofs.Hearing.{all_due, heard_on, heard_last, heard_nothing, no_text}
 use Rattle.article_fetch.proofs.reading.Reading.hear_prepared.Goals as goal
 use Rattle.article_fetch.proofs.reading.Reading.hear_prepared.Goals.{in-Found+else-self-turns}
 use Rattle.article_fetch.proofs.reading.Reading.hear_prepared.Goals.{in_default}
@@ -39,6 +41,7 @@ returns-then-self-turns c =
           (λ found h. heard_on (the_view inside) octets c.gather.new.text.items found now more
           (subst (λ (chunk : Chunk). FoundAs (the_view inside) chunk found) c.in-Found.is h));
       same = subst (λ (fetch : Fetch). StaysSame fetch None after) c.self.view_is refl;
+      fault = tt;
     }
 
 pub returns : goal.returns
@@ -81,6 +84,30 @@ returns c =
       | in_default w ↦ λ found h. heard_nothing fetch c.args.chunk c.match-chunk.text.items said
           found w.in_default.not-Found says h
     ] in
+    let told : FaultsLast asked c.args.chunk c.match-chunk.text.items said =
+    subst (λ (x : List ℕ). FaultsLast asked c.args.chunk x said) c.deref.ensures.value
+    c.last_reply.ensures.fault in
+    let faults : SaysFault fetch c.args.chunk (Some c.last_reply.result) =
+    elim c.match-chunk.branch [
+      | in-Found+else-self-turns w ↦
+          let octets = w.in-Found.octets in
+          let due = most_due asked in
+          let now : c.match-chunk.text.items ≡ inside.gathered.items ++ take due octets =
+          ap (λ (v : Vec ℕ Global). v.items) w.text-is
+          ∙ w.gather.ensures.items
+          ∙ ap (λ (v : Vec ℕ Global). v.items ++ take due w.as_slice.result.now)
+          c.replace-text.ensures.value
+          ∙ ap (λ (x : List ℕ). inside.gathered.items ++ take due x) w.as_slice.ensures.octets in
+          subst (λ (chunk : Chunk). SaysFault fetch chunk (Some c.last_reply.result))
+          (sym w.in-Found.is)
+          (all_due asked inside.gathered.items octets said
+          (subst (λ (x : List ℕ). length x ≤ chunk_size) w.as_slice.ensures.octets
+          w.as_slice.ensures.short)
+          (subst (λ (x : List ℕ). FaultsAsked asked x said) now
+          (subst (λ (chunk : Chunk). FaultsLast asked chunk c.match-chunk.text.items said)
+          w.in-Found.is told)))
+      | in_default w ↦ no_text fetch c.args.chunk c.last_reply.result w.in_default.not-Found
+    ] in
     record {
       heard = subst (λ (fetch : Fetch). (found : Fetched) → FoundAs fetch c.args.chunk found
           → (goes_on fetch.asked fetch.token fetch.had found ≡ false)
@@ -89,4 +116,6 @@ returns c =
           (λ found h. ((heard found h).0, (heard found h).1, over));
       same = subst (λ (fetch : Fetch). (1 ≤ length said) × (after ≡ ended fetch)) c.self.view_is
           (c.last_reply.ensures.some, over);
+      fault = subst (λ (fetch : Fetch). SaysFault fetch c.args.chunk (Some c.last_reply.result))
+          c.self.view_is faults;
     }
