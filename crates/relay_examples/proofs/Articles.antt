@@ -78,6 +78,11 @@ pub article_a_is : IsArticleText (article_text (worked_article (byte "a") 1))
     (worked_article (byte "a") 1)
 article_a_is = worked_by_tests (byte "a") 1 refl refl refl refl refl
 
+-- A(b, 2)
+pub article_b_is : IsArticleText (article_text (worked_article (byte "b") 2))
+    (worked_article (byte "b") 2)
+article_b_is = worked_by_tests (byte "b") 2 refl refl refl refl refl
+
 -- A(1, 1)
 pub article_1_is : IsArticleText (article_text (worked_article (byte "1") 1))
     (worked_article (byte "1") 1)

@@ -5,4 +5,5 @@ mod Playing
 mod Premises
 mod RingArticles
 mod Turning
+mod Unstored
 mod Writing

@@ -1,23 +1,8 @@
 -- The states and feeds that figures are computed of.
 use Rattle.std.specs.Prelude.{List, [], ◌∷◌}
-use Rattle.news_terms.specs.Places.{Buffer}
 use Rattle.news_terms.specs.Token.{Token}
 use Rattle.relay_model.specs.State.{State, Feed, empty_state}
-use Rattle.relay_model.specs.Terms.{Terms}
-use Rattle.relay_examples.specs.Terms.{k1, buffer_a, group_g}
 use Rattle.relay_examples.specs.Worlds.{three_blocks_at}
-
--- a second buffer of eight blocks
-abbrev pub buffer_b : Buffer
-buffer_b = record buffer_a { number = 1 }
-
--- one group that takes both in turn
-abbrev pub in_turn : Terms
-in_turn =
-    record k1 {
-      buffers = buffer_a ∷ buffer_b ∷ [];
-      groups = record group_g { buffers = buffer_a ∷ buffer_b ∷ [] } ∷ [];
-    }
 
 -- one article of three blocks was begun, and isn't whole
 abbrev pub one_begun : State

@@ -1,8 +1,12 @@
 pub mod Answered
+pub mod FeedRows
 pub mod Figures
 pub mod Judgements
+pub mod LineRows
+pub mod OtherTerms
 pub mod Rows
 pub mod StateRows
 pub mod Terms
+pub mod TransferRows
 pub mod WorldRows
 pub mod Worlds

@@ -1,8 +1,11 @@
 -- The worked rows from other worlds: their events, and what these are answered.
-use Rattle.std.specs.Prelude.{ℕ, ◌+◌, List, [], ◌∷◌, ◌++◌, codes, replicate}
-use Rattle.news_terms.specs.Reply.{ArticleFollows, TokenFollows, reply_text}
+use Rattle.std.specs.Prelude.{ℕ, ◌+◌, List, [], ◌∷◌, ◌++◌, codes, replicate, flat_map}
+use Rattle.news_terms.specs.Article.{Article, field_text}
+use Rattle.news_terms.specs.Overview.{overview_line}
+use Rattle.news_terms.specs.Reply.{ArticleFollows, HeaderFollows, BodyFollows, OverviewFollows}
+use Rattle.news_terms.specs.Reply.{TokenFollows, reply_text}
 use Rattle.relay_model.specs.Run.{Event, Bytes, Turn, Break, Expire}
-use Rattle.relay_model.specs.World.{Output, Quiet, Sent, Ended}
+use Rattle.relay_model.specs.World.{Output, Quiet, Sent, Ended, Refuses, NoSession}
 use Rattle.relay_examples.specs.Rows.{turns, writes, quiet}
 use Rattle.relay_examples.specs.Terms.{now}
 use Rattle.relay_examples.specs.Worlds.{three_blocks_at}
@@ -23,6 +26,63 @@ read_before = Bytes 2 (codes "ARTICLE <1@x>\r\n") ∷ turns 2 3 ++ writes 1 ++ t
 abbrev pub read_replies : List ℕ → List Output
 read_replies one =
     quiet 5 ++ Sent 2 (reply_text (ArticleFollows (codes "<1@x>") one)) ∷ Quiet ∷ []
+
+-- the same with the begin before the second block is read
+abbrev pub lost_early : List Event
+lost_early = Bytes 2 (codes "ARTICLE <1@x>\r\n") ∷ turns 2 2 ++ writes 2 ++ turns 2 1
+
+-- 430 at once
+abbrev pub lost_early_replies : List Output
+lost_early_replies = quiet 5 ++ Sent 2 (codes "430 No such article\r\n") ∷ []
+
+-- parts of an article of three blocks
+abbrev pub parts_of_three_blocks : List Event
+parts_of_three_blocks =
+    Bytes 2 (codes "HEAD <2@x>\r\nBODY <2@x>\r\nOVER <2@x>\r\n") ∷ turns 2 12
+
+-- each is looked up, then it comes by the Turn that reads the third block
+abbrev pub parts_replies : Article → List Output
+parts_replies a =
+    quiet 4 ++ Sent 2 (reply_text (HeaderFollows (codes "<2@x>") (flat_map field_text a.fields)))
+    ∷ quiet 3 ++ Sent 2 (reply_text (BodyFollows (codes "<2@x>") a.body))
+    ∷ quiet 3 ++ Sent 2 (reply_text (OverviewFollows (overview_line a))) ∷ []
+
+-- before the last block is read octets come
+abbrev pub octets_during_fetch : List Event
+octets_during_fetch = Bytes 2 (codes "FOO\r\n") ∷ turns 2 2
+
+-- they are read behind it
+abbrev pub octets_during_fetch_replies : List ℕ → List Output
+octets_during_fetch_replies one =
+    Quiet ∷ Sent 2 (reply_text (ArticleFollows (codes "<1@x>") one))
+    ∷ Sent 2 (codes "500 Unknown command\r\n") ∷ []
+
+-- before the last block is read the connection is gone
+abbrev pub break_during_fetch : List Event
+break_during_fetch = Break 2 ∷ turns 2 2
+
+-- the session leaves
+abbrev pub break_during_fetch_replies : List Output
+break_during_fetch_replies = Ended 2 [] ∷ Quiet ∷ Refuses NoSession ∷ []
+
+-- three articles were begun: XFETCH of two tokens that the front has passed, and of two that never
+-- were, though it has passed their block: one without a length, one past the buffer's end
+abbrev pub passed_or_never : List Event
+passed_or_never =
+    Bytes 2 (codes "XFETCH @01000000000000000000000005A0@\r\n")
+    ∷ Bytes 2 (codes "XFETCH @0100000000000000000100000D20@\r\n")
+    ∷ Bytes 2 (codes "XFETCH @0100000000000000000000000000@\r\n")
+    ∷ Bytes 2 (codes "XFETCH @0100000000000000000200000D20@\r\n")
+    ∷ turns 2 4
+
+-- 492, and 493
+abbrev pub passed_or_never_replies : List Output
+passed_or_never_replies =
+    quiet 4
+    ++ Sent 2 (codes "492 @01000000000000000000000005A0@ gone\r\n")
+    ∷ Sent 2 (codes "492 @0100000000000000000100000D20@ gone\r\n")
+    ∷ Sent 2 (codes "493 @0100000000000000000000000000@ unknown\r\n")
+    ∷ Sent 2 (codes "493 @0100000000000000000200000D20@ unknown\r\n") ∷ []
 
 -- overwrite: the third article is stored, and STAT and XFETCH ask for what is gone, what is there,
 -- and what never was: nothing began at that block, a cycle to come, no such buffer, no length,
@@ -100,6 +160,24 @@ forgotten_replies =
     ∷ Sent 2 (codes "438 <2@x>\r\n") ∷ Quiet ∷ Sent 2 (codes "438 <e@x>\r\n") ∷ Quiet
     ∷ Sent 2 (codes "238 <e@x>\r\n") ∷ Quiet ∷ Sent 2 (codes "431 <o@x>\r\n") ∷ []
 
+-- two buffers: both fronts are read, then the ids of a shard are forgotten; a second too early none
+-- is, and what is live in either buffer never is
+abbrev pub forgotten_in_two : List Event
+forgotten_in_two =
+    Bytes 2 (codes "CHECK <1@x>\r\nCHECK <1@x>\r\nCHECK <1@x>\r\nCHECK <1@x>\r\n")
+    ∷ Bytes 2 (codes "CHECK <2@x>\r\nCHECK <3@x>\r\n")
+    ∷ Expire 3 (now + 100) ∷ Turn 2 now ∷ Expire 3 (now + 100) ∷ Turn 2 now
+    ∷ Expire 3 (now + 99) ∷ Turn 2 now ∷ Expire 3 (now + 100) ∷ Turn 2 now
+    ∷ Expire 4 (now + 100) ∷ Turn 2 now ∷ Expire 5 (now + 100) ∷ Turn 2 now ∷ []
+
+-- 238 of what is overwritten in the second buffer, 438 else
+abbrev pub forgotten_in_two_replies : List Output
+forgotten_in_two_replies =
+    quiet 3
+    ++ Sent 2 (codes "438 <1@x>\r\n") ∷ Quiet ∷ Sent 2 (codes "438 <1@x>\r\n") ∷ Quiet
+    ∷ Sent 2 (codes "438 <1@x>\r\n") ∷ Quiet ∷ Sent 2 (codes "238 <1@x>\r\n") ∷ Quiet
+    ∷ Sent 2 (codes "438 <2@x>\r\n") ∷ Quiet ∷ Sent 2 (codes "438 <3@x>\r\n") ∷ []
+
 -- sixteen Expires forget, then the front is read again
 abbrev pub sixteen_expires : List Event
 sixteen_expires =
@@ -150,6 +228,17 @@ outdated_replies =
     ++ Sent 1 (codes "431 <n@x>\r\n") ∷ Sent 1 (codes "431 <3@x>\r\n")
     ∷ Sent 1 (codes "238 <n@x>\r\n") ∷ Sent 1 (codes "431 <m@x>\r\n")
     ∷ Sent 1 (codes "438 <2@x>\r\n") ∷ Sent 1 (codes "238 <m@x>\r\n") ∷ []
+
+-- a new id where no further offer may be opened, an article of an open one, and the new id again
+abbrev pub sent_is_no_offer : List Event
+sent_is_no_offer =
+    Bytes 1 (codes "CHECK <n@x>\r\nTAKETHIS <3@x>\r\n.\r\nCHECK <n@x>\r\n") ∷ turns 1 4
+
+-- 431, 439; the offer has ended, and the new one has room
+abbrev pub sent_is_no_offer_replies : List Output
+sent_is_no_offer_replies =
+    Quiet ∷ Sent 1 (codes "431 <n@x>\r\n") ∷ Quiet ∷ Sent 1 (codes "439 <3@x>\r\n")
+    ∷ Sent 1 (codes "238 <n@x>\r\n") ∷ []
 
 -- session 1 leaves, ids are forgotten, and an article of a stored id is refused
 abbrev pub kept_from_others : List Event

@@ -6,8 +6,8 @@ use Rattle.news_terms.specs.Token.{Token}
 use Rattle.relay_model.specs.Claims.{Accepted, Claim, Unknown, Offered, Storing, Stored, Refused}
 use Rattle.relay_model.specs.Claims.{Stage, Waiting, Begun}
 use Rattle.relay_model.specs.Claims as claims
-use Rattle.relay_model.specs.State.{State, Session, Job, Ready, Waits, Fetches, OfId, TakesThis}
-use Rattle.relay_model.specs.State.{Has}
+use Rattle.relay_model.specs.State.{State, Session, Job, Ready, Waits, Fetches, OfId, OfToken}
+use Rattle.relay_model.specs.State.{TakesThis, Has}
 use Rattle.relay_model.specs.State.{put_id, put_at, empty_state}
 use Rattle.relay_model.specs.Terms.{Terms}
 use Rattle.relay_model.specs.World.{World, Idle, Writing, empty_world}
@@ -139,6 +139,18 @@ reading_last failures one two =
       };
     }
 
+-- the same, where it asked by the token
+abbrev pub reading_by_token : (failures : ℕ → ℕ) → (one two : List ℕ) → World
+reading_by_token failures one two =
+    let before = two_stored failures one two in
+    record before {
+      state = record before.state {
+        session = put_at before.state.session 2 (Some (record reading {
+          phase = Fetches OfToken (three_blocks_at 0 0) 2;
+        }));
+      };
+    }
+
 -- session 1 has four offers open, of ids that are by now offered to session 3, being stored for
 -- session 1 and for session 3, and stored
 abbrev pub sharing : (failures : ℕ → ℕ) → (one two : List ℕ) → World
@@ -174,6 +186,37 @@ remembering failures =
       };
     }
 
+-- three articles were begun in the second buffer, so that the first there is overwritten, and one in
+-- the first; the ids of the first two there and of the one here are stored
+abbrev pub remembering_two : (failures : ℕ → ℕ) → World
+remembering_two failures =
+    record (empty_world failures) {
+      state = record empty_state {
+        claim = put_id (put_id (put_id (λ id. Unknown) (codes "<1@x>")
+            (Stored (record (three_blocks_at 0 0) { buffer = 1 }) now)) (codes "<2@x>")
+            (Stored (three_blocks_at 0 0) now)) (codes "<3@x>")
+            (Stored (record (three_blocks_at 0 3) { buffer = 1 }) now);
+        begun = put_at (λ group. 3 ∷ []) 1 (3 ∷ 3 ∷ 3 ∷ []);
+        session = put_at (λ s. None) 2 (Some reading);
+        newest = Some 2;
+      };
+    }
+
+-- of two tokens that the feed gained one was taken, and this text is stored under the other
+abbrev pub remembering_feed : (failures : ℕ → ℕ) → (two : List ℕ) → World
+remembering_feed failures two =
+    let before = remembering failures in
+    record before {
+      state = record before.state {
+        kept = record { token = three_blocks_at 0 3; id = codes "<2@x>"; text = two } ∷ [];
+        feed = λ feed. record {
+          gained = three_blocks_at 0 0 ∷ three_blocks_at 0 3 ∷ [];
+          passed = 1;
+          taken = 1;
+        };
+      };
+    }
+
 -- session 1 has so many offers open, all of one id
 abbrev pub offering : (failures : ℕ → ℕ) → ℕ → World
 offering failures n =
@@ -182,6 +225,20 @@ offering failures n =
         claim = put_id (λ id. Unknown) (codes "<o@x>") (Offered 1);
         session = put_at (λ s. None) 1
             (Some (record reading { offers = replicate n (codes "<o@x>") }));
+        newest = Some 1;
+      };
+    }
+
+-- session 1 has 256 offers open, the oldest of another id than the others
+abbrev pub offering_third : (failures : ℕ → ℕ) → World
+offering_third failures =
+    record (empty_world failures) {
+      state = record empty_state {
+        claim = put_id (put_id (λ id. Unknown) (codes "<o@x>") (Offered 1)) (codes "<3@x>")
+            (Offered 1);
+        session = put_at (λ s. None) 1 (Some (record reading {
+          offers = codes "<3@x>" ∷ replicate 255 (codes "<o@x>");
+        }));
         newest = Some 1;
       };
     }
@@ -213,5 +270,26 @@ pushing failures n =
       };
       work = record (empty_world failures).work {
         queue = put_at (λ group. []) 0 (replicate n fourth_job);
+      };
+    }
+
+-- the job of an article of three blocks that goes to the second group
+abbrev pub other_job : Job
+other_job = record third_job { article = record three_blocks { group = 1 } }
+
+-- session 1 has that job in its hand, so many are queued in the first group and so many in the
+-- second
+abbrev pub pushing_to_second : (failures : ℕ → ℕ) → (first second : ℕ) → World
+pushing_to_second failures first second =
+    record {
+      state = record empty_state {
+        claim = put_id (λ id. Unknown) (codes "<3@x>")
+            (Storing 1 (record three_blocks { group = 1 }) Waiting);
+        session = put_at (λ s. None) 1 (Some (record waiting_third { hand = Some other_job }));
+        newest = Some 1;
+      };
+      work = record (empty_world failures).work {
+        queue = put_at (put_at (λ group. []) 0 (replicate first fourth_job)) 1
+            (replicate second other_job);
       };
     }

@@ -2,6 +2,7 @@
 ghost use Rattle.std.specs.Prelude.{◌≡◌, [], ◌∷◌};
 ghost use Rattle.relay_model.specs.Figures.{buffer_figures, feed_figures};
 ghost use Rattle.relay_examples.specs.Figures as rows;
+ghost use Rattle.relay_examples.specs.OtherTerms.{in_turn, buffer_b};
 ghost use Rattle.relay_examples.specs.Terms.{k1, buffer_a};
 ghost use Rattle.relay_examples.specs.Worlds.{three_blocks_at};
 
@@ -28,8 +29,8 @@ pub fn of_one_buffer()
 
 /// Each buffer has its own cycle, front and counts.
 pub fn of_two_buffers()
-    ensures first { buffer_figures rows.in_turn rows.taken_in_turn buffer_a
+    ensures first { buffer_figures in_turn rows.taken_in_turn buffer_a
         ≡ record { cycle = 0; front = 3; begun = 3; stored = 0 } }
-    ensures second { buffer_figures rows.in_turn rows.taken_in_turn rows.buffer_b
+    ensures second { buffer_figures in_turn rows.taken_in_turn buffer_b
         ≡ record { cycle = 1; front = 11; begun = 3; stored = 1 } }
 {}

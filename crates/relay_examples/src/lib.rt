@@ -3,9 +3,11 @@
 //! and its contract is what is proved.
 #![tactic(auto)]
 
+pub mod feeds;
 pub mod figures;
 pub mod judgements;
 pub mod rows;
 pub mod rules;
 pub mod states;
+pub mod transfers;
 pub mod worlds;

@@ -2,6 +2,7 @@
 ghost use Rattle.std.specs.Prelude.{ℕ};
 ghost use Rattle.relay_model.specs.World.{empty_world};
 ghost use Rattle.relay_examples.specs.Answered.{AreAnswered};
+ghost use Rattle.relay_examples.specs.LineRows as lines;
 ghost use Rattle.relay_examples.specs.Rows as rows;
 ghost use Rattle.relay_examples.specs.Terms.{k1, feeding_first, own_is_first, one_block};
 ghost use Rattle.relay_examples.specs.Terms.{of_class_two};
@@ -136,4 +137,19 @@ pub fn sizes()
         → AreAnswered one_block (empty_world failures) (rows.one_article 317) rows.one_stored }
     ensures not { (failures : ℕ → ℕ)
         → AreAnswered one_block (empty_world failures) (rows.one_article 318) rows.one_refused }
+{}
+
+/// A line of 512 octets is read, one of 513 isn't: 501, and the session leaves.
+pub fn long_line()
+    ensures { (failures : ℕ → ℕ)
+        → AreAnswered k1 (empty_world failures) lines.long_line lines.long_line_replies }
+{}
+
+/// Octets come while a block is owed, while an article is being stored, and during a fetch; a
+/// connection may be gone while a block is owed.
+pub fn at_any_time()
+    ensures octets { (failures : ℕ → ℕ)
+        → AreAnswered k1 (empty_world failures) lines.octets_at_any_time lines.octets_replies }
+    ensures broken { (failures : ℕ → ℕ)
+        → AreAnswered k1 (empty_world failures) lines.broken_block lines.broken_block_replies }
 {}

@@ -1,13 +1,16 @@
 //! The worked rows that begin in another world, so that they stay short.
 ghost use Rattle.std.specs.Prelude.{ℕ, ◌<◌, ◌∷◌, [], List, codes};
+ghost use Rattle.news_terms.specs.Article.{Article, IsArticleText};
 ghost use Rattle.relay_model.specs.Run.{Step, Turn, Write};
 ghost use Rattle.relay_model.specs.World.{World, Quiet, Sent, HasFailedAt};
 ghost use Rattle.relay_examples.specs.Answered.{AreAnswered};
+ghost use Rattle.relay_examples.specs.OtherTerms.{two_forgetting};
 ghost use Rattle.relay_examples.specs.Terms.{k1, now};
 ghost use Rattle.relay_examples.specs.WorldRows as rows;
 ghost use Rattle.relay_examples.specs.Worlds.{two_stored, begun_world, failed_world, reading_last};
 ghost use Rattle.relay_examples.specs.Worlds.{third_job, fourth_job, forgetting, remembering};
-ghost use Rattle.relay_examples.specs.Worlds.{offering, outdated, sharing};
+ghost use Rattle.relay_examples.specs.Worlds.{offering, outdated, sharing, offering_third};
+ghost use Rattle.relay_examples.specs.Worlds.{remembering_two, reading_by_token};
 
 /// An article is lost while it is read, where the begin of another comes before its last block:
 /// 430, else 220 and the whole article.
@@ -16,6 +19,36 @@ pub fn lost_while_reading()
         → AreAnswered k1 (two_stored failures one two) rows.lost_while_reading rows.lost_replies }
     ensures read { (failures : ℕ → ℕ) (one two : List ℕ)
         → AreAnswered k1 (two_stored failures one two) rows.read_before (rows.read_replies one) }
+{}
+
+/// One that is lost before the last block is due is said to be lost at once.
+pub fn lost_early()
+    ensures { (failures : ℕ → ℕ) (one two : List ℕ)
+        → AreAnswered k1 (two_stored failures one two) rows.lost_early rows.lost_early_replies }
+{}
+
+/// HEAD, BODY and OVER of an article of three blocks come by the Turn that reads the third.
+pub fn parts_of_three_blocks()
+    ensures { (failures : ℕ → ℕ) (one two : List ℕ) (a : Article) → IsArticleText two a
+        → AreAnswered k1 (two_stored failures one two) rows.parts_of_three_blocks
+        (rows.parts_replies a) }
+{}
+
+/// Octets may come during a fetch, and its connection may be gone.
+pub fn during_fetch()
+    ensures octets { (failures : ℕ → ℕ) (one two : List ℕ)
+        → AreAnswered k1 (reading_last failures one two) rows.octets_during_fetch
+        (rows.octets_during_fetch_replies one) }
+    ensures broken { (failures : ℕ → ℕ) (one two : List ℕ)
+        → AreAnswered k1 (reading_last failures one two) rows.break_during_fetch
+        rows.break_during_fetch_replies }
+{}
+
+/// A token that the front has passed is gone, but not where no article can have had it.
+pub fn passed_or_never()
+    ensures { (failures : ℕ → ℕ)
+        → AreAnswered k1
+        (remembering failures) rows.passed_or_never rows.passed_or_never_replies }
 {}
 
 /// STAT and XFETCH of an article that is overwritten, of one that is live, and of tokens that never
@@ -47,6 +80,13 @@ pub fn failed_read()
         (Sent 2 (codes "403 Device fault\r\n")) y }
 {}
 
+/// So may one of a token: 403.
+pub fn failed_read_by_token()
+    ensures { (failures after : ℕ → ℕ) (one two : List ℕ) → HasFailedAt 0 failures after
+        → (y : World) × Step k1 (reading_by_token failures one two) (Turn 2 now)
+        (Sent 2 (codes "403 Device fault\r\n")) y }
+{}
+
 /// An Expire reads a front, or with all fronts it forgets in its shard: what was refused so long
 /// ago, and what was stored so long ago and is gone.
 pub fn forgotten_ids()
@@ -54,6 +94,13 @@ pub fn forgotten_ids()
         → AreAnswered forgetting (remembering failures) rows.forgotten_ids rows.forgotten_replies }
     ensures rounds { (failures : ℕ → ℕ)
         → AreAnswered forgetting (remembering failures) rows.sixteen_expires rows.sixteen_replies }
+{}
+
+/// An id is forgotten by the front of the buffer that its article was in.
+pub fn forgotten_in_two_buffers()
+    ensures { (failures : ℕ → ℕ)
+        → AreAnswered two_forgetting (remembering_two failures) rows.forgotten_in_two
+        rows.forgotten_in_two_replies }
 {}
 
 /// A session may have 256 offers open. One of an id that another session has by now, or that is
@@ -67,6 +114,13 @@ pub fn open_offers()
         → AreAnswered k1 (offering failures 256) rows.open_again rows.open_again_replies }
     ensures outdated { (failures : ℕ → ℕ)
         → AreAnswered k1 (outdated failures) rows.outdated_offers rows.outdated_replies }
+{}
+
+/// The open offer of an id ends when its article comes.
+pub fn sent_is_no_offer()
+    ensures { (failures : ℕ → ℕ)
+        → AreAnswered k1
+        (offering_third failures) rows.sent_is_no_offer rows.sent_is_no_offer_replies }
 {}
 
 /// What a session that leaves, an Expire and a refusal leave alone: what is offered to another,
