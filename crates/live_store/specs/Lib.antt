@@ -1,4 +1,5 @@
 pub mod Fetches
+pub mod Handles
 pub mod Steps
 pub mod Stores
 pub mod Tied

@@ -102,7 +102,7 @@ abbrev pub WritesOrMixed : {S : Type 0} {s : Ghosts S} {J : Type 0} {j : archive
 WritesOrMixed old shown text (Ok last) new = WritesRecord old shown text (Ok last) new
 WritesOrMixed old shown text (Err (writes.Device fault)) new =
     WritesRecord old shown text (Err (errors.Device fault)) new
-WritesOrMixed old shown text (Err writes.Mixed) new = new ≡ old
+WritesOrMixed old shown text (Err (writes.Mixed mixed)) new = new ≡ old
 
 -- the fault is the device's at a write of an article of so many octets
 abbrev pub IsWriteFaultOf : (octets : ℕ) → Fault → Type 0
@@ -111,7 +111,12 @@ IsWriteFaultOf octets fault = (fault.kind ≡ kinds.Write) × (fault.length ≡ 
 -- the fault that the write of a block carries, where it does, is of the text
 abbrev pub IsWriteFault : (text : List ℕ) → WriteFault → Type 0
 IsWriteFault text (writes.Device fault) = IsWriteFaultOf (length text) fault
-IsWriteFault text writes.Mixed = Unit {0}
+IsWriteFault text (writes.Mixed mixed) = Unit {0}
+
+-- the open write isn't the record's, or no further block of it can be written
+abbrev pub IsMixedUp : WriteFault → Type 0
+IsMixedUp (writes.Device fault) = ⊥
+IsMixedUp (writes.Mixed mixed) = Unit {0}
 
 -- a begin of an article of so many octets isn't refused by the device, and the fault that a worn
 -- buffer carries is of it

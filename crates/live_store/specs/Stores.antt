@@ -1,13 +1,15 @@
 -- What the storing of a text comes to.
-use Rattle.std.specs.Prelude.{◌≡◌, ◌⊎◌, ℕ, List, length}
+use Rattle.std.specs.Prelude.{◌≡◌, ◌⊎◌, ℕ, Bool, List, length}
 use Rattle.boxcar.specs.Table.{Where}
 use Rattle.cyc_buffer.specs.declared.answers.Fault.{Fault}
 use Rattle.cyc_buffer.specs.declared.answers.FaultKind.TheVariants as kinds
+use Rattle.live_store.specs.declared.answers.WriteFault.{WriteFault}
+use Rattle.live_store.specs.declared.answers.WriteFault.TheVariants as writes
 use Rattle.live_store.specs.declared.record.Archive.{Ghosts}
 use Rattle.live_store.specs.declared.writing.entering.Record.{Record}
 use Rattle.live_store.specs.declared.stored.Stored.{Stored}
 use Rattle.live_store.specs.declared.stored.Stored.TheVariants as stored
-use Rattle.live_store.specs.Tied.{text_in, token_in}
+use Rattle.live_store.specs.Tied.{text_in, token_in, fresh_in}
 
 -- the record of the number is one of this class with this text
 pub record IsTextOf (number : ℕ) (octets : List ℕ) (shown : Where Record) : Type 0 where
@@ -20,15 +22,16 @@ pub record IsStoreFault (text : List ℕ) (fault : Fault) : Type 0 where
   pub kind : (fault.kind ≡ kinds.Write) ⊎ (fault.kind ≡ kinds.Worn)
   pub length : fault.length ≡ length text
 
--- the record of the receipt has class and text; or the fault is one of the storing of the text
-abbrev pub IsStored : {J : Type 0} {g : Ghosts J} → (class : ℕ) → (text : List ℕ) → Stored J g
-    → Type 0
-IsStored class text (stored.Kept receipt) = IsTextOf class text receipt.shown
-IsStored class text (stored.Failed fault) = IsStoreFault text fault
-IsStored class text stored.Mixed = Unit {0}
+-- the record of the receipt has class and text, and was begun with this flag; or the fault is one of
+-- the storing of the text
+abbrev pub IsStored : {J : Type 0} {g : Ghosts J} → (class : ℕ) → (fresh : Bool) → (text : List ℕ)
+    → Stored J g → Type 0
+IsStored class fresh text (stored.Kept receipt) =
+    IsTextOf class text receipt.shown × (fresh_in receipt.shown ≡ fresh)
+IsStored class fresh text (stored.Failed fault) = IsStoreFault text fault
+IsStored class fresh text (stored.Mixed mixed) = Unit {0}
 
--- what is kept is kept under this number, and nothing fails
-abbrev pub IsKeptAs : {J : Type 0} {g : Ghosts J} → Where Record → Stored J g → Type 0
-IsKeptAs shown (stored.Kept receipt) = receipt.shown ≡ shown
-IsKeptAs shown (stored.Failed fault) = ⊥
-IsKeptAs shown stored.Mixed = Unit {0}
+-- what is told of a write that is given up: the device's fault where it failed
+abbrev pub IsGivenUp : {J : Type 0} {g : Ghosts J} → WriteFault → Stored J g → Type 0
+IsGivenUp (writes.Device fault) result = result ≡ stored.Failed fault
+IsGivenUp (writes.Mixed mixed) result = result ≡ stored.Mixed mixed

@@ -24,6 +24,10 @@ named_in shown = shown.value.token
 abbrev pub token_in : Where Record → Token
 token_in shown = token_view (named_in shown)
 
+-- whether the article of the record of a number was begun at the front of a cycle
+abbrev pub fresh_in : Where Record → Bool
+fresh_in shown = shown.value.fresh.value
+
 -- the text of the record of a number
 abbrev pub text_in : Where Record → List ℕ
 text_in shown = shown.value.text.value.items

@@ -1,16 +1,13 @@
 //! What the steps under a buffer's lock answer.
 use crate::record::Shown;
+use crate::steps::Mixed;
 use cyc_buffer::{Fault, Front};
-
-/// The open write isn't the record's, or it can't be what is asked for: nothing is done.
-#[derive(Clone, Copy, Debug, PartialEq, Eq)]
-pub struct Mixed;
 
 /// Why a block was not written, in the order of trial.
 #[derive(Debug, Drop)]
 pub enum WriteFault {
     /// The open write isn't the record's, or no further block of it can be written.
-    Mixed,
+    Mixed(Mixed),
     /// The device failed.
     Device(Fault),
 }

@@ -18,12 +18,13 @@ mod steps;
 mod stored;
 mod writing;
 
-pub use answers::{Mixed, Reading, WriteFault};
+pub use answers::{Reading, WriteFault};
 pub use fetched::{Fetched, Text, same_text};
 pub use fetching::fetch;
 pub use following::OneRecord;
 pub use numbered::NumberedBuffer;
 pub use reading::read_block;
 pub use record::{Archive, Register, Shown};
+pub use steps::{Entered, Mixed};
 pub use stored::{Receipt, Stored};
-pub use writing::{Record, store};
+pub use writing::{Begun, Record, store};

@@ -5,13 +5,21 @@ ghost use Rattle.live_store.specs.Tied.{text_in};
 ghost use Rattle.live_store.specs.Steps.{CanWriteFor, CanFinishFor, IsOfWrite, IsDevice};
 ghost use Rattle.cyc_buffer.specs.declared.answers.BufError.TheVariants as errors;
 
-use crate::answers::{Mixed, Reading, WriteFault};
+use crate::answers::{Reading, WriteFault};
 use crate::beside::Beside;
 use crate::numbered::NumberedBuffer;
 use crate::record::{Archive, Register, Shown};
+use crate::stored::Receipt;
+use crate::writing::Begun;
 use cyc_block::{BlockStore, CHUNK_OCTETS};
 use cyc_buffer::{BufError, Fault, Found, Open, size_of};
 use cyc_token::Token;
+use std::marker::PhantomData;
+
+mod handles;
+
+pub use handles::{Entered, Mixed};
+pub(crate) use handles::{octets_of, refused};
 
 impl<S: BlockStore, J: Archive> NumberedBuffer<S, J> {
     ghost use Rattle.std.specs.Prelude.{◌≡◌, ◌≤◌, ◌<◌, Bool, true, None, Some, Ok, Err, IfOk};
@@ -28,11 +36,12 @@ impl<S: BlockStore, J: Archive> NumberedBuffer<S, J> {
     ghost use Rattle.live_store.specs.Steps.{WritesOrMixed, CanWriteFor, IsNumberedAt};
     ghost use Rattle.live_store.specs.Steps.{CanFinishFor, IsOfWrite, IsReading, IsPassed};
     ghost use Rattle.live_store.specs.Steps.{IsReadFault, HasOctets, IsShown, IsBeginFault};
-    ghost use Rattle.live_store.specs.Steps.{IsWriteFault, as_found};
+    ghost use Rattle.live_store.specs.Steps.{IsWriteFault, as_found, IsMixedUp};
+    ghost use Rattle.live_store.specs.Handles.{begun_token, begun_fresh, shown_of};
 
     /// Begins an article of a class and of so many octets, at least 1; `fresh` at the front of a
     /// cycle. What the front passes is gone from now on.
-    pub fn begin(&mut self, class: u8, length: u32, fresh: bool) -> Result<Token, BufError>
+    pub fn begin(&mut self, class: u8, length: u32, fresh: bool) -> Result<Begun, BufError>
         requires { 1 ≤ length }
         // Refused for the first reason, and then nothing is changed; else begun.
         ensures refusal { (trusted : Bool) (h : History) → Agrees trusted (buffer_of self.old) h
@@ -42,15 +51,18 @@ impl<S: BlockStore, J: Archive> NumberedBuffer<S, J> {
         ensures begun { OnOk result
             (Follows (with_begin class length fresh) (buffer_of self.old) (buffer_of self.new)) }
         // The token is the history's.
-        ensures token { IfOk result (λ token. (trusted : Bool) (h : History)
-            → Agrees trusted (buffer_of self.old) h → Some (token_view token)
+        ensures token { IfOk result (λ begun. (trusted : Bool) (h : History)
+            → Agrees trusted (buffer_of self.old) h → Some (token_view (begun_token begun))
             ≡ open_token (with_begin class length fresh h)) }
-        ensures length { IfOk result (λ token. token.length ≡ length) }
-        ensures class { IfOk result (λ token. token.class ≡ class) }
+        ensures length { IfOk result (λ begun. (begun_token begun).length ≡ length) }
+        ensures class { IfOk result (λ begun. (begun_token begun).class ≡ class) }
+        // What is begun tells with which flag that was.
+        ensures fresh { IfOk result (λ begun. begun_fresh begun ≡ fresh) }
         ensures fault { IfErr result (IsBeginFault length) }
         // It is begun where none was open, and stands beside the buffer from now on.
         ensures free { OnOk result (beside_of self.old ≡ None) }
-        ensures beside { IfOk result (λ token. IsSomeAnd (beside_of self.new) (IsBegunAs token)) }
+        ensures beside { IfOk result (λ begun. IsSomeAnd (beside_of self.new)
+            (IsBegunAs (begun_token begun))) }
         ensures kept { OnErr result (beside_of self.new ≡ beside_of self.old) }
         ensures numbers { numbers_of self.new ≡ numbers_of self.old }
         // The device isn't called.
@@ -68,7 +80,7 @@ impl<S: BlockStore, J: Archive> NumberedBuffer<S, J> {
             broken: false,
         };
         match self.beside.replace(beside) {
-            None => Ok(token),
+            None => Ok(Begun::new(token, fresh)),
             Some(_) => unreachable!(),
         }
     }
@@ -87,14 +99,14 @@ impl<S: BlockStore, J: Archive> NumberedBuffer<S, J> {
         ensures writes { WritesOrMixed self.old shown.now text.now result self.new }
         ensures fault { IfErr result (IsWriteFault text.now) }
         // Mixed says that no block can be written for the record.
-        ensures mixed { result ≡ Err WriteFault.Mixed
-            → IsSomeAnd (beside_of self.old) (λ b. CanWriteFor b shown.now) → ⊥ }
+        ensures mixed { IfErr result (λ e. IsMixedUp e
+            → IsSomeAnd (beside_of self.old) (λ b. CanWriteFor b shown.now) → ⊥) }
     {
         let Some(beside) = &self.beside else {
-            return Err(WriteFault::Mixed);
+            return Err(WriteFault::Mixed(Mixed(())));
         };
         if !can_write(register, beside, shown, text.len()) {
-            return Err(WriteFault::Mixed);
+            return Err(WriteFault::Mixed(Mixed(())));
         }
         let Some(
             Beside {
@@ -120,33 +132,39 @@ impl<S: BlockStore, J: Archive> NumberedBuffer<S, J> {
     }
 
     /// Finishes the open write, where it is the record's and all of it is written: from now on the
-    /// record's text is given by the token.
-    pub fn finish(&mut self, register: &Register, shown: &Shown) -> Result<Token, Mixed>
+    /// record's text is given by the token. What can't be finished is given back.
+    pub fn finish(
+        &mut self,
+        register: &Register,
+        entered: Entered,
+    ) -> Result<Receipt<J>, (Mixed, Entered)>
         requires register { register.now ≡ J.register }
-        requires shown { Shows J.register shown.now }
-        ensures named { IfOk result (λ token. token_view token ≡ token_in shown.now) }
+        requires shown { Shows J.register (shown_of entered) }
+        ensures named { IfOk result (λ receipt. receipt.shown ≡ shown_of entered) }
         ensures finished { OnOk result
             (Follows with_finish (buffer_of self.old) (buffer_of self.new)) }
         // It was the record's, all of it written, and nothing stands beside the buffer any more.
         ensures own { OnOk result
-            (IsSomeAnd (beside_of self.old) (λ b. CanFinishFor b shown.now)) }
+            (IsSomeAnd (beside_of self.old) (λ b. CanFinishFor b (shown_of entered))) }
         ensures closed { OnOk result (beside_of self.new ≡ None) }
         // The record's number stands at the article's first block; the other numbers stay.
-        ensures numbers { IfOk result (λ token. numbers_of self.new
-            ≡ slice_set (numbers_of self.old) token.first (Some shown.now)) }
+        ensures numbers { IfOk result (λ receipt. numbers_of self.new
+            ≡ slice_set (numbers_of self.old) receipt.token.first (Some (shown_of entered))) }
         // Mixed says that it can't be finished for the record, and nothing is changed.
         ensures mixed { OnErr result
-            (IsSomeAnd (beside_of self.old) (λ b. CanFinishFor b shown.now) → ⊥) }
+            (IsSomeAnd (beside_of self.old) (λ b. CanFinishFor b (shown_of entered)) → ⊥) }
         ensures refused { OnErr result (self.new ≡ self.old) }
+        ensures back { IfErr result (λ back. back.1 ≡ entered) }
         // The device isn't called.
         ensures store { store_of (buffer_of self.new) ≡ store_of (buffer_of self.old) }
     {
         let Some(beside) = &self.beside else {
-            return Err(Mixed);
+            return Err((Mixed(()), entered));
         };
-        if !can_finish(register, beside, shown) {
-            return Err(Mixed);
+        if !can_finish(register, beside, &entered.shown) {
+            return Err((Mixed(()), entered));
         }
+        let Entered { shown } = entered;
         let Some(
             Beside {
                 write,
@@ -160,31 +178,37 @@ impl<S: BlockStore, J: Archive> NumberedBuffer<S, J> {
         };
         let token = self.buffer.finish(write);
         self.numbers[token.first as usize] = Some(shown.again());
-        Ok(token)
+        Ok(Receipt {
+            token,
+            shown,
+            of: PhantomData,
+        })
     }
 
     /// Abandons the open write, where it is the record's. Its space stays lost.
-    pub fn abandon(&mut self, register: &Register, shown: &Shown) -> Result<(), Mixed>
+    pub fn abandon(&mut self, register: &Register, entered: Entered) -> Result<(), Mixed>
         requires register { register.now ≡ J.register }
-        requires shown { Shows J.register shown.now }
+        requires shown { Shows J.register (shown_of entered) }
         ensures abandoned { OnOk result
             (Follows without_write (buffer_of self.old) (buffer_of self.new)) }
         // It was the record's, and nothing stands beside the buffer any more.
-        ensures own { OnOk result (IsSomeAnd (beside_of self.old) (λ b. IsOfWrite b shown.now)) }
+        ensures own { OnOk result
+            (IsSomeAnd (beside_of self.old) (λ b. IsOfWrite b (shown_of entered))) }
         ensures closed { OnOk result (beside_of self.new ≡ None) }
         ensures numbers { numbers_of self.new ≡ numbers_of self.old }
         // Mixed says that the open write isn't the record's, and nothing is changed.
         ensures mixed { OnErr result
-            (IsSomeAnd (beside_of self.old) (λ b. IsOfWrite b shown.now) → ⊥) }
+            (IsSomeAnd (beside_of self.old) (λ b. IsOfWrite b (shown_of entered)) → ⊥) }
         ensures refused { OnErr result (self.new ≡ self.old) }
         // The device isn't called.
         ensures store { store_of (buffer_of self.new) ≡ store_of (buffer_of self.old) }
     {
+        let Entered { shown } = entered;
         let Some(beside) = &self.beside else {
-            return Err(Mixed);
+            return Err(Mixed(()));
         };
-        if !is_named(register, beside, shown) {
-            return Err(Mixed);
+        if !is_named(register, beside, &shown) {
+            return Err(Mixed(()));
         }
         let Some(
             Beside {

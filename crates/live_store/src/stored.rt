@@ -5,6 +5,7 @@ ghost use Rattle.cyc_token.specs.Token.{token_view};
 ghost use Rattle.live_store.specs.Tied.{token_in};
 
 use crate::record::{Archive, Shown};
+use crate::steps::Mixed;
 use cyc_buffer::Fault;
 use cyc_token::Token;
 use std::marker::PhantomData;
@@ -62,5 +63,5 @@ pub enum Stored<J: Archive> {
     Failed(Fault),
     /// The buffer is not this writer's alone, or the text is none for it: another write was open
     /// or came between, or it has no octets or more than a buffer holds.
-    Mixed,
+    Mixed(Mixed),
 }

@@ -1,27 +1,28 @@
 //! Storing a text, a step at a time, each under the lock.
 ghost use Rattle.std.specs.Prelude.{◌≡◌, IfErr};
 ghost use Rattle.boxcar.specs.Table.{Shows};
+ghost use Rattle.live_store.specs.Handles.{shown_of};
 ghost use Rattle.live_store.specs.Tied.{text_in};
 ghost use Rattle.live_store.specs.Steps.{IsWriteFault};
-ghost use Rattle.live_store.specs.Stores.{IsStored, IsKeptAs};
+ghost use Rattle.live_store.specs.Stores.{IsStored, IsGivenUp};
 ghost use Rattle.news_terms.specs.ArticleTexts.{IsArticle};
 
-use crate::answers::{Mixed, WriteFault};
+use crate::answers::WriteFault;
 use crate::numbered::NumberedBuffer;
 use crate::record::{Archive, Register, Shown};
-use crate::stored::{Receipt, Stored};
+use crate::steps::{Entered, octets_of, refused};
+use crate::stored::Stored;
 use cyc_block::{BlockStore, CHUNK_OCTETS};
-use cyc_buffer::BufError;
-use std::marker::PhantomData;
 use std::sync::{Mutex, Wait};
 
 mod entering;
 
-pub use entering::Record;
+pub use entering::{Begun, Record};
 
 /// Stores an article in any thread: the buffer begins it, the register gets its record, each block
 /// is written, and the buffer finishes it. Each step of the buffer takes the lock anew. Where
-/// memory is refused to the register, the same step is tried again.
+/// memory is refused to the register, the same step is tried again. What was begun is finished or
+/// abandoned, whatever comes.
 pub fn store<S: BlockStore, J: Archive, R: Wait>(
     rt: &R,
     buffer: &Mutex<NumberedBuffer<S, J>>,
@@ -32,27 +33,29 @@ pub fn store<S: BlockStore, J: Archive, R: Wait>(
 ) -> Stored<J>
     requires register { register.now ≡ J.register }
     requires article { ∥ IsArticle text.now.items ∥₁ }
-    ensures { IsStored class text.now.items result }
+    ensures { IsStored class fresh text.now.items result }
 {
-    let Ok(octets) = u32::try_from(text.len()) else {
-        return Stored::Mixed;
+    let octets = match octets_of(text) {
+        Ok(octets) => octets,
+        Err(mixed) => return Stored::Mixed(mixed),
     };
-    if octets == 0 {
-        return Stored::Mixed;
+    let answer = buffer.lock(rt).begin(class, octets, fresh);
+    let begun = match answer {
+        Ok(begun) => begun,
+        Err(error) => match refused(error) {
+            Ok(fault) => return Stored::Failed(fault),
+            Err(mixed) => return Stored::Mixed(mixed),
+        },
+    };
+    let entered = Record::enter(rt, register, begun, text);
+    if let Err(fault) = write_all(rt, buffer, register, entered.shown(), text) {
+        return give_up(rt, buffer, register, entered, fault);
     }
-    let begun = buffer.lock(rt).begin(class, octets, fresh);
-    let token = match begun {
-        Ok(token) => token,
-        Err(BufError::Worn(fault)) => return Stored::Failed(fault),
-        Err(_) => return Stored::Mixed,
-    };
-    let shown = Record::enter(rt, register, token, text);
-    match write_all(rt, buffer, register, &shown, text) {
-        Ok(()) => finish(rt, buffer, register, shown),
-        Err(WriteFault::Mixed) => Stored::Mixed,
-        Err(WriteFault::Device(fault)) => {
-            let _mixed = buffer.lock(rt).abandon(register, &shown);
-            Stored::Failed(fault)
+    let finished = buffer.lock(rt).finish(register, entered);
+    match finished {
+        Ok(receipt) => Stored::Kept(receipt),
+        Err((mixed, entered)) => {
+            give_up(rt, buffer, register, entered, WriteFault::Mixed(mixed))
         }
     }
 }
@@ -78,24 +81,21 @@ fn write_all<S: BlockStore, J: Archive, R: Wait>(
     Ok(())
 }
 
-/// Finishes a record's write, all of which is written.
-fn finish<S: BlockStore, J: Archive, R: Wait>(
+/// Abandons a record's write, and tells why.
+fn give_up<S: BlockStore, J: Archive, R: Wait>(
     rt: &R,
     buffer: &Mutex<NumberedBuffer<S, J>>,
     register: &Register,
-    shown: Shown,
+    entered: Entered,
+    fault: WriteFault,
 ) -> Stored<J>
     requires register { register.now ≡ J.register }
-    requires shown { Shows J.register shown }
-    ensures { IsKeptAs shown result }
+    requires shown { Shows J.register (shown_of entered) }
+    ensures { IsGivenUp fault result }
 {
-    let finished = buffer.lock(rt).finish(register, &shown);
-    match finished {
-        Ok(token) => Stored::Kept(Receipt {
-            token,
-            shown,
-            of: PhantomData,
-        }),
-        Err(Mixed) => Stored::Mixed,
+    let _mixed = buffer.lock(rt).abandon(register, entered);
+    match fault {
+        WriteFault::Mixed(mixed) => Stored::Mixed(mixed),
+        WriteFault::Device(fault) => Stored::Failed(fault),
     }
 }

@@ -1,5 +1,5 @@
 //! What stores the jobs of the writers.
-ghost use Rattle.std.specs.Prelude.{◌≡◌, ◌<◌, ◌+◌, None, IfSome};
+ghost use Rattle.std.specs.Prelude.{◌≡◌, ◌<◌, ◌+◌, Bool, None, IfSome};
 ghost use Rattle.live_fates.specs.Fates.{is_kept, FitsJob};
 ghost use Rattle.live_seats.specs.Taken.{worth};
 ghost use Rattle.live_settle.specs.Posted.{IsPostOf};
@@ -67,21 +67,16 @@ impl<'a, S: BlockStore + Drop, J: Archive, L: Ledger, C: Clock, Q: Lends> Keeper
     }
 
     /// The article's text is stored in the buffer that its group picks, which goes on once it was
-    /// begun there.
-    fn write<R: Wait>(&self, rt: &R, article: &Accepted) -> Stored<J>
-        ensures { IsStored article.now.class article.now.text result }
+    /// begun there. `None` where there is no such group or buffer.
+    fn write<R: Wait>(&self, rt: &R, article: &Accepted) -> Option<Stored<J>>
+        ensures { IfSome result (λ stored. (fresh : Bool)
+            × IsStored article.now.class fresh article.now.text stored) }
     {
-        let Some(rack) = self.shared.racks.get(usize::from(article.group)) else {
-            return Stored::Mixed;
-        };
+        let rack = self.shared.racks.get(usize::from(article.group))?;
         let length = article.length();
         let picked = rack.lock(rt).pick(length);
-        let Some(Place { pick, number }) = picked else {
-            return Stored::Mixed;
-        };
-        let Some(buffer) = self.shared.buffers.get(number) else {
-            return Stored::Mixed;
-        };
+        let Place { pick, number } = picked?;
+        let buffer = self.shared.buffers.get(number)?;
         let text = article.text.as_vec();
         let stored = live_store::store(
             rt,
@@ -94,7 +89,7 @@ impl<'a, S: BlockStore + Drop, J: Archive, L: Ledger, C: Clock, Q: Lends> Keeper
         if is_begun(&stored) {
             rack.lock(rt).begun(&pick, length);
         }
-        stored
+        Some(stored)
     }
 
     /// The article is settled at the moment that the clock gives. It is tried again until the job's
@@ -148,20 +143,20 @@ impl<'a, S: BlockStore + Drop, J: Archive, L: Ledger, C: Clock, Q: Lends> Keeper
     {
         let job = &handed.job;
         let fate = match self.write(rt, &job.article) {
-            Stored::Kept(receipt) => {
+            Some(Stored::Kept(receipt)) => {
                 if let Some(posted) = self.settle(rt, share, job, receipt.token()) {
                     return Fate::Kept(receipt, posted);
                 }
                 Fate::Mixed
             }
-            Stored::Failed(fault) => {
+            Some(Stored::Failed(fault)) => {
                 if holding::has_buffer(self.settings, job.article.group, fault.buffer()) {
                     Fate::Failed(fault)
                 } else {
                     Fate::Mixed
                 }
             }
-            Stored::Mixed => Fate::Mixed,
+            Some(Stored::Mixed(_)) | None => Fate::Mixed,
         };
         self.shared.claims(&job.id).forget(rt, &job.id, job.session);
         fate
@@ -173,7 +168,7 @@ fn is_begun<J: Archive>(stored: &Stored<J>) -> bool {
     match stored {
         Stored::Kept(_) => true,
         Stored::Failed(fault) => fault.kind() == FaultKind::Write,
-        Stored::Mixed => false,
+        Stored::Mixed(_) => false,
     }
 }
 

@@ -1,19 +1,47 @@
 //! What is entered in the register, by a writer alone.
 ghost use Rattle.news_terms.specs.ArticleTexts.{IsArticle};
 
-use crate::record::{Register, Shown};
+use crate::record::Register;
+use crate::steps::Entered;
 use cyc_token::Token;
 use std::mem::size_of;
 use std::snapshot::Snapshot;
 use std::sync::Wait;
 use std::thread;
 
-/// An article that was begun: its token and, for contracts alone, the octets of its text. Only
-/// `store` makes one, and enters it.
+/// An article that was begun, and has no record yet. A buffer's `begin` alone answers with one; it
+/// can't be copied, and `store` uses it up by entering its record.
+pub struct Begun {
+    token: Token,
+    fresh: bool,
+}
+
+impl Begun {
+    ghost use Rattle.std.specs.Prelude.{◌≡◌};
+    ghost use Rattle.live_store.specs.Handles.{begun_token, begun_fresh};
+
+    /// The article that was begun under a token, at the front of a cycle where `fresh` says so.
+    pub(crate) fn new(token: Token, fresh: bool) -> Begun
+        ensures token { begun_token result ≡ token }
+        ensures fresh { begun_fresh result ≡ fresh }
+    {
+        Begun { token, fresh }
+    }
+
+    /// Lets the article go, which stays begun: its buffer begins no other.
+    pub fn let_go(self) {
+        let Begun { token: _, fresh: _ } = self;
+    }
+}
+
+/// An article that was begun: its token and, for contracts alone, whether it was begun at the front
+/// of a cycle, and the octets of its text. Only `store` makes one, and enters it.
 #[derive(Drop)]
 pub struct Record {
     /// The token that the article is finished under, if it is.
     token: Token,
+    /// The flag that its begin was called with. It takes no memory.
+    fresh: Snapshot<bool>,
     /// The text. It takes no memory.
     text: Snapshot<Vec<u8>>,
     // So each number of the register is that of an article.
@@ -26,7 +54,8 @@ const _: () = prove!(size_of::<Record>() == 16);
 impl Record {
     ghost use Rattle.std.specs.Prelude.{◌≡◌};
     ghost use Rattle.boxcar.specs.Table.{Shows};
-    ghost use Rattle.live_store.specs.Tied.{text_in, named_in};
+    ghost use Rattle.live_store.specs.Handles.{begun_token, begun_fresh, shown_of};
+    ghost use Rattle.live_store.specs.Tied.{text_in, named_in, fresh_in};
 
     /// The token that the article is finished under, if it is.
     pub fn token(&self) -> Token
@@ -37,19 +66,27 @@ impl Record {
 
     /// Enters an article under its token in the register. Where memory is refused it gives way and
     /// tries again: it answers with the record's number, or never.
-    pub(super) fn enter<R: Wait>(rt: &R, register: &Register, token: Token, text: &Vec<u8>) -> Shown
+    pub(super) fn enter<R: Wait>(
+        rt: &R,
+        register: &Register,
+        begun: Begun,
+        text: &Vec<u8>,
+    ) -> Entered
         requires article { ∥ IsArticle text.now.items ∥₁ }
-        ensures shown { Shows register.now result }
-        ensures token { named_in result ≡ token }
-        ensures text { text_in result ≡ text.now.items }
+        ensures shown { Shows register.now (shown_of result) }
+        ensures token { named_in (shown_of result) ≡ begun_token begun }
+        ensures fresh { fresh_in (shown_of result) ≡ begun_fresh begun }
+        ensures text { text_in (shown_of result) ≡ text.now.items }
     {
+        let Begun { token, fresh } = begun;
         for _ in rt.forever() {
             let record = Record {
                 token,
                 text: Snapshot::of(text),
+                fresh: Snapshot::of(&fresh),
             };
             match register.push_shown(rt, record) {
-                Ok(shown) => return shown,
+                Ok(shown) => return Entered::new(shown),
                 Err(_) => thread::yield_now(),
             }
         }

@@ -151,6 +151,8 @@ fn open<S: BlockStore, J: Archive, R: Wait>(rt: &R, buffers: &Vec<Locked<S, J>>,
         return;
     }
     if let Some(buffer) = buffers.first() {
-        let _open = buffer.lock(rt).begin(1, octets, false);
+        if let Ok(begun) = buffer.lock(rt).begin(1, octets, false) {
+            begun.let_go();
+        }
     }
 }

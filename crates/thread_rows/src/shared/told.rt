@@ -27,6 +27,6 @@ pub(crate) fn add_stored<J: Archive>(
             add(alloc, text, ", ", &receipt.token())
         }
         Stored::Failed(fault) => add(alloc, text, "failed, ", fault),
-        Stored::Mixed => text.extend_from_slice(b"mixed"),
+        Stored::Mixed(_) => text.extend_from_slice(b"mixed"),
     }
 }

@@ -39,10 +39,11 @@ unreachable-requires g c = ∥∥₁_elim c.args.self.now.tied (λ x y. absurd x
 
 pub returns-clause-token : goal.returns-clause-token
 returns-clause-token g c = λ trusted h agrees.
-    ap (λ t. Some (token_view t)) c.token-token.ensures ∙ c.in-Ok.ensures.token trusted h agrees
+    ap (λ t. Some (token_view t)) (c.new.ensures.token ∙ c.token-token.ensures)
+    ∙ c.in-Ok.ensures.token trusted h agrees
 
 pub returns-clause-class : goal.returns-clause-class
-returns-clause-class g c = begin_class g.J.Archive.register g.J.Archive.trusted
+returns-clause-class g c = ap (λ t. t.class) c.new.ensures.token ∙ begin_class g.J.Archive.register g.J.Archive.trusted
     c.args.self.now.buffer c.args.self.now.beside c.args.self.now.numbers.items c.args.class
     c.args.length c.args.fresh (token_view c.token-token.result) c.args.self.now.tied
     (λ trusted h agrees. ap (λ t. Some (token_view t)) c.token-token.ensures

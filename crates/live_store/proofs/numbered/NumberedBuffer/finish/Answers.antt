@@ -36,12 +36,12 @@ invariant_of-self g c =
     let tied = subst (λ b. ∥ Tied g.J.Archive.trusted g.J.Archive.register
     c.args.self.now.buffer b c.args.self.now.numbers.items ∥₁)
     (sym c.take.ensures.value ∙ c.in-Some-take.is) c.args.self.now.tied in
-    let can = subst (λ b. CanFinishFor b c.args.shown.now)
+    let can = subst (λ b. CanFinishFor b c.args.entered.shown)
     (the_same c.args.self.now.beside c.take.result c.in-Some.beside field c.in-Some.is
     c.take.ensures.value c.in-Some-take.is) (c.can_finish.ensures.0 c.if-not-can_finish.false) in
     let follows = c.finish-token.ensures.finished
     (can_finish g.J.Archive.register g.J.Archive.trusted c.args.self.now.buffer field
-    c.args.self.now.numbers.items tied c.args.shown.now can) in
+    c.args.self.now.numbers.items tied c.args.entered.shown can) in
     record {
       tied = subst (λ b. ∥ Tied g.J.Archive.trusted g.J.Archive.register c.finish-token.new.self b
           (set c.args.self.now.numbers.items c.finish-token.result.first (Some c.again.result))
@@ -51,25 +51,28 @@ invariant_of-self g c =
           (set c.args.self.now.numbers.items c.finish-token.result.first (Some w)) ∥₁)
           (sym c.again.ensures)
           (subst (λ n. ∥ Tied g.J.Archive.trusted g.J.Archive.register c.finish-token.new.self None
-          (set c.args.self.now.numbers.items n (Some c.args.shown.now)) ∥₁)
+          (set c.args.self.now.numbers.items n (Some c.args.entered.shown)) ∥₁)
           (sym (ap (λ t. t.first) c.finish-token.ensures.handle))
           (tied_finished g.J.Archive.register g.J.Archive.trusted c.args.self.now.buffer field
-          c.args.self.now.numbers.items tied c.finish-token.new.self c.args.shown.now can
+          c.args.self.now.numbers.items tied c.finish-token.new.self c.args.entered.shown can
           c.requires.shown follows)));
     }
 
-pub returns-clause-named : goal.returns-clause-named
-returns-clause-named g c =
+pub invariant_of-result : goal.invariant_of-result
+invariant_of-result g c =
     let field = c.in-Some-take.field-0 in
     let tied = subst (λ b. ∥ Tied g.J.Archive.trusted g.J.Archive.register
     c.args.self.now.buffer b c.args.self.now.numbers.items ∥₁)
     (sym c.take.ensures.value ∙ c.in-Some-take.is) c.args.self.now.tied in
-    let can = subst (λ b. CanFinishFor b c.args.shown.now)
+    let can = subst (λ b. CanFinishFor b c.args.entered.shown)
     (the_same c.args.self.now.beside c.take.result c.in-Some.beside field c.in-Some.is
     c.take.ensures.value c.in-Some-take.is) (c.can_finish.ensures.0 c.if-not-can_finish.false) in
-    ap token_view c.finish-token.ensures.handle
-    ∙ named_token g.J.Archive.register g.J.Archive.trusted c.args.self.now.buffer field
-    c.args.self.now.numbers.items tied c.args.shown.now can.unbroken can.named
+    record {
+      here = c.requires.shown;
+      named = ap token_view c.finish-token.ensures.handle
+          ∙ named_token g.J.Archive.register g.J.Archive.trusted c.args.self.now.buffer field
+          c.args.self.now.numbers.items tied c.args.entered.shown can.unbroken can.named;
+    }
 
 pub returns-clause-finished : goal.returns-clause-finished
 returns-clause-finished g c =
@@ -77,10 +80,10 @@ returns-clause-finished g c =
     let tied = subst (λ b. ∥ Tied g.J.Archive.trusted g.J.Archive.register
     c.args.self.now.buffer b c.args.self.now.numbers.items ∥₁)
     (sym c.take.ensures.value ∙ c.in-Some-take.is) c.args.self.now.tied in
-    let can = subst (λ b. CanFinishFor b c.args.shown.now)
+    let can = subst (λ b. CanFinishFor b c.args.entered.shown)
     (the_same c.args.self.now.beside c.take.result c.in-Some.beside field c.in-Some.is
     c.take.ensures.value c.in-Some-take.is) (c.can_finish.ensures.0 c.if-not-can_finish.false) in
     let follows = c.finish-token.ensures.finished
     (can_finish g.J.Archive.register g.J.Archive.trusted c.args.self.now.buffer field
-    c.args.self.now.numbers.items tied c.args.shown.now can) in
+    c.args.self.now.numbers.items tied c.args.entered.shown can) in
     follows

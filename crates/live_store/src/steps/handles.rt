@@ -1,0 +1,67 @@
+//! What a writer holds of its article, and what it is told where nothing is stored: values that the
+//! steps alone make and use up.
+ghost use Rattle.std.specs.Prelude.{◌≡◌, ◌≤◌, ◌⊎◌, ◌^◌, ℕ, length, IfOk, OnErr};
+ghost use Rattle.cyc_buffer.specs.declared.answers.FaultKind.TheVariants as kinds;
+ghost use Rattle.live_store.specs.Handles.{IsRefusedAs};
+ghost use Rattle.live_store.specs.Steps.{IsBeginFault};
+
+use crate::record::Shown;
+use cyc_buffer::{BufError, Fault};
+
+/// An article that was begun and has its record: its write is open. It can be neither copied nor
+/// let go: `finish` and `abandon` alone use it up.
+pub struct Entered {
+    pub(super) shown: Shown,
+}
+
+impl Entered {
+    ghost use Rattle.std.specs.Prelude.{◌≡◌};
+    ghost use Rattle.live_store.specs.Handles.{shown_of};
+
+    /// The article of this record, whose write is open.
+    pub(crate) fn new(shown: Shown) -> Entered
+        ensures { shown_of result ≡ shown }
+    {
+        Entered { shown }
+    }
+
+    /// Its record's number.
+    pub fn shown(&self) -> &Shown
+        ensures { result.now ≡ shown_of self.now }
+    {
+        &self.shown
+    }
+}
+
+/// Nothing is stored, and no device failed: the text is none for the buffer, another write is open
+/// there, or the open write isn't the record's. The steps alone say so.
+#[derive(Clone, Copy, Debug, PartialEq, Eq)]
+pub struct Mixed(pub(super) ());
+
+/// The octets of a text, where it has some and no more than a token can say.
+pub(crate) fn octets_of(text: &Vec<u8>) -> Result<u32, Mixed>
+    ensures octets { IfOk result (λ n. n ≡ length text.now.items) }
+    ensures some { IfOk result (λ n. 1 ≤ n) }
+    ensures mixed { OnErr result
+        ((length text.now.items ≡ 0) ⊎ (2 ^ 32 ≤ length text.now.items)) }
+{
+    match u32::try_from(text.len()) {
+        Ok(0) => Err(Mixed(())),
+        Ok(octets) => Ok(octets),
+        Err(_) => Err(Mixed(())),
+    }
+}
+
+/// What a begin that is refused comes to: a worn buffer is told as its fault; an article that is
+/// too big, and a buffer where another write is open, as mixed up.
+pub(crate) fn refused(error: BufError) -> Result<Fault, Mixed>
+    ensures told { IsRefusedAs error result }
+    ensures fault { (octets : ℕ) → IsBeginFault octets error
+        → IfOk result (λ fault. (fault.kind ≡ kinds.Worn) × (fault.length ≡ octets)) }
+{
+    match error {
+        BufError::TooBig | BufError::Busy => Err(Mixed(())),
+        BufError::Worn(fault) => Ok(fault),
+        BufError::Device(fault) => Ok(fault),
+    }
+}
