@@ -22,14 +22,18 @@ pub record IsStoreFault (text : List ℕ) (fault : Fault) : Type 0 where
   pub kind : (fault.kind ≡ kinds.Write) ⊎ (fault.kind ≡ kinds.Worn)
   pub length : fault.length ≡ length text
 
--- the record of the receipt has class and text, and was begun with this flag; or the fault is one of
--- the storing of the text
-abbrev pub IsStored : {J : Type 0} {g : Ghosts J} → (class : ℕ) → (fresh : Bool) → (text : List ℕ)
-    → Stored J g → Type 0
-IsStored class fresh text (stored.Kept receipt) =
-    IsTextOf class text receipt.shown × (fresh_in receipt.shown ≡ fresh)
-IsStored class fresh text (stored.Failed fault) = IsStoreFault text fault
-IsStored class fresh text (stored.Mixed mixed) = Unit {0}
+-- the record of the receipt has class and text; or the fault is one of the storing of the text
+abbrev pub IsStored : {J : Type 0} {g : Ghosts J} → (class : ℕ) → (text : List ℕ) → Stored J g
+    → Type 0
+IsStored class text (stored.Kept receipt) = IsTextOf class text receipt.shown
+IsStored class text (stored.Failed fault) = IsStoreFault text fault
+IsStored class text (stored.Mixed mixed) = Unit {0}
+
+-- what is kept was begun with this flag
+abbrev pub IsBegunWith : {J : Type 0} {g : Ghosts J} → (fresh : Bool) → Stored J g → Type 0
+IsBegunWith fresh (stored.Kept receipt) = fresh_in receipt.shown ≡ fresh
+IsBegunWith fresh (stored.Failed fault) = Unit {0}
+IsBegunWith fresh (stored.Mixed mixed) = Unit {0}
 
 -- what is told of a write that is given up: the device's fault where it failed
 abbrev pub IsGivenUp : {J : Type 0} {g : Ghosts J} → WriteFault → Stored J g → Type 0

@@ -4,7 +4,7 @@ ghost use Rattle.boxcar.specs.Table.{Shows};
 ghost use Rattle.live_store.specs.Handles.{shown_of};
 ghost use Rattle.live_store.specs.Tied.{text_in};
 ghost use Rattle.live_store.specs.Steps.{IsWriteFault};
-ghost use Rattle.live_store.specs.Stores.{IsStored, IsGivenUp};
+ghost use Rattle.live_store.specs.Stores.{IsBegunWith, IsGivenUp, IsStored};
 ghost use Rattle.news_terms.specs.ArticleTexts.{IsArticle};
 
 use crate::answers::WriteFault;
@@ -33,7 +33,8 @@ pub fn store<S: BlockStore, J: Archive, R: Wait>(
 ) -> Stored<J>
     requires register { register.now ≡ J.register }
     requires article { ∥ IsArticle text.now.items ∥₁ }
-    ensures { IsStored class fresh text.now.items result }
+    ensures stored { IsStored class text.now.items result }
+    ensures fresh { IsBegunWith fresh result }
 {
     let octets = match octets_of(text) {
         Ok(octets) => octets,

@@ -1,5 +1,5 @@
 //! What stores the jobs of the writers.
-ghost use Rattle.std.specs.Prelude.{◌≡◌, ◌<◌, ◌+◌, Bool, None, IfSome};
+ghost use Rattle.std.specs.Prelude.{◌≡◌, ◌<◌, ◌+◌, None, IfSome};
 ghost use Rattle.live_fates.specs.Fates.{is_kept, FitsJob};
 ghost use Rattle.live_seats.specs.Taken.{worth};
 ghost use Rattle.live_settle.specs.Posted.{IsPostOf};
@@ -66,11 +66,11 @@ impl<'a, S: BlockStore + Drop, J: Archive, L: Ledger, C: Clock, Q: Lends> Keeper
         }
     }
 
-    /// The article's text is stored in the buffer that its group picks, which goes on once it was
-    /// begun there. `None` where there is no such group or buffer.
+    /// The article's text is stored in the buffer that its group picks, in a new cycle where the
+    /// pick asks for one; the group goes on once it was begun there. `None` where there is no such
+    /// group or buffer.
     fn write<R: Wait>(&self, rt: &R, article: &Accepted) -> Option<Stored<J>>
-        ensures { IfSome result (λ stored. (fresh : Bool)
-            × IsStored article.now.class fresh article.now.text stored) }
+        ensures { IfSome result (IsStored article.now.class article.now.text) }
     {
         let rack = self.shared.racks.get(usize::from(article.group))?;
         let length = article.length();
