@@ -208,7 +208,8 @@ looked w x s now ask answer y part id token asks says shares =
     cc
 
 -- where a token that is fetched comes from it has a text
-comes_known : (w : Terms) (x y : World) (s now : ℕ) (output : Output) (turn : Turns w x s now output y)
+comes_known : (w : Terms) (x y : World) (s now : ℕ) (output : Output)
+    (turn : Turns w x s now output y)
     → Knows x.state → (token : Token) → Comes_from turn.due.ask turn.answer token
     → HasText x.state.kept token
 comes_known w x y s now output turn knows token (IsLooked part id asks says) =
@@ -354,7 +355,8 @@ below_known w σ token text below under e =
     (ne_eqb token.length 0 (λ none. absurd (omega (arith, some, none))))
     (le-ltb buffer.blocks (token.first + size_of token.length) below.inside)
     (lt-leb front place below.below)
-    (sym (ap (λ found. unwrap_or (decided_in w σ token found) (article_of (text_under σ.kept token)))
+    (sym (ap (λ found.
+    unwrap_or (decided_in w σ token found) (article_of (text_under σ.kept token)))
     below.named
     ∙ ap (λ found. unwrap_or (decided_in w σ token (Some buffer)) (article_of found)) under) ∙ e)
   where

@@ -1,5 +1,5 @@
--- What a step does to the claim on a message-id: it stays, or the id wasn't remembered, or an Expire
--- of its shard forgets it.
+-- What a step does to the claim on a message-id: it stays, or the id wasn't remembered, or an
+-- Expire of its shard forgets it.
 use Rattle.std.proofs.Common.{◌≡◌, ◌∙◌, ℕ, ◌+◌, ◌==◌, ◌&&◌, nat_le, nat_lt, Bool, true}
 use Rattle.std.proofs.Common.{false, List, length, Option, None, Some, if◌then◌else◌, refl, sym}
 use Rattle.std.proofs.Common.{ap, subst, eqb-true, leb-true}
@@ -158,8 +158,8 @@ put_state : (x : World) (τ : State) (k : List ℕ) (new : Claim)
     → remembered_at (x.state.claim k) ≡ None
     → (id : List ℕ) → Rests_or (x.state.claim id) (τ.claim id)
 put_state x τ k new puts is_new id =
-    subst (Rests_or (x.state.claim id)) (sym (puts id)) (put_rests x.state.claim k new (IsNew is_new)
-    id)
+    subst (Rests_or (x.state.claim id)) (sym (puts id))
+    (put_rests x.state.claim k new (IsNew is_new) id)
 
 -- a Write
 write_rests : (w : Terms) (x : World) (g now : ℕ) (y : World) → Writes w x g now y → All_rest x y

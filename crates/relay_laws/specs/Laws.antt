@@ -1,6 +1,6 @@
 -- The laws: what holds after every list of events, whatever they were answered.
-use Rattle.std.specs.Prelude.{◌≡◌, ◌≢◌, ℕ, ◌≤◌, ◌==◌, ◌&&◌, nat_eq, Bool, true, false, List, [], ◌∷◌}
-use Rattle.std.specs.Prelude.{map, filter, count_by, bytes_eq, All, None, Some}
+use Rattle.std.specs.Prelude.{◌≡◌, ◌≢◌, ℕ, ◌≤◌, ◌==◌, ◌&&◌, nat_eq, Bool, true, false, List, []}
+use Rattle.std.specs.Prelude.{◌∷◌, map, filter, count_by, bytes_eq, All, None, Some}
 use Rattle.std.specs.List.{list_any}
 use Rattle.news_terms.specs.Command.{Part}
 use Rattle.news_terms.specs.Token.{Token, same_token}

@@ -17,8 +17,8 @@ ghost use Rattle.relay_laws.specs.Forgetting.{KeepsStore, remembered_at};
 ghost use Rattle.relay_laws.specs.Laws.{Always, AlwaysFrom, is_remembered};
 ghost use Rattle.relay_laws.specs.Rules.{IsGoneToken};
 
-/// A step that ends a remembered id is an Expire of its shard, when it is old enough, and leaves the
-/// id unknown.
+/// A step that ends a remembered id is an Expire of its shard, when it is old enough, and leaves
+/// the id unknown.
 pub fn remembered_until_expired()
     ensures { (w : Terms) (x y : World) (event : Event) (output : Output) (id : List ℕ)
         (moment : ℕ) → Step w x event output y → remembered_at (x.state.claim id) ≡ Some moment
@@ -55,8 +55,8 @@ pub fn only_gone_is_forgotten()
         → IsGoneToken w y.state token) }
 {}
 
-/// A Restart, done or refused, keeps all that was begun, stored, gained and accepted, and the number
-/// of the newest session.
+/// A Restart, done or refused, keeps all that was begun, stored, gained and accepted, and the
+/// number of the newest session.
 pub fn restart_keeps()
     ensures { (w : Terms) (x y : World) (output : Output) → Step w x Restart output y
         → KeepsStore x.state y.state }

@@ -1,7 +1,7 @@
 //! Laws of the judgement of articles: of what is accepted no reason applies, and of several reasons
 //! the first in their order is said.
-ghost use Rattle.std.specs.Prelude.{◌≡◌, ◌≢◌, ◌&&◌, ℕ, true, false, List, Option, None, Some, Result};
-ghost use Rattle.std.specs.Prelude.{Ok, Err, length};
+ghost use Rattle.std.specs.Prelude.{◌≡◌, ◌≢◌, ℕ, true, false, List, None, Some};
+ghost use Rattle.std.specs.Prelude.{Result, Ok, Err, length};
 ghost use Rattle.news_terms.specs.Article.{Article, IsArticleText, message_id, newsgroups};
 ghost use Rattle.news_terms.specs.Dates.{date_fault};
 ghost use Rattle.news_terms.specs.Path.{has_identity};
