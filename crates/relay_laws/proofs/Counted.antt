@@ -16,7 +16,7 @@ busy_by v some idle = let none : writes_left v ≡ 0 =
     ap writes_left idle in omega (arith, some, none)
 
 -- a writer of which none is left is idle
-idle_by : (v : Writer) → writes_left v ≡ 0 → v ≡ Idle
+pub idle_by : (v : Writer) → writes_left v ≡ 0 → v ≡ Idle
 idle_by Idle none = refl
 idle_by (Popped job) none = absurd (omega (arith, none))
 idle_by (Writing job token written) none = absurd (omega (arith, none))
@@ -40,8 +40,8 @@ counted w x g (now ∷ moments) x' writes fits =
     omega (arith, less, rest)
 
 -- the pop comes first, and the job's other Writes are left
-popped_left : (w : Terms) (x : World) (g : ℕ) (job : Job) (rest : List Job) (now : ℕ) (y : World)
-    → x.work.writer g ≡ Idle → x.work.queue g ≡ job ∷ rest → Writes w x g now y
+pub popped_left : (w : Terms) (x : World) (g : ℕ) (job : Job) (rest : List Job) (now : ℕ)
+    (y : World) → x.work.writer g ≡ Idle → x.work.queue g ≡ job ∷ rest → Writes w x g now y
     → writes_left (y.work.writer g) ≡ job_size job + 4
 popped_left w x g job rest now y idle queue writes = grind arith
 

@@ -1,10 +1,15 @@
 pub mod AcceptedOnce
 pub mod Accepting
 pub mod BelowFronts
+pub mod BufferFigures
 pub mod ClaimMoves
 pub mod Counted
 pub mod Counts
+pub mod Cuts
+pub mod Expirers
+pub mod FeedFigures
 pub mod FetchPhases
+pub mod Forgotten
 pub mod FoundLive
 pub mod Gained
 pub mod Gone
@@ -21,7 +26,10 @@ pub mod OneDue
 pub mod OneText
 pub mod OneTurn
 pub mod OneWrite
+pub mod OpenBlocks
 pub mod OpenOffers
+pub mod OpenSteps
+pub mod OpenWrites
 pub mod OwnFeeds
 pub mod Permitted
 pub mod ReadFronts
@@ -29,8 +37,10 @@ pub mod Reasons
 pub mod Remembered
 pub mod RisingFronts
 pub mod Runs
+pub mod RunsOfJobs
 pub mod Sessions
 pub mod Settling
 pub mod StoredOnce
 pub mod Tests
+pub mod WriterSteps
 pub mod WritesLeft

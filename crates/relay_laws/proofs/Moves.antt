@@ -94,7 +94,7 @@ session_same σ y s next same = record {
 }
 
 -- what was so in a world holds in the one that it is
-moved : (σ : State) (y z : World) → y ≡ z → SameStore σ z.state → SameStore σ y.state
+pub moved : (σ : State) (y z : World) → y ≡ z → SameStore σ z.state → SameStore σ y.state
 moved σ y z e same = subst (λ (one : World). SameStore σ one.state) (sym e) same
 
 -- a token that was read
@@ -145,7 +145,7 @@ shared_same w x s now (Releases id) answer y e =
 shared_same w x s now Ends answer y e = moved x.state y x e.1 (same_store x.state)
 
 -- a Turn
-turn_same : (w : Terms) (x : World) (s now : ℕ) (output : Output) (x' : World)
+pub turn_same : (w : Terms) (x : World) (s now : ℕ) (output : Output) (x' : World)
     → Turns w x s now output x' → SameStore x.state x'.state
 turn_same w x s now output x' turn =
     moved x.state x' (with_session turn.between s turn.heard.session) turn.after
@@ -199,7 +199,7 @@ front_same w x shard now fronts (Some buffer) = same_store x.state
 front_same w x shard now fronts None = forgotten_same w x shard now fronts 15
 
 -- an Expire
-expired_same : (w : Terms) (x : World) (shard now : ℕ) (expirer : Expirer)
+pub expired_same : (w : Terms) (x : World) (shard now : ℕ) (expirer : Expirer)
     → SameStore x.state (expired w x shard now expirer).state
 expired_same w x shard now (world.Reading fronts) =
     front_same w x shard now fronts (slice_get w.buffers (length fronts))
@@ -217,7 +217,7 @@ restarted_same x failures = record {
 }
 
 -- a Restart
-restart_same : (w : Terms) (x : World) (output : Output) (x' : World) → Restarts w x output x'
+pub restart_same : (w : Terms) (x : World) (output : Output) (x' : World) → Restarts w x output x'
     → SameStore x.state x'.state
 restart_same w x output x' (IsBusy id busy said e) = moved x.state x' x e (same_store x.state)
 restart_same w x output x' (HasNoRoom failures rises said e) =

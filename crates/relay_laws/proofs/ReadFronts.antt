@@ -125,7 +125,7 @@ pushing_stays : (x : World) (job : Job) (room : Bool) (answer : Answer) (y : Wor
 pushing_stays x job true answer y pushes = ap (λ (v : World). v.work.expirer) pushes.1
 pushing_stays x job false answer y pushes = ap (λ (v : World). v.work.expirer) pushes.1
 
-shared_stays : (w : Terms) (x : World) (s now : ℕ) (ask : Ask) (answer : Answer) (y : World)
+pub shared_stays : (w : Terms) (x : World) (s now : ℕ) (ask : Ask) (answer : Answer) (y : World)
     → Shares w x s now ask answer y → y.work.expirer ≡ x.work.expirer
 shared_stays w x s now Rests answer y e = ap (λ (v : World). v.work.expirer) e.1
 shared_stays w x s now GoesOn answer y e = ap (λ (v : World). v.work.expirer) e.1
@@ -146,7 +146,7 @@ shared_stays w x s now (Releases id) answer y e = ap (λ (v : World). v.work.exp
 shared_stays w x s now Ends answer y e = ap (λ (v : World). v.work.expirer) e.1
 
 -- so does a Write
-write_stays : (w : Terms) (x : World) (g now : ℕ) (y : World) → Writes w x g now y
+pub write_stays : (w : Terms) (x : World) (g now : ℕ) (y : World) → Writes w x g now y
     → y.work.expirer ≡ x.work.expirer
 write_stays w x g now y (NoJob idle empty e) = ap (λ (v : World). v.work.expirer) e
 write_stays w x g now y (Pops job rest idle queue e) = ap (λ (v : World). v.work.expirer) e

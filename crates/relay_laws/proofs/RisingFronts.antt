@@ -49,7 +49,7 @@ begin_facts w σ τ job token begins sized =
     record { sound = sound; next = next; index = among.index; among = among.there }
 
 -- the buffer of the place
-abbrev place_at : (w : Terms) (σ : State) (job : Job) (place : Place)
+abbrev pub place_at : (w : Terms) (σ : State) (job : Job) (place : Place)
     → (facts : BeginFacts w σ job place)
     → IsBufferAt w.groups job.article.group facts.index place.buffer
 place_at w σ job place facts =

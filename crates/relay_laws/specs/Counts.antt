@@ -1,9 +1,10 @@
 -- How many Writes a job still takes (docs/PROTOCOL.md, Writers).
-use Rattle.std.specs.Prelude.{◌≡◌, ℕ, ◌+◌, ◌-◌, Bool, true, false, List, [], ◌∷◌, None, Some}
-use Rattle.relay_model.specs.Run.{Event, Open, Bytes, Turn, Write, Break, Expire, Restart}
+use Rattle.std.specs.Prelude.{◌≡◌, ◌≢◌, ℕ, ◌+◌, ◌-◌, ◌==◌, Bool, true, false, List, [], ◌∷◌, None}
+use Rattle.std.specs.Prelude.{Some, if◌then◌else◌}
+use Rattle.relay_model.specs.Run.{Event, Open, Bytes, Turn, Write, Break, Expire, Restart, Step}
 use Rattle.relay_model.specs.Terms.{Terms}
 use Rattle.relay_model.specs.World.{World, Writer, Idle, Popped, Writing, Finished, Failed, Settled}
-use Rattle.relay_model.specs.World.{Forgotten}
+use Rattle.relay_model.specs.World.{Forgotten, Output, Quiet, Sent, Ended, Refuses}
 use Rattle.relay_model.specs.Writers.{Writes, job_size}
 
 -- the Writes that are left where no fault is found: after the pop the begin, one for each block,
@@ -48,3 +49,37 @@ IsOther g (Write h now) = h ≡ g → ⊥
 IsOther g (Break s) = Unit {0}
 IsOther g (Expire shard now) = Unit {0}
 IsOther g Restart = ⊥
+
+-- nothing is said
+abbrev pub is_quiet : Output → Bool
+is_quiet Quiet = true
+is_quiet (Sent session octets) = false
+is_quiet (Ended session octets) = false
+is_quiet (Refuses fault) = false
+
+-- the event is a Write of this group, and wasn't refused
+abbrev pub is_write_done : ℕ → Event → Output → Bool
+is_write_done g (Open s peer) output = false
+is_write_done g (Bytes s piece) output = false
+is_write_done g (Turn s now) output = false
+is_write_done g (Write h now) output = if h == g then is_quiet output else false
+is_write_done g (Break s) output = false
+is_write_done g (Expire shard now) output = false
+is_write_done g Restart output = false
+
+-- how many Writes of this group are done in these events
+abbrev pub writes_done : ℕ → List Event → List Output → ℕ
+writes_done g [] outputs = 0
+writes_done g (event ∷ events) [] = 0
+writes_done g (event ∷ events) (output ∷ outputs) =
+    (if is_write_done g event output then 1 else 0) + writes_done g events outputs
+
+-- a run of any events but a Restart, in each world of which before the last the writer of this
+-- group has a job, and in which it finds no fault
+abbrev pub RunOfJob : Terms → (g : ℕ) → World → List Event → List Output → World → Type 0
+RunOfJob w g x [] [] x' = x' ≡ x
+RunOfJob w g x (event ∷ events) (output ∷ outputs) x' =
+    (mid : World) × Step w x event output mid × (event ≢ Restart) × (x.work.writer g ≢ Idle)
+    × FindsNoFault x mid g × RunOfJob w g mid events outputs x'
+RunOfJob w g x [] (output ∷ outputs) x' = ⊥
+RunOfJob w g x (event ∷ events) [] x' = ⊥

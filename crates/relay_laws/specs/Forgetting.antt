@@ -1,7 +1,8 @@
 -- What the laws of forgetting and of a Restart speak of (docs/PROTOCOL.md, Forgetting, Clean stop
 -- and start).
-use Rattle.std.specs.Prelude.{◌≡◌, ◌≢◌, ℕ, ◌+◌, ◌≤◌, List, [], All, slice_get, Option, None, Some}
-use Rattle.news_terms.specs.Places.{Buffer}
+use Rattle.std.specs.Prelude.{◌≡◌, ◌≢◌, ℕ, ◌+◌, ◌≤◌, List, [], All, length, slice_get, Option, None}
+use Rattle.std.specs.Prelude.{Some}
+use Rattle.news_terms.specs.Places.{Buffer, IsGone, on_line}
 use Rattle.news_terms.specs.Token.{Token}
 use Rattle.relay_model.specs.Claims.{Claim, Unknown, Offered, Storing, Stored, Refused, Passed}
 use Rattle.relay_model.specs.Fetches.{front_of}
@@ -69,3 +70,44 @@ ForgetsGone w x =
     (event : Event) (output : Output) (y : World) (id : List ℕ) (token : Token) (moment : ℕ)
     → Step w x event output y → x.state.claim id ≡ Stored token moment
     → y.state.claim id ≢ Stored token moment → IsGoneToken w x.state token
+
+-- each front that the expirer has read is that of the buffer at its place among all buffers
+pub record IsInOrder (w : Terms) (fronts : List Passed) : Type 0 where
+  pub each : (i : ℕ) (one : Passed) → slice_get fronts i ≡ Some one
+      → (buffer : Buffer) × (slice_get w.buffers i ≡ Some buffer) × (one.buffer ≡ buffer.number)
+
+-- the fronts are read in the order of the buffers, and once ids are forgotten that of each is read
+abbrev pub IsReadInOrder : Terms → Expirer → Type 0
+IsReadInOrder w (Reading fronts) = IsInOrder w fronts
+IsReadInOrder w (Forgetting fronts left) =
+    IsInOrder w fronts × (length w.buffers ≤ length fronts)
+
+-- so is the expirer of this world
+abbrev pub FrontsInOrder : Terms → World → Type 0
+FrontsInOrder w x = IsReadInOrder w x.work.expirer
+
+-- a front that was read of the token's buffer has passed what lies under the token
+pub record IsGoneByRead (fronts : List Passed) (token : Token) : Type 0 where
+  pub index : ℕ
+  pub one : Passed
+  pub read : slice_get fronts index ≡ Some one
+  pub own : one.buffer ≡ token.buffer
+  pub gone : IsGone one.blocks one.front (on_line one.blocks token.cycle token.first)
+
+-- what is remembered so long that it may be forgotten now: what was refused; and what was stored
+-- and is gone by a front that was read
+abbrev pub IsPast : (now remember : ℕ) → List Passed → Claim → Type 0
+IsPast now remember fronts Unknown = ⊥
+IsPast now remember fronts (Offered session) = ⊥
+IsPast now remember fronts (Storing session article stage) = ⊥
+IsPast now remember fronts (Stored token moment) =
+    (moment + remember ≤ now) × IsGoneByRead fronts token
+IsPast now remember fronts (Refused moment) = moment + remember ≤ now
+
+-- an Expire of this shard at this moment may forget the id: it is set after how long ids are
+-- forgotten, the id is of the shard, and its claim is remembered so long
+pub record IsForgettable (w : Terms) (x : World) (shard now : ℕ) (id : List ℕ) : Type 0 where
+  pub remember : ℕ
+  pub asked : w.remember ≡ Some remember
+  pub own : shard_of id ≡ shard
+  pub past : IsPast now remember (fronts_read x.work.expirer) (x.state.claim id)

@@ -1,6 +1,9 @@
 pub mod Calm
 pub mod Counts
+pub mod Cuts
+pub mod Figures
 pub mod Forgetting
 pub mod Laws
+pub mod Opens
 pub mod Reasons
 pub mod Rules

@@ -1,19 +1,22 @@
 //! Laws of forgetting and of a Restart: what ends a remembered message-id, that its article is gone
 //! then, and what a Restart keeps and ends.
 ghost use Rattle.std.specs.Prelude.{◌≡◌, ◌≢◌, ◌≤◌, ◌<◌, ◌+◌, ℕ, List, Some, None, true, false};
-ghost use Rattle.std.specs.Prelude.{slice_get};
+ghost use Rattle.std.specs.Prelude.{length, slice_get, ◌++◌, ◌∷◌, []};
 ghost use Rattle.news_terms.specs.Places.{Buffer};
 ghost use Rattle.news_terms.specs.Token.{Token};
-ghost use Rattle.relay_model.specs.Claims.{Unknown, Stored, is_storing};
+ghost use Rattle.relay_model.specs.Claims.{Passed, Unknown, Stored, is_storing};
+ghost use Rattle.relay_model.specs.Fetches.{front_of};
 ghost use Rattle.relay_model.specs.Invariants.{IsWell};
 ghost use Rattle.relay_model.specs.Run.{Event, Expire, Restart, Step};
 ghost use Rattle.relay_model.specs.State.{Session, Ended, in_phase};
 ghost use Rattle.relay_model.specs.Terms.{Terms};
 ghost use Rattle.relay_model.specs.World.{World, Output, Quiet, Refuses, Fault, NotIdle};
-ghost use Rattle.relay_model.specs.World.{NotRestarted, empty_world};
+ghost use Rattle.relay_model.specs.World.{NotRestarted, Reading, Forgetting};
+ghost use Rattle.relay_model.specs.World.{empty_world};
 ghost use Rattle.relay_facts.specs.Sound.{IsSound};
 ghost use Rattle.relay_laws.specs.Forgetting.{ForgetsGone, ForgetsOld, FrontsAreRead, IsAtRest};
-ghost use Rattle.relay_laws.specs.Forgetting.{KeepsStore, remembered_at};
+ghost use Rattle.relay_laws.specs.Forgetting.{FrontsInOrder, IsForgettable, KeepsStore};
+ghost use Rattle.relay_laws.specs.Forgetting.{fronts_read, remembered_at};
 ghost use Rattle.relay_laws.specs.Laws.{Always, AlwaysFrom, is_remembered};
 ghost use Rattle.relay_laws.specs.Rules.{IsGoneToken};
 
@@ -53,6 +56,41 @@ pub fn only_gone_is_forgotten()
         → (id : List ℕ) (token : Token) (moment : ℕ) → x.state.claim id ≡ Stored token moment
         → AlwaysFrom w x (λ y. y.state.claim id ≢ Stored token moment
         → IsGoneToken w y.state token) }
+{}
+
+/// The fronts are read in the order of the buffers, each as it stands then, and all of them before
+/// anything is forgotten.
+pub fn fronts_are_read_in_order()
+    ensures next { (w : Terms) (x y : World) (shard now : ℕ) (fronts : List Passed)
+        (buffer : Buffer) → x.work.expirer ≡ Reading fronts
+        → slice_get w.buffers (length fronts) ≡ Some buffer
+        → Step w x (Expire shard now) Quiet y
+        → y.work.expirer ≡ Reading (fronts ++ record {
+          buffer = buffer.number;
+          blocks = buffer.blocks;
+          front = front_of w x.state buffer;
+        } ∷ []) }
+    ensures begins { (w : Terms) (failures : ℕ → ℕ) → FrontsInOrder w (empty_world failures) }
+    ensures kept { (w : Terms) (x y : World) (event : Event) (output : Output)
+        → FrontsInOrder w x → Step w x event output y → FrontsInOrder w y }
+    ensures run { (w : Terms) → Always w (FrontsInOrder w) }
+{}
+
+/// An Expire that is done once the front of each buffer is read forgets an id exactly where the
+/// rule says: of its shard, old enough, and either refused, or stored and gone by a front that was
+/// read.
+pub fn old_and_gone_is_forgotten()
+    ensures forgotten { (w : Terms) (x y : World) (shard now : ℕ) (id : List ℕ) → IsSound w
+        → FrontsInOrder w x → length w.buffers ≤ length (fronts_read x.work.expirer)
+        → Step w x (Expire shard now) Quiet y → IsForgettable w x shard now id
+        → y.state.claim id ≡ Unknown }
+    ensures kept { (w : Terms) (x y : World) (shard now : ℕ) (id : List ℕ)
+        → Step w x (Expire shard now) Quiet y → ¬ IsForgettable w x shard now id
+        → y.state.claim id ≡ x.state.claim id }
+    ensures stage { (w : Terms) → IsSound w → (x y : World) (shard now left : ℕ)
+        (fronts : List Passed) (id : List ℕ) → FrontsInOrder w x
+        → x.work.expirer ≡ Forgetting fronts left → Step w x (Expire shard now) Quiet y
+        → IsForgettable w x shard now id → y.state.claim id ≡ Unknown }
 {}
 
 /// A Restart, done or refused, keeps all that was begun, stored, gained and accepted, and the

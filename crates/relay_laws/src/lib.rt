@@ -5,8 +5,10 @@
 
 pub mod claims;
 pub mod devices;
+pub mod figures;
 pub mod forgetting;
 pub mod judging;
+pub mod places;
 pub mod rules;
 pub mod stores;
 pub mod writes;

@@ -7,6 +7,8 @@ ghost use Rattle.relay_facts.specs.Sound.{IsSound};
 ghost use Rattle.relay_laws.specs.Laws.{Always, AlwaysFrom, FindsGone};
 ghost use Rattle.relay_laws.specs.Laws.{AcceptsStored, GainsOnce, FindsUntilGone};
 ghost use Rattle.relay_laws.specs.Laws.{OneTextAPlace, OneTextAToken};
+ghost use Rattle.relay_laws.specs.Opens.{BeginsElsewhere, OpensAreFree, OpensAreNewest};
+ghost use Rattle.relay_laws.specs.Opens.{OpensKeepFronts};
 ghost use Rattle.relay_laws.specs.Rules.{IsGoneToken};
 
 /// A token that is gone stays gone, from every world on that a run may lead to: no front falls.
@@ -33,4 +35,13 @@ pub fn gained_once()
 /// the whole article, or it is gone.
 pub fn found_until_gone()
     ensures { (w : Terms) → IsSound w → Always w (FindsUntilGone w) }
+{}
+
+/// Under the blocks of a write that is open lies no live article, it is the newest that was begun
+/// in its buffer, and while it is open nothing else is begun there.
+pub fn open_writes_are_alone()
+    ensures free { (w : Terms) → IsSound w → Always w (OpensAreFree w) }
+    ensures newest { (w : Terms) → IsSound w → Always w (OpensAreNewest w) }
+    ensures fronts { (w : Terms) → IsSound w → Always w (OpensKeepFronts w) }
+    ensures begins { (w : Terms) → IsSound w → Always w (BeginsElsewhere w) }
 {}

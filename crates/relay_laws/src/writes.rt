@@ -1,13 +1,14 @@
 //! Laws of writers: how many Writes a job takes, and that a Write has one outcome.
 ghost use Rattle.std.specs.Prelude.{◌≡◌, ◌≢◌, ◌+◌, ◌<◌, ◌≤◌, ◌∷◌, [], ℕ, List, length};
-ghost use Rattle.relay_model.specs.Run.{Event, Step};
+ghost use Rattle.relay_model.specs.Run.{Event, Step, Write};
 ghost use Rattle.relay_model.specs.State.{Job};
 ghost use Rattle.relay_model.specs.Terms.{Terms};
-ghost use Rattle.relay_model.specs.World.{World, Output, Idle, Popped, with_failures};
+ghost use Rattle.relay_model.specs.World.{World, Output, Quiet, Idle, Popped, with_failures};
 ghost use Rattle.relay_model.specs.Writers.{Writes, job_size};
 ghost use Rattle.relay_facts.specs.Sound.{IsSound};
 ghost use Rattle.relay_laws.specs.Laws.{Always, WritesWithin};
-ghost use Rattle.relay_laws.specs.Counts.{FindsNoFault, IsOther, WritesInTurn, writes_left};
+ghost use Rattle.relay_laws.specs.Counts.{FindsNoFault, IsOther, RunOfJob, WritesInTurn};
+ghost use Rattle.relay_laws.specs.Counts.{writes_done, writes_left};
 
 /// A Write that finds a job leaves one Write less, or fewer where it finds a fault. One that finds
 /// none changes nothing.
@@ -35,6 +36,25 @@ pub fn writes_of_a_job()
         (moments : List ℕ) → x.work.writer g ≡ Idle → x.work.queue g ≡ job ∷ rest
         → WritesInTurn w x g moments x' → 1 ≤ length moments → length moments < job_size job + 5
         → x'.work.writer g ≢ Idle }
+{}
+
+/// In every run, whatever other events stand between, a job of n blocks without a fault takes n + 5
+/// Writes of its group that find it, from its pop to its answer, and fewer before the answer.
+pub fn writes_along_a_run()
+    ensures left { (w : Terms) (x x' : World) (g : ℕ) (events : List Event)
+        (outputs : List Output) → RunOfJob w g x events outputs x'
+        → writes_done g events outputs + writes_left (x'.work.writer g)
+        ≡ writes_left (x.work.writer g) }
+    ensures all { (w : Terms) (x y x' : World) (g now : ℕ) (job : Job) (rest : List Job)
+        (events : List Event) (outputs : List Output) → x.work.writer g ≡ Idle
+        → x.work.queue g ≡ job ∷ rest → Step w x (Write g now) Quiet y
+        → RunOfJob w g y events outputs x' → x'.work.writer g ≡ Idle
+        → writes_done g (Write g now ∷ events) (Quiet ∷ outputs) ≡ job_size job + 5 }
+    ensures fewer { (w : Terms) (x y x' : World) (g now : ℕ) (job : Job) (rest : List Job)
+        (events : List Event) (outputs : List Output) → x.work.writer g ≡ Idle
+        → x.work.queue g ≡ job ∷ rest → Step w x (Write g now) Quiet y
+        → RunOfJob w g y events outputs x' → x'.work.writer g ≢ Idle
+        → writes_done g (Write g now ∷ events) (Quiet ∷ outputs) < job_size job + 5 }
 {}
 
 /// Only the Writes of a group move its writer, and a Restart.
