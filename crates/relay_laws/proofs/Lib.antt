@@ -14,6 +14,7 @@ pub mod FoundLive
 pub mod Gained
 pub mod Gone
 pub mod GroupFronts
+pub mod JobsTold
 pub mod Judgements
 pub mod KnownTokens
 pub mod Moves

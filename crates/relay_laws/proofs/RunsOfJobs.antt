@@ -49,7 +49,7 @@ done_and_left w x x' g (event ∷ events) (output ∷ outputs) run =
     omega (arith, one, rest)
 
 -- a Write of the group that is answered quietly is done
-own_done : (g now : ℕ) → is_write_done g (Write g now) Quiet ≡ true
+pub own_done : (g now : ℕ) → is_write_done g (Write g now) Quiet ≡ true
 own_done g now = ap (λ (b : Bool). cond b true false) (eq-eqb g g refl)
 
 -- the Write that pops a job leaves all its others

@@ -1,9 +1,10 @@
 //! Laws of writers: how many Writes a job takes, and that a Write has one outcome.
-ghost use Rattle.std.specs.Prelude.{◌≡◌, ◌≢◌, ◌+◌, ◌<◌, ◌≤◌, ◌∷◌, [], ℕ, List, length};
+ghost use Rattle.std.specs.Prelude.{◌≡◌, ◌≢◌, ◌+◌, ◌<◌, ◌≤◌, ◌∷◌, [], ℕ, List, length, Some};
 ghost use Rattle.relay_model.specs.Run.{Event, Step, Write};
 ghost use Rattle.relay_model.specs.State.{Job};
 ghost use Rattle.relay_model.specs.Terms.{Terms};
-ghost use Rattle.relay_model.specs.World.{World, Output, Quiet, Idle, Popped, with_failures};
+ghost use Rattle.relay_model.specs.World.{World, Output, Quiet, Idle, Popped, IsKept};
+ghost use Rattle.relay_model.specs.World.{with_failures};
 ghost use Rattle.relay_model.specs.Writers.{Writes, job_size};
 ghost use Rattle.relay_facts.specs.Sound.{IsSound};
 ghost use Rattle.relay_laws.specs.Laws.{Always, WritesWithin};
@@ -39,7 +40,8 @@ pub fn writes_of_a_job()
 {}
 
 /// In every run, whatever other events stand between, a job of n blocks without a fault takes n + 5
-/// Writes of its group that find it, from its pop to its answer, and fewer before the answer.
+/// Writes of its group that find it, from its pop to its answer, and fewer before the answer. The
+/// answer is that it was kept, to the session that brought it.
 pub fn writes_along_a_run()
     ensures left { (w : Terms) (x x' : World) (g : ℕ) (events : List Event)
         (outputs : List Output) → RunOfJob w g x events outputs x'
@@ -55,6 +57,11 @@ pub fn writes_along_a_run()
         → x.work.queue g ≡ job ∷ rest → Step w x (Write g now) Quiet y
         → RunOfJob w g y events outputs x' → x'.work.writer g ≢ Idle
         → writes_done g (Write g now ∷ events) (Quiet ∷ outputs) < job_size job + 5 }
+    ensures told { (w : Terms) (x y x' : World) (g now : ℕ) (job : Job) (rest : List Job)
+        (events : List Event) (outputs : List Output) → x.work.writer g ≡ Idle
+        → x.work.queue g ≡ job ∷ rest → Step w x (Write g now) Quiet y
+        → RunOfJob w g y events outputs x' → x'.work.writer g ≡ Idle
+        → x'.work.slot job.session ≡ Some IsKept }
 {}
 
 /// Only the Writes of a group move its writer, and a Restart.
