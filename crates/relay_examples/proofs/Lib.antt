@@ -1,5 +1,6 @@
 mod Articles
 mod Dues
+mod FailedReads
 mod Moments
 mod Playing
 mod Premises

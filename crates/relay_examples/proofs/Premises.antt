@@ -1,4 +1,5 @@
 -- What has to be known before something can be played: nothing, or a statement.
+use Rattle.std.proofs.Common.{◌≡◌, refl}
 
 -- nothing, or a statement
 pub data Premise : Type 1 where
@@ -26,3 +27,8 @@ parted (Both one other) rest has =
     let first = parted one (With other rest) has in
     let second = parted other rest first.1 in
     ((first.0, second.0), second.1)
+
+-- five statements that computing shows, before the rest
+pub five : {A B C D E R : Type 0} {a : A} {b : B} {c : C} {d : D} {e : E} → R
+    → (a ≡ a) × ((b ≡ b) × ((c ≡ c) × ((d ≡ d) × ((e ≡ e) × R))))
+five rest = (refl, (refl, (refl, (refl, (refl, rest)))))

@@ -22,7 +22,8 @@ abbrev pub taken_in_turn : State
 taken_in_turn =
     record empty_state {
       begun = λ group. 1 ∷ 3 ∷ 1 ∷ 3 ∷ 1 ∷ 3 ∷ [];
-      kept = record { token = record (three_blocks_at 1 0) { buffer = 1 }; id = []; text = [] } ∷ [];
+      kept =
+          record { token = record (three_blocks_at 1 0) { buffer = 1 }; id = []; text = [] } ∷ [];
     }
 
 -- a feed that gained these tokens, none of which was taken

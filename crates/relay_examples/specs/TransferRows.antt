@@ -1,12 +1,12 @@
 -- Rows on what becomes of articles.
-use Rattle.std.specs.Prelude.{ℕ, ◌+◌, List, [], ◌∷◌, ◌++◌, codes}
+use Rattle.std.specs.Prelude.{ℕ, List, [], ◌∷◌, ◌++◌, codes}
 use Rattle.std.specs.Str.{byte}
 use Rattle.news_terms.specs.Article.{article_text, worked_article}
 use Rattle.news_terms.specs.Reply.{TokenFollows, reply_text}
 use Rattle.news_terms.specs.Token.{Token}
 use Rattle.relay_model.specs.Run.{Event, Open, Bytes, Turn, Write, Break}
 use Rattle.relay_model.specs.World.{Output, Quiet, Sent, Ended, Refuses, NoSession}
-use Rattle.relay_examples.specs.Judgements.{stored_plain, other_fields}
+use Rattle.relay_examples.specs.Judgements.{stored_plain}
 use Rattle.relay_examples.specs.Rows.{block_of, greeted, turns, writes, quiet, both_open}
 use Rattle.relay_examples.specs.Rows.{both_greeted}
 use Rattle.relay_examples.specs.Terms.{now}

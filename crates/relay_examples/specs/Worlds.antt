@@ -186,8 +186,8 @@ remembering failures =
       };
     }
 
--- three articles were begun in the second buffer, so that the first there is overwritten, and one in
--- the first; the ids of the first two there and of the one here are stored
+-- three articles were begun in the second buffer, so that the first there is overwritten, and one
+-- in the first; the ids of the first two there and of the one here are stored
 abbrev pub remembering_two : (failures : ℕ → ℕ) → World
 remembering_two failures =
     record (empty_world failures) {

@@ -15,7 +15,8 @@ pub fn of_feeds()
         ≡ record { waiting = 2; gained = 3; overwritten = 1 } }
     ensures taken { feed_figures 2 (record { gained = rows.three_tokens; passed = 2; taken = 2 })
         ≡ record { waiting = 1; gained = 3; overwritten = 0 } }
-    ensures all_taken { feed_figures 2 (record { gained = rows.three_tokens; passed = 3; taken = 2 })
+    ensures all_taken { feed_figures 2
+        (record { gained = rows.three_tokens; passed = 3; taken = 2 })
         ≡ record { waiting = 0; gained = 3; overwritten = 1 } }
 {}
 

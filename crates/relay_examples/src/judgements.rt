@@ -24,7 +24,8 @@ pub fn reasons_in_order()
         ≡ Err TooLarge }
 {}
 
-/// An article may be as old as the cutoff says, and its date a day ahead; a second more is too much.
+/// An article may be as old as the cutoff says, and its date a day ahead; a second more is too
+/// much.
 pub fn dates_in_time()
     ensures oldest { judged k1 0 (codes "<a@x>") (now + 864_000) rows.plain
         ≡ Ok (rows.accepted_plain 1 0) }

@@ -73,16 +73,12 @@ pub fn failed_write()
         rows.fourth_fails rows.fourth_fails_replies }
 {}
 
-/// A read may fail: 403.
+/// A read may fail, by message-id and by token: 403.
 pub fn failed_read()
-    ensures { (failures after : ℕ → ℕ) (one two : List ℕ) → HasFailedAt 0 failures after
+    ensures by_id { (failures after : ℕ → ℕ) (one two : List ℕ) → HasFailedAt 0 failures after
         → (y : World) × Step k1 (reading_last failures one two) (Turn 2 now)
         (Sent 2 (codes "403 Device fault\r\n")) y }
-{}
-
-/// So may one of a token: 403.
-pub fn failed_read_by_token()
-    ensures { (failures after : ℕ → ℕ) (one two : List ℕ) → HasFailedAt 0 failures after
+    ensures by_token { (failures after : ℕ → ℕ) (one two : List ℕ) → HasFailedAt 0 failures after
         → (y : World) × Step k1 (reading_by_token failures one two) (Turn 2 now)
         (Sent 2 (codes "403 Device fault\r\n")) y }
 {}

@@ -14,6 +14,7 @@ use Rattle.relay_examples.proofs.feeds.kept_from_feed.Goals as goal
 
 pub returns : goal.returns
 unfolding digits
-returns c = λ failures. are_answered barring_all (empty_world failures) (replicate 5 NoHint ++ ReadsAs (worked_article (byte "a") 1) ∷ [])
+returns c = λ failures. are_answered barring_all (empty_world failures)
+    (replicate 5 NoHint ++ ReadsAs (worked_article (byte "a") 1) ∷ [])
     classed rows.kept_from_feed_replies
     (article_a_is, (refl, (refl, (refl, (refl, (refl, tt)))))) refl refl

@@ -13,6 +13,8 @@ use Rattle.relay_examples.proofs.feeds.sent_again.Goals as goal
 
 pub returns : goal.returns
 unfolding digits
-returns c = λ failures. are_answered k1 (empty_world failures) (replicate 6 NoHint ++ ReadsAs (worked_article (byte "a") 1) ∷ replicate 11 NoHint ++ ReadsAs (worked_article (byte "a") 1) ∷ [])
+returns c = λ failures. are_answered k1 (empty_world failures)
+    (replicate 6 NoHint ++ ReadsAs (worked_article (byte "a") 1) ∷ replicate 11 NoHint
+    ++ ReadsAs (worked_article (byte "a") 1) ∷ [])
     rows.sent_again rows.sent_again_replies
     (article_a_is, (refl, (refl, (refl, (refl, (refl, (article_a_is, tt))))))) refl refl

@@ -5,14 +5,14 @@ use Rattle.relay_model.specs.World.{empty_world}
 use Rattle.relay_examples.specs.LineRows as rows
 use Rattle.std.specs.Prelude.{replicate}
 use Rattle.relay_examples.specs.Terms.{k1}
-use Rattle.relay_examples.proofs.Articles.{stored_a_is, stored_a}
 use Rattle.relay_examples.proofs.Articles.{article_a_is}
 use Rattle.relay_examples.proofs.Dues.{NoHint, ReadsAs}
 use Rattle.relay_examples.proofs.Playing.{are_answered}
 use Rattle.relay_examples.proofs.rows.at_any_time.Goals as goal
 
 pub returns-clause-octets : goal.returns-clause-octets
-returns-clause-octets c = λ failures. are_answered k1 (empty_world failures) (replicate 6 NoHint ++ ReadsAs (worked_article (byte "a") 1) ∷ [])
+returns-clause-octets c = λ failures. are_answered k1 (empty_world failures)
+    (replicate 6 NoHint ++ ReadsAs (worked_article (byte "a") 1) ∷ [])
     rows.octets_at_any_time rows.octets_replies
     (article_a_is, (refl, (refl, (refl, (refl, (refl, tt)))))) refl refl
 

@@ -1,11 +1,7 @@
-use Rattle.std.proofs.Common.{[], ◌∷◌, ◌++◌, refl}
-use Rattle.std.specs.Str.{byte}
-use Rattle.news_terms.specs.Article.{worked_article}
+use Rattle.std.proofs.Common.{[], refl}
 use Rattle.relay_model.specs.World.{empty_world}
 use Rattle.relay_examples.specs.LineRows as rows
 use Rattle.relay_examples.specs.Terms.{k1}
-use Rattle.relay_examples.proofs.Articles.{article_a_is}
-use Rattle.relay_examples.proofs.Dues.{NoHint, ReadsAs}
 use Rattle.relay_examples.proofs.Playing.{are_answered}
 use Rattle.relay_examples.proofs.rows.long_line.Goals as goal
 

@@ -9,7 +9,8 @@ use Rattle.relay_examples.proofs.states.goes_on_again.Goals as goal
 
 pub returns-clause-forgetting : goal.returns-clause-forgetting
 returns-clause-forgetting c = λ failures. are_answered forgetting (remembering failures) []
-    states.started_forgetting states.started_forgetting_replies (none_storing failures, tt) refl refl
+    states.started_forgetting states.started_forgetting_replies
+    (none_storing failures, tt) refl refl
 
 pub returns-clause-feeding : goal.returns-clause-feeding
 unfolding digits

@@ -1,8 +1,8 @@
-use Rattle.std.proofs.Common.{◌≡◌, ◌∙◌, ℕ, Bool, true, false, refl, sym, ap, true≢false}
+use Rattle.std.proofs.Common.{◌≡◌, ◌∙◌, ℕ, refl, sym, true≢false}
 use Rattle.relay_model.specs.Run.{Step, IsRefused, WantsMemory, IsDone, Restart, Restarts, IsBusy}
 use Rattle.relay_model.specs.Run.{HasNoRoom, HasNot}
 use Rattle.relay_model.specs.Run as runs
-use Rattle.relay_model.specs.World.{World, Output, Refuses, NotIdle, NotRestarted, HasFailedAt}
+use Rattle.relay_model.specs.World.{World, Output, Refuses, NotIdle}
 use Rattle.relay_examples.specs.Terms.{k1, buffer_a}
 use Rattle.relay_examples.specs.Worlds.{remembering}
 use Rattle.relay_examples.proofs.Unstored.{none_storing}

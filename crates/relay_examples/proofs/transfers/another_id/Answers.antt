@@ -11,6 +11,7 @@ use Rattle.relay_examples.proofs.Playing.{are_answered}
 use Rattle.relay_examples.proofs.transfers.another_id.Goals as goal
 
 pub returns : goal.returns
-returns c = λ failures. are_answered k1 (empty_world failures) (replicate 4 NoHint ++ ReadsAs (worked_article (byte "a") 1) ∷ [])
+returns c = λ failures. are_answered k1 (empty_world failures)
+    (replicate 4 NoHint ++ ReadsAs (worked_article (byte "a") 1) ∷ [])
     rows.another_id rows.another_id_replies
     (article_a_is, tt) refl refl

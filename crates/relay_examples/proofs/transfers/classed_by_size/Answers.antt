@@ -3,7 +3,6 @@ use Rattle.std.specs.Str.{byte}
 use Rattle.std.specs.Fmt.{digits}
 use Rattle.news_terms.specs.Article.{worked_article}
 use Rattle.relay_model.specs.World.{empty_world}
-use Rattle.relay_examples.specs.TransferRows as rows
 use Rattle.std.specs.Prelude.{replicate}
 use Rattle.relay_examples.specs.OtherTerms.{by_size}
 use Rattle.relay_examples.specs.Rows.{classed, classed_replies}
@@ -14,6 +13,7 @@ use Rattle.relay_examples.proofs.transfers.classed_by_size.Goals as goal
 
 pub returns : goal.returns
 unfolding digits
-returns c = λ failures. are_answered by_size (empty_world failures) (replicate 5 NoHint ++ ReadsAs (worked_article (byte "a") 1) ∷ [])
+returns c = λ failures. are_answered by_size (empty_world failures)
+    (replicate 5 NoHint ++ ReadsAs (worked_article (byte "a") 1) ∷ [])
     classed classed_replies
     (article_a_is, (refl, (refl, (refl, (refl, (refl, tt)))))) refl refl

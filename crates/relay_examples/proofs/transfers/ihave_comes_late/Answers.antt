@@ -11,6 +11,8 @@ use Rattle.relay_examples.proofs.Playing.{are_answered}
 use Rattle.relay_examples.proofs.transfers.ihave_comes_late.Goals as goal
 
 pub returns : goal.returns
-returns c = λ failures. are_answered k1 (empty_world failures) (replicate 6 NoHint ++ ReadsAs (worked_article (byte "a") 1) ∷ replicate 9 NoHint ++ ReadsAs (worked_article (byte "a") 1) ∷ [])
+returns c = λ failures. are_answered k1 (empty_world failures)
+    (replicate 6 NoHint ++ ReadsAs (worked_article (byte "a") 1) ∷ replicate 9 NoHint
+    ++ ReadsAs (worked_article (byte "a") 1) ∷ [])
     rows.ihave_comes_late rows.ihave_comes_late_replies
     (article_a_is, (refl, (refl, (refl, (refl, (refl, (article_a_is, tt))))))) refl refl

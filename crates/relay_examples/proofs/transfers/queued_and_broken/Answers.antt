@@ -11,6 +11,7 @@ use Rattle.relay_examples.proofs.Playing.{are_answered}
 use Rattle.relay_examples.proofs.transfers.queued_and_broken.Goals as goal
 
 pub returns : goal.returns
-returns c = λ failures. are_answered k1 (empty_world failures) (replicate 5 NoHint ++ ReadsAs (worked_article (byte "a") 1) ∷ [])
+returns c = λ failures. are_answered k1 (empty_world failures)
+    (replicate 5 NoHint ++ ReadsAs (worked_article (byte "a") 1) ∷ [])
     rows.queued_and_broken rows.queued_and_broken_replies
     (article_a_is, (refl, (refl, (refl, (refl, (refl, tt)))))) refl refl

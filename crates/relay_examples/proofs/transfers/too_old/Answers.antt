@@ -12,11 +12,13 @@ use Rattle.relay_examples.proofs.Playing.{are_answered}
 use Rattle.relay_examples.proofs.transfers.too_old.Goals as goal
 
 pub returns-clause-not : goal.returns-clause-not
-returns-clause-not c = λ failures. are_answered k1 (empty_world failures) (replicate 3 NoHint ++ ReadsAs (worked_article (byte "a") 1) ∷ [])
+returns-clause-not c = λ failures. are_answered k1 (empty_world failures)
+    (replicate 3 NoHint ++ ReadsAs (worked_article (byte "a") 1) ∷ [])
     (rows.read_at (now + 864_000)) rows.taken_replies
     (article_a_is, tt) refl refl
 
 pub returns-clause-is : goal.returns-clause-is
-returns-clause-is c = λ failures. are_answered k1 (empty_world failures) (replicate 3 NoHint ++ ReadsAs (worked_article (byte "a") 1) ∷ [])
+returns-clause-is c = λ failures. are_answered k1 (empty_world failures)
+    (replicate 3 NoHint ++ ReadsAs (worked_article (byte "a") 1) ∷ [])
     (rows.read_at (now + 864_001)) rows.refused_replies
     (article_a_is, tt) refl refl

@@ -8,10 +8,11 @@ use Rattle.std.specs.Prelude.{replicate}
 use Rattle.relay_examples.specs.OtherTerms.{two_groups}
 use Rattle.relay_examples.proofs.Dues.{NamesToken}
 use Rattle.relay_examples.proofs.Articles.{article_b_is}
-use Rattle.news_terms.specs.Token.{Token, IsToken}
+use Rattle.news_terms.specs.Token.{IsToken}
 use Rattle.relay_examples.proofs.Articles.{article_a_is}
 use Rattle.relay_examples.proofs.Dues.{NoHint, ReadsAs}
 use Rattle.relay_examples.proofs.Playing.{are_answered}
+use Rattle.relay_examples.proofs.Premises.{five}
 use Rattle.relay_examples.proofs.transfers.two_writers.Goals as goal
 
 -- both are tokens
@@ -35,6 +36,10 @@ token_of_b_is = record {
 
 pub returns : goal.returns
 unfolding digits
-returns c = λ failures. are_answered two_groups (empty_world failures) (replicate 8 NoHint ++ ReadsAs (worked_article (byte "a") 1) ∷ replicate 2 NoHint ++ ReadsAs (worked_article (byte "b") 2) ∷ replicate 16 NoHint ++ NamesToken rows.token_of_b ∷ NamesToken rows.token_of_a ∷ [])
+returns c = λ failures. are_answered two_groups (empty_world failures)
+    (replicate 8 NoHint ++ ReadsAs (worked_article (byte "a") 1) ∷ replicate 2 NoHint
+    ++ ReadsAs (worked_article (byte "b") 2) ∷ replicate 16 NoHint
+    ++ NamesToken rows.token_of_b ∷ NamesToken rows.token_of_a ∷ [])
     rows.two_writers rows.two_writers_replies
-    (article_a_is, (article_b_is, (refl, (refl, (refl, (refl, (refl, (refl, (refl, (refl, (refl, (refl, ((token_of_b_is, refl), ((token_of_a_is, refl), tt)))))))))))))) refl refl
+    (article_a_is, (article_b_is, five (five ((token_of_b_is, refl), ((token_of_a_is, refl), tt)))))
+    refl refl

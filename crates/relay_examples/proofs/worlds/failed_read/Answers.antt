@@ -1,24 +1,13 @@
 use Rattle.std.proofs.Common.{refl}
-use Rattle.relay_model.specs.Fetches.{NotRead}
-use Rattle.relay_model.specs.Run.{IsDone}
-use Rattle.relay_model.specs.Shares.{HasNotRead, ToRead}
-use Rattle.news_terms.specs.Reply.{DeviceFault}
+use Rattle.relay_examples.specs.Terms.{k1, now}
+use Rattle.relay_examples.specs.Worlds.{reading_last, reading_by_token}
+use Rattle.relay_examples.proofs.FailedReads.{may_fail}
 use Rattle.relay_examples.proofs.worlds.failed_read.Goals as goal
 
-pub returns : goal.returns
-returns c = λ failures after one two failed. (
-  _,
-  IsDone refl (record {
-    session = _;
-    there = refl;
-    due = _;
-    is_due = refl;
-    answer = ToRead NotRead;
-    between = _;
-    shares = HasNotRead after refl failed refl refl;
-    heard = _;
-    hears = (NotRead, refl, (DeviceFault, refl, refl));
-    output_is = refl;
-    after = refl;
-  }),
-)
+pub returns-clause-by_id : goal.returns-clause-by_id
+returns-clause-by_id c = λ failures after one two failed.
+    may_fail k1 (reading_last failures one two) 2 now _ _ _ _ after refl refl refl refl failed
+
+pub returns-clause-by_token : goal.returns-clause-by_token
+returns-clause-by_token c = λ failures after one two failed.
+    may_fail k1 (reading_by_token failures one two) 2 now _ _ _ _ after refl refl refl refl failed
