@@ -1,6 +1,7 @@
 -- What is due of a session that reads a command, by the line at the front of its unread octets.
-use Rattle.std.proofs.Common.{arith, ◌≡◌, ◌∙◌, ◌+◌, ◌<◌, ap, refl, sym, subst, inr, take, drop, ℕ}
+use Rattle.std.proofs.Common.{arith, ◌≡◌, ◌∙◌, ◌+◌, nat_lt, true, false, ap, refl, sym, subst, inr, take, drop, ℕ}
 use Rattle.std.proofs.Common.{List, Option, Result, Ok}
+use Rattle.std.proofs.lemmas.Bool.{ltb-true, ltb-false}
 use Rattle.cyc_token.specs.Token.{token_view}
 use Rattle.news_terms.specs.Command.{Command, CommandFault, command_of}
 use Rattle.news_terms.specs.Command as commands
@@ -13,7 +14,7 @@ use Rattle.relay_model.specs.Asks as asks
 use Rattle.relay_model.specs.State as model
 use Rattle.relay_model.specs.State.{in_phase, with_unread}
 use Rattle.relay_model.specs.Terms.{Terms}
-use Rattle.stream_cut.specs.Stream.{ShowsLine}
+use Rattle.stream_cut.specs.Stream.{Stream, ShowsLine}
 use Rattle.peer_session.specs.Answers.{AsksOf}
 use Rattle.peer_session.specs.Asking.{AskedFor, IsAskedBy, IsFetching, IsLeaving, IsLooking}
 use Rattle.peer_session.specs.Asking.{IsSaying, IsNone, IsToken}
@@ -190,8 +191,13 @@ rests_ready w session now ready incomplete =
 
 -- where a command is due all unread octets are kept
 pub never_passing : (w : Terms) (session : Session) (now : ℕ) (one : CodeDue)
-    → session.phase ≡ phases.Ready → 0 < session.cutter.dropped → Plans w session now one session
+    → session.phase ≡ phases.Ready → nat_lt 0 session.cutter.dropped ≡ true
+    → Plans w session now one session
 never_passing w session now one ready passing m gathered stands =
     let kept : session.cutter.dropped ≡ 0 =
     subst (λ phase. HasAll phase session.cutter.dropped) ready stands.has_all in
-    absurd (omega (arith, kept, passing))
+    absurd (omega (arith, kept, ltb-true 0 session.cutter.dropped passing))
+
+-- where no block is passed all unread octets are kept
+pub not_passing : (stream : Stream) → nat_lt 0 stream.dropped ≡ false → stream.dropped ≡ 0
+not_passing stream not = omega (arith, ltb-false 0 stream.dropped not)

@@ -1,7 +1,8 @@
 -- The session of the definitions that a session of the code stands for.
 use Rattle.std.specs.Prelude.{◌≡◌, ℕ, ◌+◌, ◌≤◌, ◌++◌, length, Bool, true, false, List, [], drop}
-use Rattle.std.specs.Prelude.{option_map}
+use Rattle.std.specs.Prelude.{Option, None, Some, option_map}
 use Rattle.buffer_group.specs.Jobs.{article_view, job_view}
+use Rattle.buffer_group.specs.declared.job.Job.{Job}
 use Rattle.news_terms.specs.Blocks.{Unfinished, next_block, stuffed_room}
 use Rattle.news_terms.specs.Lines.{Incomplete, next_line}
 use Rattle.relay_model.specs.Run.{new_session}
@@ -12,6 +13,7 @@ use Rattle.relay_model.specs.World as world
 use Rattle.stream_cut.specs.Stream.{Stream, kept_octets}
 use Rattle.peer_session.specs.declared.phase.Phase.{Phase}
 use Rattle.peer_session.specs.declared.phase.Phase.TheVariants as phases
+use Rattle.peer_session.specs.declared.phase.Todo.TheVariants as todos
 use Rattle.peer_session.specs.declared.phase.Transfer.{Transfer}
 use Rattle.peer_session.specs.declared.phase.Transfer.TheVariants as transfers
 use Rattle.peer_session.specs.declared.session.Session.{Session}
@@ -88,16 +90,24 @@ pub record Stands (w : Terms) (session : Session) (m : model.Session) (gathered 
   pub limit : session.cutter.limit ≡ w.max_article
   pub has_all : HasAll session.phase session.cutter.dropped
 
--- Nothing is due: a session that reads a command has no whole line, and may still get one; one
--- that owes a block has none that is whole; or it is closed.
-abbrev pub IsIdle : Phase → Stream → Type 0
-IsIdle phases.Ready stream = next_line stream.unread ≡ Incomplete
-IsIdle (phases.Owes transfer id) stream = next_block stream.limit stream.unread ≡ Unfinished
-IsIdle (phases.Holds id article room) stream = ⊥
-IsIdle (phases.Waits transfer id room) stream = ⊥
-IsIdle (phases.Fetches reading) stream = ⊥
-IsIdle phases.Leaving stream = ⊥
-IsIdle phases.Ended stream = Unit {0}
+-- a session that leaves pushes the job in hand, or has no open offer left
+abbrev pub LeavesFree : Option Job → List (List ℕ) → Type 0
+LeavesFree (Some job) offers = Unit {0}
+LeavesFree None offers = offers ≡ []
+
+-- What is due is planned without memory. Nothing is due: a session that reads a command has no whole
+-- line, and may still get one; one that owes a block has none that is whole; or it is closed. Or it
+-- pushes the job in hand, looks into its slot, reads the next block of a fetch that is prepared for
+-- it, or has nothing left to give up.
+abbrev pub PlansFree : Phase → Stream → Option Job → List (List ℕ) → Type 0
+PlansFree phases.Ready stream hand offers = next_line stream.unread ≡ Incomplete
+PlansFree (phases.Owes transfer id) stream hand offers =
+    next_block stream.limit stream.unread ≡ Unfinished
+PlansFree (phases.Holds id article room) stream hand offers = ⊥
+PlansFree (phases.Waits transfer id room) stream hand offers = Unit {0}
+PlansFree (phases.Fetches reading) stream hand offers = reading.prepared ≡ true
+PlansFree phases.Leaving stream hand offers = LeavesFree hand offers
+PlansFree phases.Ended stream hand offers = Unit {0}
 
 -- where no block is whole, no more octets are kept than a block within the limit takes
 abbrev pub IsBounded : Stream → Type 0
@@ -164,3 +174,7 @@ BrokenOff old new =
 abbrev pub passed : ℕ → Session → model.Session
 passed read session =
     with_unread (session_view session) (drop (session.cutter.dropped + read) session.cutter.unread)
+
+-- the session with nothing planned
+abbrev pub without_plan : Session → Session
+without_plan session = record session { planned = record { todo = todos.Rest; read = 0 } }

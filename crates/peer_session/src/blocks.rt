@@ -36,7 +36,7 @@ impl Session {
         requires { OwesBlock self.old.phase }
         ensures due { IfOk result (λ due. Plans (terms_of config.now) self.old now due self.new) }
         ensures err { OnErr result (StandsAsBefore self.old self.new) }
-        ensures idle { next_block self.old.cutter.limit self.old.cutter.unread ≡ Unfinished
+        ensures free { next_block self.old.cutter.limit self.old.cutter.unread ≡ Unfinished
             → IsOk result }
         ensures bounded { IsBounded self.new.cutter }
     {

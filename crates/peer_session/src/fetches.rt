@@ -1,5 +1,5 @@
 //! Fetches by message-id and by token, and what was taken of a queue.
-ghost use Rattle.std.specs.Prelude.{◌≡◌, ◌≤◌, Option, Some, None, IfOk, OnErr, option_map};
+ghost use Rattle.std.specs.Prelude.{◌≡◌, ◌≤◌, Option, Some, None, IfOk, IsOk, OnErr, option_map};
 ghost use Rattle.std.specs.Prelude.{length, map, true};
 ghost use Rattle.article_fetch.specs.Fetch.{FoundAs};
 ghost use Rattle.cyc_token.specs.Token.{token_view};
@@ -29,6 +29,7 @@ use std::mem;
 pub(crate) fn reading_due(reading: &mut Reading) -> Result<Due, AllocError>
     ensures due { IfOk result (IsReadingAsked reading.old reading.new) }
     ensures err { OnErr result (reading.new ≡ reading.old) }
+    ensures free { reading.old.prepared ≡ true → IsOk result }
 {
     reading.prepare()?;
     Ok(Due {

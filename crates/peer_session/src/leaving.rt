@@ -1,11 +1,11 @@
 //! A session that leaves gives up what it had, one thing a turn.
-ghost use Rattle.std.specs.Prelude.{◌≡◌, ℕ, List, ◌∷◌, IfOk};
+ghost use Rattle.std.specs.Prelude.{◌≡◌, ℕ, List, ◌∷◌, IfOk, IsOk};
 ghost use Rattle.relay_model.specs.Hears.{silent};
 ghost use Rattle.relay_model.specs.State as model;
 ghost use Rattle.relay_model.specs.State.{in_phase, with_offers};
 ghost use Rattle.peer_session.specs.Asking.{IsLeavingAsked};
 ghost use Rattle.peer_session.specs.Hearing.{HeardIs};
-ghost use Rattle.peer_session.specs.Session.{session_view};
+ghost use Rattle.peer_session.specs.Session.{LeavesFree, session_view};
 
 use crate::phase::{Due, Phase, Todo};
 use crate::session::Session;
@@ -22,7 +22,8 @@ pub(crate) fn leaving_due(
     hand: &Option<Job>,
     offers: &OpenOffers,
 ) -> Result<Due, AllocError>
-    ensures { IfOk result (IsLeavingAsked hand.now offers.now) }
+    ensures due { IfOk result (IsLeavingAsked hand.now offers.now) }
+    ensures free { LeavesFree hand.now offers.now → IsOk result }
 {
     if let Some(job) = hand {
         return Ok(push_due(job));

@@ -40,8 +40,12 @@ impl Session {
         requires ready { self.old.phase ≡ Phase.Ready }
         ensures due { IfOk result (λ due. Plans (terms_of config.now) self.old now due self.new) }
         ensures err { OnErr result (StandsAsBefore self.old self.new) }
-        ensures idle { next_line self.old.cutter.unread ≡ Incomplete → IsOk result }
+        ensures free { next_line self.old.cutter.unread ≡ Incomplete → IsOk result }
     {
+        // a session that reads a command is never in the middle of a block
+        if self.cutter.is_passing() {
+            return Ok(Due::rest());
+        }
         match self.cutter.find_line() {
             FoundLine::Whole(end) => self.due_of_line(config, now, end),
             FoundLine::TooLong => {
@@ -53,8 +57,6 @@ impl Session {
                 })
             }
             FoundLine::Incomplete => Ok(Due::rest()),
-            // no command comes in the middle of a block
-            FoundLine::Passing => Ok(Due::rest()),
         }
     }
 

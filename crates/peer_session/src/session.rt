@@ -1,5 +1,5 @@
 //! The session: what it plans, what it makes of an answer, and what comes to it.
-ghost use Rattle.std.specs.Prelude.{◌≡◌, ◌≤◌, [], IfOk, IsOk, OnErr};
+ghost use Rattle.std.specs.Prelude.{◌≡◌, ◌≤◌, [], length, IfOk, IsOk, OnErr};
 ghost use Rattle.article_verdict.specs.Config.{terms_of};
 ghost use Rattle.news_terms.specs.Reply.{Reply};
 ghost use Rattle.relay_model.specs.Hears.{parts, says, silent};
@@ -11,9 +11,10 @@ ghost use Rattle.peer_session.specs.Asking.{OwesBlock};
 ghost use Rattle.peer_session.specs.Hearing.{Forgets, HeardIs, Heeds};
 ghost use Rattle.peer_session.specs.Planning.{DueGiven, HandsOver, Plans, rests};
 ghost use Rattle.peer_session.specs.Said.{IsReply};
-ghost use Rattle.peer_session.specs.Session.{BrokenOff, Fed, IsBounded, IsIdle, NewStands};
+ghost use Rattle.peer_session.specs.Session.{BrokenOff, Fed, IsBounded, NewStands, PlansFree};
 ghost use Rattle.peer_session.specs.Session.{StandsAsBefore, has_parted, holds_article, passed};
-ghost use Rattle.peer_session.specs.Session.{reads_command, session_view};
+ghost use Rattle.peer_session.specs.Session.{reads_command, session_view, without_plan};
+ghost use Rattle.stream_cut.specs.Stream.{HasRoom};
 ghost use Rattle.peer_session.specs.declared.steps.Answer.TheVariants as answers;
 
 use crate::fetches::reading_due;
@@ -133,14 +134,15 @@ impl Session {
     /// What is due in a turn at this moment, in seconds since the first of 1970: at most one line
     /// or one block is read, and at most one step of what is shared is named. All memory that the
     /// answer can need is taken here; where none is given the session stays as it is. Where nothing
-    /// is due none is taken, and of a block that isn't whole no more is kept than one within the
-    /// limit takes.
+    /// is due none is taken, nor for a push, a look into the slot, or a fetch that was prepared
+    /// before (`PlansFree`). Of a block that isn't whole no more is kept than one within the limit
+    /// takes.
     pub fn plan(&mut self, config: &Config, now: u64) -> Result<Step, AllocError>
         requires { now ≤ last_moment }
         ensures due { IfOk result (λ step.
             DueGiven (terms_of config.now) self.old now step self.new) }
         ensures err { OnErr result (StandsAsBefore self.old self.new) }
-        ensures idle { IsIdle self.old.phase self.old.cutter → IsOk result }
+        ensures free { PlansFree self.old.phase self.old.cutter self.old.hand self.old.offers → IsOk result }
         ensures bounded { OwesBlock self.old.phase → IsBounded self.new.cutter }
     {
         let due = self.due(config, now)?;
@@ -156,7 +158,7 @@ impl Session {
         requires { now ≤ last_moment }
         ensures due { IfOk result (λ due. Plans (terms_of config.now) self.old now due self.new) }
         ensures err { OnErr result (StandsAsBefore self.old self.new) }
-        ensures idle { IsIdle self.old.phase self.old.cutter → IsOk result }
+        ensures free { PlansFree self.old.phase self.old.cutter self.old.hand self.old.offers → IsOk result }
         ensures bounded { OwesBlock self.old.phase → IsBounded self.new.cutter }
     {
         match &mut self.phase {
@@ -172,10 +174,11 @@ impl Session {
 
     /// The session of this number hears the answer to the step that it planned: what it says, in
     /// octets. It takes no memory. The answer `Memory` leaves the session as it was before the
-    /// plan.
+    /// plan, and nothing planned.
     pub fn absorb(&mut self, number: u64, answer: Answer) -> Vec<u8>
         ensures heard { Heeds number self.old answer result.items self.new }
         ensures memory { answer ≡ answers.Memory → Forgets self.old self.new }
+        ensures plan { answer ≡ answers.Memory → self.new ≡ without_plan self.old }
         ensures quiet { answer ≡ answers.Memory → result.items ≡ [] }
     {
         let rest = Planned {
@@ -265,10 +268,11 @@ impl Session {
         self.hand.take()
     }
 
-    /// Octets come.
+    /// Octets come. Memory is refused only where the room that there is doesn't do.
     pub fn feed(&mut self, piece: &[u8]) -> Result<(), AllocError>
         ensures fed { IfOk result (λ _. Fed self.old piece.now self.new) }
         ensures err { OnErr result (StandsAsBefore self.old self.new) }
+        ensures room { HasRoom self.old.cutter (length piece.now) → IsOk result }
     {
         match self.cutter.feed(piece) {
             Ok(()) => Ok(()),

@@ -1,5 +1,5 @@
 -- The fields of a cutter as a stream.
-use Rattle.std.proofs.Common.{◌≡◌, ℕ, ◌+◌, ◌-◌, ◌<◌, ◌≤◌, min, Bool, List, [], ◌++◌, length, take}
+use Rattle.std.proofs.Common.{◌≡◌, ℕ, ◌+◌, ◌-◌, ◌≤◌, min, Bool, List, [], ◌++◌, length, take}
 use Rattle.std.proofs.Common.{drop, Option, Some, None, refl, sym, ap, subst, ◌∙◌, arith, ⊎_elim}
 use Rattle.std.proofs.Common.{append_assoc, length-append, length-drop}
 use Rattle.std.proofs.Math.Seq.{drop-append-add, drop-append_seam}
@@ -8,9 +8,8 @@ use Rattle.std.proofs.lemmas.Bool.{cases_lt}
 use Rattle.news_terms.specs.Blocks.{next_block, text_lines}
 use Rattle.news_terms.specs.Blocks as blocks
 use Rattle.news_terms.proofs.NextLemmas.{next_block-whole}
-use Rattle.stream_cut.specs.Dots.{dots_of}
 use Rattle.stream_cut.specs.Look.{IsLooked, IsPassed}
-use Rattle.stream_cut.specs.Past.{ArePast, EndWithin, HasDropped, KeepsStream, StandsWhole}
+use Rattle.stream_cut.specs.Past.{EndWithin, HasDropped, KeepsStream, StandsWhole}
 use Rattle.stream_cut.specs.Past.{StandsOversize, StandsPast}
 use Rattle.stream_cut.specs.Stream.{Stream, IsPastLimit, ShowsBlock, ShowsOversize, AwaitsEnd}
 use Rattle.stream_cut.specs.declared.past.Within.{Within}
@@ -89,24 +88,26 @@ left_after gone octets start count least fits e =
     (cases_lt count (length octets - start))
 
 -- the stream of what is gone and what is kept
-abbrev pub stream_of : List ℕ → List ℕ → ℕ → Bool → Stream
-stream_of gone kept limit overlong = record {
+abbrev pub stream_of : List ℕ → List ℕ → (held room limit : ℕ) → Bool → Stream
+stream_of gone kept held room limit overlong = record {
   unread = gone ++ kept;
   dropped = length gone;
+  held = held;
+  room = room;
   limit = limit;
   overlong = overlong;
 }
 
 -- a block that stands at the front is shown
-pub shows_block : (gone kept : List ℕ) (limit : ℕ) (overlong : Bool) (passed looked dots : ℕ)
+pub shows_block : (gone kept : List ℕ) (held room limit : ℕ) (overlong : Bool) (passed looked dots : ℕ)
     → StandsWhole limit gone kept passed looked dots
-    → ShowsBlock (stream_of gone kept limit overlong) passed dots
-shows_block gone kept limit overlong passed looked dots h =
-    subst (λ (g : List ℕ). ShowsBlock (stream_of g kept limit overlong) passed dots) (sym h.none)
+    → ShowsBlock (stream_of gone kept held room limit overlong) passed dots
+shows_block gone kept held room limit overlong passed looked dots h =
+    subst (λ (g : List ℕ). ShowsBlock (stream_of g kept held room limit overlong) passed dots) (sym h.none)
     (at h.seen (passed-bounds kept passed looked dots h.seen).0)
   where
     at : IsPassed kept passed looked dots → passed ≤ length kept
-        → ShowsBlock (stream_of [] kept limit overlong) passed dots
+        → ShowsBlock (stream_of [] kept held room limit overlong) passed dots
     at seen bound =
         let lines = text_lines (take passed kept) in
         let whole = passed-whole kept passed looked dots seen in
@@ -126,21 +127,21 @@ shows_block gone kept limit overlong passed looked dots h =
         }
 
 -- so is one past the limit
-pub shows_oversize : (gone kept : List ℕ) (limit : ℕ) (overlong : Bool) (count : ℕ)
+pub shows_oversize : (gone kept : List ℕ) (held room limit : ℕ) (overlong : Bool) (count : ℕ)
     → StandsOversize limit gone kept count
-    → ShowsOversize (stream_of gone kept limit overlong) count
-shows_oversize gone kept limit overlong count h = record {
+    → ShowsOversize (stream_of gone kept held room limit overlong) count
+shows_oversize gone kept held room limit overlong count h = record {
   within = subst (λ (x : List ℕ). count ≤ length x) (sym (drop-append_seam gone kept)) h.within;
   cut = h.cut ∙ ap blocks.Oversize (sym (drop-append-add gone kept count));
 }
 
 -- octets go
-pub awaits_past : (gone kept : List ℕ) (limit : ℕ) (overlong : Bool) (count : ℕ) (end : Within)
+pub awaits_past : (gone kept : List ℕ) (held room limit : ℕ) (overlong : Bool) (count : ℕ) (end : Within)
     (after left : List ℕ)
     → StandsPast limit gone kept count end → after ≡ gone ++ take count kept
     → left ≡ drop count kept
-    → AwaitsEnd (stream_of gone kept limit overlong) (stream_of after left limit overlong)
-awaits_past gone kept limit overlong count end after left h is rest =
+    → AwaitsEnd (stream_of gone kept held room limit overlong) (stream_of after left held room limit overlong)
+awaits_past gone kept held room limit overlong count end after left h is rest =
     let all : after ++ left ≡ gone ++ kept =
     ap (λ (x : List ℕ). x ++ left) is ∙ ap (λ (x : List ℕ). (gone ++ take count kept) ++ x) rest
     ∙ two_parts count gone kept in
@@ -158,6 +159,8 @@ awaits_past gone kept limit overlong count end after left h is rest =
       left = ap (λ (x : List ℕ). record {
         unread = x;
         dropped = length after;
+        held = held;
+        room = room;
         limit = limit;
         overlong = overlong;
       }) all;

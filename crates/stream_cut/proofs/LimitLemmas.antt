@@ -2,12 +2,12 @@
 use Rattle.std.proofs.Common.{◌≡◌, ℕ, ◌+◌, ◌-◌, ◌*◌, ◌<◌, ◌≤◌}
 use Rattle.std.proofs.Common.{◌==◌, true, false, List, [], ◌∷◌, ◌++◌}
 use Rattle.std.proofs.Common.{length, take, drop, bytes_eq, cond, ltb, Some, None, refl, sym, ap}
-use Rattle.std.proofs.Common.{subst, ◌∙◌, arith, ⊎_elim, append_assoc, append-nil, length-append}
+use Rattle.std.proofs.Common.{subst, ◌∙◌, arith, ⊎_elim, append_assoc, length-append}
 use Rattle.std.proofs.Common.{length-drop, rules}
 use Rattle.std.proofs.Math.Seq.{take-add}
 use Rattle.std.proofs.lemmas.Bool.{cases_Bool, cases_lt, cond-true}
 use Rattle.std.proofs.lemmas.Bool.{cond-false, ltb-true, ltb-false, le-ltb}
-use Rattle.std.proofs.lemmas.Bool.{false≢true, true≢false}
+use Rattle.std.proofs.lemmas.Bool.{false≢true}
 use Rattle.std.proofs.lemmas.List.{drop-drop, length-take-le}
 use Rattle.std.proofs.lemmas.Option.{same_Some}
 use Rattle.std.proofs.lemmas.Slice.Eq.{bytes_eq-Decides}
@@ -20,8 +20,8 @@ use Rattle.news_terms.proofs.RestLemmas.{first_line-line}
 use Rattle.news_terms.proofs.BlockLemmas.{CutsBlock-from_first, spelled-cons}
 use Rattle.news_terms.proofs.NextLemmas.{IsNextBlock, next_block-is, next_block-oversize}
 use Rattle.stream_cut.specs.Dots.{dot_of, dots_of}
-use Rattle.stream_cut.specs.Look.{EndsAt, IsPassed, ClosesAt}
-use Rattle.stream_cut.specs.Past.{AreLinesOf, ArePast, StandsAs, StandsOversize, StandsOpen}
+use Rattle.stream_cut.specs.Look.{IsPassed, ClosesAt}
+use Rattle.stream_cut.specs.Past.{AreLinesOf, StandsAs, StandsOversize}
 use Rattle.stream_cut.specs.Past.{EndWithin}
 use Rattle.stream_cut.specs.Stream.{IsPastLimit}
 use Rattle.stream_cut.specs.declared.past.BlockStand.{BlockStand}
@@ -30,10 +30,10 @@ use Rattle.stream_cut.specs.declared.past.Within.TheVariants as within
 use Rattle.stream_cut.proofs.PlaceLemmas.{EndsAt-front, EndsAt-line}
 use Rattle.stream_cut.proofs.PassLemmas.{passed-tail, passed-whole, passed-dots, passed-bounds}
 use Rattle.stream_cut.proofs.PassLemmas.{length-unstuffed, dot_of-unstuffed, dot_of-bound}
-use Rattle.stream_cut.proofs.PassLemmas.{length-text, next_block-open, first_block-closed}
+use Rattle.stream_cut.proofs.PassLemmas.{length-text, first_block-closed}
 use Rattle.stream_cut.proofs.PassLemmas.{ClosesAt-fits}
 use Rattle.stream_cut.proofs.PastLemmas.{EndsAt-early, dots_of-append, spelled-append, two_parts}
-use Rattle.stream_cut.proofs.PastLemmas.{unfinished_after, goes_into, past_more}
+use Rattle.stream_cut.proofs.PastLemmas.{unfinished_after, goes_into}
 
 -- a line of a block that begins with a dot has four octets at least, with its CRLF
 open_dot : (l : List ℕ) → bytes_eq l dot ≡ false → 4 * dot_of l ≤ length l + 2

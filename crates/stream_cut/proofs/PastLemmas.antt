@@ -1,12 +1,12 @@
 -- A block whose front is gone.
-use Rattle.std.proofs.Common.{◌≡◌, ℕ, ◌+◌, ◌-◌, ◌*◌, ◌<◌, ◌≤◌, true, false, List, [], ◌∷◌, ◌++◌}
-use Rattle.std.proofs.Common.{length, take, drop, bytes_eq, Option}
+use Rattle.std.proofs.Common.{◌≡◌, ℕ, ◌+◌, ◌-◌, ◌<◌, ◌≤◌, false, List, [], ◌∷◌, ◌++◌}
+use Rattle.std.proofs.Common.{length, take, drop, bytes_eq}
 use Rattle.std.proofs.Common.{Some, None, refl, sym, ap, subst}
 use Rattle.std.proofs.Common.{◌∙◌, arith, ⊎_elim, append_assoc, append-nil, length-append}
 use Rattle.std.proofs.Common.{length-drop, take-append-drop, get_or}
 use Rattle.std.proofs.Math.Seq.{drop-append-add, take-append-add, take-add}
 use Rattle.std.proofs.lemmas.List.{length-take-le, get_or_append_left, get_or-append-add}
-use Rattle.std.proofs.lemmas.List.{drop-drop, drop_all}
+use Rattle.std.proofs.lemmas.List.{drop-drop}
 use Rattle.std.proofs.lemmas.Grind.{flat_map-append}
 use Rattle.std.proofs.lemmas.Bool.{cases_Bool, cases_lt}
 use Rattle.std.proofs.lemmas.Slice.Eq.{bytes_eq-Decides}
@@ -16,20 +16,17 @@ use Rattle.news_terms.specs.Blocks.{first_block, next_block, unstuffed}
 use Rattle.news_terms.specs.Blocks.{stuffed_room, text_lines}
 use Rattle.news_terms.specs.Blocks as blocks
 use Rattle.news_terms.proofs.LineLemmas.{first_line_whole}
-use Rattle.news_terms.proofs.RestLemmas.{first_line-line}
-use Rattle.news_terms.proofs.BlockLemmas.{CutsBlock-from_first, spelled-cons}
-use Rattle.news_terms.proofs.NextLemmas.{IsNextBlock, next_block-is, next_block-whole}
+use Rattle.news_terms.proofs.NextLemmas.{next_block-whole}
 use Rattle.news_terms.proofs.NextLemmas.{next_block-oversize}
-use Rattle.stream_cut.specs.Dots.{dot_of, dots_of}
+use Rattle.stream_cut.specs.Dots.{dots_of}
 use Rattle.stream_cut.specs.Look.{EndsAt, IsLooked, LineEnds, IsPassed, ClosesAt}
-use Rattle.stream_cut.specs.Past.{AreLinesOf, GoIntoLine, EndWithin, ArePast, HasDropped}
-use Rattle.stream_cut.specs.Past.{StandsOversize, StandsPast}
+use Rattle.stream_cut.specs.Past.{AreLinesOf, GoIntoLine}
+use Rattle.stream_cut.specs.Past.{StandsOversize}
 use Rattle.stream_cut.specs.Stream.{IsPastLimit}
-use Rattle.stream_cut.specs.declared.past.Within.TheVariants as within
-use Rattle.stream_cut.proofs.PlaceLemmas.{EndsAt-drop, EndsAt-front, EndsAt-line, EndsAt-least}
+use Rattle.stream_cut.proofs.PlaceLemmas.{EndsAt-front, EndsAt-line, EndsAt-least}
 use Rattle.stream_cut.proofs.PlaceLemmas.{line_at, line_nowhere, looked_all}
-use Rattle.stream_cut.proofs.PassLemmas.{IsLooked-none, passed-tail, passed-lines, pass_line}
-use Rattle.stream_cut.proofs.PassLemmas.{next_block-open, first_block-closed, length-unstuffed}
+use Rattle.stream_cut.proofs.PassLemmas.{IsLooked-none, passed-lines, pass_line}
+use Rattle.stream_cut.proofs.PassLemmas.{next_block-open, first_block-closed}
 use Rattle.stream_cut.proofs.PassLemmas.{ClosesAt-fits, passed-bounds}
 
 -- lines of a block, and more of it

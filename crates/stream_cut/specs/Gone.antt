@@ -1,5 +1,5 @@
 -- The octets that are dropped, which contracts alone see. No public contract cites it.
-use Rattle.std.specs.Prelude.{ℕ, ◌+◌, ◌<◌, ◌≤◌, List, [], ◌++◌, length, take, drop, Option, Some}
+use Rattle.std.specs.Prelude.{ℕ, ◌+◌, ◌<◌, ◌≤◌, List, [], ◌++◌, take, drop, Option, Some}
 use Rattle.std.specs.Prelude.{None, vec_len}
 use Rattle.stream_cut.specs.declared.gone.Last.{Last}
 

@@ -1,8 +1,8 @@
 -- A block that is past its limit, whose octets are dropped as they come. No public contract cites
 -- it.
-use Rattle.std.specs.Prelude.{◌≡◌, ℕ, ◌+◌, ◌-◌, ◌<◌, ◌≤◌, nat_lt, if◌then◌else◌, List, [], ◌++◌}
+use Rattle.std.specs.Prelude.{◌≡◌, ℕ, ◌+◌, ◌<◌, ◌≤◌, List, [], ◌++◌}
 use Rattle.std.specs.Prelude.{length, take, drop, Option, Some, None}
-use Rattle.news_terms.specs.Lines.{spelled, first_line}
+use Rattle.news_terms.specs.Lines.{spelled}
 use Rattle.news_terms.specs.Blocks.{AreOpenLines, next_block, stuffed_room}
 use Rattle.news_terms.specs.Blocks as blocks
 use Rattle.stream_cut.specs.Look.{IsLooked, IsPassed, ClosesAt}

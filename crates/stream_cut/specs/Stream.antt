@@ -1,5 +1,5 @@
 -- A stream that is cut into lines and blocks, what each step answers, and what it leaves.
-use Rattle.std.specs.Prelude.{◌≡◌, ◌⊎◌, ℕ, ◌+◌, ◌<◌, ◌≤◌}
+use Rattle.std.specs.Prelude.{◌≡◌, ◌⊎◌, ℕ, ◌+◌, ◌*◌, ◌<◌, ◌≤◌}
 use Rattle.std.specs.Prelude.{length, take, drop, Bool, true, false, List}
 use Rattle.std.specs.Prelude.{◌++◌, Option, Some, None, Result, Ok, Err, Vec}
 use Rattle.std.specs.declared.alloc.Global.{Global}
@@ -9,7 +9,7 @@ use Rattle.news_terms.specs.Blocks.{next_block, text_lines, unstuffed, stuffed_r
 use Rattle.news_terms.specs.Blocks as blocks
 use Rattle.stream_cut.specs.Dots.{dots_of}
 use Rattle.stream_cut.specs.declared.cutter.CutError.{CutError}
-use Rattle.stream_cut.specs.declared.cutter.CutError.TheVariants.{Memory, LineTooLong, Passing}
+use Rattle.stream_cut.specs.declared.cutter.CutError.TheVariants.{Memory, LineTooLong}
 use Rattle.stream_cut.specs.declared.cutter.Block.{Block}
 use Rattle.stream_cut.specs.declared.cutter.Block.TheVariants.{Whole, Oversize}
 use Rattle.stream_cut.specs.declared.found.FoundLine.{FoundLine}
@@ -18,10 +18,14 @@ use Rattle.stream_cut.specs.declared.found.FoundBlock.{FoundBlock}
 use Rattle.stream_cut.specs.declared.found.FoundBlock.TheVariants as block
 
 -- a stream that is cut: the octets not cut yet, how many of them from the front on aren't kept any
--- more, the most octets that the text of a block may have, and whether a line was too long
+-- more, how many octets are held, those that are cut and not moved out yet among them, how many can
+-- be held without more memory, the most octets that the text of a block may have, and whether a
+-- line was too long
 pub record Stream : Type 0 where
   pub unread : List ℕ
   pub dropped : ℕ
+  pub held : ℕ
+  pub room : ℕ
   pub limit : ℕ
   pub overlong : Bool
 
@@ -32,6 +36,17 @@ kept_octets stream = drop stream.dropped stream.unread
 -- the stream with other octets unread
 abbrev pub with_unread : Stream → List ℕ → Stream
 with_unread stream octets = record stream { unread = octets }
+
+-- the stream where so many octets are held, and so many can be
+abbrev pub with_memory : Stream → (held room : ℕ) → Stream
+with_memory stream held room = record stream { held = held; room = room }
+
+-- There is room for so many octets more: behind those that are held, or, where the most of these
+-- are cut, once they are moved out.
+abbrev pub HasRoom : Stream → ℕ → Type 0
+HasRoom stream count =
+    (stream.held + count ≤ stream.room)
+    ⊎ (2 * length (kept_octets stream) + count ≤ stream.room)
 
 -- the stream once so many of its unread octets aren't kept any more
 abbrev pub with_dropped : Stream → ℕ → Stream
@@ -56,13 +71,11 @@ pub record ShowsLine (stream : Stream) (end : ℕ) : Type 0 where
   pub cut : next_line stream.unread
       ≡ lines.Cut (take end stream.unread) (drop (end + 2) stream.unread)
 
--- what `find_line` answers: in the middle of a block nothing is told of lines
+-- what `find_line` answers
 abbrev pub LineFound : Stream → FoundLine → Type 0
 LineFound stream (line.Whole end) = ShowsLine stream end
-LineFound stream line.TooLong = (stream.dropped ≡ 0) × (next_line stream.unread ≡ lines.TooLong)
-LineFound stream line.Incomplete =
-    (stream.dropped ≡ 0) × (next_line stream.unread ≡ lines.Incomplete)
-LineFound stream line.Passing = 0 < stream.dropped
+LineFound stream line.TooLong = next_line stream.unread ≡ lines.TooLong
+LineFound stream line.Incomplete = next_line stream.unread ≡ lines.Incomplete
 
 -- the lines of a block that the unread octets begin with, so many octets of them
 abbrev pub shown_lines : Stream → ℕ → List (List ℕ)
@@ -129,19 +142,12 @@ pub record RefusesLine (old new : Stream) : Type 0 where
   pub too_long : (old.overlong ≡ true) ⊎ (next_line old.unread ≡ lines.TooLong)
   pub remembered : new ≡ with_overlong old
 
--- A line is wanted in the middle of a block that is past the limit, and nothing changes.
-pub record PassesOn (old new : Stream) : Type 0 where
-  pub sound : old.overlong ≡ false
-  pub some : 0 < old.dropped
-  pub same : new ≡ old
-
 -- what `line` answers of the old stream, and the new stream that it leaves
 abbrev pub LineCut : Stream → Result (Option (Vec ℕ Global)) CutError → Stream → Type 0
 LineCut old (Ok (Some line)) new = TakesLine old line.items new
 LineCut old (Ok None) new = AwaitsLine old new
 LineCut old (Err Memory) new = new ≡ old
 LineCut old (Err LineTooLong) new = RefusesLine old new
-LineCut old (Err Passing) new = PassesOn old new
 
 -- The text is that of the first block of the old stream's unread octets, all of which are kept, and
 -- within the limit, and the new stream has what follows the block.
@@ -176,4 +182,3 @@ BlockCut old (Ok (Some Oversize)) new = PassesOversize old new
 BlockCut old (Ok None) new = AwaitsBlock old new
 BlockCut old (Err Memory) new = new ≡ old
 BlockCut old (Err LineTooLong) new = RefusesBlock old new
-BlockCut old (Err Passing) new = ⊥

@@ -1,9 +1,10 @@
 //! The cutter: the octets that came, and what is cut off their front.
-ghost use Rattle.std.specs.Prelude.{◌≡◌, ◌++◌, ◌≤◌, [], length, drop, false, vec_len};
-ghost use Rattle.std.specs.Prelude.{IfOk, IfErr, OnOk};
+ghost use Rattle.std.specs.Prelude.{◌≡◌, ◌+◌, ◌*◌, ◌++◌, ◌≤◌, [], length, drop, false, nat_lt};
+ghost use Rattle.std.specs.Prelude.{IfOk, IfErr, IsOk, OnErr, OnOk, vec_len, vec_capacity};
 ghost use Rattle.news_terms.specs.Lines.{spelled};
 ghost use Rattle.news_terms.specs.Blocks.{text_lines, unstuffed};
-ghost use Rattle.stream_cut.specs.Stream.{Stream, with_unread, kept_octets, after_pass};
+ghost use Rattle.stream_cut.specs.Stream.{Stream, HasRoom, with_memory, with_unread};
+ghost use Rattle.stream_cut.specs.Stream.{kept_octets, after_pass};
 ghost use Rattle.stream_cut.specs.Stream.{LineFound, BlockFound, LineCut, BlockCut};
 ghost use Rattle.stream_cut.specs.Dots.{dots_of};
 ghost use Rattle.stream_cut.specs.Past.{KeepsStream};
@@ -25,8 +26,6 @@ pub enum CutError {
     /// The next 512 octets hold no CRLF, now or when a line was wanted before (RFC 3977 section
     /// 3.1).
     LineTooLong,
-    /// A line was wanted, and the rest of a block that is past its limit comes first.
-    Passing,
 }
 
 impl From<AllocError> for CutError {
@@ -54,7 +53,7 @@ pub enum Block {
 /// after each `find_block` no more are kept than a block within the limit may have. What was looked
 /// through for a line or a block isn't looked through again for it, so the work is linear in the
 /// octets; only a line that is cut where a block was awaited makes the next look for a block begin
-/// anew.
+/// anew. Where a block is being passed (`is_passing`) no line may be wanted before its end.
 #[derive(Drop)]
 pub struct Cutter {
     alloc: Global,
@@ -77,6 +76,8 @@ impl Model for Cutter {
     ghost view = { λ c. record {
       unread = c.gone ++ drop c.start c.octets.items;
       dropped = length c.gone;
+      held = length c.octets.items;
+      room = vec_capacity c.octets;
       limit = c.max_block;
       overlong = c.overlong;
     } };
@@ -92,6 +93,8 @@ impl Cutter {
         ensures { result ≡ record {
           unread = [];
           dropped = 0;
+          held = 0;
+          room = 0;
           limit = max_block;
           overlong = false;
         } }
@@ -108,26 +111,37 @@ impl Cutter {
         }
     }
 
-    /// Adds the next piece of the stream.
+    /// Adds the next piece of the stream. Memory is refused only where the room that there is
+    /// doesn't do, and no more octets are held than twice those that are kept, and the piece.
     pub fn feed(&mut self, piece: &[u8]) -> Result<(), CutError>
-        ensures fed { OnOk result (self.new ≡ with_unread self.old (self.old.unread ++ piece.now)) }
-        ensures refused { IfErr result (λ error.
-            (error ≡ CutError.Memory) × (self.new ≡ self.old)) }
+        ensures fed { OnOk result (self.new ≡ with_memory
+            (with_unread self.old (self.old.unread ++ piece.now)) self.new.held self.new.room) }
+        ensures refused { IfErr result (λ error. (error ≡ CutError.Memory)
+            × (self.new ≡ with_memory self.old self.new.held self.new.room)) }
+        ensures fewer { OnErr result (self.new.held ≤ self.old.held) }
+        ensures room { HasRoom self.old (length piece.now) → IsOk result }
+        ensures bounded { self.new.held ≤ 2 * length (kept_octets self.old) + length piece.now }
+        ensures grows { self.old.room ≤ self.new.room }
     {
         self.drop_cut();
         self.octets.extend_from_slice(piece)?;
         Ok(())
     }
 
+    /// Whether octets of a block that is past the limit were dropped, and its end is still to come.
+    pub fn is_passing(&self) -> bool
+        ensures { result ≡ nat_lt 0 self.now.dropped }
+    {
+        self.passing.is_some()
+    }
+
     /// Says what stands at the front where a line is wanted. Nothing is copied or cut, and a line
     /// that is too long is found so again.
     pub fn find_line(&mut self) -> FoundLine
+        requires { self.old.dropped ≡ 0 }
         ensures found { LineFound self.old result }
         ensures same { self.new ≡ self.old }
     {
-        if self.passing.is_some() {
-            return FoundLine::Passing;
-        }
         let start = self.start;
         match look_for_line(&self.octets[start..], self.progress) {
             LineLook::Ends(end) => FoundLine::Whole(end),
@@ -198,6 +212,7 @@ impl Cutter {
     /// The first line that is unread, without its CRLF, or `None` as long as it isn't whole. Once a
     /// line was too long there is none.
     pub fn line(&mut self) -> Result<Option<Vec<u8>>, CutError>
+        requires { self.old.dropped ≡ 0 }
         ensures cut { LineCut self.old result self.new }
     {
         if self.overlong {
@@ -214,7 +229,6 @@ impl Cutter {
                 Err(CutError::LineTooLong)
             }
             FoundLine::Incomplete => Ok(None),
-            FoundLine::Passing => Err(CutError::Passing),
         }
     }
 
@@ -243,7 +257,9 @@ impl Cutter {
 
     /// Drops the octets that are cut, once they are more than those that are left to move.
     fn drop_cut(&mut self)
-        ensures { self.new ≡ self.old }
+        ensures same { self.new ≡ with_memory self.old self.new.held self.old.room }
+        ensures fewer { self.new.held ≤ self.old.held }
+        ensures bounded { self.new.held ≤ 2 * length (kept_octets self.old) }
     {
         if self.start > self.octets.len() / 2 {
             drop_front(&mut self.octets, self.start);
@@ -255,7 +271,8 @@ impl Cutter {
 /// Drops so many octets off the front.
 fn drop_front(octets: &mut Vec<u8>, count: usize)
     requires { count ≤ vec_len octets.old }
-    ensures { octets.new.items ≡ drop count octets.old.items }
+    ensures items { octets.new.items ≡ drop count octets.old.items }
+    ensures capacity { vec_capacity octets.new ≡ vec_capacity octets.old }
 {
     let left = octets.len() - count;
     octets.copy_within(count.., 0);

@@ -9,8 +9,6 @@ pub enum FoundLine {
     TooLong,
     /// Less than a line so far.
     Incomplete,
-    /// The rest of a block that is past its limit.
-    Passing,
 }
 
 /// What stands where a block is wanted.

@@ -100,14 +100,12 @@ fn cut_next(cutter: &mut Cutter, want: Want) -> Result<Option<Cut>, AllocError>
             Ok(None) => Ok(None),
             Err(CutError::LineTooLong) => Ok(Some(Cut::TooLong)),
             Err(CutError::Memory) => Err(AllocError),
-            Err(CutError::Passing) => unreachable!(),
         },
         Want::Block => match cutter.block() {
             Ok(Some(block)) => Ok(Some(Cut::Block(block))),
             Ok(None) => Ok(None),
             Err(CutError::LineTooLong) => Ok(Some(Cut::TooLong)),
             Err(CutError::Memory) => Err(AllocError),
-            Err(CutError::Passing) => unreachable!(),
         },
     }
 }

@@ -1,5 +1,5 @@
 -- What is gone says where to look.
-use Rattle.std.proofs.Common.{◌≡◌, Option, subst}
+use Rattle.std.proofs.Common.{Option, subst}
 use Rattle.stream_cut.specs.Past.{HasDropped}
 use Rattle.stream_cut.specs.declared.past.Within.{Within}
 use Rattle.stream_cut.proofs.past.look_at_block.Goals as goal

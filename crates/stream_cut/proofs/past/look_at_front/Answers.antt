@@ -1,6 +1,6 @@
 -- The lines and the octets after them say whether the block is past its limit.
-use Rattle.std.proofs.Common.{◌≡◌, ◌<◌, ◌≤◌, ◌+◌, ◌-◌, arith, refl}
-use Rattle.std.proofs.Common.{sym, ap, subst, ◌∙◌, length, ℕ, []}
+use Rattle.std.proofs.Common.{◌<◌, ◌≤◌, ◌+◌, ◌-◌, arith, refl}
+use Rattle.std.proofs.Common.{sym, subst, length, ℕ, []}
 use Rattle.stream_cut.specs.Past.{StandsAs}
 use Rattle.stream_cut.proofs.PassLemmas.{passed-bounds, next_block-open}
 use Rattle.stream_cut.proofs.LimitLemmas.{oversize_front, past_begins, part_goes, kept_bounded}

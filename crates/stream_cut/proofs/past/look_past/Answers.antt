@@ -1,8 +1,7 @@
 -- A line that was gone into ends, or goes on.
-use Rattle.std.proofs.Common.{◌≡◌, ◌<◌, ◌≤◌, ◌+◌, ◌-◌, ◌++◌, [], arith, refl, sym, ap, subst, ◌∙◌}
-use Rattle.std.proofs.Common.{length, take, drop, List, ℕ, append-nil, length-append}
-use Rattle.std.proofs.lemmas.List.{length-take-le}
-use Rattle.stream_cut.specs.Past.{AreLinesOf, ArePast, StandsAs}
+use Rattle.std.proofs.Common.{arith, sym, subst}
+use Rattle.std.proofs.Common.{take, append-nil, length-append}
+use Rattle.stream_cut.specs.Past.{AreLinesOf, ArePast}
 use Rattle.stream_cut.specs.Stream.{IsPastLimit}
 use Rattle.stream_cut.specs.declared.past.Within.{Within}
 use Rattle.stream_cut.specs.declared.past.Within.TheVariants as within

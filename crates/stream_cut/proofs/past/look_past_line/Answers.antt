@@ -1,11 +1,11 @@
 -- What stands behind more lines.
-use Rattle.std.proofs.Common.{◌≡◌, ◌<◌, ◌≤◌, ◌+◌, ◌-◌, ◌++◌}
-use Rattle.std.proofs.Common.{arith, refl, sym, ap, subst, ◌∙◌, length}
-use Rattle.std.proofs.Common.{take, drop, None, ℕ, List}
+use Rattle.std.proofs.Common.{◌≡◌, ◌+◌}
+use Rattle.std.proofs.Common.{arith, sym, ap, subst, ◌∙◌}
+use Rattle.std.proofs.Common.{drop, None, ℕ, List}
 use Rattle.std.proofs.lemmas.List.{take_rest, drop-drop}
 use Rattle.news_terms.specs.Lines.{first_line}
 use Rattle.stream_cut.specs.Look.{IsPassed, ClosesAt}
-use Rattle.stream_cut.specs.Past.{AreLinesOf, StandsAs}
+use Rattle.stream_cut.specs.Past.{StandsAs}
 use Rattle.stream_cut.specs.declared.look.Progress.{Progress}
 use Rattle.stream_cut.proofs.LimitLemmas.{part_goes}
 use Rattle.stream_cut.proofs.PastLemmas.{oversize_later, lines_later, later_bound}

@@ -8,7 +8,7 @@ use Rattle.std.proofs.lemmas.List.{drop_more, drop_all}
 use Rattle.std.specs.declared.alloc.Global.{Global}
 use Rattle.stream_cut.specs.declared.run.Want.{Want}
 use Rattle.stream_cut.specs.declared.run.Want.TheVariants as want
-use Rattle.stream_cut.specs.Stream.{Stream, with_unread}
+use Rattle.stream_cut.specs.Stream.{Stream, with_memory, with_unread}
 use Rattle.stream_cut.specs.Steps.{GoesOn}
 use Rattle.stream_cut.specs.Cuts.{CutOff, cut_off, cuts_of, CutsUp}
 use Rattle.stream_cut.proofs.RunLemmas.{cuts_of-nil, cuts_up}
@@ -23,6 +23,8 @@ on_no_error (Err y) P e h = absurd (true≢false e)
 goes_on_new : (wants : List Want) (limit : ℕ) → GoesOn wants (record {
   unread = [];
   dropped = 0;
+  held = 0;
+  room = 0;
   limit = limit;
   overlong = false;
 })
@@ -31,11 +33,12 @@ goes_on_new (want.Line ∷ wants) limit = (refl, refl)
 goes_on_new (want.Block ∷ wants) limit = (refl, tt)
 
 -- more octets leave it so
-goes_on_more : (wants : List Want) (s : Stream) (octets : List ℕ) → GoesOn wants s
-    → GoesOn wants (with_unread s octets)
-goes_on_more [] s octets h = tt
-goes_on_more (want.Line ∷ wants) s octets h = h
-goes_on_more (want.Block ∷ wants) s octets h = h
+goes_on_more : (wants : List Want) (s : Stream) (octets : List ℕ) (held room : ℕ)
+    → GoesOn wants s
+    → GoesOn wants (with_memory (with_unread s octets) held room)
+goes_on_more [] s octets held room h = tt
+goes_on_more (want.Line ∷ wants) s octets held room h = h
+goes_on_more (want.Block ∷ wants) s octets held room h = h
 
 -- the pieces joined
 abbrev joined : List (Vec ℕ Global) → List ℕ
@@ -46,6 +49,8 @@ loop-piece-init c =
     let made : c.new-cutter.result ≡ record {
       unread = [];
       dropped = 0;
+      held = 0;
+      room = 0;
       limit = c.args.max_block;
       overlong = false;
     } = c.new-cutter.ensures in
@@ -72,7 +77,8 @@ loop-piece-preserved c =
     let inv = c.loop-piece.invariant in
     let after = c.in_ok-next.ensures in
     let more = joined (drop (i + 1) pieces) in
-    let grown : fed ≡ with_unread old (old.unread ++ c.deref.result.now) = on_no_error
+    let grown : fed ≡ with_memory (with_unread old (old.unread ++ c.deref.result.now)) fed.held
+    fed.room = on_no_error
     c.feed.result _ (sym c.is_err.ensures.value ∙ c.if-is_err.false) c.feed.ensures.fed in
     let same : fed.limit ≡ limit = ap (λ (s : Stream). s.limit) grown ∙ inv.limit in
     let left : drop i pieces ≡ c.piece-item.result ∷ drop (i + 1) pieces =

@@ -1,5 +1,5 @@
 -- What was cut is what is cut off the joined octets so far, and nothing more is whole.
-use Rattle.std.proofs.Common.{◌≡◌, ◌++◌, ◌<◌, [], length, drop, map, false}
+use Rattle.std.proofs.Common.{◌≡◌, ◌++◌, [], drop, map}
 use Rattle.std.specs.List.{flat_map}
 use Rattle.stream_cut.specs.Cuts.{cut_off, cuts_of}
 use Rattle.stream_cut.specs.Steps.{GoesOn}

@@ -1,5 +1,5 @@
 -- What was cut and what is to be cut are what was to be cut, however the stream goes on.
-use Rattle.std.proofs.Common.{◌≡◌, ◌++◌, ◌<◌, ◌-◌, ℕ, List, length, drop, map, false}
+use Rattle.std.proofs.Common.{◌≡◌, ◌++◌, ◌-◌, ℕ, List, length, drop, map}
 use Rattle.stream_cut.specs.Cuts.{cut_off, cuts_of}
 use Rattle.stream_cut.specs.Steps.{GoesOn}
 use Rattle.stream_cut.proofs.run.cut_ready.Given as goal

@@ -33,7 +33,7 @@ pub returns-in-Leaving-clause-due : goal.returns-in-Leaving-clause-due
 returns-in-Leaving-clause-due c =
     if_ok _ _ c.leaving_due.result (λ due asked.
     plans_leaving (terms_of c.args.config.now) c.args.self.now c.args.now c.args.self.now.hand
-    c.args.self.now.offers due c.in-Leaving.is refl refl asked) c.leaving_due.ensures
+    c.args.self.now.offers due c.in-Leaving.is refl refl asked) c.leaving_due.ensures.due
 
 pub returns-in-Ended-clause-due : goal.returns-in-Ended-clause-due
 returns-in-Ended-clause-due c =

@@ -1,5 +1,5 @@
 -- What was known of the octets so far stays.
-use Rattle.std.proofs.Common.{◌≡◌, sym, subst, List, ℕ}
+use Rattle.std.proofs.Common.{sym, subst, List, ℕ}
 use Rattle.stream_cut.specs.Past.{KeepsStream}
 use Rattle.stream_cut.proofs.CutterLemmas.{keeps_more}
 use Rattle.stream_cut.proofs.cutter.Cutter.feed.Goals as goal

@@ -1,5 +1,6 @@
 -- The look says what the block is, and what goes.
-use Rattle.std.proofs.Common.{◌≡◌, ◌+◌, ◌-◌, ◌++◌, ap, sym, subst, ◌∙◌, take, drop, length, List, ℕ}
+use Rattle.std.proofs.Common.{◌≡◌, ◌+◌, ◌-◌, ap, sym, subst, ◌∙◌, take, drop, length, List, ℕ}
+use Rattle.std.proofs.Common.{vec_capacity}
 use Rattle.std.proofs.lemmas.List.{take_rest, drop-drop}
 use Rattle.stream_cut.specs.Stream.{Stream, ShowsBlock, ShowsOversize, AwaitsEnd}
 use Rattle.stream_cut.specs.Past.{HasDropped, StandsWhole, StandsOversize, StandsPast}
@@ -24,7 +25,7 @@ returns-in-Whole c =
     record {
       found = (
         subst (λ (s : Stream). ShowsBlock s p.passed p.dots) c.self.view_is
-            (shows_block i.gone kept i.max_block i.overlong p.passed p.looked p.dots stands),
+            (shows_block i.gone kept (length i.octets.items) (vec_capacity i.octets) i.max_block i.overlong p.passed p.looked p.dots stands),
         c.self.view_is,
       );
     }
@@ -42,7 +43,7 @@ returns-in-Oversize c =
     record {
       found = (
         subst (λ (s : Stream). ShowsOversize s n) c.self.view_is
-            (shows_oversize i.gone kept i.max_block i.overlong n stands.0),
+            (shows_oversize i.gone kept (length i.octets.items) (vec_capacity i.octets) i.max_block i.overlong n stands.0),
         c.self.view_is,
       );
     }
@@ -58,8 +59,9 @@ returns-in-Past c =
     c.self.invariant.dropped in
     record {
       found = subst (λ (s : Stream). AwaitsEnd s (stream_of c.add.new.self
-          (drop (i.start + n) i.octets.items) i.max_block i.overlong)) c.self.view_is
-          (awaits_past i.gone kept i.max_block i.overlong n c.in-Past.within c.add.new.self
+          (drop (i.start + n) i.octets.items) (length i.octets.items) (vec_capacity i.octets)
+          i.max_block i.overlong)) c.self.view_is
+          (awaits_past i.gone kept (length i.octets.items) (vec_capacity i.octets) i.max_block i.overlong n c.in-Past.within c.add.new.self
           (drop (i.start + n) i.octets.items) stands c.add.ensures
           (sym (drop-drop n i.start i.octets.items)));
     }
