@@ -1,6 +1,7 @@
 mod ClaimLemmas
 mod CountLaws
 mod CountLemmas
+mod ExpiryLemmas
 mod JoinLemmas
 mod MarkLemmas
 mod OwnLemmas

@@ -12,7 +12,7 @@ use Rattle.relay_model.specs.Claims.{Claim}
 use Rattle.relay_model.specs.Run.{shard_of}
 use Rattle.id_history.specs.Changes.{ChangesClaim, KeepsClaims}
 use Rattle.id_history.specs.declared.claims.Shard.{Shard}
-use Rattle.id_history.specs.Mark.{mark_of, claim_of}
+use Rattle.id_history.specs.Mark.{Unknown, mark_of, claim_of}
 use Rattle.id_history.specs.Own.{OwnIds}
 use Rattle.id_history.specs.Shard.{mark_at, Keeps}
 use Rattle.id_history.proofs.ClaimLemmas.{mark_of-claim_of}
@@ -22,10 +22,10 @@ pub record KeepsOthers (one later : Shard) (id : List ℕ) : Type 0 where
   pub same : (other : List ℕ) → bytes_eq other id ≡ false → mark_at later other ≡ mark_at one other
 
 -- a claim of each mark that the shard has
-claims_of : Shard → List ℕ → Claim
+unfoldable pub claims_of : Shard → List ℕ → Claim
 claims_of one id = claim_of (mark_at one id)
 
-claims_of-kept : (one : Shard) → Keeps one (claims_of one)
+pub claims_of-kept : (one : Shard) → Keeps one (claims_of one)
 unfolding claims_of
 claims_of-kept one = record { agrees = λ id. sym (mark_of-claim_of (mark_at one id)) }
 
@@ -77,5 +77,26 @@ OwnIds-set shards one later k id own at had kept = record {
             ∙ ap (λ s. mark_at s other) at ∙ had.unknown k other one in_range far
         | inr differs ↦ ap (λ s. mark_at s other) (get_or-set_other shards k j later none differs.1)
             ∙ had.unknown j other none in_old apart
+      ];
+}
+
+-- after a change in one shard that leaves it without the ids it had nothing of, each shard has its
+-- own ids alone
+pub OwnIds-left : (shards : List Shard) (one later : Shard) (k : ℕ) → one ≡ get_or shards k one
+    → OwnIds shards
+    → ((id : List ℕ) → mark_at one id ≡ Unknown → mark_at later id ≡ Unknown)
+    → OwnIds (set shards k later)
+OwnIds-left shards one later k at had left = record {
+  unknown = λ j id none below apart.
+      let in_old : j < length shards = subst (λ n. j < n) (length-set shards k later) below in
+      elim (eqb_tells j k) [
+        | inl same ↦
+            let in_range : k < length shards = subst (λ n. n < length shards) same.1 in_old in
+            let far : shard_of id ≢ k = λ e. apart (e ∙ sym same.1) in
+            ap (λ n. mark_at (get_or (set shards k later) n none) id) same.1
+            ∙ ap (λ s. mark_at s id) (get_or-set_same shards k later none in_range)
+            ∙ left id (ap (λ s. mark_at s id) at ∙ had.unknown k id one in_range far)
+        | inr differs ↦ ap (λ s. mark_at s id) (get_or-set_other shards k j later none differs.1)
+            ∙ had.unknown j id none in_old apart
       ];
 }

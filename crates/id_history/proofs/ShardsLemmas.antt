@@ -46,7 +46,7 @@ Keeps-in shards one k claims at keeps = record {
 }
 
 -- of its own id the claim is the same
-claims_in-own : (one : Shard) (k : ℕ) (claims : List ℕ → Claim) (id : List ℕ)
+pub claims_in-own : (one : Shard) (k : ℕ) (claims : List ℕ → Claim) (id : List ℕ)
     → k ≡ shard_of id → claims_in one k claims id ≡ claims id
 unfolding claims_in
 claims_in-own one k claims id own =
@@ -70,7 +70,7 @@ within shards one k id claims own at keeps = record {
 
 -- where one shard of the sixteen now keeps what is wanted of its ids, and of other ids nothing else
 -- is wanted than before, the sixteen keep what is wanted
-put_back : (old new : Shards) (later : Shard) (k : ℕ) → k < length old.shards.items
+pub put_back : (old new : Shards) (later : Shard) (k : ℕ) → k < length old.shards.items
     → new.shards.items ≡ set old.shards.items k later
     → (before after own : List ℕ → Claim) → KeepsAll old before → Keeps later own
     → ((id : List ℕ) → shard_of id ≡ k → own id ≡ after id)

@@ -1,6 +1,7 @@
 pub mod Answers
 pub mod Changes
 pub mod Counts
+pub mod Expiry
 pub mod Mark
 pub mod Marks
 pub mod Own

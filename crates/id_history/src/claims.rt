@@ -6,6 +6,8 @@ ghost use Rattle.relay_model.specs.Claims.{take_answer, after_take, after_refuse
 ghost use Rattle.relay_model.specs.Claims.{after_forget, is_storing_for, after_settle, look_answer};
 
 use crate::counts::Counts;
+use crate::expiry::{is_over, is_passed};
+use cyc_buffer::Front;
 use cyc_token::Token;
 use nntp_text::MsgId;
 use std::alloc::{AllocError, Global};
@@ -71,9 +73,10 @@ enum Entry {
 }
 
 impl Entry {
-    ghost use Rattle.std.specs.Prelude.{if◌then◌else◌};
+    ghost use Rattle.std.specs.Prelude.{if◌then◌else◌, map};
     ghost use Rattle.id_history.specs.Mark.{claim_of, entry_mark};
     ghost use Rattle.id_history.specs.Counts.{Numbers};
+    ghost use Rattle.id_history.specs.Expiry.{is_forgotten, passed_view};
 
     /// The counts of the one message-id.
     fn counts(&self) -> Counts
@@ -88,6 +91,20 @@ impl Entry {
             Entry::Refused { .. } => counts.refused = 1,
         }
         counts
+    }
+
+    /// Whether its message-id is forgotten.
+    fn is_forgotten(&self, now: u64, remember: u64, fronts: &[Front]) -> bool
+        ensures { result ≡ is_forgotten now remember (map passed_view fronts.now)
+            (entry_mark (Some self.now)) }
+    {
+        match *self {
+            Entry::Offered { .. } | Entry::Storing { .. } => false,
+            Entry::Stored { token, moment } => {
+                is_over(moment, remember, now) && is_passed(fronts, token)
+            }
+            Entry::Refused { moment } => is_over(moment, remember, now),
+        }
     }
 }
 
@@ -107,7 +124,10 @@ impl Shard {
     ghost use Rattle.id_history.specs.Marks.{SetsMark, SameMarks};
     ghost use Rattle.id_history.specs.Changes.{OfClaim, ChangesClaim, KeepsClaims};
     ghost use Rattle.id_history.specs.Shard.{mark_at, Keeps};
+    ghost use Rattle.std.specs.Prelude.{map};
+    ghost use Rattle.relay_model.specs.Claims.{after_expire};
     ghost use Rattle.id_history.specs.Counts.{AtMost, CountsOf};
+    ghost use Rattle.id_history.specs.Expiry.{passed_view};
 
     /// A shard to which every message-id is unknown.
     pub fn new(alloc: Global, hasher: RandomState) -> Shard
@@ -250,6 +270,16 @@ impl Shard {
             counts = counts.plus(entry.counts());
         }
         counts
+    }
+
+    /// Forgets at this moment what was stored or refused so many seconds ago or earlier, of what was
+    /// stored only what is gone by these fronts. It takes no memory.
+    pub fn expire(&mut self, now: u64, remember: u64, fronts: &[Front])
+        ensures { (claims : List ℕ → Claim) → Keeps self.old claims → Keeps self.new
+            (λ id. after_expire now remember (map passed_view fronts.now) (claims id)) }
+    {
+        self.entries
+            .retain(|_, entry| !entry.is_forgotten(now, remember, fronts));
     }
 
     /// The entry of the id.

@@ -1,4 +1,4 @@
-ghost use Rattle.std.specs.Prelude.{◌≡◌, ◌≢◌, ℕ, List, is_some, length, option_map};
+ghost use Rattle.std.specs.Prelude.{◌≡◌, ◌≢◌, ◌<◌, ℕ, List, Some, is_some, length, map, option_map};
 ghost use Rattle.std.specs.Prelude.{IsOk, IfOk, IfSome, OnOk, OnErr};
 ghost use Rattle.cyc_token.specs.Token.{token_view};
 ghost use Rattle.relay_model.specs.Claims.{Accepted, Claim, Unknown, offer_answer, after_offer};
@@ -9,9 +9,11 @@ ghost use Rattle.relay_model.specs.Terms.{shard_count};
 ghost use Rattle.id_history.specs.Answers.{offer_view, take_view, token_of};
 ghost use Rattle.id_history.specs.Own.{OwnIds};
 ghost use Rattle.id_history.specs.Changes.{OfClaim, ChangesClaim, KeepsClaims};
+ghost use Rattle.id_history.specs.Expiry.{passed_view};
 
 use crate::claims::{Offer, Settled, Shard, Take};
 use crate::counts::Counts;
+use cyc_buffer::Front;
 use cyc_token::Token;
 use nntp_text::MsgId;
 use std::alloc::{AllocError, Global};
@@ -136,6 +138,15 @@ impl Shards {
             (λ claim. option_map token_view result ≡ look_answer claim) }
     {
         self.shards[shard_of(id)].look(id)
+    }
+
+    /// See `Shard::expire`: it goes through the ids of one of the sixteen.
+    pub fn expire(&mut self, shard: usize, now: u64, remember: u64, fronts: &[Front])
+        requires { shard < shard_count }
+        ensures { (claims : List ℕ → Claim) → KeepsAll self.old claims → KeepsAll self.new
+            (run.forgetting claims shard now (Some remember) (map passed_view fronts.now)) }
+    {
+        self.shards[shard].expire(now, remember, fronts);
     }
 
     /// See `Shard::counts`: it adds those of all shards.
