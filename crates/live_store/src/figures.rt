@@ -4,13 +4,14 @@ ghost use Rattle.std.specs.Prelude.{◌≡◌, IfOk, None, replicate};
 use crate::numbered::NumberedBuffer;
 use crate::record::{Archive, Shown};
 use cyc_block::BlockStore;
-use cyc_buffer::Buffer;
+use cyc_buffer::{Buffer, Front};
 use std::alloc::{AllocError, Global};
 use std::marker::PhantomData;
 
 impl<S: BlockStore, J: Archive> NumberedBuffer<S, J> {
     ghost use Rattle.std.specs.Prelude.{◌≡◌, Bool, true, length};
     ghost use Rattle.cyc_buffer.specs.Agreement.{Agrees, store_of};
+    ghost use Rattle.cyc_buffer.specs.Answers.{front_view};
     ghost use Rattle.cyc_buffer.specs.History.{History, new_history, front_of, cycle_of};
     ghost use Rattle.cyc_buffer.specs.History.{stored_count};
     ghost use Rattle.live_store.specs.Steps.{buffer_of, beside_of, numbers_of};
@@ -54,6 +55,14 @@ impl<S: BlockStore, J: Archive> NumberedBuffer<S, J> {
             → result ≡ front_of h }
     {
         self.buffer.front()
+    }
+
+    /// The front as a value, which a buffer alone makes.
+    pub fn passed(&self) -> Front
+        ensures { (trusted : Bool) (h : History) → Agrees trusted (buffer_of self.now) h
+            → result ≡ front_view h.buffer (front_of h) }
+    {
+        self.buffer.passed()
     }
 
     /// The cycle that the newest article is in; the first one where there is none.
