@@ -14,6 +14,7 @@ use Rattle.relay_model.specs.Fetches.{Fetched}
 use Rattle.relay_model.specs.Hears.{goes_on, turns_of}
 use Rattle.relay_model.specs.State.{Asked, OfId, OfToken}
 use Rattle.article_fetch.specs.Fetch.{Fetch, FoundAs, HearsBlock, Replies}
+use Rattle.article_fetch.specs.Given.{HearsAny, ReplyToAny, SaysSuch, ShowsAsked, found_with, given}
 use Rattle.article_fetch.specs.Inside.{most_due}
 use Rattle.article_fetch.specs.Malformed.{FaultsAsked, SaysFault}
 use Rattle.article_fetch.specs.Shown.{SaysLast, ServesAsked}
@@ -155,3 +156,64 @@ heard_nothing fetch chunks.Device now said found none says is = (
   ap (goes_on fetch.asked fetch.token fetch.had) is,
   subst (λ (x : Fetched). Replies fetch.asked fetch.token x said) (sym is) says,
 )
+
+-- it goes on where more Turns are to come, whatever was read
+pub any_on : (fetch : Fetch) (octets now : List ℕ)
+    → now ≡ fetch.gathered ++ take (most_due fetch.asked) octets → length octets ≤ chunk_size
+    → fetch.had + 1 < turns_of fetch.asked fetch.token
+    → HearsAny fetch (chunks.Found octets) None
+    (record fetch { had = fetch.had + 1; gathered = now; prepared = false })
+any_on fetch octets now e short more = (
+  lt-ltb (fetch.had + 1) (turns_of fetch.asked fetch.token) more,
+  ap (λ (x : List ℕ). record fetch { had = fetch.had + 1; gathered = x; prepared = false })
+      (e ∙ ap (λ n. fetch.gathered ++ take n octets)
+      (shows_block fetch.asked fetch.token fetch.had more)
+      ∙ ap (λ x. fetch.gathered ++ x) (take_all chunk_size octets short)),
+)
+
+-- of any text that is shown, the whole of a block counts
+all_given : (asked : Asked) (token : Token) (gathered octets said : List ℕ)
+    → length octets ≤ chunk_size
+    → SaysSuch (ShowsAsked asked token (gathered ++ take (most_due asked) octets)) said
+    → SaysSuch (ShowsAsked asked token (gathered ++ octets)) said
+all_given (OfId Presence id) token gathered octets said short says = says
+all_given (OfId WholeText id) token gathered octets said short says =
+    subst (λ (x : List ℕ). SaysSuch (ShowsAsked (OfId WholeText id) token (gathered ++ x)) said)
+    (take_all chunk_size octets short) says
+all_given (OfId Header id) token gathered octets said short says =
+    subst (λ (x : List ℕ). SaysSuch (ShowsAsked (OfId Header id) token (gathered ++ x)) said)
+    (take_all chunk_size octets short) says
+all_given (OfId BodyLines id) token gathered octets said short says =
+    subst (λ (x : List ℕ). SaysSuch (ShowsAsked (OfId BodyLines id) token (gathered ++ x)) said)
+    (take_all chunk_size octets short) says
+all_given (OfId OverviewLine id) token gathered octets said short says =
+    subst (λ (x : List ℕ). SaysSuch (ShowsAsked (OfId OverviewLine id) token (gathered ++ x)) said)
+    (take_all chunk_size octets short) says
+all_given OfToken token gathered octets said short says =
+    subst (λ (x : List ℕ). SaysSuch (ShowsAsked OfToken token (gathered ++ x)) said)
+    (take_all chunk_size octets short) says
+
+-- it ends with the last Turn, and what was given is said
+pub any_last : (fetch : Fetch) (octets now said : List ℕ)
+    → now ≡ fetch.gathered ++ take (most_due fetch.asked) octets → length octets ≤ chunk_size
+    → turns_of fetch.asked fetch.token ≤ fetch.had + 1
+    → SaysSuch (ShowsAsked fetch.asked fetch.token now) said
+    → (goes_on fetch.asked fetch.token fetch.had (given fetch.gathered (chunks.Found octets))
+    ≡ false)
+    × SaysSuch (ReplyToAny fetch.asked fetch.token (given fetch.gathered (chunks.Found octets))) said
+any_last fetch octets now said e short last says = (
+  le-ltb (fetch.had + 1) (turns_of fetch.asked fetch.token) last,
+  all_given fetch.asked fetch.token fetch.gathered octets said short
+      (subst (λ (x : List ℕ). SaysSuch (ShowsAsked fetch.asked fetch.token x) said) e says),
+)
+
+-- it ends where nothing was given, and that is said
+pub any_nothing : (fetch : Fetch) (last : Chunk) (now said : List ℕ)
+    → ((octets : List ℕ) → last ≡ chunks.Found octets → ⊥)
+    → SaysSuch (ReplyToAny fetch.asked fetch.token (found_with last now)) said
+    → (goes_on fetch.asked fetch.token fetch.had (given fetch.gathered last) ≡ false)
+    × SaysSuch (ReplyToAny fetch.asked fetch.token (given fetch.gathered last)) said
+any_nothing fetch (chunks.Found octets) now said none says = absurd (none octets refl)
+any_nothing fetch chunks.Gone now said none says = (refl, says)
+any_nothing fetch chunks.Unknown now said none says = (refl, says)
+any_nothing fetch chunks.Device now said none says = (refl, says)

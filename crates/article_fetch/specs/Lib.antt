@@ -1,4 +1,5 @@
 pub mod Fetch
+pub mod Given
 pub mod Inside
 pub mod Layout
 pub mod Malformed

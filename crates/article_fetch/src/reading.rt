@@ -8,6 +8,7 @@ ghost use Rattle.relay_model.specs.Fetches.{Fetched};
 ghost use Rattle.relay_model.specs.Hears.{turns_of};
 ghost use Rattle.article_fetch.specs.Fetch.{asked_view, FoundAs, HearsBlock, new_fetch};
 ghost use Rattle.article_fetch.specs.Fetch.{prepared_fetch, StaysSame};
+ghost use Rattle.article_fetch.specs.Given.{HearsAny};
 ghost use Rattle.article_fetch.specs.Inside.{most_due};
 ghost use Rattle.article_fetch.specs.Inside as terms;
 ghost use Rattle.article_fetch.specs.Malformed.{SaysFault};
@@ -114,6 +115,7 @@ impl Reading {
         ensures heard { (found : Fetched) → self.old.prepared ≡ true → FoundAs self.old chunk found
             → HearsBlock self.old found result self.new }
         ensures same { self.old.prepared ≡ true → StaysSame self.old result self.new }
+        ensures given { self.old.prepared ≡ true → HearsAny self.old chunk result self.new }
         ensures fault { self.old.prepared ≡ true → SaysFault self.old chunk result }
         ensures deaf { self.old.prepared ≡ false → (result ≡ None) × (self.new ≡ self.old) }
     {
@@ -130,6 +132,7 @@ impl Reading {
         ensures heard { (found : Fetched) → FoundAs self.old chunk found
             → HearsBlock self.old found result self.new }
         ensures same { StaysSame self.old result self.new }
+        ensures given { HearsAny self.old chunk result self.new }
         ensures fault { SaysFault self.old chunk result }
     {
         self.prepared = false;

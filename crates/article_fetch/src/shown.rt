@@ -3,6 +3,7 @@ ghost use Rattle.std.specs.Prelude.{◌≡◌, ◌+◌, ◌≤◌, [], flat_map,
 ghost use Rattle.cyc_token.specs.Token.{token_view};
 ghost use Rattle.news_terms.specs.Article.{Article, IsLaidOut, field_text};
 ghost use Rattle.news_terms.specs.Blocks.{stuffed_room};
+ghost use Rattle.news_terms.specs.Command as commands;
 ghost use Rattle.news_terms.specs.Overview.{overview_line};
 ghost use Rattle.news_terms.specs.Reply.{reply_text};
 ghost use Rattle.news_terms.specs.Reply as terms;
@@ -10,6 +11,7 @@ ghost use Rattle.nntp_text.specs.Command.{part_view};
 ghost use Rattle.nntp_text.specs.Reply.{reply_room, reply_view, room_of};
 ghost use Rattle.relay_model.specs.Fetches as fetches;
 ghost use Rattle.article_fetch.specs.Fetch.{asked_view, Replies};
+ghost use Rattle.article_fetch.specs.Given.{ReplyToAny, SaysSuch, ShowsAny, ShowsAsked, found_with};
 ghost use Rattle.article_fetch.specs.Malformed.{FaultsAsked, FaultsLast, FaultsPart, IsNoArticle};
 ghost use Rattle.article_fetch.specs.Shown.{SaysLast, ShowsArticle, ShowsPart, most_by};
 
@@ -34,6 +36,8 @@ pub(crate) fn last_reply(
     requires room { most_by chunk.now text.now ≤ vec_capacity room }
     ensures says { SaysLast (asked_view asked.now) (token_view token) chunk.now text.now
         result.items }
+    ensures given { SaysSuch (ReplyToAny (asked_view asked.now) (token_view token)
+        (found_with chunk.now text.now)) result.items }
     ensures fault { FaultsLast (asked_view asked.now) chunk.now text.now result.items }
     ensures some { 1 ≤ length result.items }
 {
@@ -77,6 +81,8 @@ fn found_reply(room: Vec<u8>, asked: &Asked, token: Token, text: &[u8]) -> Vec<u
     requires empty { room.items ≡ [] }
     requires room { reply_room + stuffed_room (length text.now) ≤ vec_capacity room }
     ensures says { ShowsArticle (asked_view asked.now) (token_view token) text.now result.items }
+    ensures given { SaysSuch (ShowsAsked (asked_view asked.now) (token_view token) text.now)
+        result.items }
     ensures fault { FaultsAsked (asked_view asked.now) text.now result.items }
     ensures some { 1 ≤ length result.items }
 {
@@ -91,6 +97,7 @@ fn part_reply(room: Vec<u8>, part: Part, id: &MsgId, text: &[u8]) -> Vec<u8>
     requires empty { room.items ≡ [] }
     requires room { reply_room + stuffed_room (length text.now) ≤ vec_capacity room }
     ensures says { ShowsPart (part_view part) id.now text.now result.items }
+    ensures given { SaysSuch (ShowsAny (part_view part) id.now text.now) result.items }
     ensures fault { FaultsPart (part_view part) text.now result.items }
     ensures some { 1 ≤ length result.items }
 {
@@ -110,6 +117,7 @@ fn header_reply(room: Vec<u8>, id: &MsgId, text: &[u8]) -> Vec<u8>
     requires room { reply_room + stuffed_room (length text.now) ≤ vec_capacity room }
     ensures octets { (a : Article) → IsLaidOut text.now a → result.items
         ≡ reply_text (terms.HeaderFollows id.now (flat_map field_text a.fields)) }
+    ensures given { SaysSuch (ShowsAny commands.Header id.now text.now) result.items }
     ensures fault { IsNoArticle text.now → result.items ≡ reply_text terms.DeviceFault }
     ensures some { 1 ≤ length result.items }
 {
@@ -126,6 +134,7 @@ fn body_reply(room: Vec<u8>, id: &MsgId, text: &[u8]) -> Vec<u8>
     requires room { reply_room + stuffed_room (length text.now) ≤ vec_capacity room }
     ensures octets { (a : Article) → IsLaidOut text.now a → result.items
         ≡ reply_text (terms.BodyFollows id.now a.body) }
+    ensures given { SaysSuch (ShowsAny commands.BodyLines id.now text.now) result.items }
     ensures fault { IsNoArticle text.now → result.items ≡ reply_text terms.DeviceFault }
     ensures some { 1 ≤ length result.items }
 {
@@ -142,6 +151,7 @@ fn overview_reply(mut room: Vec<u8>, text: &[u8]) -> Vec<u8>
     requires room { reply_room + stuffed_room (length text.now) ≤ vec_capacity room }
     ensures octets { (a : Article) → IsLaidOut text.now a → result.items
         ≡ reply_text (terms.OverviewFollows (overview_line a)) }
+    ensures given { SaysSuch (ShowsAny commands.OverviewLine [] text.now) result.items }
     ensures fault { IsNoArticle text.now → result.items ≡ reply_text terms.DeviceFault }
     ensures some { 1 ≤ length result.items }
 {

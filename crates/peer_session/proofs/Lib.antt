@@ -1,3 +1,4 @@
+mod GivenReads
 mod HearBlocks
 mod HearCommon
 mod HearFetches

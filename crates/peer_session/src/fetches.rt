@@ -13,6 +13,7 @@ ghost use Rattle.relay_model.specs.Hears.{look_heard, says};
 ghost use Rattle.relay_model.specs.State as model;
 ghost use Rattle.relay_model.specs.State.{in_phase};
 ghost use Rattle.peer_session.specs.Asking.{IsReadingAsked, TakesReading};
+ghost use Rattle.peer_session.specs.Given.{ReadAnyIs};
 ghost use Rattle.peer_session.specs.Hearing.{HeardIs, ReadHeardIs};
 ghost use Rattle.peer_session.specs.Session.{passed, session_view};
 
@@ -75,6 +76,9 @@ impl Session {
         ensures heard { (chunk : Chunk) (found : Fetched) → answer ≡ Answer.Chunk chunk
             → FoundAs reading chunk found → reading.prepared ≡ true → self.old.phase ≡ Phase.Ready
             → ReadHeardIs result.items self.old (passed read self.old) reading found self.new }
+        ensures given { (chunk : Chunk) → answer ≡ Answer.Chunk chunk → reading.prepared ≡ true
+            → self.old.phase ≡ Phase.Ready
+            → ReadAnyIs result.items self.old (passed read self.old) reading chunk self.new }
         ensures memory { answer ≡ Answer.Memory → self.new ≡ self.old }
     {
         match answer {
@@ -107,6 +111,11 @@ impl Session {
             → self.old.cutter.dropped ≡ 0
             → ReadHeardIs result.items self.old (in_phase (session_view self.old) model.Ready)
             reading found self.new }
+        ensures given { (reading : Reading) (chunk : Chunk) → answer ≡ Answer.Chunk chunk
+            → self.old.phase ≡ Phase.Fetches reading → reading.prepared ≡ true
+            → self.old.cutter.dropped ≡ 0
+            → ReadAnyIs result.items self.old (in_phase (session_view self.old) model.Ready)
+            reading chunk self.new }
         ensures memory { answer ≡ Answer.Memory → self.new ≡ self.old }
     {
         match answer {
@@ -120,9 +129,12 @@ impl Session {
 
     /// A block of a fetch: it goes on, or what it found is said.
     fn hear_block(&mut self, mut reading: Reading, chunk: Chunk) -> Vec<u8>
-        ensures { (found : Fetched) → FoundAs reading chunk found → reading.prepared ≡ true
+        ensures heard { (found : Fetched) → FoundAs reading chunk found → reading.prepared ≡ true
             → self.old.phase ≡ Phase.Ready → self.old.cutter.dropped ≡ 0
             → ReadHeardIs result.items self.old (session_view self.old) reading found self.new }
+        ensures given { reading.prepared ≡ true → self.old.phase ≡ Phase.Ready
+            → self.old.cutter.dropped ≡ 0
+            → ReadAnyIs result.items self.old (session_view self.old) reading chunk self.new }
     {
         match reading.hear(chunk) {
             Some(octets) => octets,

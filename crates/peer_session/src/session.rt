@@ -8,6 +8,7 @@ ghost use Rattle.relay_model.specs.State as model;
 ghost use Rattle.relay_model.specs.State.{in_phase};
 ghost use Rattle.relay_model.specs.Terms.{last_moment};
 ghost use Rattle.peer_session.specs.Asking.{OwesBlock};
+ghost use Rattle.peer_session.specs.Given.{HeedsRead};
 ghost use Rattle.peer_session.specs.Hearing.{Forgets, HeardIs, Heeds};
 ghost use Rattle.peer_session.specs.Planning.{DueGiven, HandsOver, Plans, rests};
 ghost use Rattle.peer_session.specs.Said.{IsReply};
@@ -177,6 +178,7 @@ impl Session {
     /// plan, and nothing planned.
     pub fn absorb(&mut self, number: u64, answer: Answer) -> Vec<u8>
         ensures heard { Heeds number self.old answer result.items self.new }
+        ensures given { HeedsRead self.old answer result.items self.new }
         ensures memory { answer ≡ answers.Memory → Forgets self.old self.new }
         ensures plan { answer ≡ answers.Memory → self.new ≡ without_plan self.old }
         ensures quiet { answer ≡ answers.Memory → result.items ≡ [] }

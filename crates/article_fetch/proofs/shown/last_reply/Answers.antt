@@ -1,6 +1,7 @@
 use Rattle.std.proofs.Common.{sym, subst}
 use Rattle.cyc_token.specs.Token.{token_view}
 use Rattle.article_fetch.specs.Fetch.{asked_view}
+use Rattle.article_fetch.specs.Given.{ReplyToAny, SaysSuch, found_with}
 use Rattle.article_fetch.specs.Malformed.{FaultsLast}
 use Rattle.article_fetch.specs.Shown.{SaysLast}
 use Rattle.article_fetch.specs.declared.chunk.Chunk.{Chunk}
@@ -19,4 +20,7 @@ returns-in-Device c =
       fault = subst (λ (chunk : Chunk). FaultsLast asked chunk given c.said.result.items)
           (sym c.in-Device.is) tt;
       some = c.said.ensures.some;
+      given = subst (λ (chunk : Chunk). SaysSuch (ReplyToAny asked token (found_with chunk given))
+          c.said.result.items) (sym c.in-Device.is)
+          (fault_said asked token c.said.result.items c.said.ensures.octets c.said.ensures.some);
     }

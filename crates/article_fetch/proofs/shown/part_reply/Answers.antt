@@ -6,6 +6,7 @@ use Rattle.news_terms.specs.Reply.{ArticleFollows, HeaderFollows, BodyFollows, O
 use Rattle.news_terms.specs.Reply.{Exists, reply_text}
 use Rattle.nntp_text.specs.Command.{part_view}
 use Rattle.nntp_text.specs.declared.command.Part.{Part}
+use Rattle.article_fetch.specs.Given.{SaysSuch, ShowsAny}
 use Rattle.article_fetch.specs.Malformed.{FaultsPart}
 use Rattle.article_fetch.specs.Shown.{ShowsPart}
 use Rattle.article_fetch.proofs.shown.part_reply.Goals as goal
@@ -27,6 +28,9 @@ returns-in-WholeText c =
       some = said.ensures.some;
       fault = subst (λ (part : Part). FaultsPart (part_view part) given said.result.items)
           (sym c.in-WholeText.is) tt;
+      given = subst (λ (part : Part). SaysSuch (ShowsAny (part_view part) id given)
+          said.result.items) (sym c.in-WholeText.is)
+          (ArticleFollows id given, refl, said.ensures.octets, said.ensures.some);
     }
 
 pub returns-in-Header : goal.returns-in-Header
@@ -46,6 +50,9 @@ returns-in-Header c =
       some = said.ensures.some;
       fault = subst (λ (part : Part). FaultsPart (part_view part) given said.result.items)
           (sym c.in-Header.is) said.ensures.fault;
+      given = subst (λ (part : Part). SaysSuch (ShowsAny (part_view part) id given)
+          said.result.items) (sym c.in-Header.is)
+          said.ensures.given;
     }
 
 pub returns-in-BodyLines : goal.returns-in-BodyLines
@@ -65,6 +72,9 @@ returns-in-BodyLines c =
       some = said.ensures.some;
       fault = subst (λ (part : Part). FaultsPart (part_view part) given said.result.items)
           (sym c.in-BodyLines.is) said.ensures.fault;
+      given = subst (λ (part : Part). SaysSuch (ShowsAny (part_view part) id given)
+          said.result.items) (sym c.in-BodyLines.is)
+          said.ensures.given;
     }
 
 pub returns-in-OverviewLine : goal.returns-in-OverviewLine
@@ -84,6 +94,9 @@ returns-in-OverviewLine c =
       some = said.ensures.some;
       fault = subst (λ (part : Part). FaultsPart (part_view part) given said.result.items)
           (sym c.in-OverviewLine.is) said.ensures.fault;
+      given = subst (λ (part : Part). SaysSuch (ShowsAny (part_view part) id given)
+          said.result.items) (sym c.in-OverviewLine.is)
+          said.ensures.given;
     }
 
 pub returns-in-Presence : goal.returns-in-Presence
@@ -98,4 +111,7 @@ returns-in-Presence c =
       some = said.ensures.some;
       fault = subst (λ (part : Part). FaultsPart (part_view part) given said.result.items)
           (sym c.in-Presence.is) tt;
+      given = subst (λ (part : Part). SaysSuch (ShowsAny (part_view part) id given)
+          said.result.items) (sym c.in-Presence.is)
+          (Exists id, refl, said.ensures.octets, said.ensures.some);
     }

@@ -6,13 +6,15 @@ use Rattle.relay_model.specs.Fetches.{Fetched}
 use Rattle.relay_model.specs.Hears.{goes_on, turns_of}
 use Rattle.article_fetch.specs.Fetch.{asked_view, ended, Fetch, FoundAs, HearsBlock, Replies}
 use Rattle.article_fetch.specs.Fetch.{StaysSame}
+use Rattle.article_fetch.specs.Given.{HearsAny, ReplyToAny, SaysSuch, found_with, given}
 use Rattle.article_fetch.specs.Inside.{most_due}
 use Rattle.article_fetch.specs.Malformed.{FaultsAsked, FaultsLast, SaysFault}
 use Rattle.article_fetch.specs.Shown.{SaysLast}
 use Rattle.news_terms.specs.BlockImage.{chunk_size}
 use Rattle.article_fetch.specs.contracts.reading.Reading.{the_view}
 use Rattle.article_fetch.specs.declared.chunk.Chunk.{Chunk}
-use Rattle.article_fetch.proofs.Hearing.{all_due, heard_on, heard_last, heard_nothing, no_text}
+use Rattle.article_fetch.proofs.Hearing.{all_due, any_last, any_nothing, any_on}
+use Rattle.article_fetch.proofs.Hearing.{heard_on, heard_last, heard_nothing, no_text}
 use Rattle.article_fetch.proofs.reading.Reading.hear_prepared.Goals as goal
 use Rattle.article_fetch.proofs.reading.Reading.hear_prepared.Goals.{in-Found+else-self-turns}
 use Rattle.article_fetch.proofs.reading.Reading.hear_prepared.Goals.{in_default}
@@ -41,6 +43,12 @@ returns-then-self-turns c =
           (λ found h. heard_on (the_view inside) octets c.gather.new.text.items found now more
           (subst (λ (chunk : Chunk). FoundAs (the_view inside) chunk found) c.in-Found.is h));
       same = subst (λ (fetch : Fetch). StaysSame fetch None after) c.self.view_is refl;
+      given = subst (λ (fetch : Fetch). HearsAny fetch c.args.chunk None after) c.self.view_is
+          (subst (λ (chunk : Chunk). HearsAny (the_view inside) chunk None after)
+          (sym c.in-Found.is)
+          (any_on (the_view inside) octets c.gather.new.text.items now
+          (subst (λ (x : List ℕ). length x ≤ chunk_size) c.as_slice.ensures.octets
+          c.as_slice.ensures.short) more));
       fault = tt;
     }
 
@@ -108,7 +116,39 @@ returns c =
           w.in-Found.is told)))
       | in_default w ↦ no_text fetch c.args.chunk c.last_reply.result w.in_default.not-Found
     ] in
+    let shows : SaysSuch (ReplyToAny asked token (found_with c.args.chunk c.match-chunk.text.items))
+    said =
+    subst (λ (x : List ℕ). SaysSuch (ReplyToAny asked token (found_with c.args.chunk x)) said)
+    c.deref.ensures.value c.last_reply.ensures.given in
+    let any : (goes_on asked token inside.had (given inside.gathered.items c.args.chunk) ≡ false)
+    × SaysSuch (ReplyToAny asked token (given inside.gathered.items c.args.chunk)) said =
+    elim c.match-chunk.branch [
+      | in-Found+else-self-turns w ↦
+          let octets = w.in-Found.octets in
+          let due = most_due asked in
+          let now : c.match-chunk.text.items ≡ inside.gathered.items ++ take due octets =
+          ap (λ (v : Vec ℕ Global). v.items) w.text-is
+          ∙ w.gather.ensures.items
+          ∙ ap (λ (v : Vec ℕ Global). v.items ++ take due w.as_slice.result.now)
+          c.replace-text.ensures.value
+          ∙ ap (λ (x : List ℕ). inside.gathered.items ++ take due x) w.as_slice.ensures.octets in
+          let last : turns_of asked token ≤ inside.had + 1 =
+          omega (arith, w.if-self-turns.false, w.turns-turns.ensures) in
+          subst (λ (chunk : Chunk).
+          (goes_on asked token inside.had (given inside.gathered.items chunk) ≡ false)
+          × SaysSuch (ReplyToAny asked token (given inside.gathered.items chunk)) said)
+          (sym w.in-Found.is)
+          (any_last fetch octets c.match-chunk.text.items said now
+          (subst (λ (x : List ℕ). length x ≤ chunk_size) w.as_slice.ensures.octets
+          w.as_slice.ensures.short) last
+          (subst (λ (chunk : Chunk). SaysSuch (ReplyToAny asked token
+          (found_with chunk c.match-chunk.text.items)) said) w.in-Found.is shows))
+      | in_default w ↦ any_nothing fetch c.args.chunk c.match-chunk.text.items said
+          w.in_default.not-Found shows
+    ] in
     record {
+      given = subst (λ (fetch : Fetch). HearsAny fetch c.args.chunk (Some c.last_reply.result) after)
+          c.self.view_is (any.0, any.1, over);
       heard = subst (λ (fetch : Fetch). (found : Fetched) → FoundAs fetch c.args.chunk found
           → (goes_on fetch.asked fetch.token fetch.had found ≡ false)
           × Replies fetch.asked fetch.token found said × (after ≡ ended fetch))

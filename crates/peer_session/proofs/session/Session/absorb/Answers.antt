@@ -1,5 +1,7 @@
-use Rattle.std.proofs.Common.{subst, sym}
+use Rattle.std.proofs.Common.{refl, subst, sym}
 use Rattle.peer_session.specs.Hearing.{Heeds}
+use Rattle.peer_session.specs.declared.phase.Todo.TheVariants as todos
+use Rattle.peer_session.proofs.GivenReads.{given_first, given_on, not_read}
 use Rattle.peer_session.proofs.HearBlocks.{refuses, takes}
 use Rattle.peer_session.proofs.HearCommon.{rests, was_planned, with_planned}
 use Rattle.peer_session.proofs.HearFetches.{looks, reads_first, reads_on, takes_queue}
@@ -145,3 +147,110 @@ returns-in-End-clause-heard c =
     c.replace-todo.new.dest c.replace-todo.result.read
     (was_planned c.args.self.now c.replace-todo.result _ c.replace-todo.ensures.value c.in-End.is)
     c.hear_ended.ensures.heard
+
+-- what was read of a block is heard whatever it is
+pub returns-in-Fetch-clause-given : goal.returns-in-Fetch-clause-given
+returns-in-Fetch-clause-given c =
+    given_first c.args.self.now c.hear_first.new.self c.args.answer c.hear_first.result.items
+    c.replace-todo.new.dest c.replace-todo.result.read c.in-Fetch.reading
+    (was_planned c.args.self.now c.replace-todo.result _ c.replace-todo.ensures.value c.in-Fetch.is)
+    c.hear_first.ensures.given
+
+pub returns-in-ReadOn-clause-given : goal.returns-in-ReadOn-clause-given
+returns-in-ReadOn-clause-given c =
+    given_on c.args.self.now c.hear_next.new.self c.args.answer c.hear_next.result.items
+    c.replace-todo.new.dest c.replace-todo.result.read
+    (was_planned c.args.self.now c.replace-todo.result _ c.replace-todo.ensures.value
+    c.in-ReadOn.is)
+    c.hear_next.ensures.given
+
+-- no other plan asks for a block
+pub returns-in-Rest-clause-given : goal.returns-in-Rest-clause-given
+returns-in-Rest-clause-given c =
+    not_read c.args.self.now (with_planned c.args.self.now c.replace-todo.new.dest) c.args.answer
+    c.new-in-Rest.result.items todos.Rest c.replace-todo.result.read refl
+    (was_planned c.args.self.now c.replace-todo.result _ c.replace-todo.ensures.value c.in-Rest.is)
+
+pub returns-in-Push-clause-given : goal.returns-in-Push-clause-given
+returns-in-Push-clause-given c =
+    not_read c.args.self.now (with_planned c.args.self.now c.replace-todo.new.dest) c.args.answer
+    c.new-in-Push.result.items todos.Push c.replace-todo.result.read refl
+    (was_planned c.args.self.now c.replace-todo.result _ c.replace-todo.ensures.value c.in-Push.is)
+
+pub returns-in-Owe-clause-given : goal.returns-in-Owe-clause-given
+returns-in-Owe-clause-given c =
+    not_read c.args.self.now c.hear_owed.new.self c.args.answer c.hear_owed.result.items
+    (todos.Owe c.in-Owe.id) c.replace-todo.result.read refl
+    (was_planned c.args.self.now c.replace-todo.result _ c.replace-todo.ensures.value c.in-Owe.is)
+
+pub returns-in-Say-clause-given : goal.returns-in-Say-clause-given
+returns-in-Say-clause-given c =
+    not_read c.args.self.now c.hear_said.new.self c.args.answer c.hear_said.result.items
+    (todos.Say c.in-Say.octets) c.replace-todo.result.read refl
+    (was_planned c.args.self.now c.replace-todo.result _ c.replace-todo.ensures.value c.in-Say.is)
+
+pub returns-in-Leave-clause-given : goal.returns-in-Leave-clause-given
+returns-in-Leave-clause-given c =
+    not_read c.args.self.now c.hear_left.new.self c.args.answer c.hear_left.result.items
+    (todos.Leave c.in-Leave.octets) c.replace-todo.result.read refl
+    (was_planned c.args.self.now c.replace-todo.result _ c.replace-todo.ensures.value c.in-Leave.is)
+
+pub returns-in-Check-clause-given : goal.returns-in-Check-clause-given
+returns-in-Check-clause-given c =
+    not_read c.args.self.now c.hear_check.new.self c.args.answer c.hear_check.result.items
+    (todos.Check c.in-Check.id c.in-Check.room) c.replace-todo.result.read refl
+    (was_planned c.args.self.now c.replace-todo.result _ c.replace-todo.ensures.value c.in-Check.is)
+
+pub returns-in-Ihave-clause-given : goal.returns-in-Ihave-clause-given
+returns-in-Ihave-clause-given c =
+    not_read c.args.self.now c.hear_ihave.new.self c.args.answer c.hear_ihave.result.items
+    (todos.Ihave c.in-Ihave.id c.in-Ihave.copy c.in-Ihave.room) c.replace-todo.result.read refl
+    (was_planned c.args.self.now c.replace-todo.result _ c.replace-todo.ensures.value c.in-Ihave.is)
+
+pub returns-in-Look-clause-given : goal.returns-in-Look-clause-given
+returns-in-Look-clause-given c =
+    not_read c.args.self.now c.hear_look.new.self c.args.answer c.hear_look.result.items
+    (todos.Look c.in-Look.part c.in-Look.id c.in-Look.room) c.replace-todo.result.read refl
+    (was_planned c.args.self.now c.replace-todo.result _ c.replace-todo.ensures.value c.in-Look.is)
+
+pub returns-in-Queue-clause-given : goal.returns-in-Queue-clause-given
+returns-in-Queue-clause-given c =
+    not_read c.args.self.now c.hear_queue.new.self c.args.answer c.hear_queue.result.items
+    (todos.Queue c.in-Queue.room) c.replace-todo.result.read refl
+    (was_planned c.args.self.now c.replace-todo.result _ c.replace-todo.ensures.value c.in-Queue.is)
+
+pub returns-in-Refuse-clause-given : goal.returns-in-Refuse-clause-given
+returns-in-Refuse-clause-given c =
+    not_read c.args.self.now c.hear_refused.new.self c.args.answer c.hear_refused.result.items
+    (todos.Refuse c.in-Refuse.room) c.replace-todo.result.read refl
+    (was_planned c.args.self.now c.replace-todo.result _ c.replace-todo.ensures.value c.in-Refuse.is)
+
+pub returns-in-Take-clause-given : goal.returns-in-Take-clause-given
+returns-in-Take-clause-given c =
+    not_read c.args.self.now c.hear_taken.new.self c.args.answer c.hear_taken.result.items
+    (todos.Take c.in-Take.copy c.in-Take.article c.in-Take.room) c.replace-todo.result.read refl
+    (was_planned c.args.self.now c.replace-todo.result _ c.replace-todo.ensures.value c.in-Take.is)
+
+pub returns-in-TakeHeld-clause-given : goal.returns-in-TakeHeld-clause-given
+returns-in-TakeHeld-clause-given c =
+    not_read c.args.self.now c.hear_held.new.self c.args.answer c.hear_held.result.items
+    (todos.TakeHeld c.in-TakeHeld.copy) c.replace-todo.result.read refl
+    (was_planned c.args.self.now c.replace-todo.result _ c.replace-todo.ensures.value c.in-TakeHeld.is)
+
+pub returns-in-Slot-clause-given : goal.returns-in-Slot-clause-given
+returns-in-Slot-clause-given c =
+    not_read c.args.self.now c.hear_slot.new.self c.args.answer c.hear_slot.result.items
+    todos.Slot c.replace-todo.result.read refl
+    (was_planned c.args.self.now c.replace-todo.result _ c.replace-todo.ensures.value c.in-Slot.is)
+
+pub returns-in-Release-clause-given : goal.returns-in-Release-clause-given
+returns-in-Release-clause-given c =
+    not_read c.args.self.now c.hear_released.new.self c.args.answer c.hear_released.result.items
+    todos.Release c.replace-todo.result.read refl
+    (was_planned c.args.self.now c.replace-todo.result _ c.replace-todo.ensures.value c.in-Release.is)
+
+pub returns-in-End-clause-given : goal.returns-in-End-clause-given
+returns-in-End-clause-given c =
+    not_read c.args.self.now c.hear_ended.new.self c.args.answer c.hear_ended.result.items
+    todos.End c.replace-todo.result.read refl
+    (was_planned c.args.self.now c.replace-todo.result _ c.replace-todo.ensures.value c.in-End.is)
