@@ -39,6 +39,7 @@ impl<S: BlockStore> Shelf<S> {
     ghost use Rattle.block_shelf.specs.Keeping.{KeepsTexts};
     ghost use Rattle.block_shelf.specs.Openings.{Opening};
     ghost use Rattle.block_shelf.specs.Reading.{ReadsOn, IsFrontAt};
+    ghost use Rattle.cyc_buffer.specs.Calls.{LeavesRest};
     ghost use Rattle.cyc_token.specs.Token.{token_view};
     ghost use Rattle.relay_model.specs.State.{State};
     ghost use Rattle.relay_model.specs.Terms.{Terms};
@@ -122,6 +123,8 @@ impl<S: BlockStore> Shelf<S> {
         chunk: &mut [u8; CHUNK_OCTETS],
     ) -> Result<Found, BufError>
         ensures found { ReadsOn (token_view token.now) k self.old result chunk.new self.new }
+        // Behind a chunk the slice is as it was, and where there is no chunk all of it is.
+        ensures rest { LeavesRest result chunk.old chunk.new }
         ensures calls { CallsOneAtMost token.now.buffer self.old self.new }
     {
         match self.buffers.get_mut(usize::from(token.buffer)) {
