@@ -182,10 +182,13 @@ fn cut(alloc: Global, stream: &[u8], piece: usize, blocks: bool) -> Result<(), C
     Ok(())
 }
 
-/// Cuts a block or a line; false where none is whole.
+/// Cuts a block or a line; false where none is whole, and where a line would begin in a block.
 fn cut_one(cutter: &mut Cutter, blocks: bool) -> Result<bool, CutError> {
     if blocks {
         return Ok(cutter.block()?.is_some());
+    }
+    if cutter.is_passing() {
+        return Ok(false);
     }
     Ok(cutter.line()?.is_some())
 }

@@ -1,4 +1,5 @@
 //! The calls of `stream_cut`.
+ghost use Rattle.std.specs.Prelude.{◌≡◌};
 
 use crate::texts::values::{Runs, number_of, put_fault, put_in, put_space};
 use row_text::put_number;
@@ -56,19 +57,28 @@ fn feed(cutter: &mut Cutter, piece: &[u8]) -> Result<(), AllocError> {
     Err(AllocError)
 }
 
-/// Writes the next line, which is wanted once more where memory was refused.
+/// Writes the next line, which is wanted once more where memory was refused; in the middle of a
+/// block that is past its limit none is wanted.
 fn put_line(cutter: &mut Cutter, text: &mut Vec<u8>) -> Result<(), AllocError> {
     put_space(text)?;
-    let mut line = cutter.line();
-    if matches!(line, Err(CutError::Memory)) {
-        line = cutter.line();
+    if cutter.is_passing() {
+        return text.extend_from_slice(b"Passing");
     }
-    match line {
+    match next_line(cutter) {
         Ok(Some(line)) => put_in(text, b"Line", &line),
         Ok(None) => text.extend_from_slice(b"None"),
         Err(CutError::LineTooLong) => text.extend_from_slice(b"LineTooLong"),
-        Err(CutError::Passing) => text.extend_from_slice(b"Passing"),
         Err(CutError::Memory) => Err(AllocError),
+    }
+}
+
+/// The next line, wanted once more where memory was refused.
+fn next_line(cutter: &mut Cutter) -> Result<Option<Vec<u8>>, CutError>
+    requires { cutter.old.dropped ≡ 0 }
+{
+    match cutter.line() {
+        Err(CutError::Memory) => cutter.line(),
+        line => line,
     }
 }
 
@@ -83,14 +93,17 @@ fn put_block(cutter: &mut Cutter, text: &mut Vec<u8>) -> Result<(), AllocError> 
         Ok(Some(block)) => put_whole(text, &block),
         Ok(None) => text.extend_from_slice(b"None"),
         Err(CutError::LineTooLong) => text.extend_from_slice(b"LineTooLong"),
-        Err(CutError::Passing) => text.extend_from_slice(b"Passing"),
         Err(CutError::Memory) => Err(AllocError),
     }
 }
 
-/// Writes what stands where a line is wanted, and passes the line.
+/// Writes what stands where a line is wanted, and passes the line; in the middle of a block that is
+/// past its limit none is wanted.
 fn put_found_line(cutter: &mut Cutter, text: &mut Vec<u8>) -> Result<(), AllocError> {
     put_space(text)?;
+    if cutter.is_passing() {
+        return text.extend_from_slice(b"Passing");
+    }
     match cutter.find_line() {
         FoundLine::Whole(end) => {
             put_in(text, b"Found", &cutter.kept()[..end])?;
@@ -98,7 +111,6 @@ fn put_found_line(cutter: &mut Cutter, text: &mut Vec<u8>) -> Result<(), AllocEr
         }
         FoundLine::TooLong => text.extend_from_slice(b"TooLong")?,
         FoundLine::Incomplete => text.extend_from_slice(b"Incomplete")?,
-        FoundLine::Passing => text.extend_from_slice(b"Passing")?,
     }
     Ok(())
 }
