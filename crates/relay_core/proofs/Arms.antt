@@ -105,6 +105,7 @@ module _ {S : Type 0} {g : Ghosts S} (n now : ℕ) (old : System S g) (peer : Pe
           count = but.core.count;
           lanes = but.core.lanes;
           desk = but.core.desk;
+          expirer = but.core.expirer;
           shelf = but.core.shelf;
         };
         peers = but.peers;
@@ -252,6 +253,7 @@ module _ {S : Type 0} {g : Ghosts S} (n now : ℕ) (old : System S g) (peer : Pe
               count = but.core.count;
               lanes = but.core.lanes;
               desk = kept;
+              expirer = but.core.expirer;
               shelf = but.core.shelf;
             };
             peers = but.peers;
@@ -279,6 +281,7 @@ module _ {S : Type 0} {g : Ghosts S} (n now : ℕ) (old : System S g) (peer : Pe
               count = but.core.count;
               lanes = but.core.lanes;
               desk = but.core.desk;
+              expirer = but.core.expirer;
               shelf = but.core.shelf;
             };
             peers = λ s differ.
@@ -315,6 +318,7 @@ module _ {S : Type 0} {g : Ghosts S} (n now : ℕ) (old : System S g) (peer : Pe
                 count = but.core.count;
                 lanes = but.core.lanes;
                 desk = but.core.desk;
+                expirer = but.core.expirer;
                 shelf = but.core.shelf;
               };
               peers = but.peers;

@@ -25,6 +25,7 @@ use Rattle.relay_peers.specs.Peers.{NoPeers, peer_at}
 use Rattle.relay_peers.specs.declared.peers.Peer.{Peer}
 use Rattle.relay_core.specs.Agreement.{AgreesBy, LaneIs, PeerIs}
 use Rattle.relay_core.specs.Beginning.{AreIdle, BeginsOver, IsIdle}
+use Rattle.relay_core.specs.Expiring.{expirer_view}
 use Rattle.relay_core.specs.declared.system.Lane.{Lane}
 use Rattle.relay_core.specs.declared.system.System.{System}
 
@@ -65,8 +66,9 @@ module _ {S : Type 0} {g : Ghosts S} (system : System S g) (config : Config) (st
         → KeepsAll system.shards (λ id. Unknown)
         → KeepsFeeds system.desk (map ring_size config.relay.feeds.items) (λ f. no_feed)
         → AreIdle (length config.buffers.groups.items) system.lanes.items
-        → KeepsNothing config.buffers stores system.shelf → BeginsOver config stores system
-    begins same newest peers claims feeds lanes texts =
+        → KeepsNothing config.buffers stores system.shelf
+        → expirer_view system.expirer ≡ world.Reading [] → BeginsOver config stores system
+    begins same newest peers claims feeds lanes texts expirer =
         let w : Terms = terms_of config in
         record {
           config_is = same;
@@ -82,6 +84,7 @@ module _ {S : Type 0} {g : Ghosts S} (system : System S g) (config : Config) (st
                   lanes = idle_lanes system.lanes.items lanes.each;
                   desk = subst (λ (sizes : List ℕ). KeepsFeeds system.desk sizes (λ f. no_feed))
                       (rings_are config.relay.feeds.items) feeds;
+                  expirer = sym expirer;
                   shelf = texts trusted honest w refl refl;
                 };
                 peers = λ s. nobody trusted w (peer_at system.peers s) (peers s);

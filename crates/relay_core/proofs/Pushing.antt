@@ -133,6 +133,7 @@ module _ {S : Type 0} {g : Ghosts S} (group : ℕ) (old : System S g) (peer : Pe
                     (λ e. differ (e ∙ asked.2)))
                     (λ h differ. refl) but.core.lanes;
                 desk = but.core.desk;
+                expirer = but.core.expirer;
                 shelf = but.core.shelf;
               };
               peers = but.peers;

@@ -117,6 +117,7 @@ module _ {S : Type 0} {g : Ghosts S} (h now : ℕ) (old : System S g) where
               (subst Q (sym (put_at_there x.work.queue h rest k differ))
               (lanes_same w h code.Idle old x out u k differ));
           desk = out.desk;
+          expirer = out.expirer;
           shelf = subst T (openings_stay x.work.writer h u (ap opening_of out.writer_is))
               out.shelf;
           peers = out.peers;
@@ -151,6 +152,7 @@ module _ {S : Type 0} {g : Ghosts S} (h now : ℕ) (old : System S g) where
               let P : Option Lane → Type 0 = λ o. LaneIs o (x.work.queue k) (x.work.writer k) in
               subst P (sym (get_other old.lanes.items h one k differ)) (out.lanes k differ);
           desk = out.desk;
+          expirer = out.expirer;
           shelf = out.shelf;
           peers = out.peers;
         };
@@ -173,6 +175,7 @@ module _ {S : Type 0} {g : Ghosts S} (h now : ℕ) (old : System S g) where
         writer_is = put_at_here x.work.writer h world.Idle h refl;
         lanes = lanes_same w h v old x out world.Idle;
         desk = out.desk;
+        expirer = out.expirer;
         shelf = subst T (openings_stay x.work.writer h world.Idle
             (ap opening_of out.writer_is ∙ none)) out.shelf;
         peers = λ k. same_or_other k s
@@ -243,6 +246,7 @@ module _ {S : Type 0} {g : Ghosts S} where
             let P : Option Lane → Type 0 = λ o. LaneIs o (x.work.queue k) (x.work.writer k) in
             subst P (sym (get_other old.lanes.items h idle k differ)) (agrees.core.lanes k);
         desk = agrees.core.desk;
+        expirer = agrees.core.expirer;
         shelf = agrees.core.shelf;
         peers = agrees.peers;
       }
@@ -302,6 +306,7 @@ module _ {S : Type 0} {g : Ghosts S} where
                 subst Q (sym (get_other advanced.lanes.items h done k differ))
                 (out.lanes k differ));
             desk = out.desk;
+            expirer = out.expirer;
             shelf = out.shelf;
           };
           peers = out.peers;

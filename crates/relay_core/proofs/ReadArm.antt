@@ -111,6 +111,7 @@ module _ {S : Type 0} {g : Ghosts S} (n now : ℕ) (old : System S g) (peer : Pe
           count = but.core.count;
           lanes = but.core.lanes;
           desk = but.core.desk;
+          expirer = but.core.expirer;
           shelf = keeps;
         };
         peers = but.peers;

@@ -77,6 +77,7 @@ module _ {S : Type 0} {g : Ghosts S} (s : System S g) (n : ℕ) where
             count = but.core.count;
             lanes = but.core.lanes;
             desk = but.core.desk;
+            expirer = but.core.expirer;
             shelf = but.core.shelf;
           };
           peers = peers_after true w n peer' lent back x.state.kept x.state.session x.work.slot
@@ -260,6 +261,7 @@ module _ {S : Type 0} {g : Ghosts S} (s : System S g) (n : ℕ) where
             count = agrees.core.count;
             lanes = agrees.core.lanes;
             desk = agrees.core.desk;
+            expirer = agrees.core.expirer;
             shelf = agrees.core.shelf;
           };
           peers = peers_after true w n (record { session = session; slot = None }) s.peers peers

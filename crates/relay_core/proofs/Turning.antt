@@ -155,6 +155,7 @@ by_memory (outputs.Refused faults.SessionTaken) memory other = other (λ e. cc)
 by_memory (outputs.Refused faults.NoGroup) memory other = other (λ e. cc)
 by_memory (outputs.Refused faults.NoPeer) memory other = other (λ e. cc)
 by_memory (outputs.Refused faults.BadMoment) memory other = other (λ e. cc)
+by_memory (outputs.Refused faults.NoShard) memory other = other (λ e. cc)
 
 module _ {S : Type 0} {g : Ghosts S} where
   -- an event is refused, and nothing changes
@@ -179,6 +180,7 @@ module _ {S : Type 0} {g : Ghosts S} where
         count = core.count;
         lanes = core.lanes;
         desk = core.desk;
+        expirer = core.expirer;
         shelf = core.shelf;
       }
 
@@ -298,6 +300,7 @@ module _ {S : Type 0} {g : Ghosts S} where
             count = turn.agrees.core.count;
             lanes = turn.agrees.core.lanes;
             desk = turn.agrees.core.desk;
+            expirer = turn.agrees.core.expirer;
             shelf = turn.agrees.core.shelf;
           };
           peers = peers_after true w n peer' new.peers back turn.between.state.kept

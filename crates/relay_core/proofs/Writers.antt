@@ -83,6 +83,7 @@ module _ {S : Type 0} {g : Ghosts S} (w : Terms) (h : ℕ) (v : Writer Begun) (o
         writer_is = put_at_here x.work.writer h u h refl ∙ is;
         lanes = lanes_same u;
         desk = feeds;
+        expirer = out.expirer;
         shelf =
             let P : (ℕ → Option Opening) → Type 0 = λ all. KeepsTexts true shelf w σ.begun σ.kept
             all failures in

@@ -24,6 +24,7 @@ use Rattle.relay_model.specs.World as world
 use Rattle.relay_model.specs.World.{World}
 use Rattle.relay_peers.specs.Peers.{peer_at}
 use Rattle.relay_peers.specs.declared.peers.Peer.{Peer}
+use Rattle.relay_core.specs.Expiring.{expirer_view}
 use Rattle.relay_core.specs.Openings.{openings}
 use Rattle.relay_core.specs.Queues.{jobs_of}
 use Rattle.relay_core.specs.declared.system.Lane.{Lane}
@@ -97,6 +98,7 @@ pub record Core {S : Type 0} {g : Ghosts S} (trusted : Bool) (w : Terms) (system
   pub desk : KeepsFeeds system.desk (ring_sizes w) x.state.feed
   pub shelf : KeepsTexts trusted system.shelf w x.state.begun x.state.kept
       (openings x.work.writer) x.work.failures
+  pub expirer : x.work.expirer ≡ expirer_view system.expirer
 
 -- all but the peer of session n, which is taken out
 pub record AgreesBut {S : Type 0} {g : Ghosts S} (trusted : Bool) (w : Terms) (n : ℕ)

@@ -1,6 +1,7 @@
 pub mod Agreement
 pub mod Arming
 pub mod Beginning
+pub mod Expiring
 pub mod Figures
 pub mod Openings
 pub mod Queues

@@ -16,6 +16,7 @@ event_view (events.Bytes session piece) = run.Bytes session piece
 event_view (events.Turn session now) = run.Turn session now
 event_view (events.Write group now) = run.Write group now
 event_view (events.Break session) = run.Break session
+event_view (events.Expire shard now) = run.Expire shard now
 
 -- why an event is refused
 abbrev pub fault_view : CoreError → world.Fault
@@ -25,6 +26,7 @@ fault_view faults.SessionTaken = world.SessionTaken
 fault_view faults.NoGroup = world.NoGroup
 fault_view faults.NoPeer = world.NoPeer
 fault_view faults.BadMoment = world.BadMoment
+fault_view faults.NoShard = world.NoShard
 
 -- what an event is answered
 abbrev pub output_view : Output → world.Output

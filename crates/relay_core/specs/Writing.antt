@@ -19,6 +19,7 @@ use Rattle.relay_model.specs.World.{World}
 use Rattle.relay_model.specs.Writers.{Writes}
 use Rattle.relay_peers.specs.Peers.{peer_at}
 use Rattle.relay_core.specs.Agreement.{LaneIs, PeerIs, ring_sizes}
+use Rattle.relay_core.specs.Expiring.{expirer_view}
 use Rattle.relay_core.specs.Openings.{openings}
 use Rattle.relay_core.specs.Queues.{jobs_of}
 use Rattle.relay_core.specs.declared.system.Lane.{Lane}
@@ -39,6 +40,7 @@ pub record WriterOut {S : Type 0} {g : Ghosts S} (w : Terms) (h : ℕ) (writer :
   pub desk : KeepsFeeds system.desk (ring_sizes w) x.state.feed
   pub shelf : KeepsTexts true system.shelf w x.state.begun x.state.kept
       (openings x.work.writer) x.work.failures
+  pub expirer : x.work.expirer ≡ expirer_view system.expirer
   pub peers : (s : ℕ) → PeerIs true w x.state.kept (peer_at system.peers s)
       (x.state.session s) (x.work.slot s)
 

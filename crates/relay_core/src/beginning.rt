@@ -2,6 +2,7 @@
 ghost use Rattle.std.specs.Prelude.{◌≡◌, IfOk, length, map};
 ghost use Rattle.relay_core.specs.Beginning.{AreIdle, BeginsOver};
 
+use crate::expiring::Expirer;
 use crate::queue::Queue;
 use crate::system::{Lane, System};
 use block_shelf::Shelf;
@@ -35,6 +36,7 @@ impl<S: BlockStore> System<S> {
         let hasher = RandomState::new(rt)?;
         let shards = Shards::new(rt, alloc)?;
         let desk = FeedDesk::new(alloc, &config.relay.feeds)?;
+        let expirer = Expirer::new(alloc)?;
         let lanes = new_lanes(alloc, config.buffers.groups.len())?;
         let shelf = Shelf::new(alloc, &config.buffers, stores)?;
         Ok(System {
@@ -47,6 +49,7 @@ impl<S: BlockStore> System<S> {
             desk,
             shelf,
             lanes,
+            expirer,
         })
     }
 }

@@ -15,6 +15,8 @@ pub enum Event {
     Write { group: usize, now: u64 },
     /// A session's connection is gone.
     Break { session: u64 },
+    /// The next bit of forgetting.
+    Expire { shard: usize, now: u64 },
 }
 
 /// What an event is answered.
@@ -45,4 +47,6 @@ pub enum CoreError {
     NoPeer,
     /// The moment is past the end of the year 9998.
     BadMoment,
+    /// There is no such shard.
+    NoShard,
 }

@@ -10,6 +10,7 @@
 mod arming;
 mod beginning;
 mod event;
+mod expiring;
 mod figures;
 mod queue;
 mod reading;

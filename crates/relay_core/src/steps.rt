@@ -27,6 +27,7 @@ impl<S: BlockStore> System<S> {
             Event::Turn { session, now } => self.turn(*session, *now),
             Event::Write { group, now } => self.write(*group, *now),
             Event::Break { session } => self.break_off(*session),
+            Event::Expire { shard, now } => self.expire(*shard, *now),
         }
     }
 

@@ -1,4 +1,5 @@
 //! The relay: its parts, and how it begins.
+use crate::expiring::Expirer;
 use crate::queue::Queue;
 use block_shelf::{Begun, Shelf};
 use buffer_group::Writer;
@@ -60,4 +61,5 @@ pub struct System<S: BlockStore> {
     pub(crate) desk: FeedDesk,
     pub(crate) shelf: Shelf<S>,
     pub(crate) lanes: Vec<Lane>,
+    pub(crate) expirer: Expirer,
 }

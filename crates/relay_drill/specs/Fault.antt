@@ -9,7 +9,7 @@ use Rattle.relay_drill.specs.declared.script.Keyword.{Keyword}
 use Rattle.relay_drill.specs.declared.script.Keyword.TheVariants as keywords
 use Rattle.relay_drill.specs.declared.line.Line.{Line}
 use Rattle.relay_drill.specs.declared.line.Line.TheVariants.{Open, Bring, Split, Turn, Write}
-use Rattle.relay_drill.specs.declared.line.Line.TheVariants.{Rounds, Break, Fail, Report}
+use Rattle.relay_drill.specs.declared.line.Line.TheVariants.{Rounds, Break, Expire, Fail, Report}
 use Rattle.relay_drill.specs.Script as script
 
 -- a keyword as the format has it
@@ -22,6 +22,7 @@ keyword_view keywords.Turn = script.TURN
 keyword_view keywords.Write = script.WRITE
 keyword_view keywords.Rounds = script.ROUNDS
 keyword_view keywords.Break = script.BREAK
+keyword_view keywords.Expire = script.EXPIRE
 keyword_view keywords.Fail = script.FAIL
 keyword_view keywords.Report = script.REPORT
 
@@ -34,6 +35,7 @@ line_view (Turn session moment) = script.Turns session moment
 line_view (Write group moment) = script.Writes group moment
 line_view (Rounds count moment) = script.Rounds count moment
 line_view (Break session) = script.Breaks session
+line_view (Expire shard moment) = script.Expires shard moment
 line_view (Fail buffer call) = script.Fails buffer call
 line_view Report = script.Reports
 

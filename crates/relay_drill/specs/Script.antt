@@ -24,6 +24,8 @@ pub data Line : Type 0 where
   Rounds : (count moment : ℕ) → Line
   -- a session's connection is gone
   Breaks : (session : ℕ) → Line
+  -- the next bit of forgetting
+  Expires : (shard moment : ℕ) → Line
   -- this call of a buffer's device fails, counted from here
   Fails : (buffer call : ℕ) → Line
   -- the report is printed
@@ -44,6 +46,7 @@ pub data Keyword : Type 0 where
   WRITE : Keyword
   ROUNDS : Keyword
   BREAK : Keyword
+  EXPIRE : Keyword
   FAIL : Keyword
   REPORT : Keyword
 
@@ -58,6 +61,7 @@ keyword_of word =
     else if bytes_eq word (codes "write") then Some WRITE
     else if bytes_eq word (codes "rounds") then Some ROUNDS
     else if bytes_eq word (codes "break") then Some BREAK
+    else if bytes_eq word (codes "expire") then Some EXPIRE
     else if bytes_eq word (codes "fail") then Some FAIL
     else if bytes_eq word (codes "report") then Some REPORT
     else None
@@ -102,6 +106,10 @@ rounds_line two = both Rounds (number_within 1 100000 two.0) (number two.1)
 abbrev pub break_line : List ℕ → Option Line
 break_line session = option_map Breaks (number session)
 
+-- `expire K MOMENT`
+abbrev pub expire_line : List ℕ × List ℕ → Option Line
+expire_line two = both Expires (number two.0) (number two.1)
+
 -- `fail BUFFER K`
 abbrev pub fail_line : List (List ℕ) → List ℕ × List ℕ → Option Line
 fail_line buffers two = both Fails (place_of buffers two.0) (number_within 1 1000000 two.1)
@@ -121,6 +129,7 @@ line_with names after TURN = option_and_then turn_line (two_of after)
 line_with names after WRITE = option_and_then write_line (two_of after)
 line_with names after ROUNDS = option_and_then rounds_line (two_of after)
 line_with names after BREAK = option_and_then break_line (one_of after)
+line_with names after EXPIRE = option_and_then expire_line (two_of after)
 line_with names after FAIL = option_and_then (fail_line names.buffers) (two_of after)
 line_with names after REPORT = report_line after
 

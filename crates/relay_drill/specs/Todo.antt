@@ -2,9 +2,9 @@
 -- step by step: which sessions a round serves hangs on which were opened, and which are closed.
 use Rattle.std.specs.Prelude.{ℕ, zero, suc, ◌+◌, ◌++◌, List, [], ◌∷◌, length, take, drop, Option}
 use Rattle.std.specs.Prelude.{None, Some}
-use Rattle.relay_model.specs.Run.{Event, Bytes, Turn, Write, Break}
+use Rattle.relay_model.specs.Run.{Event, Bytes, Turn, Write, Break, Expire}
 use Rattle.relay_drill.specs.Script.{Line, Opens, Brings, Splits, Turns, Writes, Rounds, Breaks}
-use Rattle.relay_drill.specs.Script.{Fails, Reports}
+use Rattle.relay_drill.specs.Script.{Expires, Fails, Reports}
 
 -- what is still to be done
 pub data Todo : Type 0 where
@@ -84,6 +84,7 @@ line_asks groups (Writes group moment) stand next = Next (Write group moment) (n
 line_asks groups (Rounds count moment) stand next =
     round_each groups moment stand.sessions count (next stand)
 line_asks groups (Breaks session) stand next = Next (Break session) (next stand)
+line_asks groups (Expires shard moment) stand next = Next (Expire shard moment) (next stand)
 line_asks groups (Fails buffer call) stand next = next stand
 line_asks groups Reports stand next = Report (next stand)
 

@@ -26,6 +26,8 @@ pub enum Line {
     Rounds(u64, u64),
     /// `break`: this session's connection is gone.
     Break(u64),
+    /// `expire`: the next bit of forgetting, in this shard at this moment.
+    Expire(usize, u64),
     /// `fail`: this call of this buffer's device fails, counted from here.
     Fail(usize, u64),
     /// `report`: the report is printed.

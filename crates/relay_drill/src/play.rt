@@ -83,6 +83,7 @@ fn play_line<W: Write>(
         Line::Write(group, now) => write(relay, *group, *now, writer),
         Line::Rounds(count, now) => rounds(relay, groups, &stand.sessions, *count, *now, writer),
         Line::Break(session) => break_off(relay, *session, writer),
+        Line::Expire(shard, now) => expire(relay, *shard, *now, writer),
         Line::Fail(buffer, call) => {
             relay.arm(*buffer, *call);
             Ok(())
@@ -269,6 +270,19 @@ fn break_off<W: Write>(relay: &mut Relay, session: u64, writer: &mut W) -> Resul
         relay.old relay.new (W.contents writer.old) (W.contents writer.new) }
 {
     perform(relay, &Event::Break { session }, writer)
+}
+
+/// The next bit of forgetting.
+fn expire<W: Write>(
+    relay: &mut Relay,
+    shard: usize,
+    now: u64,
+    writer: &mut W,
+) -> Result<(), DrillError>
+    ensures { (more : Todo) → Performs result (todo.Next (run.Expire shard now) more) more
+        relay.old relay.new (W.contents writer.old) (W.contents writer.new) }
+{
+    perform(relay, &Event::Expire { shard, now }, writer)
 }
 
 /// Does one event, and prints what it is answered.

@@ -38,6 +38,7 @@ fn fault_text(error: CoreError) -> &'static [u8]
         CoreError::NoGroup => b"3 NoGroup",
         CoreError::NoPeer => b"4 NoPeer",
         CoreError::BadMoment => b"5 BadMoment",
+        CoreError::NoShard => b"6 NoShard",
     }
 }
 

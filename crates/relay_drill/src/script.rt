@@ -5,8 +5,8 @@ ghost use Rattle.std.specs.Option.{option_and_then};
 ghost use Rattle.news_terms.specs.Lines.{crlf};
 ghost use Rattle.line_words.specs.Parts.{one_of, parts_after, two_of};
 ghost use Rattle.relay_drill.specs.Drill.{names_of};
-ghost use Rattle.relay_drill.specs.Script.{break_line, fail_line, line_of, open_line, raw_line};
-ghost use Rattle.relay_drill.specs.Script.{report_line};
+ghost use Rattle.relay_drill.specs.Script.{break_line, expire_line, fail_line, line_of, open_line};
+ghost use Rattle.relay_drill.specs.Script.{raw_line, report_line};
 ghost use Rattle.relay_drill.specs.Script.{rounds_line, script_of, send_line, split_line};
 ghost use Rattle.relay_drill.specs.Script.{turn_line, write_line};
 ghost use Rattle.relay_drill.specs.Script as terms;
@@ -50,6 +50,7 @@ enum Keyword {
     Write,
     Rounds,
     Break,
+    Expire,
     Fail,
     Report,
 }
@@ -68,6 +69,7 @@ fn read_line(alloc: Global, config: &Config, line: &[u8]) -> Result<Option<Line>
         Some(Keyword::Write) => Ok(write(rest)),
         Some(Keyword::Rounds) => Ok(rounds(rest)),
         Some(Keyword::Break) => Ok(break_off(rest)),
+        Some(Keyword::Expire) => Ok(expire(rest)),
         Some(Keyword::Fail) => Ok(fail(&config.buffers.buffers, rest)),
         Some(Keyword::Report) => Ok(report(rest)),
         None => Ok(None),
@@ -94,6 +96,8 @@ fn keyword_of(word: &[u8]) -> Option<Keyword>
         Some(Keyword::Rounds)
     } else if word == b"break".as_slice() {
         Some(Keyword::Break)
+    } else if word == b"expire".as_slice() {
+        Some(Keyword::Expire)
     } else if word == b"fail".as_slice() {
         Some(Keyword::Fail)
     } else if word == b"report".as_slice() {
@@ -205,6 +209,15 @@ fn break_off(rest: Option<&[u8]>) -> Option<Line>
         ≡ option_and_then break_line (one_of (parts_after 32 rest.entry)) }
 {
     Some(Line::Break(number(one_part(rest, b' ')?)?))
+}
+
+/// `expire K MOMENT`, by what follows the keyword.
+fn expire(rest: Option<&[u8]>) -> Option<Line>
+    ensures { option_map line_view result
+        ≡ option_and_then expire_line (two_of (parts_after 32 rest.entry)) }
+{
+    let (shard, moment) = two_parts(rest, b' ')?;
+    Some(Line::Expire(number(shard)? as usize, number(moment)?))
 }
 
 /// `fail BUFFER K`, by what follows the keyword.

@@ -1,8 +1,10 @@
 //! Reading a script whole, and running it over memory (docs/PROTOCOL.md, The call `drill`).
-ghost use Rattle.std.specs.Prelude.{◌≡◌, vec_items, IfOk};
+ghost use Rattle.std.specs.Prelude.{◌≡◌, ◌≢◌, vec_items, IfErr, IfOk, IfSome};
+ghost use Rattle.std.specs.declared.io.ErrorKind.TheVariants as kinds;
 ghost use Rattle.relay_drill.specs.Drill.{DrillGives};
 ghost use Rattle.relay_drill.specs.Fault.{ReadGives, unbegun_as};
 ghost use Rattle.relay_drill.specs.Stores.{AreStoresOf};
+ghost use Rattle.relay_drill.specs.declared.whole.Unread.TheVariants as reasons;
 
 use crate::fault::DrillError;
 use crate::play::play;
@@ -72,6 +74,35 @@ fn new_stores(
 pub fn read_all<R: Read>(alloc: Global, reader: &mut R) -> Result<Vec<u8>, DrillError>
     ensures { ReadGives vec_items result (R.remaining reader.old) }
 {
+    match read_on(alloc, reader) {
+        Ok(text) => Ok(text),
+        Err(Unread::Memory) => Err(DrillError::Memory),
+        Err(Unread::Failed(_)) => Err(DrillError::Unreadable),
+    }
+}
+
+/// Why a reader wasn't read to its end.
+#[derive(Debug, Drop)]
+enum Unread {
+    /// Memory was refused.
+    Memory,
+    /// A read failed so; `Other` where the reader took more turns than it may.
+    Failed(ErrorKind),
+}
+
+impl From<AllocError> for Unread {
+    ghost from_gives = { λ _ e. e ≡ reasons.Memory };
+
+    fn from(_error: AllocError) -> Unread {
+        Unread::Memory
+    }
+}
+
+/// All that the reader has. A read that was interrupted has failed in nothing: it is tried again.
+fn read_on<R: Read>(alloc: Global, reader: &mut R) -> Result<Vec<u8>, Unread>
+    ensures all { IfOk result (λ text. IfSome (R.remaining reader.old) (λ all. text.items ≡ all)) }
+    ensures retried { IfErr result (λ error. error ≢ reasons.Failed kinds.Interrupted) }
+{
     let mut text = Vec::new(alloc);
     let mut room = [0u8; READ_ROOM];
     for turn in 0..MOST_TURNS {
@@ -80,11 +111,12 @@ pub fn read_all<R: Read>(alloc: Global, reader: &mut R) -> Result<Vec<u8>, Drill
             Ok(0) => return Ok(text),
             Ok(count) => text.extend_from_slice(&room[..count])?,
             Err(error) => {
-                if error.kind() != ErrorKind::Interrupted {
-                    return Err(DrillError::Unreadable);
+                let kind = error.kind();
+                if kind != ErrorKind::Interrupted {
+                    return Err(Unread::Failed(kind));
                 }
             }
         }
     }
-    Err(DrillError::Unreadable)
+    Err(Unread::Failed(ErrorKind::Other))
 }

@@ -39,6 +39,10 @@ pub returns-in-Break : goal.returns-in-Break
 returns-in-Break g c = λ next.
     rw c.in-Break.is (c.break_off.ensures (next (stand_view c.args.stand.now)))
 
+pub returns-in-Expire : goal.returns-in-Expire
+returns-in-Expire g c = λ next.
+    rw c.in-Expire.is (c.expire.ensures (next (stand_view c.args.stand.now)))
+
 pub returns-in-Fail : goal.returns-in-Fail
 returns-in-Fail g c = λ next.
     rw c.in-Fail.is (goes_still (next (stand_view c.args.stand.now)) c.args.relay.now

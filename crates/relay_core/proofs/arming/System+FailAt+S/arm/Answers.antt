@@ -11,6 +11,7 @@ returns-clause-agrees g c = λ trusted x agrees.
         count = agrees.core.count;
         lanes = agrees.core.lanes;
         desk = agrees.core.desk;
+        expirer = agrees.core.expirer;
         shelf = c.arm.ensures.kept trusted _ x.state.begun x.state.kept (openings x.work.writer)
             x.work.failures agrees.core.shelf;
       };

@@ -1,0 +1,140 @@
+//! An Expire: the next bit of forgetting (docs/PROTOCOL.md, Forgetting).
+ghost use Rattle.std.specs.Prelude.{◌≤◌, vec_capacity};
+
+use crate::event::{CoreError, Output};
+use crate::system::{LAST_MOMENT, System};
+use cyc_block::BlockStore;
+use cyc_buffer::Front;
+use id_history::SHARD_COUNT;
+use std::alloc::{AllocError, Global};
+
+/// The buffers that there can be.
+const BUFFER_LIMIT: usize = 256;
+
+/// How many Expires forget with the fronts of one reading, after the first of them.
+const MORE_FORGET: u8 = 15;
+
+/// What an Expire does next.
+#[derive(Clone, Copy, Debug, PartialEq, Eq)]
+pub(crate) enum Stage {
+    /// It reads the next front, or with all of them it forgets.
+    Reading,
+    /// It forgets, and so do so many Expires with it.
+    Forgetting { left: u8 },
+}
+
+/// How far forgetting has come: the fronts that were read, in the order of the buffers, and what an
+/// Expire does next. The fronts of all buffers have room from the start.
+#[derive(Debug, Drop)]
+pub(crate) struct Expirer {
+    pub(crate) fronts: Vec<Front>,
+    pub(crate) stage: Stage,
+    ghost room: { 256 ≤ vec_capacity fronts },
+}
+
+impl Expirer {
+    ghost use Rattle.std.specs.Prelude.{◌≡◌, ◌<◌, ◌++◌, ◌∷◌, [], IfOk, length, map};
+    ghost use Rattle.id_history.specs.Expiry.{passed_view};
+    ghost use Rattle.relay_core.specs.Expiring.{expirer_view, fronts_of};
+    ghost use Rattle.relay_model.specs.Run.{forgetter};
+    ghost use Rattle.relay_model.specs.World.{Reading};
+
+    /// No front was read.
+    pub(crate) fn new(alloc: Global) -> Result<Expirer, AllocError>
+        ensures { IfOk result (λ expirer. expirer_view expirer ≡ Reading []) }
+    {
+        let fronts = Vec::with_capacity(alloc, BUFFER_LIMIT)?;
+        Ok(Expirer {
+            fronts,
+            stage: Stage::Reading,
+        })
+    }
+
+    /// The next front was read.
+    fn read(&mut self, front: Front)
+        requires { length (fronts_of self.old) < 256 }
+        ensures { expirer_view self.new
+            ≡ Reading (map passed_view (fronts_of self.old ++ front ∷ [])) }
+    {
+        self.fronts.push_reserved(front);
+        self.stage = Stage::Reading;
+    }
+
+    /// An Expire forgot; so many more do so with these fronts, then they are read anew.
+    fn leave(&mut self, left: u8)
+        ensures { expirer_view self.new
+            ≡ forgetter (map passed_view (fronts_of self.old)) left }
+    {
+        if left == 0 {
+            self.fronts.clear();
+            self.stage = Stage::Reading;
+        } else {
+            self.stage = Stage::Forgetting { left };
+        }
+    }
+}
+
+impl<S: BlockStore> System<S> {
+    ghost use Rattle.std.specs.Prelude.{◌<◌, ℕ, IfSome, length};
+    ghost use Rattle.relay_model.specs.Run as run;
+    ghost use Rattle.relay_model.specs.Terms.{shard_count};
+    ghost use Rattle.relay_core.specs.Expiring.{Forgets, IsNextFront, fronts_of};
+    ghost use Rattle.relay_core.specs.Refusals.{RefusesRightly};
+    ghost use Rattle.relay_core.specs.Sharing.{KeepsFrame};
+    ghost use Rattle.relay_core.specs.Steps.{Steps};
+
+    /// The next bit of forgetting: the next front is read, or with all fronts the ids of the shard
+    /// are forgotten that may be. It takes no memory.
+    pub(crate) fn expire(&mut self, shard: usize, now: u64) -> Output
+        ensures steps { Steps (run.Expire shard now) self.old result self.new }
+        ensures refused { RefusesRightly (run.Expire shard now) self.old result self.new }
+        ensures frame { KeepsFrame self.old self.new }
+    {
+        if shard >= SHARD_COUNT {
+            return Output::Refused(CoreError::NoShard);
+        }
+        if now > LAST_MOMENT {
+            return Output::Refused(CoreError::BadMoment);
+        }
+        match self.expirer.stage {
+            Stage::Reading => match self.next_front() {
+                Some(front) => {
+                    self.expirer.read(front);
+                    Output::Quiet
+                }
+                None => {
+                    self.forget_old(shard, now, MORE_FORGET);
+                    Output::Quiet
+                }
+            },
+            Stage::Forgetting { left } => {
+                self.forget_old(shard, now, left.saturating_sub(1));
+                Output::Quiet
+            }
+        }
+    }
+
+    /// The front that is read next, unless all were read.
+    fn next_front(&self) -> Option<Front>
+        ensures front { IsNextFront self.now result }
+        ensures room { IfSome result (λ _. length (fronts_of self.now.expirer) < 256) }
+    {
+        let read = self.expirer.fronts.len();
+        if read >= BUFFER_LIMIT {
+            return None;
+        }
+        self.shelf.front(read as u8)
+    }
+
+    /// Forgets in a shard, with the fronts that were read; so many more Expires do so.
+    fn forget_old(&mut self, shard: usize, now: u64, left: u8)
+        requires { shard < shard_count }
+        ensures { Forgets shard now left self.old self.new }
+    {
+        if let Some(remember) = self.config.relay.remember {
+            self.shards
+                .expire(shard, now, remember, &self.expirer.fronts);
+        }
+        self.expirer.leave(left);
+    }
+}
