@@ -3,7 +3,7 @@ use Rattle.std.proofs.Common.{◌≡◌, ℕ, Bool, true, false, List, [], ◌�
 use Rattle.std.proofs.Common.{Ok, Err, ◌+◌, ◌++◌, refl, sym, ap, subst}
 use Rattle.std.proofs.lemmas.Bool.{cond_both}
 use Rattle.boxcar.specs.Table.{Shelves}
-use Rattle.live_session.specs.Course.{Course, Begins, Breaks, Comes, Goes, Point}
+use Rattle.live_session.specs.Course.{Course, Begins, Breaks, Comes, Goes, HearsAny, HearsBy, Point}
 use Rattle.news_terms.specs.Blocks.{NextBlock, Whole, Oversize, Unfinished, next_block}
 use Rattle.news_terms.specs.Command.{Command, AskCapabilities, AskHelp, AskDate, Quit, ModeStream}
 use Rattle.news_terms.specs.Command.{ModeReader, Check, Ihave, TakeThis, Fetch, NeedsGroup}
@@ -11,6 +11,7 @@ use Rattle.news_terms.specs.Command.{TakeQueue, FetchToken, CommandFault, Syntax
 use Rattle.news_terms.specs.Command as commands
 use Rattle.news_terms.specs.Lines.{NextLine, Cut, TooLong, Incomplete, next_line}
 use Rattle.news_terms.specs.Token.{Token}
+use Rattle.peer_session.specs.Given.{ReadAny}
 use Rattle.relay_model.specs.Asks.{Ask, Rests, GoesOn, Says, Leaves, Offers, Looks, Reads}
 use Rattle.relay_model.specs.Asks.{TakesQueue, Refuses, Takes, Pushes, LooksInSlot, Releases, Ends}
 use Rattle.relay_model.specs.Asks.{Due, due_as, offer_asked, is_full, later, queue_asked, feed_of}
@@ -277,19 +278,65 @@ heard_ends s before after (Releases id) told heard ends fits e =
     heard_is heard _ e (runs_on after fits)
 heard_ends s before after Ends told heard ends fits e = heard_is heard _ e (λ closed. fits)
 
+-- the same, whatever text was read
+any_ends : (s : ℕ) (before after : Session) (ask : Ask) (told : Answer) (heard : Heard)
+    → EndsEmpty before → FitsDue before ask after → HearsAny s after ask told heard
+    → EndsEmpty heard.session
+any_ends s before after (Reads asked token had) told heard ends fits e =
+    by (goes_on asked token had e.0) e.2
+  where
+    by : (more : Bool) → ReadAny after asked token had e.0 more heard → EndsEmpty heard.session
+    by true is = heard_is heard _ is (runs_on (in_phase after (Fetches asked token (had + 1))) refl)
+    by false is = heard_is heard _ is.2 (runs_on after fits)
+any_ends s before after Rests told heard ends fits e =
+    heard_ends s before after Rests told heard ends fits e
+any_ends s before after GoesOn told heard ends fits e =
+    heard_ends s before after GoesOn told heard ends fits e
+any_ends s before after (Says reply) told heard ends fits e =
+    heard_ends s before after (Says reply) told heard ends fits e
+any_ends s before after (Leaves reply) told heard ends fits e =
+    heard_ends s before after (Leaves reply) told heard ends fits e
+any_ends s before after (Offers transfer id) told heard ends fits e =
+    heard_ends s before after (Offers transfer id) told heard ends fits e
+any_ends s before after (Looks part id) told heard ends fits e =
+    heard_ends s before after (Looks part id) told heard ends fits e
+any_ends s before after (TakesQueue feed most) told heard ends fits e =
+    heard_ends s before after (TakesQueue feed most) told heard ends fits e
+any_ends s before after (Refuses transfer id) told heard ends fits e =
+    heard_ends s before after (Refuses transfer id) told heard ends fits e
+any_ends s before after (Takes transfer id article) told heard ends fits e =
+    heard_ends s before after (Takes transfer id article) told heard ends fits e
+any_ends s before after (Pushes job) told heard ends fits e =
+    heard_ends s before after (Pushes job) told heard ends fits e
+any_ends s before after (LooksInSlot transfer id) told heard ends fits e =
+    heard_ends s before after (LooksInSlot transfer id) told heard ends fits e
+any_ends s before after (Releases id) told heard ends fits e =
+    heard_ends s before after (Releases id) told heard ends fits e
+any_ends s before after Ends told heard ends fits e =
+    heard_ends s before after Ends told heard ends fits e
+
+-- over honest stores or any
+by_ends : (honest : Bool) (s : ℕ) (before after : Session) (ask : Ask) (told : Answer)
+    (heard : Heard) → EndsEmpty before → FitsDue before ask after
+    → HearsBy honest s after ask told heard → EndsEmpty heard.session
+by_ends true s before after ask told heard ends fits e =
+    heard_ends s before after ask told heard ends fits e
+by_ends false s before after ask told heard ends fits e =
+    any_ends s before after ask told heard ends fits e
+
 -- a session that still reads isn't closed
 reads_on : (m : Session) → is_reading m.phase ≡ true → EndsEmpty m
 reads_on m reads closed = absurd (clash (is_reading m.phase) reads (ap is_reading closed))
 
-module _ (register : Shelves) (w : Terms) (s end : ℕ) (first : Point) where
+module _ (honest : Bool) (register : Shelves) (w : Terms) (s end : ℕ) (first : Point) where
   -- where a course comes to the end of its session, that has nothing
-  pub course_ends : (p : Point) → EndsEmpty first.session → Course register w s end first p
+  pub course_ends : (p : Point) → EndsEmpty first.session → Course honest register w s end first p
       → EndsEmpty p.session
   course_ends p begins Begins = begins
   course_ends p begins (Comes from piece course reads) =
       reads_on (with_unread from.session (from.session.unread ++ piece)) reads
   course_ends p begins (Goes from turn hands course is handed) =
-      heard_ends s from.session turn.due.after turn.due.ask turn.told turn.heard
+      by_ends honest s from.session turn.due.after turn.due.ask turn.told turn.heard
       (course_ends from begins course)
       (phase_fits w from.session turn.now from.session.phase turn.due refl is.due) is.hears
   course_ends p begins (Breaks from course reads) =

@@ -1,4 +1,5 @@
 pub mod Carrying
 pub mod Closing
+pub mod Hearings
 pub mod Sharings
 pub mod Talks

@@ -1,16 +1,18 @@
 -- The step that a session planned is done, by each of its kinds.
-use Rattle.std.proofs.Common.{◌≡◌, ◌≤◌, ℕ, ◌+◌, ◌-◌, ◌*◌, ◌++◌, true, false, List, []}
+use Rattle.std.proofs.Common.{◌≡◌, ◌≢◌, ◌≤◌, ℕ, ◌+◌, ◌-◌, ◌*◌, ◌++◌, Bool, true, false, List, []}
 use Rattle.std.proofs.Common.{◌∷◌, Option, None, Some, refl, sym, ap, subst, ◌∙◌, length, map, take}
 use Rattle.std.proofs.Common.{slice_index_or, slice_set, inl, inr}
 use Rattle.std.proofs.Math.Logic.{∥∥₁_map}
 use Rattle.std.proofs.lemmas.List.{map-append}
 use Rattle.std.proofs.lemmas.Option.{none-some}
 use Rattle.std.specs.Option.{IsSomeAnd}
-use Rattle.std.specs.Prelude.{IfSome, option_map}
+use Rattle.std.specs.Prelude.{Err, IfErr, IfOk, IfSome, Ok, Result, option_map}
+use Rattle.article_fetch.specs.Fetch.{Fetch}
 use Rattle.article_fetch.specs.declared.chunk.Chunk.{Chunk}
 use Rattle.article_fetch.specs.declared.chunk.Chunk.TheVariants as chunks
 use Rattle.boxcar.specs.Table.{Shelves, Where}
 use Rattle.buffer_group.specs.declared.job.Job.{Job}
+use Rattle.cyc_buffer.specs.declared.answers.Fault.{Fault}
 use Rattle.cyc_buffer.specs.declared.answers.Found.{Found}
 use Rattle.cyc_buffer.specs.declared.answers.Found.TheVariants as found
 use Rattle.cyc_token.specs.Token.{token_view}
@@ -19,13 +21,16 @@ use Rattle.feed_queue.specs.declared.desk.Taken.{Taken}
 use Rattle.id_history.specs.Answers.{offer_view, take_view}
 use Rattle.id_history.specs.declared.claims.Offer.{Offer}
 use Rattle.id_history.specs.declared.claims.Take.{Take}
+use Rattle.id_history.specs.declared.claims.Take.TheVariants as takes
 use Rattle.live_fates.specs.declared.fate.KeptJob.{KeptJob}
 use Rattle.live_seats.specs.Seats.{count_of, end_of, handed_by}
-use Rattle.live_session.specs.Course.{Hands, HandsAfter, IsToldFor, with_job, with_kept}
-use Rattle.live_session.specs.Going.{AskFits, IsFrontOf, IsReadOf, KeepsButReads, ReadOf, ReadsFor}
-use Rattle.live_session.specs.Going.{Shared, SharesFor, chunk_view, hands_of, numbers_of}
+use Rattle.live_session.proofs.Hearings.{answers_by, none_read, reads_block}
+use Rattle.live_session.specs.Course.{Hands, HandsAfter, IsHeldOnce, IsToldFor, with_job, with_kept}
+use Rattle.live_session.specs.Going.{AnswersBy, AskFits, FoundBy, IsFrontOf, IsReadOf}
+use Rattle.live_session.specs.Going.{KeepsButReads, ReadOf, ReadsFor, Shared, SharesFor, chunk_view}
+use Rattle.live_session.specs.Going.{hands_of, numbers_of}
 use Rattle.live_session.specs.declared.talk.Talk.{Talk}
-use Rattle.live_store.specs.Steps.{IsChunkOf, IsFoundGone, IsFoundIn}
+use Rattle.live_store.specs.Steps.{IsChunkOf, IsFoundGone, IsFoundIn, IsReadFault}
 use Rattle.live_store.specs.Tied.{text_in}
 use Rattle.live_store.specs.declared.record.Archive.{Ghosts}
 use Rattle.live_store.specs.declared.writing.entering.Record.{Record}
@@ -34,6 +39,10 @@ use Rattle.news_terms.specs.Token.{Token}
 use Rattle.nntp_text.specs.Reply.{item_view}
 use Rattle.peer_session.specs.Answers.{IsAnswerTo, SharesNone, handed}
 use Rattle.peer_session.specs.Planning.{HandsOver, Planned}
+use Rattle.peer_session.specs.Session.{holds_article, phase_view}
+use Rattle.peer_session.specs.declared.phase.Phase.{Phase}
+use Rattle.peer_session.specs.declared.phase.Phase.TheVariants as phases
+use Rattle.peer_session.specs.declared.session.Session.{Session}
 use Rattle.peer_session.specs.declared.steps.Outcome.TheVariants as outcomes
 use Rattle.peer_session.specs.declared.steps.Answer.{Answer}
 use Rattle.peer_session.specs.declared.steps.Answer.TheVariants as answers
@@ -41,7 +50,9 @@ use Rattle.peer_session.specs.declared.steps.Step.{Step}
 use Rattle.peer_session.specs.declared.steps.Step.TheVariants as steps
 use Rattle.relay_model.specs.Asks as asks
 use Rattle.relay_model.specs.Asks.{Ask, Due}
+use Rattle.relay_model.specs.Claims.{Held}
 use Rattle.relay_model.specs.Fetches as fetches
+use Rattle.relay_model.specs.Fetches.{Fetched}
 use Rattle.relay_model.specs.Shares as shares
 use Rattle.relay_model.specs.State as model
 use Rattle.relay_model.specs.Terms.{Terms}
@@ -100,88 +111,145 @@ none_handed end (asks.Pushes job) hands is = absurd is
 none_handed end (asks.LooksInSlot transfer id) hands is = absurd is
 none_handed end (asks.Releases id) hands is = absurd is
 
+-- a fetch that has gathered this, and is prepared for its next block
+abbrev fetch_at : model.Asked → Token → (k : ℕ) → List ℕ → Fetch
+fetch_at asked token k gathered = record {
+  asked = asked;
+  token = token;
+  had = k;
+  gathered = gathered;
+  prepared = true;
+}
+
+-- what was read of a block answers what was asked
+read_answer : (honest : Bool) (asked : model.Asked) (token : Token) (k : ℕ) (gathered : List ℕ)
+    (chunk : Chunk) (found : Fetched) → FoundBy honest (fetch_at asked token k gathered) chunk found
+    → AnswersBy honest (asks.Reads asked token k) gathered (answers.Chunk chunk)
+    (shares.ToRead found)
+read_answer true asked token k gathered chunk found is = (chunk, found, refl, refl, is)
+read_answer false asked token k gathered chunk found is = (chunk, refl, ap shares.ToRead is)
+
+-- a session that holds an article isn't answered that another session stores one
+held_once : (take : Take) (session : Session) (phase : model.Phase)
+    → phase ≡ phase_view session.phase
+    → (holds_article session.phase ≡ true → take ≢ takes.Held)
+    → IsHeldOnce phase (shares.ToTake (take_view take))
+held_once take session phase is once id article holds told =
+    once (by session.phase (sym is ∙ holds)) (held_by take told)
+  where
+    by : (p : Phase) → phase_view p ≡ model.Holds id article → holds_article p ≡ true
+    by (phases.Holds one other room) e = refl
+    by phases.Ready e = cc
+    by (phases.Owes transfer one) e = cc
+    by (phases.Waits transfer one room) e = cc
+    by (phases.Fetches reading) e = cc
+    by phases.Leaving e = cc
+    by phases.Ended e = cc
+
+    held_by : (one : Take) → shares.ToTake (take_view one) ≡ shares.ToTake Held
+        → one ≡ takes.Held
+    held_by takes.Held e = refl
+    held_by takes.Mine e = cc
+    held_by takes.Seen e = cc
+
 module _ {J : Type 0} {g : Ghosts J} (w : Terms) (talk : Talk J g) where
   -- what was asked is answered so
-  pub answered : (new : Talk J g) (answer : Answer) (told : shares.Answer) (m : model.Session)
-      (d : Due) (gathered : List ℕ) (ask : Ask) → d.ask ≡ ask
-      → IsAnswerTo ask gathered answer told → IsReadOf new.reads.shown told
-      → IsToldFor g.register d.ask told
+  pub answered : (honest : Bool) (new : Talk J g) (answer : Answer) (told : shares.Answer)
+      (m : model.Session) (d : Due) (gathered : List ℕ) (ask : Ask) → d.ask ≡ ask
+      → reads_block ask ≡ false → IsAnswerTo ask gathered answer told
+      → IsReadOf new.reads.shown told → IsToldFor honest g.register d.ask told
+      → IsHeldOnce m.phase told
       → HandsAfter (end_of talk.seat) ask told (hands_of talk) (hands_of new)
       → Planned w new.session m d gathered (handed answer)
-      → ∥ Shared w m d gathered talk answer new ∥₁
-  answered new answer told m d gathered ask asked is read found hands planned = ∣ record {
-    told = told;
-    answers = subst (λ a. IsAnswerTo a gathered answer told) (sym asked) is;
-    read = read;
-    found = found;
-    hands = subst (λ a. HandsAfter (end_of talk.seat) a told (hands_of talk) (hands_of new))
-        (sym asked) hands;
-    planned = planned;
-  } ∣₁
+      → ∥ Shared honest w m d gathered talk answer new ∥₁
+  answered honest new answer told m d gathered ask asked plain is read found held hands planned =
+      ∣ record {
+        told = told;
+        answers = subst (λ a. AnswersBy honest a gathered answer told) (sym asked)
+            (answers_by honest ask gathered answer told plain is);
+        read = λ trusted. read;
+        found = found;
+        held = held;
+        hands = subst (λ a. HandsAfter (end_of talk.seat) a told (hands_of talk) (hands_of new))
+            (sym asked) hands;
+        planned = planned;
+      } ∣₁
 
   pub no_memory : (step : Step) (new : Talk J g) → SharesFor w step talk answers.Memory new
-  no_memory step new m d gathered planned is fits some = absurd (some refl)
+  no_memory step new honest trust m d gathered planned is fits some = absurd (some refl)
 
   pub nothing : SharesFor w steps.Nothing talk answers.Nothing talk
-  nothing m d gathered planned is fits some = ∣ record {
+  nothing honest trust m d gathered planned is fits some = ∣ record {
     told = shares.Nothing;
-    answers = none_answered d.ask gathered is;
-    read = tt;
+    answers = answers_by honest d.ask gathered answers.Nothing shares.Nothing
+        (none_read d.ask is) (none_answered d.ask gathered is);
+    read = λ trusted. tt;
     found = tt;
+    held = λ id article holds held. cc;
     hands = none_handed (end_of talk.seat) d.ask (hands_of talk) is;
     planned = planned;
   } ∣₁
 
   pub offered : (id : List ℕ) (offer : Offer)
       → SharesFor w (steps.Offer id) talk (answers.Offer offer) talk
-  offered id offer m d gathered planned is fits some =
-      answered talk (answers.Offer offer) (shares.ToOffer (offer_view offer)) m d gathered
-      (asks.Offers is.0 id) is.1 (offer, refl, refl) tt tt refl planned
+  offered id offer honest trust m d gathered planned is fits some =
+      answered honest talk (answers.Offer offer) (shares.ToOffer (offer_view offer)) m d gathered
+      (asks.Offers is.0 id) is.1 refl (offer, refl, refl) tt tt (λ held article holds e. cc) refl
+      planned
 
   pub looked : (id : List ℕ) (token : Option codes.Token)
       → SharesFor w (steps.Look id) talk (answers.Look token) talk
-  looked id token m d gathered planned is fits some =
-      answered talk (answers.Look token) (shares.ToLook (option_map token_view token)) m d gathered
-      (asks.Looks is.0 id) is.1 (token, refl, refl) tt tt refl planned
+  looked id token honest trust m d gathered planned is fits some =
+      answered honest talk (answers.Look token) (shares.ToLook (option_map token_view token)) m d
+      gathered (asks.Looks is.0 id) is.1 refl (token, refl, refl) tt tt
+      (λ held article holds e. cc) refl planned
 
   pub queued : (feed most : ℕ) (taken : Taken) → length taken.items.items ≤ most
       → SharesFor w (steps.TakeQueue feed most) talk (answers.Queue taken) talk
-  queued feed most taken few m d gathered planned is fits some =
-      answered talk (answers.Queue taken)
+  queued feed most taken few honest trust m d gathered planned is fits some =
+      answered honest talk (answers.Queue taken)
       (shares.ToTakeQueue taken.missed (map item_view taken.items.items)) m d gathered
-      (asks.TakesQueue feed most) is (taken, refl, few, refl) tt tt refl planned
+      (asks.TakesQueue feed most) is refl (taken, refl, few, refl) tt tt
+      (λ held article holds e. cc) refl planned
 
   pub refused : (id : List ℕ) → SharesFor w (steps.Refuse id) talk answers.Nothing talk
-  refused id m d gathered planned is fits some =
-      answered talk answers.Nothing shares.Nothing m d gathered (asks.Refuses is.0 id) is.1 refl tt
-      tt refl planned
+  refused id honest trust m d gathered planned is fits some =
+      answered honest talk answers.Nothing shares.Nothing m d gathered (asks.Refuses is.0 id) is.1
+      refl refl tt tt (λ held article holds e. cc) refl planned
 
+  -- who holds an article isn't answered that another session stores one
   pub taken_up : (id : List ℕ) (take : Take)
+      → (holds_article talk.session.phase ≡ true → take ≢ takes.Held)
       → SharesFor w (steps.Take id) talk (answers.Take take) talk
-  taken_up id take m d gathered planned is fits some =
-      answered talk (answers.Take take) (shares.ToTake (take_view take)) m d gathered
-      (asks.Takes is.0 id is.1) is.2 (take, refl, refl) tt tt refl planned
+  taken_up id take once honest trust m d gathered planned is fits some =
+      answered honest talk (answers.Take take) (shares.ToTake (take_view take)) m d gathered
+      (asks.Takes is.0 id is.1) is.2 refl (take, refl, refl) tt tt
+      (held_once take talk.session m.phase
+      (ap (λ (one : model.Session). one.phase) planned.stands.is) once) refl planned
 
   pub released : (id : List ℕ) → SharesFor w (steps.Release id) talk answers.Nothing talk
-  released id m d gathered planned is fits some =
-      answered talk answers.Nothing shares.Nothing m d gathered (asks.Releases id) is refl tt tt
-      refl planned
+  released id honest trust m d gathered planned is fits some =
+      answered honest talk answers.Nothing shares.Nothing m d gathered (asks.Releases id) is refl
+      refl tt tt (λ held article holds e. cc) refl planned
 
   pub was_read : (token : codes.Token) (k : ℕ) (chunk : Chunk) (new : Talk J g)
       → KeepsButReads talk new
-      → ReadsFor g.register (token_view token) k talk.reads.shown chunk new.reads.shown
+      → ((honest : Bool) → (honest ≡ true → g.trusted ≡ true)
+      → ReadsFor honest g.register (token_view token) k talk.reads.shown chunk new.reads.shown)
       → SharesFor w (steps.Read token k) talk (answers.Chunk chunk) new
-  was_read token k chunk new keeps reads m d gathered planned is fits some =
+  was_read token k chunk new keeps reads honest trust m d gathered planned is fits some =
       let ask = asks.Reads is.0 (token_view token) k in
-      ∥∥₁_map (reads is.0 gathered
-      (subst (λ a. AskFits talk.reads.shown a gathered) is.1 fits))
+      ∥∥₁_map (reads honest trust is.0 gathered (λ trusted.
+      subst (λ a. AskFits talk.reads.shown a gathered) is.1 (fits trusted)))
       (λ one. record {
         told = shares.ToRead one.found;
-        answers = subst (λ a. IsAnswerTo a gathered (answers.Chunk chunk)
+        answers = subst (λ a. AnswersBy honest a gathered (answers.Chunk chunk)
             (shares.ToRead one.found)) (sym is.1)
-            (chunk, one.found, refl, refl, one.is_found);
+            (read_answer honest is.0 (token_view token) k gathered chunk one.found one.is_found);
         read = one.read;
-        found = subst (λ a. IsToldFor g.register a (shares.ToRead one.found)) (sym is.1) one.under;
+        found = subst (λ a. IsToldFor honest g.register a (shares.ToRead one.found)) (sym is.1)
+            one.under;
+        held = λ id article holds held. cc;
         hands = subst (λ a. HandsAfter (end_of talk.seat) a (shares.ToRead one.found)
             (hands_of talk) (hands_of new)) (sym is.1) keeps.hands;
         planned = subst (λ s. Planned w s m d gathered false) (sym keeps.session) planned;
@@ -196,13 +264,13 @@ module _ {J : Type 0} {g : Ghosts J} (w : Terms) (talk : Talk J g) where
       → count_of new.seat ≡ count_of talk.seat + 1
       → numbers_of new.kept.items ≡ numbers_of talk.kept.items
       → SharesFor w (steps.Push group) talk (answers.Pushed true) new
-  pushed group job new over jobs count kept m d gathered planned is fits some =
+  pushed group job new over jobs count kept honest trust m d gathered planned is fits some =
       let gives = over w m d gathered is.0 planned is.1 in
       let same : job ≡ gives.one = ap (λ o. job_or o job) gives.result_is in
       let here : group ≡ gives.one.article.group =
       sym is.2 ∙ sym (ap (λ (j : model.Job). j.article.group) gives.job_is) in
-      answered new (answers.Pushed true) (shares.ToPush true) m d gathered (asks.Pushes is.0) is.1
-      (true, refl, refl) tt tt (
+      answered honest new (answers.Pushed true) (shares.ToPush true) m d gathered
+      (asks.Pushes is.0) is.1 refl (true, refl, refl) tt tt (λ held article holds e. cc) (
         gives.one,
         gives.job_is,
         hands_are (hands_of new) (with_job (end_of talk.seat) gives.one (hands_of talk))
@@ -225,28 +293,32 @@ module _ {J : Type 0} {g : Ghosts J} (w : Terms) (talk : Talk J g) where
   -- no job is in the hand of a session that planned no push
   pub none_in_hand : (group : ℕ) (new : Talk J g) → HandsOver talk.session None new.session
       → SharesFor w (steps.Push group) talk (answers.Pushed false) new
-  none_in_hand group new over m d gathered planned is fits some =
+  none_in_hand group new over honest trust m d gathered planned is fits some =
       let gives = over w m d gathered is.0 planned is.1 in
       absurd (none-some gives.one gives.result_is)
 
   -- the job stays in the session's hand
   pub not_pushed : (group : ℕ) → SharesFor w (steps.Push group) talk (answers.Pushed false) talk
-  not_pushed group m d gathered planned is fits some =
-      answered talk (answers.Pushed false) (shares.ToPush false) m d gathered (asks.Pushes is.0)
-      is.1 (false, refl, refl) tt tt refl planned
+  not_pushed group honest trust m d gathered planned is fits some =
+      answered honest talk (answers.Pushed false) (shares.ToPush false) m d gathered
+      (asks.Pushes is.0) is.1 refl (false, refl, refl) tt tt (λ held article holds e. cc) refl
+      planned
 
   -- nothing is in the slot
   pub slot_empty : SharesFor w steps.Slot talk (answers.Slot None) talk
-  slot_empty m d gathered planned is fits some =
-      answered talk (answers.Slot None) (shares.InSlot None) m d gathered
-      (asks.LooksInSlot is.0 is.1) is.2 (None, refl, refl) tt tt refl planned
+  slot_empty honest trust m d gathered planned is fits some =
+      answered honest talk (answers.Slot None) (shares.InSlot None) m d gathered
+      (asks.LooksInSlot is.0 is.1) is.2 refl (None, refl, refl) tt tt (λ held article holds e. cc)
+      refl planned
 
   -- the job failed
   pub slot_failed : (new : Talk J g) → new.session ≡ talk.session → hands_of new ≡ hands_of talk
       → SharesFor w steps.Slot talk (answers.Slot (Some outcomes.Failed)) new
-  slot_failed new session hands m d gathered planned is fits some =
-      answered new (answers.Slot (Some outcomes.Failed)) (shares.InSlot (Some world.HasFailed)) m d
-      gathered (asks.LooksInSlot is.0 is.1) is.2 (Some outcomes.Failed, refl, refl) tt tt hands
+  slot_failed new session hands honest trust m d gathered planned is fits some =
+      answered honest new (answers.Slot (Some outcomes.Failed))
+      (shares.InSlot (Some world.HasFailed)) m d gathered (asks.LooksInSlot is.0 is.1) is.2 refl
+      (Some outcomes.Failed, refl, refl) tt tt
+      (λ held article holds e. cc) hands
       (subst (λ s. Planned w s m d gathered false) (sym session) planned)
 
   -- the job is kept, and its receipt joins the others
@@ -254,24 +326,46 @@ module _ {J : Type 0} {g : Ghosts J} (w : Terms) (talk : Talk J g) where
       → handed_by new.seat ≡ handed_by talk.seat → count_of new.seat ≡ count_of talk.seat
       → new.kept.items ≡ talk.kept.items ++ one ∷ [] → one.number ≡ count_of talk.seat - 1
       → SharesFor w steps.Slot talk (answers.Slot (Some outcomes.Kept)) new
-  slot_kept new one session jobs count kept number m d gathered planned is fits some =
-      answered new (answers.Slot (Some outcomes.Kept)) (shares.InSlot (Some world.IsKept)) m d
-      gathered (asks.LooksInSlot is.0 is.1) is.2 (Some outcomes.Kept, refl, refl) tt tt
+  slot_kept new one session jobs count kept number honest trust m d gathered planned is fits some =
+      answered honest new (answers.Slot (Some outcomes.Kept)) (shares.InSlot (Some world.IsKept))
+      m d gathered (asks.LooksInSlot is.0 is.1) is.2 refl (Some outcomes.Kept, refl, refl) tt tt
+      (λ held article holds e. cc)
       (hands_are (hands_of new) (with_kept (hands_of talk)) jobs count
       (ap (λ l. numbers_of l) kept ∙ map-append (λ (k : KeptJob J g). k.number) talk.kept.items
       (one ∷ []) ∙ ap (λ n. numbers_of talk.kept.items ++ n ∷ []) number))
       (subst (λ s. Planned w s m d gathered false) (sym session) planned)
 
+-- what was found of a block, where that is no text
+found_gone : (honest : Bool) (fetch : Fetch) → FoundBy honest fetch chunks.Gone fetches.Gone
+found_gone true fetch = refl
+found_gone false fetch = refl
+
+found_none : (honest : Bool) (fetch : Fetch)
+    → FoundBy honest fetch chunks.Unknown fetches.NotKnown
+found_none true fetch = refl
+found_none false fetch = refl
+
+found_fault : (honest : Bool) (fetch : Fetch)
+    → FoundBy honest fetch chunks.Device fetches.NotRead
+found_fault true fetch = refl
+found_fault false fetch = refl
+
 -- what was found of a block is of the record of the reads, whichever they were before
 module _ (register : Shelves) (token : Token) (k : ℕ) (old new : Option (Where Record)) where
-  chunk_found : (octets : List ℕ) → IfSome old (λ w. new ≡ Some w)
-      → IsSomeAnd new (IsChunkOf register token k octets)
-      → ReadsFor register token k old (chunks.Found octets) new
-  chunk_found octets stays is asked gathered front = by new refl is
+  chunk_found : (honest : Bool) (octets : List ℕ) → IfSome old (λ w. new ≡ Some w)
+      → (honest ≡ true → IsSomeAnd new (IsChunkOf register token k octets))
+      → ReadsFor honest register token k old (chunks.Found octets) new
+  chunk_found false octets stays is asked gathered front = ∣ record {
+    found = fetches.Article (gathered ++ octets);
+    is_found = refl;
+    read = λ trusted. cc;
+    under = λ trusted. cc;
+  } ∣₁
+  chunk_found true octets stays is asked gathered front = by new refl (is refl)
     where
       by : (now : Option (Where Record)) → new ≡ now
           → IsSomeAnd now (IsChunkOf register token k octets)
-          → ∥ ReadOf register asked token k gathered (chunks.Found octets) new ∥₁
+          → ∥ ReadOf true register asked token k gathered (chunks.Found octets) new ∥₁
       by None at none = absurd none
       by (Some one) at here =
           ∥∥₁_map one.value.is_article (λ article. record {
@@ -287,13 +381,19 @@ module _ (register : Shelves) (token : Token) (k : ℕ) (old new : Option (Where
                 next = here.chunk;
               },
             );
-            read = subst (λ o. IsSomeAnd o (λ w. text_in one ≡ text_in w)) (sym at) refl;
-            under = record { shown = one; shows = here.shows; named = here.named; octets = refl };
+            read = λ trusted. subst (λ o. IsSomeAnd o (λ w. text_in one ≡ text_in w)) (sym at)
+                refl;
+            under = λ trusted. record {
+              shown = one;
+              shows = here.shows;
+              named = here.named;
+              octets = refl;
+            };
           })
         where
           front_of : (one : Where Record) → new ≡ Some one
               → gathered ≡ take (chunk_size * k) (text_in one)
-          front_of one at = front_in old stays front
+          front_of one at = front_in old stays (front refl)
             where
               front_in : (o : Option (Where Record)) → IfSome o (λ w. new ≡ Some w)
                   → IsFrontOf o k gathered → gathered ≡ take (chunk_size * k) (text_in one)
@@ -303,26 +403,40 @@ module _ (register : Shelves) (token : Token) (k : ℕ) (old new : Option (Where
               front_in (Some w) stays (inr some) =
                   some ∙ ap (λ o. take (chunk_size * k) (text_or o)) (sym stays ∙ at)
 
-  pub block_found : (slice : List ℕ) (what : Found)
-      → IfSome old (λ w. new ≡ Some w) → IsFoundIn register token k slice new what
-      → IsFoundGone token what → ReadsFor register token k old (chunk_view what slice) new
-  block_found slice (found.Chunk n) stays is gone asked gathered fits =
-      chunk_found (take n slice) stays is asked gathered fits
-  block_found slice (found.Gone front) stays is gone asked gathered fits =
-      ∣ record { found = fetches.Gone; is_found = refl; read = tt; under = (front, gone) } ∣₁
-  block_found slice found.Unknown stays is gone asked gathered fits =
-      ∣ record { found = fetches.NotKnown; is_found = refl; read = tt; under = tt } ∣₁
-
-  pub block_failed : ReadsFor register token k old chunks.Device new
-  block_failed asked gathered fits =
-      ∣ record { found = fetches.NotRead; is_found = refl; read = tt; under = tt } ∣₁
+  pub block_read : (honest : Bool) (slice : List ℕ) (read : Result Found Fault)
+      → IfSome old (λ w. new ≡ Some w)
+      → (honest ≡ true → IfOk read (IsFoundIn register token k slice new))
+      → IfOk read (IsFoundGone token) → IfErr read (IsReadFault token)
+      → ReadsFor honest register token k old (chunk_view read slice) new
+  block_read honest slice (Ok (found.Chunk n)) stays is gone fault asked gathered fits =
+      chunk_found honest (take n slice) stays is asked gathered fits
+  block_read honest slice (Ok (found.Gone front)) stays is gone fault asked gathered fits =
+      ∣ record {
+        found = fetches.Gone;
+        is_found = found_gone honest (fetch_at asked token k gathered);
+        read = λ trusted. tt;
+        under = (front, gone);
+      } ∣₁
+  block_read honest slice (Ok found.Unknown) stays is gone fault asked gathered fits = ∣ record {
+    found = fetches.NotKnown;
+    is_found = found_none honest (fetch_at asked token k gathered);
+    read = λ trusted. tt;
+    under = tt;
+  } ∣₁
+  block_read honest slice (Err one) stays is gone fault asked gathered fits = ∣ record {
+    found = fetches.NotRead;
+    is_found = found_fault honest (fetch_at asked token k gathered);
+    read = λ trusted. tt;
+    under = (one, fault);
+  } ∣₁
 
   -- the reads began anew before
-  pub block_begun : (mid : Option (Where Record)) (chunk : Chunk)
+  pub block_begun : (honest : Bool) (mid : Option (Where Record)) (chunk : Chunk)
       → ((gathered : List ℕ) → IsFrontOf old k gathered → IsFrontOf mid k gathered)
-      → ReadsFor register token k mid chunk new → ReadsFor register token k old chunk new
-  block_begun mid chunk begins reads asked gathered front =
-      reads asked gathered (begins gathered front)
+      → ReadsFor honest register token k mid chunk new
+      → ReadsFor honest register token k old chunk new
+  block_begun honest mid chunk begins reads asked gathered front =
+      reads asked gathered (λ trusted. begins gathered (front trusted))
 
 -- a fetch that has had no Turn has gathered nothing
 pub front_none : (shown : Option (Where Record)) (k : ℕ) (gathered : List ℕ) → k ≡ 0

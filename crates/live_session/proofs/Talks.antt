@@ -8,10 +8,11 @@ use Rattle.std.specs.Option.{IsSomeAnd}
 use Rattle.boxcar.specs.Table.{Shelves, Where}
 use Rattle.live_seats.specs.Seats.{end_of}
 use Rattle.live_session.proofs.Closing.{course_ends}
-use Rattle.live_session.specs.Carried.{Begins, Carried, Carries, CarriesOn, CarriesSame, IsServed}
-use Rattle.live_session.specs.Carried.{Serves, ServesOn}
+use Rattle.live_session.specs.Carried.{Begins, Carried, Carries, CarriesOn, CarriesSame}
+use Rattle.live_session.specs.Carried.{IsServedBy, Serves, ServesOn}
 use Rattle.live_session.specs.Course as course
-use Rattle.live_session.specs.Course.{Course, Breaks, Comes, Goes, Hands, HandsAfter, IsTurnOf}
+use Rattle.live_session.specs.Course.{Course, Breaks, Comes, Goes, Hands, HandsAfter, HearsBy}
+use Rattle.live_session.specs.Course.{IsTurnOf}
 use Rattle.live_session.specs.Course.{Point, Turn, after_turn, broken_off, greeted, octets_of}
 use Rattle.live_session.specs.Course.{parted_by, with_piece}
 use Rattle.live_session.specs.Going.{AskFits, FrontFits, HearsAnswer, IsFrontOf, IsReadOf}
@@ -35,7 +36,7 @@ use Rattle.peer_session.specs.declared.steps.Answer.TheVariants as answers
 use Rattle.peer_session.specs.declared.steps.Step.{Step}
 use Rattle.relay_model.specs.Asks as asks
 use Rattle.relay_model.specs.Asks.{Ask, Due}
-use Rattle.relay_model.specs.Hears.{Hears, silent}
+use Rattle.relay_model.specs.Hears.{silent}
 use Rattle.relay_model.specs.Run.{is_reading, is_running, new_session}
 use Rattle.relay_model.specs.Shares as shares
 use Rattle.relay_model.specs.State as model
@@ -132,14 +133,14 @@ module _ {J : Type 0} {g : Ghosts J} (w : Terms) (old new : Talk J g) where
       → KeepsPlace old new
       → ((m : model.Session) (gathered : List ℕ) → Stands w old.session m gathered
       → Stands w new.session m gathered) → WentOn w old [] new
-  still reads hands place stands s end first p going = ∣ record {
+  still reads hands place stands honest trust s end first p going = ∣ record {
     at = p;
     going = record {
       course = going.course;
       gathered = going.gathered;
       stands = stands p.session going.gathered going.stands;
-      front = subst (λ shown. FrontFits shown p.session.phase going.gathered) (sym reads)
-          going.front;
+      front = λ trusted. subst (λ shown. FrontFits shown p.session.phase going.gathered)
+          (sym reads) (going.front trusted);
       hands = going.hands ∙ sym hands;
       number = place.number ∙ going.number;
       end_is = place.end_is ∙ going.end_is;
@@ -156,16 +157,17 @@ module _ {J : Type 0} {g : Ghosts J} (w : Terms) (old new : Talk J g) where
       → KeepsPlace between after → HearsAnswer after answer said new
       → KeepsButSession after new → answer ≢ answers.Memory → WentOn w old said new
   went step now between after answer said moment plans rest shares_it place hears_it kept some
-      s end first p going =
+      honest trust s end first p going =
       let plan = plans p.session going.gathered going.stands in
-      let front = subst (λ shown. FrontFits shown p.session.phase going.gathered) (sym rest.reads)
-      going.front in
-      let fits = asks_fit w p.session going.gathered between.reads.shown plan.due.ask plan.asks_of
-      front in
-      ∥∥₁_map (shares_it p.session plan.due going.gathered plan.planned plan.is_step fits some)
+      let fits : honest ≡ true → AskFits between.reads.shown plan.due.ask going.gathered =
+      λ trusted. asks_fit w p.session going.gathered between.reads.shown plan.due.ask plan.asks_of
+      (subst (λ shown. FrontFits shown p.session.phase going.gathered) (sym rest.reads)
+      (going.front trusted)) in
+      ∥∥₁_map (shares_it honest trust p.session plan.due going.gathered plan.planned plan.is_step
+      fits some)
       (λ shared.
-      let heard = hears_it w p.session plan.due going.gathered shared.told some shared.planned
-      shared.answers in
+      let heard = hears_it honest w p.session plan.due going.gathered shared.told some
+      shared.planned shared.answers in
       let turn : Turn = record {
         now = now;
         due = plan.due;
@@ -186,16 +188,17 @@ module _ {J : Type 0} {g : Ghosts J} (w : Terms) (old new : Talk J g) where
           course = Goes p turn (hands_of new) going.course (record {
             moment = moment;
             due = plan.is_due;
-            hears = subst (λ n. Hears n plan.due.after plan.due.ask shared.told heard.heard)
-                number heard.hears;
+            hears = subst (λ n. HearsBy honest n plan.due.after plan.due.ask shared.told
+                heard.heard) number heard.hears;
             found = shared.found;
+            held = shared.held;
           }) hands;
           gathered = heard.later;
           stands = heard.stands;
-          front = subst (λ shown. FrontFits shown heard.heard.session.phase heard.later)
+          front = λ trusted. subst (λ shown. FrontFits shown heard.heard.session.phase heard.later)
               (sym kept.reads)
               (front_heard plan.due.ask shared.told heard.heard.session.phase heard.later
-              after.reads.shown heard.gathers shared.read);
+              after.reads.shown (heard.gathers trusted) (shared.read trusted));
           hands = refl;
           number = kept.place.number ∙ number;
           end_is = kept.place.end_is ∙ place.end_is ∙ end_here;
@@ -241,9 +244,9 @@ module _ {J : Type 0} {g : Ghosts J} (w : Terms) (old new : Talk J g) where
   -- where a turn went on and what it said is carried, the session is served further
   pub served_turn : (said : List ℕ) (c c' : Carried) → WentOn w old said new
       → CarriesOn c c' [] said (has_parted new.session) → ServesOn w old new c c'
-  served_turn said c c' goes carries_on s end first read written serves =
+  served_turn said c c' goes carries_on honest trust s end first read written serves =
       ∥∥₁_elim serves (∥∥₁_prop) (λ one.
-      ∥∥₁_map (goes s end first one.at one.going) (λ to.
+      ∥∥₁_map (goes honest trust s end first one.at one.going) (λ to.
       let carries = carries_on (read ++ one.at.heard) (written ++ one.at.said) one.at.parted
       one.carries in
       record {
@@ -268,7 +271,7 @@ module _ {J : Type 0} {g : Ghosts J} (w : Terms) (old new : Talk J g) where
       → is_reading (session_view old.session).phase ≡ true
       → new.reads.shown ≡ old.reads.shown → hands_of new ≡ hands_of old → KeepsPlace old new
       → (c : Carried) → ServesOn w old new c c
-  gone breaks reads shown hands place c s end first read written serves =
+  gone breaks reads shown hands place c honest trust s end first read written serves =
       ∥∥₁_map serves (λ one. record {
         at = broken_off one.at;
         going = record {
@@ -276,7 +279,7 @@ module _ {J : Type 0} {g : Ghosts J} (w : Terms) (old new : Talk J g) where
               (ap (λ (m : model.Session). is_reading m.phase) one.going.stands.is ∙ reads);
           gathered = [];
           stands = breaks w one.at.session one.going.gathered one.going.stands;
-          front = λ asked token had is. cc;
+          front = λ trusted asked token had is. cc;
           hands = one.going.hands ∙ sym hands;
           number = place.number ∙ one.going.number;
           end_is = place.end_is ∙ one.going.end_is;
@@ -289,7 +292,8 @@ module _ {J : Type 0} {g : Ghosts J} (w : Terms) (old new : Talk J g) where
       → is_reading (session_view old.session).phase ≡ true
       → new.reads.shown ≡ old.reads.shown → hands_of new ≡ hands_of old → KeepsPlace old new
       → (c c' : Carried) → CarriesOn c c' piece [] false → ServesOn w old new c c'
-  fed piece feeds reads shown hands place c c' carries_on s end first read written serves =
+  fed piece feeds reads shown hands place c c' carries_on honest trust s end first read written
+      serves =
       ∥∥₁_map serves (λ one.
       let carries = carries_on (read ++ one.at.heard) (written ++ one.at.said) one.at.parted
       one.carries in
@@ -300,8 +304,9 @@ module _ {J : Type 0} {g : Ghosts J} (w : Terms) (old new : Talk J g) where
               (ap (λ (m : model.Session). is_reading m.phase) one.going.stands.is ∙ reads);
           gathered = one.going.gathered;
           stands = feeds w one.at.session one.going.gathered one.going.stands;
-          front = subst (λ shown_one. FrontFits shown_one one.at.session.phase one.going.gathered)
-              (sym shown) one.going.front;
+          front = λ trusted.
+              subst (λ shown_one. FrontFits shown_one one.at.session.phase one.going.gathered)
+              (sym shown) (one.going.front trusted);
           hands = one.going.hands ∙ sym hands;
           number = place.number ∙ one.going.number;
           end_is = place.end_is ∙ one.going.end_is;
@@ -315,9 +320,9 @@ module _ {J : Type 0} {g : Ghosts J} (w : Terms) (old new : Talk J g) where
   -- nothing came to the session, and it stands for what it stood for
   pub served_still : WentOn w old [] new → (c c' : Carried) → CarriesSame c c'
       → ServesOn w old new c c'
-  served_still goes c c' same s end first read written serves =
+  served_still goes c c' same honest trust s end first read written serves =
       ∥∥₁_elim serves (∥∥₁_prop) (λ one.
-      ∥∥₁_map (goes s end first one.at one.going) (λ to. record {
+      ∥∥₁_map (goes honest trust s end first one.at one.going) (λ to. record {
         at = to.at;
         going = to.going;
         carries = subst (λ l. Carries c' (read ++ l) (written ++ to.at.said) to.at.parted)
@@ -341,16 +346,17 @@ not_running model.Ended h = refl
 module _ {J : Type 0} {g : Ghosts J} (w : Terms) (talk : Talk J g) (peer : ℕ)
     (read written : List ℕ) where
   -- a session that has just been opened is on its course, and its greeting waits
-  pub begun : (octets : List ℕ) → Begins w peer talk.session octets
-      → Serves w talk.number (end_of talk.seat) (greeted peer (hands_of talk)) read written talk
+  pub begun : (honest : Bool) (octets : List ℕ) → Begins w peer talk.session octets
+      → Serves honest w talk.number (end_of talk.seat) (greeted peer (hands_of talk)) read written
+      talk
       (record { heard = read; written = written; waiting = octets; finish = None })
-  begun octets begins = record {
+  begun honest octets begins = record {
     at = greeted peer (hands_of talk);
     going = record {
       course = course.Begins;
       gathered = [];
       stands = begins.stands;
-      front = λ asked token had is. cc;
+      front = λ trusted asked token had is. cc;
       hands = refl;
       number = refl;
       end_is = refl;
@@ -363,16 +369,16 @@ module _ {J : Type 0} {g : Ghosts J} (w : Terms) (talk : Talk J g) (peer : ℕ)
   }
 
   -- a session that is closed, with nothing left to write, was served
-  pub ended : (s end : ℕ) (before : Hands) (c : Carried) (finish : Finish)
+  pub ended : (honest : Bool) (s end : ℕ) (before : Hands) (c : Carried) (finish : Finish)
       → c.finish ≡ Some finish → c.waiting ≡ []
       → is_running (session_view talk.session).phase ≡ false
-      → Serves w s end (greeted peer before) read written talk c
-      → IsServed g.register w s end peer before read written finish (hands_of talk) c.heard
-      c.written
-  ended s end before c finish is none closes serves =
+      → Serves honest w s end (greeted peer before) read written talk c
+      → IsServedBy honest g.register w s end peer before read written finish (hands_of talk)
+      c.heard c.written
+  ended honest s end before c finish is none closes serves =
       let here = not_running serves.at.session.phase
       (ap (λ (m : model.Session). is_running m.phase) serves.going.stands.is ∙ closes) in
-      let nothing = course_ends g.register w s end (greeted peer before) serves.at (λ at. cc)
+      let nothing = course_ends honest g.register w s end (greeted peer before) serves.at (λ at. cc)
       serves.going.course here in
       record {
         at = serves.at;
@@ -405,15 +411,27 @@ last_turn peer =
       heard = silent (in_phase left model.Ended);
     }
 
+-- it ends silently, over honest stores or any
+last_heard : (honest : Bool) (s peer : ℕ) → HearsBy honest s (last_turn peer).due.after asks.Ends
+    shares.Nothing (last_turn peer).heard
+last_heard true s peer = refl
+last_heard false s peer = refl
+
 -- a session for which there was no memory read and wrote nothing
-pub unbegun : (register : Shelves) (w : Terms) (s end peer : ℕ) (hands : Hands)
+pub unbegun : (honest : Bool) (register : Shelves) (w : Terms) (s end peer : ℕ) (hands : Hands)
     (read written : List ℕ)
-    → IsServed register w s end peer hands read written finishes.Broken hands read written
-unbegun register w s end peer hands read written = record {
+    → IsServedBy honest register w s end peer hands read written finishes.Broken hands read written
+unbegun honest register w s end peer hands read written = record {
   at = after_turn (broken_off (greeted peer hands)) (last_turn peer) hands;
   course = Goes (broken_off (greeted peer hands)) (last_turn peer) hands
       (Breaks (greeted peer hands) course.Begins refl)
-      (record { moment = omega arith; due = refl; hears = refl; found = tt }) refl;
+      (record {
+        moment = omega arith;
+        due = refl;
+        hears = last_heard honest s peer;
+        found = tt;
+        held = λ id article holds held. cc;
+      }) refl;
   closed = record { phase = refl; hand = refl; offers = refl };
   carries = record {
     heard = ([], sym (append-nil (read ++ []) ∙ append-nil read));
@@ -427,8 +445,8 @@ module _ {J : Type 0} {g : Ghosts J} (w : Terms) where
   -- nothing more than the connection has changed
   pub then_same : (old new : Talk J g) (c mid c' : Carried) → ServesOn w old new c mid
       → CarriesSame mid c' → ServesOn w old new c c'
-  then_same old new c mid c' serves same s end first read written here =
-      ∥∥₁_map (serves s end first read written here) (λ one. record {
+  then_same old new c mid c' serves same honest trust s end first read written here =
+      ∥∥₁_map (serves honest trust s end first read written here) (λ one. record {
         at = one.at;
         going = one.going;
         carries = same (read ++ one.at.heard) (written ++ one.at.said) one.at.parted one.carries;
@@ -437,5 +455,27 @@ module _ {J : Type 0} {g : Ghosts J} (w : Terms) where
   -- one after the other
   pub then_on : (old mid new : Talk J g) (c c1 c' : Carried) → ServesOn w old mid c c1
       → ServesOn w mid new c1 c' → ServesOn w old new c c'
-  then_on old mid new c c1 c' one other s end first read written here =
-      other s end first read written (one s end first read written here)
+  then_on old mid new c c1 c' one other honest trust s end first read written here =
+      other honest trust s end first read written (one honest trust s end first read written here)
+
+  -- a session that was opened, and served until it was closed, was served as a whole
+  pub whole : (honest : Bool) → (honest ≡ true → g.trusted ≡ true) → (old new : Talk J g)
+      (peer : ℕ) (read written octets : List ℕ) (c c' : Carried) (finish : Finish)
+      → Begins w peer old.session octets
+      → ServesOn w old new
+      (record { heard = read; written = written; waiting = octets; finish = None }) c
+      → CarriesSame c c' → c'.finish ≡ Some finish → c'.waiting ≡ []
+      → is_running (session_view new.session).phase ≡ false
+      → ∥ IsServedBy honest g.register w old.number (end_of old.seat) peer (hands_of old) read
+      written finish (hands_of new) c'.heard c'.written ∥₁
+  whole honest trust old new peer read written octets c c' finish begins serves same is none
+      closes =
+      let first = greeted peer (hands_of old) in
+      ∥∥₁_map (serves honest trust old.number (end_of old.seat) first read written
+      ∣ begun w old peer read written honest octets begins ∣₁)
+      (λ one. ended w new peer read written honest old.number (end_of old.seat) (hands_of old) c'
+      finish is none closes (record {
+        at = one.at;
+        going = one.going;
+        carries = same (read ++ one.at.heard) (written ++ one.at.said) one.at.parted one.carries;
+      }))

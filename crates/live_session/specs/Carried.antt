@@ -88,19 +88,21 @@ pub record Carries (c : Carried) (came replies : List ℕ) (parted : Option (Lis
 
 -- The session of a thread is on its course, and the connection has carried what it heard and said;
 -- before it, the reader had read and the writer had written this.
-pub record Serves {J : Type 0} {g : Ghosts J} (w : Terms) (s end : ℕ) (first : Point)
-    (read written : List ℕ) (talk : Talk J g) (c : Carried) : Type 0 where
+pub record Serves {J : Type 0} {g : Ghosts J} (honest : Bool) (w : Terms) (s end : ℕ)
+    (first : Point) (read written : List ℕ) (talk : Talk J g) (c : Carried) : Type 0 where
   pub at : Point
-  pub going : Going w s end first talk at
+  pub going : Going honest w s end first talk at
   pub carries : Carries c (read ++ at.heard) (written ++ at.said) at.parted
 
--- what was served up to here is served further
+-- what was served up to here is served further; of honest stores something is said where the
+-- archive is trusted
 abbrev pub ServesOn : {J : Type 0} {g : Ghosts J} → Terms → Talk J g → Talk J g
     → (old new : Carried) → Type 0
-ServesOn w talk talk' old new =
-    (s end : ℕ) (first : Point) (read written : List ℕ)
-    → ∥ Serves w s end first read written talk old ∥₁
-    → ∥ Serves w s end first read written talk' new ∥₁
+ServesOn {J} {g} w talk talk' old new =
+    (honest : Bool) → (honest ≡ true → g.trusted ≡ true)
+    → (s end : ℕ) (first : Point) (read written : List ℕ)
+    → ∥ Serves honest w s end first read written talk old ∥₁
+    → ∥ Serves honest w s end first read written talk' new ∥₁
 
 -- the connection carried this further: these octets came, and this was said, of which the last
 -- reply is one where the session leaves
@@ -118,11 +120,11 @@ CarriesSame old new =
 -- What a connection that is over was: its session came from the greeting to a point at which it is
 -- closed, the reader has read what came to it, the writer has written what it said, and the end has
 -- handed over what it handed over.
-pub record IsServed (register : Shelves) (w : Terms) (s end peer : ℕ) (before : Hands)
-    (read written : List ℕ) (finish : Finish) (after : Hands) (read' written' : List ℕ)
-    : Type 0 where
+pub record IsServedBy (honest : Bool) (register : Shelves) (w : Terms) (s end peer : ℕ)
+    (before : Hands) (read written : List ℕ) (finish : Finish) (after : Hands)
+    (read' written' : List ℕ) : Type 0 where
   pub at : Point
-  pub course : Course register w s end (greeted peer before) at
+  pub course : Course honest register w s end (greeted peer before) at
   pub closed : IsClosed at.session
   pub carries : Carries (record {
     heard = read';
@@ -131,6 +133,19 @@ pub record IsServed (register : Shelves) (w : Terms) (s end peer : ℕ) (before 
     finish = Some finish;
   }) (read ++ at.heard) (written ++ at.said) at.parted
   pub hands : at.hands ≡ after
+
+-- the same over honest stores
+abbrev pub IsServed : Shelves → Terms → (s end peer : ℕ) → Hands → (read written : List ℕ)
+    → Finish → Hands → (read' written' : List ℕ) → Type 0
+IsServed register w s end peer before read written finish after read' written' =
+    IsServedBy true register w s end peer before read written finish after read' written'
+
+-- the same where nothing is said of the stores: each reply is still one that the definitions have
+-- for its command and for what was answered, with any text in place of a stored one
+abbrev pub IsFormed : Shelves → Terms → (s end peer : ℕ) → Hands → (read written : List ℕ)
+    → Finish → Hands → (read' written' : List ℕ) → Type 0
+IsFormed register w s end peer before read written finish after read' written' =
+    IsServedBy false register w s end peer before read written finish after read' written'
 
 -- nothing has come to the session, and these octets are the greeting
 pub record Begins (w : Terms) (peer : ℕ) (session : Session) (octets : List ℕ) : Type 0 where

@@ -1,24 +1,27 @@
 -- What a session of an end does, by the moments and the answers that it had: what it says to what
 -- came to it, and which jobs its end hands over (docs/PROTOCOL.md, Sessions, Threads).
-use Rattle.std.specs.Prelude.{◌≡◌, ◌≤◌, ℕ, ◌+◌, ◌-◌, ◌++◌, true, List, [], ◌∷◌}
+use Rattle.std.specs.Prelude.{◌≡◌, ◌≢◌, ◌≤◌, ℕ, ◌+◌, ◌-◌, ◌++◌, Bool, true, false, List, [], ◌∷◌}
 use Rattle.std.specs.Prelude.{Option, None, Some, slice_set, slice_index_or}
 use Rattle.boxcar.specs.Table.{Shelves, Shows, Where}
 use Rattle.buffer_group.specs.Jobs.{job_view}
 use Rattle.buffer_group.specs.declared.job.Job.{Job}
+use Rattle.cyc_buffer.specs.declared.answers.Fault.{Fault}
 use Rattle.cyc_buffer.specs.declared.answers.Front.{Front}
 use Rattle.job_queue.specs.declared.parcel.Handed.{Handed}
-use Rattle.live_store.specs.Steps.{IsGoneBy}
+use Rattle.live_store.specs.Steps.{IsGoneBy, IsReadFault}
 use Rattle.live_store.specs.Tied.{text_in, token_in}
 use Rattle.live_store.specs.declared.writing.entering.Record.{Record}
 use Rattle.news_terms.specs.Reply.{Greeting, reply_text}
 use Rattle.news_terms.specs.Token.{Token}
+use Rattle.peer_session.specs.Given.{ReadAny}
 use Rattle.relay_model.specs.Asks.{Ask, Due, IsDue, Reads, Pushes, LooksInSlot}
+use Rattle.relay_model.specs.Claims.{Accepted, Held}
 use Rattle.relay_model.specs.Fetches.{Fetched, Article, Gone, NotKnown, NotRead}
-use Rattle.relay_model.specs.Hears.{Heard, Hears}
+use Rattle.relay_model.specs.Hears.{Heard, Hears, goes_on}
 use Rattle.relay_model.specs.Run.{is_reading, new_session}
-use Rattle.relay_model.specs.Shares.{Answer, ToRead, ToPush, InSlot}
+use Rattle.relay_model.specs.Shares.{Answer, ToRead, ToTake, ToPush, InSlot}
 use Rattle.relay_model.specs.State as model
-use Rattle.relay_model.specs.State.{Session, Leaving, Ended, in_phase, with_unread}
+use Rattle.relay_model.specs.State.{Session, Phase, Holds, Leaving, Ended, in_phase, with_unread}
 use Rattle.relay_model.specs.Terms.{Terms, last_moment}
 use Rattle.relay_model.specs.World.{IsKept, Said, Silent, Speaks, Parts}
 
@@ -124,32 +127,54 @@ pub record IsTextUnder (register : Shelves) (token : Token) (text : List ℕ) : 
   pub named : token_in shown ≡ token
   pub octets : text_in shown ≡ text
 
--- what was found of a token: the text of one record of the register, which has that very token; or
--- that a front of the token's buffer has passed the article
-abbrev pub IsFoundUnder : Shelves → Token → Fetched → Type 0
-IsFoundUnder register token (Article text) = IsTextUnder register token text
-IsFoundUnder register token Gone = (front : Front) × IsGoneBy front token
-IsFoundUnder register token NotKnown = Unit {0}
-IsFoundUnder register token NotRead = Unit {0}
+-- what a session makes of what it was answered, where a text that was read may be any
+abbrev pub HearsAny : ℕ → Session → Ask → Answer → Heard → Type 0
+HearsAny s session (Reads asked token had) answer heard =
+    (found : Fetched) × (answer ≡ ToRead found)
+    × ReadAny session asked token had found (goes_on asked token had found) heard
+HearsAny s session other answer heard = Hears s session other answer heard
+
+-- what a session makes of what it was answered: what the definitions say, where the stores are
+-- honest; and where nothing is said of them, the same with any text in place of an article's
+abbrev pub HearsBy : (honest : Bool) → ℕ → Session → Ask → Answer → Heard → Type 0
+HearsBy true s session ask answer heard = Hears s session ask answer heard
+HearsBy false s session ask answer heard = HearsAny s session ask answer heard
+
+-- what was found of a token: over honest stores the text of one record of the register, which has
+-- that very token; over any stores that a front of the token's buffer has passed the article, or
+-- that a read of the token's article failed
+abbrev pub IsFoundUnder : (honest : Bool) → Shelves → Token → Fetched → Type 0
+IsFoundUnder honest register token (Article text) =
+    honest ≡ true → IsTextUnder register token text
+IsFoundUnder honest register token Gone = (front : Front) × IsGoneBy front token
+IsFoundUnder honest register token NotKnown = Unit {0}
+IsFoundUnder honest register token NotRead = (fault : Fault) × IsReadFault token fault
 
 -- where a token was to be read, this was found of it
-abbrev pub IsFoundFor : Shelves → Ask → Fetched → Type 0
-IsFoundFor register (Reads asked token had) found = IsFoundUnder register token found
-IsFoundFor register other found = Unit {0}
+abbrev pub IsFoundFor : (honest : Bool) → Shelves → Ask → Fetched → Type 0
+IsFoundFor honest register (Reads asked token had) found =
+    IsFoundUnder honest register token found
+IsFoundFor honest register other found = Unit {0}
 
 -- what a read answers is of the token that was to be read
-abbrev pub IsToldFor : Shelves → Ask → Answer → Type 0
-IsToldFor register ask (ToRead found) = IsFoundFor register ask found
-IsToldFor register ask other = Unit {0}
+abbrev pub IsToldFor : (honest : Bool) → Shelves → Ask → Answer → Type 0
+IsToldFor honest register ask (ToRead found) = IsFoundFor honest register ask found
+IsToldFor honest register ask other = Unit {0}
+
+-- an article that is held is not held again: whoever takes it waits until no other is being stored
+abbrev pub IsHeldOnce : Phase → Answer → Type 0
+IsHeldOnce phase answer =
+    (id : List ℕ) (article : Accepted) → phase ≡ Holds id article → answer ≢ ToTake Held
 
 -- the turn is one of session s: this was due at its moment, the session made that of the answer,
--- and what it read is of one record of the register with the token that was due
-pub record IsTurnOf (register : Shelves) (w : Terms) (s : ℕ) (p : Point) (turn : Turn)
-    : Type 0 where
+-- and what it read is of the token that was due
+pub record IsTurnOf (honest : Bool) (register : Shelves) (w : Terms) (s : ℕ) (p : Point)
+    (turn : Turn) : Type 0 where
   pub moment : turn.now ≤ last_moment
   pub due : IsDue w p.session turn.now turn.due
-  pub hears : Hears s turn.due.after turn.due.ask turn.told turn.heard
-  pub found : IsToldFor register turn.due.ask turn.told
+  pub hears : HearsBy honest s turn.due.after turn.due.ask turn.told turn.heard
+  pub found : IsToldFor honest register turn.due.ask turn.told
+  pub held : IsHeldOnce p.session.phase turn.told
 
 -- a turn was had, and the end has handed over this
 abbrev pub after_turn : Point → Turn → Hands → Point
@@ -163,13 +188,14 @@ after_turn p turn hands =
 
 -- How session s of this end comes from one point to another: pieces come and the connection may
 -- break while it reads, and it has turns.
-pub data Course (register : Shelves) (w : Terms) (s end : ℕ) (first : Point)
+pub data Course (honest : Bool) (register : Shelves) (w : Terms) (s end : ℕ) (first : Point)
     : Point → Type 0 where
-  Begins : Course register w s end first first
-  Comes : (p : Point) (piece : List ℕ) → Course register w s end first p
-      → is_reading p.session.phase ≡ true → Course register w s end first (with_piece piece p)
-  Goes : (p : Point) (turn : Turn) (hands : Hands) → Course register w s end first p
-      → IsTurnOf register w s p turn → HandsAfter end turn.due.ask turn.told p.hands hands
-      → Course register w s end first (after_turn p turn hands)
-  Breaks : (p : Point) → Course register w s end first p → is_reading p.session.phase ≡ true
-      → Course register w s end first (broken_off p)
+  Begins : Course honest register w s end first first
+  Comes : (p : Point) (piece : List ℕ) → Course honest register w s end first p
+      → is_reading p.session.phase ≡ true
+      → Course honest register w s end first (with_piece piece p)
+  Goes : (p : Point) (turn : Turn) (hands : Hands) → Course honest register w s end first p
+      → IsTurnOf honest register w s p turn → HandsAfter end turn.due.ask turn.told p.hands hands
+      → Course honest register w s end first (after_turn p turn hands)
+  Breaks : (p : Point) → Course honest register w s end first p
+      → is_reading p.session.phase ≡ true → Course honest register w s end first (broken_off p)

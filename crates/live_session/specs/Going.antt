@@ -1,16 +1,19 @@
 -- Where the session of a thread is on its course.
 use Rattle.std.specs.Prelude.{◌≡◌, ◌≢◌, ◌⊎◌, ℕ, ◌*◌, ◌++◌, Bool, true, false, List, [], ◌∷◌, take}
-use Rattle.std.specs.Prelude.{map, Option, Some}
+use Rattle.std.specs.Prelude.{map, Option, Some, Result, Ok, Err}
 use Rattle.std.specs.Option.{IsSomeAnd}
-use Rattle.article_fetch.specs.Fetch.{FoundAs}
+use Rattle.article_fetch.specs.Fetch.{Fetch, FoundAs}
+use Rattle.article_fetch.specs.Given.{given}
 use Rattle.article_fetch.specs.declared.chunk.Chunk.{Chunk}
 use Rattle.article_fetch.specs.declared.chunk.Chunk.TheVariants as chunks
 use Rattle.boxcar.specs.Table.{Shelves, Where}
+use Rattle.cyc_buffer.specs.declared.answers.Fault.{Fault}
 use Rattle.cyc_buffer.specs.declared.answers.Found.{Found}
 use Rattle.cyc_buffer.specs.declared.answers.Found.TheVariants as found
 use Rattle.live_fates.specs.declared.fate.KeptJob.{KeptJob}
 use Rattle.live_seats.specs.Seats.{count_of, end_of, handed_by}
-use Rattle.live_session.specs.Course.{Course, Hands, HandsAfter, IsFoundUnder, IsToldFor, Point}
+use Rattle.live_session.specs.Course.{Course, Hands, HandsAfter, HearsBy, IsFoundUnder, IsHeldOnce}
+use Rattle.live_session.specs.Course.{IsToldFor, Point}
 use Rattle.live_seats.specs.declared.session.SessionSeat.{SessionSeat}
 use Rattle.live_session.specs.declared.talk.Talk.{Talk}
 use Rattle.live_session.specs.declared.talk.Turned.{Turned}
@@ -21,24 +24,29 @@ use Rattle.live_store.specs.declared.writing.entering.Record.{Record}
 use Rattle.news_terms.specs.BlockImage.{chunk_size}
 use Rattle.news_terms.specs.Token.{Token}
 use Rattle.peer_session.specs.Answers.{IsAnswerTo, IsStepOf, handed}
-use Rattle.peer_session.specs.Hearing.{Forgets, HeardBy}
+use Rattle.peer_session.specs.Hearing.{Forgets, Gathers}
 use Rattle.peer_session.specs.Planning.{Planned}
+use Rattle.peer_session.specs.Said.{IsSaid}
 use Rattle.peer_session.specs.Session.{Stands, has_parted}
+use Rattle.peer_session.specs.declared.session.Session.{Session}
 use Rattle.peer_session.specs.declared.steps.Answer.{Answer}
 use Rattle.peer_session.specs.declared.steps.Answer.TheVariants as answers
 use Rattle.peer_session.specs.declared.steps.Step.{Step}
 use Rattle.relay_model.specs.Asks as asks
 use Rattle.relay_model.specs.Asks.{Ask, Due}
 use Rattle.relay_model.specs.Fetches as fetches
+use Rattle.relay_model.specs.Fetches.{Fetched}
+use Rattle.relay_model.specs.Hears.{Heard}
 use Rattle.relay_model.specs.Shares as shares
 use Rattle.relay_model.specs.State as model
 use Rattle.relay_model.specs.Terms.{Terms}
 
--- what was found of a block, with its octets at the front of these
-abbrev pub chunk_view : Found → List ℕ → Chunk
-chunk_view (found.Chunk n) slice = chunks.Found (take n slice)
-chunk_view (found.Gone front) slice = chunks.Gone
-chunk_view found.Unknown slice = chunks.Unknown
+-- what was found of a block, with its octets at the front of these, or that the device failed
+abbrev pub chunk_view : Result Found Fault → List ℕ → Chunk
+chunk_view (Ok (found.Chunk n)) slice = chunks.Found (take n slice)
+chunk_view (Ok (found.Gone front)) slice = chunks.Gone
+chunk_view (Ok found.Unknown) slice = chunks.Unknown
+chunk_view (Err fault) slice = chunks.Device
 
 -- the numbers of jobs that were answered kept
 abbrev pub numbers_of : {J : Type 0} {g : Ghosts J} → List (KeptJob J g) → List ℕ
@@ -67,12 +75,12 @@ FrontFits shown phase gathered =
     → IsFrontOf shown had gathered
 
 -- the session of the thread, of this number and end, came to this point from the first one
-pub record Going {J : Type 0} {g : Ghosts J} (w : Terms) (s end : ℕ) (first : Point)
-    (talk : Talk J g) (p : Point) : Type 0 where
-  pub course : Course g.register w s end first p
+pub record Going {J : Type 0} {g : Ghosts J} (honest : Bool) (w : Terms) (s end : ℕ)
+    (first : Point) (talk : Talk J g) (p : Point) : Type 0 where
+  pub course : Course honest g.register w s end first p
   pub gathered : List ℕ
   pub stands : Stands w talk.session p.session gathered
-  pub front : FrontFits talk.reads.shown p.session.phase gathered
+  pub front : honest ≡ true → FrontFits talk.reads.shown p.session.phase gathered
   pub hands : p.hands ≡ hands_of talk
   pub number : talk.number ≡ s
   pub end_is : end_of talk.seat ≡ end
@@ -87,46 +95,68 @@ abbrev pub AskFits : Option (Where Record) → Ask → List ℕ → Type 0
 AskFits shown (asks.Reads asked token had) gathered = IsFrontOf shown had gathered
 AskFits shown other gathered = Unit {0}
 
--- what a read of block k finds is the next block of a fetch of the token that has gathered the
--- front of its record's text, and the record is one of the register and has the token
-pub record ReadOf (register : Shelves) (asked : model.Asked) (token : Token) (k : ℕ)
+-- what was read of the next block is that of a fetch that finds this; where nothing is said of the
+-- stores it finds what it was given
+abbrev pub FoundBy : (honest : Bool) → Fetch → Chunk → Fetched → Type 0
+FoundBy true fetch chunk found = FoundAs fetch chunk found
+FoundBy false fetch chunk found = found ≡ given fetch.gathered chunk
+
+-- What a read of block k finds is the next block of a fetch of the token that has gathered this.
+-- Over honest stores that is the front of its record's text, and the record is one of the register
+-- and has the token.
+pub record ReadOf (honest : Bool) (register : Shelves) (asked : model.Asked) (token : Token) (k : ℕ)
     (gathered : List ℕ) (chunk : Chunk) (shown : Option (Where Record)) : Type 0 where
   pub found : fetches.Fetched
-  pub is_found : FoundAs (record {
+  pub is_found : FoundBy honest (record {
     asked = asked;
     token = token;
     had = k;
     gathered = gathered;
     prepared = true;
   }) chunk found
-  pub read : IsReadOf shown (shares.ToRead found)
-  pub under : IsFoundUnder register token found
+  pub read : honest ≡ true → IsReadOf shown (shares.ToRead found)
+  pub under : IsFoundUnder honest register token found
 
 -- block k of the token is read for whatever fetch has gathered the front of its record's text
-abbrev pub ReadsFor : Shelves → Token → (k : ℕ) → Option (Where Record) → Chunk
+abbrev pub ReadsFor : (honest : Bool) → Shelves → Token → (k : ℕ) → Option (Where Record) → Chunk
     → Option (Where Record) → Type 0
-ReadsFor register token k old chunk new =
-    (asked : model.Asked) (gathered : List ℕ) → IsFrontOf old k gathered
-    → ∥ ReadOf register asked token k gathered chunk new ∥₁
+ReadsFor honest register token k old chunk new =
+    (asked : model.Asked) (gathered : List ℕ) → (honest ≡ true → IsFrontOf old k gathered)
+    → ∥ ReadOf honest register asked token k gathered chunk new ∥₁
+
+-- the code's answer to what was asked is this, whatever a read gave
+abbrev pub IsAnyAnswerTo : Ask → List ℕ → Answer → shares.Answer → Type 0
+IsAnyAnswerTo (asks.Reads asked token had) gathered answer told =
+    (chunk : Chunk) × (answer ≡ answers.Chunk chunk)
+    × (told ≡ shares.ToRead (given gathered chunk))
+IsAnyAnswerTo other gathered answer told = IsAnswerTo other gathered answer told
+
+-- the code's answer to what was asked is that of the definitions, over honest stores or any
+abbrev pub AnswersBy : (honest : Bool) → Ask → List ℕ → Answer → shares.Answer → Type 0
+AnswersBy true ask gathered answer told = IsAnswerTo ask gathered answer told
+AnswersBy false ask gathered answer told = IsAnyAnswerTo ask gathered answer told
 
 -- the step was done, and is answered as the definitions say
-pub record Shared {J : Type 0} {g : Ghosts J} (w : Terms) (m : model.Session) (d : Due)
-    (gathered : List ℕ) (old : Talk J g) (answer : Answer) (new : Talk J g) : Type 0 where
+pub record Shared {J : Type 0} {g : Ghosts J} (honest : Bool) (w : Terms) (m : model.Session)
+    (d : Due) (gathered : List ℕ) (old : Talk J g) (answer : Answer) (new : Talk J g)
+    : Type 0 where
   pub told : shares.Answer
-  pub answers : IsAnswerTo d.ask gathered answer told
-  pub read : IsReadOf new.reads.shown told
-  pub found : IsToldFor g.register d.ask told
+  pub answers : AnswersBy honest d.ask gathered answer told
+  pub read : honest ≡ true → IsReadOf new.reads.shown told
+  pub found : IsToldFor honest g.register d.ask told
+  pub held : IsHeldOnce m.phase told
   pub hands : HandsAfter (end_of old.seat) d.ask told (hands_of old) (hands_of new)
   pub planned : Planned w new.session m d gathered (handed answer)
 
 -- the step that a session planned is done, unless memory was refused
 abbrev pub SharesFor : {J : Type 0} {g : Ghosts J} → Terms → Step → Talk J g → Answer → Talk J g
     → Type 0
-SharesFor w step old answer new =
-    (m : model.Session) (d : Due) (gathered : List ℕ)
+SharesFor {J} {g} w step old answer new =
+    (honest : Bool) → (honest ≡ true → g.trusted ≡ true)
+    → (m : model.Session) (d : Due) (gathered : List ℕ)
     → Planned w old.session m d gathered false → IsStepOf step d.ask
-    → AskFits old.reads.shown d.ask gathered → answer ≢ answers.Memory
-    → ∥ Shared w m d gathered old answer new ∥₁
+    → (honest ≡ true → AskFits old.reads.shown d.ask gathered) → answer ≢ answers.Memory
+    → ∥ Shared honest w m d gathered old answer new ∥₁
 
 -- nothing has changed that anybody can see
 pub record StaysSame {J : Type 0} {g : Ghosts J} (old new : Talk J g) : Type 0 where
@@ -151,13 +181,26 @@ pub record KeepsButSession {J : Type 0} {g : Ghosts J} (old new : Talk J g) : Ty
   pub hands : hands_of new ≡ hands_of old
   pub place : KeepsPlace old new
 
+-- what the session of this number made of the answer: what it says, in octets, and what it stands
+-- for
+pub record HeardFor (honest : Bool) (w : Terms) (s : ℕ) (d : Due) (told : shares.Answer)
+    (said : List ℕ) (new : Session) : Type 0 where
+  pub heard : Heard
+  pub later : List ℕ
+  pub hears : HearsBy honest s d.after d.ask told heard
+  pub is_said : IsSaid said (has_parted new) heard.said
+  pub stands : Stands w new heard.session later
+  pub gathers : honest ≡ true → Gathers d.ask told heard.session.phase later
+
 -- the session heard an answer that isn't want of memory
 abbrev pub HearsAnswer : {J : Type 0} {g : Ghosts J} → Talk J g → Answer → List ℕ → Talk J g
     → Type 0
 HearsAnswer old answer said new =
-    (w : Terms) (m : model.Session) (d : Due) (gathered : List ℕ) (told : shares.Answer)
-    → answer ≢ answers.Memory → Planned w old.session m d gathered (handed answer)
-    → IsAnswerTo d.ask gathered answer told → HeardBy w old.number d told said new.session
+    (honest : Bool) (w : Terms) (m : model.Session) (d : Due) (gathered : List ℕ)
+    (told : shares.Answer) → answer ≢ answers.Memory
+    → Planned w old.session m d gathered (handed answer)
+    → AnswersBy honest d.ask gathered answer told
+    → HeardFor honest w old.number d told said new.session
 
 -- what was planned is planned no more, and nothing was said
 pub record LetsGo {J : Type 0} {g : Ghosts J} (old : Talk J g) (said : List ℕ) (new : Talk J g)
@@ -179,16 +222,18 @@ parted_after parted false (octet ∷ octets) = parted
 parted_after parted true (octet ∷ octets) = Some (octet ∷ octets)
 
 -- the session went on to another point: it heard nothing new, and this is what it said
-pub record WentTo {J : Type 0} {g : Ghosts J} (w : Terms) (s end : ℕ) (first p : Point)
-    (said : List ℕ) (talk : Talk J g) : Type 0 where
+pub record WentTo {J : Type 0} {g : Ghosts J} (honest : Bool) (w : Terms) (s end : ℕ)
+    (first p : Point) (said : List ℕ) (talk : Talk J g) : Type 0 where
   pub at : Point
-  pub going : Going w s end first talk at
+  pub going : Going honest w s end first talk at
   pub heard : at.heard ≡ p.heard
   pub said_is : at.said ≡ p.said ++ said
   pub parted : at.parted ≡ parted_after p.parted (has_parted talk.session) said
 
--- wherever the session was on its course, it went on
+-- wherever the session was on its course, it went on; of honest stores something is said where the
+-- archive is trusted
 abbrev pub WentOn : {J : Type 0} {g : Ghosts J} → Terms → Talk J g → List ℕ → Talk J g → Type 0
-WentOn w old said new =
-    (s end : ℕ) (first p : Point) → Going w s end first old p
-    → ∥ WentTo w s end first p said new ∥₁
+WentOn {J} {g} w old said new =
+    (honest : Bool) → (honest ≡ true → g.trusted ≡ true)
+    → (s end : ℕ) (first p : Point) → Going honest w s end first old p
+    → ∥ WentTo honest w s end first p said new ∥₁

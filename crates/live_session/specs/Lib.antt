@@ -1,3 +1,4 @@
 pub mod Course
 pub mod Going
 pub mod Carried
+pub mod Commands

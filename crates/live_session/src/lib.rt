@@ -3,6 +3,7 @@
 //! Threads).
 #![tactic(auto)]
 
+mod commands;
 mod pushing;
 mod serve;
 mod shares;
@@ -11,7 +12,8 @@ mod talk;
 mod turn;
 mod wire;
 
+pub use commands::Command;
 pub use serve::{Served, serve_session};
-pub use shares::{Clock, Gate, Shares};
+pub use shares::{Clock, Gate, JobTold, Shares};
 pub use talk::Hall;
 pub use wire::Finish;

@@ -6,7 +6,7 @@ ghost use Rattle.live_session.specs.Going.{KeepsPlace, SharesFor, StaysSame};
 ghost use Rattle.peer_session.specs.declared.steps.Answer.TheVariants as answers;
 ghost use Rattle.peer_session.specs.declared.steps.Step.TheVariants as steps;
 
-use crate::shares::Shares;
+use crate::shares::{JobTold, Shares};
 use crate::talk::{Hall, Talk};
 use live_fates::{KeptJob, Told};
 use live_store::Archive;
@@ -62,12 +62,10 @@ pub(crate) fn look_in_slot<S: Shares<J, R>, C, G, J: Archive, R: Wait>(
     if talk.kept.reserve(1).is_err() {
         return Answer::Memory;
     }
-    match hall.shares.outcome(rt, talk.seat.end(), handed - 1) {
+    let JobTold { number, told } = hall.shares.outcome(rt, talk.seat.end(), handed - 1);
+    match told {
         Told::Kept(receipt) => {
-            talk.kept.push_reserved(KeptJob {
-                number: handed - 1,
-                receipt,
-            });
+            talk.kept.push_reserved(KeptJob { number, receipt });
             Answer::Slot(Some(Outcome::Kept))
         }
         Told::Failed => Answer::Slot(Some(Outcome::Failed)),

@@ -2,14 +2,15 @@
 ghost use Rattle.std.specs.Prelude.{◌≡◌, ◌≤◌, ◌^◌, true, false, IfOk};
 ghost use Rattle.article_verdict.specs.Config.{terms_of};
 ghost use Rattle.live_seats.specs.Seats.{IsSeatOf, count_of, end_of};
-ghost use Rattle.live_session.specs.Carried.{Begins, Carried, CarriesSame, IsServed, ServesOn};
-ghost use Rattle.live_session.specs.Carried.{carried};
+ghost use Rattle.live_session.specs.Carried.{Begins, Carried, CarriesSame, IsFormed, IsServed};
+ghost use Rattle.live_session.specs.Carried.{ServesOn, carried};
 ghost use Rattle.live_session.specs.Going.{hands_at};
 ghost use Rattle.live_session.specs.declared.wire.Finish.TheVariants as finishes;
 ghost use Rattle.peer_session.specs.Session.{session_view};
 ghost use Rattle.relay_model.specs.Run.{is_running};
 ghost use Rattle.relay_model.specs.Terms.{Terms};
 
+use crate::commands::{Command, Commands};
 use crate::shares::{Clock, Gate, Shares};
 use crate::talk::{Hall, Talk, Turned};
 use crate::turn::turn;
@@ -73,6 +74,10 @@ pub fn serve_session<S: Shares<J, R>, C: Clock, G: Gate<R>, J: Archive, H: Hears
     ensures seat { IsSeatOf hall.now.lanes.now result.seat }
     ensures end { end_of result.seat ≡ end_of seat }
     ensures served { J.trusted ≡ true → ∥ IsServed J.register (terms_of hall.now.config.now)
+        number (end_of seat) peer (hands_at seat kept.items) (H.heard reader) (W.said writer)
+        result.finish (hands_at result.seat result.kept.items) (H.heard result.reader)
+        (W.said result.writer) ∥₁ }
+    ensures formed { ∥ IsFormed J.register (terms_of hall.now.config.now)
         number (end_of seat) peer (hands_at seat kept.items) (H.heard reader) (W.said writer)
         result.finish (hands_at result.seat result.kept.items) (H.heard result.reader)
         (W.said result.writer) ∥₁ }
@@ -169,12 +174,12 @@ fn converse<S: Shares<J, R>, C: Clock, G: Gate<R>, J: Archive, H: Hears, W: Says
     requires seat { IsSeatOf hall.now.lanes.now talk.old.seat }
     ensures seat { IsSeatOf hall.now.lanes.now talk.new.seat }
     ensures end { end_of talk.new.seat ≡ end_of talk.old.seat }
-    ensures served { J.trusted ≡ true → ServesOn (terms_of hall.now.config.now) talk.old talk.new
+    ensures served { ServesOn (terms_of hall.now.config.now) talk.old talk.new
         (carried (H.heard wire.old.reader) (W.said wire.old.writer) wire.old.outbox wire.old.finish)
         (carried (H.heard wire.new.reader) (W.said wire.new.writer)
         wire.new.outbox wire.new.finish) }
 {
-    let mut commands = 0;
+    let mut commands = Commands::of(talk.number);
     for _ in 0..TURNS {
         if wire.finish.is_some() {
             break;
@@ -190,13 +195,13 @@ fn round<S: Shares<J, R>, C: Clock, G: Gate<R>, J: Archive, H: Hears, W: Says, R
     hall: &Hall<S, C, G>,
     talk: &mut Talk<J>,
     wire: &mut Wire<H, W>,
-    commands: &mut u64,
+    commands: &mut Commands,
 )
     requires register { hall.now.register.now ≡ J.register }
     requires seat { IsSeatOf hall.now.lanes.now talk.old.seat }
     ensures seat { IsSeatOf hall.now.lanes.now talk.new.seat }
     ensures end { end_of talk.new.seat ≡ end_of talk.old.seat }
-    ensures served { J.trusted ≡ true → ServesOn (terms_of hall.now.config.now) talk.old talk.new
+    ensures served { ServesOn (terms_of hall.now.config.now) talk.old talk.new
         (carried (H.heard wire.old.reader) (W.said wire.old.writer) wire.old.outbox wire.old.finish)
         (carried (H.heard wire.new.reader) (W.said wire.new.writer)
         wire.new.outbox wire.new.finish) }
@@ -204,7 +209,7 @@ fn round<S: Shares<J, R>, C: Clock, G: Gate<R>, J: Archive, H: Hears, W: Says, R
     match turn(rt, alloc, hall, talk, commands) {
         Turned::Says(said) => {
             put(wire, said, talk.session.has_parted());
-            write_on(rt, hall, talk.number, wire, *commands);
+            write_on(rt, hall, wire, commands.newest());
         }
         Turned::Rests => {
             flush(wire);
@@ -223,9 +228,8 @@ fn round<S: Shares<J, R>, C: Clock, G: Gate<R>, J: Archive, H: Hears, W: Says, R
 fn write_on<S, C, G: Gate<R>, H: Hears, W: Says, R>(
     rt: &R,
     hall: &Hall<S, C, G>,
-    number: u64,
     wire: &mut Wire<H, W>,
-    commands: u64,
+    newest: Option<Command>,
 )
     ensures { CarriesSame
         (carried (H.heard wire.old.reader) (W.said wire.old.writer) wire.old.outbox wire.old.finish)
@@ -235,7 +239,9 @@ fn write_on<S, C, G: Gate<R>, H: Hears, W: Says, R>(
     if hall.gate.is_one_by_one() {
         if !wire.outbox.is_empty() {
             flush(wire);
-            hall.gate.leave(rt, number, commands.wrapping_sub(1));
+            if let Some(command) = newest {
+                hall.gate.leave(rt, command);
+            }
         }
         return;
     }
@@ -283,7 +289,7 @@ fn leave<S: Shares<J, R>, C: Clock, G: Gate<R>, J: Archive, H: Hears, W: Says, R
     requires seat { IsSeatOf hall.now.lanes.now talk.old.seat }
     ensures seat { IsSeatOf hall.now.lanes.now talk.new.seat }
     ensures end { end_of talk.new.seat ≡ end_of talk.old.seat }
-    ensures served { J.trusted ≡ true → ServesOn (terms_of hall.now.config.now) talk.old talk.new
+    ensures served { ServesOn (terms_of hall.now.config.now) talk.old talk.new
         (carried (H.heard wire.old.reader) (W.said wire.old.writer) wire.old.outbox wire.old.finish)
         (carried (H.heard wire.new.reader) (W.said wire.new.writer)
         wire.new.outbox wire.new.finish) }
@@ -310,12 +316,13 @@ fn last_turn<S: Shares<J, R>, C: Clock, G: Gate<R>, J: Archive, H: Hears, W: Say
     requires seat { IsSeatOf hall.now.lanes.now talk.old.seat }
     ensures seat { IsSeatOf hall.now.lanes.now talk.new.seat }
     ensures end { end_of talk.new.seat ≡ end_of talk.old.seat }
-    ensures served { J.trusted ≡ true → ServesOn (terms_of hall.now.config.now) talk.old talk.new
+    ensures served { ServesOn (terms_of hall.now.config.now) talk.old talk.new
         (carried (H.heard wire.old.reader) (W.said wire.old.writer) wire.old.outbox wire.old.finish)
         (carried (H.heard wire.new.reader) (W.said wire.new.writer)
         wire.new.outbox wire.new.finish) }
 {
-    match turn(rt, alloc, hall, talk, &mut 0) {
+    let mut commands = Commands::of(talk.number);
+    match turn(rt, alloc, hall, talk, &mut commands) {
         Turned::Says(said) => put(wire, said, talk.session.has_parted()),
         Turned::Rests => {}
         Turned::Held => {}

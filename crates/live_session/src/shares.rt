@@ -1,10 +1,12 @@
 //! What sessions share, the clock, and what lets commands in.
-ghost use Rattle.std.specs.Prelude.{◌≡◌, ◌≤◌, true, length, IfOk, IfErr, IfSome, Some};
+ghost use Rattle.std.specs.Prelude.{◌≡◌, ◌≢◌, ◌≤◌, true, length, IfOk, IfErr, IfSome, Some};
 ghost use Rattle.cyc_buffer.specs.Answers.{HasRoom};
 ghost use Rattle.cyc_token.specs.Token.{token_view};
+ghost use Rattle.id_history.specs.declared.claims.Take.TheVariants as takes;
 ghost use Rattle.live_store.specs.Steps.{IsFoundIn, IsFoundGone, IsReadFault};
 ghost use Rattle.relay_model.specs.Terms.{last_moment};
 
+use crate::commands::Command;
 use cyc_block::CHUNK_OCTETS;
 use cyc_buffer::{Fault, Found};
 use cyc_token::Token;
@@ -32,7 +34,8 @@ pub trait Shares<J: Archive, R> {
 
     /// As `take`, but where another session stores an article of the id it waits until that has
     /// ended, so the answer is never `Held`.
-    fn take_later(&self, rt: &R, id: &MsgId, session: u64) -> Result<Take, AllocError>;
+    fn take_later(&self, rt: &R, id: &MsgId, session: u64) -> Result<Take, AllocError>
+        ensures { IfOk result (λ told. told ≢ takes.Held) };
 
     /// The session's offer of the id ends.
     fn release(&self, rt: &R, id: &MsgId, session: u64);
@@ -64,7 +67,15 @@ pub trait Shares<J: Archive, R> {
 
     /// Waits until the writer has told what became of this end's job of this number, and takes that
     /// out of the end's slot.
-    fn outcome(&self, rt: &R, end: u64, number: u64) -> Told<J>;
+    fn outcome(&self, rt: &R, end: u64, number: u64) -> JobTold<J>
+        ensures { result.number ≡ number };
+}
+
+/// What a writer told of a job, with the number of the job that was looked for.
+#[derive(Drop)]
+pub struct JobTold<J: Archive> {
+    pub number: u64,
+    pub told: Told<J>,
 }
 
 /// A clock: seconds since the first of 1970, within the limits.
@@ -76,12 +87,12 @@ pub trait Clock {
 
 /// What lets commands in, one by one.
 pub trait Gate<R> {
-    /// Before a command of a session, counted from 0: whether it may go on. It may wait.
-    fn enter(&self, rt: &R, session: u64, command: u64) -> bool;
+    /// Before a command of a session: whether it may go on. It may wait.
+    fn enter(&self, rt: &R, command: Command) -> bool;
 
     /// Whether each reply is written before the next command is let in, so that `leave` tells it.
     fn is_one_by_one(&self) -> bool;
 
-    /// After the command's reply was written.
-    fn leave(&self, rt: &R, session: u64, command: u64);
+    /// After the reply of the newest command of a session was written.
+    fn leave(&self, rt: &R, command: Command);
 }

@@ -1,10 +1,12 @@
 //! The one step of what is shared that a turn takes, by each of its kinds.
-ghost use Rattle.std.specs.Prelude.{◌≡◌, ℕ, List, true};
+ghost use Rattle.std.specs.Prelude.{◌≡◌, ◌≢◌, ℕ, Bool, List, true, IfOk};
 ghost use Rattle.article_verdict.specs.Config.{terms_of};
 ghost use Rattle.cyc_token.specs.Token.{token_view};
+ghost use Rattle.id_history.specs.declared.claims.Take.TheVariants as takes;
 ghost use Rattle.live_seats.specs.Seats.{IsSeatOf};
 ghost use Rattle.live_session.specs.Going.{IsFrontOf, KeepsButReads, KeepsPlace, ReadsFor};
 ghost use Rattle.live_session.specs.Going.{SharesFor, StaysSame, chunk_view};
+ghost use Rattle.peer_session.specs.Session.{holds_article};
 ghost use Rattle.peer_session.specs.declared.steps.Answer.TheVariants as answers;
 
 use crate::pushing::{look_in_slot, push};
@@ -12,7 +14,7 @@ use crate::shares::{Clock, Gate, Shares};
 use crate::talk::{Hall, Talk};
 use article_fetch::{Chunk, Octets480};
 use cyc_block::CHUNK_OCTETS;
-use cyc_buffer::Found;
+use cyc_buffer::{Fault, Found};
 use cyc_token::Token;
 use id_history::Take;
 use live_store::{Archive, OneRecord};
@@ -34,8 +36,7 @@ pub(crate) fn share<S: Shares<J, R>, C, G, J: Archive, R: Wait>(
     requires seat { IsSeatOf hall.now.lanes.now talk.old.seat }
     ensures seat { IsSeatOf hall.now.lanes.now talk.new.seat }
     ensures place { KeepsPlace talk.old talk.new }
-    ensures shared { J.trusted ≡ true
-        → SharesFor (terms_of hall.now.config.now) step talk.old result talk.new }
+    ensures shared { SharesFor (terms_of hall.now.config.now) step talk.old result talk.new }
     ensures memory { result ≡ answers.Memory → StaysSame talk.old talk.new }
 {
     match step {
@@ -73,7 +74,10 @@ fn take<S: Shares<J, R>, C, G, J: Archive, R: Wait>(
     hall: &Hall<S, C, G>,
     talk: &Talk<J>,
     id: &MsgId,
-) -> Result<Take, AllocError> {
+) -> Result<Take, AllocError>
+    ensures once { holds_article talk.now.session.phase ≡ true
+        → IfOk result (λ told. told ≢ takes.Held) }
+{
     if talk.session.is_holding() {
         hall.shares.take_later(rt, id, talk.number)
     } else {
@@ -92,19 +96,17 @@ fn read<S: Shares<J, R>, C, G, J: Archive, R: Wait>(
     requires register { hall.now.register.now ≡ J.register }
     ensures rest { KeepsButReads talk.old talk.new }
     ensures seat { talk.new.seat ≡ talk.old.seat }
-    ensures read { J.trusted ≡ true → ReadsFor J.register (token_view token.now) k
-        talk.old.reads.shown result talk.new.reads.shown }
+    ensures read { (honest : Bool) → (honest ≡ true → J.trusted ≡ true)
+        → ReadsFor honest J.register (token_view token.now) k talk.old.reads.shown result
+        talk.new.reads.shown }
 {
     begin_reads(&mut talk.reads, k);
     let mut octets = [0; CHUNK_OCTETS];
     let reads = &mut talk.reads;
-    match hall
+    let found = hall
         .shares
-        .read(rt, hall.register, reads, token, k, &mut octets)
-    {
-        Ok(found) => chunk_of(found, octets),
-        Err(_) => Chunk::Device,
-    }
+        .read(rt, hall.register, reads, token, k, &mut octets);
+    chunk_of(found, octets)
 }
 
 /// The reads of an article begin with its block 0.
@@ -117,13 +119,14 @@ fn begin_reads<J: Archive>(reads: &mut OneRecord<J>, k: u32)
     }
 }
 
-/// What was found of a block, with its octets at the front of these.
-fn chunk_of(found: Found, octets: [u8; CHUNK_OCTETS]) -> Chunk
+/// What was found of a block, with its octets at the front of these, or that the device failed.
+fn chunk_of(found: Result<Found, Fault>, octets: [u8; CHUNK_OCTETS]) -> Chunk
     ensures { result ≡ chunk_view found octets }
 {
     match found {
-        Found::Chunk(len) => Chunk::Found(Octets480::new(octets, len)),
-        Found::Gone(_front) => Chunk::Gone,
-        Found::Unknown => Chunk::Unknown,
+        Ok(Found::Chunk(len)) => Chunk::Found(Octets480::new(octets, len)),
+        Ok(Found::Gone(_front)) => Chunk::Gone,
+        Ok(Found::Unknown) => Chunk::Unknown,
+        Err(_fault) => Chunk::Device,
     }
 }

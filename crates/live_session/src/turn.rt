@@ -1,11 +1,12 @@
 //! A turn: the session plans, its step is done, and it hears the answer.
-ghost use Rattle.std.specs.Prelude.{◌≡◌, true};
+ghost use Rattle.std.specs.Prelude.{◌≡◌};
 ghost use Rattle.article_verdict.specs.Config.{terms_of};
 ghost use Rattle.live_seats.specs.Seats.{IsSeatOf, end_of};
 ghost use Rattle.live_session.specs.Going.{HearsAnswer, KeepsButSession, LetsGo};
 ghost use Rattle.live_session.specs.Going.{WentOn, said_in};
 ghost use Rattle.peer_session.specs.declared.steps.Answer.TheVariants as answers;
 
+use crate::commands::Commands;
 use crate::shares::{Clock, Gate, Shares};
 use crate::sharing::share;
 use crate::talk::{Hall, Talk, Turned};
@@ -20,14 +21,13 @@ pub(crate) fn turn<S: Shares<J, R>, C: Clock, G: Gate<R>, J: Archive, R: Wait>(
     alloc: Global,
     hall: &Hall<S, C, G>,
     talk: &mut Talk<J>,
-    commands: &mut u64,
+    commands: &mut Commands,
 ) -> Turned
     requires register { hall.now.register.now ≡ J.register }
     requires seat { IsSeatOf hall.now.lanes.now talk.old.seat }
     ensures seat { IsSeatOf hall.now.lanes.now talk.new.seat }
     ensures end { end_of talk.new.seat ≡ end_of talk.old.seat }
-    ensures went { J.trusted ≡ true
-        → WentOn (terms_of hall.now.config.now) talk.old (said_in result) talk.new }
+    ensures went { WentOn (terms_of hall.now.config.now) talk.old (said_in result) talk.new }
 {
     let at_command = talk.session.is_at_command();
     let now = hall.clock.now();
@@ -38,7 +38,7 @@ pub(crate) fn turn<S: Shares<J, R>, C: Clock, G: Gate<R>, J: Archive, R: Wait>(
         hear(talk, Answer::Memory);
         return Turned::Rests;
     }
-    if at_command && !is_let_in(rt, hall, talk.number, commands) {
+    if at_command && !is_let_in(rt, hall, commands) {
         hear(talk, Answer::Memory);
         return Turned::Held;
     }
@@ -46,16 +46,10 @@ pub(crate) fn turn<S: Shares<J, R>, C: Clock, G: Gate<R>, J: Archive, R: Wait>(
     hear(talk, answer)
 }
 
-/// Whether the gate lets the next command in, which is counted.
-fn is_let_in<S, C, G: Gate<R>, R>(
-    rt: &R,
-    hall: &Hall<S, C, G>,
-    number: u64,
-    commands: &mut u64,
-) -> bool {
-    let command = *commands;
-    *commands = command.wrapping_add(1);
-    hall.gate.enter(rt, number, command)
+/// Whether the gate lets the next command in.
+fn is_let_in<S, C, G: Gate<R>, R>(rt: &R, hall: &Hall<S, C, G>, commands: &mut Commands) -> bool {
+    let command = commands.next();
+    hall.gate.enter(rt, command)
 }
 
 /// The session hears the answer to what it planned. Where that is want of memory it forgets what it

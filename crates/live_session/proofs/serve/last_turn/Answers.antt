@@ -5,7 +5,7 @@ use Rattle.live_session.proofs.serve.last_turn.Goals as goal
 use Rattle.live_session.specs.Carried.{CarriesOn, carried}
 
 pub returns-in-Says-clause-served : goal.returns-in-Says-clause-served
-returns-in-Says-clause-served g c trusted =
+returns-in-Says-clause-served g c =
     let talk = c.args.talk.now in
     let new = c.turn.new.talk in
     let wire = c.args.wire.now in
@@ -15,29 +15,29 @@ returns-in-Says-clause-served g c trusted =
     let after = carried (g.H.Hears.heard put.reader) (g.W.Says.said put.writer) put.outbox
     put.finish in
     served_turn (terms_of c.args.hall.now.config.now) talk new c.in-Says.said.items before after
-    (c.in-Says.ensures.went trusted)
+    c.in-Says.ensures.went
     (subst (CarriesOn before after [] c.in-Says.said.items) c.has_parted.ensures c.put.ensures)
 
 pub returns-in-Rests-clause-served : goal.returns-in-Rests-clause-served
-returns-in-Rests-clause-served g c trusted =
+returns-in-Rests-clause-served g c =
     let wire = c.args.wire.now in
     let same = carried (g.H.Hears.heard wire.reader) (g.W.Says.said wire.writer) wire.outbox
     wire.finish in
     served_still (terms_of c.args.hall.now.config.now) c.args.talk.now c.turn.new.talk
-    (c.in-Rests.ensures.went trusted) same same (λ came replies parted carries. carries)
+    c.in-Rests.ensures.went same same (λ came replies parted carries. carries)
 
 pub returns-in-Held-clause-served : goal.returns-in-Held-clause-served
-returns-in-Held-clause-served g c trusted =
+returns-in-Held-clause-served g c =
     let wire = c.args.wire.now in
     let same = carried (g.H.Hears.heard wire.reader) (g.W.Says.said wire.writer) wire.outbox
     wire.finish in
     served_still (terms_of c.args.hall.now.config.now) c.args.talk.now c.turn.new.talk
-    (c.in-Held.ensures.went trusted) same same (λ came replies parted carries. carries)
+    c.in-Held.ensures.went same same (λ came replies parted carries. carries)
 
 pub returns-in-Memory-clause-served : goal.returns-in-Memory-clause-served
-returns-in-Memory-clause-served g c trusted =
+returns-in-Memory-clause-served g c =
     let wire = c.args.wire.now in
     let same = carried (g.H.Hears.heard wire.reader) (g.W.Says.said wire.writer) wire.outbox
     wire.finish in
     served_still (terms_of c.args.hall.now.config.now) c.args.talk.now c.turn.new.talk
-    (c.in-Memory.ensures.went trusted) same same (λ came replies parted carries. carries)
+    c.in-Memory.ensures.went same same (λ came replies parted carries. carries)

@@ -8,7 +8,7 @@ abbrev pub invariant-loop : goal.invariant-loop
 invariant-loop g l = record {
   seat : IsSeatOf l.hall.lanes.now l.talk.seat;
   end_is : end_of l.talk.seat ≡ end_of l.fn.talk.seat;
-  served : g.J.Archive.trusted ≡ true → ServesOn (terms_of l.hall.config.now) l.fn.talk l.talk
+  served : ServesOn (terms_of l.hall.config.now) l.fn.talk l.talk
       (carried (g.H.Hears.heard l.fn.wire.reader) (g.W.Says.said l.fn.wire.writer)
       l.fn.wire.outbox l.fn.wire.finish)
       (carried (g.H.Hears.heard l.wire.reader) (g.W.Says.said l.wire.writer)

@@ -14,7 +14,7 @@ returns-in-Ok-eq0-clause-served g c w =
     wire.finish in
     let heard = g.H.Hears.heard c.hear.new.self in
     then_same w talk talk old old (record old { heard = heard; finish = Some finishes.Broken })
-    (λ s end first read written one. one)
+    (λ honest trust s end first read written one. one)
     (lost old heard (take c.in-Ok-eq0.field-0 c.hear.new.room.items) c.in-Ok-eq0.ensures.ok.1
     (none_of wire.finish (sym c.is_some.ensures ∙ c.if-is_some.false)))
 
@@ -57,6 +57,6 @@ returns-then-ne-clause-served g c w =
     wire.finish in
     let heard = g.H.Hears.heard c.hear.new.self in
     then_same w talk talk old old (record old { heard = heard; finish = Some finishes.Broken })
-    (λ s end first read written one. one)
+    (λ honest trust s end first read written one. one)
     (lost old heard [] (c.in-Err.ensures.err ∙ sym (append-nil old.heard))
     (none_of wire.finish (sym c.is_some.ensures ∙ c.if-is_some.false)))

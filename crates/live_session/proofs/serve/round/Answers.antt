@@ -7,7 +7,7 @@ use Rattle.live_session.proofs.serve.round.Goals as goal
 use Rattle.live_session.specs.Carried.{CarriesOn, carried}
 
 pub returns-in-Says-clause-served : goal.returns-in-Says-clause-served
-returns-in-Says-clause-served g c trusted =
+returns-in-Says-clause-served g c =
     let w = terms_of c.args.hall.now.config.now in
     let talk = c.args.talk.now in
     let new = c.turn.new.talk in
@@ -21,7 +21,7 @@ returns-in-Says-clause-served g c trusted =
     let after = carried (g.H.Hears.heard last.reader) (g.W.Says.said last.writer) last.outbox
     last.finish in
     then_same w talk new before mid after
-    (served_turn w talk new c.in-Says.said.items before mid (c.in-Says.ensures.went trusted)
+    (served_turn w talk new c.in-Says.said.items before mid c.in-Says.ensures.went
     (subst (CarriesOn before mid [] c.in-Says.said.items) c.has_parted.ensures c.put.ensures))
     c.write_on.ensures
 
@@ -31,7 +31,7 @@ returns-in-Rests-clause-seat g c =
     subst P (sym c.receive.ensures.seat) c.turn.ensures.seat
 
 pub returns-in-Rests-clause-served : goal.returns-in-Rests-clause-served
-returns-in-Rests-clause-served g c trusted =
+returns-in-Rests-clause-served g c =
     let w = terms_of c.args.hall.now.config.now in
     let talk = c.args.talk.now in
     let mid = c.turn.new.talk in
@@ -45,21 +45,21 @@ returns-in-Rests-clause-served g c trusted =
     let after = carried (g.H.Hears.heard last.reader) (g.W.Says.said last.writer) last.outbox
     last.finish in
     then_on w talk mid c.receive.new.talk before between after
-    (served_still w talk mid (c.in-Rests.ensures.went trusted) before between c.flush.ensures.same)
+    (served_still w talk mid c.in-Rests.ensures.went before between c.flush.ensures.same)
     (c.receive.ensures.served w)
 
 pub returns-in-Held-clause-served : goal.returns-in-Held-clause-served
-returns-in-Held-clause-served g c trusted =
+returns-in-Held-clause-served g c =
     let wire = c.args.wire.now in
     let last = c.stop.new.wire in
     served_still (terms_of c.args.hall.now.config.now) c.args.talk.now c.turn.new.talk
-    (c.in-Held.ensures.went trusted)
+    c.in-Held.ensures.went
     (carried (g.H.Hears.heard wire.reader) (g.W.Says.said wire.writer) wire.outbox wire.finish)
     (carried (g.H.Hears.heard last.reader) (g.W.Says.said last.writer) last.outbox last.finish)
     c.stop.ensures.same
 
 pub returns-in-Memory-clause-served : goal.returns-in-Memory-clause-served
-returns-in-Memory-clause-served g c trusted =
+returns-in-Memory-clause-served g c =
     let w = terms_of c.args.hall.now.config.now in
     let talk = c.args.talk.now in
     let new = c.turn.new.talk in
@@ -73,6 +73,6 @@ returns-in-Memory-clause-served g c trusted =
     let after = carried (g.H.Hears.heard last.reader) (g.W.Says.said last.writer) last.outbox
     last.finish in
     then_same w talk new before between after
-    (served_still w talk new (c.in-Memory.ensures.went trusted) before between
+    (served_still w talk new c.in-Memory.ensures.went before between
     c.flush-in-Memory.ensures.same)
     c.stop-in-Memory.ensures.same

@@ -10,21 +10,21 @@ use Rattle.peer_session.specs.declared.steps.Answer.TheVariants as answers
 use Rattle.peer_session.specs.declared.steps.Step.{Step}
 
 pub returns-in-Nothing-clause-shared : goal.returns-in-Nothing-clause-shared
-returns-in-Nothing-clause-shared g c trusted =
+returns-in-Nothing-clause-shared g c =
     let w = terms_of c.args.hall.now.config.now in
     let talk = c.args.talk.now in
     let P : Step → Type 0 = λ s. SharesFor w s talk answers.Nothing talk in
     subst P (sym c.in-Nothing.is) (nothing w talk)
 
 pub returns-in-Ok-clause-shared : goal.returns-in-Ok-clause-shared
-returns-in-Ok-clause-shared g c trusted =
+returns-in-Ok-clause-shared g c =
     let w = terms_of c.args.hall.now.config.now in
     let talk = c.args.talk.now in
     let P : Step → Type 0 = λ s. SharesFor w s talk (answers.Offer c.in-Ok.offer) talk in
     subst P (sym c.in-Offer.is) (offered w talk c.in-Offer.id c.in-Ok.offer)
 
 pub returns-in-Look-clause-shared : goal.returns-in-Look-clause-shared
-returns-in-Look-clause-shared g c trusted =
+returns-in-Look-clause-shared g c =
     let w = terms_of c.args.hall.now.config.now in
     let talk = c.args.talk.now in
     let P : Step → Type 0 = λ s. SharesFor w s talk (answers.Look c.look.result) talk in
@@ -36,16 +36,16 @@ returns-in-Read-clause-seat g c =
     subst P (sym c.read.ensures.seat) c.requires.seat
 
 pub returns-in-Read-clause-shared : goal.returns-in-Read-clause-shared
-returns-in-Read-clause-shared g c trusted =
+returns-in-Read-clause-shared g c =
     let w = terms_of c.args.hall.now.config.now in
     let talk = c.args.talk.now in
     let P : Step → Type 0 = λ s. SharesFor w s talk (answers.Chunk c.read.result) c.read.new.talk in
     subst P (sym c.in-Read.is)
     (was_read w talk c.in-Read.token c.in-Read.k c.read.result c.read.new.talk c.read.ensures.rest
-    (c.read.ensures.read trusted))
+    c.read.ensures.read)
 
 pub returns-in-Ok-take_queue-clause-shared : goal.returns-in-Ok-take_queue-clause-shared
-returns-in-Ok-take_queue-clause-shared g c trusted =
+returns-in-Ok-take_queue-clause-shared g c =
     let w = terms_of c.args.hall.now.config.now in
     let talk = c.args.talk.now in
     let taken = c.in-Ok-take_queue.taken in
@@ -54,18 +54,19 @@ returns-in-Ok-take_queue-clause-shared g c trusted =
     (queued w talk c.in-TakeQueue.feed c.in-TakeQueue.most taken c.in-Ok-take_queue.ensures)
 
 pub returns-in-Ok-refuse-clause-shared : goal.returns-in-Ok-refuse-clause-shared
-returns-in-Ok-refuse-clause-shared g c trusted =
+returns-in-Ok-refuse-clause-shared g c =
     let w = terms_of c.args.hall.now.config.now in
     let talk = c.args.talk.now in
     let P : Step → Type 0 = λ s. SharesFor w s talk answers.Nothing talk in
     subst P (sym c.in-Refuse.is) (refused w talk c.in-Refuse.id)
 
 pub returns-in-Ok-take-clause-shared : goal.returns-in-Ok-take-clause-shared
-returns-in-Ok-take-clause-shared g c trusted =
+returns-in-Ok-take-clause-shared g c =
     let w = terms_of c.args.hall.now.config.now in
     let talk = c.args.talk.now in
     let P : Step → Type 0 = λ s. SharesFor w s talk (answers.Take c.in-Ok-take.told) talk in
-    subst P (sym c.in-Take.is) (taken_up w talk c.in-Take.id c.in-Ok-take.told)
+    subst P (sym c.in-Take.is)
+    (taken_up w talk c.in-Take.id c.in-Ok-take.told c.in-Ok-take.ensures.once)
 
 pub returns-in-Slot-clause-seat : goal.returns-in-Slot-clause-seat
 returns-in-Slot-clause-seat g c =
@@ -73,7 +74,7 @@ returns-in-Slot-clause-seat g c =
     subst P (sym c.look_in_slot.ensures.seat) c.requires.seat
 
 pub returns-clause-shared : goal.returns-clause-shared
-returns-clause-shared g c trusted =
+returns-clause-shared g c =
     let w = terms_of c.args.hall.now.config.now in
     let talk = c.args.talk.now in
     let P : Step → Type 0 = λ s. SharesFor w s talk answers.Nothing talk in

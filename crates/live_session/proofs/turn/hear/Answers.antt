@@ -1,4 +1,5 @@
 use Rattle.std.proofs.Common.{refl}
+use Rattle.live_session.proofs.Hearings.{heard_for}
 use Rattle.live_session.proofs.turn.hear.Goals as goal
 
 pub returns-in-Memory-clause-memory : goal.returns-in-Memory-clause-memory
@@ -7,8 +8,10 @@ returns-in-Memory-clause-memory g c is =
 
 pub returns : goal.returns
 returns g c = record {
-  heard = λ w m d gathered told some planned is. c.absorb-2.ensures.heard w m d gathered told
-      planned is;
+  heard = λ honest w m d gathered told some planned is.
+      heard_for c.args.talk.now.number c.args.talk.now.session c.args.answer c.absorb-2.result.items
+      c.absorb-2.new.self c.absorb-2.ensures.heard c.absorb-2.ensures.given w m d gathered told
+      planned honest is;
   memory = λ is. absurd (c.in_default.not-Memory is);
   rest = record { reads = refl; hands = refl; place = record { number = refl; end_is = refl } };
   seat = refl;

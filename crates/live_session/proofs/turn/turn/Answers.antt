@@ -7,7 +7,7 @@ use Rattle.live_session.proofs.turn.turn.Goals as goal
 use Rattle.live_session.specs.Going.{said_in}
 
 pub returns-in_default-clause-went : goal.returns-in_default-clause-went
-returns-in_default-clause-went g c trusted =
+returns-in_default-clause-went g c =
     let w = terms_of c.args.hall.now.config.now in
     let talk = c.args.talk.now in
     still w talk (record talk { session = c.plan.new.self }) refl refl
@@ -19,7 +19,7 @@ returns-then-is_resting-clause-seat g c =
     subst P (sym c.hear.ensures.seat) c.requires.seat
 
 pub returns-then-is_resting-clause-went : goal.returns-then-is_resting-clause-went
-returns-then-is_resting-clause-went g c trusted =
+returns-then-is_resting-clause-went g c =
     let w = terms_of c.args.hall.now.config.now in
     let talk = c.args.talk.now in
     let planned = record talk { session = c.plan.new.self } in
@@ -35,7 +35,7 @@ returns-then-not-is_let_in-clause-seat g c =
     subst P (sym c.hear-then-not-is_let_in.ensures.seat) c.requires.seat
 
 pub returns-then-not-is_let_in-clause-went : goal.returns-then-not-is_let_in-clause-went
-returns-then-not-is_let_in-clause-went g c trusted =
+returns-then-not-is_let_in-clause-went g c =
     let w = terms_of c.args.hall.now.config.now in
     let talk = c.args.talk.now in
     let planned = record talk { session = c.plan.new.self } in
@@ -52,7 +52,7 @@ returns-clause-seat g c =
     subst P (sym c.hear-2.ensures.seat) c.share-answer.ensures.seat
 
 pub returns-clause-went : goal.returns-clause-went
-returns-clause-went g c trusted =
+returns-clause-went g c =
     let w = terms_of c.args.hall.now.config.now in
     let talk = c.args.talk.now in
     let planned = record talk { session = c.plan.new.self } in
@@ -60,5 +60,5 @@ returns-clause-went g c trusted =
     turned w talk c.hear-2.new.talk c.in-Ok.step c.now-now.result planned share.new.talk
     share.result (said_in c.hear-2.result) c.now-now.ensures c.in-Ok.ensures.due
     (record { reads = refl; hands = refl; place = record { number = refl; end_is = refl } })
-    (share.ensures.shared trusted) share.ensures.place share.ensures.memory
+    share.ensures.shared share.ensures.place share.ensures.memory
     c.hear-2.ensures.heard c.hear-2.ensures.memory c.hear-2.ensures.rest
