@@ -4,5 +4,6 @@ pub mod Figures
 pub mod Holding
 pub mod Making
 pub mod Numbers
+pub mod Rounds
 pub mod Sessions
 pub mod Slots

@@ -1,5 +1,5 @@
 -- What a relay's threads share, by how much of it there is.
-use Rattle.std.specs.Prelude.{ℕ, length}
+use Rattle.std.specs.Prelude.{ℕ, Option, length}
 use Rattle.cyc_block.specs.declared.store.BlockStore as blocks
 use Rattle.live_store.specs.declared.record.Archive as archives
 use Rattle.relay_live.specs.declared.keeper.Keeper.{Keeper}
@@ -20,6 +20,11 @@ groups_in shared = length shared.racks.items
 abbrev pub feeds_in : {S J L : Type 0} {s : blocks.Ghosts S} {j : archives.Ghosts J}
     → Shared S J L s j → ℕ
 feeds_in shared = shared.feeds
+
+-- for how many seconds ids are remembered, where they aren't for good
+abbrev pub remember_in : {S J L : Type 0} {s : blocks.Ghosts S} {j : archives.Ghosts J}
+    → Shared S J L s j → Option ℕ
+remember_in shared = shared.remember
 
 -- how many ends there are
 abbrev pub ends_in : {S J L : Type 0} {s : blocks.Ghosts S} {j : archives.Ghosts J}

@@ -3,7 +3,10 @@ ghost use Rattle.std.specs.Prelude.{◌≡◌, ◌≢◌, ◌<◌, ◌+◌, ◌^
 ghost use Rattle.id_history.specs.Counts.{AtMost};
 ghost use Rattle.id_history.specs.declared.claims.Take.TheVariants as takes;
 ghost use Rattle.live_settle.specs.Posted.{IsPostOf};
+ghost use Rattle.relay_live.specs.Rounds.{fronts_in, shards_in, times_of};
+ghost use Rattle.relay_model.specs.Terms.{shard_count};
 
+use crate::forgetting::Rounds;
 use crossbeam_utils::sync::EventCount;
 use cyc_token::Token;
 use id_history::{Counts, Offer, Shard, Take};
@@ -98,6 +101,16 @@ impl Claims {
     pub(crate) fn forget<R: Wait>(&self, rt: &R, id: &MsgId, session: u64) {
         self.shard.lock(rt).forget(id, session);
         self.ended.notify_all();
+    }
+
+    /// Forgets in it, under its lock, what a round may forget.
+    pub(crate) fn expire<R: Wait>(&self, rt: &R, rounds: &mut Rounds)
+        requires { shards_in rounds.old < shard_count }
+        ensures one_more { shards_in rounds.new ≡ shards_in rounds.old + 1 }
+        ensures same { (times_of rounds.new ≡ times_of rounds.old)
+            × (fronts_in rounds.new ≡ fronts_in rounds.old) }
+    {
+        rounds.expire(&mut self.shard.lock(rt));
     }
 
     /// Settles under this lock and then the desk's (`live_settle::settle`).

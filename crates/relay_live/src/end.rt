@@ -7,6 +7,7 @@ ghost use Rattle.relay_live.specs.Numbers.{number_of};
 ghost use Rattle.relay_live.specs.Sessions.{IsOneMore};
 
 use crate::drawing::Number;
+use crate::forgetting::expire_round;
 use crate::keeper::Keeper;
 use crate::lending::Lends;
 use crate::shared::Shared;
@@ -170,6 +171,8 @@ where
             let Some((reader, writer)) = self.connections.next_one(rt) else {
                 return seat;
             };
+            // Before its session is told of any id.
+            let _round = expire_round(rt, self.shared, self.clock.now());
             let Some(number) = self.shared.draw(rt) else {
                 continue;
             };

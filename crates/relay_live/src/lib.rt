@@ -4,13 +4,14 @@
 //!
 //! Each call is one method of what lies under a lock, or settles under two. A `Keeper` stores the
 //! jobs that writers take, sessions go by `Shares`, an `End` serves a peer's connections, and
-//! `serve_all` runs all ends and writers in threads of their own.
+//! `serve_all` runs all ends and writers in threads of their own. `expire_round` forgets ids.
 #![tactic(auto)]
 
 mod claims;
 mod drawing;
 mod end;
 mod fetching;
+mod forgetting;
 mod holding;
 mod keeper;
 mod lending;
@@ -22,6 +23,7 @@ mod sharing;
 mod slot;
 
 pub use end::End;
+pub use forgetting::{Round, expire_round};
 pub use keeper::Keeper;
 pub use lending::Lends;
 pub use running::{Counted, Door, LiveError, serve_all};

@@ -1,9 +1,10 @@
 //! All that the threads of a relay share.
-ghost use Rattle.std.specs.Prelude.{◌≡◌, length};
+ghost use Rattle.std.specs.Prelude.{◌≡◌, ◌≤◌, length};
 ghost use Rattle.relay_model.specs.Terms.{shard_count};
 
 use crate::claims::Claims;
 use crate::drawing::{Number, Numbers};
+use crate::forgetting::Rounds;
 use crate::making::{locked, new_buffers, new_desk, new_shards, new_slots};
 use crate::slot::Slot;
 use block_shelf::{Rack, new_racks};
@@ -32,12 +33,18 @@ pub struct Shared<S: BlockStore + Drop, J: Archive, L: Ledger> {
     pub(crate) racks: Vec<Mutex<Rack>>,
     pub(crate) slots: Vec<Slot<J>>,
     numbers: Numbers<L>,
+    /// For how many seconds ids are remembered; without it for good.
+    pub(crate) remember: Option<u64>,
+    /// What the rounds of forgetting go by, one after the other.
+    pub(crate) rounds: Mutex<Rounds>,
     ghost sixteen: { length shards.items ≡ shard_count },
+    ghost few: { length buffers.items ≤ 256 },
 }
 
 impl<S: BlockStore + Drop, J: Archive, L: Ledger> Shared<S, J, L> {
     ghost use Rattle.std.specs.Prelude.{◌≡◌, true, map, length, All, IfOk};
     ghost use Rattle.relay_live.specs.Making.{buffers_in, groups_in, feeds_in, ends_in};
+    ghost use Rattle.relay_live.specs.Making.{remember_in};
 
     /// What so many ends share over these stores, the i-th for buffer i, before anything has come.
     /// All memory that no message-id takes is taken here. The error is that no seed for the shards
@@ -61,6 +68,8 @@ impl<S: BlockStore + Drop, J: Archive, L: Ledger> Shared<S, J, L> {
         ensures feeds { IfOk result (λ shared.
             feeds_in shared ≡ length config.now.relay.feeds.items) }
         ensures ends { IfOk result (λ shared. ends_in shared ≡ ends) }
+        ensures remember { IfOk result (λ shared.
+            remember_in shared ≡ config.now.relay.remember) }
     {
         let numbers = Numbers::new(&book);
         let shards = new_shards(rt, alloc)?;
@@ -68,6 +77,7 @@ impl<S: BlockStore + Drop, J: Archive, L: Ledger> Shared<S, J, L> {
         let racks = locked(alloc, new_racks(alloc, &config.buffers)?)?;
         let slots = new_slots(alloc, ends)?;
         let buffers = new_buffers(alloc, stores)?;
+        let rounds = Rounds::new(alloc)?;
         Ok(Shared {
             shards,
             desk: Mutex::new(desk),
@@ -76,6 +86,8 @@ impl<S: BlockStore + Drop, J: Archive, L: Ledger> Shared<S, J, L> {
             racks,
             slots,
             numbers,
+            remember: config.relay.remember,
+            rounds: Mutex::new(rounds),
         })
     }
 

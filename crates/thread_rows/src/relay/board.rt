@@ -1,6 +1,7 @@
 //! What the threads of a row tell one another: what each session was written and has sent, whether
 //! a block is being written, and how often something was waited for in vain.
 
+use crate::clock::Hands;
 use crate::looks::{comes, pause};
 use std::alloc::{AllocError, Global};
 use std::sync::{Mutex, Wait};
@@ -43,6 +44,7 @@ pub(crate) struct Board {
     is_writing: Mutex<bool>,
     /// How often something was waited for in vain.
     late: Mutex<u64>,
+    pub(crate) clock: Hands,
 }
 
 /// A new room.
@@ -55,8 +57,8 @@ fn new_room(alloc: Global) -> Mutex<Room> {
 }
 
 impl Board {
-    /// A board for so many sessions.
-    pub(crate) fn new(alloc: Global, sessions: usize) -> Result<Board, AllocError> {
+    /// A board for so many sessions, whose clock stands at this moment.
+    pub(crate) fn new(alloc: Global, sessions: usize, moment: u64) -> Result<Board, AllocError> {
         let mut rooms = Vec::new(alloc);
         for _session in 0..sessions {
             rooms.push(new_room(alloc))?;
@@ -65,6 +67,7 @@ impl Board {
             rooms,
             is_writing: Mutex::new(false),
             late: Mutex::new(0),
+            clock: Hands::new(moment),
         })
     }
 

@@ -33,11 +33,34 @@ pub(crate) enum Site {
     TwoFeeds,
 }
 
-/// The configuration of a row.
-pub(crate) fn row_config(alloc: Global, site: Site) -> io::Result<Config> {
+/// Ids are remembered for a hundred seconds.
+const REMEMBER: &[u8] = b"remember 100\n";
+
+/// The configuration of a row, where ids are forgotten if `forgets` says so.
+pub(crate) fn row_config(alloc: Global, site: Site, forgets: bool) -> io::Result<Config> {
+    if forgets {
+        return forgetting(alloc, site);
+    }
     match site {
         Site::K1 => Config::k1(alloc).map_err(|_| failed()),
         Site::TwoGroups => config_of(alloc, CYCBUFF, STORAGE, RELAY),
         Site::TwoFeeds => config_of(alloc, K1_CYCBUFF, K1_STORAGE, TWO_FEEDS),
+    }
+}
+
+/// The configuration of a row in which ids are forgotten.
+fn forgetting(alloc: Global, site: Site) -> io::Result<Config> {
+    let relay = [relay_of(site), REMEMBER].concat(alloc)?;
+    match site {
+        Site::TwoGroups => config_of(alloc, CYCBUFF, STORAGE, relay.as_slice()),
+        Site::K1 | Site::TwoFeeds => { config_of(alloc, K1_CYCBUFF, K1_STORAGE, relay.as_slice()) }
+    }
+}
+
+/// The relay of a row.
+fn relay_of(site: Site) -> &'static [u8] {
+    match site {
+        Site::K1 | Site::TwoGroups => RELAY,
+        Site::TwoFeeds => TWO_FEEDS,
     }
 }

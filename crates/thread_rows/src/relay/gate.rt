@@ -9,6 +9,9 @@ use std::time::Clock;
 /// The place of a session's end among its commands: the session has returned.
 const GONE: u64 = u64::MAX;
 
+/// The place of a session's connection among its commands.
+const COMES: u64 = u64::MAX - 1;
+
 /// The turn of a command.
 #[derive(Clone, Copy)]
 pub(crate) struct Turn {
@@ -32,6 +35,11 @@ impl Turn {
     /// The turn of a session that returns.
     pub(crate) fn of_end(session: u64) -> Turn {
         Turn::new(session, GONE, false)
+    }
+
+    /// The turn of a session's connection.
+    pub(crate) fn of_connection(session: u64) -> Turn {
+        Turn::new(session, COMES, false)
     }
 
     /// Whether it is the turn of this command.
@@ -104,6 +112,16 @@ impl<'a> Turns<'a> {
                 *done = done.saturating_add(1);
             }
         }
+    }
+
+    /// Waits until it is the turn of the session's connection; false where that doesn't come.
+    pub(crate) fn admits<R: Wait + Clock>(&self, rt: &R, session: u64) -> bool {
+        self.wait(rt, session, COMES)
+    }
+
+    /// The session's connection has come.
+    pub(crate) fn came<R: Wait>(&self, rt: &R, session: u64) {
+        self.answered(rt, session, COMES);
     }
 
     /// The session has returned: where the order tells that, then once it is its turn, what the

@@ -116,6 +116,11 @@ impl<'a, R: Wait + Clock + Sync> Connections<R> for Visit<'a, R> {
             return None;
         };
         self.board.wait(rt, self.after);
+        if let Some(moment) = script.comes {
+            self.turns.admits(rt, self.number);
+            self.board.clock.set(moment);
+            self.turns.came(rt, self.number);
+        }
         let voice = Voice {
             rt: self.rt,
             board: self.board,

@@ -25,6 +25,8 @@ pub(crate) struct Row {
     pub(crate) moment: u64,
     /// The configuration that it is played over.
     pub(crate) site: Site,
+    /// Ids are remembered for a hundred seconds.
+    pub(crate) forgets: bool,
     /// All its sessions are of the first peer.
     pub(crate) has_one_peer: bool,
     /// In place of what the sessions were written it is counted by code.
@@ -57,6 +59,7 @@ impl Row {
             sweep: 0,
             moment: USUAL_MOMENT,
             site: Site::K1,
+            forgets: false,
             has_one_peer: false,
             is_counted: false,
             manner: Manner::ByTurns,
@@ -127,6 +130,10 @@ impl Row {
         let (word, rest) = word_of(line);
         match str::from_utf8(word).unwrap_or("") {
             "returns" => Ok(self.order.push(Turn::of_end(session))?),
+            "comes" => {
+                let turn = self.coming(session, rest);
+                Ok(self.order.push(turn)?)
+            }
             "beside" => self.command(session, rest, true),
             word => {
                 if self.is_of_script(alloc, session, word, rest)? {
@@ -162,6 +169,14 @@ impl Row {
         Ok(self.order.push(Turn::new(session, number, is_beside))?)
     }
 
+    /// The session's connection comes in this turn, and sets the clock to this moment.
+    fn coming(&mut self, session: u64, rest: &[u8]) -> Turn {
+        if let Some(script) = self.script(session) {
+            script.comes = Some(number_in(rest));
+        }
+        Turn::of_connection(session)
+    }
+
     /// Does what a word says of a session's script, or says that it is none of these.
     fn is_of_script(
         &mut self,
@@ -193,6 +208,7 @@ impl Row {
             "clock" => self.moment = number_in(rest),
             "groups" => self.site = Site::TwoGroups,
             "feeds" => self.site = Site::TwoFeeds,
+            "forgets" => self.forgets = true,
             "peer" => self.has_one_peer = true,
             "counts" => self.is_counted = true,
             "open" => self.manner = Manner::Open,

@@ -24,6 +24,8 @@ pub(crate) struct Script {
     is_waiting: bool,
     pub(crate) commands: u64,
     pub(crate) habits: Habits,
+    /// Its connection comes in its turn, and the clock stands at this moment from then on.
+    pub(crate) comes: Option<u64>,
 }
 
 impl Script {
@@ -39,6 +41,7 @@ impl Script {
                 takes: usize::MAX,
                 breaks: false,
             },
+            comes: None,
         }
     }
 

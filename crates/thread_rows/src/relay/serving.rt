@@ -3,7 +3,6 @@ ghost use Rattle.std.specs.Prelude.{◌≡◌, ◌<◌, length};
 ghost use Rattle.relay_live.specs.Holding.{has_buffer};
 ghost use Rattle.relay_live.specs.Making.{ends_in};
 
-use crate::clock::Still;
 use crate::failed;
 use crate::printing::put_line;
 use crate::relay::board::{Board, Sign};
@@ -93,8 +92,7 @@ where
     requires parts { (all.parts ≡ groups) × (all.amount ≡ 0) × (L.parts ≡ groups) × (0 < groups) }
     requires slots { ends_in shared.now ≡ length row.now.sessions.items }
 {
-    let clock = Still { moment: row.moment };
-    let keeper = Keeper::new(shared, register, &config.buffers, &clock);
+    let keeper = Keeper::new(shared, register, &config.buffers, &board.clock);
     let turns = Turns::new(board, row.manner, row.order.as_slice());
     let peers = config.relay.peers.len();
     let doors = doors_of(rt, alloc, board, &turns, row, peers)?;
@@ -129,7 +127,7 @@ where
     requires parts { (blank.parts ≡ L.parts) × (blank.parts ≡ groups) × (0 < groups) }
 {
     let (book, all) = blank.open::<L>();
-    let board = Board::new(alloc, row.sessions.len())?;
+    let board = Board::new(alloc, row.sessions.len(), row.moment)?;
     let stores = waiting_stores(rt, alloc, &board, &config.buffers, failing, row.waits)?;
     let ends = row.sessions.len();
     let shared: Shared<Waiting<'_, R>, J, L> = Shared::new(rt, alloc, config, stores, book, ends)?;
@@ -160,7 +158,7 @@ fn play<R>(rt: &R, alloc: Global, row: &Row, failing: u64) -> io::Result<Vec<u8>
 where
     R: Threads + Wait + Clock + RandomSource + Sync + 'static,
 {
-    let config = row_config(alloc, row.site)?;
+    let config = row_config(alloc, row.site, row.forgets)?;
     let groups = config.buffers.groups.len();
     if groups == 0 {
         return Err(failed());

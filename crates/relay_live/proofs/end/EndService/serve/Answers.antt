@@ -17,3 +17,18 @@ loop-preserved g c =
           goes_on _ _ _ _ _ _ _ _ _ _ (ap (λ config. terms_of config.now) served.same.0)
           served.end served.same.1 (before.kept trusted) (served.one_more trusted);
     }
+
+-- and so they do where a round of forgetting was gone before it
+pub loop-preserved-in-Some-draw : goal.loop-preserved-in-Some-draw
+loop-preserved-in-Some-draw g c =
+    let served = c.serve_one-seat.ensures in
+    let before = c.loop.invariant in
+    record {
+      seat = served.seat;
+      end = served.end ∙ before.end;
+      peer = served.same.1 ∙ before.peer;
+      config = served.same.0 ∙ before.config;
+      kept = λ trusted.
+          goes_on _ _ _ _ _ _ _ _ _ _ (ap (λ config. terms_of config.now) served.same.0)
+          served.end served.same.1 (before.kept trusted) (served.one_more trusted);
+    }
