@@ -23,8 +23,9 @@ nothing (lane ∷ lanes) (suc g) list at = nothing lanes g list at
 pub new_accounts : {J : Type 0} {g : Ghosts J} (trusted : Bool) (w : Terms) (end peer count : ℕ)
     (lanes : List Lane) (jobs : List (List Handed)) (kept : List (KeptJob J g)) → count ≡ 0
     → jobs ≡ no_jobs lanes → kept ≡ [] → Accounted trusted w end peer count jobs kept
-new_accounts {J} {g} trusted w end peer count lanes jobs kept unused none empty honest =
-    ∣ subst (λ (x : (List (List Handed) × ℕ) × List (KeptJob J g)). Sessions g.register w end peer (record {
+new_accounts {J} {g} trusted w end peer count lanes jobs kept unused none empty honest trust =
+    ∣ subst (λ (x : (List (List Handed) × ℕ) × List (KeptJob J g)).
+    Sessions honest g.register w end peer (record {
       jobs = x.0.0;
       count = x.0.1;
       kept = map (λ k. k.number) x.1;

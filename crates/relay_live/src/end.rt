@@ -1,5 +1,5 @@
 //! An end: the connections of a peer, one after the other, each a session.
-ghost use Rattle.std.specs.Prelude.{◌≡◌, [], true};
+ghost use Rattle.std.specs.Prelude.{◌≡◌, Bool, [], true};
 ghost use Rattle.article_verdict.specs.Config.{terms_of};
 ghost use Rattle.live_seats.specs.Seats.{IsSeatOf, end_of};
 ghost use Rattle.live_session.specs.Going.{hands_at};
@@ -106,8 +106,9 @@ impl<'a, X, S: BlockStore + Drop, J: Archive, L: Ledger, C: Clock, G, Q: Lends> 
         requires new { (H.heard reader ≡ []) × (W.said writer ≡ []) }
         ensures seat { IsSeatOf lanes.now result }
         ensures end { end_of result ≡ end_of seat }
-        ensures one_more { J.trusted ≡ true → ∥ IsOneMore J.register (terms_of self.old.config.now)
-            (end_of seat) self.old.peer (number_of number) (hands_at seat self.old.kept.items)
+        ensures one_more { (honest : Bool) → (honest ≡ true → J.trusted ≡ true)
+            → ∥ IsOneMore honest J.register (terms_of self.old.config.now) (end_of seat)
+            self.old.peer (number_of number) (hands_at seat self.old.kept.items)
             (hands_at result self.new.kept.items) ∥₁ }
         ensures same { (self.new.config ≡ self.old.config) × (self.new.peer ≡ self.old.peer)
             × (self.new.connections ≡ self.old.connections) }

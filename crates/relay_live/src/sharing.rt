@@ -7,7 +7,7 @@ use cyc_token::Token;
 use feed_queue::Taken;
 use id_history::{Offer, Take};
 use live_fates::Told;
-use live_session::Shares;
+use live_session::{JobTold, Shares};
 use live_store::{Archive, OneRecord, Register};
 use nntp_text::MsgId;
 use std::alloc::{AllocError, Global};
@@ -71,10 +71,11 @@ impl<S: BlockStore + Drop, J: Archive, L: Ledger, R: Wait> Shares<J, R> for Shar
         }
     }
 
-    fn outcome(&self, rt: &R, end: u64, number: u64) -> Told<J> {
-        match self.slot(end) {
+    fn outcome(&self, rt: &R, end: u64, number: u64) -> JobTold<J> {
+        let told = match self.slot(end) {
             Some(slot) => slot.wait(rt, number),
             None => Told::Failed,
-        }
+        };
+        JobTold { number, told }
     }
 }
