@@ -43,8 +43,9 @@ abbrev pub lane_count : Config → ℕ
 lane_count config =
     let groups = length config.buffers.groups.items in if groups == 0 then 1 else groups
 
--- Over honest stores, what the end of this number has handed over and answered kept is what the
--- sessions of its peer came to, one after the other, by the terms of the configuration.
+-- What the end of this number has handed over and answered kept is what the sessions of its peer
+-- came to, one after the other, by the terms of the configuration: over any stores by the form of
+-- what they said, over honest ones by all that the definitions say.
 abbrev pub HasServed : {J : Type 0} {g : Ghosts J} → Config → (end peer : ℕ)
     → List (List Handed) → List (KeptJob J g) → Type 0
 HasServed {J} {g} config end peer jobs kept =

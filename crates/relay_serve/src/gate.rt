@@ -1,12 +1,12 @@
 //! A gate that lets every command in.
-use live_session::Gate;
+use live_session::{Command, Gate};
 
 /// Lets every command in at once; replies are written as many at a time as there are.
 #[derive(Clone, Copy, Debug, PartialEq, Eq)]
 pub struct OpenGate;
 
 impl<R> Gate<R> for OpenGate {
-    fn enter(&self, _rt: &R, _session: u64, _command: u64) -> bool {
+    fn enter(&self, _rt: &R, _command: Command) -> bool {
         true
     }
 
@@ -14,5 +14,5 @@ impl<R> Gate<R> for OpenGate {
         false
     }
 
-    fn leave(&self, _rt: &R, _session: u64, _command: u64) {}
+    fn leave(&self, _rt: &R, _command: Command) {}
 }

@@ -2,7 +2,7 @@
 
 use crate::looks::comes;
 use crate::relay::board::Board;
-use live_session::Gate;
+use live_session::{Command, Gate};
 use std::sync::{Mutex, Wait};
 use std::time::Clock;
 
@@ -149,11 +149,11 @@ impl<'a> Turns<'a> {
 }
 
 impl<R: Wait + Clock> Gate<R> for Turns<'_> {
-    fn enter(&self, rt: &R, session: u64, command: u64) -> bool {
+    fn enter(&self, rt: &R, command: Command) -> bool {
         match self.manner {
             Manner::Open => true,
             Manner::Closed => false,
-            Manner::ByTurns => self.wait(rt, session, command),
+            Manner::ByTurns => self.wait(rt, command.session(), command.number()),
         }
     }
 
@@ -161,7 +161,7 @@ impl<R: Wait + Clock> Gate<R> for Turns<'_> {
         self.manner != Manner::Open
     }
 
-    fn leave(&self, rt: &R, session: u64, command: u64) {
-        self.answered(rt, session, command)
+    fn leave(&self, rt: &R, command: Command) {
+        self.answered(rt, command.session(), command.number())
     }
 }

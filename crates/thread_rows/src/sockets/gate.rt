@@ -1,6 +1,6 @@
 //! A gate that holds a command or none.
 use crate::sockets::points::Point;
-use live_session::Gate;
+use live_session::{Command, Gate};
 use std::sync::Wait;
 use std::time::Clock;
 
@@ -22,8 +22,8 @@ impl SecondFirst {
 }
 
 impl<R: Wait + Clock> Gate<R> for SecondFirst {
-    fn enter(&self, rt: &R, session: u64, command: u64) -> bool {
-        if self.is_open || session != 1 || command != 0 {
+    fn enter(&self, rt: &R, command: Command) -> bool {
+        if self.is_open || command.session() != 1 || command.number() != 0 {
             return true;
         }
         self.answered.await_all(rt, 1)
@@ -33,8 +33,8 @@ impl<R: Wait + Clock> Gate<R> for SecondFirst {
         !self.is_open
     }
 
-    fn leave(&self, rt: &R, session: u64, command: u64) {
-        if session == 2 && command == 0 {
+    fn leave(&self, rt: &R, command: Command) {
+        if command.session() == 2 && command.number() == 0 {
             self.answered.reach(rt);
         }
     }
