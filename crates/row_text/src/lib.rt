@@ -7,9 +7,13 @@ mod cell;
 mod names;
 mod piece;
 mod rows;
+mod sheet;
+mod table;
 mod written;
 
 pub use cell::octets_of;
 pub use names::{Names, joined};
 pub use rows::{Answers, failed, play};
+pub use sheet::Sheet;
+pub use table::place_of;
 pub use written::{put_number, put_octets};

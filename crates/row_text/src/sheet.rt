@@ -1,0 +1,135 @@
+//! The sheet that the answer of a row is written on.
+ghost use Rattle.std.specs.Prelude.{◌≤◌};
+
+use crate::written;
+use line_words::number_within;
+use std::alloc::{AllocError, Global};
+use std::fmt;
+use std::fmt::{Debug, Write};
+
+/// What is written as the answer of a row. No call of it has a result: want of memory, and that the
+/// row has no answer, are noted, and told at the end. So what answers a row writes line after line,
+/// and nothing has to be looked at in between.
+#[derive(Drop)]
+pub struct Sheet {
+    /// Where the memory comes from.
+    pub alloc: Global,
+    octets: Vec<u8>,
+    lacks: bool,
+    refused: bool,
+}
+
+impl Sheet {
+    /// Nothing is written.
+    pub fn new(alloc: Global) -> Sheet {
+        Sheet {
+            alloc,
+            octets: Vec::new(alloc),
+            lacks: false,
+            refused: false,
+        }
+    }
+
+    /// Writes octets as they are.
+    pub fn put(&mut self, octets: &[u8]) {
+        if self.octets.extend_from_slice(octets).is_err() {
+            self.lacks = true;
+        }
+    }
+
+    /// Writes octets as a cell.
+    pub fn cell(&mut self, octets: &[u8]) {
+        if written::put_octets(&mut self.octets, octets).is_err() {
+            self.lacks = true;
+        }
+    }
+
+    /// Writes octets as a cell behind a space.
+    pub fn next(&mut self, octets: &[u8]) {
+        self.put(b" ");
+        self.cell(octets);
+    }
+
+    /// Writes a number by its decimal digits.
+    pub fn number(&mut self, number: u64) {
+        if written::put_number(&mut self.octets, number).is_err() {
+            self.lacks = true;
+        }
+    }
+
+    /// Writes a number behind a text.
+    pub fn numbered(&mut self, before: &[u8], number: u64) {
+        self.put(before);
+        self.number(number);
+    }
+
+    /// Writes a value as its `Debug` does.
+    pub fn debug<T: Debug>(&mut self, value: &T) {
+        if write!(self, "{value:?}").is_err() {
+            self.lacks = true;
+        }
+    }
+
+    /// The number that a cell writes; where it writes none, the row has no answer.
+    pub fn read(&mut self, cell: &[u8]) -> u64 {
+        self.read_up_to(u64::MAX, cell)
+    }
+
+    /// The number up to the most that a cell writes; where it writes none, the row has no answer.
+    pub fn read_up_to(&mut self, most: u64, cell: &[u8]) -> u64
+        ensures { result ≤ most }
+    {
+        match number_within(0, most, cell) {
+            Some(number) => number,
+            None => {
+                self.refused = true;
+                0
+            }
+        }
+    }
+
+    /// The row has no answer.
+    pub fn refuse(&mut self) {
+        self.refused = true;
+    }
+
+    /// Memory ran out.
+    pub fn lack(&mut self) {
+        self.lacks = true;
+    }
+
+    /// Whether the row has no answer, or memory ran out.
+    pub fn is_spoilt(&self) -> bool {
+        self.refused || self.lacks
+    }
+
+    /// What is written.
+    pub fn octets(&self) -> &[u8] {
+        &self.octets
+    }
+
+    /// What is written, for another sheet, where the same is noted as here.
+    pub fn onto(self, other: &mut Sheet) -> Vec<u8> {
+        other.lacks = other.lacks || self.lacks;
+        other.refused = other.refused || self.refused;
+        self.octets
+    }
+
+    /// Writes the answer behind a text, or answers `false` where the row has none.
+    pub fn end(self, text: &mut Vec<u8>) -> Result<bool, AllocError> {
+        if self.lacks {
+            return Err(AllocError);
+        }
+        if !self.refused {
+            text.extend_from_slice(&self.octets)?;
+        }
+        Ok(!self.refused)
+    }
+}
+
+impl fmt::Write for Sheet {
+    fn write_str(&mut self, text: &str) -> fmt::Result {
+        self.put(text.as_bytes());
+        Ok(())
+    }
+}
