@@ -1,63 +1,91 @@
 //! Rows for article_verdict.
 
 mod settings;
-mod verdicts;
 
-use crate::name;
+use article_verdict::{Reason, verdict};
+use buffer_group::Accepted;
+use nntp_text::{IdError, MsgId};
 use relay_conf::Config;
-use row_text::{Answers, Names};
-use std::alloc::{AllocError, Global};
+use row_text::{Sheet, joined};
+use std::alloc::AllocError;
 
-/// What the rows so far have left: the texts that they named, and the settings.
-#[derive(Drop)]
-pub struct Judging {
-    names: Names,
-    config: Config,
-}
-
-impl Answers for Judging {
-    fn answer(
-        &mut self,
-        alloc: Global,
-        call: &[u8],
-        cells: &[Vec<u8>],
-        text: &mut Vec<u8>,
-    ) -> Result<bool, AllocError> {
-        if call == b"text".as_slice() {
-            return name(alloc, &mut self.names, cells, text);
-        }
-        let meant = self.names.meant(alloc, cells)?;
-        if call == b"settings".as_slice() {
-            return self.set(alloc, &meant, text);
-        }
-        verdicts::answer(alloc, &self.config, call, &meant, text)
+/// Writes the answer of a call by these settings.
+pub fn answer(config: &mut Config, call: &str, cells: &[Vec<u8>], sheet: &mut Sheet) {
+    match (call, cells) {
+        ("settings", [cycbuff, storage, relay]) => set(config, cycbuff, storage, relay, sheet),
+        (_, [peer, id, now, parts @ ..]) => match MsgId::parse(sheet.alloc, id) {
+            Ok(id) => put_judged(config, call, (peer, &id, now), parts, sheet),
+            Err(IdError::Memory) => sheet.lack(),
+            Err(_) => sheet.refuse(),
+        },
+        _ => sheet.refuse(),
     }
 }
 
-impl Judging {
-    /// No names, and these settings.
-    pub fn new(alloc: Global, config: Config) -> Judging {
-        Judging {
-            names: Names::new(alloc),
-            config,
+/// `settings CYCBUFF STORAGE RELAY`: the rows behind are judged by these files.
+fn set(config: &mut Config, cycbuff: &[u8], storage: &[u8], relay: &[u8], sheet: &mut Sheet) {
+    match settings::read(sheet.alloc, cycbuff, storage, relay) {
+        Ok(Some(read)) => {
+            *config = read;
+            sheet.put(b"set");
         }
+        Ok(None) => sheet.refuse(),
+        Err(_) => sheet.lack(),
     }
+}
 
-    /// `settings CYCBUFF STORAGE RELAY`: the rows behind are judged by these files.
-    fn set(
-        &mut self,
-        alloc: Global,
-        cells: &[Vec<u8>],
-        text: &mut Vec<u8>,
-    ) -> Result<bool, AllocError> {
-        let [cycbuff, storage, relay] = cells else {
-            return Ok(false);
-        };
-        let Some(config) = settings::read(alloc, cycbuff, storage, relay)? else {
-            return Ok(false);
-        };
-        self.config = config;
-        text.extend_from_slice(b"set")?;
-        Ok(true)
+/// `verdict PEER ID NOW PARTS..`: the reason, or the class, the group, the feeds and the text that
+/// is stored; `length PEER ID NOW PARTS..`: the same with the octets of the text alone; `oversize
+/// PEER ID NOW`: the same of a block that was oversize.
+fn put_judged(
+    config: &Config,
+    call: &str,
+    offer: (&[u8], &MsgId, &[u8]),
+    parts: &[Vec<u8>],
+    sheet: &mut Sheet,
+) {
+    let (peer, id, now) = offer;
+    let peer = sheet.read(peer) as usize;
+    let now = sheet.read(now);
+    let Ok(octets) = joined(sheet.alloc, parts) else {
+        return sheet.lack();
+    };
+    let text = if call == "oversize" {
+        None
+    } else {
+        Some(octets.as_slice())
+    };
+    put_verdict(
+        verdict(sheet.alloc, config, id, peer, text, now),
+        call,
+        sheet,
+    );
+}
+
+/// Writes a verdict.
+fn put_verdict(
+    verdict: Result<Result<Accepted, Reason>, AllocError>,
+    call: &str,
+    sheet: &mut Sheet,
+) {
+    match verdict {
+        Ok(Ok(accepted)) => put_accepted(&accepted, call, sheet),
+        Ok(Err(reason)) => sheet.debug(&reason),
+        Err(_) => sheet.lack(),
+    }
+}
+
+/// Writes the class, the group and the feeds of an article, and its text, or how many octets that
+/// has.
+fn put_accepted(accepted: &Accepted, call: &str, sheet: &mut Sheet) {
+    sheet.number(u64::from(accepted.class));
+    sheet.numbered(b" ", u64::from(accepted.group));
+    sheet.put(b" ");
+    sheet.debug(&accepted.permitted);
+    sheet.put(b" ");
+    match call {
+        "verdict" => sheet.cell(accepted.text.as_slice()),
+        "length" => sheet.number(u64::from(accepted.length())),
+        _ => sheet.refuse(),
     }
 }

@@ -10,17 +10,14 @@ mod sessions;
 mod stores;
 mod texts;
 
-use conf::ConfRows;
-use judging::Judging;
 use relay_conf::Config;
-use row_text::{Answers, Names, failed, play, put_number};
-use sessions::Sessions;
+use row_text::{Answers, Names, Sheet, failed, play};
+use sessions::Talk;
 use std::alloc::{AllocError, Global};
 use std::hash::RandomState;
 use std::process::ExitCode;
 use std::{io, str};
 use stores::Stores;
-use texts::Texts;
 
 fn main(rt: HostRuntime) -> ExitCode {
     match first_rows(&rt) {
@@ -39,14 +36,14 @@ enum Part {
     Stores,
 }
 
-/// What the rows so far have left in each part, and the part that the next one is of.
+/// The part that the next row is of, the texts that the rows of this part named, and what the rows
+/// of each part have left: the settings that articles are judged by, the session, and the stores.
 #[derive(Drop)]
 struct Rows {
     part: Part,
-    texts: Texts,
-    conf: ConfRows,
-    judging: Judging,
-    sessions: Sessions,
+    names: Names,
+    config: Config,
+    talk: Talk,
     stores: Stores,
 }
 
@@ -54,13 +51,11 @@ struct Rows {
 fn first_rows(rt: &HostRuntime) -> io::Result<Rows> {
     let alloc = rt.alloc();
     let hasher = RandomState::new(rt)?;
-    let sessions = Sessions::new(alloc, hasher, k1(alloc)?)?;
     Ok(Rows {
         part: Part::Texts,
-        texts: Texts::new(alloc),
-        conf: ConfRows,
-        judging: Judging::new(alloc, k1(alloc)?),
-        sessions,
+        names: Names::new(alloc),
+        config: k1(alloc)?,
+        talk: Talk::new(alloc, hasher, k1(alloc)?)?,
         stores: Stores::new(rt)?,
     })
 }
@@ -81,36 +76,65 @@ impl Answers for Rows {
         cells: &[Vec<u8>],
         text: &mut Vec<u8>,
     ) -> Result<bool, AllocError> {
-        if call == b"part".as_slice() {
-            return self.begin(cells, text);
+        let mut sheet = Sheet::new(alloc);
+        match str::from_utf8(call) {
+            Ok("part") => self.begin(cells, &mut sheet),
+            Ok("text") => self.name(cells, &mut sheet),
+            Ok(call) => {
+                let meant = self.names.meant(alloc, cells)?;
+                self.put_answer(call, &meant, &mut sheet);
+            }
+            Err(_) => sheet.refuse(),
         }
-        match self.part {
-            Part::Texts => self.texts.answer(alloc, call, cells, text),
-            Part::Conf => self.conf.answer(alloc, call, cells, text),
-            Part::Judging => self.judging.answer(alloc, call, cells, text),
-            Part::Sessions => self.sessions.answer(alloc, call, cells, text),
-            Part::Stores => self.stores.answer(alloc, call, cells, text),
+        // Of want of memory nothing is expected, so that no answer may stand in its place.
+        if says_memory(sheet.octets()) {
+            return Err(AllocError);
         }
+        sheet.end(text)
     }
 }
 
 impl Rows {
-    /// `part NAME`: the rows behind are of this part.
-    fn begin(&mut self, cells: &[Vec<u8>], text: &mut Vec<u8>) -> Result<bool, AllocError> {
-        let [name] = cells else {
-            return Ok(false);
+    /// `part NAME`: the rows behind are of this part, and no text has a name.
+    fn begin(&mut self, cells: &[Vec<u8>], sheet: &mut Sheet) {
+        match part_of(cells) {
+            Some(part) => {
+                self.part = part;
+                self.names = Names::new(sheet.alloc);
+                sheet.put(b"begins");
+            }
+            None => sheet.refuse(),
+        }
+    }
+
+    /// `text NAME PARTS..`: names a text, and writes how many octets it has.
+    fn name(&mut self, cells: &[Vec<u8>], sheet: &mut Sheet) {
+        let [name, parts @ ..] = cells else {
+            return sheet.refuse();
         };
-        let Some(part) = part_of(name) else {
-            return Ok(false);
-        };
-        self.part = part;
-        text.extend_from_slice(b"begins")?;
-        Ok(true)
+        match self.names.name(sheet.alloc, name, parts) {
+            Ok(octets) => sheet.number(octets as u64),
+            Err(_) => sheet.lack(),
+        }
+    }
+
+    /// Writes the answer of a call of the part.
+    fn put_answer(&mut self, call: &str, cells: &[Vec<u8>], sheet: &mut Sheet) {
+        match self.part {
+            Part::Texts => texts::answer(call, cells, sheet),
+            Part::Conf => conf::answer(call, cells, sheet),
+            Part::Judging => judging::answer(&mut self.config, call, cells, sheet),
+            Part::Sessions => sessions::answer(&mut self.talk, call, cells, sheet),
+            Part::Stores => self.stores.answer(call, cells, sheet),
+        }
     }
 }
 
-/// The part of this name.
-fn part_of(name: &[u8]) -> Option<Part> {
+/// The part that the one cell names.
+fn part_of(cells: &[Vec<u8>]) -> Option<Part> {
+    let [name] = cells else {
+        return None;
+    };
     match str::from_utf8(name).ok()? {
         "texts" => Some(Part::Texts),
         "conf" => Some(Part::Conf),
@@ -121,17 +145,7 @@ fn part_of(name: &[u8]) -> Option<Part> {
     }
 }
 
-/// `text NAME PARTS..`: names a text, and writes how many octets it has.
-fn name(
-    alloc: Global,
-    names: &mut Names,
-    cells: &[Vec<u8>],
-    text: &mut Vec<u8>,
-) -> Result<bool, AllocError> {
-    let [name, parts @ ..] = cells else {
-        return Ok(false);
-    };
-    let octets = names.name(alloc, name, parts)?;
-    put_number(text, octets as u64)?;
-    Ok(true)
+/// Whether an answer has the fault `Memory`.
+fn says_memory(text: &[u8]) -> bool {
+    text.windows(6).any(|word| word == b"Memory".as_slice())
 }

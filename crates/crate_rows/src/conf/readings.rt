@@ -1,88 +1,68 @@
 //! How the texts of the three files are answered: with their settings, or with the first fault and
 //! its line.
-use crate::conf::settings::{put_buffers, put_fault, put_methods, put_relay};
+use crate::conf::settings::{put_buffers, put_methods, put_relay};
 use relay_conf::{Buffers, ConfError, Config, K1_CYCBUFF, read_cycbuff, read_relay, read_storage};
-use std::alloc::{AllocError, Global};
+use row_text::Sheet;
 
-/// Puts the fault of a file, or says that memory ran out.
-pub fn put_error(text: &mut Vec<u8>, error: ConfError) -> Result<bool, AllocError> {
+/// Writes the fault of a file as `LINE: CODE NAME`.
+pub fn put_error(error: ConfError, sheet: &mut Sheet) {
     match error {
-        ConfError::Faulty(fault) => put_fault(text, fault),
-        ConfError::Memory => Err(AllocError),
+        ConfError::Faulty(at) => {
+            sheet.number(at.line as u64);
+            sheet.numbered(b": ", u64::from(at.fault.code()));
+            sheet.next(at.fault.name().as_bytes());
+        }
+        ConfError::Memory => sheet.lack(),
     }
 }
 
 /// `cycbuff FILE`
-pub fn cycbuff(alloc: Global, cells: &[Vec<u8>], text: &mut Vec<u8>) -> Result<bool, AllocError> {
-    let [file] = cells else {
-        return Ok(false);
-    };
-    match read_cycbuff(alloc, file) {
-        Ok(buffers) => put_buffers(text, &buffers),
-        Err(error) => put_error(text, error),
+pub fn put_cycbuff(file: &[u8], sheet: &mut Sheet) {
+    match read_cycbuff(sheet.alloc, file) {
+        Ok(buffers) => put_buffers(&buffers, sheet),
+        Err(error) => put_error(error, sheet),
     }
 }
 
-/// `storage FILE`, over the groups of K1, and `storage FILE CYCBUFF`, over those of a cycbuff.conf.
-pub fn storage(alloc: Global, cells: &[Vec<u8>], text: &mut Vec<u8>) -> Result<bool, AllocError> {
-    match cells {
-        [file] => put_storage(alloc, file, K1_CYCBUFF, text),
-        [file, cycbuff] => put_storage(alloc, file, cycbuff, text),
-        _ => Ok(false),
+/// `storage FILE`, over the groups of K1
+pub fn put_storage_of_k1(file: &[u8], sheet: &mut Sheet) {
+    put_storage(file, K1_CYCBUFF, sheet);
+}
+
+/// `storage FILE CYCBUFF`, over the groups of a cycbuff.conf
+pub fn put_storage(file: &[u8], cycbuff: &[u8], sheet: &mut Sheet) {
+    match read_cycbuff(sheet.alloc, cycbuff) {
+        Ok(buffers) => put_entries(file, &buffers, sheet),
+        Err(error) => put_error(error, sheet),
     }
 }
 
-/// Puts how a storage.conf is answered over the groups of a cycbuff.conf.
-fn put_storage(
-    alloc: Global,
-    file: &[u8],
-    cycbuff: &[u8],
-    text: &mut Vec<u8>,
-) -> Result<bool, AllocError> {
-    match read_cycbuff(alloc, cycbuff) {
-        Ok(buffers) => put_entries(alloc, file, &buffers, text),
-        Err(error) => put_error(text, error),
-    }
-}
-
-/// Puts how a storage.conf is answered over these groups.
-fn put_entries(
-    alloc: Global,
-    file: &[u8],
-    buffers: &Buffers,
-    text: &mut Vec<u8>,
-) -> Result<bool, AllocError> {
-    match read_storage(alloc, file, buffers) {
-        Ok(methods) => put_methods(text, &methods),
-        Err(error) => put_error(text, error),
+/// Writes how a storage.conf is answered over these groups.
+fn put_entries(file: &[u8], buffers: &Buffers, sheet: &mut Sheet) {
+    match read_storage(sheet.alloc, file, buffers) {
+        Ok(methods) => put_methods(&methods, sheet),
+        Err(error) => put_error(error, sheet),
     }
 }
 
 /// `relay FILE`
-pub fn relay(alloc: Global, cells: &[Vec<u8>], text: &mut Vec<u8>) -> Result<bool, AllocError> {
-    let [file] = cells else {
-        return Ok(false);
-    };
-    match read_relay(alloc, file) {
-        Ok(relay) => put_relay(text, &relay),
-        Err(error) => put_error(text, error),
+pub fn put_relay_file(file: &[u8], sheet: &mut Sheet) {
+    match read_relay(sheet.alloc, file) {
+        Ok(relay) => put_relay(&relay, sheet),
+        Err(error) => put_error(error, sheet),
     }
 }
 
 /// `k1`: the settings of the built-in configuration.
-pub fn k1(alloc: Global, cells: &[Vec<u8>], text: &mut Vec<u8>) -> Result<bool, AllocError> {
-    match Config::k1(alloc) {
-        _ if !cells.is_empty() => Ok(false),
-        Ok(config) => put_config(text, &config),
-        Err(_) => Err(AllocError),
+pub fn put_k1(sheet: &mut Sheet) {
+    match Config::k1(sheet.alloc) {
+        Ok(config) => {
+            put_buffers(&config.buffers, sheet);
+            sheet.put(b"; ");
+            put_methods(&config.methods, sheet);
+            sheet.put(b"; ");
+            put_relay(&config.relay, sheet);
+        }
+        Err(_) => sheet.lack(),
     }
-}
-
-/// Puts the settings of a configuration.
-fn put_config(text: &mut Vec<u8>, config: &Config) -> Result<bool, AllocError> {
-    put_buffers(text, &config.buffers)?;
-    text.extend_from_slice(b"; ")?;
-    put_methods(text, &config.methods)?;
-    text.extend_from_slice(b"; ")?;
-    put_relay(text, &config.relay)
 }

@@ -2,10 +2,9 @@
 
 use crate::sessions::answers::answer_of;
 use crate::sessions::steps::put_step;
-use line_words::number_within;
 use peer_session::{Answer, Session, Step};
 use relay_conf::Config;
-use row_text::{put_number, put_octets};
+use row_text::Sheet;
 use std::alloc::{AllocError, Global};
 use std::hash::RandomState;
 
@@ -21,7 +20,6 @@ const LAST_MOMENT: u64 = 253_370_764_799;
 /// A session, and the moment of its turns.
 #[derive(Drop)]
 pub struct Talk {
-    pub alloc: Global,
     hasher: RandomState,
     config: Config,
     peer: usize,
@@ -29,30 +27,11 @@ pub struct Talk {
     now: u64,
 }
 
-/// Answers a call of the session; false where it is none, or has other cells.
-pub fn answer(
-    talk: &mut Talk,
-    call: &str,
-    cells: &[Vec<u8>],
-    text: &mut Vec<u8>,
-) -> Result<bool, AllocError> {
-    match call {
-        "open" => talk.open(cells, text),
-        "now" => talk.set_moment(cells, text),
-        "turn" => talk.turn(cells, text),
-        "ask" => talk.ask(cells, text),
-        "break" => talk.break_off(text),
-        "phase" => talk.put_phase(text),
-        _ => Ok(false),
-    }
-}
-
 impl Talk {
     /// A session of the first peer.
     pub fn new(alloc: Global, hasher: RandomState, config: Config) -> Result<Talk, AllocError> {
         let session = Session::open(alloc, hasher, &config, 0)?;
         Ok(Talk {
-            alloc,
             hasher,
             config,
             peer: 0,
@@ -62,93 +41,87 @@ impl Talk {
     }
 
     /// `open PEER`: a new session of the peer of this number.
-    fn open(&mut self, cells: &[Vec<u8>], text: &mut Vec<u8>) -> Result<bool, AllocError> {
-        let [peer] = cells else {
-            return Ok(false);
-        };
-        let Some(peer) = number_within(0, 65_535, peer) else {
-            return Ok(false);
-        };
-        self.peer = peer as usize;
-        self.begin()?;
-        self.put_phase(text)
+    pub fn open(&mut self, peer: &[u8], sheet: &mut Sheet) {
+        self.peer = sheet.read_up_to(65_535, peer) as usize;
+        self.begin(sheet);
+        self.put_phase(sheet);
     }
 
     /// A new session of the same peer.
-    pub fn begin(&mut self) -> Result<(), AllocError> {
-        self.session = Session::open(self.alloc, self.hasher, &self.config, self.peer)?;
-        Ok(())
+    pub fn begin(&mut self, sheet: &mut Sheet) {
+        match Session::open(sheet.alloc, self.hasher, &self.config, self.peer) {
+            Ok(session) => self.session = session,
+            Err(_) => sheet.lack(),
+        }
     }
 
     /// `now MOMENT`: the turns behind are at this moment.
-    fn set_moment(&mut self, cells: &[Vec<u8>], text: &mut Vec<u8>) -> Result<bool, AllocError> {
-        let [moment] = cells else {
-            return Ok(false);
-        };
-        let Some(moment) = number_within(0, LAST_MOMENT, moment) else {
-            return Ok(false);
-        };
-        self.now = moment;
-        text.extend_from_slice(b"set")?;
-        Ok(true)
+    pub fn set_moment(&mut self, moment: &[u8], sheet: &mut Sheet) {
+        self.now = sheet.read_up_to(LAST_MOMENT, moment);
+        sheet.put(b"set");
     }
 
     /// `break`: the connection is gone.
-    fn break_off(&mut self, text: &mut Vec<u8>) -> Result<bool, AllocError> {
+    pub fn break_off(&mut self, sheet: &mut Sheet) {
         self.session.break_off();
-        self.put_phase(text)
+        self.put_phase(sheet);
     }
 
     /// `phase`: whether the session reads, leaves or has ended.
-    fn put_phase(&mut self, text: &mut Vec<u8>) -> Result<bool, AllocError> {
-        text.extend_from_slice(self.phase())?;
-        Ok(true)
-    }
-
-    /// Whether the session reads, leaves or has ended.
-    fn phase(&self) -> &'static [u8] {
+    pub fn put_phase(&self, sheet: &mut Sheet) {
         if self.session.is_reading() {
-            return b"reads";
+            sheet.put(b"reads");
+        } else if self.session.has_parted() {
+            sheet.put(b"leaves");
+        } else if self.session.is_running() {
+            sheet.put(b"runs");
+        } else {
+            sheet.put(b"ended");
         }
-        if self.session.has_parted() {
-            return b"leaves";
-        }
-        if self.session.is_running() {
-            return b"runs";
-        }
-        b"ended"
     }
 
     /// `turn ANSWER..`: one turn whose step has this answer.
-    fn turn(&mut self, cells: &[Vec<u8>], text: &mut Vec<u8>) -> Result<bool, AllocError> {
-        let Some(answer) = answer_of(self.alloc, cells)? else {
-            return Ok(false);
+    pub fn turn(&mut self, cells: &[Vec<u8>], sheet: &mut Sheet) {
+        let Some(answer) = answer_of(cells, sheet) else {
+            return sheet.refuse();
         };
-        let step = self.plan()?;
-        put_step(text, &step)?;
-        self.hand_over(cells, text)?;
-        self.put_said(answer, text)?;
-        Ok(true)
+        self.put_planned(sheet);
+        match cells {
+            [first, ..] => self.hand_over(first, sheet),
+            [] => {}
+        }
+        self.put_absorbed(answer, sheet);
     }
 
     /// `ask LINE ANSWER..`: a line comes with its CRLF, and one turn is taken.
-    fn ask(&mut self, cells: &[Vec<u8>], text: &mut Vec<u8>) -> Result<bool, AllocError> {
-        let [line, answer @ ..] = cells else {
-            return Ok(false);
-        };
-        self.feed(line)?;
-        self.feed(b"\r\n")?;
-        self.turn(answer, text)
+    pub fn ask(&mut self, line: &[u8], answer: &[Vec<u8>], sheet: &mut Sheet) {
+        self.feed(line, sheet);
+        self.feed(b"\r\n", sheet);
+        self.turn(answer, sheet);
     }
 
     /// Octets come.
-    pub fn feed(&mut self, piece: &[u8]) -> Result<(), AllocError> {
-        self.session.feed(piece)
+    pub fn feed(&mut self, piece: &[u8], sheet: &mut Sheet) {
+        if self.session.feed(piece).is_err() {
+            sheet.lack();
+        }
     }
 
     /// What is due.
-    pub fn plan(&mut self) -> Result<Step, AllocError> {
-        self.session.plan(&self.config, self.now.min(LAST_MOMENT))
+    pub fn plan(&mut self, sheet: &mut Sheet) -> Step {
+        match self.session.plan(&self.config, self.now.min(LAST_MOMENT)) {
+            Ok(step) => step,
+            Err(_) => {
+                sheet.lack();
+                Step::Nothing
+            }
+        }
+    }
+
+    /// Writes what is due.
+    pub fn put_planned(&mut self, sheet: &mut Sheet) {
+        let step = self.plan(sheet);
+        put_step(&step, sheet);
     }
 
     /// What is said to an answer.
@@ -157,56 +130,51 @@ impl Talk {
     }
 
     /// What is due is planned and forgotten again, as where memory is refused.
-    pub fn plan_in_vain(&mut self) -> Result<(), AllocError> {
-        let _step = self.plan()?;
+    pub fn plan_in_vain(&mut self, sheet: &mut Sheet) {
+        let _step = self.plan(sheet);
         let _said = self.absorb(Answer::Memory);
-        Ok(())
     }
 
     /// Writes what is said to an answer behind a colon, or nothing where nothing is said.
-    fn put_said(&mut self, answer: Answer, text: &mut Vec<u8>) -> Result<(), AllocError> {
+    pub fn put_absorbed(&mut self, answer: Answer, sheet: &mut Sheet) {
         let said = self.absorb(answer);
-        if said.is_empty() {
-            return Ok(());
-        }
-        text.extend_from_slice(b": ")?;
-        put_octets(text, &said)
+        put_said(&said, sheet);
     }
 
     /// Where the job is pushed it is handed over, and is written: the session's number, its class,
     /// feeds and id, and the octets of its text or, where it is shown, the text.
-    fn hand_over(&mut self, cells: &[Vec<u8>], text: &mut Vec<u8>) -> Result<(), AllocError> {
-        let shows = is_first(cells, b"shown");
-        if !shows && !is_first(cells, b"pushed") {
-            return Ok(());
+    fn hand_over(&mut self, word: &[u8], sheet: &mut Sheet) {
+        let shows = word == b"shown".as_slice();
+        if !shows && word != b"pushed".as_slice() {
+            return;
         }
         let Some(job) = self.session.hand_over() else {
-            return text.extend_from_slice(b" no job");
+            return sheet.put(b" no job");
         };
-        let article = &job.article;
-        let places = format!(in self.alloc;
-            " {} {} {:?} ",
-            job.session, article.class, article.permitted
-        )?;
-        text.extend_from_slice(places.as_bytes())?;
-        text.extend_from_slice(job.id.as_bytes())?;
-        text.extend_from_slice(b" ")?;
-        put_article(text, article.text.as_slice(), shows)
+        sheet.numbered(b" ", job.session);
+        sheet.numbered(b" ", u64::from(job.article.class));
+        sheet.put(b" ");
+        sheet.debug(&job.article.permitted);
+        sheet.put(b" ");
+        sheet.put(job.id.as_bytes());
+        sheet.put(b" ");
+        put_article(job.article.text.as_slice(), shows, sheet);
     }
 }
 
-/// Whether the first cell is this word.
-fn is_first(cells: &[Vec<u8>], word: &[u8]) -> bool {
-    match cells {
-        [first, ..] => first.as_slice() == word,
-        [] => false,
+/// Writes what is said behind a colon, where something is.
+pub fn put_said(said: &[u8], sheet: &mut Sheet) {
+    if !said.is_empty() {
+        sheet.put(b": ");
+        sheet.cell(said);
     }
 }
 
 /// Writes a text, or how many octets it has.
-fn put_article(text: &mut Vec<u8>, octets: &[u8], shows: bool) -> Result<(), AllocError> {
+fn put_article(octets: &[u8], shows: bool, sheet: &mut Sheet) {
     if shows {
-        return put_octets(text, octets);
+        sheet.cell(octets);
+    } else {
+        sheet.number(octets.len() as u64);
     }
-    put_number(text, octets.len() as u64)
 }

@@ -3,173 +3,105 @@
 
 use crate::sessions::answers::{answer_of, plain_answer};
 use crate::sessions::counts::Counts;
-use crate::sessions::steps::put_step;
-use crate::sessions::talk::Talk;
-use line_words::number_within;
-use row_text::{put_number, put_octets};
-use std::alloc::{AllocError, Global};
-
-/// Answers a call that stands for many; false where it is none, or has other cells.
-pub fn answer(
-    talk: &mut Talk,
-    call: &str,
-    cells: &[Vec<u8>],
-    text: &mut Vec<u8>,
-) -> Result<bool, AllocError> {
-    match call {
-        "each" => each(talk, cells, text),
-        "cuts" => cuts(talk, cells, text),
-        "changes" => changes(talk, cells, text),
-        _ => Ok(false),
-    }
-}
-
-/// What is sent for each number, and what has to come of it.
-#[derive(Clone, Copy)]
-struct Trial<'a> {
-    sent: &'a [u8],
-    step: &'a [u8],
-    said: &'a [u8],
-    answer: &'a [Vec<u8>],
-}
+use crate::sessions::talk::{Talk, put_said};
+use row_text::Sheet;
 
 /// `each FIRST LAST SENT STEP SAID ANSWER..`: for each number, which stands for `#`, the octets
-/// come and a turn is taken: `all` where each has this step and says this, else the first that
-/// doesn't.
-fn each(talk: &mut Talk, cells: &[Vec<u8>], text: &mut Vec<u8>) -> Result<bool, AllocError> {
-    let [first, last, sent, step, said, answer @ ..] = cells else {
-        return Ok(false);
-    };
-    let (Some(first), Some(last)) = (number_of(first), number_of(last)) else {
-        return Ok(false);
-    };
-    let trial = Trial {
-        sent,
-        step,
-        said,
-        answer,
-    };
-    try_each(talk, &trial, first, last, text)
-}
-
-/// A number of a trial.
-fn number_of(cell: &[u8]) -> Option<u64> {
-    number_within(0, 1_000_000, cell)
-}
-
-/// The numbers from the first to the last are tried.
-fn try_each(
+/// come and a turn is taken: `all` where each has this step and says this, else what came of the
+/// first that doesn't. The texts are what is sent, the step, and what is said.
+pub fn put_each(
     talk: &mut Talk,
-    trial: &Trial<'_>,
     first: u64,
     last: u64,
-    text: &mut Vec<u8>,
-) -> Result<bool, AllocError> {
+    texts: [&[u8]; 3],
+    answer: &[Vec<u8>],
+    sheet: &mut Sheet,
+) {
     for number in first..=last {
-        let expected = expected(talk.alloc, trial, number)?;
-        let Some(came) = came(talk, trial, number)? else {
-            return Ok(false);
-        };
+        let came = came(talk, texts[0], answer, number, sheet);
+        let expected = expected(texts[1], texts[2], number, sheet);
         if came != expected {
-            put_number(text, number)?;
-            text.extend_from_slice(b" ")?;
-            text.extend_from_slice(&came)?;
-            return Ok(true);
+            sheet.numbered(b"", number);
+            sheet.put(b" ");
+            return sheet.put(&came);
         }
     }
-    text.extend_from_slice(b"all")?;
-    Ok(true)
+    sheet.put(b"all");
 }
 
 /// What has to come of a number.
-fn expected(alloc: Global, trial: &Trial<'_>, number: u64) -> Result<Vec<u8>, AllocError> {
-    let mut text = filled(alloc, trial.step, number)?;
-    put_said(&mut text, &filled(alloc, trial.said, number)?)?;
-    Ok(text)
+fn expected(step: &[u8], said: &[u8], number: u64, sheet: &mut Sheet) -> Vec<u8> {
+    let mut text = Sheet::new(sheet.alloc);
+    fill(step, number, &mut text);
+    if !said.is_empty() {
+        let mut filled = Sheet::new(sheet.alloc);
+        fill(said, number, &mut filled);
+        put_said(&filled.onto(sheet), &mut text);
+    }
+    text.onto(sheet)
 }
 
 /// What comes of a number.
-fn came(talk: &mut Talk, trial: &Trial<'_>, number: u64) -> Result<Option<Vec<u8>>, AllocError> {
-    let Some(answer) = answer_of(talk.alloc, trial.answer)? else {
-        return Ok(None);
-    };
-    let mut text = Vec::new(talk.alloc);
-    talk.feed(&filled(talk.alloc, trial.sent, number)?)?;
-    let step = talk.plan()?;
-    put_step(&mut text, &step)?;
-    put_said(&mut text, &talk.absorb(answer))?;
-    Ok(Some(text))
-}
-
-/// Writes what is said, where something is.
-fn put_said(text: &mut Vec<u8>, said: &[u8]) -> Result<(), AllocError> {
-    if said.is_empty() {
-        return Ok(());
+fn came(
+    talk: &mut Talk,
+    sent: &[u8],
+    answer: &[Vec<u8>],
+    number: u64,
+    sheet: &mut Sheet,
+) -> Vec<u8> {
+    let mut octets = Sheet::new(sheet.alloc);
+    fill(sent, number, &mut octets);
+    talk.feed(&octets.onto(sheet), sheet);
+    let mut text = Sheet::new(sheet.alloc);
+    talk.put_planned(&mut text);
+    match answer_of(answer, sheet) {
+        Some(answer) => talk.put_absorbed(answer, &mut text),
+        None => sheet.refuse(),
     }
-    text.extend_from_slice(b": ")?;
-    put_octets(text, said)
+    text.onto(sheet)
 }
 
-/// The octets with a number in the place of each `#`.
-fn filled(alloc: Global, octets: &[u8], number: u64) -> Result<Vec<u8>, AllocError> {
-    let mut text = Vec::new(alloc);
+/// Writes the octets with a number in the place of each `#`.
+fn fill(octets: &[u8], number: u64, text: &mut Sheet) {
     for octet in octets {
         if *octet == b'#' {
-            put_number(&mut text, number)?;
+            text.number(number);
         } else {
-            text.push(*octet)?;
+            text.put(&[*octet]);
         }
     }
-    Ok(text)
 }
 
 /// `cuts LINE`: how many of the cuts of a line have which status, each in a session of its own.
-fn cuts(talk: &mut Talk, cells: &[Vec<u8>], text: &mut Vec<u8>) -> Result<bool, AllocError> {
-    let [line] = cells else {
-        return Ok(false);
-    };
-    let mut counts = Counts::new(talk.alloc)?;
+pub fn put_cuts(talk: &mut Talk, line: &[u8], sheet: &mut Sheet) {
+    let mut counts = Counts::new(sheet);
     for end in 0..line.len() {
-        let said = said_to(talk, &line[..end])?;
-        counts.count(&said);
+        counts.count(&said_to(talk, &line[..end], sheet));
     }
-    counts.put(text)?;
-    talk.begin()?;
-    Ok(true)
+    counts.put(sheet);
+    talk.begin(sheet);
 }
 
 /// `changes LINE`: how many of the lines with one octet changed to `!` have which status, each in a
 /// session of its own.
-fn changes(talk: &mut Talk, cells: &[Vec<u8>], text: &mut Vec<u8>) -> Result<bool, AllocError> {
-    let [line] = cells else {
-        return Ok(false);
-    };
-    let mut counts = Counts::new(talk.alloc)?;
+pub fn put_changes(talk: &mut Talk, line: &[u8], sheet: &mut Sheet) {
+    let mut counts = Counts::new(sheet);
     for place in 0..line.len() {
-        let changed = changed(talk.alloc, line, place)?;
-        let said = said_to(talk, &changed)?;
-        counts.count(&said);
+        let parts = [&line[..place], b"!", &line[place + 1..]];
+        match parts.concat(sheet.alloc) {
+            Ok(changed) => counts.count(&said_to(talk, &changed, sheet)),
+            Err(_) => sheet.lack(),
+        }
     }
-    counts.put(text)?;
-    talk.begin()?;
-    Ok(true)
-}
-
-/// The line with the octet at this place changed to `!`.
-fn changed(alloc: Global, line: &[u8], place: usize) -> Result<Vec<u8>, AllocError> {
-    let mut changed = Vec::from_slice(alloc, line)?;
-    if let Some(octet) = changed.get_mut(place) {
-        *octet = b'!';
-    }
-    Ok(changed)
+    counts.put(sheet);
+    talk.begin(sheet);
 }
 
 /// What a new session says to a line in its first turn.
-fn said_to(talk: &mut Talk, line: &[u8]) -> Result<Vec<u8>, AllocError> {
-    talk.begin()?;
-    talk.feed(line)?;
-    talk.feed(b"\r\n")?;
-    let step = talk.plan()?;
-    let answer = plain_answer(talk.alloc, &step);
-    Ok(talk.absorb(answer))
+fn said_to(talk: &mut Talk, line: &[u8], sheet: &mut Sheet) -> Vec<u8> {
+    talk.begin(sheet);
+    talk.feed(line, sheet);
+    talk.feed(b"\r\n", sheet);
+    let step = talk.plan(sheet);
+    talk.absorb(plain_answer(&step, sheet))
 }

@@ -2,50 +2,43 @@
 //! texts; the text of an article is computed from its octets and a seed.
 ghost use Rattle.std.specs.Prelude.{◌≡◌, ◌≤◌, ◌<◌, ◌^◌, length, IfOk};
 
+use crate::stores::calls::Call;
 use crate::stores::comparison::agreeing;
-use crate::stores::words::{Word, put, say, three, two};
+use crate::stores::groups::put_steps;
+use crate::stores::words::{number, octet, token};
 use cyc_block::{BlockStore, CHUNK_OCTETS, FailAt, MemoryBlocks};
 use cyc_buffer::{BufError, Buffer, Found};
 use cyc_token::Token;
+use row_text::Sheet;
 use std::alloc::{AllocError, Global};
 
 /// A buffer over a store in memory.
 pub type InMemory = Buffer<FailAt<MemoryBlocks>>;
 
-/// Answers a call of a buffer; false where it is none, or has other words.
-pub fn answer(
-    alloc: Global,
-    buffer: &mut Option<InMemory>,
-    call: &str,
-    cells: &[Vec<u8>],
-    text: &mut Vec<u8>,
-) -> Result<bool, AllocError> {
-    match call {
-        "format" => format(alloc, buffer, cells, text),
-        "begin_two" => begin_two(alloc, cells, text),
-        "compare" => compare(alloc, cells, text),
-        _ => match buffer {
-            Some(buffer) => answer_buffer(alloc, buffer, call, cells, text),
-            None => Ok(false),
-        },
+/// Writes the answer of a call of a buffer of its own, or of a writer.
+pub fn answer_alone(call: Call, cells: &[Vec<u8>], sheet: &mut Sheet) {
+    match (call, cells) {
+        (Call::BeginTwo, [first, second]) => begin_two(first, second, sheet),
+        (Call::Compare, [articles, seed]) => compare(articles, seed, sheet),
+        (Call::WriterSteps, [octets, failing]) => put_steps(octets, failing, sheet),
+        _ => sheet.refuse(),
     }
 }
 
-/// Answers a call of a buffer that is there.
-fn answer_buffer(
-    alloc: Global,
-    buffer: &mut InMemory,
-    call: &str,
-    cells: &[Vec<u8>],
-    text: &mut Vec<u8>,
-) -> Result<bool, AllocError> {
+/// Writes the answer of a call of a buffer that is there.
+pub fn answer(buffer: &mut InMemory, call: Call, cells: &[Vec<u8>], sheet: &mut Sheet) {
     match (call, cells) {
-        ("store", words) => store_article(alloc, buffer, words, text),
-        ("fetch", words) => fetch_article(alloc, buffer, words, text),
-        ("read_block", words) => read_block(alloc, buffer, words, text),
-        ("front", []) => put(alloc, text, &buffer.front()),
-        ("abandon", words) => abandon(alloc, buffer, words, text),
-        _ => Ok(false),
+        (Call::Store, [class, octets, seed]) => {
+            store_article(buffer, [class, octets, seed], false, sheet)
+        }
+        (Call::Store, [class, octets, seed, word]) if word.as_slice() == b"fresh".as_slice() => {
+            store_article(buffer, [class, octets, seed], true, sheet)
+        }
+        (Call::Fetch, [place, octets, seed]) => fetch_article(buffer, place, octets, seed, sheet),
+        (Call::ReadBlock, [place, block]) => read_block(buffer, place, block, sheet),
+        (Call::Front, []) => sheet.number(buffer.front()),
+        (Call::Abandon, [class, octets, place]) => abandon(buffer, class, octets, place, sheet),
+        _ => sheet.refuse(),
     }
 }
 
@@ -63,131 +56,99 @@ pub fn formatted(
 
 /// A buffer of this number, of so many blocks, at this cycle, whose store fails the call of this
 /// number; with 0 none fails.
-fn format(
-    alloc: Global,
-    buffer: &mut Option<InMemory>,
-    cells: &[Vec<u8>],
-    text: &mut Vec<u8>,
-) -> Result<bool, AllocError> {
-    let [name, rest @ ..] = cells else {
-        return Ok(false);
-    };
-    let (Some(name), Some((blocks, cycle, failing))) = (u8::read(name), three(rest)) else {
-        return Ok(false);
-    };
-    *buffer = Some(formatted(alloc, name, blocks, cycle, failing)?);
-    say(text, b"formatted")
-}
-
-/// The text of the token under which an article of this class, of so many octets and of this seed
-/// is stored, or why it is not; a last word `fresh` asks for the front of a cycle.
-fn store_article(
-    alloc: Global,
-    buffer: &mut InMemory,
-    words: &[Vec<u8>],
-    text: &mut Vec<u8>,
-) -> Result<bool, AllocError> {
-    let (words, fresh) = without_fresh(words);
-    let Some((class, octets, seed)) = three::<u8, u32, u8>(words) else {
-        return Ok(false);
-    };
-    if octets == 0 {
-        return Ok(false);
-    }
-    let article = text_of(alloc, seed, octets as usize)?;
-    put_stored(alloc, text, store(buffer, class, &article, fresh))
-}
-
-/// The words without a last `fresh`, and whether there is one.
-fn without_fresh(words: &[Vec<u8>]) -> (&[Vec<u8>], bool) {
-    match words {
-        [words @ .., last] if last.as_slice() == b"fresh".as_slice() => (words, true),
-        _ => (words, false),
-    }
-}
-
-/// Writes what became of an article that was to be stored.
-pub fn put_stored(alloc: Global, text: &mut Vec<u8>, stored: Put) -> Result<bool, AllocError> {
-    match stored {
-        Put::Stored(token) => say(text, &token.to_text()),
-        refused => put(alloc, text, &refused),
-    }
-}
-
-/// What reading the article of a token whole gives, beside a text of so many octets and this seed.
-fn fetch_article(
-    alloc: Global,
-    buffer: &mut InMemory,
-    words: &[Vec<u8>],
-    text: &mut Vec<u8>,
-) -> Result<bool, AllocError> {
-    let Some((place, octets, seed)) = three::<Token, u32, u8>(words) else {
-        return Ok(false);
-    };
-    let article = text_of(alloc, seed, octets as usize)?;
-    put(alloc, text, &fetch(buffer, &place, &article))
-}
-
-/// What reading a block of a token's article gives.
-fn read_block(
-    alloc: Global,
-    buffer: &mut InMemory,
-    words: &[Vec<u8>],
-    text: &mut Vec<u8>,
-) -> Result<bool, AllocError> {
-    let mut chunk = [0; CHUNK_OCTETS];
-    match two::<Token, u32>(words) {
-        Some((place, block)) => put(alloc, text, &buffer.read_block(&place, block, &mut chunk)),
-        None => Ok(false),
-    }
-}
-
-/// Begins an article of this class and so many octets, and abandons it: how many octets it is told
-/// to have, and, before it is abandoned, the front and what reading a block of a token gives.
-fn abandon(
-    alloc: Global,
-    buffer: &mut InMemory,
-    words: &[Vec<u8>],
-    text: &mut Vec<u8>,
-) -> Result<bool, AllocError> {
-    match three::<u8, u32, Token>(words) {
-        Some((class, length, place)) if length > 0 => match abandoned(
-            buffer, class, length, place,
-        ) {
-            Some(seen) => put(alloc, text, &seen),
-            None => Ok(false),
-        },
-        _ => Ok(false),
-    }
-}
-
-/// How many octets an open article is told to have, the front, and what reading the first block of
-/// a token gives.
-type Seen = (u32, u64, Result<Found, BufError>);
-
-/// What is seen of an article before it is abandoned; none where it can't be begun.
-fn abandoned(buffer: &mut InMemory, class: u8, length: u32, place: Token) -> Option<Seen>
-    requires { 1 ≤ length }
-{
-    let Ok(open) = buffer.begin(class, length, false) else {
+pub fn buffer_of(cells: &[Vec<u8>], sheet: &mut Sheet) -> Option<InMemory> {
+    let [name, blocks, cycle, failing] = cells else {
+        sheet.refuse();
         return None;
     };
-    let octets = open.length();
-    let front = buffer.front();
-    let mut chunk = [0; CHUNK_OCTETS];
-    let read = buffer.read_block(&place, 0, &mut chunk);
-    buffer.abandon(open);
-    Some((octets, front, read))
+    let name = octet(name, sheet);
+    let blocks = number(blocks, sheet);
+    let cycle = number(cycle, sheet);
+    match formatted(sheet.alloc, name, blocks, cycle, sheet.read(failing)) {
+        Ok(buffer) => Some(buffer),
+        Err(_) => {
+            sheet.lack();
+            None
+        }
+    }
 }
 
-/// What a begin of so many octets is refused with, in a buffer of eight blocks, while one of so
-/// many others is open.
-fn begin_two(alloc: Global, cells: &[Vec<u8>], text: &mut Vec<u8>) -> Result<bool, AllocError> {
-    match two::<u32, u32>(cells) {
-        Some((first, second)) if first > 0 && second > 0 => {
-            put(alloc, text, &second_begin(alloc, first, second)?)
+/// Writes the text of the token under which an article of this class, of so many octets and of this
+/// seed is stored, or why it is not; it may ask for the front of a cycle.
+fn store_article(buffer: &mut InMemory, parts: [&[u8]; 3], fresh: bool, sheet: &mut Sheet) {
+    let class = octet(parts[0], sheet);
+    let octets = number(parts[1], sheet);
+    let seed = octet(parts[2], sheet);
+    if octets == 0 {
+        return sheet.refuse();
+    }
+    match text_of(sheet.alloc, seed, octets as usize) {
+        Ok(article) => {
+            let _begun = store(buffer, class, &article, fresh, sheet);
         }
-        _ => Ok(false),
+        Err(_) => sheet.lack(),
+    }
+}
+
+/// Writes what reading the article of a token whole gives, beside a text of so many octets and this
+/// seed.
+fn fetch_article(
+    buffer: &mut InMemory,
+    place: &[u8],
+    octets: &[u8],
+    seed: &[u8],
+    sheet: &mut Sheet,
+) {
+    let place = token(place, sheet);
+    let octets = number(octets, sheet);
+    let seed = octet(seed, sheet);
+    match text_of(sheet.alloc, seed, octets as usize) {
+        Ok(article) => fetch(buffer, &place, &article, sheet),
+        Err(_) => sheet.lack(),
+    }
+}
+
+/// Writes what reading a block of a token's article gives.
+fn read_block(buffer: &mut InMemory, place: &[u8], block: &[u8], sheet: &mut Sheet) {
+    let place = token(place, sheet);
+    let block = number(block, sheet);
+    let mut chunk = [0; CHUNK_OCTETS];
+    sheet.debug(&buffer.read_block(&place, block, &mut chunk));
+}
+
+/// Begins an article of this class and so many octets, and abandons it: writes how many octets it
+/// is told to have, and, before it is abandoned, the front and what reading the first block of a
+/// token gives.
+fn abandon(buffer: &mut InMemory, class: &[u8], octets: &[u8], place: &[u8], sheet: &mut Sheet) {
+    let class = octet(class, sheet);
+    let octets = number(octets, sheet);
+    let place = token(place, sheet);
+    if octets == 0 {
+        return sheet.refuse();
+    }
+    let Ok(open) = buffer.begin(class, octets, false) else {
+        return sheet.refuse();
+    };
+    sheet.numbered(b"(", u64::from(open.length()));
+    sheet.numbered(b", ", buffer.front());
+    sheet.put(b", ");
+    let mut chunk = [0; CHUNK_OCTETS];
+    sheet.debug(&buffer.read_block(&place, 0, &mut chunk));
+    sheet.put(b")");
+    buffer.abandon(open);
+}
+
+/// Writes what a begin of so many octets is refused with, in a buffer of eight blocks, while one of
+/// so many others is open.
+fn begin_two(first: &[u8], second: &[u8], sheet: &mut Sheet) {
+    let first = number(first, sheet);
+    let second = number(second, sheet);
+    if first == 0 || second == 0 {
+        return sheet.refuse();
+    }
+    match second_begin(sheet.alloc, first, second) {
+        Ok(refused) => sheet.debug(&refused),
+        Err(_) => sheet.lack(),
     }
 }
 
@@ -208,32 +169,15 @@ fn second_begin(alloc: Global, first: u32, second: u32) -> Result<Option<BufErro
     Ok(Some(refused))
 }
 
-/// How many of so many articles drawn by a seed are stored and read as a plain list of them says.
-fn compare(alloc: Global, cells: &[Vec<u8>], text: &mut Vec<u8>) -> Result<bool, AllocError> {
-    match two::<u32, u64>(cells) {
-        Some((articles, seed)) => put(alloc, text, &agreeing(alloc, articles, seed)?),
-        None => Ok(false),
+/// Writes how many of so many articles drawn by a seed are stored and read as a plain list of them
+/// says.
+fn compare(articles: &[u8], seed: &[u8], sheet: &mut Sheet) {
+    let articles = number(articles, sheet);
+    let seed = sheet.read(seed);
+    match agreeing(sheet.alloc, articles, seed) {
+        Ok(count) => sheet.number(u64::from(count)),
+        Err(_) => sheet.lack(),
     }
-}
-
-/// What became of an article that was to be stored.
-#[derive(Debug, Drop)]
-pub enum Put {
-    Stored(Token),
-    Refused(BufError),
-    Failed(BufError),
-    /// The last block was not the one that said so.
-    Wrong,
-}
-
-/// What reading an article whole gives.
-#[derive(Debug, Drop)]
-pub enum Whole {
-    Same,
-    Other,
-    Gone(u64),
-    Unknown,
-    Failed,
 }
 
 /// The octet at a place of the text of a seed.
@@ -252,14 +196,24 @@ pub fn text_of(alloc: Global, seed: u8, octets: usize) -> Result<Vec<u8>, AllocE
     Ok(text)
 }
 
-/// Stores an article whole.
-pub fn store<S: BlockStore>(buffer: &mut Buffer<S>, class: u8, text: &[u8], fresh: bool) -> Put
+/// Stores an article whole, and writes the text of its token, or why it isn't stored; whether it
+/// was begun.
+pub fn store<S: BlockStore>(
+    buffer: &mut Buffer<S>,
+    class: u8,
+    text: &[u8],
+    fresh: bool,
+    sheet: &mut Sheet,
+) -> bool
     requires some { 1 ≤ length text.now }
     requires short { length text.now < 2 ^ 32 }
 {
     let open = match buffer.begin(class, text.len() as u32, fresh) {
         Ok(open) => open,
-        Err(error) => return Put::Refused(error),
+        Err(error) => {
+            put_why(b"Refused", error, sheet);
+            return false;
+        }
     };
     let blocks = text.len().div_ceil(CHUNK_OCTETS);
     for block in 0..blocks {
@@ -267,34 +221,63 @@ pub fn store<S: BlockStore>(buffer: &mut Buffer<S>, class: u8, text: &[u8], fres
             Ok(last) => {
                 if last != (block + 1 == blocks) {
                     buffer.abandon(open);
-                    return Put::Wrong;
+                    sheet.put(b"Wrong");
+                    return true;
                 }
             }
             Err(error) => {
                 buffer.abandon(open);
-                return Put::Failed(error);
+                put_why(b"Failed", error, sheet);
+                return true;
             }
         }
     }
-    Put::Stored(buffer.finish(open))
+    sheet.put(&buffer.finish(open).to_text());
+    true
 }
 
-/// Reads the article of a token, block by block, and compares it with a text.
-fn fetch<S: BlockStore>(buffer: &mut Buffer<S>, token: &Token, text: &[u8]) -> Whole {
+/// Writes an error between round brackets behind a word.
+pub fn put_why(word: &[u8], error: BufError, sheet: &mut Sheet) {
+    sheet.put(word);
+    sheet.put(b"(");
+    sheet.debug(&error);
+    sheet.put(b")");
+}
+
+/// Reads the article of a token, block by block, and writes how it is beside a text.
+fn fetch<S: BlockStore>(buffer: &mut Buffer<S>, token: &Token, text: &[u8], sheet: &mut Sheet) {
     let mut chunk = [0; CHUNK_OCTETS];
     let mut block = 0u32;
     for expected in text.chunks(CHUNK_OCTETS) {
-        match buffer.read_block(token, block, &mut chunk) {
-            Ok(Found::Chunk(octets)) => {
-                if &chunk[..octets] != expected {
-                    return Whole::Other;
-                }
-            }
-            Ok(Found::Gone(front)) => return Whole::Gone(front.front()),
-            Ok(Found::Unknown) => return Whole::Unknown,
-            Err(_) => return Whole::Failed,
+        let found = buffer.read_block(token, block, &mut chunk);
+        if !is_part(&found, &chunk, expected, sheet) {
+            return;
         }
         block = block.saturating_add(1);
     }
-    Whole::Same
+    sheet.put(b"Same");
+}
+
+/// Whether this was found, in a chunk; else it is written what was.
+pub fn is_part(
+    found: &Result<Found, BufError>,
+    chunk: &[u8; CHUNK_OCTETS],
+    expected: &[u8],
+    sheet: &mut Sheet,
+) -> bool {
+    match found {
+        Ok(Found::Chunk(octets)) => {
+            if chunk.get(..*octets) == Some(expected) {
+                return true;
+            }
+            sheet.put(b"Other");
+        }
+        Ok(Found::Gone(front)) => {
+            sheet.numbered(b"Gone(", front.front());
+            sheet.put(b")");
+        }
+        Ok(Found::Unknown) => sheet.put(b"Unknown"),
+        Err(_) => sheet.put(b"Failed"),
+    }
+    false
 }

@@ -1,23 +1,15 @@
 //! The calls of a group of buffers in memory, and of its writer's phases (buffer_group). Tokens are
 //! their texts; the text that is stored is computed from its octets and a seed, and that of a job
 //! is an article.
-use crate::stores::buffers::{InMemory, Put, formatted, put_stored, store, text_of};
-use crate::stores::words::{Word, one, put, say, three, two};
+use crate::stores::buffers::{InMemory, formatted, store, text_of};
+use crate::stores::calls::Call;
+use crate::stores::words::{TOKEN, number, octet};
 use buffer_group::{Group, Job, Writer, WriterStep};
-use cyc_token::Token;
 use nntp_text::MsgId;
 use relay_conf::Mode;
+use row_text::Sheet;
 use sample_articles::sample_article;
 use std::alloc::{AllocError, Global};
-
-/// The token of each text that becomes whole in the steps of a writer, where no place is looked at.
-const TOKEN: Token = Token {
-    class: 1,
-    buffer: 0,
-    cycle: 0,
-    first: 0,
-    length: 1,
-};
 
 /// A group and its buffers, which are numbered from 0.
 #[derive(Drop)]
@@ -26,71 +18,56 @@ pub struct Grouped {
     buffers: Vec<InMemory>,
 }
 
-/// Answers a call of a group or a writer; false where it is none, or has other words.
-pub fn answer(
-    alloc: Global,
-    grouped: &mut Option<Grouped>,
-    call: &str,
-    cells: &[Vec<u8>],
-    text: &mut Vec<u8>,
-) -> Result<bool, AllocError> {
-    match call {
-        "group" => {
-            *grouped = grouped_by(alloc, cells)?;
-            put(alloc, text, &grouped.is_some())
+/// Writes the answer of a call of a group.
+pub fn answer(grouped: &mut Grouped, call: Call, cells: &[Vec<u8>], sheet: &mut Sheet) {
+    match (call, cells) {
+        (Call::Pick, [octets]) => {
+            let octets = number(octets, sheet);
+            sheet.debug(&grouped.group.pick(octets));
         }
-        "writer_steps" => put_steps(alloc, cells, text),
-        _ => match grouped {
-            Some(grouped) => answer_group(alloc, grouped, call, cells, text),
-            None => Ok(false),
-        },
-    }
-}
-
-/// Answers a call of a group that is there.
-fn answer_group(
-    alloc: Global,
-    grouped: &mut Grouped,
-    call: &str,
-    cells: &[Vec<u8>],
-    text: &mut Vec<u8>,
-) -> Result<bool, AllocError> {
-    match call {
-        "pick" => match one::<u32>(cells) {
-            Some(octets) => put(alloc, text, &grouped.group.pick(octets)),
-            None => Ok(false),
-        },
-        "group_store" => store_picked(alloc, grouped, cells, text),
-        _ => Ok(false),
+        (Call::GroupStore, [class, octets, seed]) => {
+            store_picked(grouped, class, octets, seed, sheet)
+        }
+        _ => sheet.refuse(),
     }
 }
 
 /// A group of the mode that the first cell names, over buffers of so many blocks as the others say.
-fn grouped_by(alloc: Global, cells: &[Vec<u8>]) -> Result<Option<Grouped>, AllocError> {
+pub fn grouped_by(cells: &[Vec<u8>], sheet: &mut Sheet) -> Option<Grouped> {
     let [mode, rest @ ..] = cells else {
-        return Ok(None);
+        return None;
     };
-    let Some(mode) = mode_of(mode) else {
-        return Ok(None);
-    };
-    let mut blocks = Vec::new(alloc);
-    let mut buffers = Vec::new(alloc);
-    let mut number = 0u8;
+    let mode = mode_of(mode)?;
+    let mut blocks = Vec::new(sheet.alloc);
+    let mut buffers = Vec::new(sheet.alloc);
+    let mut name = 0u8;
     for cell in rest {
-        let Some(count) = u32::read(cell) else {
-            return Ok(None);
-        };
-        blocks.push(count)?;
-        buffers.push(formatted(alloc, number, count, 0, 0)?)?;
-        number = number.saturating_add(1);
+        let count = number(cell, sheet);
+        add_buffer(&mut buffers, name, count, sheet);
+        if blocks.push(count).is_err() {
+            sheet.lack();
+        }
+        name = name.saturating_add(1);
     }
     if blocks.is_empty() {
-        return Ok(None);
+        return None;
     }
-    Ok(Some(Grouped {
+    Some(Grouped {
         group: Group::new(mode, blocks),
         buffers,
-    }))
+    })
+}
+
+/// A buffer of this number and so many blocks follows.
+fn add_buffer(buffers: &mut Vec<InMemory>, name: u8, blocks: u32, sheet: &mut Sheet) {
+    match formatted(sheet.alloc, name, blocks, 0, 0) {
+        Ok(buffer) => {
+            if buffers.push(buffer).is_err() {
+                sheet.lack();
+            }
+        }
+        Err(_) => sheet.lack(),
+    }
 }
 
 /// The mode of this name.
@@ -107,61 +84,66 @@ fn mode_of(name: &[u8]) -> Option<Mode> {
 /// Stores an article of this class, of so many octets and of this seed where the group picks: its
 /// token, or why it isn't stored.
 fn store_picked(
-    alloc: Global,
     grouped: &mut Grouped,
-    cells: &[Vec<u8>],
-    text: &mut Vec<u8>,
-) -> Result<bool, AllocError> {
-    let Some((class, octets, seed)) = three::<u8, u32, u8>(cells) else {
-        return Ok(false);
-    };
+    class: &[u8],
+    octets: &[u8],
+    seed: &[u8],
+    sheet: &mut Sheet,
+) {
+    let class = octet(class, sheet);
+    let octets = number(octets, sheet);
+    let seed = octet(seed, sheet);
     if octets == 0 {
-        return Ok(false);
+        return sheet.refuse();
     }
-    let article = text_of(alloc, seed, octets as usize)?;
+    let Ok(article) = text_of(sheet.alloc, seed, octets as usize) else {
+        return sheet.lack();
+    };
     let pick = grouped.group.pick(octets);
     match grouped.buffers.get_mut(pick.buffer) {
         Some(buffer) => {
-            let stored = store(buffer, class, &article, pick.fresh);
-            if !matches!(stored, Put::Refused(_)) {
+            if store(buffer, class, &article, pick.fresh, sheet) {
                 grouped.group.begun(&pick, octets);
             }
-            put_stored(alloc, text, stored)
         }
-        None => Ok(false),
+        None => sheet.refuse(),
     }
 }
 
-/// The steps of a writer from a job of so many octets on, until it has none: the step of this
-/// number fails, of which 0 is the begin and each other the write of a block.
-fn put_steps(alloc: Global, cells: &[Vec<u8>], text: &mut Vec<u8>) -> Result<bool, AllocError> {
-    let Some((octets, failing)) = two::<u32, u32>(cells) else {
-        return Ok(false);
-    };
-    let Some(job) = job_of(alloc, octets)? else {
-        return Ok(false);
-    };
-    put(alloc, text, &Writer::<()>::Idle.next_step())?;
+/// Writes the steps of a writer, from a job of so many octets on until it has none: the step of
+/// this number fails, of which 0 is the begin and each other the write of a block.
+pub fn put_steps(octets: &[u8], failing: &[u8], sheet: &mut Sheet) {
+    let octets = number(octets, sheet);
+    let failing = number(failing, sheet);
+    match job_of(sheet.alloc, octets) {
+        Ok(Some(job)) => put_steps_of(job, octets, failing, sheet),
+        Ok(None) => sheet.refuse(),
+        Err(_) => sheet.lack(),
+    }
+}
+
+/// Writes the steps of a writer from this job of so many octets on.
+fn put_steps_of(job: Job, octets: u32, failing: u32, sheet: &mut Sheet) {
+    sheet.debug(&Writer::<()>::Idle.next_step());
     let mut writer = Writer::Popped(job);
     for _ in 0..u64::from(octets).saturating_add(5) {
         let step = writer.next_step();
         if step == WriterStep::Pop {
-            break;
+            return;
         }
-        say(text, b" ")?;
-        put(alloc, text, &step)?;
+        sheet.put(b" ");
+        sheet.debug(&step);
         writer = writer_after(writer, step, failing);
     }
-    Ok(true)
 }
 
 /// A job of so many octets, if an article has so many.
 fn job_of(alloc: Global, octets: u32) -> Result<Option<Job>, AllocError> {
-    let Ok(id) = MsgId::parse(alloc, b"<a@x>") else {
-        return Ok(None);
-    };
     let Some(sample) = sample_article(alloc, octets)? else {
         return Ok(None);
+    };
+    let Ok(id) = MsgId::parse(alloc, b"<a@x>") else {
+        return Err(AllocError);
     };
     Ok(Some(Job {
         session: 1,

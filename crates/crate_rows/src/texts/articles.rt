@@ -1,247 +1,165 @@
-//! The calls of `article_parse`, `path_rules` and `date_rules`.
+//! The calls of `article_parse`, `path_rules`, `overview_line` and `date_rules`.
 
-use crate::texts::values::{Runs, number_of, put_debug, put_fault, put_list, put_next, put_some};
-use article_parse::{ArtError, Article};
-use date_rules::{judge, stamp};
-use path_rules::{Identity, identities, loops, updated};
-use row_text::{joined, put_number, put_octets};
-use std::alloc::{AllocError, Global};
+use crate::texts::calls::Call;
+use crate::texts::lines::{put_made, put_some};
+use crate::texts::streams::put_in;
+use crate::texts::walks::{put_changes, put_fronts};
+use article_parse::Article;
+use date_rules::judge;
+use overview_line::{LINE_ROOM, line, put_line};
+use path_rules::{identities, loops, updated};
+use row_text::Sheet;
 
-/// The last moment that has a stamp.
-const LAST_MOMENT: u64 = 253_370_764_799;
+/// Writes the answer of a call of a text, behind these cells.
+pub fn of_text(call: Call, heads: &[Vec<u8>], octets: &[u8], sheet: &mut Sheet) {
+    match call {
+        Call::Octets => sheet.cell(octets),
+        Call::ArticleFault => sheet.debug(&Article::parse(sheet.alloc, octets).err()),
+        Call::ArticleCuts | Call::OverviewCuts => {
+            put_fronts(call, octets, octets.len().saturating_add(1), sheet)
+        }
+        _ => match heads {
+            [] => of_article(call, b"", b"", octets, sheet),
+            [octet] if matches!(call, Call::ArticleChanges) => {
+                put_changes(call, octet, octets, sheet)
+            }
+            [name] => of_article(call, name, b"", octets, sheet),
+            [free, before] if matches!(call, Call::PutOverview) => {
+                put_behind(free, before, octets, sheet)
+            }
+            [first, second] => of_article(call, first, second, octets, sheet),
+            _ => sheet.refuse(),
+        },
+    }
+}
 
-/// Writes the message-id of an article, the place of its body, and the body, or the text's fault.
-pub fn put_article(alloc: Global, text: &mut Vec<u8>, octets: &[u8]) -> Result<(), AllocError> {
-    match Article::parse(alloc, octets) {
-        Ok(article) => put_read(
-            text,
-            article.id().as_bytes(),
-            article.body_at(),
-            article.body(),
-        ),
-        Err(error) => put_debug(alloc, text, &error),
+/// Writes the answer of a call of an article behind two cells, or the text's fault.
+fn of_article(call: Call, first: &[u8], second: &[u8], octets: &[u8], sheet: &mut Sheet) {
+    match Article::parse(sheet.alloc, octets) {
+        Ok(article) => of_parsed(call, first, second, &article, sheet),
+        Err(error) => sheet.debug(&error),
+    }
+}
+
+/// Writes the answer of a call of an article.
+fn of_parsed(call: Call, first: &[u8], second: &[u8], article: &Article<'_>, sheet: &mut Sheet) {
+    match call {
+        Call::Article => put_article(article, sheet),
+        Call::Field => put_some(article.field(first), sheet),
+        Call::Groups => put_groups(article, sheet),
+        Call::Overview => put_made(line(sheet.alloc, article), sheet),
+        Call::Arrived => put_arrival(first, second, article, sheet),
+        Call::JudgeDate => put_date(first, second, article, sheet),
+        _ => sheet.refuse(),
     }
 }
 
 /// Writes the message-id of an article, the place of its body, and the body.
-fn put_read(text: &mut Vec<u8>, id: &[u8], body_at: usize, body: &[u8]) -> Result<(), AllocError> {
-    put_octets(text, id)?;
-    text.extend_from_slice(b" ")?;
-    put_number(text, body_at as u64)?;
-    put_next(text, body)
-}
-
-/// Writes the fault of a text, `None` where it is an article.
-pub fn put_fault_of(alloc: Global, text: &mut Vec<u8>, octets: &[u8]) -> Result<(), AllocError> {
-    let fault = Article::parse(alloc, octets).err();
-    put_debug(alloc, text, &fault)
-}
-
-/// Writes the content of the first field of the name that the first cell is, in the article of the
-/// others, or the text's fault.
-pub fn put_field(alloc: Global, text: &mut Vec<u8>, cells: &[Vec<u8>]) -> Result<(), AllocError> {
-    match cells {
-        [name, parts @ ..] => put_field_of(alloc, text, name, &joined(alloc, parts)?),
-        [] => put_fault(text),
-    }
-}
-
-/// Writes the content of the first field of this name, or the text's fault.
-fn put_field_of(
-    alloc: Global,
-    text: &mut Vec<u8>,
-    name: &[u8],
-    octets: &[u8],
-) -> Result<(), AllocError> {
-    match Article::parse(alloc, octets) {
-        Ok(article) => put_some(text, article.field(name)),
-        Err(error) => put_debug(alloc, text, &error),
-    }
-}
-
-/// Writes the newsgroups of an article, or the text's fault.
-pub fn put_groups(alloc: Global, text: &mut Vec<u8>, octets: &[u8]) -> Result<(), AllocError> {
-    match Article::parse(alloc, octets) {
-        Ok(article) => put_groups_of(alloc, text, &article),
-        Err(error) => put_debug(alloc, text, &error),
-    }
+fn put_article(article: &Article<'_>, sheet: &mut Sheet) {
+    sheet.cell(article.id().as_bytes());
+    sheet.numbered(b" ", article.body_at() as u64);
+    sheet.next(article.body());
 }
 
 /// Writes the newsgroups of an article.
-fn put_groups_of(
-    alloc: Global,
-    text: &mut Vec<u8>,
-    article: &Article<'_>,
-) -> Result<(), AllocError> {
-    put_list(text, &article.groups(alloc)?)
-}
-
-/// What a text gives.
-#[derive(Debug, Drop)]
-enum Reading {
-    /// An article, with the place of its body and how many octets that has.
-    Read(usize, usize),
-    /// Its fault.
-    Refused(ArtError),
-}
-
-/// What a text gives.
-fn reading_of(alloc: Global, octets: &[u8]) -> Reading {
-    match Article::parse(alloc, octets) {
-        Ok(article) => Reading::Read(article.body_at(), article.body().len()),
-        Err(error) => Reading::Refused(error),
-    }
-}
-
-/// What a text gives, as it is written.
-fn said_of(alloc: Global, octets: &[u8]) -> Result<Vec<u8>, AllocError> {
-    let mut said = Vec::new(alloc);
-    put_debug(alloc, &mut said, &reading_of(alloc, octets))?;
-    Ok(said)
-}
-
-/// Writes what a text gives that is cut after each count of its octets, from none to all.
-pub fn put_cuts(alloc: Global, text: &mut Vec<u8>, octets: &[u8]) -> Result<(), AllocError> {
-    let mut runs = Runs::new(alloc);
-    for end in 0..=octets.len() {
-        runs.add(said_of(alloc, &octets[..end])?, text)?;
-    }
-    runs.end(text)
-}
-
-/// Writes what the text of the other cells gives with the octet of the first at each of its places
-/// in turn.
-pub fn put_changes(alloc: Global, text: &mut Vec<u8>, cells: &[Vec<u8>]) -> Result<(), AllocError> {
-    let [octet, parts @ ..] = cells else {
-        return put_fault(text);
+fn put_groups(article: &Article<'_>, sheet: &mut Sheet) {
+    let Ok(groups) = article.groups(sheet.alloc) else {
+        return sheet.lack();
     };
-    match octet.as_slice() {
-        [octet] => put_changed(alloc, text, *octet, &joined(alloc, parts)?),
-        _ => put_fault(text),
+    sheet.put(b"[");
+    for group in groups {
+        sheet.next(group);
+    }
+    sheet.put(b" ]");
+}
+
+/// Writes what becomes of an article that comes to the first agent from the second.
+fn put_arrival(own: &[u8], expected: &[u8], article: &Article<'_>, sheet: &mut Sheet) {
+    match loops(article.field(b"Path").unwrap_or(b""), own) {
+        Ok(true) => sheet.put(b"Loop"),
+        Ok(false) => put_updated(own, expected, article, sheet),
+        Err(error) => sheet.debug(&error),
     }
 }
 
-/// Writes what a text gives with this octet at each of its places in turn.
-fn put_changed(
-    alloc: Global,
-    text: &mut Vec<u8>,
-    octet: u8,
-    octets: &[u8],
-) -> Result<(), AllocError> {
-    let mut runs = Runs::new(alloc);
-    for place in 0..octets.len() {
-        let changed = [&octets[..place], &[octet], &octets[place + 1..]].concat(alloc)?;
-        runs.add(said_of(alloc, &changed)?, text)?;
+/// Writes how many octets the article has with its Path updated, for how many there is room, and
+/// the octets; or why the Path is refused.
+fn put_updated(own: &[u8], expected: &[u8], article: &Article<'_>, sheet: &mut Sheet) {
+    match updated(sheet.alloc, article, own, expected) {
+        Ok(octets) => {
+            sheet.number(octets.len() as u64);
+            sheet.numbered(b" ", octets.capacity() as u64);
+            sheet.next(&octets);
+        }
+        Err(error) => sheet.debug(&error),
     }
-    runs.end(text)
+}
+
+/// Writes whether the date of an article lies in the window before now and the cutoff.
+fn put_date(now: &[u8], cutoff: &[u8], article: &Article<'_>, sheet: &mut Sheet) {
+    let now = sheet.read(now);
+    let cutoff = sheet.read(cutoff);
+    sheet.debug(&judge(sheet.alloc, article, now, cutoff));
+}
+
+/// Writes what a text gives: `Read(P, N)` for an article whose body has N octets at place P, or its
+/// fault.
+pub fn put_reading(octets: &[u8], sheet: &mut Sheet) {
+    match Article::parse(sheet.alloc, octets) {
+        Ok(article) => {
+            sheet.numbered(b"Read(", article.body_at() as u64);
+            sheet.numbered(b", ", article.body().len() as u64);
+            sheet.put(b")");
+        }
+        Err(error) => {
+            sheet.put(b"Refused(");
+            sheet.debug(&error);
+            sheet.put(b")");
+        }
+    }
+}
+
+/// Writes what a room has that had so many free octets behind these, once a line was put there, or
+/// that behind why none was put.
+fn put_behind(free: &[u8], before: &[u8], octets: &[u8], sheet: &mut Sheet) {
+    let free = sheet.read(free) as usize;
+    let Ok(mut room) = Vec::with_capacity(sheet.alloc, before.len().saturating_add(free)) else {
+        return sheet.lack();
+    };
+    if room.extend_from_slice(before).is_err() {
+        return sheet.lack();
+    }
+    match put_line(&mut room, octets) {
+        Ok(()) => sheet.cell(&room),
+        Err(error) => {
+            sheet.debug(&error);
+            sheet.next(&room);
+        }
+    }
+}
+
+/// Writes the overview line that a text gives in room that is enough, or why it gives none.
+pub fn put_front_line(octets: &[u8], sheet: &mut Sheet) {
+    let Ok(mut room) = Vec::with_capacity(sheet.alloc, octets.len().saturating_add(LINE_ROOM))
+    else {
+        return sheet.lack();
+    };
+    match put_line(&mut room, octets) {
+        Ok(()) => put_in(b"Line", &room, sheet),
+        Err(error) => sheet.debug(&error),
+    }
 }
 
 /// Writes the identities of a Path, or why it is refused.
-pub fn put_identities(alloc: Global, text: &mut Vec<u8>, path: &[u8]) -> Result<(), AllocError> {
-    match identities(alloc, path) {
-        Ok(list) => put_each(text, &list),
-        Err(error) => put_debug(alloc, text, &error),
-    }
-}
-
-/// Writes identities between square brackets.
-fn put_each(text: &mut Vec<u8>, list: &[Identity]) -> Result<(), AllocError> {
-    text.extend_from_slice(b"[")?;
-    for identity in list {
-        put_next(text, identity.as_bytes())?;
-    }
-    text.extend_from_slice(b" ]")
-}
-
-/// Writes what becomes of an article that comes to an agent from another, or the text's fault: the
-/// first two cells are their identities.
-pub fn put_arrived(alloc: Global, text: &mut Vec<u8>, cells: &[Vec<u8>]) -> Result<(), AllocError> {
-    match cells {
-        [own, expected, parts @ ..] => {
-            put_arrival(alloc, text, [own, expected], &joined(alloc, parts)?)
+pub fn put_identities(path: &[u8], sheet: &mut Sheet) {
+    match identities(sheet.alloc, path) {
+        Ok(list) => {
+            sheet.put(b"[");
+            for identity in &list {
+                sheet.next(identity.as_bytes());
+            }
+            sheet.put(b" ]");
         }
-        _ => put_fault(text),
-    }
-}
-
-/// Writes what becomes of the article of a text, or the text's fault.
-fn put_arrival(
-    alloc: Global,
-    text: &mut Vec<u8>,
-    agents: [&[u8]; 2],
-    octets: &[u8],
-) -> Result<(), AllocError> {
-    match Article::parse(alloc, octets) {
-        Ok(article) => put_taken(alloc, text, agents, &article),
-        Err(error) => put_debug(alloc, text, &error),
-    }
-}
-
-/// Writes that an article has been here, or as what it is stored.
-fn put_taken(
-    alloc: Global,
-    text: &mut Vec<u8>,
-    agents: [&[u8]; 2],
-    article: &Article<'_>,
-) -> Result<(), AllocError> {
-    match loops(article.field(b"Path").unwrap_or(b""), agents[0]) {
-        Ok(true) => text.extend_from_slice(b"Loop"),
-        Ok(false) => put_updated(alloc, text, agents, article),
-        Err(error) => put_debug(alloc, text, &error),
-    }
-}
-
-/// Writes the article with its Path updated, or why the Path is refused.
-fn put_updated(
-    alloc: Global,
-    text: &mut Vec<u8>,
-    agents: [&[u8]; 2],
-    article: &Article<'_>,
-) -> Result<(), AllocError> {
-    match updated(alloc, article, agents[0], agents[1]) {
-        Ok(octets) => put_stored(text, octets.capacity(), &octets),
-        Err(error) => put_debug(alloc, text, &error),
-    }
-}
-
-/// Writes how many octets are stored, for how many there is room, and the octets.
-fn put_stored(text: &mut Vec<u8>, room: usize, octets: &[u8]) -> Result<(), AllocError> {
-    put_number(text, octets.len() as u64)?;
-    text.extend_from_slice(b" ")?;
-    put_number(text, room as u64)?;
-    put_next(text, octets)
-}
-
-/// Writes whether the date of an article lies in the window, or the text's fault: the first two
-/// cells are now and the cutoff.
-pub fn put_judged(alloc: Global, text: &mut Vec<u8>, cells: &[Vec<u8>]) -> Result<(), AllocError> {
-    let [now, cutoff, parts @ ..] = cells else {
-        return put_fault(text);
-    };
-    match (number_of(now), number_of(cutoff)) {
-        (Some(now), Some(cutoff)) => put_date(alloc, text, now, cutoff, &joined(alloc, parts)?),
-        _ => put_fault(text),
-    }
-}
-
-/// Writes whether the date of the article of a text lies in the window, or the text's fault.
-fn put_date(
-    alloc: Global,
-    text: &mut Vec<u8>,
-    now: u64,
-    cutoff: u64,
-    octets: &[u8],
-) -> Result<(), AllocError> {
-    match Article::parse(alloc, octets) {
-        Ok(article) => put_debug(alloc, text, &judge(alloc, &article, now, cutoff)),
-        Err(error) => put_debug(alloc, text, &error),
-    }
-}
-
-/// Writes the stamp of a moment.
-pub fn put_stamp(text: &mut Vec<u8>, now: &[u8]) -> Result<(), AllocError> {
-    match number_of(now) {
-        Some(now) if now <= LAST_MOMENT => put_octets(text, &stamp(now)),
-        _ => put_fault(text),
+        Err(error) => sheet.debug(&error),
     }
 }

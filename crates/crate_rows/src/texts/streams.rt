@@ -1,74 +1,86 @@
 //! The calls of `stream_cut`.
 ghost use Rattle.std.specs.Prelude.{◌≡◌};
 
-use crate::texts::values::{Runs, number_of, put_fault, put_in, put_space};
-use row_text::put_number;
+use crate::texts::calls::Call;
+use crate::texts::walks::{Runs, put_space};
+use row_text::Sheet;
 use std::alloc::{AllocError, Global};
 use stream_cut::{Block, Cut, CutError, Cutter, FoundBlock, FoundLine, Want, cut_all};
 
-/// Writes what the steps give of a cutter that was fed a stream: the cells are the limit, the size
-/// of the pieces, the stream and the steps.
-pub fn put_cutter(alloc: Global, text: &mut Vec<u8>, cells: &[Vec<u8>]) -> Result<(), AllocError> {
-    let [limit, size, stream, steps @ ..] = cells else {
-        return put_fault(text);
-    };
-    let (Some(limit), Some(size)) = (number_of(limit), number_of(size)) else {
-        return put_fault(text);
-    };
-    let mut cutter = Cutter::new(alloc, limit as usize);
-    take_steps(&mut cutter, text, size as usize, stream, steps)
+/// Writes octets between round brackets, behind a word.
+pub fn put_in(word: &[u8], octets: &[u8], sheet: &mut Sheet) {
+    sheet.put(word);
+    sheet.put(b"(");
+    sheet.cell(octets);
+    sheet.put(b")");
 }
 
-/// Feeds the stream in pieces of a size, and takes the steps.
-fn take_steps(
-    cutter: &mut Cutter,
-    text: &mut Vec<u8>,
-    size: usize,
-    stream: &[u8],
-    steps: &[Vec<u8>],
-) -> Result<(), AllocError> {
+/// Writes the answer of a call of any number of cells.
+pub fn of_pieces(call: Call, cells: &[Vec<u8>], sheet: &mut Sheet) {
+    match (call, cells) {
+        (Call::Cutter, [limit, size, stream, steps @ ..]) => {
+            put_cutter(limit, size, stream, steps, sheet)
+        }
+        (Call::CutAll, [limit, wants, pieces @ ..]) => put_cuts(limit, wants, pieces, sheet),
+        _ => sheet.refuse(),
+    }
+}
+
+/// Writes the answer of a call of a limit, what is wanted and a stream.
+pub fn of_stream(call: Call, limit: &[u8], wants: &[u8], stream: &[u8], sheet: &mut Sheet) {
+    match call {
+        Call::CutInOctets => put_cut_in_octets(limit, wants, stream, sheet),
+        Call::CutInTwo => put_cut_in_two(limit, wants, stream, sheet),
+        _ => sheet.refuse(),
+    }
+}
+
+/// Writes what the steps give of a cutter of this limit that was fed a stream in pieces of this
+/// size.
+fn put_cutter(limit: &[u8], size: &[u8], stream: &[u8], steps: &[Vec<u8>], sheet: &mut Sheet) {
+    let mut cutter = Cutter::new(sheet.alloc, sheet.read(limit) as usize);
+    let size = sheet.read(size) as usize;
     for piece in stream.chunks(size.max(1)) {
-        feed(cutter, piece)?;
+        feed(&mut cutter, piece, sheet);
     }
     for step in steps {
-        take_step(cutter, text, step)?;
+        take_step(&mut cutter, step, sheet);
     }
-    Ok(())
 }
 
 /// Takes a step: `line` wants a line, `block` a block, `find_line` and `find_block` say what stands
 /// at the front, and octets behind `+` are fed.
-fn take_step(cutter: &mut Cutter, text: &mut Vec<u8>, step: &[u8]) -> Result<(), AllocError> {
+fn take_step(cutter: &mut Cutter, step: &[u8], sheet: &mut Sheet) {
     match step {
-        [b'+', piece @ ..] => feed(cutter, piece),
-        b"line" => put_line(cutter, text),
-        b"block" => put_block(cutter, text),
-        b"find_line" => put_found_line(cutter, text),
-        b"find_block" => put_found_block(cutter, text),
-        _ => put_fault(text),
+        [b'+', piece @ ..] => feed(cutter, piece, sheet),
+        b"line" => put_line(cutter, sheet),
+        b"block" => put_block(cutter, sheet),
+        b"find_line" => put_found_line(cutter, sheet),
+        b"find_block" => put_found_block(cutter, sheet),
+        _ => sheet.refuse(),
     }
 }
 
 /// Feeds a piece, once more where memory was refused.
-fn feed(cutter: &mut Cutter, piece: &[u8]) -> Result<(), AllocError> {
-    if cutter.feed(piece).is_ok() || cutter.feed(piece).is_ok() {
-        return Ok(());
+fn feed(cutter: &mut Cutter, piece: &[u8], sheet: &mut Sheet) {
+    if cutter.feed(piece).is_err() && cutter.feed(piece).is_err() {
+        sheet.lack();
     }
-    Err(AllocError)
 }
 
 /// Writes the next line, which is wanted once more where memory was refused; in the middle of a
 /// block that is past its limit none is wanted.
-fn put_line(cutter: &mut Cutter, text: &mut Vec<u8>) -> Result<(), AllocError> {
-    put_space(text)?;
+fn put_line(cutter: &mut Cutter, sheet: &mut Sheet) {
+    put_space(sheet);
     if cutter.is_passing() {
-        return text.extend_from_slice(b"Passing");
+        sheet.put(b"Passing");
+        return;
     }
     match next_line(cutter) {
-        Ok(Some(line)) => put_in(text, b"Line", &line),
-        Ok(None) => text.extend_from_slice(b"None"),
-        Err(CutError::LineTooLong) => text.extend_from_slice(b"LineTooLong"),
-        Err(CutError::Memory) => Err(AllocError),
+        Ok(Some(line)) => put_in(b"Line", &line, sheet),
+        Ok(None) => sheet.put(b"None"),
+        Err(CutError::LineTooLong) => sheet.put(b"LineTooLong"),
+        Err(CutError::Memory) => sheet.lack(),
     }
 }
 
@@ -83,183 +95,143 @@ fn next_line(cutter: &mut Cutter) -> Result<Option<Vec<u8>>, CutError>
 }
 
 /// Writes the next block, which is wanted once more where memory was refused.
-fn put_block(cutter: &mut Cutter, text: &mut Vec<u8>) -> Result<(), AllocError> {
-    put_space(text)?;
+fn put_block(cutter: &mut Cutter, sheet: &mut Sheet) {
+    put_space(sheet);
     let mut block = cutter.block();
     if matches!(block, Err(CutError::Memory)) {
         block = cutter.block();
     }
     match block {
-        Ok(Some(block)) => put_whole(text, &block),
-        Ok(None) => text.extend_from_slice(b"None"),
-        Err(CutError::LineTooLong) => text.extend_from_slice(b"LineTooLong"),
-        Err(CutError::Memory) => Err(AllocError),
+        Ok(Some(block)) => put_whole(&block, sheet),
+        Ok(None) => sheet.put(b"None"),
+        Err(CutError::LineTooLong) => sheet.put(b"LineTooLong"),
+        Err(CutError::Memory) => sheet.lack(),
     }
 }
 
 /// Writes what stands where a line is wanted, and passes the line; in the middle of a block that is
 /// past its limit none is wanted.
-fn put_found_line(cutter: &mut Cutter, text: &mut Vec<u8>) -> Result<(), AllocError> {
-    put_space(text)?;
+fn put_found_line(cutter: &mut Cutter, sheet: &mut Sheet) {
+    put_space(sheet);
     if cutter.is_passing() {
-        return text.extend_from_slice(b"Passing");
+        sheet.put(b"Passing");
+        return;
     }
     match cutter.find_line() {
         FoundLine::Whole(end) => {
-            put_in(text, b"Found", &cutter.kept()[..end])?;
+            put_in(b"Found", &cutter.kept()[..end], sheet);
             cutter.pass(end + 2);
         }
-        FoundLine::TooLong => text.extend_from_slice(b"TooLong")?,
-        FoundLine::Incomplete => text.extend_from_slice(b"Incomplete")?,
+        FoundLine::TooLong => sheet.put(b"TooLong"),
+        FoundLine::Incomplete => sheet.put(b"Incomplete"),
     }
-    Ok(())
 }
 
 /// Writes what stands where a block is wanted, its lines and how many of them begin with a dot, and
 /// passes it; or what is kept as long as none is whole.
-fn put_found_block(cutter: &mut Cutter, text: &mut Vec<u8>) -> Result<(), AllocError> {
-    put_space(text)?;
+fn put_found_block(cutter: &mut Cutter, sheet: &mut Sheet) {
+    put_space(sheet);
     match cutter.find_block() {
         FoundBlock::Whole { octets, dots } => {
-            put_in(text, b"Found", &cutter.kept()[..octets])?;
-            put_space(text)?;
-            put_number(text, dots as u64)?;
+            put_in(b"Found", &cutter.kept()[..octets], sheet);
+            sheet.numbered(b" ", dots as u64);
             cutter.pass(octets + 3);
         }
         FoundBlock::Oversize(count) => {
-            put_in(text, b"Oversize", &cutter.kept()[..count])?;
+            put_in(b"Oversize", &cutter.kept()[..count], sheet);
             cutter.pass(count);
         }
-        FoundBlock::Unfinished => put_in(text, b"Unfinished", cutter.kept())?,
+        FoundBlock::Unfinished => put_in(b"Unfinished", cutter.kept(), sheet),
     }
-    Ok(())
 }
 
 /// Writes a block.
-fn put_whole(text: &mut Vec<u8>, block: &Block) -> Result<(), AllocError> {
+fn put_whole(block: &Block, sheet: &mut Sheet) {
     match block {
-        Block::Whole(octets) => put_in(text, b"Whole", octets),
-        Block::Oversize => text.extend_from_slice(b"Oversize"),
+        Block::Whole(octets) => put_in(b"Whole", octets, sheet),
+        Block::Oversize => sheet.put(b"Oversize"),
     }
 }
 
-/// Writes what is cut off the pieces that follow the limit and what is wanted.
-pub fn put_cut_all(alloc: Global, text: &mut Vec<u8>, cells: &[Vec<u8>]) -> Result<(), AllocError> {
-    match cells {
-        [limit, wants, pieces @ ..] => put_cut_pieces(alloc, text, limit, wants, pieces),
-        _ => put_fault(text),
+/// Writes what is cut off these pieces, between square brackets.
+fn put_cuts(limit: &[u8], wants: &[u8], pieces: &[Vec<u8>], sheet: &mut Sheet) {
+    let limit = sheet.read(limit) as usize;
+    match cuts_of(sheet.alloc, limit, wants, pieces) {
+        Ok(cuts) => {
+            sheet.put(b"[ ");
+            for cut in &cuts {
+                put_cut(cut, sheet);
+            }
+            sheet.put(b"]");
+        }
+        Err(_) => sheet.lack(),
     }
 }
 
-/// Writes what is cut off these pieces.
-fn put_cut_pieces(
-    alloc: Global,
-    text: &mut Vec<u8>,
-    limit: &[u8],
-    wants: &[u8],
-    pieces: &[Vec<u8>],
-) -> Result<(), AllocError> {
-    match number_of(limit) {
-        Some(limit) => put_cuts(text, &cuts_of(alloc, limit as usize, wants, pieces)?),
-        None => put_fault(text),
-    }
-}
-
-/// What is cut off these pieces.
+/// What is cut off these pieces: a block is wanted by a `B`, a line by any other octet.
 fn cuts_of(
     alloc: Global,
     limit: usize,
-    wants: &[u8],
+    letters: &[u8],
     pieces: &[Vec<u8>],
 ) -> Result<Vec<Cut>, AllocError> {
-    cut_all(alloc, limit, pieces, &wants_of(alloc, wants)?)
-}
-
-/// Writes what was cut, between square brackets.
-fn put_cuts(text: &mut Vec<u8>, cuts: &[Cut]) -> Result<(), AllocError> {
-    text.extend_from_slice(b"[ ")?;
-    for cut in cuts {
-        put_one_cut(text, cut)?;
+    let mut wants = Vec::new(alloc);
+    for letter in letters {
+        wants.push(if *letter == b'B' {
+            Want::Block
+        } else {
+            Want::Line
+        })?;
     }
-    text.extend_from_slice(b"]")
+    cut_all(alloc, limit, pieces, &wants)
 }
 
 /// Writes what was cut, and a space.
-fn put_one_cut(text: &mut Vec<u8>, cut: &Cut) -> Result<(), AllocError> {
+fn put_cut(cut: &Cut, sheet: &mut Sheet) {
     match cut {
-        Cut::Line(line) => put_in(text, b"Line", line)?,
-        Cut::Block(block) => put_whole(text, block)?,
-        Cut::TooLong => text.extend_from_slice(b"TooLong")?,
+        Cut::Line(line) => put_in(b"Line", line, sheet),
+        Cut::Block(block) => put_whole(block, sheet),
+        Cut::TooLong => sheet.put(b"TooLong"),
     }
-    text.extend_from_slice(b" ")
+    sheet.put(b" ");
 }
 
-/// What is wanted: a block by a `B`, a line by any other octet.
-fn wants_of(alloc: Global, letters: &[u8]) -> Result<Vec<Want>, AllocError> {
-    letters
-        .iter()
-        .map(|letter| match letter {
-            b'B' => Want::Block,
-            _ => Want::Line,
-        })
-        .collect(alloc)
+/// Writes what is cut off a stream that comes octet by octet.
+fn put_cut_in_octets(limit: &[u8], wants: &[u8], stream: &[u8], sheet: &mut Sheet) {
+    match pieces_of(sheet.alloc, stream, 1) {
+        Ok(pieces) => put_cuts(limit, wants, &pieces, sheet),
+        Err(_) => sheet.lack(),
+    }
 }
 
-/// The pieces of a stream that comes octet by octet.
-fn pieces_of(alloc: Global, stream: &[u8]) -> Result<Vec<Vec<u8>>, AllocError> {
+/// The pieces of a stream that comes in pieces of this size.
+fn pieces_of(alloc: Global, stream: &[u8], size: usize) -> Result<Vec<Vec<u8>>, AllocError> {
     let mut pieces = Vec::new(alloc);
-    for octet in stream {
-        pieces.push(Vec::from_slice(alloc, &[*octet])?)?;
+    for piece in stream.chunks(size.max(1)) {
+        pieces.push(Vec::from_slice(alloc, piece)?)?;
     }
     Ok(pieces)
 }
 
-/// Writes what is cut off a stream that comes octet by octet.
-pub fn put_cut_in_octets(
-    alloc: Global,
-    text: &mut Vec<u8>,
-    limit: &[u8],
-    wants: &[u8],
-    stream: &[u8],
-) -> Result<(), AllocError> {
-    put_cut_pieces(alloc, text, limit, wants, &pieces_of(alloc, stream)?)
-}
-
 /// Writes what is cut off a stream of two pieces, wherever the first one ends.
-pub fn put_cut_in_two(
-    alloc: Global,
-    text: &mut Vec<u8>,
-    limit: &[u8],
-    wants: &[u8],
-    stream: &[u8],
-) -> Result<(), AllocError> {
-    let mut runs = Runs::new(alloc);
+fn put_cut_in_two(limit: &[u8], wants: &[u8], stream: &[u8], sheet: &mut Sheet) {
+    let mut runs = Runs::new(sheet.alloc);
     for place in 0..=stream.len() {
-        runs.add(
-            said_of(alloc, limit, wants, [&stream[..place], &stream[place..]])?,
-            text,
-        )?;
+        let (first, second) = stream.split_at(place);
+        let mut said = Sheet::new(sheet.alloc);
+        match both(sheet.alloc, first, second) {
+            Ok(pieces) => put_cuts(limit, wants, &pieces, &mut said),
+            Err(_) => sheet.lack(),
+        }
+        runs.add(said.onto(sheet), sheet);
     }
-    runs.end(text)
-}
-
-/// What is cut off two pieces, as it is written.
-fn said_of(
-    alloc: Global,
-    limit: &[u8],
-    wants: &[u8],
-    halves: [&[u8]; 2],
-) -> Result<Vec<u8>, AllocError> {
-    let mut said = Vec::new(alloc);
-    put_cut_pieces(alloc, &mut said, limit, wants, &both(alloc, halves)?)?;
-    Ok(said)
+    runs.end(sheet);
 }
 
 /// Two pieces.
-fn both(alloc: Global, halves: [&[u8]; 2]) -> Result<Vec<Vec<u8>>, AllocError> {
+fn both(alloc: Global, first: &[u8], second: &[u8]) -> Result<Vec<Vec<u8>>, AllocError> {
     let mut pieces = Vec::new(alloc);
-    for half in halves {
-        pieces.push(Vec::from_slice(alloc, half)?)?;
-    }
+    pieces.push(Vec::from_slice(alloc, first)?)?;
+    pieces.push(Vec::from_slice(alloc, second)?)?;
     Ok(pieces)
 }
