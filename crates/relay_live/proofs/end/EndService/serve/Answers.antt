@@ -28,7 +28,7 @@ loop-preserved-in-Some-draw g c =
       end = served.end ∙ before.end;
       peer = served.same.1 ∙ before.peer;
       config = served.same.0 ∙ before.config;
-      kept = λ trusted.
-          goes_on _ _ _ _ _ _ _ _ _ _ (ap (λ config. terms_of config.now) served.same.0)
-          served.end served.same.1 (before.kept trusted) (served.one_more trusted);
+      kept = λ honest trust.
+          goes_on honest _ _ _ _ _ _ _ _ _ _ (ap (λ config. terms_of config.now) served.same.0)
+          served.end served.same.1 (before.kept honest trust) (served.one_more honest trust);
     }
