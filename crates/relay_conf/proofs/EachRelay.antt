@@ -4,6 +4,7 @@ use Rattle.uwild.specs.Readings.{HasReading}
 use Rattle.uwild.proofs.EachText as texts
 use Rattle.relay_conf.specs.declared.faults.Fault.TheVariants.{Pattern}
 use Rattle.relay_conf.specs.Relay.{RawLine, SaidLine, Skipped, Own, MaxArticle, Cutoff, Remember}
+use Rattle.relay_conf.specs.Relay.{Patience}
 use Rattle.relay_conf.specs.Relay.{PeerLine, FeedLine, FeedSays, RawSays, LineSays, early_fault}
 use Rattle.relay_conf.specs.Relay.{relay_said, relay_line}
 use Rattle.relay_conf.specs.Readings.{RelayHasReading}
@@ -24,6 +25,7 @@ raw_says (Ok (Own identity)) = (Ok (Own identity), refl)
 raw_says (Ok (MaxArticle octets)) = (Ok (MaxArticle octets), refl)
 raw_says (Ok (Cutoff seconds)) = (Ok (Cutoff seconds), refl)
 raw_says (Ok (Remember seconds)) = (Ok (Remember seconds), refl)
+raw_says (Ok (Patience seconds)) = (Ok (Patience seconds), refl)
 raw_says (Ok (PeerLine name identity port)) = (Ok (PeerLine name identity port), refl)
 raw_says (Ok (FeedLine name ring text)) = feed_says name ring text (texts.each_reading text)
 

@@ -16,6 +16,7 @@ pub mod OneReading
 pub mod OneRelay
 pub mod OneStorage
 pub mod PathIdentities
+pub mod RangedRelay
 pub mod RelayReadings
 pub mod SizedBuffers
 pub mod SkippedCycbuff

@@ -5,6 +5,7 @@ use Rattle.news_terms.proofs.ExpressionFaults.{expression_without_fault}
 use Rattle.relay_conf.specs.declared.faults.LineFault.{LineFault}
 use Rattle.relay_conf.specs.Faults.{first_fault}
 use Rattle.relay_conf.specs.Relay.{RawLine, SaidLine, Skipped, Own, MaxArticle, Cutoff, Remember}
+use Rattle.relay_conf.specs.Relay.{Patience}
 use Rattle.relay_conf.specs.Relay.{PeerLine, FeedLine, FeedSays, RawSays, LineSays, early_fault}
 use Rattle.relay_conf.specs.Relay.{relay_said, relay_line, RelaySettings}
 use Rattle.relay_conf.specs.RelayViews.{HasFault, HasSettings}
@@ -30,6 +31,7 @@ raw_once (Ok (Own identity)) a b h k = h ∙ sym k
 raw_once (Ok (MaxArticle octets)) a b h k = h ∙ sym k
 raw_once (Ok (Cutoff seconds)) a b h k = h ∙ sym k
 raw_once (Ok (Remember seconds)) a b h k = h ∙ sym k
+raw_once (Ok (Patience seconds)) a b h k = h ∙ sym k
 raw_once (Ok (PeerLine name identity port)) a b h k = h ∙ sym k
 raw_once (Ok (FeedLine name ring text)) a b h k = feed_once name ring text a b h k
 

@@ -24,7 +24,8 @@ use Rattle.relay_conf.specs.declared.relay.Peer.{Peer}
 use Rattle.relay_conf.specs.Faults.{first_fault, whole_fault}
 use Rattle.relay_conf.specs.LineByLine.{SayEach}
 use Rattle.relay_conf.specs.Relay.{RelayLine, RawLine, SaidLine, Skipped, Own, MaxArticle, Cutoff}
-use Rattle.relay_conf.specs.Relay.{Remember, PeerLine, FeedLine, RawSays, LineSays, own_line}
+use Rattle.relay_conf.specs.Relay.{Remember, Patience, PeerLine, FeedLine, RawSays, LineSays}
+use Rattle.relay_conf.specs.Relay.{own_line}
 use Rattle.relay_conf.specs.Relay.{number_line, with_number, peer_ported, peer_line, feed_ringed}
 use Rattle.relay_conf.specs.Relay.{feed_line, relay_words, relay_line, own_of, peer_of, stand_of}
 use Rattle.relay_conf.specs.Relay.{early_fault, late_fault, no_own_fault, first_or, settings_of}
@@ -106,6 +107,7 @@ HasIdentity (Ok (Own identity)) = is_identity identity ≡ true
 HasIdentity (Ok (MaxArticle octets)) = Unit {0}
 HasIdentity (Ok (Cutoff seconds)) = Unit {0}
 HasIdentity (Ok (Remember seconds)) = Unit {0}
+HasIdentity (Ok (Patience seconds)) = Unit {0}
 HasIdentity (Ok (PeerLine name identity port)) = is_identity identity ≡ true
 HasIdentity (Ok (FeedLine name ring expression)) = Unit {0}
 
@@ -163,8 +165,10 @@ of_words (word ∷ after) =
     (λ e. of_number Cutoff (number_line 0 4000000000 (one_of after)) (λ n. tt))
     (of_either (bytes_eq word (codes "remember")) _ _
     (λ e. of_number Remember (number_line 0 4000000000 (one_of after)) (λ n. tt))
+    (of_either (bytes_eq word (codes "patience")) _ _
+    (λ e. of_number Patience (number_line 1 86400 (one_of after)) (λ n. tt))
     (of_either (bytes_eq word (codes "peer")) _ _ (λ e. of_peer (three_of after))
-    (of_either (bytes_eq word (codes "feed")) _ _ (λ e. of_feed (three_of after)) tt)))))
+    (of_either (bytes_eq word (codes "feed")) _ _ (λ e. of_feed (three_of after)) tt))))))
 
 -- and of a line.
 of_line : (line : List ℕ) → HasIdentity (relay_line line)
@@ -180,6 +184,7 @@ of_said (Ok (Own identity)) said h k = subst HasIdentity (sym h) k
 of_said (Ok (MaxArticle octets)) said h k = subst HasIdentity (sym h) tt
 of_said (Ok (Cutoff seconds)) said h k = subst HasIdentity (sym h) tt
 of_said (Ok (Remember seconds)) said h k = subst HasIdentity (sym h) tt
+of_said (Ok (Patience seconds)) said h k = subst HasIdentity (sym h) tt
 of_said (Ok (PeerLine name identity port)) said h k = subst HasIdentity (sym h) k
 of_said (Ok (FeedLine name ring text)) (Err fault) h k = tt
 of_said (Ok (FeedLine name ring text)) (Ok line) h k = subst (λ (l : _). HasIdentity (Ok l))
@@ -210,6 +215,7 @@ owns_pass (Ok (Own identity) ∷ said) h =
 owns_pass (Ok (MaxArticle octets) ∷ said) h = owns_pass said h.1
 owns_pass (Ok (Cutoff seconds) ∷ said) h = owns_pass said h.1
 owns_pass (Ok (Remember seconds) ∷ said) h = owns_pass said h.1
+owns_pass (Ok (Patience seconds) ∷ said) h = owns_pass said h.1
 owns_pass (Ok (PeerLine name identity port) ∷ said) h = owns_pass said h.1
 owns_pass (Ok (FeedLine name ring expression) ∷ said) h = owns_pass said h.1
 
@@ -223,6 +229,7 @@ peers_pass (Ok (Own identity) ∷ said) h = peers_pass said h.1
 peers_pass (Ok (MaxArticle octets) ∷ said) h = peers_pass said h.1
 peers_pass (Ok (Cutoff seconds) ∷ said) h = peers_pass said h.1
 peers_pass (Ok (Remember seconds) ∷ said) h = peers_pass said h.1
+peers_pass (Ok (Patience seconds) ∷ said) h = peers_pass said h.1
 peers_pass (Ok (PeerLine name identity port) ∷ said) h =
     and_from _ _ (identity_is_agent identity h.0) (peers_pass said h.1)
 peers_pass (Ok (FeedLine name ring expression) ∷ said) h = peers_pass said h.1

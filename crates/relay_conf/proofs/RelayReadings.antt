@@ -18,8 +18,9 @@ use Rattle.relay_conf.specs.declared.relay.NamedFeed.{NamedFeed}
 use Rattle.relay_conf.specs.Drafts.{StepGives, IsDrawnFrom}
 use Rattle.relay_conf.specs.Faults.{first_fault, whole_fault, unless_fault, ConfGives}
 use Rattle.relay_conf.specs.Relay.{RelayLine, SaidLine, LineSays, Stand, stand_of, Skipped, Own}
-use Rattle.relay_conf.specs.Relay.{MaxArticle, Cutoff, Remember, PeerLine, FeedLine, own_of}
-use Rattle.relay_conf.specs.Relay.{max_article_of, cutoff_of, remember_of, peer_of, feed_name_of}
+use Rattle.relay_conf.specs.Relay.{MaxArticle, Cutoff, Remember, Patience, PeerLine, FeedLine}
+use Rattle.relay_conf.specs.Relay.{own_of, max_article_of, cutoff_of, remember_of, patience_of}
+use Rattle.relay_conf.specs.Relay.{peer_of, feed_name_of}
 use Rattle.relay_conf.specs.Relay.{feed_of, once, peer_fault, feed_fault, line_fault, early_fault}
 use Rattle.relay_conf.specs.Relay.{late_fault, is_peer, peer_number, no_own_fault, first_or}
 use Rattle.relay_conf.specs.Relay.{first_of, relay_said, relay_line, RelaySettings}
@@ -44,6 +45,7 @@ join st line =
       sizes = st.sizes ++ option_to_list (max_article_of line);
       cutoffs = st.cutoffs ++ option_to_list (cutoff_of line);
       remembers = st.remembers ++ option_to_list (remember_of line);
+      patiences = st.patiences ++ option_to_list (patience_of line);
       peers = st.peers ++ option_to_list (peer_of line);
       feed_names = st.feed_names ++ option_to_list (feed_name_of line);
     }
@@ -56,6 +58,7 @@ stand_one said line = rw (
   filter_one max_article_of said line,
   filter_one cutoff_of said line,
   filter_one remember_of said line,
+  filter_one patience_of said line,
   filter_one peer_of said line,
   filter_one feed_name_of said line,
 ) refl
@@ -80,6 +83,9 @@ stand_after number r (Cutoff seconds) h = simp append-nil
 stand_after number r (Remember seconds) h = simp append-nil
     (ap (λ (xs : List ℕ). record (stand_view r) { remembers = xs })
     (once_none r.remember seconds h))
+stand_after number r (Patience seconds) h = simp append-nil
+    (ap (λ (xs : List ℕ). record (stand_view r) { patiences = xs })
+    (once_none r.patience seconds h))
 stand_after number r (PeerLine name identity port) h = simp append-nil
 stand_after number r (FeedLine name ring expression) h = simp (append-nil, map-append)
 
@@ -105,6 +111,7 @@ feeds_after number r (Own identity) = simp append-nil
 feeds_after number r (MaxArticle octets) = simp append-nil
 feeds_after number r (Cutoff seconds) = simp append-nil
 feeds_after number r (Remember seconds) = simp append-nil
+feeds_after number r (Patience seconds) = simp append-nil
 feeds_after number r (PeerLine name identity port) = simp append-nil
 feeds_after number r (FeedLine name ring expression) = refl
 
@@ -125,6 +132,7 @@ few_after number r (Own identity) h few = few
 few_after number r (MaxArticle octets) h few = few
 few_after number r (Cutoff seconds) h few = few
 few_after number r (Remember seconds) h few = few
+few_after number r (Patience seconds) h few = few
 few_after number r (PeerLine name identity port) h few = let room = peer_room r.peers name h in
     simp length-append (omega (arith, room))
 few_after number r (FeedLine name ring expression) h few = few
@@ -203,6 +211,8 @@ late_is_unknown peers before (Ok (Cutoff seconds) ∷ said) = late_next peers be
     (Ok (Cutoff seconds)) said (late_is_unknown peers (before ++ Ok (Cutoff seconds) ∷ []) said)
 late_is_unknown peers before (Ok (Remember seconds) ∷ said) = late_next peers before
     (Ok (Remember seconds)) said (late_is_unknown peers (before ++ Ok (Remember seconds) ∷ []) said)
+late_is_unknown peers before (Ok (Patience seconds) ∷ said) = late_next peers before
+    (Ok (Patience seconds)) said (late_is_unknown peers (before ++ Ok (Patience seconds) ∷ []) said)
 late_is_unknown peers before (Ok (PeerLine name identity port) ∷ said) = late_next peers before
     (Ok (PeerLine name identity port)) said
     (late_is_unknown peers (before ++ Ok (PeerLine name identity port) ∷ []) said)
@@ -233,6 +243,8 @@ feeds_are_numbered peers number (Ok (MaxArticle octets) ∷ said) = feeds_are_nu
 feeds_are_numbered peers number (Ok (Cutoff seconds) ∷ said) = feeds_are_numbered peers
     (number + 1) said
 feeds_are_numbered peers number (Ok (Remember seconds) ∷ said) = feeds_are_numbered peers
+    (number + 1) said
+feeds_are_numbered peers number (Ok (Patience seconds) ∷ said) = feeds_are_numbered peers
     (number + 1) said
 feeds_are_numbered peers number (Ok (PeerLine name identity port) ∷ said) = feeds_are_numbered peers
     (number + 1) said
@@ -314,6 +326,7 @@ said_by_stand st feeds =
       max_article = first_or 1000000 st.sizes;
       cutoff = first_or 864000 st.cutoffs;
       remember = first_of st.remembers;
+      patience = first_or 3600 st.patiences;
       peers = st.peers;
       feeds = map (numbered_feed st.peers) feeds;
     })))
@@ -334,6 +347,7 @@ reading_says said r none reading =
       first_or_is r.max_article 1000000,
       first_or_is r.cutoff 864000,
       first_of_is r.remember,
+      first_or_is r.patience 3600,
     ) refl)
 
 -- The draft of no lines.

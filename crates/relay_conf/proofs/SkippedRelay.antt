@@ -7,7 +7,8 @@ use Rattle.relay_conf.specs.declared.relay.Feed.{Feed}
 use Rattle.relay_conf.specs.Faults.{first_fault, whole_fault}
 use Rattle.line_words.specs.Comments.{is_skipped}
 use Rattle.relay_conf.specs.Relay.{RawLine, SaidLine, Skipped, RawSays, LineSays, Stand, stand_of}
-use Rattle.relay_conf.specs.Relay.{own_of, max_article_of, cutoff_of, remember_of, peer_of}
+use Rattle.relay_conf.specs.Relay.{own_of, max_article_of, cutoff_of, remember_of, patience_of}
+use Rattle.relay_conf.specs.Relay.{peer_of}
 use Rattle.relay_conf.specs.Relay.{feed_name_of, feed_of, line_fault, early_fault, late_fault}
 use Rattle.relay_conf.specs.Relay.{no_own_fault, first_or, first_of, settings_of, relay_said}
 use Rattle.relay_conf.specs.Relay.{relay_line, RelaySettings}
@@ -25,6 +26,7 @@ stand_same before after =
       kept_same max_article_of before (Ok Skipped) after refl,
       kept_same cutoff_of before (Ok Skipped) after refl,
       kept_same remember_of before (Ok Skipped) after refl,
+      kept_same patience_of before (Ok Skipped) after refl,
       kept_same peer_of before (Ok Skipped) after refl,
       kept_same feed_name_of before (Ok Skipped) after refl,
     ) refl
@@ -37,6 +39,7 @@ settings_by stand feeds =
       max_article = first_or 1000000 stand.sizes;
       cutoff = first_or 864000 stand.cutoffs;
       remember = first_of stand.remembers;
+      patience = first_or 3600 stand.patiences;
       peers = stand.peers;
       feeds = feeds;
     }

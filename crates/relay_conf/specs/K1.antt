@@ -44,6 +44,7 @@ k1_relay =
       max_article = 1000000;
       cutoff = 864000;
       remember = None;
+      patience = 3600;
       peers = record { name = codes "p1"; identity = codes "one.example"; port = 0 }
           ∷ record { name = codes "p2"; identity = codes "two.example"; port = 0 } ∷ [];
       feeds = record { peer = 1; ring = 2; expression = every_newsgroup } ∷ [];

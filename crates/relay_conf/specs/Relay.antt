@@ -30,6 +30,8 @@ pub data RelayLine (E : Type 0) : Type 0 where
   Cutoff : (seconds : ℕ) → RelayLine E
   -- `remember N`
   Remember : (seconds : ℕ) → RelayLine E
+  -- `patience N`
+  Patience : (seconds : ℕ) → RelayLine E
   -- `peer NAME IDENTITY PORT`
   PeerLine : (name identity : List ℕ) (port : ℕ) → RelayLine E
   -- `feed NAME RING EXPR`
@@ -100,6 +102,8 @@ relay_words (word ∷ after) =
     then with_number Cutoff (number_line 0 4000000000 (one_of after))
     else if bytes_eq word (codes "remember")
     then with_number Remember (number_line 0 4000000000 (one_of after))
+    else if bytes_eq word (codes "patience")
+    then with_number Patience (number_line 1 86400 (one_of after))
     else if bytes_eq word (codes "peer") then peer_line (three_of after)
     else if bytes_eq word (codes "feed") then feed_line (three_of after)
     else Err UnknownKey
@@ -130,6 +134,7 @@ RawSays (Ok (Own identity)) said = said ≡ Ok (Own identity)
 RawSays (Ok (MaxArticle octets)) said = said ≡ Ok (MaxArticle octets)
 RawSays (Ok (Cutoff seconds)) said = said ≡ Ok (Cutoff seconds)
 RawSays (Ok (Remember seconds)) said = said ≡ Ok (Remember seconds)
+RawSays (Ok (Patience seconds)) said = said ≡ Ok (Patience seconds)
 RawSays (Ok (PeerLine name identity port)) said = said ≡ Ok (PeerLine name identity port)
 RawSays (Ok (FeedLine name ring text)) said = FeedSays name ring text said
 
@@ -145,6 +150,7 @@ own_of (Ok (Own identity)) = Some identity
 own_of (Ok (MaxArticle octets)) = None
 own_of (Ok (Cutoff seconds)) = None
 own_of (Ok (Remember seconds)) = None
+own_of (Ok (Patience seconds)) = None
 own_of (Ok (PeerLine name identity port)) = None
 own_of (Ok (FeedLine name ring expression)) = None
 
@@ -156,6 +162,7 @@ max_article_of (Ok (Own identity)) = None
 max_article_of (Ok (MaxArticle octets)) = Some octets
 max_article_of (Ok (Cutoff seconds)) = None
 max_article_of (Ok (Remember seconds)) = None
+max_article_of (Ok (Patience seconds)) = None
 max_article_of (Ok (PeerLine name identity port)) = None
 max_article_of (Ok (FeedLine name ring expression)) = None
 
@@ -167,6 +174,7 @@ cutoff_of (Ok (Own identity)) = None
 cutoff_of (Ok (MaxArticle octets)) = None
 cutoff_of (Ok (Cutoff seconds)) = Some seconds
 cutoff_of (Ok (Remember seconds)) = None
+cutoff_of (Ok (Patience seconds)) = None
 cutoff_of (Ok (PeerLine name identity port)) = None
 cutoff_of (Ok (FeedLine name ring expression)) = None
 
@@ -178,8 +186,21 @@ remember_of (Ok (Own identity)) = None
 remember_of (Ok (MaxArticle octets)) = None
 remember_of (Ok (Cutoff seconds)) = None
 remember_of (Ok (Remember seconds)) = Some seconds
+remember_of (Ok (Patience seconds)) = None
 remember_of (Ok (PeerLine name identity port)) = None
 remember_of (Ok (FeedLine name ring expression)) = None
+
+-- how long a line says that a silent peer is waited for
+abbrev pub patience_of : SaidLine → Option ℕ
+patience_of (Err fault) = None
+patience_of (Ok Skipped) = None
+patience_of (Ok (Own identity)) = None
+patience_of (Ok (MaxArticle octets)) = None
+patience_of (Ok (Cutoff seconds)) = None
+patience_of (Ok (Remember seconds)) = None
+patience_of (Ok (Patience seconds)) = Some seconds
+patience_of (Ok (PeerLine name identity port)) = None
+patience_of (Ok (FeedLine name ring expression)) = None
 
 -- the peer that a line says
 abbrev pub peer_of : SaidLine → Option Peer
@@ -189,6 +210,7 @@ peer_of (Ok (Own identity)) = None
 peer_of (Ok (MaxArticle octets)) = None
 peer_of (Ok (Cutoff seconds)) = None
 peer_of (Ok (Remember seconds)) = None
+peer_of (Ok (Patience seconds)) = None
 peer_of (Ok (PeerLine name identity port)) =
     Some (record { name = name; identity = identity; port = port })
 peer_of (Ok (FeedLine name ring expression)) = None
@@ -201,6 +223,7 @@ feed_name_of (Ok (Own identity)) = None
 feed_name_of (Ok (MaxArticle octets)) = None
 feed_name_of (Ok (Cutoff seconds)) = None
 feed_name_of (Ok (Remember seconds)) = None
+feed_name_of (Ok (Patience seconds)) = None
 feed_name_of (Ok (PeerLine name identity port)) = None
 feed_name_of (Ok (FeedLine name ring expression)) = Some name
 
@@ -217,6 +240,7 @@ feed_of peers (Ok (Own identity)) = None
 feed_of peers (Ok (MaxArticle octets)) = None
 feed_of peers (Ok (Cutoff seconds)) = None
 feed_of peers (Ok (Remember seconds)) = None
+feed_of peers (Ok (Patience seconds)) = None
 feed_of peers (Ok (PeerLine name identity port)) = None
 feed_of peers (Ok (FeedLine name ring expression)) =
     Some (record { peer = peer_number peers name; ring = ring; expression = expression })
@@ -227,6 +251,7 @@ pub record Stand : Type 0 where
   pub sizes : List ℕ
   pub cutoffs : List ℕ
   pub remembers : List ℕ
+  pub patiences : List ℕ
   pub peers : List Peer
   pub feed_names : List (List ℕ)
 
@@ -238,6 +263,7 @@ stand_of said =
       sizes = filter_map max_article_of said;
       cutoffs = filter_map cutoff_of said;
       remembers = filter_map remember_of said;
+      patiences = filter_map patience_of said;
       peers = filter_map peer_of said;
       feed_names = filter_map feed_name_of said;
     }
@@ -267,6 +293,7 @@ line_fault stand (Ok (Own identity)) = once stand.owns
 line_fault stand (Ok (MaxArticle octets)) = once stand.sizes
 line_fault stand (Ok (Cutoff seconds)) = once stand.cutoffs
 line_fault stand (Ok (Remember seconds)) = once stand.remembers
+line_fault stand (Ok (Patience seconds)) = once stand.patiences
 line_fault stand (Ok (PeerLine name identity port)) = peer_fault stand.peers name
 line_fault stand (Ok (FeedLine name ring expression)) = feed_fault stand.feed_names name
 
@@ -308,6 +335,7 @@ pub record RelaySettings : Type 0 where
   pub max_article : ℕ
   pub cutoff : ℕ
   pub remember : Option ℕ
+  pub patience : ℕ
   pub peers : List Peer
   pub feeds : List Feed
 
@@ -319,6 +347,7 @@ settings_of said =
       max_article = first_or 1000000 (stand_of said).sizes;
       cutoff = first_or 864000 (stand_of said).cutoffs;
       remember = first_of (stand_of said).remembers;
+      patience = first_or 3600 (stand_of said).patiences;
       peers = (stand_of said).peers;
       feeds = filter_map (feed_of (stand_of said).peers) said;
     }

@@ -16,7 +16,8 @@ use Rattle.relay_conf.specs.declared.relay.RelayDraft.{RelayDraft}
 use Rattle.relay_conf.specs.Faults.{whole_fault, unless_fault}
 use Rattle.relay_conf.specs.Drafts.{ReadingGives}
 use Rattle.relay_conf.specs.Relay.{RelayLine, RawLine, SaidLine, RawSays, Stand, stand_of, Skipped}
-use Rattle.relay_conf.specs.Relay.{Own, MaxArticle, Cutoff, Remember, PeerLine, FeedLine}
+use Rattle.relay_conf.specs.Relay.{Own, MaxArticle, Cutoff, Remember, Patience, PeerLine}
+use Rattle.relay_conf.specs.Relay.{FeedLine}
 use Rattle.relay_conf.specs.Relay.{line_fault, peer_number, is_peer, no_own_fault, RelaySettings}
 
 -- what lines so far say
@@ -25,6 +26,7 @@ pub record Reading : Type 0 where
   pub max_article : Option ℕ
   pub cutoff : Option ℕ
   pub remember : Option ℕ
+  pub patience : Option ℕ
   pub peers : List Peer
   pub feeds : List NamedFeed
 
@@ -36,6 +38,7 @@ draft_view d =
       max_article = d.max_article;
       cutoff = d.cutoff;
       remember = d.remember;
+      patience = d.patience;
       peers = d.peers.items;
       feeds = d.feeds.items;
     }
@@ -48,6 +51,7 @@ nothing =
       max_article = None;
       cutoff = None;
       remember = None;
+      patience = None;
       peers = [];
       feeds = [];
     }
@@ -64,6 +68,7 @@ stand_view r =
       sizes = option_to_list r.max_article;
       cutoffs = option_to_list r.cutoff;
       remembers = option_to_list r.remember;
+      patiences = option_to_list r.patience;
       peers = r.peers;
       feed_names = map (λ feed. feed.name) r.feeds;
     }
@@ -75,6 +80,7 @@ after_line number r (Own identity) = record r { own = Some identity }
 after_line number r (MaxArticle octets) = record r { max_article = Some octets }
 after_line number r (Cutoff seconds) = record r { cutoff = Some seconds }
 after_line number r (Remember seconds) = record r { remember = Some seconds }
+after_line number r (Patience seconds) = record r { patience = Some seconds }
 after_line number r (PeerLine name identity port) =
     record r { peers = r.peers ++ record { name = name; identity = identity; port = port } ∷ [] }
 after_line number r (FeedLine name ring expression) =
@@ -114,6 +120,7 @@ named_of number (Ok (Own identity)) = None
 named_of number (Ok (MaxArticle octets)) = None
 named_of number (Ok (Cutoff seconds)) = None
 named_of number (Ok (Remember seconds)) = None
+named_of number (Ok (Patience seconds)) = None
 named_of number (Ok (PeerLine name identity port)) = None
 named_of number (Ok (FeedLine name ring expression)) =
     Some (record { line = number; name = name; ring = ring; expression = expression })
@@ -164,6 +171,7 @@ reading_settings r =
       max_article = unwrap_or r.max_article 1000000;
       cutoff = unwrap_or r.cutoff 864000;
       remember = r.remember;
+      patience = unwrap_or r.patience 3600;
       peers = r.peers;
       feeds = map (numbered_feed r.peers) r.feeds;
     }

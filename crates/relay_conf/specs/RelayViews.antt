@@ -9,8 +9,8 @@ use Rattle.relay_conf.specs.declared.settings.Relay.{Relay}
 use Rattle.relay_conf.specs.Words.{is_name}
 use Rattle.relay_conf.specs.LineByLine.{SayTogether, HaveFault, LinesGive}
 use Rattle.relay_conf.specs.Relay.{LineSays, RelaySettings, early_fault, relay_said, RelayLine}
-use Rattle.relay_conf.specs.Relay.{RawLine, Skipped, Own, MaxArticle, Cutoff, Remember, PeerLine}
-use Rattle.relay_conf.specs.Relay.{FeedLine}
+use Rattle.relay_conf.specs.Relay.{RawLine, Skipped, Own, MaxArticle, Cutoff, Remember, Patience}
+use Rattle.relay_conf.specs.Relay.{PeerLine, FeedLine}
 
 -- a line of relay.conf as the definitions have it, its expression as text
 abbrev pub raw_view : Line → RelayLine (List ℕ)
@@ -19,6 +19,7 @@ raw_view (lines.Own identity) = Own identity.now
 raw_view (lines.MaxArticle octets) = MaxArticle octets
 raw_view (lines.Cutoff seconds) = Cutoff seconds
 raw_view (lines.Remember seconds) = Remember seconds
+raw_view (lines.Patience seconds) = Patience seconds
 raw_view (lines.Peer name identity port) = PeerLine name.now identity.now port
 raw_view (lines.Feed name ring text) = FeedLine name.now ring text.now
 
@@ -34,6 +35,7 @@ IsNamed (lines.Own identity) = Unit {0}
 IsNamed (lines.MaxArticle octets) = Unit {0}
 IsNamed (lines.Cutoff seconds) = Unit {0}
 IsNamed (lines.Remember seconds) = Unit {0}
+IsNamed (lines.Patience seconds) = Unit {0}
 IsNamed (lines.Peer name identity port) = Unit {0}
 IsNamed (lines.Feed name ring text) = IsTrue (is_name name.now)
 
@@ -45,6 +47,7 @@ relay_view relay =
       max_article = relay.max_article;
       cutoff = relay.cutoff;
       remember = relay.remember;
+      patience = relay.patience;
       peers = relay.peers.items;
       feeds = relay.feeds.items;
     }

@@ -22,3 +22,5 @@ pub record IsSoundRelay (settings : RelaySettings) : Type 0 where
   pub most_octets : settings.max_article ≤ 16777216
   pub cutoff : settings.cutoff ≤ 4000000000
   pub remember : ForSome settings.remember (λ seconds. seconds ≤ 4000000000)
+  pub some_patience : 1 ≤ settings.patience
+  pub most_patience : settings.patience ≤ 86400

@@ -45,6 +45,9 @@ const MAX_ARTICLE: u32 = 1_000_000;
 /// The age without `cutoff`.
 const CUTOFF: u64 = 864_000;
 
+/// The seconds without `patience`.
+const PATIENCE: u32 = 3_600;
+
 /// Reads the text of relay.conf.
 pub fn read_relay(alloc: Global, text: &[u8]) -> Result<Relay, ConfError>
     ensures { RelayGives result (lines_of text.now) }
@@ -61,6 +64,7 @@ pub(crate) struct RelayDraft {
     max_article: Option<u32>,
     cutoff: Option<u64>,
     remember: Option<u64>,
+    patience: Option<u32>,
     peers: Vec<Peer>,
     feeds: Vec<NamedFeed>,
     /// The names of the feeds.
@@ -108,6 +112,7 @@ impl RelayDraft {
             max_article: None,
             cutoff: None,
             remember: None,
+            patience: None,
             peers: Vec::new(alloc),
             feeds: Vec::new(alloc),
             feed_names: NameSet::new(alloc),
@@ -127,6 +132,7 @@ impl RelayDraft {
             Line::MaxArticle(octets) => set_once(&mut self.max_article, octets),
             Line::Cutoff(seconds) => set_once(&mut self.cutoff, seconds),
             Line::Remember(seconds) => set_once(&mut self.remember, seconds),
+            Line::Patience(seconds) => set_once(&mut self.patience, seconds),
             Line::Peer(name, identity, port) => self.add_peer(alloc, name, identity, port),
             Line::Feed(name, ring, text) => self.add_feed(alloc, number, name, ring, text),
         }
@@ -200,6 +206,7 @@ fn finished(alloc: Global, draft: RelayDraft) -> Result<Relay, ConfError>
         max_article,
         cutoff,
         remember,
+        patience,
         peers,
         feeds,
         feed_names: _,
@@ -216,6 +223,7 @@ fn finished(alloc: Global, draft: RelayDraft) -> Result<Relay, ConfError>
         max_article: max_article.unwrap_or(MAX_ARTICLE),
         cutoff: cutoff.unwrap_or(CUTOFF),
         remember,
+        patience: patience.unwrap_or(PATIENCE),
         peers,
         feeds,
     })

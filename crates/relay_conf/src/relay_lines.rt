@@ -22,6 +22,8 @@ pub(crate) enum Line<'a> {
     Cutoff(u64),
     /// The seconds after which an id may be forgotten.
     Remember(u64),
+    /// The seconds for which a silent peer is waited for.
+    Patience(u32),
     /// A peer: its name, its identity and its port.
     Peer(&'a [u8], &'a [u8], u16),
     /// A feed: the name of its peer, its ring and the text of its expression.
@@ -48,6 +50,8 @@ pub(crate) fn relay_line(line: &[u8]) -> Result<Line<'_>, Fault>
         Ok(Line::Cutoff(number_line(0, 4_000_000_000, rest)?))
     } else if word == b"remember".as_slice() {
         Ok(Line::Remember(number_line(0, 4_000_000_000, rest)?))
+    } else if word == b"patience".as_slice() {
+        Ok(Line::Patience(number_line(1, 86_400, rest)? as u32))
     } else if word == b"peer".as_slice() {
         peer_line(rest)
     } else if word == b"feed".as_slice() {

@@ -49,6 +49,8 @@ pub struct Relay {
     pub cutoff: u64,
     /// The seconds after which an id may be forgotten; without it none is.
     pub remember: Option<u64>,
+    /// The seconds for which a silent peer is waited for.
+    pub patience: u32,
     pub peers: Vec<Peer>,
     pub feeds: Vec<Feed>,
     pub ghost sound: { IsSoundRelay (record {
@@ -56,6 +58,7 @@ pub struct Relay {
       max_article = max_article;
       cutoff = cutoff;
       remember = remember;
+      patience = patience;
       peers = peers.items;
       feeds = feeds.items;
     }) } by { Prim.hlevel props },

@@ -40,6 +40,7 @@ invariant_of-result c =
         max_article = octets;
         cutoff = c.unwrap_or-2.result;
         remember = r.remember;
+        patience = c.unwrap_or-3.result;
         peers = r.peers;
         feeds = c.in_ok-feeds.feeds.items;
       })) (sym c.unwrap_or.ensures)
@@ -48,7 +49,17 @@ invariant_of-result c =
             max_article = unwrap_or r.max_article 1000000;
             cutoff = seconds;
             remember = r.remember;
+            patience = c.unwrap_or-3.result;
             peers = r.peers;
             feeds = c.in_ok-feeds.feeds.items;
-          })) (sym c.unwrap_or-2.ensures) sound);
+          })) (sym c.unwrap_or-2.ensures)
+          (subst (λ seconds. IsSoundRelay (record {
+            own = c.in-Some.own;
+            max_article = unwrap_or r.max_article 1000000;
+            cutoff = unwrap_or r.cutoff 864000;
+            remember = r.remember;
+            patience = seconds;
+            peers = r.peers;
+            feeds = c.in_ok-feeds.feeds.items;
+          })) (sym c.unwrap_or-3.ensures) sound));
     }

@@ -1,5 +1,6 @@
 use Rattle.std.proofs.Common.{refl, ap, Some, Ok, List, ℕ, Option}
-use Rattle.relay_conf.specs.Relay.{Skipped, Own, MaxArticle, Cutoff, Remember, PeerLine}
+use Rattle.relay_conf.specs.Relay.{Skipped, Own, MaxArticle, Cutoff, Remember, Patience}
+use Rattle.relay_conf.specs.Relay.{PeerLine}
 use Rattle.relay_conf.specs.RelayDraft.{Reading, draft_view, after_line}
 use Rattle.relay_conf.proofs.LinesRead.{read_by}
 use Rattle.relay_conf.proofs.relay.RelayDraft.add.Goals as goal
@@ -43,6 +44,15 @@ returns-in-Remember-clause-step c = λ listed.
     (after_line c.args.number) _ c.set_once-in-Remember.new.slot (Some seconds) (Remember seconds)
     c.set_once-in-Remember.result refl c.set_once-in-Remember.ensures.fault
     c.set_once-in-Remember.ensures.set refl)
+
+pub returns-in-Patience-clause-step : goal.returns-in-Patience-clause-step
+returns-in-Patience-clause-step c = λ listed.
+    let seconds = c.in-Patience.seconds in
+    rw c.in-Patience.is
+    (read_by (λ (slot : Option ℕ). draft_view (record c.args.self.now { patience = slot })) _ _
+    (after_line c.args.number) _ c.set_once-in-Patience.new.slot (Some seconds) (Patience seconds)
+    c.set_once-in-Patience.result refl c.set_once-in-Patience.ensures.fault
+    c.set_once-in-Patience.ensures.set refl)
 
 pub returns-in-Peer-clause-step : goal.returns-in-Peer-clause-step
 returns-in-Peer-clause-step c = λ listed.
