@@ -132,9 +132,9 @@ all_due OfToken gathered octets said short faults = tt
 pub no_text : (fetch : Fetch) (last : Chunk) (said : Vec ℕ)
     → ((octets : List ℕ) → last ≡ chunks.Found octets → ⊥) → SaysFault fetch last (Some said)
 no_text fetch (chunks.Found octets) said none = absurd (none octets refl)
-no_text fetch chunks.Gone said none = tt
+no_text fetch (chunks.Gone front) said none = tt
 no_text fetch chunks.Unknown said none = tt
-no_text fetch chunks.Device said none = tt
+no_text fetch (chunks.Device fault) said none = tt
 
 -- it ends where nothing was found, and that is said
 pub heard_nothing : (fetch : Fetch) (last : Chunk) (now said : List ℕ) (found : Fetched)
@@ -144,7 +144,7 @@ pub heard_nothing : (fetch : Fetch) (last : Chunk) (now said : List ℕ) (found 
     → (goes_on fetch.asked fetch.token fetch.had found ≡ false)
     × Replies fetch.asked fetch.token found said
 heard_nothing fetch (chunks.Found octets) now said found none says is = absurd (none octets refl)
-heard_nothing fetch chunks.Gone now said found none says is = (
+heard_nothing fetch (chunks.Gone front) now said found none says is = (
   ap (goes_on fetch.asked fetch.token fetch.had) is,
   subst (λ (x : Fetched). Replies fetch.asked fetch.token x said) (sym is) says,
 )
@@ -152,7 +152,7 @@ heard_nothing fetch chunks.Unknown now said found none says is = (
   ap (goes_on fetch.asked fetch.token fetch.had) is,
   subst (λ (x : Fetched). Replies fetch.asked fetch.token x said) (sym is) says,
 )
-heard_nothing fetch chunks.Device now said found none says is = (
+heard_nothing fetch (chunks.Device fault) now said found none says is = (
   ap (goes_on fetch.asked fetch.token fetch.had) is,
   subst (λ (x : Fetched). Replies fetch.asked fetch.token x said) (sym is) says,
 )
@@ -200,7 +200,8 @@ pub any_last : (fetch : Fetch) (octets now said : List ℕ)
     → SaysSuch (ShowsAsked fetch.asked fetch.token now) said
     → (goes_on fetch.asked fetch.token fetch.had (given fetch.gathered (chunks.Found octets))
     ≡ false)
-    × SaysSuch (ReplyToAny fetch.asked fetch.token (given fetch.gathered (chunks.Found octets))) said
+    × SaysSuch (ReplyToAny fetch.asked fetch.token (given fetch.gathered (chunks.Found octets)))
+    said
 any_last fetch octets now said e short last says = (
   le-ltb (fetch.had + 1) (turns_of fetch.asked fetch.token) last,
   all_given fetch.asked fetch.token fetch.gathered octets said short
@@ -214,6 +215,6 @@ pub any_nothing : (fetch : Fetch) (last : Chunk) (now said : List ℕ)
     → (goes_on fetch.asked fetch.token fetch.had (given fetch.gathered last) ≡ false)
     × SaysSuch (ReplyToAny fetch.asked fetch.token (given fetch.gathered last)) said
 any_nothing fetch (chunks.Found octets) now said none says = absurd (none octets refl)
-any_nothing fetch chunks.Gone now said none says = (refl, says)
+any_nothing fetch (chunks.Gone front) now said none says = (refl, says)
 any_nothing fetch chunks.Unknown now said none says = (refl, says)
-any_nothing fetch chunks.Device now said none says = (refl, says)
+any_nothing fetch (chunks.Device fault) now said none says = (refl, says)

@@ -66,9 +66,9 @@ pub record IsNextOf (fetch : Fetch) (octets text : List ℕ) : Type 0 where
 abbrev pub FoundAs : Fetch → Chunk → Fetched → Type 0
 FoundAs fetch (chunks.Found octets) found =
     (text : List ℕ) × (found ≡ fetches.Article text) × IsNextOf fetch octets text
-FoundAs fetch chunks.Gone found = found ≡ fetches.Gone
+FoundAs fetch (chunks.Gone front) found = found ≡ fetches.Gone
 FoundAs fetch chunks.Unknown found = found ≡ fetches.NotKnown
-FoundAs fetch chunks.Device found = found ≡ fetches.NotRead
+FoundAs fetch (chunks.Device fault) found = found ≡ fetches.NotRead
 
 -- these are the octets of what is said of a fetch that finds this
 abbrev pub Replies : states.Asked → Token → Fetched → List ℕ → Type 0

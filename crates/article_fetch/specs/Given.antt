@@ -55,16 +55,16 @@ SaysSuch IsSuch octets =
 -- what a fetch was given with the last block that it read, once this text is gathered
 abbrev pub found_with : Chunk → List ℕ → Fetched
 found_with (chunks.Found octets) text = fetches.Article text
-found_with chunks.Gone text = fetches.Gone
+found_with (chunks.Gone front) text = fetches.Gone
 found_with chunks.Unknown text = fetches.NotKnown
-found_with chunks.Device text = fetches.NotRead
+found_with (chunks.Device fault) text = fetches.NotRead
 
 -- what is gathered once this was read of the next block
 abbrev pub gathered_with : List ℕ → Chunk → List ℕ
 gathered_with gathered (chunks.Found octets) = gathered ++ octets
-gathered_with gathered chunks.Gone = []
+gathered_with gathered (chunks.Gone front) = []
 gathered_with gathered chunks.Unknown = []
-gathered_with gathered chunks.Device = []
+gathered_with gathered (chunks.Device fault) = []
 
 -- what a fetch that has gathered this was given with the next block
 abbrev pub given : List ℕ → Chunk → Fetched

@@ -1,3 +1,4 @@
+pub mod Chunks
 pub mod Fetch
 pub mod Given
 pub mod Inside

@@ -31,15 +31,15 @@ FaultsAsked OfToken text said = Unit {0}
 -- the same by what was read last, once the text is gathered
 abbrev pub FaultsLast : Asked → Chunk → (text said : List ℕ) → Type 0
 FaultsLast asked (chunks.Found octets) text said = FaultsAsked asked text said
-FaultsLast asked chunks.Gone text said = Unit {0}
+FaultsLast asked (chunks.Gone front) text said = Unit {0}
 FaultsLast asked chunks.Unknown text said = Unit {0}
-FaultsLast asked chunks.Device text said = Unit {0}
+FaultsLast asked (chunks.Device fault) text said = Unit {0}
 
 -- the same of a fetch that has heard its last block: the text is what it had gathered and the block
 abbrev pub SaysFault : Fetch → Chunk → Option (Vec ℕ) → Type 0
 SaysFault fetch chunk None = Unit {0}
 SaysFault fetch (chunks.Found octets) (Some said) =
     FaultsAsked fetch.asked (fetch.gathered ++ octets) said.items
-SaysFault fetch chunks.Gone (Some said) = Unit {0}
+SaysFault fetch (chunks.Gone front) (Some said) = Unit {0}
 SaysFault fetch chunks.Unknown (Some said) = Unit {0}
-SaysFault fetch chunks.Device (Some said) = Unit {0}
+SaysFault fetch (chunks.Device fault) (Some said) = Unit {0}

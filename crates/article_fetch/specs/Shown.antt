@@ -43,13 +43,14 @@ ShowsArticle asked token gathered octets =
 -- these are the octets of what is said at the end of a fetch, by what was read last
 abbrev pub SaysLast : Asked → Token → Chunk → (gathered octets : List ℕ) → Type 0
 SaysLast asked token (chunks.Found _) gathered octets = ShowsArticle asked token gathered octets
-SaysLast asked token chunks.Gone gathered octets = Replies asked token fetches.Gone octets
+SaysLast asked token (chunks.Gone front) gathered octets = Replies asked token fetches.Gone octets
 SaysLast asked token chunks.Unknown gathered octets = Replies asked token fetches.NotKnown octets
-SaysLast asked token chunks.Device gathered octets = Replies asked token fetches.NotRead octets
+SaysLast asked token (chunks.Device fault) gathered octets =
+    Replies asked token fetches.NotRead octets
 
 -- the most octets of what is said, by what was read last: a text is shown where a block was read
 abbrev pub most_by : Chunk → (gathered : List ℕ) → ℕ
 most_by (chunks.Found _) gathered = reply_room + stuffed_room (length gathered)
-most_by chunks.Gone gathered = reply_room
+most_by (chunks.Gone front) gathered = reply_room
 most_by chunks.Unknown gathered = reply_room
-most_by chunks.Device gathered = reply_room
+most_by (chunks.Device fault) gathered = reply_room

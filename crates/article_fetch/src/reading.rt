@@ -158,7 +158,8 @@ fn make_room(text: &mut Vec<u8>, due: usize) -> Result<(), AllocError>
     ensures items { text.new.items ≡ text.old.items }
     ensures len { vec_len text.new ≡ vec_len text.old }
     ensures ok { OnOk result (vec_len text.new + due ≤ vec_capacity text.new) }
-    ensures within { vec_capacity text.new ≤ max (vec_capacity text.old) (2 * vec_len text.old + due) }
+    ensures within { vec_capacity text.new
+        ≤ max (vec_capacity text.old) (2 * vec_len text.old + due) }
     ensures err { OnErr result (vec_capacity text.new ≡ vec_capacity text.old) }
     ensures enough { vec_len text.old + due ≤ vec_capacity text.old → IsOk result }
 {

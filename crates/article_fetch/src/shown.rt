@@ -43,9 +43,9 @@ pub(crate) fn last_reply(
 {
     match chunk {
         Chunk::Found(_) => found_reply(room, asked, token, text),
-        Chunk::Gone => gone_reply(room, asked, token),
+        Chunk::Gone(_) => gone_reply(room, asked, token),
         Chunk::Unknown => unknown_reply(room, asked, token),
-        Chunk::Device => said(room, &Reply::DeviceFault),
+        Chunk::Device(_) => said(room, &Reply::DeviceFault),
     }
 }
 

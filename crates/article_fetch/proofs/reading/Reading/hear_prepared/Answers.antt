@@ -147,7 +147,8 @@ returns c =
           w.in_default.not-Found shows
     ] in
     record {
-      given = subst (λ (fetch : Fetch). HearsAny fetch c.args.chunk (Some c.last_reply.result) after)
+      given = subst (λ (fetch : Fetch).
+          HearsAny fetch c.args.chunk (Some c.last_reply.result) after)
           c.self.view_is (any.0, any.1, over);
       heard = subst (λ (fetch : Fetch). (found : Fetched) → FoundAs fetch c.args.chunk found
           → (goes_on fetch.asked fetch.token fetch.had found ≡ false)
