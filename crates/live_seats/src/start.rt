@@ -43,6 +43,12 @@ pub trait Service<R>: Accounts {
         ensures end { end_of result ≡ end_of seat }
         ensures kept { Self.fits self.new (end_of result) (count_of result) (handed_by result) }
         ensures mark { Self.mark self.new ≡ Self.mark self.old };
+
+    /// Is told that it won't be served, since a thread couldn't be started for it.
+    fn decline(&mut self, rt: &R)
+        ensures kept { (end count : ℕ) (jobs : List (List Handed))
+            → Self.fits self.old end count jobs → Self.fits self.new end count jobs }
+        ensures mark { Self.mark self.new ≡ Self.mark self.old };
 }
 
 /// An end before its thread starts: its seat, and what it serves.
@@ -129,7 +135,8 @@ impl<'a, V: Accounts> Promise<Leaver<V>> for EndDone<'a, V> {
         × (V.mark r.service ≡ V.mark p.service.value) };
 }
 
-/// Serves an end, unless it is to leave at once, and then leaves.
+/// Serves an end, unless it is to leave at once, and then leaves. What it serves is told of the
+/// latter.
 fn serve_end<V: Service<R>, R: Wait>(
     rt: &R,
     lanes: &[Lane],
@@ -146,6 +153,7 @@ fn serve_end<V: Service<R>, R: Wait>(
 {
     let Plan { seat, mut service } = plan;
     if leaves.load(Ordering::SeqCst) {
+        service.decline(rt);
         return Leaver {
             seat: hang_up(rt, lanes, seat),
             service,

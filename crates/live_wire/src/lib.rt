@@ -7,7 +7,9 @@
 #![tactic(auto)]
 
 mod connections;
+mod tally;
 mod wire;
 
 pub use connections::{Connections, Given};
+pub use tally::Tally;
 pub use wire::{Ear, Hears, Mouth, Says, say_all};

@@ -65,6 +65,13 @@ impl<R: Read> Ear<R> {
             heard: Log::new(),
         }
     }
+
+    /// The reader below.
+    pub fn into_reader(self) -> R
+        ensures { result ≡ self.reader }
+    {
+        self.reader
+    }
 }
 
 impl<R: Read> Hears for Ear<R> {
@@ -99,6 +106,13 @@ impl<W: Write> Mouth<W> {
             writer,
             said: Log::new(),
         }
+    }
+
+    /// The writer below.
+    pub fn into_writer(self) -> W
+        ensures { result ≡ self.writer }
+    {
+        self.writer
     }
 }
 
