@@ -2,3 +2,4 @@ pub mod Course
 pub mod Going
 pub mod Carried
 pub mod Commands
+pub mod Counts

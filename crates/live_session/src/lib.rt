@@ -4,6 +4,7 @@
 #![tactic(auto)]
 
 mod commands;
+mod counts;
 mod pushing;
 mod serve;
 mod shares;

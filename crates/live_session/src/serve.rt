@@ -11,6 +11,7 @@ ghost use Rattle.relay_model.specs.Run.{is_running};
 ghost use Rattle.relay_model.specs.Terms.{Terms};
 
 use crate::commands::{Command, Commands};
+use crate::counts::Counts;
 use crate::shares::{Clock, Gate, Shares};
 use crate::talk::{Hall, Talk, Turned};
 use crate::turn::turn;
@@ -18,7 +19,7 @@ use crate::wire::{Finish, Wire, flush, put, stop};
 use live_fates::KeptJob;
 use live_seats::SessionSeat;
 use live_store::{Archive, OneRecord};
-use live_wire::{Hears, Says};
+use live_wire::{Hears, Says, Tally};
 use nntp_text::{Reply, reply_bytes};
 use peer_session::Session;
 use relay_conf::Config;
@@ -41,7 +42,7 @@ const PIECE: usize = 65_536;
 const WAITING: usize = 65_536;
 
 /// What is left of a session that was served: its end's seat, the jobs of it that were answered
-/// kept, how it ended, and the two sides of its connection.
+/// kept, how it ended, the two sides of its connection, and what it said and read in numbers.
 #[derive(Drop)]
 pub struct Served<J: Archive, H: Hears, W: Says> {
     pub seat: SessionSeat,
@@ -49,6 +50,7 @@ pub struct Served<J: Archive, H: Hears, W: Says> {
     pub finish: Finish,
     pub reader: H,
     pub writer: W,
+    pub tally: Tally,
 }
 
 /// Serves session `number` of a peer over a connection, from the greeting until it is closed. What
@@ -91,6 +93,7 @@ pub fn serve_session<S: Shares<J, R>, C: Clock, G: Gate<R>, J: Archive, H: Hears
             finish: Finish::Broken,
             reader,
             writer,
+            tally: Tally::none(),
         };
     }
     let opened = match open(alloc, hasher, hall.config, peer) {
@@ -102,6 +105,7 @@ pub fn serve_session<S: Shares<J, R>, C: Clock, G: Gate<R>, J: Archive, H: Hears
                 finish: Finish::Broken,
                 reader,
                 writer,
+                tally: Tally::none(),
             };
         }
     };
@@ -119,17 +123,20 @@ pub fn serve_session<S: Shares<J, R>, C: Clock, G: Gate<R>, J: Archive, H: Hears
         piece: opened.piece,
         finish: None,
     };
-    converse(rt, alloc, hall, &mut talk, &mut wire);
+    let mut counts = Counts::of(peer);
+    converse(rt, alloc, hall, &mut talk, &mut wire, &mut counts);
     break_off(&mut talk);
-    leave(rt, alloc, hall, &mut talk, &mut wire);
+    leave(rt, alloc, hall, &mut talk, &mut wire, &mut counts);
     flush(&mut wire);
     stop(&mut wire, Finish::TurnsSpent);
+    counts.tell(rt, hall.gate);
     Served {
         seat: talk.seat,
         kept: talk.kept,
         finish: wire.finish.unwrap_or(Finish::Broken),
         reader: wire.reader,
         writer: wire.writer,
+        tally: counts.told(),
     }
 }
 
@@ -169,6 +176,7 @@ fn converse<S: Shares<J, R>, C: Clock, G: Gate<R>, J: Archive, H: Hears, W: Says
     hall: &Hall<S, C, G>,
     talk: &mut Talk<J>,
     wire: &mut Wire<H, W>,
+    counts: &mut Counts,
 )
     requires register { hall.now.register.now ≡ J.register }
     requires seat { IsSeatOf hall.now.lanes.now talk.old.seat }
@@ -184,7 +192,7 @@ fn converse<S: Shares<J, R>, C: Clock, G: Gate<R>, J: Archive, H: Hears, W: Says
         if wire.finish.is_some() {
             break;
         }
-        round(rt, alloc, hall, talk, wire, &mut commands);
+        round(rt, alloc, hall, talk, wire, &mut commands, counts);
     }
 }
 
@@ -196,6 +204,7 @@ fn round<S: Shares<J, R>, C: Clock, G: Gate<R>, J: Archive, H: Hears, W: Says, R
     talk: &mut Talk<J>,
     wire: &mut Wire<H, W>,
     commands: &mut Commands,
+    counts: &mut Counts,
 )
     requires register { hall.now.register.now ≡ J.register }
     requires seat { IsSeatOf hall.now.lanes.now talk.old.seat }
@@ -208,12 +217,14 @@ fn round<S: Shares<J, R>, C: Clock, G: Gate<R>, J: Archive, H: Hears, W: Says, R
 {
     match turn(rt, alloc, hall, talk, commands) {
         Turned::Says(said) => {
+            counts.say(&said);
             put(wire, said, talk.session.has_parted());
             write_on(rt, hall, wire, commands.newest());
         }
         Turned::Rests => {
             flush(wire);
-            receive(talk, wire);
+            counts.tell(rt, hall.gate);
+            receive(talk, wire, counts);
         }
         Turned::Held => stop(wire, Finish::Held),
         Turned::Memory => {
@@ -252,7 +263,11 @@ fn write_on<S, C, G: Gate<R>, H: Hears, W: Says, R>(
 
 /// Reads once, where the session reads. The connection is broken where the input has ended or
 /// fails, or there is no memory for what came.
-fn receive<J: Archive, H: Hears, W: Says>(talk: &mut Talk<J>, wire: &mut Wire<H, W>)
+fn receive<J: Archive, H: Hears, W: Says>(
+    talk: &mut Talk<J>,
+    wire: &mut Wire<H, W>,
+    counts: &mut Counts,
+)
     ensures seat { talk.new.seat ≡ talk.old.seat }
     ensures served { (w : Terms) → ServesOn w talk.old talk.new
         (carried (H.heard wire.old.reader) (W.said wire.old.writer) wire.old.outbox wire.old.finish)
@@ -264,10 +279,13 @@ fn receive<J: Archive, H: Hears, W: Says>(talk: &mut Talk<J>, wire: &mut Wire<H,
     }
     match wire.reader.hear(&mut wire.piece) {
         Ok(0) => wire.finish = Some(Finish::Broken),
-        Ok(n) => match talk.session.feed(&wire.piece[..n]) {
-            Ok(()) => {}
-            Err(_) => wire.finish = Some(Finish::Broken),
-        },
+        Ok(n) => {
+            counts.read(n);
+            match talk.session.feed(&wire.piece[..n]) {
+                Ok(()) => {}
+                Err(_) => wire.finish = Some(Finish::Broken),
+            }
+        }
         Err(error) => {
             if error.kind() != ErrorKind::Interrupted {
                 wire.finish = Some(Finish::Broken);
@@ -284,6 +302,7 @@ fn leave<S: Shares<J, R>, C: Clock, G: Gate<R>, J: Archive, H: Hears, W: Says, R
     hall: &Hall<S, C, G>,
     talk: &mut Talk<J>,
     wire: &mut Wire<H, W>,
+    counts: &mut Counts,
 )
     requires register { hall.now.register.now ≡ J.register }
     requires seat { IsSeatOf hall.now.lanes.now talk.old.seat }
@@ -299,7 +318,7 @@ fn leave<S: Shares<J, R>, C: Clock, G: Gate<R>, J: Archive, H: Hears, W: Says, R
         if !talk.session.is_running() {
             return;
         }
-        last_turn(rt, alloc, hall, talk, wire);
+        last_turn(rt, alloc, hall, talk, wire, counts);
     }
     unreachable!()
 }
@@ -311,6 +330,7 @@ fn last_turn<S: Shares<J, R>, C: Clock, G: Gate<R>, J: Archive, H: Hears, W: Say
     hall: &Hall<S, C, G>,
     talk: &mut Talk<J>,
     wire: &mut Wire<H, W>,
+    counts: &mut Counts,
 )
     requires register { hall.now.register.now ≡ J.register }
     requires seat { IsSeatOf hall.now.lanes.now talk.old.seat }
@@ -323,7 +343,10 @@ fn last_turn<S: Shares<J, R>, C: Clock, G: Gate<R>, J: Archive, H: Hears, W: Say
 {
     let mut commands = Commands::of(talk.number);
     match turn(rt, alloc, hall, talk, &mut commands) {
-        Turned::Says(said) => put(wire, said, talk.session.has_parted()),
+        Turned::Says(said) => {
+            counts.say(&said);
+            put(wire, said, talk.session.has_parted());
+        }
         Turned::Rests => {}
         Turned::Held => {}
         Turned::Memory => thread::yield_now(),

@@ -7,6 +7,7 @@ ghost use Rattle.live_store.specs.Steps.{IsFoundIn, IsFoundGone, IsReadFault};
 ghost use Rattle.relay_model.specs.Terms.{last_moment};
 
 use crate::commands::Command;
+use crate::wire::Finish;
 use cyc_block::CHUNK_OCTETS;
 use cyc_buffer::{Fault, Found};
 use cyc_token::Token;
@@ -14,6 +15,7 @@ use feed_queue::Taken;
 use id_history::{Offer, Take};
 use live_fates::Told;
 use live_store::{Archive, OneRecord, Register};
+use live_wire::Tally;
 use nntp_text::MsgId;
 use std::alloc::{AllocError, Global};
 
@@ -85,7 +87,7 @@ pub trait Clock {
         ensures { result ≤ last_moment };
 }
 
-/// What lets commands in, one by one.
+/// What lets commands in, one by one, and is told of sessions.
 pub trait Gate<R> {
     /// Before a command of a session: whether it may go on. It may wait.
     fn enter(&self, rt: &R, command: Command) -> bool;
@@ -95,4 +97,23 @@ pub trait Gate<R> {
 
     /// After the reply of the newest command of a session was written.
     fn leave(&self, rt: &R, command: Command);
+
+    /// A session of a peer begins.
+    fn opened(&self, _rt: &R, _peer: usize, _session: u64) {}
+
+    /// A session of a peer has said and read this much more: it is told before the session waits for
+    /// its peer, and once it has ended.
+    fn counted(&self, _rt: &R, _peer: usize, _more: &Tally) {}
+
+    /// A session of a peer has ended so, after so many seconds; it said and read this in all.
+    fn closed(
+        &self,
+        _rt: &R,
+        _peer: usize,
+        _session: u64,
+        _finish: Finish,
+        _tally: &Tally,
+        _seconds: u64,
+    ) {
+    }
 }

@@ -91,7 +91,7 @@ impl<'a, X, S: BlockStore + Drop, J: Archive, L: Ledger, C: Clock, G, Q: Lends> 
     }
 
     /// Serves a connection as the session of this number, which is spent.
-    fn serve_one<H: Hears + Drop, W: Says + Drop, R: Wait>(
+    fn converse<H: Hears, W: Says, R: Wait>(
         &mut self,
         rt: &R,
         lanes: &[Lane],
@@ -99,20 +99,23 @@ impl<'a, X, S: BlockStore + Drop, J: Archive, L: Ledger, C: Clock, G, Q: Lends> 
         number: Number<L>,
         reader: H,
         writer: W,
-    ) -> SessionSeat
+    ) -> Conversed<H, W>
     where
         G: Gate<R>,
         requires seat { IsSeatOf lanes.now seat }
         requires new { (H.heard reader ≡ []) × (W.said writer ≡ []) }
-        ensures seat { IsSeatOf lanes.now result }
-        ensures end { end_of result ≡ end_of seat }
+        ensures seat { IsSeatOf lanes.now result.seat }
+        ensures end { end_of result.seat ≡ end_of seat }
         ensures one_more { (honest : Bool) → (honest ≡ true → J.trusted ≡ true)
             → ∥ IsOneMore honest J.register (terms_of self.old.config.now) (end_of seat)
             self.old.peer (number_of number) (hands_at seat self.old.kept.items)
-            (hands_at result self.new.kept.items) ∥₁ }
+            (hands_at result.seat self.new.kept.items) ∥₁ }
         ensures same { (self.new.config ≡ self.old.config) × (self.new.peer ≡ self.old.peer)
             × (self.new.connections ≡ self.old.connections) }
     {
+        let number = number.into_value();
+        let began = self.clock.now();
+        self.gate.opened(rt, self.peer, number);
         let kept = mem::replace(&mut self.kept, Vec::new(self.alloc));
         let hall = Hall {
             shares: self.shared,
@@ -129,14 +132,57 @@ impl<'a, X, S: BlockStore + Drop, J: Archive, L: Ledger, C: Clock, G, Q: Lends> 
             &hall,
             seat,
             kept,
-            number.into_value(),
+            number,
             self.peer,
             reader,
             writer,
         );
         self.kept = served.kept;
-        served.seat
+        let seconds = self.clock.now().saturating_sub(began);
+        self.gate
+            .closed(rt, self.peer, number, served.finish, &served.tally, seconds);
+        Conversed {
+            seat: served.seat,
+            reader: served.reader,
+            writer: served.writer,
+        }
     }
+
+    /// Serves a connection as the session of this number, which is spent, and lets go of it.
+    fn serve_one<R: Wait>(
+        &mut self,
+        rt: &R,
+        lanes: &[Lane],
+        seat: SessionSeat,
+        number: Number<L>,
+        reader: <X as Connections<R>>::Reader,
+        writer: <X as Connections<R>>::Writer,
+    ) -> SessionSeat
+    where
+        X: Connections<R>,
+        G: Gate<R>,
+        requires seat { IsSeatOf lanes.now seat }
+        requires new { (X.Reader.heard reader ≡ []) × (X.Writer.said writer ≡ []) }
+        ensures seat { IsSeatOf lanes.now result }
+        ensures end { end_of result ≡ end_of seat }
+        ensures one_more { (honest : Bool) → (honest ≡ true → J.trusted ≡ true)
+            → ∥ IsOneMore honest J.register (terms_of self.old.config.now) (end_of seat)
+            self.old.peer (number_of number) (hands_at seat self.old.kept.items)
+            (hands_at result self.new.kept.items) ∥₁ }
+        ensures same { (self.new.config ≡ self.old.config) × (self.new.peer ≡ self.old.peer) }
+    {
+        let over = self.converse(rt, lanes, seat, number, reader, writer);
+        self.connections.let_go(rt, over.reader, over.writer);
+        over.seat
+    }
+}
+
+/// What is left of a connection whose session has ended: the end's seat, and its two sides.
+#[derive(Drop)]
+struct Conversed<H: Hears, W: Says> {
+    seat: SessionSeat,
+    reader: H,
+    writer: W,
 }
 
 impl<'a, X, S: BlockStore + Drop, J: Archive, L: Ledger, C: Clock, G, Q: Lends> Accounts
@@ -156,8 +202,6 @@ impl<'a, X, S: BlockStore + Drop, J: Archive, L: Ledger, C: Clock, G, Q: Lends> 
 impl<'a, X, S, J, L, C, G, Q, R> Service<R> for End<'a, X, S, J, L, C, G, Q>
 where
     X: Connections<R>,
-    <X as Connections<R>>::Reader: Drop,
-    <X as Connections<R>>::Writer: Drop,
     S: BlockStore + Drop,
     J: Archive,
     L: Ledger,
@@ -180,5 +224,9 @@ where
             seat = self.serve_one(rt, lanes, seat, number, reader, writer);
         }
         unreachable!()
+    }
+
+    fn decline(&mut self, rt: &R) {
+        self.connections.give_up(rt);
     }
 }

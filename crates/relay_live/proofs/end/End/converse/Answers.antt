@@ -1,7 +1,7 @@
 use Rattle.std.proofs.Common.{ap}
 use Rattle.live_session.specs.Going.{hands_at}
 use Rattle.relay_live.proofs.Sessions.{one_more, served_over}
-use Rattle.relay_live.proofs.end.End.serve_one.Goals as goal
+use Rattle.relay_live.proofs.end.End.converse.Goals as goal
 
 -- what was served is one session more, of the number that was spent
 pub returns-clause-one_more : goal.returns-clause-one_more

@@ -1,0 +1,16 @@
+-- What is counted of a session.
+use Rattle.std.specs.Prelude.{ℕ}
+use Rattle.live_session.specs.declared.counts.Counts.{Counts}
+use Rattle.live_wire.specs.declared.tally.Tally.{Tally}
+
+-- the number of the session's peer
+abbrev pub is_of : Counts → ℕ
+is_of counts = counts.peer
+
+-- what was counted, of what the gate was told
+abbrev pub counted_in : Counts → Tally
+counted_in counts = counts.told
+
+-- what was counted since then
+abbrev pub untold_in : Counts → Tally
+untold_in counts = counts.untold

@@ -1,0 +1,65 @@
+//! What is counted of a session, and told to the gate.
+ghost use Rattle.std.specs.Prelude.{◌≡◌};
+ghost use Rattle.live_session.specs.Counts.{counted_in, is_of, untold_in};
+ghost use Rattle.live_wire.specs.Tally.{after_octets, after_reply, no_tally, tally_sum};
+
+use crate::shares::Gate;
+use live_wire::Tally;
+
+/// What is counted of a session of a peer: in all, up to when the gate was told, and since.
+#[derive(Drop)]
+pub(crate) struct Counts {
+    peer: usize,
+    told: Tally,
+    untold: Tally,
+}
+
+impl Counts {
+    /// Of a session of this peer that has said and read nothing.
+    pub(crate) fn of(peer: usize) -> Counts
+        ensures peer { is_of result ≡ peer }
+        ensures none { (counted_in result ≡ no_tally) × (untold_in result ≡ no_tally) }
+    {
+        Counts {
+            peer,
+            told: Tally::none(),
+            untold: Tally::none(),
+        }
+    }
+
+    /// This was said.
+    pub(crate) fn say(&mut self, said: &[u8])
+        ensures untold { untold_in self.new ≡ after_reply said.now (untold_in self.old) }
+        ensures rest { (is_of self.new ≡ is_of self.old)
+            × (counted_in self.new ≡ counted_in self.old) }
+    {
+        self.untold.add_reply(said);
+    }
+
+    /// So many octets were read.
+    pub(crate) fn read(&mut self, octets: usize)
+        ensures untold { untold_in self.new ≡ after_octets octets (untold_in self.old) }
+        ensures rest { (is_of self.new ≡ is_of self.old)
+            × (counted_in self.new ≡ counted_in self.old) }
+    {
+        self.untold.add_octets(octets);
+    }
+
+    /// Tells the gate what was counted since it was told last.
+    pub(crate) fn tell<G: Gate<R>, R>(&mut self, rt: &R, gate: &G)
+        ensures untold { untold_in self.new ≡ no_tally }
+        ensures all { counted_in self.new ≡ tally_sum (counted_in self.old) (untold_in self.old) }
+        ensures peer { is_of self.new ≡ is_of self.old }
+    {
+        gate.counted(rt, self.peer, &self.untold);
+        self.told.add(&self.untold);
+        self.untold = Tally::none();
+    }
+
+    /// What was counted in all, of what the gate was told.
+    pub(crate) fn told(&self) -> Tally
+        ensures { result ≡ counted_in self.now }
+    {
+        self.told
+    }
+}
