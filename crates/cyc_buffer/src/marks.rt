@@ -17,6 +17,7 @@ impl Marks {
     pub(crate) fn new(alloc: Global, blocks: u32) -> Result<Marks, AllocError>
         ensures none { IfOk result (λ marks. (j : ℕ) → is_marked marks.words.items j ≡ false) }
         ensures room { IfOk result (λ marks. blocks ≤ 64 * length marks.words.items) }
+        ensures least { IfOk result (λ marks. 64 * length marks.words.items < blocks + 64) }
     {
         let count = blocks.div_ceil(WORD_BLOCKS);
         let mut words = Vec::with_capacity(alloc, count as usize)?;

@@ -1,5 +1,4 @@
-ghost use Rattle.std.specs.Prelude.{◌≡◌, ◌≤◌, ◌*◌, length};
-ghost use Rattle.std.specs.Prelude.{◌+◌};
+ghost use Rattle.std.specs.Prelude.{◌≡◌, ◌≤◌, ◌<◌, ◌*◌, ◌+◌, length};
 ghost use Rattle.news_terms.specs.Places.{size_of, on_line};
 ghost use Rattle.cyc_buffer.specs.Progress.{start_of, end_of, open_count};
 
@@ -73,6 +72,9 @@ pub(crate) struct Register {
     pub(crate) progress: Option<Progress>,
     ghost starts_room: { line.blocks ≤ 64 * length starts.words.items },
     ghost kept_room: { line.blocks ≤ 64 * length kept.words.items },
+    /// No more words are kept than these marks need.
+    ghost starts_least: { 64 * length starts.words.items < line.blocks + 64 },
+    ghost kept_least: { 64 * length kept.words.items < line.blocks + 64 },
     ghost begins_within: { start_of progress ≤ line.blocks },
     ghost ends_within: { end_of progress ≤ line.blocks },
     /// Each article has a block at least, so there are no more of them than blocks up to the front.
