@@ -62,6 +62,11 @@ part_finish (Some finishes.Broken) octets = Some finishes.Broken
 part_finish (Some finishes.TurnsSpent) octets = Some finishes.TurnsSpent
 part_finish (Some finishes.Held) octets = Some finishes.Held
 
+-- what has ended stays so, and it isn't for its turns that it ends meanwhile
+pub record Lasts (old new : Option Finish) : Type 0 where
+  pub ended : new ≡ None → old ≡ None
+  pub unspent : new ≡ Some finishes.TurnsSpent → old ≡ Some finishes.TurnsSpent
+
 -- it ends with no last reply of the session
 abbrev pub is_break : Finish → Bool
 is_break finishes.Quit = false

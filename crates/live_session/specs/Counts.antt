@@ -1,5 +1,5 @@
 -- What is counted of a session.
-use Rattle.std.specs.Prelude.{ℕ}
+use Rattle.std.specs.Prelude.{ℕ, ◌^◌}
 use Rattle.live_session.specs.declared.counts.Counts.{Counts}
 use Rattle.live_wire.specs.declared.tally.Tally.{Tally}
 
@@ -14,3 +14,11 @@ counted_in counts = counts.told
 -- what was counted since then
 abbrev pub untold_in : Counts → Tally
 untold_in counts = counts.untold
+
+-- the turns that were had
+abbrev pub turns_in : Counts → ℕ
+turns_in counts = counts.turns
+
+-- the turns that a session has at most
+abbrev pub most_turns : ℕ
+most_turns = 2 ^ 40

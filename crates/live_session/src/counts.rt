@@ -1,17 +1,19 @@
 //! What is counted of a session, and told to the gate.
-ghost use Rattle.std.specs.Prelude.{◌≡◌};
-ghost use Rattle.live_session.specs.Counts.{counted_in, is_of, untold_in};
+ghost use Rattle.std.specs.Prelude.{◌≡◌, ◌<◌, ◌+◌, ◌^◌};
+ghost use Rattle.live_session.specs.Counts.{counted_in, is_of, turns_in, untold_in};
 ghost use Rattle.live_wire.specs.Tally.{after_octets, after_reply, no_tally, tally_sum};
 
 use crate::shares::Gate;
 use live_wire::Tally;
 
-/// What is counted of a session of a peer: in all, up to when the gate was told, and since.
+/// What is counted of a session of a peer: in all, up to when the gate was told, and since; and the
+/// turns that it had.
 #[derive(Drop)]
 pub(crate) struct Counts {
     peer: usize,
     told: Tally,
     untold: Tally,
+    turns: u64,
 }
 
 impl Counts {
@@ -19,19 +21,40 @@ impl Counts {
     pub(crate) fn of(peer: usize) -> Counts
         ensures peer { is_of result ≡ peer }
         ensures none { (counted_in result ≡ no_tally) × (untold_in result ≡ no_tally) }
+        ensures turns { turns_in result ≡ 0 }
     {
         Counts {
             peer,
             told: Tally::none(),
             untold: Tally::none(),
+            turns: 0,
         }
+    }
+
+    /// A turn begins.
+    pub(crate) fn turn(&mut self)
+        requires few { turns_in self.old < 2 ^ 63 }
+        ensures turns { turns_in self.new ≡ turns_in self.old + 1 }
+        ensures rest { (is_of self.new ≡ is_of self.old)
+            × (counted_in self.new ≡ counted_in self.old)
+            × (untold_in self.new ≡ untold_in self.old) }
+    {
+        self.turns += 1;
+    }
+
+    /// The turns that were had.
+    pub(crate) fn turns(&self) -> u64
+        ensures { result ≡ turns_in self.now }
+    {
+        self.turns
     }
 
     /// This was said.
     pub(crate) fn say(&mut self, said: &[u8])
         ensures untold { untold_in self.new ≡ after_reply said.now (untold_in self.old) }
         ensures rest { (is_of self.new ≡ is_of self.old)
-            × (counted_in self.new ≡ counted_in self.old) }
+            × (counted_in self.new ≡ counted_in self.old)
+            × (turns_in self.new ≡ turns_in self.old) }
     {
         self.untold.add_reply(said);
     }
@@ -40,7 +63,8 @@ impl Counts {
     pub(crate) fn read(&mut self, octets: usize)
         ensures untold { untold_in self.new ≡ after_octets octets (untold_in self.old) }
         ensures rest { (is_of self.new ≡ is_of self.old)
-            × (counted_in self.new ≡ counted_in self.old) }
+            × (counted_in self.new ≡ counted_in self.old)
+            × (turns_in self.new ≡ turns_in self.old) }
     {
         self.untold.add_octets(octets);
     }
@@ -49,7 +73,8 @@ impl Counts {
     pub(crate) fn tell<G: Gate<R>, R>(&mut self, rt: &R, gate: &G)
         ensures untold { untold_in self.new ≡ no_tally }
         ensures all { counted_in self.new ≡ tally_sum (counted_in self.old) (untold_in self.old) }
-        ensures peer { is_of self.new ≡ is_of self.old }
+        ensures rest { (is_of self.new ≡ is_of self.old)
+            × (turns_in self.new ≡ turns_in self.old) }
     {
         gate.counted(rt, self.peer, &self.untold);
         self.told.add(&self.untold);

@@ -1,9 +1,10 @@
 //! A session is served over a connection.
-ghost use Rattle.std.specs.Prelude.{◌≡◌, ◌≤◌, ◌^◌, true, false, IfOk};
+ghost use Rattle.std.specs.Prelude.{◌≡◌, ◌≤◌, ◌+◌, ◌^◌, true, false, IfOk, None};
 ghost use Rattle.article_verdict.specs.Config.{terms_of};
 ghost use Rattle.live_seats.specs.Seats.{IsSeatOf, count_of, end_of};
 ghost use Rattle.live_session.specs.Carried.{Begins, Carried, CarriesSame, IsFormed, IsServed};
-ghost use Rattle.live_session.specs.Carried.{ServesOn, carried};
+ghost use Rattle.live_session.specs.Carried.{Lasts, ServesOn, carried};
+ghost use Rattle.live_session.specs.Counts.{most_turns, turns_in};
 ghost use Rattle.live_session.specs.Going.{hands_at};
 ghost use Rattle.live_session.specs.declared.wire.Finish.TheVariants as finishes;
 ghost use Rattle.peer_session.specs.Session.{session_view};
@@ -51,6 +52,8 @@ pub struct Served<J: Archive, H: Hears, W: Says> {
     pub reader: H,
     pub writer: W,
     pub tally: Tally,
+    /// The turns that it had before it left.
+    pub turns: u64,
 }
 
 /// Serves session `number` of a peer over a connection, from the greeting until it is closed. What
@@ -85,6 +88,8 @@ pub fn serve_session<S: Shares<J, R>, C: Clock, G: Gate<R>, J: Archive, H: Hears
         (W.said result.writer) ∥₁ }
     ensures many { 2 ^ 62 ≤ count_of seat → (result.finish ≡ finishes.Broken)
         × (H.heard result.reader ≡ H.heard reader) × (W.said result.writer ≡ W.said writer) }
+    // It is ended for its turns alone where it has had them all.
+    ensures spent { result.finish ≡ finishes.TurnsSpent → result.turns ≡ most_turns }
 {
     if seat.handed() >= MOST_JOBS {
         return Served {
@@ -94,6 +99,7 @@ pub fn serve_session<S: Shares<J, R>, C: Clock, G: Gate<R>, J: Archive, H: Hears
             reader,
             writer,
             tally: Tally::none(),
+            turns: 0,
         };
     }
     let opened = match open(alloc, hasher, hall.config, peer) {
@@ -106,6 +112,7 @@ pub fn serve_session<S: Shares<J, R>, C: Clock, G: Gate<R>, J: Archive, H: Hears
                 reader,
                 writer,
                 tally: Tally::none(),
+                turns: 0,
             };
         }
     };
@@ -137,6 +144,7 @@ pub fn serve_session<S: Shares<J, R>, C: Clock, G: Gate<R>, J: Archive, H: Hears
         reader: wire.reader,
         writer: wire.writer,
         tally: counts.told(),
+        turns: counts.turns(),
     }
 }
 
@@ -180,18 +188,23 @@ fn converse<S: Shares<J, R>, C: Clock, G: Gate<R>, J: Archive, H: Hears, W: Says
 )
     requires register { hall.now.register.now ≡ J.register }
     requires seat { IsSeatOf hall.now.lanes.now talk.old.seat }
+    requires none { turns_in counts.old ≡ 0 }
     ensures seat { IsSeatOf hall.now.lanes.now talk.new.seat }
     ensures end { end_of talk.new.seat ≡ end_of talk.old.seat }
     ensures served { ServesOn (terms_of hall.now.config.now) talk.old talk.new
         (carried (H.heard wire.old.reader) (W.said wire.old.writer) wire.old.outbox wire.old.finish)
         (carried (H.heard wire.new.reader) (W.said wire.new.writer)
         wire.new.outbox wire.new.finish) }
+    ensures ends { Lasts wire.old.finish wire.new.finish }
+    ensures turns { wire.new.finish ≡ None
+        → turns_in counts.new ≡ turns_in counts.old + most_turns }
 {
     let mut commands = Commands::of(talk.number);
     for _ in 0..TURNS {
         if wire.finish.is_some() {
             break;
         }
+        counts.turn();
         round(rt, alloc, hall, talk, wire, &mut commands, counts);
     }
 }
@@ -214,6 +227,8 @@ fn round<S: Shares<J, R>, C: Clock, G: Gate<R>, J: Archive, H: Hears, W: Says, R
         (carried (H.heard wire.old.reader) (W.said wire.old.writer) wire.old.outbox wire.old.finish)
         (carried (H.heard wire.new.reader) (W.said wire.new.writer)
         wire.new.outbox wire.new.finish) }
+    ensures ends { Lasts wire.old.finish wire.new.finish }
+    ensures turns { turns_in counts.new ≡ turns_in counts.old }
 {
     match turn(rt, alloc, hall, talk, commands) {
         Turned::Says(said) => {
@@ -242,10 +257,11 @@ fn write_on<S, C, G: Gate<R>, H: Hears, W: Says, R>(
     wire: &mut Wire<H, W>,
     newest: Option<Command>,
 )
-    ensures { CarriesSame
+    ensures same { CarriesSame
         (carried (H.heard wire.old.reader) (W.said wire.old.writer) wire.old.outbox wire.old.finish)
         (carried (H.heard wire.new.reader) (W.said wire.new.writer)
         wire.new.outbox wire.new.finish) }
+    ensures ends { Lasts wire.old.finish wire.new.finish }
 {
     if hall.gate.is_one_by_one() {
         if !wire.outbox.is_empty() {
@@ -273,6 +289,8 @@ fn receive<J: Archive, H: Hears, W: Says>(
         (carried (H.heard wire.old.reader) (W.said wire.old.writer) wire.old.outbox wire.old.finish)
         (carried (H.heard wire.new.reader) (W.said wire.new.writer)
         wire.new.outbox wire.new.finish) }
+    ensures ends { Lasts wire.old.finish wire.new.finish }
+    ensures turns { turns_in counts.new ≡ turns_in counts.old }
 {
     if wire.finish.is_some() || !talk.session.is_reading() {
         return;
@@ -313,6 +331,8 @@ fn leave<S: Shares<J, R>, C: Clock, G: Gate<R>, J: Archive, H: Hears, W: Says, R
         (carried (H.heard wire.new.reader) (W.said wire.new.writer)
         wire.new.outbox wire.new.finish) }
     ensures closed { is_running (session_view talk.new.session).phase ≡ false }
+    ensures ends { Lasts wire.old.finish wire.new.finish }
+    ensures turns { turns_in counts.new ≡ turns_in counts.old }
 {
     for _ in rt.forever() {
         if !talk.session.is_running() {
@@ -340,6 +360,8 @@ fn last_turn<S: Shares<J, R>, C: Clock, G: Gate<R>, J: Archive, H: Hears, W: Say
         (carried (H.heard wire.old.reader) (W.said wire.old.writer) wire.old.outbox wire.old.finish)
         (carried (H.heard wire.new.reader) (W.said wire.new.writer)
         wire.new.outbox wire.new.finish) }
+    ensures ends { Lasts wire.old.finish wire.new.finish }
+    ensures turns { turns_in counts.new ≡ turns_in counts.old }
 {
     let mut commands = Commands::of(talk.number);
     match turn(rt, alloc, hall, talk, &mut commands) {

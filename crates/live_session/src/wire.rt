@@ -1,6 +1,6 @@
 //! A connection, as its session's thread has it.
-ghost use Rattle.std.specs.Prelude.{◌≡◌, [], true, false, is_some};
-ghost use Rattle.live_session.specs.Carried.{CarriesOn, CarriesSame, carried, finish_of};
+ghost use Rattle.std.specs.Prelude.{◌≡◌, [], Some, true, false, is_some, unwrap_or};
+ghost use Rattle.live_session.specs.Carried.{CarriesOn, CarriesSame, Lasts, carried, finish_of};
 ghost use Rattle.live_session.specs.Carried.{is_break, part_finish};
 ghost use Rattle.live_session.specs.Carried as words;
 
@@ -46,6 +46,7 @@ pub(crate) fn flush<H: Hears, W: Says>(wire: &mut Wire<H, W>)
         (carried (H.heard wire.new.reader) (W.said wire.new.writer)
         wire.new.outbox wire.new.finish) }
     ensures none { wire.new.outbox.items ≡ [] }
+    ensures ends { Lasts wire.old.finish wire.new.finish }
 {
     if is_broken(&wire.finish) {
         wire.outbox.clear();
@@ -62,10 +63,11 @@ pub(crate) fn flush<H: Hears, W: Says>(wire: &mut Wire<H, W>)
 
 /// What a session said is to be written. Where it leaves, that was its last reply.
 pub(crate) fn put<H: Hears, W: Says>(wire: &mut Wire<H, W>, said: Vec<u8>, leaves: bool)
-    ensures { CarriesOn
+    ensures on { CarriesOn
         (carried (H.heard wire.old.reader) (W.said wire.old.writer) wire.old.outbox wire.old.finish)
         (carried (H.heard wire.new.reader) (W.said wire.new.writer) wire.new.outbox wire.new.finish)
         [] said.items leaves }
+    ensures ends { Lasts wire.old.finish wire.new.finish }
 {
     if said.is_empty() {
         return;
@@ -102,10 +104,11 @@ fn finish_by(said: &[u8]) -> Finish
 /// The octets join what is to be written. Where there is no memory for that, what was there before
 /// is written first.
 fn append<H: Hears, W: Says>(wire: &mut Wire<H, W>, said: Vec<u8>)
-    ensures { CarriesOn
+    ensures on { CarriesOn
         (carried (H.heard wire.old.reader) (W.said wire.old.writer) wire.old.outbox wire.old.finish)
         (carried (H.heard wire.new.reader) (W.said wire.new.writer) wire.new.outbox wire.new.finish)
         [] said.items false }
+    ensures ends { Lasts wire.old.finish wire.new.finish }
 {
     if wire.outbox.is_empty() {
         wire.outbox = said;
@@ -128,6 +131,7 @@ pub(crate) fn stop<H: Hears, W: Says>(wire: &mut Wire<H, W>, finish: Finish)
         (carried (H.heard wire.new.reader) (W.said wire.new.writer)
         wire.new.outbox wire.new.finish) }
     ensures ended { is_some wire.new.finish ≡ true }
+    ensures finish { wire.new.finish ≡ Some (unwrap_or wire.old.finish finish) }
     ensures waiting { wire.new.outbox ≡ wire.old.outbox }
 {
     if wire.finish.is_none() {

@@ -16,7 +16,7 @@ returns-in-Says-clause-served g c =
     put.finish in
     served_turn (terms_of c.args.hall.now.config.now) talk new c.in-Says.said.items before after
     c.in-Says.ensures.went
-    (subst (CarriesOn before after [] c.in-Says.said.items) c.has_parted.ensures c.put.ensures)
+    (subst (CarriesOn before after [] c.in-Says.said.items) c.has_parted.ensures c.put.ensures.on)
 
 pub returns-in-Rests-clause-served : goal.returns-in-Rests-clause-served
 returns-in-Rests-clause-served g c =

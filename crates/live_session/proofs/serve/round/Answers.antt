@@ -22,8 +22,8 @@ returns-in-Says-clause-served g c =
     last.finish in
     then_same w talk new before mid after
     (served_turn w talk new c.in-Says.said.items before mid c.in-Says.ensures.went
-    (subst (CarriesOn before mid [] c.in-Says.said.items) c.has_parted.ensures c.put.ensures))
-    c.write_on.ensures
+    (subst (CarriesOn before mid [] c.in-Says.said.items) c.has_parted.ensures c.put.ensures.on))
+    c.write_on.ensures.same
 
 pub returns-in-Rests-clause-seat : goal.returns-in-Rests-clause-seat
 returns-in-Rests-clause-seat g c =

@@ -3,8 +3,8 @@ use Rattle.live_session.proofs.Carrying.{appended}
 use Rattle.live_session.proofs.wire.append.Goals as goal
 use Rattle.live_session.specs.Carried.{Carries, carried}
 
-pub returns-in-Err : goal.returns-in-Err
-returns-in-Err g c came replies parted carries =
+pub returns-in-Err-clause-on : goal.returns-in-Err-clause-on
+returns-in-Err-clause-on g c came replies parted carries =
     let wire = c.args.wire.now in
     let after = c.flush.new.wire in
     let said = c.args.said.items in

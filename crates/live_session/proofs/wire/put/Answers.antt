@@ -3,8 +3,8 @@ use Rattle.live_session.proofs.Carrying.{parted_on, some_of}
 use Rattle.live_session.proofs.wire.put.Goals as goal
 use Rattle.live_session.specs.Carried.{CarriesOn, carried, part_finish}
 
-pub returns-then-leaves : goal.returns-then-leaves
-returns-then-leaves g c =
+pub returns-then-leaves-clause-on : goal.returns-then-leaves-clause-on
+returns-then-leaves-clause-on g c =
     let wire = c.args.wire.now in
     let after = c.append.new.wire in
     let said = c.args.said in
@@ -17,12 +17,12 @@ returns-then-leaves g c =
     c.if-is_empty.false)
     (subst (λ f. CarriesOn (record old { finish = f }) new [] said.items false)
     (c.parted-wire.ensures ∙ ap (λ l. part_finish wire.finish l) c.deref.ensures.value)
-    c.append.ensures))
+    c.append.ensures.on))
 
-pub returns : goal.returns
-returns g c =
+pub returns-clause-on : goal.returns-clause-on
+returns-clause-on g c =
     let wire = c.args.wire.now in
     let after = c.append-2.new.wire in
     subst (CarriesOn (carried (g.H.Hears.heard wire.reader) (g.W.Says.said wire.writer) wire.outbox
     wire.finish) (carried (g.H.Hears.heard after.reader) (g.W.Says.said after.writer) after.outbox
-    after.finish) [] c.args.said.items) (sym c.if-leaves.false) c.append-2.ensures
+    after.finish) [] c.args.said.items) (sym c.if-leaves.false) c.append-2.ensures.on
