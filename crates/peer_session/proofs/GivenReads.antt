@@ -1,21 +1,21 @@
 -- What a session makes of whatever a read gave.
-use Rattle.std.proofs.Common.{◌≡◌, ◌≢◌, ℕ, ◌+◌, Bool, true, false, List, [], Option, None, Some}
+use Rattle.std.proofs.Common.{◌≡◌, ℕ, ◌+◌, Bool, true, false, List, [], None, Some}
 use Rattle.std.proofs.Common.{refl, sym, ap, subst, ◌∙◌, Vec}
 use Rattle.std.specs.declared.alloc.Global.{Global}
 use Rattle.article_fetch.specs.Fetch.{Fetch}
-use Rattle.article_fetch.specs.Given.{HearsAny, ReplyToAny, given}
+use Rattle.article_fetch.specs.Given.{HearsAny, given}
 use Rattle.article_fetch.specs.declared.chunk.Chunk.{Chunk}
 use Rattle.news_terms.specs.Reply.{Reply}
 use Rattle.news_terms.specs.Token.{Token}
 use Rattle.relay_model.specs.Asks as asks
 use Rattle.relay_model.specs.Asks.{Ask, Due, due_as}
 use Rattle.relay_model.specs.Fetches.{Fetched}
-use Rattle.relay_model.specs.Hears.{Heard, goes_on, says, silent}
+use Rattle.relay_model.specs.Hears.{Heard, says, silent}
 use Rattle.relay_model.specs.State as model
 use Rattle.relay_model.specs.State.{Asked, in_phase}
 use Rattle.relay_model.specs.Terms.{Terms}
-use Rattle.peer_session.specs.Given.{HeardOfRead, HeedsRead, ReadAny, ReadAnyIs}
-use Rattle.peer_session.specs.Planning.{DueIs, HasPlanned, Planned}
+use Rattle.peer_session.specs.Given.{HeardOfRead, HeedsRead, ReadAny, ReadAnyIs, gathered_on}
+use Rattle.peer_session.specs.Planning.{DueIs}
 use Rattle.peer_session.specs.Session.{HasAll, gathered_of, leaves, passed, phase_view}
 use Rattle.peer_session.specs.Session.{session_view}
 use Rattle.peer_session.specs.declared.phase.Phase.TheVariants as phases
@@ -48,6 +48,8 @@ any_said old fetch chunk octets later ready kept h =
       is = refl;
       limit = refl;
       has_all = subst (λ p. HasAll p old.cutter.dropped) (sym ready) kept;
+      gathers = ap gathered_of ready
+          ∙ ap (λ more. gathered_on more fetch.gathered chunk) (sym h.0);
     }
 
 -- a fetch goes on
@@ -68,15 +70,17 @@ any_read old fetch chunk later kept h =
           (model.Fetches one.asked one.token one.had)) (sym h.1);
       limit = refl;
       has_all = kept;
+      gathers = ap (λ (one : Fetch). one.gathered) h.1
+          ∙ ap (λ more. gathered_on more fetch.gathered chunk) (sym h.0);
     }
 
 -- what was heard of a block of a fetch, whatever it was
 any_of : (w : Terms) (session : model.Session) (fetch : Fetch) (chunk : Chunk)
     (gathered said : List ℕ) (old new : Session) → gathered ≡ fetch.gathered
     → ReadAnyIs said old session fetch chunk new → old.cutter.limit ≡ w.max_article
-    → HeardOfRead w session fetch.asked fetch.token fetch.had (given gathered chunk) said new
+    → HeardOfRead w session fetch.asked fetch.token fetch.had gathered chunk said new
 any_of w session fetch chunk gathered said old new front is limit =
-    subst (λ g. HeardOfRead w session fetch.asked fetch.token fetch.had (given g chunk) said new)
+    subst (λ g. HeardOfRead w session fetch.asked fetch.token fetch.had g chunk said new)
     (sym front)
     (record {
       heard = is.heard;
@@ -89,23 +93,24 @@ any_of w session fetch chunk gathered said old new front is limit =
         limit = is.limit ∙ limit;
         has_all = is.has_all;
       };
+      gathers = is.gathers;
     })
 
 -- the fetch that is asked for is the one that is planned
 by_read : (w : Terms) (d due : Due) (fetch : Fetch) (asked : Asked) (token : Token) (had : ℕ)
     (gathered said : List ℕ) (chunk : Chunk) (new : Session) → d ≡ due
     → due.ask ≡ asks.Reads fetch.asked fetch.token fetch.had → d.ask ≡ asks.Reads asked token had
-    → HeardOfRead w due.after fetch.asked fetch.token fetch.had (given gathered chunk) said new
-    → HeardOfRead w d.after asked token had (given gathered chunk) said new
+    → HeardOfRead w due.after fetch.asked fetch.token fetch.had gathered chunk said new
+    → HeardOfRead w d.after asked token had gathered chunk said new
 by_read w d due fetch asked token had gathered said chunk new is plans asks_it heard =
     let same : asks.Reads fetch.asked fetch.token fetch.had ≡ asks.Reads asked token had =
     sym plans ∙ ap (λ (one : Due). one.ask) (sym is) ∙ asks_it in
     subst (λ (a : Ask). Heard_at a) same
-    (subst (λ (one : Due). HeardOfRead w one.after fetch.asked fetch.token fetch.had
-    (given gathered chunk) said new) (sym is) heard)
+    (subst (λ (one : Due). HeardOfRead w one.after fetch.asked fetch.token fetch.had gathered
+    chunk said new) (sym is) heard)
   where
     Heard_at : Ask → Type 0
-    Heard_at (asks.Reads one of k) = HeardOfRead w d.after one of k (given gathered chunk) said new
+    Heard_at (asks.Reads one of k) = HeardOfRead w d.after one of k gathered chunk said new
     Heard_at other = Unit {0}
 
 -- the first block of a token was read

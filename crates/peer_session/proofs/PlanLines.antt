@@ -1,5 +1,6 @@
 -- What is due of a session that reads a command, by the line at the front of its unread octets.
-use Rattle.std.proofs.Common.{arith, ◌≡◌, ◌∙◌, ◌+◌, nat_lt, true, false, ap, refl, sym, subst, inr, take, drop, ℕ}
+use Rattle.std.proofs.Common.{arith, ◌≡◌, ◌∙◌, ◌+◌, nat_lt, true, false, ap, refl, sym, subst}
+use Rattle.std.proofs.Common.{inr, take, drop, ℕ}
 use Rattle.std.proofs.Common.{List, Option, Result, Ok}
 use Rattle.std.proofs.lemmas.Bool.{ltb-true, ltb-false}
 use Rattle.cyc_token.specs.Token.{token_view}

@@ -8,7 +8,7 @@ use Rattle.buffer_group.specs.declared.job.Accepted.{Accepted}
 use Rattle.buffer_group.specs.declared.job.Job.{Job}
 use Rattle.cyc_token.specs.Token.{token_view}
 use Rattle.cyc_token.specs.declared.Token.{Token}
-use Rattle.news_terms.specs.Blocks.{next_block, text_lines, unstuffed}
+use Rattle.news_terms.specs.Blocks.{next_block}
 use Rattle.news_terms.specs.Blocks as blocks
 use Rattle.news_terms.specs.Command.{Command, CommandFault}
 use Rattle.news_terms.specs.Reply.{Reply, SyntaxError}

@@ -7,7 +7,7 @@ use Rattle.buffer_group.specs.declared.job.Job.{Job}
 use Rattle.news_terms.specs.Reply.{Reply}
 use Rattle.nntp_text.specs.Command.{part_view}
 use Rattle.relay_model.specs.Asks as asks
-use Rattle.relay_model.specs.Asks.{Ask, Due, IsDue, due_as, is_full, without_offer}
+use Rattle.relay_model.specs.Asks.{Due, IsDue, due_as, is_full, without_offer}
 use Rattle.relay_model.specs.State as model
 use Rattle.relay_model.specs.State.{in_phase, with_offers}
 use Rattle.relay_model.specs.Terms.{Terms}

@@ -95,10 +95,10 @@ abbrev pub LeavesFree : Option Job → List (List ℕ) → Type 0
 LeavesFree (Some job) offers = Unit {0}
 LeavesFree None offers = offers ≡ []
 
--- What is due is planned without memory. Nothing is due: a session that reads a command has no whole
--- line, and may still get one; one that owes a block has none that is whole; or it is closed. Or it
--- pushes the job in hand, looks into its slot, reads the next block of a fetch that is prepared for
--- it, or has nothing left to give up.
+-- What is due is planned without memory. Nothing is due: a session that reads a command has no
+-- whole line, and may still get one; one that owes a block has none that is whole; or it is closed.
+-- Or it pushes the job in hand, looks into its slot, reads the next block of a fetch that is
+-- prepared for it, or has nothing left to give up.
 abbrev pub PlansFree : Phase → Stream → Option Job → List (List ℕ) → Type 0
 PlansFree phases.Ready stream hand offers = next_line stream.unread ≡ Incomplete
 PlansFree (phases.Owes transfer id) stream hand offers =

@@ -143,7 +143,8 @@ impl Session {
         ensures due { IfOk result (λ step.
             DueGiven (terms_of config.now) self.old now step self.new) }
         ensures err { OnErr result (StandsAsBefore self.old self.new) }
-        ensures free { PlansFree self.old.phase self.old.cutter self.old.hand self.old.offers → IsOk result }
+        ensures free { PlansFree self.old.phase self.old.cutter self.old.hand self.old.offers
+            → IsOk result }
         ensures bounded { OwesBlock self.old.phase → IsBounded self.new.cutter }
     {
         let due = self.due(config, now)?;
@@ -159,7 +160,8 @@ impl Session {
         requires { now ≤ last_moment }
         ensures due { IfOk result (λ due. Plans (terms_of config.now) self.old now due self.new) }
         ensures err { OnErr result (StandsAsBefore self.old self.new) }
-        ensures free { PlansFree self.old.phase self.old.cutter self.old.hand self.old.offers → IsOk result }
+        ensures free { PlansFree self.old.phase self.old.cutter self.old.hand self.old.offers
+            → IsOk result }
         ensures bounded { OwesBlock self.old.phase → IsBounded self.new.cutter }
     {
         match &mut self.phase {

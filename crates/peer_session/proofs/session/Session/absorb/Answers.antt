@@ -223,7 +223,8 @@ pub returns-in-Refuse-clause-given : goal.returns-in-Refuse-clause-given
 returns-in-Refuse-clause-given c =
     not_read c.args.self.now c.hear_refused.new.self c.args.answer c.hear_refused.result.items
     (todos.Refuse c.in-Refuse.room) c.replace-todo.result.read refl
-    (was_planned c.args.self.now c.replace-todo.result _ c.replace-todo.ensures.value c.in-Refuse.is)
+    (was_planned c.args.self.now c.replace-todo.result _ c.replace-todo.ensures.value
+    c.in-Refuse.is)
 
 pub returns-in-Take-clause-given : goal.returns-in-Take-clause-given
 returns-in-Take-clause-given c =
@@ -235,7 +236,8 @@ pub returns-in-TakeHeld-clause-given : goal.returns-in-TakeHeld-clause-given
 returns-in-TakeHeld-clause-given c =
     not_read c.args.self.now c.hear_held.new.self c.args.answer c.hear_held.result.items
     (todos.TakeHeld c.in-TakeHeld.copy) c.replace-todo.result.read refl
-    (was_planned c.args.self.now c.replace-todo.result _ c.replace-todo.ensures.value c.in-TakeHeld.is)
+    (was_planned c.args.self.now c.replace-todo.result _ c.replace-todo.ensures.value
+    c.in-TakeHeld.is)
 
 pub returns-in-Slot-clause-given : goal.returns-in-Slot-clause-given
 returns-in-Slot-clause-given c =
@@ -247,7 +249,8 @@ pub returns-in-Release-clause-given : goal.returns-in-Release-clause-given
 returns-in-Release-clause-given c =
     not_read c.args.self.now c.hear_released.new.self c.args.answer c.hear_released.result.items
     todos.Release c.replace-todo.result.read refl
-    (was_planned c.args.self.now c.replace-todo.result _ c.replace-todo.ensures.value c.in-Release.is)
+    (was_planned c.args.self.now c.replace-todo.result _ c.replace-todo.ensures.value
+    c.in-Release.is)
 
 pub returns-in-End-clause-given : goal.returns-in-End-clause-given
 returns-in-End-clause-given c =

@@ -1,5 +1,5 @@
 use Rattle.std.proofs.Common.{◌≡◌, ◌∙◌, ap, refl, sym, subst, Err}
-use Rattle.news_terms.specs.Command.{Command, CommandFault, command_of}
+use Rattle.news_terms.specs.Command.{command_of}
 use Rattle.news_terms.specs.Command as commands
 use Rattle.news_terms.specs.Reply as replies
 use Rattle.nntp_text.specs.Command.{CommandGives}
