@@ -94,4 +94,5 @@ fn put_own(relay: &Relay, sheet: &mut Sheet) {
     sheet.numbered(b" maxart ", u64::from(relay.max_article));
     sheet.numbered(b" cutoff ", relay.cutoff);
     put_optional(b" remember ", relay.remember, sheet);
+    sheet.numbered(b" patience ", u64::from(relay.patience));
 }
