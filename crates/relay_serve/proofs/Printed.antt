@@ -14,6 +14,7 @@ pub served : (config : Config) (totals : Totals) (result : Result (Unit {0}) Ser
 served config totals (Ok done) before after of printed = (totals, of, printed)
 served config totals (Err faults.Unwritten) before after of printed = (totals, of, printed)
 served config totals (Err faults.Memory) before after of printed = (tt, printed)
+served config totals (Err faults.Control) before after of printed = absurd printed
 served config totals (Err faults.Unseeded) before after of printed = absurd printed
 served config totals (Err faults.NoThread) before after of printed = absurd printed
 served config totals (Err (faults.File name)) before after of printed = absurd printed

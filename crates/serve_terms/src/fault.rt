@@ -16,6 +16,8 @@ pub enum ServeError {
     File(String),
     /// The port of this number can't be had. Nothing was served.
     Port(u16),
+    /// The socket by which a relay is told to stop can't be had. Nothing was served.
+    Control,
     /// The system had no random numbers to seed the relay's tables with. Nothing was served.
     Unseeded,
     /// Memory was refused. What was served before stands.
@@ -33,6 +35,7 @@ impl Display for ServeError {
         match self {
             ServeError::File(name) => write!(formatter, "{name}: unusable"),
             ServeError::Port(number) => write!(formatter, "serve: {number}: unusable"),
+            ServeError::Control => formatter.write_str("control: unusable"),
             ServeError::Unseeded => formatter.write_str("relay: no random numbers to be had"),
             ServeError::Memory => formatter.write_str("out of memory"),
             ServeError::NoThread => formatter.write_str("serve: no thread to be had"),
