@@ -1,3 +1,4 @@
+pub mod Asks
 pub mod Checks
 pub mod CommandLines
 pub mod Numbers

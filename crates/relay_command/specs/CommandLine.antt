@@ -29,6 +29,10 @@ pub data Asked : Type 0 where
   -- to serve the configuration in a folder on its ports: each until it has served so many
   -- connections, or without an end
   Serves : (folder : List ℕ) (sessions : Option ℕ) → Asked
+  -- to have the relay end that is served in a folder
+  Stops : (folder : List ℕ) → Asked
+  -- to print the report of the relay that is served in a folder
+  Reports : (folder : List ℕ) → Asked
 
 -- a job as the words ask for it
 abbrev pub asked : Job → Asked
@@ -36,6 +40,8 @@ asked (jobs.Drill folder script) = Drills (string_bytes folder) (string_bytes sc
 asked (jobs.Check folder) = Checks (string_bytes folder)
 asked (jobs.Token text) = Tells (string_bytes text)
 asked (jobs.Serve folder sessions) = Serves (string_bytes folder) sessions
+asked (jobs.Stop folder) = Stops (string_bytes folder)
+asked (jobs.Report folder) = Reports (string_bytes folder)
 
 -- a word that has to be there
 abbrev pub needed : Text → Rule
@@ -50,6 +56,10 @@ abbrev pub drill_words : App
 drill_words =
     with_rule (with_rule (new_app (codes "drill")) (needed (codes "DIR"))) (needed (codes "SCRIPT"))
 
+-- `report DIR`
+abbrev pub report_words : App
+report_words = with_rule (new_app (codes "report")) (needed (codes "DIR"))
+
 -- `--sessions N`, a number of 1 to 1,000,000 that may be left out
 abbrev pub sessions_rule : Rule
 sessions_rule = record (new_rule (codes "sessions")) {
@@ -63,6 +73,10 @@ sessions_rule = record (new_rule (codes "sessions")) {
 abbrev pub serve_words : App
 serve_words = with_rule (with_rule (new_app (codes "serve")) (needed (codes "DIR"))) sessions_rule
 
+-- `stop DIR`
+abbrev pub stop_words : App
+stop_words = with_rule (new_app (codes "stop")) (needed (codes "DIR"))
+
 -- `token TEXT`
 abbrev pub token_words : App
 token_words = with_rule (new_app (codes "token")) (needed (codes "TEXT"))
@@ -75,8 +89,9 @@ version_words =
 -- the words that there are
 abbrev pub program_words : App
 program_words =
-    with_subcommand (with_subcommand (with_subcommand (with_subcommand version_words
-    check_words.top) drill_words.top) serve_words.top) token_words.top
+    with_subcommand (with_subcommand (with_subcommand (with_subcommand (with_subcommand
+    (with_subcommand version_words check_words.top) drill_words.top) report_words.top)
+    serve_words.top) stop_words.top) token_words.top
 
 -- the command reads these words, and has no argument that counts below it too
 pub record Reads (command : Command) (app : App) : Type 0 where
@@ -108,6 +123,8 @@ asked_by (Some met) =
     if bytes_eq met.0 (codes "check") then Checks (word_given (codes "DIR") met.1)
     else if bytes_eq met.0 (codes "token") then Tells (word_given (codes "TEXT") met.1)
     else if bytes_eq met.0 (codes "serve") then serves_by met.1
+    else if bytes_eq met.0 (codes "stop") then Stops (word_given (codes "DIR") met.1)
+    else if bytes_eq met.0 (codes "report") then Reports (word_given (codes "DIR") met.1)
     else Drills (word_given (codes "DIR") met.1) (word_given (codes "SCRIPT") met.1)
 
 -- the words have a fault of this kind, by clap's reading of them; to ask for help or the version is

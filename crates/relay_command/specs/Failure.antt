@@ -9,13 +9,15 @@ use Rattle.clap.specs.declared.error.kind.ErrorKind.{ErrorKind}
 use Rattle.clap.specs.declared.error.kind.ErrorKind.TheVariants.{DisplayVersion, OutOfMemory}
 use Rattle.relay_drill.specs.Text.{text_of}
 use Rattle.relay_drill.specs.declared.fault.DrillError.TheVariants as drill
+use Rattle.relay_command.specs.Ask.{ask_text}
 use Rattle.relay_command.specs.Check.{check_text}
 use Rattle.relay_command.specs.Tell.{fault_text}
 use Rattle.relay_command.specs.Version.{version_line}
+use Rattle.relay_command.specs.declared.ask.AskError.TheVariants as ask
 use Rattle.relay_command.specs.declared.load.CheckError.TheVariants as check
 use Rattle.relay_command.specs.declared.failure.Failure.{Failure}
 use Rattle.relay_command.specs.declared.failure.Failure.TheVariants.{Unbegun, Words, Check}
-use Rattle.relay_command.specs.declared.failure.Failure.TheVariants.{Drill, Serve, Token}
+use Rattle.relay_command.specs.declared.failure.Failure.TheVariants.{Drill, Serve, Token, Ask}
 use Rattle.relay_command.specs.declared.failure.Failure.TheVariants.{Unwritten}
 use Rattle.relay_command.specs.declared.failure.Unbegun.TheVariants as unbegun
 use Rattle.relay_command.specs.declared.failure.Unbegun as begin
@@ -34,7 +36,7 @@ words_status OutOfMemory = 5
 words_status kind = 1
 
 -- 1 for the command line, 2 for the configuration, 3 for the script or the token, 4 for the output,
--- a file, a port or a relay that can't start, 5 for memory or a thread
+-- a file, a port, a relay that can't start or one that can't be asked, 5 for memory or a thread
 abbrev pub status_of : Failure → ℕ
 status_of (Unbegun unbegun.Memory) = 5
 status_of (Unbegun unbegun.NoText) = 1
@@ -55,10 +57,15 @@ status_of (Token token.LowerCase) = 3
 status_of (Token token.Unwritten) = 4
 status_of (Serve (serve.File name)) = 4
 status_of (Serve (serve.Port number)) = 4
+status_of (Serve serve.Control) = 4
 status_of (Serve serve.Unseeded) = 4
 status_of (Serve serve.Memory) = 5
 status_of (Serve serve.NoThread) = 5
 status_of (Serve serve.Unwritten) = 4
+status_of (Ask (ask.Unserved folder)) = 4
+status_of (Ask ask.Unusable) = 4
+status_of (Ask ask.Memory) = 5
+status_of (Ask ask.Unwritten) = 4
 status_of Unwritten = 4
 
 -- 0 where all went well, else the failure's
@@ -89,6 +96,7 @@ told_of (Check error) = Some (ended (check_text error))
 told_of (Drill error) = Some (ended (text_of error))
 told_of (Token fault) = Some (ended (fault_text fault))
 told_of (Serve error) = Some (ended (serving.text_of error))
+told_of (Ask error) = Some (ended (ask_text error))
 told_of Unwritten = Some (ended (codes "stdout: unwritten"))
 
 -- what is told of words with a fault of this kind was written

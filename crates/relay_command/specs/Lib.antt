@@ -1,3 +1,4 @@
+pub mod Ask
 pub mod Check
 pub mod CommandLine
 pub mod Failure

@@ -5,15 +5,18 @@ use Rattle.clap.specs.Words.{Text}
 use Rattle.relay_conf.specs.declared.settings.Config.{Config}
 use Rattle.relay_drill.specs.Drill.{DrillGives}
 use Rattle.relay_drill.specs.declared.fault.DrillError.{DrillError}
+use Rattle.relay_command.specs.Ask.{Asking, AsksIn}
 use Rattle.relay_command.specs.Check.{CheckGives, HasError, IsIn}
-use Rattle.relay_command.specs.CommandLine.{Asked, Drills, Checks, Tells, Serves}
+use Rattle.relay_command.specs.CommandLine.{Asked, Drills, Checks, Tells, Serves, Stops, Reports}
 use Rattle.relay_command.specs.CommandLine.{IsAskedBy, IsRefusedBy}
 use Rattle.relay_command.specs.Files.{CannotBeRead}
 use Rattle.relay_command.specs.Serving.{Serving}
 use Rattle.relay_command.specs.Tell.{TellGives}
+use Rattle.relay_command.specs.declared.ask.Request.{Request}
+use Rattle.relay_command.specs.declared.ask.Request.TheVariants.{Stop, Report}
 use Rattle.relay_command.specs.declared.failure.Failure.{Failure}
 use Rattle.relay_command.specs.declared.failure.Failure.TheVariants.{Words, Check, Drill, Serve}
-use Rattle.relay_command.specs.declared.failure.Failure.TheVariants.{Token}
+use Rattle.relay_command.specs.declared.failure.Failure.TheVariants.{Token, Ask}
 use Rattle.serve_terms.specs.Serve.{ServeGives}
 use Rattle.serve_terms.specs.declared.fault.ServeError.{ServeError}
 
@@ -71,28 +74,42 @@ ServesFolder serving folder sessions (Err (Check error)) before after =
     HasError folder error × Keeps before after
 ServesFolder serving folder sessions (Err failure) before after = ⊥
 
+-- what the relay of a folder was asked for it told, or that failed so; no configuration is read
+abbrev pub AsksFolder : Asking → (folder : List ℕ) → Request → Result (Unit {0}) Failure
+    → (before after : Option (List ℕ)) → Type 0
+AsksFolder asking folder request (Ok done) before after =
+    AsksIn asking folder request (Ok done) before after
+AsksFolder asking folder request (Err (Ask error)) before after =
+    AsksIn asking folder request (Err error) before after
+AsksFolder asking folder request (Err failure) before after = ⊥
+
 -- what was asked for is done, or failed with a failure of its own; only a drill reads standard
 -- input
-abbrev pub Performs : Serving → Asked → Result (Unit {0}) Failure
+abbrev pub Performs : Serving → Asking → Asked → Result (Unit {0}) Failure
     → (input before after : Option (List ℕ)) → Type 0
-Performs serving (Drills folder script) result input before after =
+Performs serving asking (Drills folder script) result input before after =
     DrillsFolder folder script result input before after
-Performs serving (Checks folder) (Ok done) input before after =
+Performs serving asking (Checks folder) (Ok done) input before after =
     CheckGives (Ok done) folder before after
-Performs serving (Checks folder) (Err (Check error)) input before after =
+Performs serving asking (Checks folder) (Err (Check error)) input before after =
     CheckGives (Err error) folder before after
-Performs serving (Tells text) (Ok done) input before after =
+Performs serving asking (Tells text) (Ok done) input before after =
     TellGives (Ok done) text before after
-Performs serving (Tells text) (Err (Token fault)) input before after =
+Performs serving asking (Tells text) (Err (Token fault)) input before after =
     TellGives (Err fault) text before after
-Performs serving (Serves folder sessions) result input before after =
+Performs serving asking (Serves folder sessions) result input before after =
     ServesFolder serving folder sessions result before after
-Performs serving asked (Err failure) input before after = ⊥
+Performs serving asking (Stops folder) result input before after =
+    AsksFolder asking folder Stop result before after
+Performs serving asking (Reports folder) result input before after =
+    AsksFolder asking folder Report result before after
+Performs serving asking asked (Err failure) input before after = ⊥
 
 -- what the words ask for is done or failed; or they ask for nothing, and nothing was written
-abbrev pub RunGives : Serving → List Text → Result (Unit {0}) Failure
+abbrev pub RunGives : Serving → Asking → List Text → Result (Unit {0}) Failure
     → (input before after : Option (List ℕ)) → Type 0
-RunGives serving words (Err (Words error)) input before after =
+RunGives serving asking words (Err (Words error)) input before after =
     IsRefusedBy words error × Keeps before after
-RunGives serving words result input before after =
-    (asked : Asked) × IsAskedBy words asked × Performs serving asked result input before after
+RunGives serving asking words result input before after =
+    (asked : Asked) × IsAskedBy words asked
+    × Performs serving asking asked result input before after

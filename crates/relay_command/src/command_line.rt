@@ -4,7 +4,8 @@ ghost use Rattle.clap.specs.Words.{found_of, rows_of, rule_of, subcommand_rows_o
 ghost use Rattle.relay_command.specs.CommandLine.{Reads, ReadsWords, asked, asked_by};
 ghost use Rattle.relay_command.specs.CommandLine.{word_given, check_words, drill_words};
 ghost use Rattle.relay_command.specs.CommandLine.{serves_by, sessions_given, sessions_rule};
-ghost use Rattle.relay_command.specs.CommandLine.{needed, program_words, serve_words, token_words};
+ghost use Rattle.relay_command.specs.CommandLine.{needed, program_words, report_words, serve_words};
+ghost use Rattle.relay_command.specs.CommandLine.{stop_words, token_words, version_words};
 
 use crate::version::VERSION;
 use clap::{Arg, ArgAction, ArgMatches, Command, Error, value_parser};
@@ -28,6 +29,10 @@ pub enum Job {
         folder: String,
         sessions: Option<u32>,
     },
+    /// To have the relay end that is served in this folder.
+    Stop(String),
+    /// To print the report of the relay that is served in this folder.
+    Report(String),
 }
 
 /// Reads the words, the program's name first. Without further words they ask for a drill.
@@ -75,6 +80,12 @@ fn job_named(alloc: Global, name: &str, given: &ArgMatches<'_>) -> Result<Job, A
     if name == "serve" {
         return service(alloc, given);
     }
+    if name == "stop" {
+        return Ok(Job::Stop(word(alloc, given, "DIR")?));
+    }
+    if name == "report" {
+        return Ok(Job::Report(word(alloc, given, "DIR")?));
+    }
     Ok(Job::Drill {
         folder: word(alloc, given, "DIR")?,
         script: word(alloc, given, "SCRIPT")?,
@@ -112,16 +123,24 @@ fn word(alloc: Global, given: &ArgMatches<'_>, name: &str) -> Result<String, All
 fn command<'a>(alloc: Global) -> Result<Command<'a>, AllocError>
     ensures { IfOk result (λ command. Reads command program_words) }
 {
-    let whole = Command::new(alloc, "cnrelay")
-        .version(VERSION)
-        .about("The incoming side of a Netnews transit server");
     Ok(
-        whole
+        program(alloc)
             .subcommand(check(alloc)?)?
             .subcommand(drill(alloc)?)?
+            .subcommand(report(alloc)?)?
             .subcommand(serve(alloc)?)?
+            .subcommand(stop(alloc)?)?
             .subcommand(token(alloc)?)?,
     )
+}
+
+/// The words without a command: `--version` alone.
+fn program<'a>(alloc: Global) -> Command<'a>
+    ensures { Reads result version_words }
+{
+    Command::new(alloc, "cnrelay")
+        .version(VERSION)
+        .about("The incoming side of a Netnews transit server")
 }
 
 /// `check DIR`.
@@ -154,6 +173,18 @@ fn drill<'a>(alloc: Global) -> Result<Command<'a>, AllocError>
     )
 }
 
+/// `report DIR`.
+fn report<'a>(alloc: Global) -> Result<Command<'a>, AllocError>
+    ensures { IfOk result (λ command. Reads command report_words) }
+{
+    let folder = needed(alloc, "DIR").help("The folder in which the relay is served");
+    Ok(
+        Command::new(alloc, "report")
+            .about("Prints the report of a relay that is served")
+            .arg(folder)?,
+    )
+}
+
 /// `serve DIR [--sessions N]`.
 fn serve<'a>(alloc: Global) -> Result<Command<'a>, AllocError>
     ensures { IfOk result (λ command. Reads command serve_words) }
@@ -180,6 +211,18 @@ fn limit<'a>(alloc: Global) -> Arg<'a>
         .value_name("N")
         .value_parser(value_parser!(u32).range(1..1_000_001))
         .action(ArgAction::Set)
+}
+
+/// `stop DIR`.
+fn stop<'a>(alloc: Global) -> Result<Command<'a>, AllocError>
+    ensures { IfOk result (λ command. Reads command stop_words) }
+{
+    let folder = needed(alloc, "DIR").help("The folder in which the relay is served");
+    Ok(
+        Command::new(alloc, "stop")
+            .about("Ends a relay that is served")
+            .arg(folder)?,
+    )
 }
 
 /// `token TEXT`.

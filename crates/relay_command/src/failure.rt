@@ -5,6 +5,7 @@ ghost use Rattle.clap.specs.Words.{kind_of};
 ghost use Rattle.relay_command.specs.Failure.{ends_with, status_of, Tells, unbegun_text};
 ghost use Rattle.relay_command.specs.Failure.{TellsWords, words_status};
 
+use crate::ask::AskError;
 use crate::load::CheckError;
 use crate::token::TokenFault;
 use crate::version::tell_version;
@@ -60,6 +61,9 @@ pub enum Failure {
     /// A relay was not served to its end, or its report not written.
     #[error(transparent)]
     Serve(ServeError),
+    /// A relay that is served can't be asked, or what it told is not written.
+    #[error(transparent)]
+    Ask(AskError),
     /// Standard output took no more. What it took before stands.
     #[error("stdout: unwritten")]
     Unwritten,
@@ -81,10 +85,14 @@ impl Failure {
             Failure::Check(CheckError::Unwritten) => 4,
             Failure::Drill(DrillError::Unwritten | DrillError::Unseeded) => 4,
             Failure::Serve(ServeError::File(_) | ServeError::Port(_)) => 4,
+            Failure::Serve(ServeError::Control) => 4,
             Failure::Serve(ServeError::Unseeded | ServeError::Unwritten) => 4,
+            Failure::Ask(AskError::Unserved(_) | AskError::Unusable) => 4,
+            Failure::Ask(AskError::Unwritten) => 4,
             Failure::Unbegun(Unbegun::Memory) => 5,
             Failure::Check(CheckError::Memory) | Failure::Drill(DrillError::Memory) => 5,
             Failure::Serve(ServeError::Memory | ServeError::NoThread) => 5,
+            Failure::Ask(AskError::Memory) => 5,
         }
     }
 }
@@ -112,6 +120,7 @@ pub fn print_failure<W: Write>(ran: &Result<(), Failure>, writer: &mut W) -> io:
         Err(Failure::Drill(error)) => writeln!(writer, "{error}"),
         Err(Failure::Token(fault)) => writeln!(writer, "{fault}"),
         Err(Failure::Serve(error)) => writeln!(writer, "{error}"),
+        Err(Failure::Ask(error)) => writeln!(writer, "{error}"),
         Err(Failure::Unwritten) => writer.write_all(b"stdout: unwritten\n"),
     }
 }

@@ -1,11 +1,12 @@
 //! What the program does with its words (docs/PROTOCOL.md, Program): it runs a drill, says what a
-//! configuration has, or what a token stands for, or has a relay served on ports; and why it ends
-//! where it fails, with the status.
+//! configuration has, or what a token stands for, has a relay served on ports, or asks one that is
+//! served to end or for its report; and why it ends where it fails, with the status.
 //!
 //! The words decide which of these is done, on which streams and with which failure (`run`). Where
-//! the words and the streams come from is the program's, and so is what serves.
+//! the words and the streams come from is the program's, and so is what serves and what asks.
 #![tactic(auto)]
 
+mod ask;
 mod check;
 mod command_line;
 mod failure;
@@ -17,6 +18,7 @@ mod serve;
 mod token;
 mod version;
 
+pub use ask::{AskError, Request};
 pub use failure::{Failure, Unbegun, exit_code, print_failure};
 pub use gathered::gathering;
 pub use load::{CheckError, ConfFile};

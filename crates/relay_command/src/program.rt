@@ -1,5 +1,6 @@
 //! Doing what the words ask for (docs/PROTOCOL.md, Program).
 ghost use Rattle.std.specs.Prelude.{◌≡◌, ◌⊎◌, map, bytes_eq, codes, string_bytes, IfOk, IfErr};
+ghost use Rattle.relay_command.specs.Ask.{Answered};
 ghost use Rattle.relay_command.specs.CommandLine.{asked};
 ghost use Rattle.std.specs.Vec.Iter.{into_iter_items};
 ghost use Rattle.std.specs.Io.Buffered.{writer_buffer, writer_contents, writer_inner};
@@ -11,6 +12,7 @@ ghost use Rattle.serve_terms.specs.Serve.{AnswersRightly};
 ghost use Rattle.relay_command.specs.declared.failure.Failure.TheVariants as failures;
 ghost use Rattle.relay_command.specs.declared.failure.Unbegun.TheVariants as begin;
 
+use crate::ask::{Request, ask_in};
 use crate::check::check;
 use crate::command_line::{Job, read_words};
 use crate::failure::{Failure, Unbegun};
@@ -23,11 +25,11 @@ use relay_conf::Config;
 use relay_drill::{DrillError, drill};
 use serve_terms::ServeError;
 use std::alloc::Global;
-use std::env;
 use std::env::{Args, Env};
 use std::fs::Files;
 use std::io::{BufWriter, ErrorKind, Read, Write};
 use std::random::RandomSource;
+use std::{env, io};
 
 /// The words that the program was started with, its name first.
 pub fn program_words<E: Env + AllocGlobal>(rt: &E) -> Result<Vec<String>, Failure>
@@ -66,65 +68,76 @@ fn unread(kind: ErrorKind) -> Unbegun
 /// input; what is printed where nothing fails goes to standard output by `writer`, and is handed on
 /// to its end before a failure is told. `rt` has the files, and seeds the core's hasher; `serve` is
 /// asked to serve a relay on ports: with its configuration, the folder of its files, and after how
-/// many connections each port ends.
-pub fn run<S: Files + RandomSource, R: Read, W: Write + Drop, V>(
+/// many connections each port ends. `ask` is asked what the relay tells that is served in a folder.
+pub fn run<S: Files + RandomSource, R: Read, W: Write + Drop, V, A>(
     rt: &S,
     alloc: Global,
     words: &[String],
     reader: &mut R,
     writer: &mut BufWriter<W>,
     serve: V,
+    ask: A,
 ) -> Result<(), Failure>
 where
     V: FnOnce(&Config, &str, Option<u32>, &mut BufWriter<W>) -> Result<(), ServeError>,
+    A: FnOnce(&str, Request) -> io::Result<Vec<u8>>,
     requires called { V.IsAlwaysCallable serve }
+    requires asked { A.IsAlwaysCallable ask }
     requires rightly { AnswersRightly (writer_contents W.contents) (V.post serve) }
     ensures { RunsGathered (Handed (writer_contents W.contents) (V.post serve))
-        (map string_bytes words.now) result (R.remaining reader.old)
+        (Answered (A.post ask)) (map string_bytes words.now) result (R.remaining reader.old)
         (writer_contents W.contents writer.old) (W.contents (writer_inner writer.new))
         (writer_buffer writer.new) }
 {
-    let ran = obey(rt, alloc, words, reader, writer, serve);
+    let ran = obey(rt, alloc, words, reader, writer, serve, ask);
     hand_on(ran, writer)
 }
 
 /// Does what the words ask for.
-fn obey<S: Files + RandomSource, R: Read, W: Write, V>(
+fn obey<S: Files + RandomSource, R: Read, W: Write, V, A>(
     rt: &S,
     alloc: Global,
     words: &[String],
     reader: &mut R,
     writer: &mut W,
     serve: V,
+    ask: A,
 ) -> Result<(), Failure>
 where
     V: FnOnce(&Config, &str, Option<u32>, &mut W) -> Result<(), ServeError>,
+    A: FnOnce(&str, Request) -> io::Result<Vec<u8>>,
     requires called { V.IsAlwaysCallable serve }
+    requires asked { A.IsAlwaysCallable ask }
     requires rightly { AnswersRightly W.contents (V.post serve) }
-    ensures { RunGives (Handed W.contents (V.post serve)) (map string_bytes words.now) result
-        (R.remaining reader.old) (W.contents writer.old) (W.contents writer.new) }
+    ensures { RunGives (Handed W.contents (V.post serve)) (Answered (A.post ask))
+        (map string_bytes words.now) result (R.remaining reader.old) (W.contents writer.old)
+        (W.contents writer.new) }
 {
     match read_words(alloc, words) {
-        Ok(job) => perform(rt, alloc, &job, reader, writer, serve),
+        Ok(job) => perform(rt, alloc, &job, reader, writer, serve, ask),
         Err(error) => Err(Failure::Words(error)),
     }
 }
 
 /// Does what is asked for.
-fn perform<S: Files + RandomSource, R: Read, W: Write, V>(
+fn perform<S: Files + RandomSource, R: Read, W: Write, V, A>(
     rt: &S,
     alloc: Global,
     job: &Job,
     reader: &mut R,
     writer: &mut W,
     serve: V,
+    ask: A,
 ) -> Result<(), Failure>
 where
     V: FnOnce(&Config, &str, Option<u32>, &mut W) -> Result<(), ServeError>,
+    A: FnOnce(&str, Request) -> io::Result<Vec<u8>>,
     requires called { V.IsAlwaysCallable serve }
+    requires asked { A.IsAlwaysCallable ask }
     requires rightly { AnswersRightly W.contents (V.post serve) }
-    ensures { Performs (Handed W.contents (V.post serve)) (asked job.now) result
-        (R.remaining reader.old) (W.contents writer.old) (W.contents writer.new) }
+    ensures { Performs (Handed W.contents (V.post serve)) (Answered (A.post ask))
+        (asked job.now) result (R.remaining reader.old) (W.contents writer.old)
+        (W.contents writer.new) }
 {
     match job {
         Job::Drill { folder, script } => drill_in(rt, alloc, folder, script, reader, writer),
@@ -137,6 +150,8 @@ where
             Err(fault) => Err(Failure::Token(fault)),
         },
         Job::Serve { folder, sessions } => serve_in(rt, alloc, folder, *sessions, writer, serve),
+        Job::Stop(folder) => ask_in(alloc, folder, Request::Stop, writer, ask),
+        Job::Report(folder) => ask_in(alloc, folder, Request::Report, writer, ask),
     }
 }
 
