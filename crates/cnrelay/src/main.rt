@@ -1,17 +1,19 @@
 //! cnrelay, the incoming side of a Netnews transit server: it serves peers on ports, over files; it
 //! runs a drill, a script of events, over memory, and prints what the relay answers; it says how
-//! much a configuration has, or its first fault, and what a token stands for.
+//! much a configuration has, or its first fault, and what a token stands for; it asks a relay that
+//! is served to end, or for its report.
 //!
 //! What it does with its words is a promise of `relay_command`, and what serves of `relay_serve`.
-//! Here the calls of the one are handed the words, the streams and the files of the system, and the
-//! call of the other, and nothing is decided.
+//! Here the calls of the one are handed the words, the streams and the files of the system, the
+//! call of the other and what asks, and nothing is decided.
 #![tactic(auto)]
 
-use relay_command::{Failure, exit_code, gathering, print_failure, program_words, run};
+use relay_command::{Failure, Request, exit_code, gathering, print_failure, program_words, run};
 use relay_serve::serve_on;
 use std::env::Env;
 use std::fs::{File, Files};
 use std::io;
+use std::io::ErrorKind;
 use std::net::{Net, TcpListener, TcpStream};
 use std::process::ExitCode;
 use std::random::RandomSource;
@@ -53,7 +55,13 @@ where
         move |config, folder, sessions, writer| serve_on(
             rt, alloc, config, folder, sessions, writer,
         ),
+        move |folder, request| ask(folder, request),
     );
     let (_device, _unwritten) = output.into_parts();
     ran
+}
+
+/// What the relay tells that is served in a folder: none can be asked yet.
+fn ask(_folder: &str, _request: Request) -> io::Result<Vec<u8>> {
+    Err(io::Error::from(ErrorKind::Unsupported))
 }
