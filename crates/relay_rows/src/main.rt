@@ -8,6 +8,7 @@
 //! configurations that they name in `data`.
 #![tactic(auto)]
 
+mod asker;
 mod expand;
 mod machine;
 mod manner;

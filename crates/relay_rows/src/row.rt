@@ -1,5 +1,6 @@
-//! A row: what it shows, the program's words, how its streams, its machine and what serves behave,
-//! and its standard input.
+//! A row: what it shows, the program's words, how its streams, its machine and what serves or asks
+//! behave, and its standard input.
+use crate::asker::ask;
 use crate::expand::expanded;
 use crate::machine::Machine;
 use crate::manner::{Manner, add_cut, counted, joined};
@@ -30,7 +31,7 @@ pub struct Row<'a> {
     output: &'a [u8],
     /// How the machine behaves: the line behind `!`.
     machine: &'a [u8],
-    /// How what serves fails: the line behind `@`.
+    /// How what serves or asks fails: the line behind `@`.
     server: &'a [u8],
     /// The lines below those, with an LF between each two: none stands behind the last.
     script: Vec<u8>,
@@ -144,7 +145,8 @@ impl<'a> Row<'a> {
         let mut input = Input::new(script, self.input);
         let machine = Machine::new(rt, self.machine);
         let alloc = rt.alloc();
-        let ending = ending_of(self.server);
+        let manner = self.server;
+        let ending = ending_of(manner);
         run(
             &machine,
             alloc,
@@ -154,6 +156,7 @@ impl<'a> Row<'a> {
             move |config, folder, sessions, writer| {
                 serve(alloc, ending, config, folder, sessions, writer)
             },
+            move |folder, request| ask(alloc, manner, folder, request),
         )
     }
 }

@@ -24,6 +24,8 @@ pub enum Ending {
     File,
     /// `port`: the port of the first peer that has one can't be had.
     Port,
+    /// `control`: the socket by which a relay is asked can't be had.
+    Control,
     /// `unseeded`: there are no random numbers.
     Unseeded,
     /// `memory`: there is no memory.
@@ -41,6 +43,9 @@ pub fn ending_of(manner: &[u8]) -> Ending {
     }
     if manner == b"port".as_slice() {
         return Ending::Port;
+    }
+    if manner == b"control".as_slice() {
+        return Ending::Control;
     }
     if manner == b"unseeded".as_slice() {
         return Ending::Unseeded;
@@ -100,6 +105,7 @@ fn plain_failure(ending: Ending) -> Option<ServeError>
         → ServeGives config (Err error) held held) }
 {
     match ending {
+        Ending::Control => Some(ServeError::Control),
         Ending::Unseeded => Some(ServeError::Unseeded),
         Ending::Memory => Some(ServeError::Memory),
         Ending::Thread => Some(ServeError::NoThread),

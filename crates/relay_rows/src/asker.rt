@@ -1,0 +1,36 @@
+//! What asks in a row: it opens no socket, fails as a line of the row says, and tells what it was
+//! asked.
+use relay_command::Request;
+use std::alloc::Global;
+use std::io;
+use std::io::ErrorKind;
+
+/// Tells what was asked, of which folder, unless the row's line names a failure.
+pub fn ask(alloc: Global, manner: &[u8], folder: &str, request: Request) -> io::Result<Vec<u8>> {
+    if let Some(kind) = failure_of(manner) {
+        return Err(io::Error::from(kind));
+    }
+    let told = match request {
+        Request::Stop => format!(in alloc; "{folder} was told to stop\n")?,
+        Request::Report => format!(in alloc; "{folder} was asked for its report\n")?,
+    };
+    Ok(Vec::from_slice(alloc, told.as_bytes())?)
+}
+
+/// The failure that a row's line names: no socket is there, nobody hears at it, it is another
+/// user's, or there is no memory.
+fn failure_of(manner: &[u8]) -> Option<ErrorKind> {
+    if manner == b"no socket".as_slice() {
+        return Some(ErrorKind::NotFound);
+    }
+    if manner == b"nobody".as_slice() {
+        return Some(ErrorKind::ConnectionRefused);
+    }
+    if manner == b"denied".as_slice() {
+        return Some(ErrorKind::PermissionDenied);
+    }
+    if manner == b"memory".as_slice() {
+        return Some(ErrorKind::OutOfMemory);
+    }
+    None
+}
