@@ -8,6 +8,7 @@ use Rattle.std.proofs.lemmas.Option.{none-some}
 use Rattle.std.specs.Option.{IsSomeAnd}
 use Rattle.std.specs.Prelude.{Err, IfErr, IfOk, IfSome, Ok, Result, option_map}
 use Rattle.article_fetch.specs.Fetch.{Fetch}
+use Rattle.article_fetch.specs.Chunks.{chunk_view}
 use Rattle.article_fetch.specs.declared.chunk.Chunk.{Chunk}
 use Rattle.article_fetch.specs.declared.chunk.Chunk.TheVariants as chunks
 use Rattle.boxcar.specs.Table.{Shelves, Where}
@@ -15,6 +16,7 @@ use Rattle.buffer_group.specs.declared.job.Job.{Job}
 use Rattle.cyc_buffer.specs.declared.answers.Fault.{Fault}
 use Rattle.cyc_buffer.specs.declared.answers.Found.{Found}
 use Rattle.cyc_buffer.specs.declared.answers.Found.TheVariants as found
+use Rattle.cyc_buffer.specs.declared.answers.Front.{Front}
 use Rattle.cyc_token.specs.Token.{token_view}
 use Rattle.cyc_token.specs.declared.Token as codes
 use Rattle.feed_queue.specs.declared.desk.Taken.{Taken}
@@ -27,7 +29,7 @@ use Rattle.live_seats.specs.Seats.{count_of, end_of, handed_by}
 use Rattle.live_session.proofs.Hearings.{answers_by, none_read, reads_block}
 use Rattle.live_session.specs.Course.{Hands, HandsAfter, IsHeldOnce, IsToldFor, with_job, with_kept}
 use Rattle.live_session.specs.Going.{AnswersBy, AskFits, FoundBy, IsFrontOf, IsReadOf}
-use Rattle.live_session.specs.Going.{KeepsButReads, ReadOf, ReadsFor, Shared, SharesFor, chunk_view}
+use Rattle.live_session.specs.Going.{KeepsButReads, ReadOf, ReadsFor, Shared, SharesFor, chunk_in}
 use Rattle.live_session.specs.Going.{hands_of, numbers_of}
 use Rattle.live_session.specs.declared.talk.Talk.{Talk}
 use Rattle.live_store.specs.Steps.{IsChunkOf, IsFoundGone, IsFoundIn, IsReadFault}
@@ -157,7 +159,8 @@ module _ {J : Type 0} {g : Ghosts J} (w : Terms) (talk : Talk J g) where
   pub answered : (honest : Bool) (new : Talk J g) (answer : Answer) (told : shares.Answer)
       (m : model.Session) (d : Due) (gathered : List ℕ) (ask : Ask) → d.ask ≡ ask
       → reads_block ask ≡ false → IsAnswerTo ask gathered answer told
-      → IsReadOf new.reads.shown told → IsToldFor honest g.register d.ask told
+      → IsReadOf new.reads.shown told
+      → IsToldFor honest g.register gathered d.ask (chunk_in answer) told
       → IsHeldOnce m.phase told
       → HandsAfter (end_of talk.seat) ask told (hands_of talk) (hands_of new)
       → Planned w new.session m d gathered (handed answer)
@@ -247,8 +250,8 @@ module _ {J : Type 0} {g : Ghosts J} (w : Terms) (talk : Talk J g) where
             (shares.ToRead one.found)) (sym is.1)
             (read_answer honest is.0 (token_view token) k gathered chunk one.found one.is_found);
         read = one.read;
-        found = subst (λ a. IsToldFor honest g.register a (shares.ToRead one.found)) (sym is.1)
-            one.under;
+        found = subst (λ a. IsToldFor honest g.register gathered a (Some chunk)
+            (shares.ToRead one.found)) (sym is.1) one.under;
         held = λ id article holds held. cc;
         hands = subst (λ a. HandsAfter (end_of talk.seat) a (shares.ToRead one.found)
             (hands_of talk) (hands_of new)) (sym is.1) keeps.hands;
@@ -336,19 +339,20 @@ module _ {J : Type 0} {g : Ghosts J} (w : Terms) (talk : Talk J g) where
       (subst (λ s. Planned w s m d gathered false) (sym session) planned)
 
 -- what was found of a block, where that is no text
-found_gone : (honest : Bool) (fetch : Fetch) → FoundBy honest fetch chunks.Gone fetches.Gone
-found_gone true fetch = refl
-found_gone false fetch = refl
+found_gone : (honest : Bool) (fetch : Fetch) (front : Front)
+    → FoundBy honest fetch (chunks.Gone front) fetches.Gone
+found_gone true fetch front = refl
+found_gone false fetch front = refl
 
 found_none : (honest : Bool) (fetch : Fetch)
     → FoundBy honest fetch chunks.Unknown fetches.NotKnown
 found_none true fetch = refl
 found_none false fetch = refl
 
-found_fault : (honest : Bool) (fetch : Fetch)
-    → FoundBy honest fetch chunks.Device fetches.NotRead
-found_fault true fetch = refl
-found_fault false fetch = refl
+found_fault : (honest : Bool) (fetch : Fetch) (fault : Fault)
+    → FoundBy honest fetch (chunks.Device fault) fetches.NotRead
+found_fault true fetch fault = refl
+found_fault false fetch fault = refl
 
 -- what was found of a block is of the record of the reads, whichever they were before
 module _ (register : Shelves) (token : Token) (k : ℕ) (old new : Option (Where Record)) where
@@ -359,7 +363,7 @@ module _ (register : Shelves) (token : Token) (k : ℕ) (old new : Option (Where
     found = fetches.Article (gathered ++ octets);
     is_found = refl;
     read = λ trusted. cc;
-    under = λ trusted. cc;
+    under = refl;
   } ∣₁
   chunk_found true octets stays is asked gathered front = by new refl (is refl)
     where
@@ -383,12 +387,10 @@ module _ (register : Shelves) (token : Token) (k : ℕ) (old new : Option (Where
             );
             read = λ trusted. subst (λ o. IsSomeAnd o (λ w. text_in one ≡ text_in w)) (sym at)
                 refl;
-            under = λ trusted. record {
-              shown = one;
-              shows = here.shows;
-              named = here.named;
-              octets = refl;
-            };
+            under = (
+              record { shown = one; shows = here.shows; named = here.named; octets = refl },
+              here.chunk,
+            );
           })
         where
           front_of : (one : Where Record) → new ≡ Some one
@@ -413,9 +415,9 @@ module _ (register : Shelves) (token : Token) (k : ℕ) (old new : Option (Where
   block_read honest slice (Ok (found.Gone front)) stays is gone fault asked gathered fits =
       ∣ record {
         found = fetches.Gone;
-        is_found = found_gone honest (fetch_at asked token k gathered);
+        is_found = found_gone honest (fetch_at asked token k gathered) front;
         read = λ trusted. tt;
-        under = (front, gone);
+        under = gone;
       } ∣₁
   block_read honest slice (Ok found.Unknown) stays is gone fault asked gathered fits = ∣ record {
     found = fetches.NotKnown;
@@ -425,9 +427,9 @@ module _ (register : Shelves) (token : Token) (k : ℕ) (old new : Option (Where
   } ∣₁
   block_read honest slice (Err one) stays is gone fault asked gathered fits = ∣ record {
     found = fetches.NotRead;
-    is_found = found_fault honest (fetch_at asked token k gathered);
+    is_found = found_fault honest (fetch_at asked token k gathered) one;
     read = λ trusted. tt;
-    under = (one, fault);
+    under = fault;
   } ∣₁
 
   -- the reads began anew before

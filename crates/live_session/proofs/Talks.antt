@@ -11,13 +11,12 @@ use Rattle.live_session.proofs.Closing.{course_ends}
 use Rattle.live_session.specs.Carried.{Begins, Carried, Carries, CarriesOn, CarriesSame}
 use Rattle.live_session.specs.Carried.{IsServedBy, Serves, ServesOn}
 use Rattle.live_session.specs.Course as course
-use Rattle.live_session.specs.Course.{Course, Breaks, Comes, Goes, Hands, HandsAfter, HearsBy}
-use Rattle.live_session.specs.Course.{IsTurnOf}
-use Rattle.live_session.specs.Course.{Point, Turn, after_turn, broken_off, greeted, octets_of}
+use Rattle.live_session.specs.Course.{Breaks, Comes, Goes, Hands, HandsAfter, HearsBy}
+use Rattle.live_session.specs.Course.{Turn, after_turn, broken_off, greeted, octets_of}
 use Rattle.live_session.specs.Course.{parted_by, with_piece}
 use Rattle.live_session.specs.Going.{AskFits, FrontFits, HearsAnswer, IsFrontOf, IsReadOf}
 use Rattle.live_session.specs.Going.{KeepsButSession, KeepsPlace, LetsGo, SharesFor}
-use Rattle.live_session.specs.Going.{StaysSame, WentOn, hands_of, parted_after}
+use Rattle.live_session.specs.Going.{StaysSame, WentOn, chunk_in, hands_of, parted_after}
 use Rattle.live_session.specs.declared.talk.Talk.{Talk}
 use Rattle.live_session.specs.declared.wire.Finish.{Finish}
 use Rattle.live_session.specs.declared.wire.Finish.TheVariants as finishes
@@ -35,7 +34,7 @@ use Rattle.peer_session.specs.declared.steps.Answer.{Answer}
 use Rattle.peer_session.specs.declared.steps.Answer.TheVariants as answers
 use Rattle.peer_session.specs.declared.steps.Step.{Step}
 use Rattle.relay_model.specs.Asks as asks
-use Rattle.relay_model.specs.Asks.{Ask, Due}
+use Rattle.relay_model.specs.Asks.{Ask}
 use Rattle.relay_model.specs.Hears.{silent}
 use Rattle.relay_model.specs.Run.{is_reading, is_running, new_session}
 use Rattle.relay_model.specs.Shares as shares
@@ -137,9 +136,8 @@ module _ {J : Type 0} {g : Ghosts J} (w : Terms) (old new : Talk J g) where
     at = p;
     going = record {
       course = going.course;
-      gathered = going.gathered;
-      stands = stands p.session going.gathered going.stands;
-      front = λ trusted. subst (λ shown. FrontFits shown p.session.phase going.gathered)
+      stands = stands p.session p.gathered going.stands;
+      front = λ trusted. subst (λ shown. FrontFits shown p.session.phase p.gathered)
           (sym reads) (going.front trusted);
       hands = going.hands ∙ sym hands;
       number = place.number ∙ going.number;
@@ -158,19 +156,20 @@ module _ {J : Type 0} {g : Ghosts J} (w : Terms) (old new : Talk J g) where
       → KeepsButSession after new → answer ≢ answers.Memory → WentOn w old said new
   went step now between after answer said moment plans rest shares_it place hears_it kept some
       honest trust s end first p going =
-      let plan = plans p.session going.gathered going.stands in
-      let fits : honest ≡ true → AskFits between.reads.shown plan.due.ask going.gathered =
-      λ trusted. asks_fit w p.session going.gathered between.reads.shown plan.due.ask plan.asks_of
-      (subst (λ shown. FrontFits shown p.session.phase going.gathered) (sym rest.reads)
+      let plan = plans p.session p.gathered going.stands in
+      let fits : honest ≡ true → AskFits between.reads.shown plan.due.ask p.gathered =
+      λ trusted. asks_fit w p.session p.gathered between.reads.shown plan.due.ask plan.asks_of
+      (subst (λ shown. FrontFits shown p.session.phase p.gathered) (sym rest.reads)
       (going.front trusted)) in
-      ∥∥₁_map (shares_it honest trust p.session plan.due going.gathered plan.planned plan.is_step
+      ∥∥₁_map (shares_it honest trust p.session plan.due p.gathered plan.planned plan.is_step
       fits some)
       (λ shared.
-      let heard = hears_it honest w p.session plan.due going.gathered shared.told some
+      let heard = hears_it honest w p.session plan.due p.gathered shared.told some
       shared.planned shared.answers in
       let turn : Turn = record {
         now = now;
         due = plan.due;
+        chunk = chunk_in answer;
         told = shared.told;
         heard = heard.heard;
       } in
@@ -193,12 +192,14 @@ module _ {J : Type 0} {g : Ghosts J} (w : Terms) (old new : Talk J g) where
             found = shared.found;
             held = shared.held;
           }) hands;
-          gathered = heard.later;
-          stands = heard.stands;
-          front = λ trusted. subst (λ shown. FrontFits shown heard.heard.session.phase heard.later)
+          stands = subst (λ l. Stands w new.session heard.heard.session l) heard.later_is
+              heard.stands;
+          front = λ trusted. subst (λ l. FrontFits new.reads.shown heard.heard.session.phase l)
+              heard.later_is
+              (subst (λ shown. FrontFits shown heard.heard.session.phase heard.later)
               (sym kept.reads)
               (front_heard plan.due.ask shared.told heard.heard.session.phase heard.later
-              after.reads.shown (heard.gathers trusted) (shared.read trusted));
+              after.reads.shown (heard.gathers trusted) (shared.read trusted)));
           hands = refl;
           number = kept.place.number ∙ number;
           end_is = kept.place.end_is ∙ place.end_is ∙ end_here;
@@ -277,8 +278,7 @@ module _ {J : Type 0} {g : Ghosts J} (w : Terms) (old new : Talk J g) where
         going = record {
           course = Breaks one.at one.going.course
               (ap (λ (m : model.Session). is_reading m.phase) one.going.stands.is ∙ reads);
-          gathered = [];
-          stands = breaks w one.at.session one.going.gathered one.going.stands;
+          stands = breaks w one.at.session one.at.gathered one.going.stands;
           front = λ trusted asked token had is. cc;
           hands = one.going.hands ∙ sym hands;
           number = place.number ∙ one.going.number;
@@ -302,10 +302,9 @@ module _ {J : Type 0} {g : Ghosts J} (w : Terms) (old new : Talk J g) where
         going = record {
           course = Comes one.at piece one.going.course
               (ap (λ (m : model.Session). is_reading m.phase) one.going.stands.is ∙ reads);
-          gathered = one.going.gathered;
-          stands = feeds w one.at.session one.going.gathered one.going.stands;
+          stands = feeds w one.at.session one.at.gathered one.going.stands;
           front = λ trusted.
-              subst (λ shown_one. FrontFits shown_one one.at.session.phase one.going.gathered)
+              subst (λ shown_one. FrontFits shown_one one.at.session.phase one.at.gathered)
               (sym shown) (one.going.front trusted);
           hands = one.going.hands ∙ sym hands;
           number = place.number ∙ one.going.number;
@@ -354,7 +353,6 @@ module _ {J : Type 0} {g : Ghosts J} (w : Terms) (talk : Talk J g) (peer : ℕ)
     at = greeted peer (hands_of talk);
     going = record {
       course = course.Begins;
-      gathered = [];
       stands = begins.stands;
       front = λ trusted asked token had is. cc;
       hands = refl;
@@ -407,6 +405,7 @@ last_turn peer =
     record {
       now = 0;
       due = asks.due_as asks.Ends left;
+      chunk = None;
       told = shares.Nothing;
       heard = silent (in_phase left model.Ended);
     }

@@ -2,18 +2,19 @@
 -- came to it, and which jobs its end hands over (docs/PROTOCOL.md, Sessions, Threads).
 use Rattle.std.specs.Prelude.{◌≡◌, ◌≢◌, ◌≤◌, ℕ, ◌+◌, ◌-◌, ◌++◌, Bool, true, false, List, [], ◌∷◌}
 use Rattle.std.specs.Prelude.{Option, None, Some, slice_set, slice_index_or}
+use Rattle.article_fetch.specs.declared.chunk.Chunk.{Chunk}
+use Rattle.article_fetch.specs.declared.chunk.Chunk.TheVariants as chunks
 use Rattle.boxcar.specs.Table.{Shelves, Shows, Where}
 use Rattle.buffer_group.specs.Jobs.{job_view}
 use Rattle.buffer_group.specs.declared.job.Job.{Job}
-use Rattle.cyc_buffer.specs.declared.answers.Fault.{Fault}
-use Rattle.cyc_buffer.specs.declared.answers.Front.{Front}
 use Rattle.job_queue.specs.declared.parcel.Handed.{Handed}
 use Rattle.live_store.specs.Steps.{IsGoneBy, IsReadFault}
 use Rattle.live_store.specs.Tied.{text_in, token_in}
 use Rattle.live_store.specs.declared.writing.entering.Record.{Record}
+use Rattle.news_terms.specs.BlockImage.{chunk}
 use Rattle.news_terms.specs.Reply.{Greeting, reply_text}
 use Rattle.news_terms.specs.Token.{Token}
-use Rattle.peer_session.specs.Given.{ReadAny}
+use Rattle.peer_session.specs.Given.{ReadAny, gathered_on}
 use Rattle.relay_model.specs.Asks.{Ask, Due, IsDue, Reads, Pushes, LooksInSlot}
 use Rattle.relay_model.specs.Claims.{Accepted, Held}
 use Rattle.relay_model.specs.Fetches.{Fetched, Article, Gone, NotKnown, NotRead}
@@ -32,19 +33,23 @@ pub record Hands : Type 0 where
   pub count : ℕ
   pub kept : List ℕ
 
--- a session on its way: what it is, the octets that came to it, those that it said, those of its
--- last reply once it has said that, and what its end has handed over
+-- a session on its way: what it is, the octets that the fetch in progress has gathered, those that
+-- came to it, those that it said, those of its last reply once it has said that, and what its end
+-- has handed over
 pub record Point : Type 0 where
   pub session : Session
+  pub gathered : List ℕ
   pub heard : List ℕ
   pub said : List ℕ
   pub parted : Option (List ℕ)
   pub hands : Hands
 
--- a turn: its moment, what was due, the answer to what was asked, and what the session made of it
+-- a turn: its moment, what was due, what was read where a block was to be, the answer to what was
+-- asked, and what the session made of it
 pub record Turn : Type 0 where
   pub now : ℕ
   pub due : Due
+  pub chunk : Option Chunk
   pub told : Answer
   pub heard : Heard
 
@@ -96,6 +101,7 @@ abbrev pub greeted : (peer : ℕ) → Hands → Point
 greeted peer hands =
     record {
       session = new_session peer;
+      gathered = [];
       heard = [];
       said = reply_text Greeting;
       parted = None;
@@ -118,7 +124,7 @@ with_piece piece p =
 
 -- the connection is gone
 abbrev pub broken_off : Point → Point
-broken_off p = record p { session = in_phase p.session Leaving }
+broken_off p = record p { session = in_phase p.session Leaving; gathered = [] }
 
 -- one record of the register has this token and this text
 pub record IsTextUnder (register : Shelves) (token : Token) (text : List ℕ) : Type 0 where
@@ -140,26 +146,49 @@ abbrev pub HearsBy : (honest : Bool) → ℕ → Session → Ask → Answer → 
 HearsBy true s session ask answer heard = Hears s session ask answer heard
 HearsBy false s session ask answer heard = HearsAny s session ask answer heard
 
--- what was found of a token: over honest stores the text of one record of the register, which has
--- that very token; over any stores that a front of the token's buffer has passed the article, or
--- that a read of the token's article failed
-abbrev pub IsFoundUnder : (honest : Bool) → Shelves → Token → Fetched → Type 0
-IsFoundUnder honest register token (Article text) =
-    honest ≡ true → IsTextUnder register token text
-IsFoundUnder honest register token Gone = (front : Front) × IsGoneBy front token
-IsFoundUnder honest register token NotKnown = Unit {0}
-IsFoundUnder honest register token NotRead = (fault : Fault) × IsReadFault token fault
+-- the text of which block k was read: over honest stores that of one record of the register, which
+-- has the token; over any the octets that were read, the block's behind those gathered
+abbrev pub IsTextRead : (honest : Bool) → Shelves → Token → (k : ℕ) → (gathered octets : List ℕ)
+    → List ℕ → Type 0
+IsTextRead true register token k gathered octets text =
+    IsTextUnder register token text × (octets ≡ chunk k text)
+IsTextRead false register token k gathered octets text = text ≡ gathered ++ octets
 
--- where a token was to be read, this was found of it
-abbrev pub IsFoundFor : (honest : Bool) → Shelves → Ask → Fetched → Type 0
-IsFoundFor honest register (Reads asked token had) found =
-    IsFoundUnder honest register token found
-IsFoundFor honest register other found = Unit {0}
+-- What was found of a token, by what was read of block k of its article once this was gathered: a
+-- text of which the block was read; that it is gone by the front that the read gave, which has
+-- passed the article; that it was not read by the fault that the read gave, which is of a read of
+-- the token's article.
+abbrev pub IsFoundUnder : (honest : Bool) → Shelves → Token → (k : ℕ) → List ℕ → Chunk → Fetched
+    → Type 0
+IsFoundUnder honest register token k gathered (chunks.Found octets) (Article text) =
+    IsTextRead honest register token k gathered octets text
+IsFoundUnder honest register token k gathered (chunks.Gone front) Gone = IsGoneBy front token
+IsFoundUnder honest register token k gathered chunks.Unknown NotKnown = Unit {0}
+IsFoundUnder honest register token k gathered (chunks.Device fault) NotRead =
+    IsReadFault token fault
+IsFoundUnder honest register token k gathered other found = ⊥
 
--- what a read answers is of the token that was to be read
-abbrev pub IsToldFor : (honest : Bool) → Shelves → Ask → Answer → Type 0
-IsToldFor honest register ask (ToRead found) = IsFoundFor honest register ask found
-IsToldFor honest register ask other = Unit {0}
+-- this was read, and found, of the token that was to be read
+abbrev pub IsFoundFor : (honest : Bool) → Shelves → List ℕ → Ask → Chunk → Fetched → Type 0
+IsFoundFor honest register gathered (Reads asked token had) read found =
+    IsFoundUnder honest register token had gathered read found
+IsFoundFor honest register gathered other read found = ⊥
+
+-- a block was read where the answer is to a read, and only there; what is answered is what was read
+-- of the token that was to be read
+abbrev pub IsToldFor : (honest : Bool) → Shelves → List ℕ → Ask → Option Chunk → Answer → Type 0
+IsToldFor honest register gathered ask (Some read) (ToRead found) =
+    IsFoundFor honest register gathered ask read found
+IsToldFor honest register gathered ask None (ToRead found) = ⊥
+IsToldFor honest register gathered ask (Some read) other = ⊥
+IsToldFor honest register gathered ask None other = Unit {0}
+
+-- what the fetch in progress has gathered after this was asked, read and answered: the block's
+-- octets behind the others while it goes on, else nothing
+abbrev pub gathered_after : Ask → Option Chunk → Answer → List ℕ → List ℕ
+gathered_after (Reads asked token had) (Some read) (ToRead found) gathered =
+    gathered_on (goes_on asked token had found) gathered read
+gathered_after ask read told gathered = []
 
 -- an article that is held is not held again: whoever takes it waits until no other is being stored
 abbrev pub IsHeldOnce : Phase → Answer → Type 0
@@ -173,7 +202,7 @@ pub record IsTurnOf (honest : Bool) (register : Shelves) (w : Terms) (s : ℕ) (
   pub moment : turn.now ≤ last_moment
   pub due : IsDue w p.session turn.now turn.due
   pub hears : HearsBy honest s turn.due.after turn.due.ask turn.told turn.heard
-  pub found : IsToldFor honest register turn.due.ask turn.told
+  pub found : IsToldFor honest register p.gathered turn.due.ask turn.chunk turn.told
   pub held : IsHeldOnce p.session.phase turn.told
 
 -- a turn was had, and the end has handed over this
@@ -181,6 +210,7 @@ abbrev pub after_turn : Point → Turn → Hands → Point
 after_turn p turn hands =
     record p {
       session = turn.heard.session;
+      gathered = gathered_after turn.due.ask turn.chunk turn.told p.gathered;
       said = p.said ++ octets_of turn.heard.said;
       parted = parted_by p.parted turn.heard.said;
       hands = hands;

@@ -1,19 +1,15 @@
 -- Where the session of a thread is on its course.
 use Rattle.std.specs.Prelude.{◌≡◌, ◌≢◌, ◌⊎◌, ℕ, ◌*◌, ◌++◌, Bool, true, false, List, [], ◌∷◌, take}
-use Rattle.std.specs.Prelude.{map, Option, Some, Result, Ok, Err}
+use Rattle.std.specs.Prelude.{map, Option, None, Some}
 use Rattle.std.specs.Option.{IsSomeAnd}
 use Rattle.article_fetch.specs.Fetch.{Fetch, FoundAs}
 use Rattle.article_fetch.specs.Given.{given}
 use Rattle.article_fetch.specs.declared.chunk.Chunk.{Chunk}
-use Rattle.article_fetch.specs.declared.chunk.Chunk.TheVariants as chunks
 use Rattle.boxcar.specs.Table.{Shelves, Where}
-use Rattle.cyc_buffer.specs.declared.answers.Fault.{Fault}
-use Rattle.cyc_buffer.specs.declared.answers.Found.{Found}
-use Rattle.cyc_buffer.specs.declared.answers.Found.TheVariants as found
 use Rattle.live_fates.specs.declared.fate.KeptJob.{KeptJob}
 use Rattle.live_seats.specs.Seats.{count_of, end_of, handed_by}
 use Rattle.live_session.specs.Course.{Course, Hands, HandsAfter, HearsBy, IsFoundUnder, IsHeldOnce}
-use Rattle.live_session.specs.Course.{IsToldFor, Point}
+use Rattle.live_session.specs.Course.{IsToldFor, Point, gathered_after}
 use Rattle.live_seats.specs.declared.session.SessionSeat.{SessionSeat}
 use Rattle.live_session.specs.declared.talk.Talk.{Talk}
 use Rattle.live_session.specs.declared.talk.Turned.{Turned}
@@ -40,13 +36,6 @@ use Rattle.relay_model.specs.Hears.{Heard}
 use Rattle.relay_model.specs.Shares as shares
 use Rattle.relay_model.specs.State as model
 use Rattle.relay_model.specs.Terms.{Terms}
-
--- what was found of a block, with its octets at the front of these, or that the device failed
-abbrev pub chunk_view : Result Found Fault → List ℕ → Chunk
-chunk_view (Ok (found.Chunk n)) slice = chunks.Found (take n slice)
-chunk_view (Ok (found.Gone front)) slice = chunks.Gone
-chunk_view (Ok found.Unknown) slice = chunks.Unknown
-chunk_view (Err fault) slice = chunks.Device
 
 -- the numbers of jobs that were answered kept
 abbrev pub numbers_of : {J : Type 0} {g : Ghosts J} → List (KeptJob J g) → List ℕ
@@ -78,9 +67,8 @@ FrontFits shown phase gathered =
 pub record Going {J : Type 0} {g : Ghosts J} (honest : Bool) (w : Terms) (s end : ℕ)
     (first : Point) (talk : Talk J g) (p : Point) : Type 0 where
   pub course : Course honest g.register w s end first p
-  pub gathered : List ℕ
-  pub stands : Stands w talk.session p.session gathered
-  pub front : honest ≡ true → FrontFits talk.reads.shown p.session.phase gathered
+  pub stands : Stands w talk.session p.session p.gathered
+  pub front : honest ≡ true → FrontFits talk.reads.shown p.session.phase p.gathered
   pub hands : p.hands ≡ hands_of talk
   pub number : talk.number ≡ s
   pub end_is : end_of talk.seat ≡ end
@@ -103,7 +91,8 @@ FoundBy false fetch chunk found = found ≡ given fetch.gathered chunk
 
 -- What a read of block k finds is the next block of a fetch of the token that has gathered this.
 -- Over honest stores that is the front of its record's text, and the record is one of the register
--- and has the token.
+-- and has the token. Over any, it is gone by the front that the chunk carries, and wasn't read by
+-- the fault that it carries.
 pub record ReadOf (honest : Bool) (register : Shelves) (asked : model.Asked) (token : Token) (k : ℕ)
     (gathered : List ℕ) (chunk : Chunk) (shown : Option (Where Record)) : Type 0 where
   pub found : fetches.Fetched
@@ -115,7 +104,7 @@ pub record ReadOf (honest : Bool) (register : Shelves) (asked : model.Asked) (to
     prepared = true;
   }) chunk found
   pub read : honest ≡ true → IsReadOf shown (shares.ToRead found)
-  pub under : IsFoundUnder honest register token found
+  pub under : IsFoundUnder honest register token k gathered chunk found
 
 -- block k of the token is read for whatever fetch has gathered the front of its record's text
 abbrev pub ReadsFor : (honest : Bool) → Shelves → Token → (k : ℕ) → Option (Where Record) → Chunk
@@ -136,6 +125,18 @@ abbrev pub AnswersBy : (honest : Bool) → Ask → List ℕ → Answer → share
 AnswersBy true ask gathered answer told = IsAnswerTo ask gathered answer told
 AnswersBy false ask gathered answer told = IsAnyAnswerTo ask gathered answer told
 
+-- what was read of a block, where the answer is to a read
+abbrev pub chunk_in : Answer → Option Chunk
+chunk_in (answers.Chunk chunk) = Some chunk
+chunk_in answers.Memory = None
+chunk_in answers.Nothing = None
+chunk_in (answers.Offer offer) = None
+chunk_in (answers.Look token) = None
+chunk_in (answers.Queue taken) = None
+chunk_in (answers.Take told) = None
+chunk_in (answers.Pushed has_room) = None
+chunk_in (answers.Slot outcome) = None
+
 -- the step was done, and is answered as the definitions say
 pub record Shared {J : Type 0} {g : Ghosts J} (honest : Bool) (w : Terms) (m : model.Session)
     (d : Due) (gathered : List ℕ) (old : Talk J g) (answer : Answer) (new : Talk J g)
@@ -143,7 +144,7 @@ pub record Shared {J : Type 0} {g : Ghosts J} (honest : Bool) (w : Terms) (m : m
   pub told : shares.Answer
   pub answers : AnswersBy honest d.ask gathered answer told
   pub read : honest ≡ true → IsReadOf new.reads.shown told
-  pub found : IsToldFor honest g.register d.ask told
+  pub found : IsToldFor honest g.register gathered d.ask (chunk_in answer) told
   pub held : IsHeldOnce m.phase told
   pub hands : HandsAfter (end_of old.seat) d.ask told (hands_of old) (hands_of new)
   pub planned : Planned w new.session m d gathered (handed answer)
@@ -181,12 +182,13 @@ pub record KeepsButSession {J : Type 0} {g : Ghosts J} (old new : Talk J g) : Ty
   pub hands : hands_of new ≡ hands_of old
   pub place : KeepsPlace old new
 
--- what the session of this number made of the answer: what it says, in octets, and what it stands
--- for
-pub record HeardFor (honest : Bool) (w : Terms) (s : ℕ) (d : Due) (told : shares.Answer)
-    (said : List ℕ) (new : Session) : Type 0 where
+-- what the session of this number, which had gathered this, made of the answer: what it says, in
+-- octets, and what it stands for and has gathered
+pub record HeardFor (honest : Bool) (w : Terms) (s : ℕ) (d : Due) (gathered : List ℕ)
+    (answer : Answer) (told : shares.Answer) (said : List ℕ) (new : Session) : Type 0 where
   pub heard : Heard
   pub later : List ℕ
+  pub later_is : later ≡ gathered_after d.ask (chunk_in answer) told gathered
   pub hears : HearsBy honest s d.after d.ask told heard
   pub is_said : IsSaid said (has_parted new) heard.said
   pub stands : Stands w new heard.session later
@@ -200,7 +202,7 @@ HearsAnswer old answer said new =
     (told : shares.Answer) → answer ≢ answers.Memory
     → Planned w old.session m d gathered (handed answer)
     → AnswersBy honest d.ask gathered answer told
-    → HeardFor honest w old.number d told said new.session
+    → HeardFor honest w old.number d gathered answer told said new.session
 
 -- what was planned is planned no more, and nothing was said
 pub record LetsGo {J : Type 0} {g : Ghosts J} (old : Talk J g) (said : List ℕ) (new : Talk J g)

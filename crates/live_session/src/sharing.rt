@@ -5,16 +5,15 @@ ghost use Rattle.cyc_token.specs.Token.{token_view};
 ghost use Rattle.id_history.specs.declared.claims.Take.TheVariants as takes;
 ghost use Rattle.live_seats.specs.Seats.{IsSeatOf};
 ghost use Rattle.live_session.specs.Going.{IsFrontOf, KeepsButReads, KeepsPlace, ReadsFor};
-ghost use Rattle.live_session.specs.Going.{SharesFor, StaysSame, chunk_view};
+ghost use Rattle.live_session.specs.Going.{SharesFor, StaysSame};
 ghost use Rattle.peer_session.specs.Session.{holds_article};
 ghost use Rattle.peer_session.specs.declared.steps.Answer.TheVariants as answers;
 
 use crate::pushing::{look_in_slot, push};
 use crate::shares::{Clock, Gate, Shares};
 use crate::talk::{Hall, Talk};
-use article_fetch::{Chunk, Octets480};
+use article_fetch::Chunk;
 use cyc_block::CHUNK_OCTETS;
-use cyc_buffer::{Fault, Found};
 use cyc_token::Token;
 use id_history::Take;
 use live_store::{Archive, OneRecord};
@@ -106,7 +105,7 @@ fn read<S: Shares<J, R>, C, G, J: Archive, R: Wait>(
     let found = hall
         .shares
         .read(rt, hall.register, reads, token, k, &mut octets);
-    chunk_of(found, octets)
+    Chunk::of_read(found, octets)
 }
 
 /// The reads of an article begin with its block 0.
@@ -116,17 +115,5 @@ fn begin_reads<J: Archive>(reads: &mut OneRecord<J>, k: u32)
 {
     if k == 0 {
         *reads = OneRecord::new();
-    }
-}
-
-/// What was found of a block, with its octets at the front of these, or that the device failed.
-fn chunk_of(found: Result<Found, Fault>, octets: [u8; CHUNK_OCTETS]) -> Chunk
-    ensures { result ≡ chunk_view found octets }
-{
-    match found {
-        Ok(Found::Chunk(len)) => Chunk::Found(Octets480::new(octets, len)),
-        Ok(Found::Gone(_front)) => Chunk::Gone,
-        Ok(Found::Unknown) => Chunk::Unknown,
-        Err(_fault) => Chunk::Device,
     }
 }

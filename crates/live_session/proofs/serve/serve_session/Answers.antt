@@ -10,13 +10,15 @@ use Rattle.live_session.specs.Going.{hands_at}
 use Rattle.live_session.specs.declared.talk.Talk.{Talk}
 use Rattle.live_session.specs.declared.wire.Finish.TheVariants as finishes
 
-pub returns-then-handed-ge-MOST_JOBS-clause-served : goal.returns-then-handed-ge-MOST_JOBS-clause-served
+pub returns-then-handed-ge-MOST_JOBS-clause-served
+    : goal.returns-then-handed-ge-MOST_JOBS-clause-served
 returns-then-handed-ge-MOST_JOBS-clause-served g c trusted =
     ∣ unbegun true g.J.Archive.register (terms_of c.args.hall.now.config.now) c.args.number
     (end_of c.args.seat) c.args.peer (hands_at c.args.seat c.args.kept.items)
     (g.H.Hears.heard c.args.reader) (g.W.Says.said c.args.writer) ∣₁
 
-pub returns-then-handed-ge-MOST_JOBS-clause-formed : goal.returns-then-handed-ge-MOST_JOBS-clause-formed
+pub returns-then-handed-ge-MOST_JOBS-clause-formed
+    : goal.returns-then-handed-ge-MOST_JOBS-clause-formed
 returns-then-handed-ge-MOST_JOBS-clause-formed g c =
     ∣ unbegun false g.J.Archive.register (terms_of c.args.hall.now.config.now) c.args.number
     (end_of c.args.seat) c.args.peer (hands_at c.args.seat c.args.kept.items)
