@@ -14,7 +14,7 @@ use Rattle.relay_model.specs.Asks.{IsDueOfLine, IsDueWhereOwing, IsDueWhereReady
 use Rattle.relay_model.specs.Asks.{judged_asked, leaving_due, or_push}
 use Rattle.relay_model.specs.Claims.{Accepted}
 use Rattle.relay_model.specs.State as model
-use Rattle.relay_model.specs.State.{Session, in_phase, with_unread}
+use Rattle.relay_model.specs.State.{Session, with_unread}
 use Rattle.relay_model.specs.Terms.{Reason, Terms}
 
 -- a block is read

@@ -20,12 +20,11 @@ use Rattle.relay_conf.specs.Places.{numbered_buffer}
 use Rattle.relay_conf.specs.declared.settings.Config.{Config}
 use Rattle.relay_facts.proofs.Runs.{step_well}
 use Rattle.relay_model.specs.Claims as claims
-use Rattle.relay_model.specs.Fetches.{front_of}
 use Rattle.relay_model.specs.State.{State}
 use Rattle.relay_model.specs.Claims.{Claim}
 use Rattle.relay_model.specs.Run as run
-use Rattle.relay_model.specs.Run.{expired, first_of_two, forgetter, forgetting, forgotten, passed_of}
-use Rattle.relay_model.specs.Run.{reads_front, refusal}
+use Rattle.relay_model.specs.Run.{expired, first_of_two, forgetter, forgetting, forgotten}
+use Rattle.relay_model.specs.Run.{passed_of, reads_front}
 use Rattle.relay_model.specs.Terms.{Terms, last_moment, shard_count}
 use Rattle.relay_model.specs.World as world
 use Rattle.relay_model.specs.World.{World}
@@ -194,7 +193,8 @@ module _ {S : Type 0} {g : Ghosts S} (s : System S g) (shard now : ℕ) where
           record {
             claim = x.state.claim;
             to = world.Reading (fronts ++ passed_of w x.state buffer ∷ []);
-            world_is = ap (λ (stage : Stage). expired w x shard now (stage_view fronts stage)) reading
+            world_is =
+                ap (λ (stage : Stage). expired w x shard now (stage_view fronts stage)) reading
                 ∙ ap (λ (o : Option Buffer). reads_front w x shard now fronts o) there;
             keeps = keeps;
             expirer_is = ap (λ (p : claims.Passed). world.Reading (fronts ++ p ∷ [])) (sym one)

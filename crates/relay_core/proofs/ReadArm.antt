@@ -21,7 +21,7 @@ use Rattle.peer_session.specs.declared.steps.Step.TheVariants as steps
 use Rattle.relay_model.specs.Asks as asks
 use Rattle.relay_model.specs.Asks.{Ask}
 use Rattle.relay_model.specs.Fetches as fetches
-use Rattle.relay_model.specs.Fetches.{Fetched, article_of, decided_in, fetched, text_under}
+use Rattle.relay_model.specs.Fetches.{Fetched, fetched, text_under}
 use Rattle.relay_model.specs.Invariants.{IsKeptRight}
 use Rattle.relay_model.specs.Shares as shares
 use Rattle.relay_model.specs.State as model
@@ -52,11 +52,11 @@ block_left kept token had gathered (HasNone none zero_had) = omega (arith, zero_
 block_left kept token had gathered (HasSome other there front left) = omega (arith, left)
 
 -- the chunk that was read is the next block of the fetch
-chunk_found : (fetch : Fetch) (read : Chunk) (found : Fetched)
+chunk_found : (w : Terms) (σ : State) (fetch : Fetch) (read : Chunk) (found : Fetched)
     → ((text : List ℕ) → found ≡ fetches.Article text
     → (fetch.gathered ≡ take (chunk_size * fetch.had) text) × IsRight fetch.token text)
-    → IsChunkOf fetch.had read found → FoundAs fetch read found
-chunk_found fetch (chunks.Found octets) (fetches.Article text) of is = (
+    → IsChunkOf w σ fetch.token fetch.had read found → FoundAs fetch read found
+chunk_found w σ fetch (chunks.Found octets) (fetches.Article text) of is = (
   text,
   refl,
   let right = of text refl in
@@ -68,21 +68,21 @@ chunk_found fetch (chunks.Found octets) (fetches.Article text) of is = (
         next = is;
       },
 )
-chunk_found fetch (chunks.Found octets) fetches.Gone of is = absurd is
-chunk_found fetch (chunks.Found octets) fetches.NotKnown of is = absurd is
-chunk_found fetch (chunks.Found octets) fetches.NotRead of is = absurd is
-chunk_found fetch chunks.Gone fetches.Gone of is = refl
-chunk_found fetch chunks.Gone (fetches.Article text) of is = absurd is
-chunk_found fetch chunks.Gone fetches.NotKnown of is = absurd is
-chunk_found fetch chunks.Gone fetches.NotRead of is = absurd is
-chunk_found fetch chunks.Unknown fetches.NotKnown of is = refl
-chunk_found fetch chunks.Unknown fetches.Gone of is = absurd is
-chunk_found fetch chunks.Unknown (fetches.Article text) of is = absurd is
-chunk_found fetch chunks.Unknown fetches.NotRead of is = absurd is
-chunk_found fetch chunks.Device fetches.Gone of is = absurd is
-chunk_found fetch chunks.Device fetches.NotKnown of is = absurd is
-chunk_found fetch chunks.Device fetches.NotRead of is = absurd is
-chunk_found fetch chunks.Device (fetches.Article text) of is = absurd is
+chunk_found w σ fetch (chunks.Found octets) fetches.Gone of is = absurd is
+chunk_found w σ fetch (chunks.Found octets) fetches.NotKnown of is = absurd is
+chunk_found w σ fetch (chunks.Found octets) fetches.NotRead of is = absurd is
+chunk_found w σ fetch (chunks.Gone front) fetches.Gone of is = refl
+chunk_found w σ fetch (chunks.Gone front) (fetches.Article text) of is = absurd is
+chunk_found w σ fetch (chunks.Gone front) fetches.NotKnown of is = absurd is
+chunk_found w σ fetch (chunks.Gone front) fetches.NotRead of is = absurd is
+chunk_found w σ fetch chunks.Unknown fetches.NotKnown of is = refl
+chunk_found w σ fetch chunks.Unknown fetches.Gone of is = absurd is
+chunk_found w σ fetch chunks.Unknown (fetches.Article text) of is = absurd is
+chunk_found w σ fetch chunks.Unknown fetches.NotRead of is = absurd is
+chunk_found w σ fetch (chunks.Device fault) fetches.Gone of is = absurd is
+chunk_found w σ fetch (chunks.Device fault) fetches.NotKnown of is = absurd is
+chunk_found w σ fetch (chunks.Device fault) fetches.NotRead of is = absurd is
+chunk_found w σ fetch (chunks.Device fault) (fetches.Article text) of is = absurd is
 
 -- the fetch that asks this
 abbrev asking : model.Asked → terms.Token → ℕ → List ℕ → Fetch
@@ -134,7 +134,7 @@ module _ {S : Type 0} {g : Ghosts S} (n now : ℕ) (old : System S g) (peer : Pe
           fetched w x.state token,
           refl,
           refl,
-          chunk_found (asking asked token k gathered) read (fetched w x.state token)
+          chunk_found w x.state (asking asked token k gathered) read (fetched w x.state token)
               (λ text found.
               let whole = found_whole w x.state token text found in (
                 front_of_text x.state.kept token k gathered text whole front,
@@ -145,7 +145,7 @@ module _ {S : Type 0} {g : Ghosts S} (n now : ℕ) (old : System S g) (peer : Pe
         slot_is = slot;
       }
   read_gives asked token k gathered x read new but slot right front
-      (HasNotFound later device keeps failed undecided) =
+      (HasNotFound fault later device at_fault keeps failed undecided) =
       record {
         told = shares.ToRead fetches.NotRead;
         between = with_failures x later;

@@ -1,11 +1,18 @@
 -- What was read of a block, in the words of the relay's fetches (docs/PROTOCOL.md, Reading).
-use Rattle.std.specs.Prelude.{◌≡◌, ℕ, ◌<◌, max, take, true, List, None, Option}
+use Rattle.std.specs.Prelude.{◌≡◌, ℕ, ◌<◌, max, true, None, Option}
+use Rattle.std.specs.Prelude.{Result, Ok, Err}
 use Rattle.article_fetch.specs.declared.chunk.Chunk.{Chunk}
 use Rattle.article_fetch.specs.declared.chunk.Chunk.TheVariants as chunks
+use Rattle.block_shelf.specs.Calls.{IsFaultAt}
 use Rattle.block_shelf.specs.Keeping.{KeepsTexts}
 use Rattle.block_shelf.specs.Openings.{Opening}
+use Rattle.block_shelf.specs.Reading.{IsFrontFor}
 use Rattle.block_shelf.specs.declared.shelf.Shelf.{Shelf}
 use Rattle.cyc_block.specs.declared.store.BlockStore.{Ghosts}
+use Rattle.cyc_buffer.specs.declared.answers.BufError.{BufError}
+use Rattle.cyc_buffer.specs.declared.answers.BufError.TheVariants as errors
+use Rattle.cyc_buffer.specs.declared.answers.Fault.{Fault}
+use Rattle.cyc_buffer.specs.declared.answers.FaultKind.TheVariants as kinds
 use Rattle.cyc_buffer.specs.declared.answers.Found.{Found}
 use Rattle.cyc_buffer.specs.declared.answers.Found.TheVariants as found
 use Rattle.news_terms.specs.BlockImage.{chunk}
@@ -17,29 +24,32 @@ use Rattle.relay_model.specs.State.{State}
 use Rattle.relay_model.specs.Terms.{Terms}
 use Rattle.relay_model.specs.World.{HasFailedAt}
 
--- what was found of a block, with its octets at the front of these
-abbrev pub chunk_view : Found → List ℕ → Chunk
-chunk_view (found.Chunk n) slice = chunks.Found (take n slice)
-chunk_view (found.Gone front) slice = chunks.Gone
-chunk_view found.Unknown slice = chunks.Unknown
+-- what a read found, or the fault of the device; nothing else refuses a read: it would find nothing
+abbrev pub read_view : Result Found BufError → Result Found Fault
+read_view (Ok one) = Ok one
+read_view (Err (errors.Device fault)) = Err fault
+read_view (Err other) = Ok found.Unknown
 
--- what was read of block k is that of a fetch that finds this
-abbrev pub IsChunkOf : (k : ℕ) → Chunk → Fetched → Type 0
-IsChunkOf k (chunks.Found octets) (fetches.Article text) = octets ≡ chunk k text
-IsChunkOf k chunks.Gone fetches.Gone = Unit {0}
-IsChunkOf k chunks.Unknown fetches.NotKnown = Unit {0}
-IsChunkOf k other found = ⊥
+-- what was read of block k is that of a fetch of the token that finds this: a chunk of the text, or
+-- that it is gone, by the front of the token's buffer
+abbrev pub IsChunkOf : Terms → State → Token → (k : ℕ) → Chunk → Fetched → Type 0
+IsChunkOf w σ token k (chunks.Found octets) (fetches.Article text) = octets ≡ chunk k text
+IsChunkOf w σ token k (chunks.Gone front) fetches.Gone = IsFrontFor w σ token front
+IsChunkOf w σ token k chunks.Unknown fetches.NotKnown = Unit {0}
+IsChunkOf w σ token k other found = ⊥
 
 -- what a read of block k does, over stores that are honest: it finds what a fetch finds, or the
--- device failed, which was asked only where the numbers don't decide
+-- device failed, which was asked only where the numbers don't decide, and its fault is of a read of
+-- the token's article
 pub data ChunkRead {S : Type 0} {g : Ghosts S} (w : Terms) (σ : State)
     (openings : ℕ → Option Opening) (failures : ℕ → ℕ) (token : Token) (k : ℕ) (read : Chunk)
     (new : Shelf S g)
     : Type 0 where
   HasFound : KeepsTexts true new w σ.begun σ.kept openings failures
-      → IsChunkOf k read (fetched w σ token)
+      → IsChunkOf w σ token k read (fetched w σ token)
       → ChunkRead w σ openings failures token k read new
-  HasNotFound : (later : ℕ → ℕ) → read ≡ chunks.Device
+  HasNotFound : (fault : Fault) (later : ℕ → ℕ) → read ≡ chunks.Device fault
+      → IsFaultAt kinds.Read token (errors.Device fault)
       → KeepsTexts true new w σ.begun σ.kept openings later
       → HasFailedAt token.buffer failures later → decided w σ token ≡ None
       → ChunkRead w σ openings failures token k read new

@@ -1,4 +1,4 @@
-use Rattle.std.proofs.Common.{ℕ, length, subst, ◌≤◌, ◌∙◌}
+use Rattle.std.proofs.Common.{ℕ, subst, ◌≤◌, ◌∙◌}
 use Rattle.std.specs.Prelude.{slice_get}
 use Rattle.article_verdict.specs.Config.{terms_of}
 use Rattle.block_shelf.specs.Reading.{IsFrontAt}
