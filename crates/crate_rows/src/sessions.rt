@@ -2,6 +2,7 @@
 
 mod answers;
 mod counts;
+mod reads;
 mod steps;
 mod talk;
 mod trials;

@@ -1,11 +1,13 @@
 //! The answers to steps, as a row has them.
 
+use crate::sessions::reads::{failed, gone};
 use article_fetch::{Chunk, Octets480};
 use cyc_token::Token;
 use feed_queue::Taken;
 use id_history::{Offer, Take};
 use peer_session::{Answer, Outcome, Step};
 use row_text::{Sheet, place_of};
+use std::alloc::AllocError;
 use std::str;
 
 /// The octets of an article in a block.
@@ -16,7 +18,7 @@ const BLOCK_OCTETS: usize = 480;
 pub fn answer_of(cells: &[Vec<u8>], sheet: &mut Sheet) -> Option<Answer> {
     match cells {
         [] => Some(Answer::Nothing),
-        [word] => answer_of_word(str::from_utf8(word).ok()?),
+        [word] => answer_of_word(str::from_utf8(word).ok()?, sheet),
         [word, cells @ ..] => answer_of_words(word, cells, sheet),
     }
 }
@@ -27,7 +29,7 @@ const WORDS: &str =
     failed gone unknown device";
 
 /// The answer of one word.
-fn answer_of_word(word: &str) -> Option<Answer> {
+fn answer_of_word(word: &str, sheet: &mut Sheet) -> Option<Answer> {
     let answer = match place_of(WORDS, word)? {
         0 => Answer::Memory,
         1 => Answer::Nothing,
@@ -44,12 +46,20 @@ fn answer_of_word(word: &str) -> Option<Answer> {
         12 => Answer::Slot(None),
         13 => Answer::Slot(Some(Outcome::Kept)),
         14 => Answer::Slot(Some(Outcome::Failed)),
-        15 => Answer::Chunk(Chunk::Gone),
+        15 => Answer::Chunk(read(gone(sheet.alloc), sheet)?),
         16 => Answer::Chunk(Chunk::Unknown),
-        17 => Answer::Chunk(Chunk::Device),
+        17 => Answer::Chunk(read(failed(sheet.alloc), sheet)??),
         _ => return None,
     };
     Some(answer)
+}
+
+/// What a read gave; `None` where memory ran out.
+fn read<T>(given: Result<T, AllocError>, sheet: &mut Sheet) -> Option<T> {
+    if given.is_err() {
+        sheet.lack();
+    }
+    given.ok()
 }
 
 /// The answer of a word that has cells of its own: `stored TOKEN`, the token of an id; `block N
