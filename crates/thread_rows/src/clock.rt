@@ -1,4 +1,4 @@
-//! Clocks that stand.
+//! A clock that stands.
 use live_session::Clock;
 use std::sync::atomic::{AtomicU64, Ordering};
 
@@ -7,21 +7,6 @@ const LAST_MOMENT: u64 = 253_370_764_799;
 
 /// The first second of 2021.
 pub(crate) const USUAL_MOMENT: u64 = 1_609_459_200;
-
-/// A clock that stands.
-#[derive(Clone, Copy, Drop)]
-pub(crate) struct Still {
-    pub(crate) moment: u64,
-}
-
-impl Clock for Still {
-    fn now(&self) -> u64 {
-        if self.moment > LAST_MOMENT {
-            return LAST_MOMENT;
-        }
-        self.moment
-    }
-}
 
 /// A clock that stands until it is set anew, in any thread.
 #[derive(Drop)]
@@ -46,6 +31,9 @@ impl Hands {
 impl Clock for Hands {
     fn now(&self) -> u64 {
         let moment = self.moment.load(Ordering::SeqCst);
-        Still { moment }.now()
+        if moment > LAST_MOMENT {
+            return LAST_MOMENT;
+        }
+        moment
     }
 }

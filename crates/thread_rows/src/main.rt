@@ -1,6 +1,5 @@
-//! Rows and plays of what runs in threads, of sockets and of files, in four parts: the relay over
-//! connections and stores in memory, what its threads share, the relay on sockets, and stores in
-//! files (docs/PROTOCOL.md, Threads; docs/FORMATS.md).
+//! Rows and plays of what runs in threads, in two parts: the relay over connections and stores in
+//! memory, and what its threads share (docs/PROTOCOL.md, Threads).
 //!
 //! Standard input holds the parts, each under a line `part NAME`. The line is printed again, with
 //! what came of the part. The parts stand in the file `stdin` of this crate, what they have to
@@ -9,42 +8,52 @@
 
 mod articles;
 mod clock;
-mod files;
 mod looks;
 mod printing;
 mod relay;
-mod sections;
-mod settings;
 mod shared;
-mod sockets;
 mod stores;
 mod words;
 
-use sections::{Section, sections};
+use row_text::Sheet;
 use std::alloc::{AllocError, Global};
-use std::io::{ErrorKind, Read};
-use std::{io, str};
-use words::word_of;
-
-/// What the line that a part begins with has in front.
-const PART: &[u8] = b"part ";
+use std::io;
+use std::io::{ErrorKind, Read, Write};
+use std::random::RandomSource;
+use std::sync::Wait;
+use std::thread::Threads;
+use std::time::Clock;
 
 fn main(rt: HostRuntime) -> io::Result<()> {
     let alloc = rt.alloc();
     let mut input = Vec::new(alloc);
     rt.reader().read_to_end(&mut input)?;
     let lines = lines_of(alloc, &input)?;
-    for part in &parts_of(alloc, &lines)? {
-        part.print(&rt, b"")?;
-        match name_of(part) {
-            "relay" => relay::play(&rt, alloc, part.lines)?,
-            "shared" => shared::play(&rt, alloc, part.lines)?,
-            "sockets" => sockets::play(&rt, alloc, part.lines)?,
-            "files" => files::play(&rt, part.lines)?,
-            _ => return Err(failed()),
-        }
+    for part in lines.chunk_by(|_line, next| !next.starts_with(b"part ".as_slice())) {
+        play(&rt, alloc, part)?;
     }
     Ok(())
+}
+
+/// Plays a part, and prints the line that it begins with before what comes of it.
+fn play<R>(rt: &R, alloc: Global, part: &[&[u8]]) -> io::Result<()>
+where
+    R: Threads + Wait + Clock + RandomSource + Print + Sync + 'static,
+{
+    let [head, lines @ ..] = part else {
+        return Err(failed());
+    };
+    let mut sheet = Sheet::new(alloc);
+    sheet.put(head);
+    sheet.put(b"\n");
+    print(rt, &sheet)?;
+    if *head == b"part relay".as_slice() {
+        return relay::play(rt, alloc, lines);
+    }
+    if *head == b"part shared".as_slice() {
+        return shared::play(rt, alloc, lines);
+    }
+    Err(failed())
 }
 
 /// The lines of a text.
@@ -56,18 +65,12 @@ fn lines_of(alloc: Global, text: &[u8]) -> Result<Vec<&[u8]>, AllocError> {
     Ok(lines)
 }
 
-/// The parts of these lines, which begin with the first part.
-fn parts_of<'a>(alloc: Global, lines: &'a [&'a [u8]]) -> io::Result<Vec<Section<'a>>> {
-    match lines.first() {
-        Some(line) if line.starts_with(PART) => Ok(sections(alloc, lines, PART)?),
-        _ => Err(failed()),
+/// Prints what is written on a sheet, where there was memory for all of it.
+fn print<R: Print>(rt: &R, sheet: &Sheet) -> io::Result<()> {
+    if sheet.is_spoilt() {
+        return Err(failed());
     }
-}
-
-/// The name of a part, which stands in the line that it begins with.
-fn name_of<'a>(part: &Section<'a>) -> &'a str {
-    let (_part, name) = word_of(part.head);
-    str::from_utf8(name).unwrap_or("")
+    io::writer(rt).write_all(sheet.octets())
 }
 
 /// The failure of a play.

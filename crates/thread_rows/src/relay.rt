@@ -13,8 +13,7 @@ mod script;
 mod serving;
 mod waiting;
 
-use crate::sections::sections;
-use row::Row;
+use crate::print;
 use serving::played;
 use std::alloc::Global;
 use std::io;
@@ -23,14 +22,20 @@ use std::sync::Wait;
 use std::thread::Threads;
 use std::time::Clock;
 
-/// Plays the rows.
+/// What stands in front of the line that a row begins with.
+const MARK: &[u8] = b"== ";
+
+/// Plays the rows. What stands before the first one is of none.
 pub(crate) fn play<R>(rt: &R, alloc: Global, lines: &[&[u8]]) -> io::Result<()>
 where
     R: Threads + Wait + Clock + RandomSource + Print + Sync + 'static,
 {
-    for section in &sections(alloc, lines, b"== ")? {
-        let row = Row::read(alloc, section.lines)?;
-        section.print(rt, &played(rt, alloc, &row)?)?;
+    for row in lines.chunk_by(|_line, next| !next.starts_with(MARK)) {
+        if let [head, lines @ ..] = row {
+            if head.starts_with(MARK) {
+                print(rt, &played(rt, alloc, head, lines)?)?;
+            }
+        }
     }
     Ok(())
 }

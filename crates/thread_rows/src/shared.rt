@@ -6,19 +6,18 @@ mod plays;
 mod queues;
 mod rows;
 mod seats;
-mod told;
 
-use cyc_block::{BlockStore, FailAt, MemoryBlocks};
+use crate::print;
 use line_words::is_skipped;
 use live_store::{Archive, Register};
-use plays::{Locked, add_played, one_buffer, sample};
+use plays::{Locked, one_buffer, put_played, sample};
 use queues::{full_queue, two_ends};
+use row_text::Sheet;
 use rows::Row;
 use seats::seats;
-use std::alloc::{AllocError, Global};
+use std::alloc::Global;
 use std::collections::hash_map::RandomState;
 use std::io;
-use std::io::Write;
 use std::marker::Brand;
 use std::random::RandomSource;
 use std::sync::Wait;
@@ -43,46 +42,45 @@ fn play_rows<J: Archive + Send + Sync, R: Threads + Wait + Print + Sync>(
 ) -> io::Result<()>
     requires { register.now ≡ J.register }
 {
-    let mut buffers = one_buffer::<_, J>(alloc, device(alloc, 0)?, 0)?;
+    let mut sheet = Sheet::new(alloc);
+    let mut buffers = one_buffer::<J>(alloc, 0, 0)?;
     for line in lines {
         if is_skipped(line) {
             continue;
         }
         let row = Row::read(line);
-        if row.call == "buffer" {
+        if row.call == b"buffer".as_slice() {
             let [first_cycle, k, _] = row.numbers;
-            buffers = one_buffer::<_, J>(alloc, device(alloc, u64::from(k))?, first_cycle)?;
+            buffers = one_buffer::<J>(alloc, first_cycle, u64::from(k))?;
         } else {
-            print(rt, alloc, &buffers, register, &row)?;
+            put_row(rt, alloc, &mut sheet, &buffers, register, &row)?;
         }
     }
-    Ok(())
+    print(rt, &sheet)
 }
 
-/// Plays a row, and prints what came of it, where the row has a name.
-fn print<S: BlockStore + Send + Sync, J: Archive + Send + Sync, R: Threads + Wait + Print + Sync>(
+/// Plays a row, and writes what came of it, where the row has a name.
+fn put_row<J: Archive + Send + Sync, R: Threads + Wait + Sync>(
     rt: &R,
     alloc: Global,
-    buffers: &Vec<Locked<S, J>>,
+    sheet: &mut Sheet,
+    buffers: &Vec<Locked<J>>,
     register: &Register,
     row: &Row<'_>,
 ) -> io::Result<()>
     requires { register.now ≡ J.register }
 {
     let article = sample(alloc, row.token().length)?;
-    let mut text = Vec::from_slice(alloc, row.name.unwrap_or(b""))?;
-    text.extend_from_slice(b": ")?;
-    add_played(rt, alloc, &mut text, buffers, register, row, &article)?;
-    text.push(b'\n')?;
-    if row.name.is_some() {
-        io::writer(rt).write_all(&text)?;
+    let mut came = Sheet::new(alloc);
+    put_played(rt, alloc, &mut came, buffers, register, row, &article)?;
+    let text = came.onto(sheet);
+    if let Some(name) = row.name {
+        sheet.put(name);
+        sheet.put(b": ");
+        sheet.put(&text);
+        sheet.put(b"\n");
     }
     Ok(())
-}
-
-/// Eight blocks in memory, whose call number k fails.
-fn device(alloc: Global, k: u64) -> Result<FailAt<MemoryBlocks>, AllocError> {
-    Ok(FailAt::new(MemoryBlocks::new(alloc, 8)?, k))
 }
 
 /// The plays of queues and of seats.
@@ -90,10 +88,10 @@ fn play_others<R>(rt: &R, alloc: Global) -> io::Result<()>
 where
     R: Threads + Wait + RandomSource + Print + Sync,
 {
-    let mut text = Vec::new(alloc);
-    two_ends(rt, alloc, &mut text)?;
-    full_queue(rt, alloc, &mut text)?;
-    seats(rt, alloc, &mut text, RandomState::new(rt)?, 3, 5)?;
-    seats(rt, alloc, &mut text, RandomState::new(rt)?, 2, 0)?;
-    io::writer(rt).write_all(&text)
+    let mut sheet = Sheet::new(alloc);
+    two_ends(rt, alloc, &mut sheet)?;
+    full_queue(rt, alloc, &mut sheet)?;
+    seats(rt, alloc, &mut sheet, RandomState::new(rt)?, 3, 5)?;
+    seats(rt, alloc, &mut sheet, RandomState::new(rt)?, 2, 0)?;
+    print(rt, &sheet)
 }

@@ -2,7 +2,7 @@
 //! a block is being written, and how often something was waited for in vain.
 
 use crate::clock::Hands;
-use crate::looks::{comes, pause};
+use crate::looks::{MOST_LOOKS, pause};
 use std::alloc::{AllocError, Global};
 use std::sync::{Mutex, Wait};
 use std::time::Clock;
@@ -28,7 +28,7 @@ pub(crate) enum Sign {
 /// What a session was written, and how far it is.
 #[derive(Drop)]
 pub(crate) struct Room {
-    written: Vec<u8>,
+    pub(crate) written: Vec<u8>,
     /// Something was written, or was to be.
     is_greeted: bool,
     /// All that it sends has come.
@@ -39,7 +39,7 @@ pub(crate) struct Room {
 #[derive(Drop)]
 pub(crate) struct Board {
     /// The rooms of the sessions, from number 1 on.
-    rooms: Vec<Mutex<Room>>,
+    pub(crate) rooms: Vec<Mutex<Room>>,
     /// A block is being written, or was.
     is_writing: Mutex<bool>,
     /// How often something was waited for in vain.
@@ -47,21 +47,16 @@ pub(crate) struct Board {
     pub(crate) clock: Hands,
 }
 
-/// A new room.
-fn new_room(alloc: Global) -> Mutex<Room> {
-    Mutex::new(Room {
-        written: Vec::new(alloc),
-        is_greeted: false,
-        has_sent: false,
-    })
-}
-
 impl Board {
     /// A board for so many sessions, whose clock stands at this moment.
     pub(crate) fn new(alloc: Global, sessions: usize, moment: u64) -> Result<Board, AllocError> {
         let mut rooms = Vec::new(alloc);
         for _session in 0..sessions {
-            rooms.push(new_room(alloc))?;
+            rooms.push(Mutex::new(Room {
+                written: Vec::new(alloc),
+                is_greeted: false,
+                has_sent: false,
+            }))?;
         }
         Ok(Board {
             rooms,
@@ -115,64 +110,36 @@ impl Board {
         *self.late.lock(rt)
     }
 
-    /// What the session was written.
-    pub(crate) fn written<R: Wait>(
-        &self,
-        rt: &R,
-        alloc: Global,
-        session: u64,
-    ) -> Result<Vec<u8>, AllocError> {
-        match self.room(session) {
-            Some(room) => Vec::from_slice(alloc, room.lock(rt).written.as_slice()),
-            None => Ok(Vec::new(alloc)),
-        }
-    }
-
-    /// Whether the sign is there.
+    /// Whether the sign is there. That of a session that isn't there is.
     fn shows<R: Wait>(&self, rt: &R, sign: Sign) -> bool {
-        match sign {
-            Sign::Always => true,
-            Sign::Writing => *self.is_writing.lock(rt),
-            Sign::Greeted(session) => self.is_greeted(rt, session),
-            Sign::Sent(session) => self.has_sent(rt, session),
-            Sign::Told(session, code) => self.was_told(rt, session, code),
-        }
-    }
-
-    /// Whether something was written to the session, or was to be.
-    fn is_greeted<R: Wait>(&self, rt: &R, session: u64) -> bool {
-        match self.room(session) {
-            Some(room) => room.lock(rt).is_greeted,
-            None => true,
-        }
-    }
-
-    /// Whether all that the session sends has come.
-    fn has_sent<R: Wait>(&self, rt: &R, session: u64) -> bool {
-        match self.room(session) {
-            Some(room) => room.lock(rt).has_sent,
-            None => true,
-        }
-    }
-
-    /// Whether a reply of this code was written to the session.
-    fn was_told<R: Wait>(&self, rt: &R, session: u64, code: [u8; 3]) -> bool {
+        let session = match sign {
+            Sign::Always => return true,
+            Sign::Writing => return *self.is_writing.lock(rt),
+            Sign::Greeted(session) | Sign::Sent(session) | Sign::Told(session, _) => session,
+        };
         let Some(room) = self.room(session) else {
             return true;
         };
-        has_reply(room.lock(rt).written.as_slice(), code)
+        let room = room.lock(rt);
+        match sign {
+            Sign::Sent(_) => room.has_sent,
+            Sign::Told(_, code) => has_reply(room.written.as_slice(), code),
+            _ => room.is_greeted,
+        }
     }
 
     /// Waits for a sign. Where it doesn't come, that is counted.
     pub(crate) fn wait<R: Wait + Clock>(&self, rt: &R, sign: Sign) {
-        if self.shows(rt, sign) {
-            return;
+        for look in 0..MOST_LOOKS {
+            if self.shows(rt, sign) {
+                if look > 0 {
+                    linger(rt, sign);
+                }
+                return;
+            }
+            pause(rt);
         }
-        if comes(rt, || self.shows(rt, sign)) {
-            linger(rt, sign);
-        } else {
-            self.gave_up(rt);
-        }
+        self.gave_up(rt);
     }
 }
 

@@ -1,9 +1,11 @@
 //! The configurations that rows are played over.
-use crate::failed;
-use crate::settings::config_of;
-use relay_conf::{Config, K1_CYCBUFF, K1_STORAGE};
+ghost use Rattle.std.specs.Prelude.{◌<◌, All, length, IfOk};
+
+use relay_conf::{
+    Buffers, ConfError, Config, K1_CYCBUFF, K1_RELAY, K1_STORAGE, Method, read_cycbuff, read_relay,
+    read_storage,
+};
 use std::alloc::Global;
-use std::io;
 
 /// A group of a buffer of 8 blocks, and one of such a buffer and one of 6, which it fills in turn.
 const CYCBUFF: &[u8] = b"cycbuff:A:a.buf:4\ncycbuff:B:b.buf:4\ncycbuff:C:c.buf:3\n\
@@ -12,10 +14,6 @@ const CYCBUFF: &[u8] = b"cycbuff:A:a.buf:4\ncycbuff:B:b.buf:4\ncycbuff:C:c.buf:3
 /// Articles of `misc` go to the first group, those of `news` to the second.
 const STORAGE: &[u8] = b"method cnfs {\nclass: 1\nnewsgroups: misc.*\noptions: G\n}\n\
     method cnfs {\nclass: 2\nnewsgroups: news.*\noptions: H\n}\n";
-
-/// As in K1 (docs/FORMATS.md, K1).
-const RELAY: &[u8] = b"own relay.example\npeer p1 one.example 0\npeer p2 two.example 0\n\
-    feed p2 2 *\n";
 
 /// A third peer, and the first feed is its own: of `misc`, with a ring of 2. The second one is of
 /// the second peer: of all newsgroups, with a ring of 3.
@@ -33,34 +31,27 @@ pub(crate) enum Site {
     TwoFeeds,
 }
 
-/// Ids are remembered for a hundred seconds.
-const REMEMBER: &[u8] = b"remember 100\n";
-
-/// The configuration of a row, where ids are forgotten if `forgets` says so.
-pub(crate) fn row_config(alloc: Global, site: Site, forgets: bool) -> io::Result<Config> {
+/// The configuration of a row, where ids are remembered for a hundred seconds if `forgets` says so.
+pub(crate) fn row_config(alloc: Global, site: Site, forgets: bool) -> Result<Config, ConfError> {
+    let (cycbuff, storage, relay) = match site {
+        Site::K1 => (K1_CYCBUFF, K1_STORAGE, K1_RELAY),
+        Site::TwoGroups => (CYCBUFF, STORAGE, K1_RELAY),
+        Site::TwoFeeds => (K1_CYCBUFF, K1_STORAGE, TWO_FEEDS),
+    };
+    let mut lines = Vec::from_slice(alloc, relay)?;
     if forgets {
-        return forgetting(alloc, site);
+        lines.extend_from_slice(b"remember 100\n")?;
     }
-    match site {
-        Site::K1 => Config::k1(alloc).map_err(|_| failed()),
-        Site::TwoGroups => config_of(alloc, CYCBUFF, STORAGE, RELAY),
-        Site::TwoFeeds => config_of(alloc, K1_CYCBUFF, K1_STORAGE, TWO_FEEDS),
-    }
+    let buffers = read_cycbuff(alloc, cycbuff)?;
+    let methods = methods_of(alloc, storage, &buffers)?;
+    let relay = read_relay(alloc, &lines)?;
+    Ok(Config::new(buffers, methods, relay))
 }
 
-/// The configuration of a row in which ids are forgotten.
-fn forgetting(alloc: Global, site: Site) -> io::Result<Config> {
-    let relay = [relay_of(site), REMEMBER].concat(alloc)?;
-    match site {
-        Site::TwoGroups => config_of(alloc, CYCBUFF, STORAGE, relay.as_slice()),
-        Site::K1 | Site::TwoFeeds => { config_of(alloc, K1_CYCBUFF, K1_STORAGE, relay.as_slice()) }
-    }
-}
-
-/// The relay of a row.
-fn relay_of(site: Site) -> &'static [u8] {
-    match site {
-        Site::K1 | Site::TwoGroups => RELAY,
-        Site::TwoFeeds => TWO_FEEDS,
-    }
+/// The entries of this text, over these groups.
+fn methods_of(alloc: Global, storage: &[u8], buffers: &Buffers) -> Result<Vec<Method>, ConfError>
+    ensures { IfOk result (λ methods.
+        All (λ method. method.group < length buffers.now.groups.items) methods.items) }
+{
+    read_storage(alloc, storage, buffers)
 }

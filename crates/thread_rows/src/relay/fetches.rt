@@ -1,13 +1,14 @@
 //! Fetches out of what the threads of a row shared, once all have ended.
 ghost use Rattle.std.specs.Prelude.{◌≡◌};
 
-use crate::articles::{Example, FROM_FIRST};
-use crate::printing::add_fetched;
-use crate::words::{count_in, word_of};
+use crate::articles::{FROM_FIRST, put_article};
+use crate::printing::put_fetched;
+use crate::words::{number_in, word_of};
 use cyc_block::BlockStore;
 use cyc_token::Token;
 use live_store::{Archive, Register};
 use relay_live::Shared;
+use row_text::Sheet;
 use std::alloc::{AllocError, Global};
 use std::sync::Wait;
 use std::sync::ledger::Ledger;
@@ -16,28 +17,27 @@ use std::sync::ledger::Ledger;
 #[derive(Drop)]
 pub(crate) struct Fetch {
     token: Token,
-    text: Vec<u8>,
+    text: Sheet,
 }
 
 impl Fetch {
     /// The fetch of these words: a token, then I and K of an article A(I, K) of the first peer.
     /// None where the first word is no token.
-    pub(crate) fn read(alloc: Global, words: &[u8]) -> Result<Option<Fetch>, AllocError> {
+    pub(crate) fn read(alloc: Global, words: &[u8]) -> Option<Fetch> {
         let (word, words) = word_of(words);
-        let Ok(token) = Token::parse(word) else {
-            return Ok(None);
-        };
+        let token = Token::parse(word).ok()?;
         let (id, octets) = word_of(words);
-        let text = Example::new(id, count_in(octets)).kept(alloc, FROM_FIRST)?;
-        Ok(Some(Fetch { token, text }))
+        let mut text = Sheet::new(alloc);
+        put_article(&mut text, FROM_FIRST, id, number_in(octets), b"misc.test");
+        Some(Fetch { token, text })
     }
 }
 
-/// Does each of these fetches, and adds what it found.
-pub(crate) fn add_fetches<S: BlockStore + Drop, J: Archive, L: Ledger, R: Wait>(
+/// Does each of these fetches, and writes what it found.
+pub(crate) fn put_fetches<S: BlockStore + Drop, J: Archive, L: Ledger, R: Wait>(
     rt: &R,
     alloc: Global,
-    text: &mut Vec<u8>,
+    sheet: &mut Sheet,
     shared: &Shared<S, J, L>,
     register: &Register,
     fetches: &Vec<Fetch>,
@@ -45,12 +45,12 @@ pub(crate) fn add_fetches<S: BlockStore + Drop, J: Archive, L: Ledger, R: Wait>(
     requires { register.now ≡ J.register }
 {
     for fetch in fetches {
-        text.extend_from_slice(b"fetch ")?;
-        text.extend_from_slice(fetch.token.to_text().as_slice())?;
-        text.extend_from_slice(b": ")?;
+        sheet.put(b"fetch ");
+        sheet.put(fetch.token.to_text().as_slice());
+        sheet.put(b": ");
         let found = shared.fetch(rt, alloc, register, &fetch.token)?;
-        add_fetched(alloc, text, &found, fetch.text.as_slice())?;
-        text.push(b'\n')?;
+        put_fetched(sheet, &found, fetch.text.octets());
+        sheet.put(b"\n");
     }
     Ok(())
 }

@@ -1,202 +1,160 @@
 //! What is printed of a row.
 
-use crate::printing::{Counts, put_line};
 use crate::relay::board::Board;
 use cyc_block::BlockStore;
+use line_words::number_within;
 use live_store::Archive;
 use relay_conf::Config;
 use relay_live::{Counted, Shared};
-use std::alloc::{AllocError, Global};
+use row_text::Sheet;
 use std::sync::Wait;
 use std::sync::ledger::Ledger;
 
 /// The longest line of `x` that is printed as it is.
 const LONGEST: u64 = 8;
 
-/// How often a code was written.
-#[derive(Clone, Copy)]
-struct Tally {
-    code: [u8; 3],
-    count: u64,
-}
-
-/// Adds what each session was written, without the CRs.
-pub(crate) fn add_sessions<R: Wait>(
-    rt: &R,
-    alloc: Global,
-    text: &mut Vec<u8>,
-    board: &Board,
-    sessions: u64,
-) -> Result<(), AllocError> {
-    for session in 1..=sessions {
-        let head = format!(in alloc; "session {session}")?;
-        put_line(text, head.as_str())?;
-        let written = board.written(rt, alloc, session)?;
-        add_shortened(alloc, text, written.as_slice())?;
-        end_line(text, written.as_slice())?;
-    }
-    Ok(())
-}
-
-/// Ends the last line of what was written, where it was cut.
-fn end_line(text: &mut Vec<u8>, written: &[u8]) -> Result<(), AllocError> {
-    match written.last() {
-        None | Some(b'\n') => Ok(()),
-        Some(_) => Ok(text.push(b'\n')?),
+/// Writes what each session was written.
+pub(crate) fn put_sessions<R: Wait>(rt: &R, sheet: &mut Sheet, board: &Board) {
+    let mut session = 0u64;
+    for room in &board.rooms {
+        session = session.saturating_add(1);
+        sheet.numbered(b"session ", session);
+        sheet.put(b"\n");
+        put_shortened(sheet, room.lock(rt).written.as_slice());
     }
 }
 
-/// Adds a text without its CRs, and a long line of `x` by how many they are.
-fn add_shortened(alloc: Global, text: &mut Vec<u8>, octets: &[u8]) -> Result<(), AllocError> {
-    let mut run = 0;
+/// Writes a text without its CRs, and a long line of `x` by how many they are. A last line that was
+/// cut is ended.
+fn put_shortened(sheet: &mut Sheet, octets: &[u8]) {
+    let mut run = 0u64;
     for octet in octets {
-        match *octet {
-            b'x' => run = u64::saturating_add(run, 1),
-            b'\r' => {}
-            other => {
-                add_run(alloc, text, run)?;
-                run = 0;
-                text.push(other)?;
-            }
+        if *octet == b'x' {
+            run = run.saturating_add(1);
+        } else if *octet != b'\r' {
+            put_run(sheet, run);
+            run = 0;
+            sheet.put(&[*octet]);
         }
     }
-    add_run(alloc, text, run)
+    put_run(sheet, run);
+    if !octets.is_empty() && !octets.ends_with(b"\n".as_slice()) {
+        sheet.put(b"\n");
+    }
 }
 
-/// Adds so many times `x`, or how many they are.
-fn add_run(alloc: Global, text: &mut Vec<u8>, run: u64) -> Result<(), AllocError> {
+/// Writes so many times `x`, or how many they are.
+fn put_run(sheet: &mut Sheet, run: u64) {
     if run > LONGEST {
-        let short = format!(in alloc; "{{{run} x}}")?;
-        return text.extend_from_slice(short.as_bytes());
+        sheet.numbered(b"{", run);
+        sheet.put(b" x}");
+    } else {
+        for _time in 0..run {
+            sheet.put(b"x");
+        }
     }
-    for _time in 0..run {
-        text.push(b'x')?;
-    }
-    Ok(())
 }
 
-/// Adds how often each code was written to all sessions together.
-pub(crate) fn add_codes<R: Wait>(
-    rt: &R,
-    alloc: Global,
-    text: &mut Vec<u8>,
-    board: &Board,
-    sessions: u64,
-) -> Result<(), AllocError> {
-    let mut tallies = Vec::new(alloc);
-    for session in 1..=sessions {
-        let written = board.written(rt, alloc, session)?;
-        count_codes(&mut tallies, written.as_slice())?;
+/// Writes how often each code was written to all sessions together, the smaller codes first.
+pub(crate) fn put_codes<R: Wait>(rt: &R, sheet: &mut Sheet, board: &Board) {
+    let mut counts = [0u64; 600];
+    for room in &board.rooms {
+        count_codes(&mut counts, room.lock(rt).written.as_slice());
     }
-    for tally in &tallies {
-        let times = tally.count;
-        text.extend_from_slice(tally.code.as_slice())?;
-        let count = format!(in alloc; ": {times} times")?;
-        put_line(text, count.as_str())?;
+    for (code, count) in counts.iter().enumerate() {
+        if *count > 0 {
+            sheet.number(code as u64);
+            sheet.numbered(b": ", *count);
+            sheet.put(b" times\n");
+        }
     }
-    Ok(())
 }
 
 /// Counts the codes of a text's lines.
-fn count_codes(tallies: &mut Vec<Tally>, written: &[u8]) -> Result<(), AllocError> {
+fn count_codes(counts: &mut [u64; 600], written: &[u8]) {
     for line in written.split(|octet| *octet == b'\n') {
-        if let [one, two, three, ..] = line {
-            count_code(tallies, [*one, *two, *three])?;
+        let code = number_within(100, 599, line.get(..3).unwrap_or(b""));
+        if let Some(count) = counts.get_mut(code.unwrap_or(600) as usize) {
+            *count = count.saturating_add(1);
         }
     }
-    Ok(())
 }
 
-/// Counts a code. The smaller codes come first.
-fn count_code(tallies: &mut Vec<Tally>, code: [u8; 3]) -> Result<(), AllocError> {
-    for tally in tallies.iter_mut() {
-        if tally.code == code {
-            tally.count = tally.count.saturating_add(1);
-            return Ok(());
-        }
-    }
-    let place = tallies.iter().position(|tally| tally.code > code);
-    let at = place.unwrap_or(tallies.len());
-    Ok(tallies.insert(at, Tally { code, count: 1 })?)
+/// Writes what the seats were counted to, and how often something was waited for in vain.
+pub(crate) fn put_counted<R: Wait>(rt: &R, sheet: &mut Sheet, board: &Board, counted: &Counted) {
+    sheet.numbered(b"accepted ", counted.accepted());
+    sheet.numbered(b" posted ", counted.posted().count());
+    sheet.put(b" strays ");
+    sheet.debug(&counted.strays());
+    sheet.put(b" doubles ");
+    sheet.debug(&counted.doubles());
+    sheet.numbered(b" late ", board.late(rt));
+    sheet.put(b"\n");
 }
 
-/// Adds what the seats were counted to, and how often something was waited for in vain.
-pub(crate) fn add_counted<R: Wait>(
+/// Writes what is known of the buffers, the feeds and the message-ids.
+pub(crate) fn put_figures<S: BlockStore + Drop, J: Archive, L: Ledger, R: Wait>(
     rt: &R,
-    alloc: Global,
-    text: &mut Vec<u8>,
-    board: &Board,
-    counted: &Counted,
-) -> Result<(), AllocError> {
-    let counts = Counts {
-        accepted: counted.accepted(),
-        posted: counted.posted().count(),
-        strays: counted.strays(),
-        doubles: counted.doubles(),
-    };
-    let counted = counts.told(alloc)?;
-    let late = board.late(rt);
-    let line = format!(in alloc; "{counted} late {late}")?;
-    put_line(text, line.as_str())
-}
-
-/// Adds what is known of the buffers, the feeds and the message-ids.
-pub(crate) fn add_figures<S: BlockStore + Drop, J: Archive, L: Ledger, R: Wait>(
-    rt: &R,
-    alloc: Global,
-    text: &mut Vec<u8>,
+    sheet: &mut Sheet,
     shared: &Shared<S, J, L>,
     config: &Config,
-) -> Result<(), AllocError> {
+) {
     for number in 0..config.buffers.buffers.len() {
-        add_buffer(rt, alloc, text, shared, number)?;
+        put_buffer(rt, sheet, shared, number);
     }
     for number in 0..config.relay.feeds.len() {
-        add_feed(rt, alloc, text, shared, number)?;
+        put_feed(rt, sheet, shared, number);
     }
+    put_ids(rt, sheet, shared);
+}
+
+/// Writes the figures of a buffer.
+fn put_buffer<S: BlockStore + Drop, J: Archive, L: Ledger, R: Wait>(
+    rt: &R,
+    sheet: &mut Sheet,
+    shared: &Shared<S, J, L>,
+    number: usize,
+) {
+    if let Some(figures) = shared.buffer_figures(rt, number) {
+        sheet.numbered(b"buffer ", number as u64);
+        sheet.numbered(b" cycle ", u64::from(figures.cycle));
+        sheet.numbered(b" front ", figures.front);
+        sheet.numbered(b" begun ", figures.begun);
+        sheet.numbered(b" stored ", figures.stored);
+        sheet.put(b"\n");
+    }
+}
+
+/// Writes the counts of a feed.
+fn put_feed<S: BlockStore + Drop, J: Archive, L: Ledger, R: Wait>(
+    rt: &R,
+    sheet: &mut Sheet,
+    shared: &Shared<S, J, L>,
+    number: usize,
+) {
+    if let Some(counts) = shared.feed_counts(rt, number as u16) {
+        sheet.numbered(b"feed ", number as u64);
+        sheet.numbered(b" gained ", counts.gained);
+        sheet.numbered(b" taken ", counts.taken);
+        sheet.numbered(b" waiting ", counts.waiting);
+        sheet.put(b"\n");
+    }
+}
+
+/// Writes how many message-ids are known, by kind.
+fn put_ids<S: BlockStore + Drop, J: Archive, L: Ledger, R: Wait>(
+    rt: &R,
+    sheet: &mut Sheet,
+    shared: &Shared<S, J, L>,
+) {
     let ids = shared.id_counts(rt);
-    let (offered, storing) = (ids.offered, ids.storing);
-    let (stored, refused) = (ids.stored, ids.refused);
-    let line = format!(in alloc;
-        "ids offered {offered} storing {storing} stored {stored} refused {refused}"
-    )?;
-    put_line(text, line.as_str())
-}
-
-/// Adds the figures of a buffer.
-fn add_buffer<S: BlockStore + Drop, J: Archive, L: Ledger, R: Wait>(
-    rt: &R,
-    alloc: Global,
-    text: &mut Vec<u8>,
-    shared: &Shared<S, J, L>,
-    number: usize,
-) -> Result<(), AllocError> {
-    let Some(figures) = shared.buffer_figures(rt, number) else {
-        return Ok(());
-    };
-    let (cycle, front) = (figures.cycle, figures.front);
-    let (begun, stored) = (figures.begun, figures.stored);
-    let line = format!(in alloc;
-        "buffer {number} cycle {cycle} front {front} begun {begun} stored {stored}"
-    )?;
-    put_line(text, line.as_str())
-}
-
-/// Adds the counts of a feed.
-fn add_feed<S: BlockStore + Drop, J: Archive, L: Ledger, R: Wait>(
-    rt: &R,
-    alloc: Global,
-    text: &mut Vec<u8>,
-    shared: &Shared<S, J, L>,
-    number: usize,
-) -> Result<(), AllocError> {
-    let Ok(feed) = u16::try_from(number) else {
-        return Ok(());
-    };
-    let Some(counts) = shared.feed_counts(rt, feed) else {
-        return Ok(());
-    };
-    let (gained, taken, waiting) = (counts.gained, counts.taken, counts.waiting);
-    let line = format!(in alloc; "feed {number} gained {gained} taken {taken} waiting {waiting}")?;
-    put_line(text, line.as_str())
+    sheet.put(b"ids offered ");
+    sheet.debug(&ids.offered);
+    sheet.put(b" storing ");
+    sheet.debug(&ids.storing);
+    sheet.put(b" stored ");
+    sheet.debug(&ids.stored);
+    sheet.put(b" refused ");
+    sheet.debug(&ids.refused);
+    sheet.put(b"\n");
 }

@@ -1,45 +1,35 @@
 //! The gate, which lets commands in by turns.
 
-use crate::looks::comes;
+use crate::looks::{MOST_LOOKS, pause};
 use crate::relay::board::Board;
 use live_session::{Command, Gate};
 use std::sync::{Mutex, Wait};
 use std::time::Clock;
 
 /// The place of a session's end among its commands: the session has returned.
-const GONE: u64 = u64::MAX;
+pub(crate) const GONE: u64 = u64::MAX;
 
 /// The place of a session's connection among its commands.
-const COMES: u64 = u64::MAX - 1;
+pub(crate) const COMES: u64 = u64::MAX - 1;
 
 /// The turn of a command.
 #[derive(Clone, Copy)]
 pub(crate) struct Turn {
-    session: u64,
+    pub(crate) session: u64,
     /// Which of its commands, from 0.
-    command: u64,
+    pub(crate) command: u64,
     /// The next turn comes once it is let in, not once it is answered.
-    is_beside: bool,
+    pub(crate) is_beside: bool,
 }
 
 impl Turn {
-    /// The turn of a session's command.
-    pub(crate) fn new(session: u64, command: u64, is_beside: bool) -> Turn {
+    /// The turn of this command, or of what stands in a command's place.
+    pub(crate) fn new(session: u64, command: u64) -> Turn {
         Turn {
             session,
             command,
-            is_beside,
+            is_beside: false,
         }
-    }
-
-    /// The turn of a session that returns.
-    pub(crate) fn of_end(session: u64) -> Turn {
-        Turn::new(session, GONE, false)
-    }
-
-    /// The turn of a session's connection.
-    pub(crate) fn of_connection(session: u64) -> Turn {
-        Turn::new(session, COMES, false)
     }
 
     /// Whether it is the turn of this command.
@@ -96,16 +86,19 @@ impl<'a> Turns<'a> {
     }
 
     /// Waits for the command's turn; false where that doesn't come.
-    fn wait<R: Wait + Clock>(&self, rt: &R, session: u64, command: u64) -> bool {
-        let is_in = comes(rt, || self.lets_in(rt, session, command));
-        if !is_in {
-            self.board.gave_up(rt);
+    pub(crate) fn wait<R: Wait + Clock>(&self, rt: &R, session: u64, command: u64) -> bool {
+        for _look in 0..MOST_LOOKS {
+            if self.lets_in(rt, session, command) {
+                return true;
+            }
+            pause(rt);
         }
-        is_in
+        self.board.gave_up(rt);
+        false
     }
 
     /// Where it is the command's turn, that is done.
-    fn answered<R: Wait>(&self, rt: &R, session: u64, command: u64) {
+    pub(crate) fn answered<R: Wait>(&self, rt: &R, session: u64, command: u64) {
         let mut done = self.done.lock(rt);
         if let Some(turn) = self.order.get(*done) {
             if turn.is_of(session, command) {
@@ -114,25 +107,19 @@ impl<'a> Turns<'a> {
         }
     }
 
-    /// Waits until it is the turn of the session's connection; false where that doesn't come.
-    pub(crate) fn admits<R: Wait + Clock>(&self, rt: &R, session: u64) -> bool {
-        self.wait(rt, session, COMES)
-    }
-
-    /// The session's connection has come.
-    pub(crate) fn came<R: Wait>(&self, rt: &R, session: u64) {
-        self.answered(rt, session, COMES);
-    }
-
     /// The session has returned: where the order tells that, then once it is its turn, what the
     /// order has of it up to there is done.
     pub(crate) fn returned<R: Wait + Clock>(&self, rt: &R, session: u64) {
         let Some(at) = self.order.iter().position(|turn| turn.is_of(session, GONE)) else {
             return;
         };
-        if !comes(rt, || self.goes_past(rt, session, at)) {
-            self.board.gave_up(rt);
+        for _look in 0..MOST_LOOKS {
+            if self.goes_past(rt, session, at) {
+                return;
+            }
+            pause(rt);
         }
+        self.board.gave_up(rt);
     }
 
     /// Where the next turn is the session's, its turns up to this place are done.

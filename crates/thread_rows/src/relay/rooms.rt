@@ -1,7 +1,7 @@
 //! Connections in memory.
 
 use crate::relay::board::{Board, Sign};
-use crate::relay::gate::Turns;
+use crate::relay::gate::{COMES, Turns};
 use crate::relay::script::{Habits, Script};
 use live_wire::{Connections, Ear, Mouth};
 use std::io;
@@ -23,13 +23,6 @@ pub(crate) struct Voice<'a, R: Sync> {
     interrupted: bool,
 }
 
-/// Where something is left to come, waits until a block is being written.
-fn await_block<R: Wait + Clock>(rt: &R, board: &Board, rest: &[u8]) {
-    if !rest.is_empty() {
-        board.wait(rt, Sign::Writing);
-    }
-}
-
 impl<R: Wait + Clock + Sync> Read for Voice<'_, R> {
     fn read(&mut self, room: &mut [u8]) -> io::Result<usize> {
         self.interrupted = self.habits.by_octets && !self.interrupted;
@@ -37,7 +30,9 @@ impl<R: Wait + Clock + Sync> Read for Voice<'_, R> {
             return Err(io::Error::from(ErrorKind::Interrupted));
         }
         if self.front.is_empty() {
-            await_block(self.rt, self.board, self.rest);
+            if !self.rest.is_empty() {
+                self.board.wait(self.rt, Sign::Writing);
+            }
             self.front = self.rest;
             self.rest = b"";
         }
@@ -117,16 +112,16 @@ impl<'a, R: Wait + Clock + Sync> Connections<R> for Visit<'a, R> {
         };
         self.board.wait(rt, self.after);
         if let Some(moment) = script.comes {
-            self.turns.admits(rt, self.number);
+            self.turns.wait(rt, self.number, COMES);
             self.board.clock.set(moment);
-            self.turns.came(rt, self.number);
+            self.turns.answered(rt, self.number, COMES);
         }
         let voice = Voice {
             rt: self.rt,
             board: self.board,
             number: self.number,
-            front: script.front.as_slice(),
-            rest: script.rest.as_slice(),
+            front: script.front.octets(),
+            rest: script.rest.octets(),
             habits: script.habits,
             interrupted: false,
         };

@@ -4,16 +4,21 @@ use crate::clock::USUAL_MOMENT;
 use crate::relay::board::Sign;
 use crate::relay::configs::Site;
 use crate::relay::fetches::Fetch;
-use crate::relay::gate::{Manner, Turn};
+use crate::relay::gate::{COMES, GONE, Manner, Turn};
 use crate::relay::script::Script;
 use crate::relay::waiting::Waits;
-use crate::words::{count_in, number_in, numbered, word_of};
+use crate::words::{number_in, numbered, place_in, word_of};
 use line_words::{is_skipped, number_within, two_parts};
 use std::alloc::{AllocError, Global};
-use std::str;
 
 /// Sessions of a row, at most.
 const MOST_SESSIONS: u64 = 2_000;
+
+/// The first words of the lines that are of the whole row, and set it.
+const SETTINGS: &str = "fails sweep clock groups feeds forgets peer counts open closed writes reads";
+
+/// The first words of a session's lines. What begins with another one is a command.
+const OF_SESSION: &str = "returns comes beside article sends waits octets takes breaks";
 
 /// A row.
 #[derive(Drop)]
@@ -38,8 +43,8 @@ pub(crate) struct Row {
     pub(crate) order: Vec<Turn>,
     /// What is fetched once all have ended.
     pub(crate) fetches: Vec<Fetch>,
-    /// The lines that say nothing known.
-    pub(crate) bad: u64,
+    /// A line says nothing known.
+    pub(crate) is_bad: bool,
 }
 
 impl Row {
@@ -70,7 +75,7 @@ impl Row {
             sessions: Vec::new(alloc),
             order: Vec::new(alloc),
             fetches: Vec::new(alloc),
-            bad: 0,
+            is_bad: false,
         }
     }
 
@@ -80,145 +85,90 @@ impl Row {
             return Ok(());
         }
         let (first, rest) = word_of(line);
+        if let Some(session) = number_within(1, MOST_SESSIONS, first) {
+            return self.add_of(alloc, session, rest);
+        }
         if first == b"each".as_slice() {
             return self.add_each(alloc, rest);
         }
         if first == b"fetch".as_slice() {
             return self.add_fetch(alloc, rest);
         }
-        match number_within(1, MOST_SESSIONS, first) {
-            Some(session) => self.add_of(alloc, session, rest),
-            None => {
-                if !self.set(first, rest) {
-                    self.count_bad();
-                }
-                Ok(())
-            }
-        }
-    }
-
-    /// Counts a line that says nothing known.
-    fn count_bad(&mut self) {
-        self.bad = self.bad.saturating_add(1);
+        self.set(first, rest);
+        Ok(())
     }
 
     /// Adds a fetch once all have ended.
     fn add_fetch(&mut self, alloc: Global, rest: &[u8]) -> Result<(), AllocError> {
-        match Fetch::read(alloc, rest)? {
-            Some(fetch) => Ok(self.fetches.push(fetch)?),
-            None => {
-                self.count_bad();
-                Ok(())
-            }
+        match Fetch::read(alloc, rest) {
+            Some(fetch) => self.fetches.push(fetch)?,
+            None => self.is_bad = true,
         }
+        Ok(())
     }
 
-    /// Adds the line of each session up to a number, with its number in the place of `#`.
+    /// Adds the line of each session up to a number, with its number in the place of each `#`.
     fn add_each(&mut self, alloc: Global, rest: &[u8]) -> Result<(), AllocError> {
         let (digits, line) = word_of(rest);
-        let last = number_within(1, MOST_SESSIONS, digits).unwrap_or(0);
-        for session in 1..=last {
-            let line = numbered(alloc, line, session)?;
-            self.add_of(alloc, session, line.as_slice())?;
+        for session in 1..=number_within(1, MOST_SESSIONS, digits).unwrap_or(0) {
+            self.add_of(alloc, session, numbered(alloc, line, session).octets())?;
         }
         Ok(())
     }
 
     /// Adds a line of a session: what it sends, or how its end behaves.
     fn add_of(&mut self, alloc: Global, session: u64, line: &[u8]) -> Result<(), AllocError> {
-        self.make_room(alloc, session)?;
-        let (word, rest) = word_of(line);
-        match str::from_utf8(word).unwrap_or("") {
-            "returns" => Ok(self.order.push(Turn::of_end(session))?),
-            "comes" => {
-                let turn = self.coming(session, rest);
-                Ok(self.order.push(turn)?)
-            }
-            "beside" => self.command(session, rest, true),
-            word => {
-                if self.is_of_script(alloc, session, word, rest)? {
-                    return Ok(());
-                }
-                self.command(session, line, false)
-            }
-        }
-    }
-
-    /// There is a script for the session.
-    fn make_room(&mut self, alloc: Global, session: u64) -> Result<(), AllocError> {
         for _number in self.sessions.len() as u64..session {
             self.sessions.push(Script::new(alloc))?;
         }
-        Ok(())
-    }
-
-    /// The script of a session.
-    fn script(&mut self, session: u64) -> Option<&mut Script> {
-        let at = usize::try_from(session.checked_sub(1)?).ok()?;
-        self.sessions.get_mut(at)
-    }
-
-    /// The session sends a command, which has the next turn.
-    fn command(&mut self, session: u64, line: &[u8], is_beside: bool) -> Result<(), AllocError> {
-        let Some(script) = self.script(session) else {
+        let Some(script) = self.sessions.get_mut(session.saturating_sub(1) as usize) else {
             return Ok(());
         };
-        let number = script.commands;
-        script.commands = number.saturating_add(1);
-        script.send(line)?;
-        Ok(self.order.push(Turn::new(session, number, is_beside))?)
+        match turn_of(script, session, line) {
+            Some(turn) => Ok(self.order.push(turn)?),
+            None => Ok(()),
+        }
     }
 
-    /// The session's connection comes in this turn, and sets the clock to this moment.
-    fn coming(&mut self, session: u64, rest: &[u8]) -> Turn {
-        if let Some(script) = self.script(session) {
+    /// Does what a word says of the whole row.
+    fn set(&mut self, word: &[u8], rest: &[u8]) {
+        match place_in(SETTINGS, word) {
+            Some(0) => self.failing = number_in(rest),
+            Some(1) => self.sweep = number_in(rest),
+            Some(2) => self.moment = number_in(rest),
+            Some(3) => self.site = Site::TwoGroups,
+            Some(4) => self.site = Site::TwoFeeds,
+            Some(5) => self.forgets = true,
+            Some(6) => self.has_one_peer = true,
+            Some(7) => self.is_counted = true,
+            Some(8) => self.manner = Manner::Open,
+            Some(9) => self.manner = Manner::Closed,
+            Some(10) => self.waits.writes = sign_in(rest),
+            Some(11) => self.waits.reads = sign_in(rest),
+            _ => self.is_bad = true,
+        }
+    }
+}
+
+/// Does what a line says of a session's script: the turn that it has, if it has one.
+fn turn_of(script: &mut Script, session: u64, line: &[u8]) -> Option<Turn> {
+    let (word, rest) = word_of(line);
+    match place_in(OF_SESSION, word) {
+        Some(0) => return Some(Turn::new(session, GONE)),
+        Some(1) => {
             script.comes = Some(number_in(rest));
+            return Some(Turn::new(session, COMES));
         }
-        Turn::of_connection(session)
+        Some(2) => return Some(script.command(session, rest, true)),
+        Some(3) => script.send_article(rest),
+        Some(4) => script.send(rest),
+        Some(5) => script.is_waiting = true,
+        Some(6) => script.habits.by_octets = true,
+        Some(7) => script.habits.takes = number_in(rest) as usize,
+        Some(8) => script.habits.breaks = true,
+        _ => return Some(script.command(session, line, false)),
     }
-
-    /// Does what a word says of a session's script, or says that it is none of these.
-    fn is_of_script(
-        &mut self,
-        alloc: Global,
-        session: u64,
-        word: &str,
-        rest: &[u8],
-    ) -> Result<bool, AllocError> {
-        let Some(script) = self.script(session) else {
-            return Ok(false);
-        };
-        match word {
-            "article" => script.send_article(alloc, rest)?,
-            "sends" => script.send(rest)?,
-            "waits" => script.wait(),
-            "octets" => script.habits.by_octets = true,
-            "takes" => script.habits.takes = count_in(rest),
-            "breaks" => script.habits.breaks = true,
-            _ => return Ok(false),
-        }
-        Ok(true)
-    }
-
-    /// Does what a word says of the whole row, or says that it is none of these.
-    fn set(&mut self, word: &[u8], rest: &[u8]) -> bool {
-        match str::from_utf8(word).unwrap_or("") {
-            "fails" => self.failing = number_in(rest),
-            "sweep" => self.sweep = number_in(rest),
-            "clock" => self.moment = number_in(rest),
-            "groups" => self.site = Site::TwoGroups,
-            "feeds" => self.site = Site::TwoFeeds,
-            "forgets" => self.forgets = true,
-            "peer" => self.has_one_peer = true,
-            "counts" => self.is_counted = true,
-            "open" => self.manner = Manner::Open,
-            "closed" => self.manner = Manner::Closed,
-            "writes" => self.waits.writes = sign_in(rest),
-            "reads" => self.waits.reads = sign_in(rest),
-            _ => return false,
-        }
-        true
-    }
+    None
 }
 
 /// The sign that these words name: a session, and the code of a reply or `sent`.

@@ -1,8 +1,10 @@
 //! What a session sends, and how its end of the connection behaves.
 
-use crate::articles::Example;
-use crate::words::{count_of, word_of};
-use std::alloc::{AllocError, Global};
+use crate::articles::put_article;
+use crate::relay::gate::Turn;
+use crate::words::{number_in, word_of};
+use row_text::Sheet;
+use std::alloc::Global;
 
 /// How an end of a connection behaves.
 #[derive(Clone, Copy)]
@@ -18,11 +20,12 @@ pub(crate) struct Habits {
 /// What a session sends.
 #[derive(Drop)]
 pub(crate) struct Script {
-    pub(crate) front: Vec<u8>,
+    pub(crate) front: Sheet,
     /// What it sends once a block is being written.
-    pub(crate) rest: Vec<u8>,
-    is_waiting: bool,
-    pub(crate) commands: u64,
+    pub(crate) rest: Sheet,
+    /// What it sends next comes only then.
+    pub(crate) is_waiting: bool,
+    commands: u64,
     pub(crate) habits: Habits,
     /// Its connection comes in its turn, and the clock stands at this moment from then on.
     pub(crate) comes: Option<u64>,
@@ -32,8 +35,8 @@ impl Script {
     /// Nothing is sent yet.
     pub(crate) fn new(alloc: Global) -> Script {
         Script {
-            front: Vec::new(alloc),
-            rest: Vec::new(alloc),
+            front: Sheet::new(alloc),
+            rest: Sheet::new(alloc),
             is_waiting: false,
             commands: 0,
             habits: Habits {
@@ -45,33 +48,38 @@ impl Script {
         }
     }
 
-    /// From here on it sends only once a block is being written.
-    pub(crate) fn wait(&mut self) {
-        self.is_waiting = true;
+    /// It sends this line.
+    pub(crate) fn send(&mut self, line: &[u8]) {
+        let text = self.text();
+        text.put(line);
+        text.put(b"\r\n");
     }
 
-    /// It sends this line.
-    pub(crate) fn send(&mut self, line: &[u8]) -> Result<(), AllocError> {
-        let text = self.text();
-        text.extend_from_slice(line)?;
-        text.extend_from_slice(b"\r\n")
+    /// It sends this command, which has the next turn.
+    pub(crate) fn command(&mut self, session: u64, line: &[u8], is_beside: bool) -> Turn {
+        self.send(line);
+        let command = self.commands;
+        self.commands = command.saturating_add(1);
+        Turn {
+            session,
+            command,
+            is_beside,
+        }
     }
 
     /// It sends the lines of an article: the words are I, K and the newsgroups of it; without the
     /// latter these are `misc.test`.
-    pub(crate) fn send_article(&mut self, alloc: Global, words: &[u8]) -> Result<(), AllocError> {
+    pub(crate) fn send_article(&mut self, words: &[u8]) {
         let (id, words) = word_of(words);
-        let (octets, groups) = count_of(words);
-        let article = if groups.is_empty() {
-            Example::new(id, octets)
-        } else {
-            Example::in_groups(id, octets, groups)
-        };
-        self.text().extend_from_slice(&article.block(alloc, b"")?)
+        let (digits, groups) = word_of(words);
+        let groups = if groups.is_empty() { b"misc.test".as_slice() } else { groups };
+        let text = self.text();
+        put_article(text, b"", id, number_in(digits), groups);
+        text.put(b".\r\n");
     }
 
     /// What it sends next.
-    fn text(&mut self) -> &mut Vec<u8> {
+    fn text(&mut self) -> &mut Sheet {
         if self.is_waiting {
             &mut self.rest
         } else {

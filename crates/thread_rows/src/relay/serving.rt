@@ -4,11 +4,10 @@ ghost use Rattle.relay_live.specs.Holding.{has_buffer};
 ghost use Rattle.relay_live.specs.Making.{ends_in};
 
 use crate::failed;
-use crate::printing::put_line;
 use crate::relay::board::{Board, Sign};
 use crate::relay::configs::row_config;
-use crate::relay::fetches::add_fetches;
-use crate::relay::figures::{add_codes, add_counted, add_figures, add_sessions};
+use crate::relay::fetches::put_fetches;
+use crate::relay::figures::{put_codes, put_counted, put_figures, put_sessions};
 use crate::relay::gate::{Manner, Turns};
 use crate::relay::rooms::Visit;
 use crate::relay::row::Row;
@@ -16,6 +15,7 @@ use crate::relay::waiting::{Waiting, waiting_stores};
 use live_store::{Archive, Register};
 use relay_conf::Config;
 use relay_live::{Counted, Door, Keeper, Shared, serve_all};
+use row_text::Sheet;
 use std::alloc::{AllocError, Global};
 use std::hash::RandomState;
 use std::io;
@@ -118,7 +118,7 @@ fn serve<J: Archive + Send + Sync, L: Ledger + Send + Sync, R>(
     groups: usize,
     row: &Row,
     failing: u64,
-) -> io::Result<Vec<u8>>
+) -> io::Result<Sheet>
 where
     R: Threads + Wait + Clock + RandomSource + Sync + 'static,
     requires register { register.now ≡ J.register }
@@ -134,31 +134,26 @@ where
     let counted = run(
         rt, alloc, config, register, &shared, all, groups, &board, row,
     )?;
-    let mut text = told(rt, alloc, &board, row)?;
-    add_counted(rt, alloc, &mut text, &board, &counted)?;
-    add_figures(rt, alloc, &mut text, &shared, config)?;
-    add_fetches(rt, alloc, &mut text, &shared, register, &row.fetches)?;
-    Ok(text)
-}
-
-/// What the sessions of a row were written, or how often each code was.
-fn told<R: Wait>(rt: &R, alloc: Global, board: &Board, row: &Row) -> Result<Vec<u8>, AllocError> {
-    let mut text = Vec::new(alloc);
-    let sessions = row.sessions.len() as u64;
+    let mut sheet = Sheet::new(alloc);
     if row.is_counted {
-        add_codes(rt, alloc, &mut text, board, sessions)?;
+        put_codes(rt, &mut sheet, &board);
     } else {
-        add_sessions(rt, alloc, &mut text, board, sessions)?;
+        put_sessions(rt, &mut sheet, &board);
     }
-    Ok(text)
+    put_counted(rt, &mut sheet, &board, &counted);
+    put_figures(rt, &mut sheet, &shared, config);
+    put_fetches(rt, alloc, &mut sheet, &shared, register, &row.fetches)?;
+    Ok(sheet)
 }
 
 /// Plays a row with this call of each store failing, and says what came of it.
-fn play<R>(rt: &R, alloc: Global, row: &Row, failing: u64) -> io::Result<Vec<u8>>
+fn play<R>(rt: &R, alloc: Global, row: &Row, failing: u64) -> io::Result<Sheet>
 where
     R: Threads + Wait + Clock + RandomSource + Sync + 'static,
 {
-    let config = row_config(alloc, row.site, row.forgets)?;
+    let Ok(config) = row_config(alloc, row.site, row.forgets) else {
+        return Err(failed());
+    };
     let groups = config.buffers.groups.len();
     if groups == 0 {
         return Err(failed());
@@ -168,53 +163,44 @@ where
     serve::<Brand, Brand, R>(rt, alloc, &config, &register, blank, groups, row, failing)
 }
 
-/// Plays a row, and says what came of it, behind how many of its lines are bad.
-pub(crate) fn played<R>(rt: &R, alloc: Global, row: &Row) -> io::Result<Vec<u8>>
+/// Plays the row of these lines, and says what came of it behind the line that it begins with.
+pub(crate) fn played<R>(rt: &R, alloc: Global, head: &[u8], lines: &[&[u8]]) -> io::Result<Sheet>
 where
     R: Threads + Wait + Clock + RandomSource + Sync + 'static,
 {
-    let bad = row.bad;
-    let mut text = Vec::new(alloc);
-    if bad > 0 {
-        put_line(&mut text, format!(in alloc; "{bad} bad lines")?.as_str())?;
+    let row = Row::read(alloc, lines)?;
+    if row.is_bad {
+        return Err(failed());
     }
-    if row.sweep == 0 {
-        text.extend_from_slice(&play(rt, alloc, row, row.failing)?)?;
+    let mut sheet = Sheet::new(alloc);
+    sheet.put(head);
+    sheet.put(b"\n");
+    if row.sweep > 0 {
+        sweep(rt, alloc, &mut sheet, &row)?;
     } else {
-        sweep(rt, alloc, &mut text, row)?;
+        let came = play(rt, alloc, &row, row.failing)?;
+        let text = came.onto(&mut sheet);
+        sheet.put(&text);
     }
-    Ok(text)
+    Ok(sheet)
 }
 
 /// Plays a row with each call of a store failing in turn: what came of a call is told wherever it
 /// isn't what came of the one before.
-fn sweep<R>(rt: &R, alloc: Global, whole: &mut Vec<u8>, row: &Row) -> io::Result<()>
+fn sweep<R>(rt: &R, alloc: Global, sheet: &mut Sheet, row: &Row) -> io::Result<()>
 where
     R: Threads + Wait + Clock + RandomSource + Sync + 'static,
 {
     let mut last = Vec::new(alloc);
     for failing in 1..=row.sweep {
-        let text = play(rt, alloc, row, failing)?;
-        add_call(alloc, whole, failing, &last, &text)?;
+        let came = play(rt, alloc, row, failing)?;
+        let text = came.onto(sheet);
+        if last.as_slice() != text.as_slice() {
+            sheet.numbered(b"-- call ", failing);
+            sheet.put(b" fails\n");
+            sheet.put(&text);
+        }
         last = text;
     }
     Ok(())
-}
-
-/// Adds what came of a call that fails, where it isn't what came of the one before.
-fn add_call(
-    alloc: Global,
-    whole: &mut Vec<u8>,
-    failing: u64,
-    last: &Vec<u8>,
-    text: &Vec<u8>,
-) -> Result<(), AllocError> {
-    if last.as_slice() == text.as_slice() {
-        return Ok(());
-    }
-    put_line(
-        whole,
-        format!(in alloc; "-- call {failing} fails")?.as_str(),
-    )?;
-    whole.extend_from_slice(text)
 }

@@ -1,13 +1,13 @@
 //! The calls of buffer 0 under its lock.
-ghost use Rattle.std.specs.Prelude.{◌≡◌, true};
+ghost use Rattle.std.specs.Prelude.{◌≡◌};
 
 use crate::failed;
-use crate::printing::{add, add_fetched};
+use crate::printing::put_fetched;
 use crate::shared::rows::Row;
-use crate::shared::told::add_stored;
-use cyc_block::BlockStore;
-use cyc_token::Token;
+use crate::words::place_in;
+use cyc_block::{FailAt, MemoryBlocks};
 use live_store::{Archive, Fetched, NumberedBuffer, Register, Stored, fetch, store};
+use row_text::Sheet;
 use sample_articles::{Sample, sample_article};
 use std::alloc::{AllocError, Global};
 use std::io;
@@ -15,7 +15,10 @@ use std::sync::{Mutex, Wait};
 use std::thread::{Threads, join};
 
 /// Buffer 0 under its lock.
-pub(crate) type Locked<S, J> = Mutex<NumberedBuffer<S, J>>;
+pub(crate) type Locked<J> = Mutex<NumberedBuffer<FailAt<MemoryBlocks>, J>>;
+
+/// The calls of rows.
+const CALLS: &str = "store fetch meanwhile open";
 
 /// An article of so many octets.
 pub(crate) fn sample(alloc: Global, octets: u32) -> io::Result<Sample> {
@@ -25,58 +28,27 @@ pub(crate) fn sample(alloc: Global, octets: u32) -> io::Result<Sample> {
     }
 }
 
-/// Buffer 0 over a store, from this cycle on.
-pub(crate) fn one_buffer<S: BlockStore + Drop, J: Archive>(
+/// Buffer 0 over eight blocks in memory, whose call number k fails, from this cycle on.
+pub(crate) fn one_buffer<J: Archive>(
     alloc: Global,
-    store: S,
     first_cycle: u32,
-) -> Result<Vec<Locked<S, J>>, AllocError>
-    requires { J.trusted ≡ true → S.honest store }
-{
-    let buffer = NumberedBuffer::format(alloc, store, 0, first_cycle)?;
+    k: u64,
+) -> Result<Vec<Locked<J>>, AllocError> {
+    let device = FailAt::new(MemoryBlocks::new(alloc, 8)?, k);
+    let buffer = NumberedBuffer::format(alloc, device, 0, first_cycle)?;
     let mut buffers = Vec::new(alloc);
     buffers.push(Mutex::new(buffer))?;
     Ok(buffers)
 }
 
-/// Plays a row over a buffer, and adds what came of it.
-pub(crate) fn add_played<
-    S: BlockStore + Send + Sync,
-    J: Archive + Send + Sync,
-    R: Threads + Wait + Sync,
->(
+/// Plays a row over a buffer, and writes what came of it.
+pub(crate) fn put_played<J: Archive + Send + Sync, R: Threads + Wait + Sync>(
     rt: &R,
     alloc: Global,
-    text: &mut Vec<u8>,
-    buffers: &Vec<Locked<S, J>>,
+    sheet: &mut Sheet,
+    buffers: &Vec<Locked<J>>,
     register: &Register,
     row: &Row<'_>,
-    article: &Sample,
-) -> Result<(), AllocError>
-    requires { register.now ≡ J.register }
-{
-    match row.call {
-        "store" => put(rt, alloc, text, buffers, register, article),
-        "fetch" => get(rt, alloc, text, buffers, register, &row.token(), article),
-        "meanwhile" => {
-            let right = meanwhile(rt, alloc, buffers, register, &row.token(), article);
-            add(alloc, text, "", &right)
-        }
-        "open" => {
-            open(rt, buffers, row.token().length);
-            Ok(())
-        }
-        _ => text.extend_from_slice(b"?"),
-    }
-}
-
-/// Stores an article, and adds how that ended.
-fn put<S: BlockStore, J: Archive, R: Wait>(
-    rt: &R,
-    alloc: Global,
-    text: &mut Vec<u8>,
-    buffers: &Vec<Locked<S, J>>,
-    register: &Register,
     article: &Sample,
 ) -> Result<(), AllocError>
     requires { register.now ≡ J.register }
@@ -84,38 +56,54 @@ fn put<S: BlockStore, J: Archive, R: Wait>(
     let Some(buffer) = buffers.first() else {
         return Ok(());
     };
-    let stored = store(rt, buffer, register, 1, false, article.text());
-    add_stored(alloc, text, &stored)
+    match place_in(CALLS, row.call) {
+        Some(0) => put_stored(
+            sheet,
+            &store(rt, buffer, register, 1, false, article.text()),
+        ),
+        Some(1) => {
+            let found = fetch(rt, alloc, buffers, register, &row.token())?;
+            put_fetched(sheet, &found, article.text().as_slice());
+        }
+        Some(2) => {
+            let right = meanwhile(rt, alloc, buffers, register, row, article);
+            sheet.debug(&right);
+        }
+        Some(3) => open(rt, buffer, row.token().length),
+        _ => sheet.put(b"?"),
+    }
+    Ok(())
 }
 
-/// Fetches what was stored under a token, and adds what was found.
-fn get<S: BlockStore, J: Archive, R: Wait>(
-    rt: &R,
-    alloc: Global,
-    text: &mut Vec<u8>,
-    buffers: &Vec<Locked<S, J>>,
-    register: &Register,
-    token: &Token,
-    article: &Sample,
-) -> Result<(), AllocError>
-    requires { register.now ≡ J.register }
-{
-    let found = fetch(rt, alloc, buffers, register, token)?;
-    add_fetched(alloc, text, &found, article.text().as_slice())
+/// Writes how the storing of a text ended.
+fn put_stored<J: Archive>(sheet: &mut Sheet, stored: &Stored<J>) {
+    match stored {
+        Stored::Kept(receipt) => {
+            sheet.numbered(b"kept, record ", receipt.number() as u64);
+            sheet.put(b", ");
+            sheet.debug(&receipt.token());
+        }
+        Stored::Failed(fault) => {
+            sheet.put(b"failed, ");
+            sheet.debug(fault);
+        }
+        Stored::Mixed(_) => sheet.put(b"mixed"),
+    }
 }
 
 /// One thread stores an article while another fetches it: whether it is stored, and the other finds
 /// nothing, or all of it.
-fn meanwhile<S: BlockStore + Send + Sync, J: Archive + Send + Sync, R: Threads + Wait + Sync>(
+fn meanwhile<J: Archive + Send + Sync, R: Threads + Wait + Sync>(
     rt: &R,
     alloc: Global,
-    buffers: &Vec<Locked<S, J>>,
+    buffers: &Vec<Locked<J>>,
     register: &Register,
-    token: &Token,
+    row: &Row<'_>,
     article: &Sample,
 ) -> bool
     requires { register.now ≡ J.register }
 {
+    let token = row.token();
     let Some(buffer) = buffers.first() else {
         return false;
     };
@@ -126,7 +114,7 @@ fn meanwhile<S: BlockStore + Send + Sync, J: Archive + Send + Sync, R: Threads +
         { is_kept(&store(rt, buffer, register, 1, false, article.text())) },
         || -> bool
             requires { register.now ≡ J.register }
-        { is_none_or(&fetch(rt, alloc, buffers, register, token), article) },
+        { is_none_or(&fetch(rt, alloc, buffers, register, &token), article) },
     );
     kept && found
 }
@@ -146,13 +134,11 @@ fn is_none_or<J: Archive>(found: &Result<Fetched<J>, AllocError>, article: &Samp
 }
 
 /// A writer begins an article of so many octets, and leaves it open.
-fn open<S: BlockStore, J: Archive, R: Wait>(rt: &R, buffers: &Vec<Locked<S, J>>, octets: u32) {
+fn open<J: Archive, R: Wait>(rt: &R, buffer: &Locked<J>, octets: u32) {
     if octets == 0 {
         return;
     }
-    if let Some(buffer) = buffers.first() {
-        if let Ok(begun) = buffer.lock(rt).begin(1, octets, false) {
-            begun.let_go();
-        }
+    if let Ok(begun) = buffer.lock(rt).begin(1, octets, false) {
+        begun.let_go();
     }
 }

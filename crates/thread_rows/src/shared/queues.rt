@@ -3,14 +3,13 @@ ghost use Rattle.std.specs.Prelude.{OnOk};
 ghost use Rattle.crossbeam_queue.specs.Passes.{view, IsPassOf};
 ghost use Rattle.job_queue.specs.Delivery.{IsOpen, IsClosed, OfWriter};
 
-use crate::printing::add;
 use crate::shared::jobs::job;
-use crate::shared::told::add_line;
 use job_queue::{
     Handed, JobQueue, Parcel, QueuePass, close_end, compare, compare_rest, end_pass, hand_over,
     mark_closed, new_queue, take_one, writer_pass,
 };
-use std::alloc::{AllocError, Global};
+use row_text::Sheet;
+use std::alloc::Global;
 use std::io;
 use std::sync::Wait;
 
@@ -32,59 +31,37 @@ fn handed<R: Wait>(
     Ok(hand_over(rt, queue, pass, Handed { end, number, job }).is_ok())
 }
 
-/// Takes a parcel, and adds its end, and its number where it is a job; whether there was one.
-fn taken<R: Wait>(
-    rt: &R,
-    alloc: Global,
-    text: &mut Vec<u8>,
-    queue: &JobQueue,
-    pass: &mut QueuePass,
-) -> Result<bool, AllocError>
+/// Takes a parcel, and writes its end, and its number where it is a job; whether there was one.
+fn taken<R: Wait>(rt: &R, sheet: &mut Sheet, queue: &JobQueue, pass: &mut QueuePass) -> bool
     requires pass { IsPassOf queue.now pass.old }
     requires writer { OfWriter (view pass.old) }
     ensures pass { IsPassOf queue.now pass.new }
     ensures writer { OfWriter (view pass.new) }
 {
-    let parcel = take_one(rt, queue, pass);
-    add_parcel(alloc, text, &parcel)?;
-    Ok(parcel.is_some())
-}
-
-/// Adds the line of a parcel.
-fn add_parcel(
-    alloc: Global,
-    text: &mut Vec<u8>,
-    parcel: &Option<Parcel>,
-) -> Result<(), AllocError> {
-    match parcel {
+    match take_one(rt, queue, pass) {
         Some(Parcel::Job(handed)) => {
-            add(alloc, text, "taken: job ", &handed.number)?;
-            add_line(alloc, text, " of end ", &handed.end)
+            sheet.numbered(b"taken: job ", handed.number);
+            sheet.numbered(b" of end ", handed.end);
         }
-        Some(Parcel::Mark(end)) => add_line(alloc, text, "taken: the mark of end ", end),
-        None => Ok(()),
+        Some(Parcel::Mark(end)) => sheet.numbered(b"taken: the mark of end ", end),
+        None => return false,
     }
+    sheet.put(b"\n");
+    true
 }
 
 /// Takes all that the queue holds.
-fn all_taken<R: Wait>(
-    rt: &R,
-    alloc: Global,
-    text: &mut Vec<u8>,
-    queue: &JobQueue,
-    pass: &mut QueuePass,
-) -> Result<(), AllocError>
+fn all_taken<R: Wait>(rt: &R, sheet: &mut Sheet, queue: &JobQueue, pass: &mut QueuePass)
     requires pass { IsPassOf queue.now pass.old }
     requires writer { OfWriter (view pass.old) }
     ensures pass { IsPassOf queue.now pass.new }
     ensures writer { OfWriter (view pass.new) }
 {
     for _ in 0..100 {
-        if !taken(rt, alloc, text, queue, pass)? {
+        if !taken(rt, sheet, queue, pass) {
             break;
         }
     }
-    Ok(())
 }
 
 /// Hands jobs over until one is given back, and says how many went.
@@ -103,14 +80,14 @@ fn filled<R: Wait>(rt: &R, alloc: Global, queue: &JobQueue, pass: &mut QueuePass
 }
 
 /// Two ends hand jobs over and close, and the writer takes all; then the passes are compared.
-pub(crate) fn two_ends<R: Wait>(rt: &R, alloc: Global, text: &mut Vec<u8>) -> io::Result<()> {
+pub(crate) fn two_ends<R: Wait>(rt: &R, alloc: Global, sheet: &mut Sheet) -> io::Result<()> {
     let (queue, mut first) = new_queue(alloc)?;
     let mut writer = writer_pass(&queue, &mut first);
     let mut zero = end_pass(&queue, &mut first);
     let mut one = end_pass(&queue, &mut first);
     let held = by_turns(rt, alloc, &queue, &mut zero, &mut one)?;
-    add_line(alloc, text, "two ends, all handed over: ", &held)?;
-    all_taken(rt, alloc, text, &queue, &mut writer)?;
+    put_line(sheet, b"two ends, all handed over: ", held);
+    all_taken(rt, sheet, &queue, &mut writer);
     compare(&queue, &mut writer, &mut zero, 0);
     compare(&queue, &mut writer, &mut one, 1);
     compare_rest(&queue, &mut writer, &mut first);
@@ -140,20 +117,26 @@ fn by_turns<R: Wait>(
 }
 
 /// A queue that is full takes neither job nor mark; one parcel less, it takes the mark.
-pub(crate) fn full_queue<R: Wait>(rt: &R, alloc: Global, text: &mut Vec<u8>) -> io::Result<()> {
+pub(crate) fn full_queue<R: Wait>(rt: &R, alloc: Global, sheet: &mut Sheet) -> io::Result<()> {
     let (queue, mut first) = new_queue(alloc)?;
     let mut writer = writer_pass(&queue, &mut first);
     let mut zero = end_pass(&queue, &mut first);
-    let count = filled(rt, alloc, &queue, &mut zero)?;
-    add(alloc, text, "full queue: ", &count)?;
-    text.extend_from_slice(b" handed over\n")?;
+    sheet.numbered(b"full queue: ", filled(rt, alloc, &queue, &mut zero)?);
+    sheet.put(b" handed over\n");
     let early = mark_closed(rt, &queue, &mut zero, 0);
-    add_line(alloc, text, "full queue, closed: ", &early)?;
+    put_line(sheet, b"full queue, closed: ", early);
     if early {
         return Ok(());
     }
-    taken(rt, alloc, text, &queue, &mut writer)?;
+    taken(rt, sheet, &queue, &mut writer);
     let closed = mark_closed(rt, &queue, &mut zero, 0);
-    add_line(alloc, text, "full queue, closed: ", &closed)?;
+    put_line(sheet, b"full queue, closed: ", closed);
     Ok(())
+}
+
+/// Writes words and whether it is so, and ends the line.
+fn put_line(sheet: &mut Sheet, words: &[u8], is_so: bool) {
+    sheet.put(words);
+    sheet.debug(&is_so);
+    sheet.put(b"\n");
 }

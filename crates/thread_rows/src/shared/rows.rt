@@ -2,7 +2,6 @@
 use crate::words::{number_in, word_of};
 use cyc_token::Token;
 use line_words::cut;
-use std::str;
 
 /// A row of `stdin`.
 #[derive(Clone, Copy)]
@@ -10,17 +9,27 @@ pub(crate) struct Row<'a> {
     /// What the answer is printed behind; nothing is printed without it.
     pub(crate) name: Option<&'a [u8]>,
     /// The call.
-    pub(crate) call: &'a str,
+    pub(crate) call: &'a [u8],
     /// Its numbers, of which those behind the first are a place.
     pub(crate) numbers: [u32; 3],
 }
 
 impl<'a> Row<'a> {
-    /// The row of a line.
+    /// The row of a line: the name of its answer, if it has one, a call, and its numbers.
     pub(crate) fn read(line: &'a [u8]) -> Row<'a> {
-        match cut(line, b':') {
-            (name, Some([b' ', rest @ ..])) => of_call(Some(name), rest),
-            _ => of_call(None, line),
+        let (name, words) = match cut(line, b':') {
+            (name, Some([b' ', rest @ ..])) => (Some(name), rest),
+            _ => (None, line),
+        };
+        let (call, rest) = word_of(words);
+        let mut numbers = [0; 3];
+        for (number, word) in numbers.iter_mut().zip(rest.split(|octet| *octet == b' ')) {
+            *number = number_in(word) as u32;
+        }
+        Row {
+            name,
+            call,
+            numbers,
         }
     }
 
@@ -35,19 +44,5 @@ impl<'a> Row<'a> {
             first,
             length,
         }
-    }
-}
-
-/// The row of this name, of a call and its numbers.
-fn of_call<'a>(name: Option<&'a [u8]>, words: &'a [u8]) -> Row<'a> {
-    let (call, rest) = word_of(words);
-    let mut numbers = [0; 3];
-    for (number, word) in numbers.iter_mut().zip(rest.split(|octet| *octet == b' ')) {
-        *number = u32::try_from(number_in(word)).unwrap_or(0);
-    }
-    Row {
-        name,
-        call: str::from_utf8(call).unwrap_or(""),
-        numbers,
     }
 }

@@ -1,7 +1,6 @@
 //! Plays of seats: ends and writers in threads of their own.
 ghost use Rattle.std.specs.Prelude.{◌≡◌, ◌<◌, ◌+◌, ◌^◌, true, false, length};
 
-use crate::printing::add;
 use crate::shared::jobs::job;
 use buffer_group::Job;
 use cyc_token::Token;
@@ -12,6 +11,7 @@ use live_seats::{
     serve_seats,
 };
 use live_settle::CountedDesk;
+use row_text::Sheet;
 use std::alloc::{AllocError, Global};
 use std::collections::hash_map::RandomState;
 use std::io;
@@ -128,11 +128,11 @@ impl<R: Wait> Service<R> for Bringing {
 
 /// The job of this number of an end, under a message-id of its own.
 fn job_of(alloc: Global, end: u64, number: u64) -> io::Result<Job> {
-    let mut id = Vec::new(alloc);
-    add(alloc, &mut id, "<", &end)?;
-    add(alloc, &mut id, ".", &number)?;
-    id.extend_from_slice(b"@x>")?;
-    job(alloc, end, &id)
+    let mut id = Sheet::new(alloc);
+    id.numbered(b"<", end);
+    id.numbered(b".", number);
+    id.put(b"@x>");
+    job(alloc, end, id.octets())
 }
 
 /// A history, and a desk without feeds, whose posts this book counts.
@@ -223,7 +223,7 @@ fn counts<R: Threads + Wait + Sync>(
 pub(crate) fn seats<R: Threads + Wait + Sync>(
     rt: &R,
     alloc: Global,
-    text: &mut Vec<u8>,
+    sheet: &mut Sheet,
     hasher: RandomState,
     groups: u32,
     ends: u8,
@@ -231,16 +231,11 @@ pub(crate) fn seats<R: Threads + Wait + Sync>(
     requires some { 0 < groups }
 {
     let (accepted, posted, told) = counts(rt, alloc, hasher, groups, ends)?;
-    let words = ["", " ends, ", " groups: ", " told, ", " accepted, "];
-    let numbers = [
-        u64::from(ends),
-        u64::from(groups),
-        told as u64,
-        accepted,
-        posted,
-    ];
-    for (word, number) in words.iter().zip(numbers.iter()) {
-        add(alloc, text, word, number)?;
-    }
-    text.extend_from_slice(b" posted\n")
+    sheet.number(u64::from(ends));
+    sheet.numbered(b" ends, ", u64::from(groups));
+    sheet.numbered(b" groups: ", told as u64);
+    sheet.numbered(b" told, ", accepted);
+    sheet.numbered(b" accepted, ", posted);
+    sheet.put(b" posted\n");
+    Ok(())
 }
