@@ -1,0 +1,357 @@
+"""A row that is played: what its lines do."""
+
+import os
+import re
+import shutil
+import socket
+import time
+
+from peers import GREETING, NOBODY, TEXTS, Client, Started, Taken, Wrong, cut_to, listening
+from plays import PLAYS
+
+K1 = {
+    "cycbuff.conf": ["cycbuff:A:a.buf:4", "metacycbuff:G:A"],
+    "storage.conf": ["method cnfs {", "class: 1", "newsgroups: *", "options: G", "}"],
+    "relay.conf": [
+        "own relay.example",
+        "cutoff 4000000000",
+        "peer p1 one.example {p1}",
+        "peer p2 two.example {p2}",
+        "feed p2 2 *",
+    ],
+}
+
+
+class Row:
+    """A row that is played once."""
+
+    def __init__(self, steps, given, ports, folder):
+        self.steps, self.given, self.ports, self.folder = steps, given, ports, folder
+        self.dir = folder / "site"
+        self.dir.mkdir()
+        self.conf = {name: list(lines) for name, lines in K1.items()}
+        self.set_before = set()
+        self.numbers, self.counts = {}, {}
+        self.calls, self.most = {}, None
+        self.clients, self.programs = {}, {}
+        self.is_nobody, self.held, self.pipe = False, [], None
+        self.sending = {}
+
+    # What lines of the configuration and of files say.
+
+    def port(self, name):
+        """The number of a port, by its name."""
+        if name not in self.numbers:
+            if name == "taken":
+                self.held.append(socket.create_server(("0.0.0.0", 0)))
+                self.numbers[name] = self.held[-1].getsockname()[1]
+            else:
+                self.numbers[name] = self.ports.free()
+        return self.numbers[name]
+
+    def text(self, text):
+        """The text with what stands for its short forms."""
+
+        def meant(found):
+            word, *words = found[1].split(" ")
+            if word.isdigit():
+                return found[1].partition(" ")[2] * int(word)
+            if word in TEXTS:
+                return TEXTS[word](*words)
+            if word == "dir":
+                return str(self.dir)
+            if word == "pipe":
+                self.pipe = self.pipe or os.pipe()
+                return str(self.pipe[0])
+            if word == "right":
+                return str(self.counts[words[1]]).rjust(int(words[0]))
+            if word == "now":
+                return found[0]
+            if re.fullmatch(r"[a-z]+\d*", word):
+                return str(self.port(word))
+            raise Wrong(f"there is no short form {found[0]}")
+
+        return re.sub(r"\{([^{}*\n]+)\}", meant, text)
+
+    def octets(self, text):
+        return self.text(text).encode("latin-1")
+
+    def configure(self, name, line):
+        """A line of one of the files of the configuration."""
+        if name == "relay.conf":
+            def key(it):
+                words = it.split(" ")
+                return words[: 2 if words[0] in ("peer", "feed") else 1]
+
+            at = [key(it) for it in self.conf[name]]
+            if key(line) in at:
+                self.conf[name][at.index(key(line))] = line
+                return
+        elif name not in self.set_before:
+            self.set_before.add(name)
+            self.conf[name] = []
+        self.conf[name].append(line)
+
+    def write_conf(self):
+        """Writes the files of the configuration, with ports that are free now; those ports."""
+        self.numbers = {name: it for name, it in self.numbers.items() if name == "taken"}
+        for name, lines in self.conf.items():
+            (self.dir / name).write_bytes(self.octets("\n".join(lines) + "\n"))
+        named = re.findall(r"(?m)^peer \S+ \S+ (\d+)$", (self.dir / "relay.conf").read_text())
+        return [int(it) for it in named if it != "0"]
+
+    def on_file(self, word, rest):
+        """Does what a line says of a file."""
+        name, _, more = rest.partition(" ")
+        path = self.dir / name
+        if word == "file":
+            path.write_bytes(self.octets(more))
+        elif word == "folder":
+            path.mkdir()
+        elif word == "pipe":
+            os.mkfifo(path)
+        elif word == "link":
+            os.link(path, self.dir / more)
+        elif word == "symlink":
+            os.symlink(name, self.dir / more)
+        elif word == "mode":
+            (self.dir / more).chmod(int(name, 8))
+        elif word == "cut":
+            os.truncate(path, int(more))
+        elif word == "poke":
+            at, _, octets = more.partition(" ")
+            with open(path, "r+b") as file:
+                file.seek(int(at))
+                file.write(self.octets(octets))
+        else:
+            self.compare(path, more)
+
+    def compare(self, path, more):
+        """A file has to hold these octets at this place, or as many."""
+        at, _, octets = more.partition(" ")
+        held = path.read_bytes()
+        if octets == "end":
+            if len(held) != int(at):
+                raise Wrong(f"{path.name} has {len(held)} octets")
+            return
+        wanted = self.octets(octets)
+        found = held[int(at) : int(at) + len(wanted)]
+        if found != wanted:
+            place = next((it for it, (this, that) in enumerate(zip(found, wanted)) if this != that),
+                         min(len(found), len(wanted)))
+            raise Wrong(f"{path.name} has {cut_to(found[place:], 40)} from {int(at) + place} on, "
+                        f"not {cut_to(wanted[place:], 40)}")
+
+    # What lines of programs say.
+
+    def program(self):
+        """The program, where nobody can run it."""
+        if not self.is_nobody:
+            return self.given.program
+        copy = self.folder / "cnrelay"
+        if not copy.exists():
+            shutil.copy2(self.given.program, copy)
+            copy.chmod(0o755)
+        self.folder.chmod(0o711)
+        for it in (self.dir, *self.dir.rglob("*")):
+            os.chown(it, NOBODY, NOBODY, follow_symlinks=False)
+        return copy
+
+    def start(self, name, words):
+        """Starts the program under this name."""
+        if not (self.dir / "relay.conf").exists():
+            self.write_conf()
+        if words.startswith("stop "):
+            self.most = None
+        words = [self.program(), *self.text(words).split()]
+        passed = [self.pipe[0]] if self.pipe else []
+        self.programs[name] = Started(words, self.folder, self.is_nobody, passed)
+        return self.programs[name]
+
+    def serves(self, words):
+        ports = self.write_conf()
+        most = re.search(r"--sessions (\d+)", words)
+        self.most, self.calls = int(most[1]) if most else None, dict.fromkeys(ports, 0)
+        relay = self.start("", f"serve {{dir}} {words}")
+        end = time.monotonic() + self.given.patience
+        while not set(ports) <= listening():
+            if relay.process.poll() is not None:
+                self.see_taken(relay)
+                raise Wrong(f"it ended with {relay.process.returncode}: {relay.told(relay.err)}")
+            if time.monotonic() > end:
+                raise Wrong(f"it doesn't listen after {self.given.patience} seconds")
+            time.sleep(0.01)
+
+    def see_taken(self, program):
+        """Where the program says that a port of the row's own is taken, the row isn't wrong."""
+        own = [it for name, it in self.numbers.items() if name != "taken"]
+        for line in program.told(program.err):
+            port = re.fullmatch(r"serve: (\d+): unusable", line)
+            if port and int(port[1]) in own:
+                raise Taken
+
+    def give_rest(self):
+        """Each port is given what it lacks of its connections."""
+        for port, count in self.calls.items():
+            for _ in range(count, self.most or 0):
+                client = Client(self.connected(port), self.given.patience)
+                client.expect(GREETING)
+                client.send(b"QUIT\r\n")
+                client.expect(b"205 Bye\r\n")
+                client.closes()
+
+    def ends(self, name, wanted):
+        """The program of this name has to end so."""
+        program = self.programs.get(name)
+        if program is None:
+            raise Wrong(f"no program {name} was started")
+        if not name:
+            self.give_rest()
+        if not program.has_ended(self.given.patience):
+            raise Wrong(f"it hasn't ended after {self.given.patience} seconds")
+        out, err = ([self.text(it) for it in lines] if lines is not None else None
+                    for lines in wanted[:2])
+        came = (program.told(program.out), program.told(program.err), program.process.returncode)
+        if not (are_lines(came[0], out) and are_lines(came[1], err) and came[2] in wanted[2]):
+            if 4 not in wanted[2]:
+                self.see_taken(program)
+            raise Wrong(f"{came}, not {(out, err, wanted[2])}")
+
+    # What lines of clients say.
+
+    def connected(self, port):
+        try:
+            return socket.create_connection(("127.0.0.1", port), self.given.patience)
+        except OSError as error:
+            raise Wrong(f"no connection: {error}") from None
+
+    def call(self, name, where):
+        """A client connects with a port, or with a socket of the folder."""
+        if where.startswith("./"):
+            connected = socket.socket(socket.AF_UNIX)
+            connected.settimeout(self.given.patience)
+            connected.connect(str(self.dir / where))
+        else:
+            port = self.port(where)
+            connected = self.connected(port)
+            self.calls[port] = self.calls.get(port, 0) + 1
+        self.clients[name] = Client(connected, self.given.patience)
+
+    def on_client(self, name, word, rest):
+        """Does what a line says of a client."""
+        client = self.clients.get(name)
+        if word == "calls":
+            self.call(name, rest)
+        elif client is None:
+            raise Wrong(f"no line has this form: {name} {word} {rest}")
+        elif word in ("octets", "fills"):
+            getattr(client, word)(self.octets(rest) + b"\r\n")
+        elif word == "floods":
+            client.floods(self.octets(rest))
+        elif word == "<":
+            octets = self.octets(rest)
+            client.expect(octets if octets.endswith(b"\r\n") else octets + b"\r\n")
+        elif word == "gone":
+            client.gone(*(float(it) for it in rest.split("-") if it))
+        elif word == "silent":
+            client.silent(float(rest))
+        elif word == "streams":
+            client.streams(*rest.split(" "))
+        elif word == "streamed":
+            self.counts[name] = client.streamed()
+        elif word in ("ended", "closes", "shuts", "resets"):
+            getattr(client, word)()
+        else:
+            raise Wrong(f"no line has this form: {name} {word} {rest}")
+
+    def add(self, name, word, rest):
+        """Adds to what a client sends in its next write."""
+        octets = self.octets(rest)
+        is_whole = word == ">>" or octets.endswith(b"\r\n") and rest.endswith("}")
+        self.sending.setdefault(name, []).append(octets if is_whole else octets + b"\r\n")
+
+    def send(self):
+        """Sends what was added."""
+        for name, parts in self.sending.items():
+            if name not in self.clients:
+                raise Wrong(f"{name} has not called")
+            self.clients[name].send(b"".join(parts))
+        self.sending = {}
+
+    # The whole row.
+
+    def do(self, line, wanted):
+        """Does what a line says."""
+        name, _, rest = line.partition(" ")
+        word, _, more = rest.partition(" ")
+        if word in (">", ">>"):
+            if name not in self.sending:
+                self.send()
+            return self.add(name, word, more)
+        self.send()
+        if name.endswith(".conf"):
+            self.configure(name, rest)
+        elif name in ("file", "folder", "pipe", "link", "symlink", "mode", "cut", "poke", "holds"):
+            self.on_file(name, rest)
+        elif line == "nobody":
+            self.is_nobody = os.geteuid() == 0
+        elif name == "serves":
+            self.serves(rest)
+        elif name == "runs":
+            self.start("(runs)", rest)
+            self.ends("(runs)", wanted)
+        elif line == "ends":
+            self.ends("", wanted)
+        elif line == "kills":
+            self.programs[""].process.kill()
+            self.programs[""].has_ended(self.given.patience)
+        elif name == "plays":
+            PLAYS[rest](self)
+        elif word == "starts":
+            self.start(name, more)
+        elif word == "ends":
+            self.ends(name, wanted)
+        else:
+            self.on_client(name, word, more)
+        return None
+
+    def play(self):
+        """Plays it, and answers where it was when it went wrong, or None."""
+        at = ""
+        try:
+            for number, line, wanted in self.steps:
+                if line.startswith("-- "):
+                    at = f" ({line[3:]})"
+                    continue
+                try:
+                    self.do(line, wanted)
+                except Taken:
+                    raise
+                except Exception as error:
+                    told = error if isinstance(error, Wrong) else repr(error)
+                    return f"line {number}{at}: {line[:80]}: {told}"
+            self.send()
+            return None
+        finally:
+            self.clear()
+
+    def clear(self):
+        """Stops what it has started."""
+        for it in self.clients.values():
+            it.closes()
+        for it in self.programs.values():
+            it.stop()
+        for it in self.held:
+            it.close()
+        for it in self.pipe or ():
+            os.close(it)
+
+
+def are_lines(found, wanted):
+    """Whether the lines are these, where `{*}` is a number with the spaces before it."""
+    if wanted is None:
+        return True
+    if len(found) != len(wanted):
+        return False
+    patterns = (re.escape(it).replace(re.escape("{*}"), r" *\d+") for it in wanted)
+    return all(re.fullmatch(it, line) for it, line in zip(patterns, found))
