@@ -1,4 +1,4 @@
-"""What rows are played with: the texts of articles, free ports, clients, and runs of the program."""
+"""What rows are played with: texts of articles, free ports, clients, and runs of the program."""
 
 import os
 import re

@@ -15,7 +15,8 @@ use std::alloc::{AllocError, Global};
 const MOST_SESSIONS: u64 = 2_000;
 
 /// The first words of the lines that are of the whole row, and set it.
-const SETTINGS: &str = "fails sweep clock groups feeds forgets peer counts open closed writes reads";
+const SETTINGS: &str =
+    "fails sweep clock groups feeds forgets peer counts open closed writes reads";
 
 /// The first words of a session's lines. What begins with another one is a command.
 const OF_SESSION: &str = "returns comes beside article sends waits octets takes breaks";

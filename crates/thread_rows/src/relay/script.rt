@@ -72,7 +72,11 @@ impl Script {
     pub(crate) fn send_article(&mut self, words: &[u8]) {
         let (id, words) = word_of(words);
         let (digits, groups) = word_of(words);
-        let groups = if groups.is_empty() { b"misc.test".as_slice() } else { groups };
+        let groups = if groups.is_empty() {
+            b"misc.test".as_slice()
+        } else {
+            groups
+        };
         let text = self.text();
         put_article(text, b"", id, number_in(digits), groups);
         text.put(b".\r\n");
