@@ -208,7 +208,7 @@ class Client:
                 break
             if found == b"239 <%s%d@x>\r\n" % (name.encode(), number):
                 number += 1
-            elif not found or found.startswith(b"400 "):
+            elif not found.endswith(b"\n") or found.startswith(b"400 "):
                 thread.join(self.patience)
                 return number
             else:

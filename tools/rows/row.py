@@ -65,6 +65,8 @@ class Row:
                 return str(self.pipe[0])
             if word == "right":
                 return str(self.counts[words[1]]).rjust(int(words[0]))
+            if word == "from":
+                return f"{{>{self.counts[words[0]]}}}"
             if word == "now":
                 return found[0]
             if re.fullmatch(r"[a-z]+\d*", word):
@@ -348,10 +350,17 @@ class Row:
 
 
 def are_lines(found, wanted):
-    """Whether the lines are these, where `{*}` is a number with the spaces before it."""
+    """Whether the lines are these."""
     if wanted is None:
         return True
-    if len(found) != len(wanted):
-        return False
-    patterns = (re.escape(it).replace(re.escape("{*}"), r" *\d+") for it in wanted)
-    return all(re.fullmatch(it, line) for it, line in zip(patterns, found))
+    return len(found) == len(wanted) and all(map(is_line, found, wanted))
+
+
+def is_line(found, wanted):
+    """Whether the line is this one, where `{*}` is a number with the spaces before it, and `{>N}`
+    one that is no less than N."""
+    parts = re.split(r"(\{\*\}|\{>\d+\})", wanted)
+    pattern = "".join(r" *(\d+)" if at % 2 else re.escape(it) for at, it in enumerate(parts))
+    match = re.fullmatch(pattern, found)
+    least = [int(it[2:-1]) if it[1] == ">" else 0 for it in parts[1::2]]
+    return bool(match) and all(int(it) >= most for it, most in zip(match.groups(), least))
