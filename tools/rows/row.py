@@ -34,7 +34,7 @@ class Row:
         self.numbers, self.counts = {}, {}
         self.calls, self.most = {}, None
         self.clients, self.programs = {}, {}
-        self.is_nobody, self.held, self.pipe = False, [], None
+        self.is_nobody, self.limit, self.held, self.pipe = False, None, [], None
         self.sending = {}
 
     # What lines of the configuration and of files say.
@@ -166,6 +166,10 @@ class Row:
         if words.startswith("stop "):
             self.most = None
         words = [self.program(), *self.text(words).split()]
+        if self.limit:
+            # A write beyond the limit fails, and brings no signal.
+            limits = f'trap "" XFSZ; ulimit -f {self.limit}; exec "$0" "$@"'
+            words = ["/bin/sh", "-c", limits, *words]
         passed = [self.pipe[0]] if self.pipe else []
         self.programs[name] = Started(words, self.folder, self.is_nobody, passed)
         return self.programs[name]
@@ -297,6 +301,8 @@ class Row:
             self.on_file(name, rest)
         elif line == "nobody":
             self.is_nobody = os.geteuid() == 0
+        elif name == "limit":
+            self.limit = int(rest)
         elif name == "serves":
             self.serves(rest)
         elif name == "runs":
