@@ -103,7 +103,8 @@ class Client:
         self.socket.settimeout(patience)
         if connected.family == socket.AF_INET:
             self.socket.setsockopt(socket.IPPROTO_TCP, socket.TCP_NODELAY, 1)
-        self.file = self.socket.makefile("rb")
+        # What came and was not looked at.
+        self.unread = b""
         self.stream = None
 
     def send(self, octets):
@@ -132,10 +133,21 @@ class Client:
         except OSError:
             pass
 
+    def next_line(self):
+        """The next line as it comes; at the end what is there of one, or no octet."""
+        while b"\n" not in self.unread:
+            piece = self.socket.recv(65_536)
+            if not piece:
+                found, self.unread = self.unread, b""
+                return found
+            self.unread += piece
+        line, _, self.unread = self.unread.partition(b"\n")
+        return line + b"\n"
+
     def line(self):
-        """The next line as it comes; no octet at the end."""
+        """The same, which has to come."""
         try:
-            return self.file.readline()
+            return self.next_line()
         except TimeoutError:
             raise Wrong(f"nothing came for {self.patience} seconds") from None
         except ConnectionError as error:
@@ -174,7 +186,7 @@ class Client:
     def silent(self, seconds):
         self.socket.settimeout(seconds)
         try:
-            found = self.socket.recv(200)
+            found = self.unread or self.socket.recv(200)
             raise Wrong(f"{cut_to(found) if found else 'the end'}, not silence")
         except TimeoutError:
             self.socket.settimeout(self.patience)
@@ -201,7 +213,7 @@ class Client:
         end, number = time.monotonic() + self.patience, 3
         while time.monotonic() < end:
             try:
-                found = self.file.readline()
+                found = self.next_line()
             except ConnectionError:
                 found = b""
             except TimeoutError:
@@ -223,7 +235,6 @@ class Client:
         self.closes()
 
     def closes(self):
-        self.file.close()
         self.socket.close()
 
 

@@ -22,6 +22,10 @@ K1 = {
 }
 
 
+# What is printed by a step that says nothing of it, and its status.
+NOTHING = ([], [], [0])
+
+
 class Row:
     """A row that is played once."""
 
@@ -33,9 +37,13 @@ class Row:
         self.set_before = set()
         self.numbers, self.counts = {}, {}
         self.calls, self.most = {}, None
+        # By their names; the relay has none.
         self.clients, self.programs = {}, {}
+        self.started = []
         self.is_nobody, self.limit, self.held, self.pipe = False, None, [], None
         self.sending = {}
+        # What its last line `-- ` said.
+        self.at = ""
 
     # What lines of the configuration and of files say.
 
@@ -171,8 +179,9 @@ class Row:
             limits = f'trap "" XFSZ; ulimit -f {self.limit}; exec "$0" "$@"'
             words = ["/bin/sh", "-c", limits, *words]
         passed = [self.pipe[0]] if self.pipe else []
-        self.programs[name] = Started(words, self.folder, self.is_nobody, passed)
-        return self.programs[name]
+        self.started.append(Started(words, self.folder, self.is_nobody, passed))
+        self.programs[name] = self.started[-1]
+        return self.started[-1]
 
     def serves(self, words):
         ports = self.write_conf()
@@ -241,6 +250,8 @@ class Row:
             port = self.port(where)
             connected = self.connected(port)
             self.calls[port] = self.calls.get(port, 0) + 1
+        if name in self.clients:
+            self.clients[name].closes()
         self.clients[name] = Client(connected, self.given.patience)
 
     def on_client(self, name, word, rest):
@@ -295,7 +306,11 @@ class Row:
                 self.send()
             return self.add(name, word, more)
         self.send()
-        if name.endswith(".conf"):
+        if not (name == "runs" or line == "ends" or word == "ends") and wanted != NOTHING:
+            raise Wrong("what is printed stands below no end of a program")
+        if name == "--":
+            self.at = f" ({rest})"
+        elif name.endswith(".conf"):
             self.configure(name, rest)
         elif name in ("file", "folder", "pipe", "link", "symlink", "mode", "cut", "poke", "holds"):
             self.on_file(name, rest)
@@ -325,19 +340,15 @@ class Row:
 
     def play(self):
         """Plays it, and answers where it was when it went wrong, or None."""
-        at = ""
         try:
             for number, line, wanted in self.steps:
-                if line.startswith("-- "):
-                    at = f" ({line[3:]})"
-                    continue
                 try:
                     self.do(line, wanted)
                 except Taken:
                     raise
                 except Exception as error:
                     told = error if isinstance(error, Wrong) else repr(error)
-                    return f"line {number}{at}: {line[:80]}: {told}"
+                    return f"line {number}{self.at}: {line[:80]}: {told}"
             self.send()
             return None
         finally:
@@ -347,7 +358,7 @@ class Row:
         """Stops what it has started."""
         for it in self.clients.values():
             it.closes()
-        for it in self.programs.values():
+        for it in self.started:
             it.stop()
         for it in self.held:
             it.close()
