@@ -105,6 +105,7 @@ class Row:
     def write_conf(self):
         """Writes the files of the configuration, with ports that are free now; those ports."""
         self.numbers = {name: it for name, it in self.numbers.items() if name == "taken"}
+        self.set_before = set()
         for name, lines in self.conf.items():
             (self.dir / name).write_bytes(self.octets("\n".join(lines) + "\n"))
         named = re.findall(r"(?m)^peer \S+ \S+ (\d+)$", (self.dir / "relay.conf").read_text())
@@ -314,6 +315,8 @@ class Row:
             self.configure(name, rest)
         elif name in ("file", "folder", "pipe", "link", "symlink", "mode", "cut", "poke", "holds"):
             self.on_file(name, rest)
+        elif line == "writes":
+            self.write_conf()
         elif line == "nobody":
             self.is_nobody = os.geteuid() == 0
         elif name == "limit":
