@@ -268,7 +268,7 @@ class Row:
             client.floods(self.octets(rest))
         elif word == "<":
             octets = self.octets(rest)
-            client.expect(octets if octets.endswith(b"\r\n") else octets + b"\r\n")
+            client.expect(octets if octets.endswith(b"\n") else octets + b"\r\n")
         elif word == "gone":
             client.gone(*(float(it) for it in rest.split("-") if it))
         elif word == "silent":
