@@ -1,5 +1,5 @@
 -- Worked counts: what two ends were answered, and what the writers of two groups told.
-use Rattle.std.specs.Prelude.{ℕ, List, [], ◌∷◌, codes}
+use Rattle.std.specs.Prelude.{ℕ, List, [], ◌∷◌, codes, refl}
 use Rattle.cyc_buffer.specs.declared.answers.Fault.{Fault}
 use Rattle.live_fates.specs.declared.fate.Fate.{Fate}
 use Rattle.live_fates.specs.declared.fate.Fate.TheVariants as fates
@@ -11,7 +11,13 @@ use Rattle.live_store.specs.declared.stored.Receipt.{Receipt}
 
 -- a job that was answered kept
 abbrev pub answer : {J : Type 0} {g : Ghosts J} → (number : ℕ) → Receipt J g → KeptJob J g
-answer number receipt = record { number = number; receipt = receipt }
+answer number receipt =
+    record {
+      number = number;
+      register = receipt.shown.index;
+      receipt = record { marker = record {}; value = receipt };
+      same = refl;
+    }
 
 -- what a writer told of a job
 abbrev pub tells : {J : Type 0} {g : Ghosts J} → (end number : ℕ) → (id : List ℕ) → Fate J g

@@ -67,7 +67,7 @@ fn astray<J: Archive>(jobs: &Jobs, end: u64, answers: &[KeptJob<J>]) -> u64
 {
     let mut astray = 0;
     for answer in answers {
-        let job = (end, answer.number, answer.receipt.number());
+        let job = (end, answer.number, answer.register);
         if jobs.contains(&job) {
             continue;
         }

@@ -65,7 +65,7 @@ pub(crate) fn look_in_slot<S: Shares<J, R>, C, G, J: Archive, R: Wait>(
     let JobTold { number, told } = hall.shares.outcome(rt, talk.seat.end(), handed - 1);
     match told {
         Told::Kept(receipt) => {
-            talk.kept.push_reserved(KeptJob { number, receipt });
+            talk.kept.push_reserved(KeptJob::new(number, &receipt));
             Answer::Slot(Some(Outcome::Kept))
         }
         Told::Failed => Answer::Slot(Some(Outcome::Failed)),

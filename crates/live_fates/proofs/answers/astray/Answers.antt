@@ -7,8 +7,8 @@ loop-answer-preserved-then-contains g c =
     let inv = c.loop-answer.invariant in
     record {
       count = inv.count ∙ sym (answer_listed c.args.jobs.now c.args.end c.args.answers.now
-          c.loop-answer.answer-index c.answer-item.result c.number.result c.contains.result
-          c.loop-answer-test.true c.answer-item.is c.number.ensures c.contains.ensures
+          c.loop-answer.answer-index c.answer-item.result c.answer-item.result.register c.contains.result
+          c.loop-answer-test.true c.answer-item.is c.answer-item.result.same c.contains.ensures
           c.if-contains.true);
       few = omega (arith, inv.few);
     }
@@ -19,8 +19,8 @@ loop-answer-preserved g c =
     record {
       count = ap (λ (n : ℕ). n + 1) inv.count
           ∙ sym (answer_unlisted c.args.jobs.now c.args.end c.args.answers.now
-          c.loop-answer.answer-index c.answer-item.result c.number.result c.contains.result
-          c.loop-answer-test.true c.answer-item.is c.number.ensures c.contains.ensures
+          c.loop-answer.answer-index c.answer-item.result c.answer-item.result.register c.contains.result
+          c.loop-answer-test.true c.answer-item.is c.answer-item.result.same c.contains.ensures
           c.if-contains.false);
       few = omega (arith, inv.few);
     }

@@ -12,12 +12,11 @@ returns-then-handed-eq0-clause-shared g c =
 pub returns-in-Kept-clause-shared : goal.returns-in-Kept-clause-shared
 returns-in-Kept-clause-shared g c =
     let talk = c.args.talk.now in
-    let one : KeptJob g.row.J.Denot g.J.Archive =
-    record { number = c.outcome-number.result.number; receipt = c.in-Kept.receipt } in
+    let one : KeptJob g.row.J.Denot g.J.Archive = c.new.result in
     slot_kept (terms_of c.args.hall.now.config.now) talk
     (record talk { kept = c.push_reserved.new.self }) one refl refl refl
     (c.push_reserved.ensures.items ∙ ap (λ l. l ++ one ∷ []) c.reserve.ensures.items)
-    (c.outcome-number.ensures ∙ ap (λ n. n - 1) c.handed-handed.ensures)
+    (c.new.ensures.0 ∙ c.outcome-number.ensures ∙ ap (λ n. n - 1) c.handed-handed.ensures)
 
 pub returns-in-Failed-clause-shared : goal.returns-in-Failed-clause-shared
 returns-in-Failed-clause-shared g c =
