@@ -1,0 +1,41 @@
+//! Whoever asked a relay.
+use std::io::Write;
+use std::os::unix::net::UnixStream;
+use std::time::{Clock, Duration, Instant};
+
+/// How many octets he is told at once, at most.
+const PIECE: usize = 16_384;
+
+/// For how many seconds he is told, at most.
+const TELLING: u64 = 3;
+
+/// Whoever asked. He hears the end of what he is told once this is let go.
+#[derive(Drop)]
+pub struct Teller {
+    stream: UnixStream,
+}
+
+impl Teller {
+    /// Whoever asked over this connection.
+    pub(crate) fn new(stream: UnixStream) -> Teller {
+        Teller { stream }
+    }
+
+    /// Tells him this, at most for some seconds: where he is gone, or reads too slowly, the rest is
+    /// not told.
+    pub fn tell<C: Clock>(&self, clock: &C, octets: &[u8]) {
+        let Ok(begun) = Instant::now(clock) else {
+            return;
+        };
+        for piece in octets.chunks(PIECE) {
+            let mut stream = &self.stream;
+            if stream.write_all(piece).is_err() {
+                return;
+            }
+            match begun.elapsed(clock) {
+                Ok(passed) if passed < Duration::from_secs(TELLING) => {}
+                _ => return,
+            }
+        }
+    }
+}
