@@ -1,5 +1,6 @@
 -- What was asked of a file of the machine.
 use Rattle.std.specs.Prelude.{◌+◌, ℕ, List, [], ◌∷◌, Bool, true, false}
+use Rattle.file_blocks.specs.declared.host.HeldFile.{HeldFile}
 use Rattle.file_blocks.specs.declared.host.HostFile.{HostFile}
 use Rattle.file_blocks.specs.declared.host.Identity.{Identity}
 
@@ -10,6 +11,10 @@ asked_of file = file.asked.items
 -- which file it is
 abbrev pub identity_of : HostFile → Identity
 identity_of file = file.identity
+
+-- which file it is that is held
+abbrev pub held_identity : HeldFile → Identity
+held_identity held = held.identity
 
 -- how many of the calls failed
 unfoldable pub failed_in : List (ℕ × Bool) → ℕ

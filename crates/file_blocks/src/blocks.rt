@@ -2,9 +2,9 @@
 ghost use Rattle.std.specs.Prelude.{◌≡◌, ◌*◌, ◌↔◌, [], IfOk, IsTrue};
 ghost use Rattle.file_blocks.specs.Blocks.{blocks_of};
 ghost use Rattle.file_blocks.specs.Store.{count_of, file_of};
-ghost use Rattle.file_blocks.specs.Host.{asked_of, identity_of};
+ghost use Rattle.file_blocks.specs.Host.{asked_of, held_identity, identity_of};
 
-use crate::host::{HostFile, Unusable};
+use crate::host::{HeldFile, HostFile, Unusable};
 use crate::octets::OctetFile;
 use cyc_block::{BLOCK_OCTETS, BlockStore, DeviceFailed};
 use std::fs::{File, Files};
@@ -28,9 +28,10 @@ impl<F: OctetFile> FileBlocks<F> {
 }
 
 impl FileBlocks<HostFile> {
-    /// The first n blocks of the file at a path. The file is made where it isn't there, and made
-    /// longer with zeros where it is shorter; octets that it has stay. The error says why it can't
-    /// be used, and then nothing is promised of the file.
+    /// The first n blocks of the file at a path. The file is made where it isn't there, locked before
+    /// anything of it is read or written, and made longer with zeros where it is shorter; octets
+    /// that it has stay. The error says why it can't be used, and then nothing is promised of the
+    /// file.
     pub fn open<R: Files<File = File>>(
         rt: &R,
         path: &str,
@@ -39,8 +40,18 @@ impl FileBlocks<HostFile> {
         ensures count { IfOk result (λ store. count_of store ≡ n) }
         ensures unasked { IfOk result (λ store. asked_of (file_of store) ≡ []) }
     {
+        FileBlocks::of_held(HeldFile::hold(rt, path)?, n)
+    }
+
+    /// The first n blocks of a file that is held, which is made longer with zeros where it is
+    /// shorter; octets that it has stay.
+    pub fn of_held(held: HeldFile, n: u32) -> Result<FileBlocks<HostFile>, Unusable>
+        ensures count { IfOk result (λ store. count_of store ≡ n) }
+        ensures unasked { IfOk result (λ store. asked_of (file_of store) ≡ []) }
+        ensures same { IfOk result (λ store. identity_of (file_of store) ≡ held_identity held) }
+    {
         let size = u64::from(n) * BLOCK_OCTETS as u64;
-        Ok(FileBlocks::new(HostFile::open(rt, path, size)?, n))
+        Ok(FileBlocks::new(held.fit(size)?, n))
     }
 
     /// Whether both are over one file, whatever its names: the same inode of the same device.

@@ -1,14 +1,14 @@
 //! Files of the machine.
 ghost use Rattle.std.specs.Prelude.{◌≡◌, ◌+◌, ◌++◌, ◌∷◌, [], true, false, length, is_err};
-ghost use Rattle.std.specs.Prelude.{◌↔◌, IfErr, IfOk, IsOk, OnErr, OnOk};
+ghost use Rattle.std.specs.Prelude.{◌↔◌, IfErr, IfOk, IsOk, IsTrue, OnErr, OnOk};
 ghost use Rattle.std.specs.Fs.{file_type, IsFile};
 ghost use Rattle.file_blocks.specs.declared.host.Unusable.TheVariants as unusable;
-ghost use Rattle.file_blocks.specs.Host.{asked_of, failed_in, identity_of};
+ghost use Rattle.file_blocks.specs.Host.{asked_of, failed_in, held_identity, identity_of};
 
 use crate::octets::OctetFile;
 use cyc_block::{BLOCK_OCTETS, DeviceFailed};
 use http_server::Log;
-use std::fs::{File, Files, Metadata, OpenOptions};
+use std::fs::{File, Files, Metadata, OpenOptions, TryLockError};
 use std::os::unix::fs::{FileExt, MetadataExt};
 use std::{fs, io};
 
@@ -17,7 +17,10 @@ use std::{fs, io};
 pub enum Unusable {
     /// What stands at the path is no regular file, such as a folder, a pipe or a device.
     NotRegular,
-    /// The machine refused to find it, open it, make it longer, or read and write its last block.
+    /// Another holds it, as a relay that is served by it.
+    Locked,
+    /// The machine refused to find it, open it, lock it, make it longer, or read and write its last
+    /// block.
     Refused(io::Error),
 }
 
@@ -36,22 +39,18 @@ pub struct Identity {
     inode: u64,
 }
 
-/// A regular file of the machine, open to be read and written.
+/// A regular file of the machine that is held: it is open to be read and written, and locked, so
+/// that nobody else who asks for its lock has it. Nothing was read of it or written to it.
 #[derive(Drop)]
-pub struct HostFile {
+pub struct HeldFile {
     file: File,
     identity: Identity,
-    /// The place of each call, and whether it failed.
-    asked: Log<u64, bool>,
 }
 
-impl HostFile {
-    /// Opens the file at a path. It is made where it isn't there, and has so many octets
-    /// afterwards, or more: it is made longer with zeros where it is shorter, and is left as it is
-    /// where it is longer. Nothing waits for another program, as the opening of a pipe would.
-    pub fn open<R: Files<File = File>>(rt: &R, path: &str, size: u64) -> Result<HostFile, Unusable>
-        ensures unasked { IfOk result (λ file. asked_of file ≡ []) }
-    {
+impl HeldFile {
+    /// Holds the file at a path, until the file is closed. It is made where it isn't there. Nothing
+    /// waits for another program, as the opening of a pipe or a lock would.
+    pub fn hold<R: Files<File = File>>(rt: &R, path: &str) -> Result<HeldFile, Unusable> {
         look_before(rt, path)?;
         let file = OpenOptions::new()
             .read(true)
@@ -61,18 +60,57 @@ impl HostFile {
         // Another may have taken its place since.
         let found = file.metadata()?;
         take_regular(&found)?;
-        if found.len() < size {
-            file.set_len(size)?;
-        }
-        try_last_block(&file, size)?;
-        Ok(HostFile {
+        lock(&file)?;
+        Ok(HeldFile {
             file,
             identity: Identity {
                 device: found.dev(),
                 inode: found.ino(),
             },
+        })
+    }
+
+    /// Whether both are one file, whatever its names: the same inode of the same device.
+    pub fn same_file(&self, other: &HeldFile) -> bool
+        ensures { IsTrue result ↔ (held_identity self.now ≡ held_identity other.now) }
+    {
+        self.identity == other.identity
+    }
+
+    /// The file, which has so many octets afterwards, or more: it is made longer with zeros where it
+    /// is shorter, and is left as it is where it is longer. Its last block of these is tried.
+    pub fn fit(self, size: u64) -> Result<HostFile, Unusable>
+        ensures unasked { IfOk result (λ file. asked_of file ≡ []) }
+        ensures same { IfOk result (λ file. identity_of file ≡ held_identity self) }
+    {
+        let HeldFile { file, identity } = self;
+        if file.metadata()?.len() < size {
+            file.set_len(size)?;
+        }
+        try_last_block(&file, size)?;
+        Ok(HostFile {
+            file,
+            identity,
             asked: Log::new(),
         })
+    }
+}
+
+/// A regular file of the machine, open to be read and written, and locked.
+#[derive(Drop)]
+pub struct HostFile {
+    file: File,
+    identity: Identity,
+    /// The place of each call, and whether it failed.
+    asked: Log<u64, bool>,
+}
+
+impl HostFile {
+    /// Holds the file at a path, and fits it to so many octets.
+    pub fn open<R: Files<File = File>>(rt: &R, path: &str, size: u64) -> Result<HostFile, Unusable>
+        ensures unasked { IfOk result (λ file. asked_of file ≡ []) }
+    {
+        HeldFile::hold(rt, path)?.fit(size)
     }
 
     /// Which file it is.
@@ -154,6 +192,15 @@ fn take_regular(found: &Metadata) -> Result<(), Unusable>
         Ok(())
     } else {
         Err(Unusable::NotRegular)
+    }
+}
+
+/// Locks a file, where nobody else has its lock. Nothing waits.
+fn lock(file: &File) -> Result<(), Unusable> {
+    match file.try_lock() {
+        Ok(()) => Ok(()),
+        Err(TryLockError::WouldBlock) => Err(Unusable::Locked),
+        Err(TryLockError::Error(error)) => Err(error.into()),
     }
 }
 

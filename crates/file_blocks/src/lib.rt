@@ -9,5 +9,5 @@ mod host;
 mod octets;
 
 pub use blocks::FileBlocks;
-pub use host::{HostFile, Identity, Unusable};
+pub use host::{HeldFile, HostFile, Identity, Unusable};
 pub use octets::OctetFile;
