@@ -36,6 +36,7 @@ where
         + Files<File = File>
         + Input
         + Print
+        + Eprint
         + Clock
         + RandomSource
         + Net<Listener = TcpListener, Stream = TcpStream>

@@ -5,13 +5,16 @@ use Rattle.file_blocks.specs.Blocks.{blocks_of}
 use Rattle.file_blocks.specs.Store.{count_of}
 use Rattle.file_blocks.specs.declared.blocks.FileBlocks.{FileBlocks}
 use Rattle.file_blocks.specs.declared.host.HostFile.{HostFile}
+use Rattle.relay_serve.specs.Watched.{store_in}
+use Rattle.relay_serve.specs.declared.watched.Watched.{Watched}
 
--- of files of the machine contracts see no octet, and as many blocks as were asked for
-pub sizes_of : (stores : List (FileBlocks HostFile))
-    → map (λ (store : FileBlocks HostFile). length (blocks_of store.count [])) stores
-    ≡ map count_of stores
-sizes_of [] = refl
-sizes_of (store ∷ stores) =
-    ap (λ n. n ∷ map (λ (other : FileBlocks HostFile). length (blocks_of other.count [])) stores)
-    (length-blocks_of store.count [])
-    ∙ ap (λ (ns : List ℕ). store.count ∷ ns) (sizes_of stores)
+-- Of files of the machine contracts see no octet, and as many blocks as were asked for; those that
+-- are watched are these.
+pub watched_sizes : {R : Type 0} (all : List (Watched (FileBlocks HostFile) R))
+    → map (λ (one : Watched (FileBlocks HostFile) R). length (blocks_of one.store.count [])) all
+    ≡ map count_of (map store_in all)
+watched_sizes [] = refl
+watched_sizes {R} (one ∷ all) =
+    ap (λ n. n ∷ map (λ (other : Watched (FileBlocks HostFile) R). length (blocks_of other.store.count [])) all)
+    (length-blocks_of one.store.count [])
+    ∙ ap (λ (ns : List ℕ). one.store.count ∷ ns) (watched_sizes all)

@@ -1,10 +1,8 @@
 -- The files of the buffers (docs/FORMATS.md, cycbuff.conf).
 use Rattle.std.specs.Prelude.{◌≡◌, Any, string_bytes}
 use Rattle.std.specs.Str.Lossy.{utf8_lossy}
-use Rattle.file_blocks.specs.Host.{identity_of}
-use Rattle.file_blocks.specs.Store.{file_of}
-use Rattle.file_blocks.specs.declared.blocks.FileBlocks.{FileBlocks}
-use Rattle.file_blocks.specs.declared.host.HostFile.{HostFile}
+use Rattle.file_blocks.specs.Host.{held_identity}
+use Rattle.file_blocks.specs.declared.host.HeldFile.{HeldFile}
 use Rattle.relay_conf.specs.declared.cycbuff.BufferConf.{BufferConf}
 use Rattle.relay_conf.specs.declared.settings.Buffers.{Buffers}
 use Rattle.serve_terms.specs.declared.fault.ServeError.{ServeError}
@@ -21,6 +19,6 @@ IsFileFault settings (faults.File name) =
     Any (λ buffer. string_bytes name ≡ utf8_lossy buffer.file) settings.buffers.items
 IsFileFault settings error = error ≡ faults.Memory
 
--- both stores are over one file, whatever its names: the same inode of the same device
-abbrev pub SharesFile : (store other : FileBlocks HostFile) → Type 0
-SharesFile store other = identity_of (file_of store) ≡ identity_of (file_of other)
+-- both are one file, whatever its names: the same inode of the same device
+abbrev pub SharesFile : (file other : HeldFile) → Type 0
+SharesFile file other = held_identity file ≡ held_identity other

@@ -3,3 +3,4 @@ pub mod Files
 pub mod Moments
 pub mod Ports
 pub mod Running
+pub mod Watched

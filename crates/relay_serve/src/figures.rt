@@ -1,4 +1,5 @@
-//! What is counted of a relay once its threads have ended (docs/PROTOCOL.md, Threads 9).
+//! What is counted of a relay in threads, once these have ended (docs/PROTOCOL.md, Threads 9) or
+//! while they run.
 ghost use Rattle.std.specs.Prelude.{◌≡◌, ◌+◌, ◌≤◌, ◌<◌, IfOk, map, length, slice_get};
 ghost use Rattle.std.specs.Option.{ForSome};
 ghost use Rattle.live_settle.specs.Desks.{posts_in};
@@ -35,18 +36,31 @@ pub(crate) fn totals_of<S: BlockStore + Drop, J: Archive, L: Ledger, R: Wait>(
     ensures strays { IfOk result (λ totals. totals.strays ≡ strays_of counted.now) }
     ensures doubles { IfOk result (λ totals. totals.doubles ≡ doubles_of counted.now) }
 {
-    let buffers = buffers_of(rt, alloc, config, shared)?;
-    let feeds = feeds_of(rt, alloc, config, shared)?;
     Ok(Totals {
-        figures: Figures {
-            buffers,
-            feeds,
-            ids: shared.id_counts(rt),
-        },
+        figures: figures_of(rt, alloc, config, shared)?,
         accepted: counted.accepted(),
         posted: counted.posted().count(),
         strays: counted.strays(),
         doubles: counted.doubles(),
+    })
+}
+
+/// The figures of what the threads of a relay share: each lock is taken once, one after the other.
+pub(crate) fn figures_of<S: BlockStore + Drop, J: Archive, L: Ledger, R: Wait>(
+    rt: &R,
+    alloc: Global,
+    config: &Config,
+    shared: &Shared<S, J, L>,
+) -> Result<Figures, AllocError>
+    requires { buffers_in shared.now ≡ length config.now.buffers.buffers.items }
+    ensures names { IfOk result (HasNames config.now) }
+{
+    let buffers = buffers_of(rt, alloc, config, shared)?;
+    let feeds = feeds_of(rt, alloc, config, shared)?;
+    Ok(Figures {
+        buffers,
+        feeds,
+        ids: shared.id_counts(rt),
     })
 }
 

@@ -1,5 +1,10 @@
-//! A gate that lets every command in.
-use live_session::{Command, Gate};
+//! Gates that let every command in.
+use live_session::{Command, Finish, Gate};
+use live_wire::Tally;
+use relay_conf::Peer;
+use std::alloc::{AllocError, Global};
+use std::str;
+use std::sync::atomic::{AtomicU64, Ordering};
 
 /// Lets every command in at once; replies are written as many at a time as there are.
 #[derive(Clone, Copy, Debug, PartialEq, Eq)]
@@ -15,4 +20,151 @@ impl<R> Gate<R> for OpenGate {
     }
 
     fn leave(&self, _rt: &R, _command: Command) {}
+}
+
+/// What the sessions of a peer have said and read so far, and how many of them are open.
+#[derive(Drop)]
+struct PeerCounts {
+    open: AtomicU64,
+    accepted: AtomicU64,
+    known: AtomicU64,
+    refused: AtomicU64,
+    later: AtomicU64,
+    octets: AtomicU64,
+}
+
+impl PeerCounts {
+    /// Of a peer without a session.
+    fn new() -> PeerCounts {
+        PeerCounts {
+            open: AtomicU64::new(0),
+            accepted: AtomicU64::new(0),
+            known: AtomicU64::new(0),
+            refused: AtomicU64::new(0),
+            later: AtomicU64::new(0),
+            octets: AtomicU64::new(0),
+        }
+    }
+
+    /// Counts what a session has said and read more.
+    fn add(&self, more: &Tally) {
+        self.accepted.fetch_add(more.accepted, Ordering::SeqCst);
+        self.known.fetch_add(more.known, Ordering::SeqCst);
+        self.refused.fetch_add(more.refused, Ordering::SeqCst);
+        self.later.fetch_add(more.later, Ordering::SeqCst);
+        self.octets.fetch_add(more.octets, Ordering::SeqCst);
+    }
+
+    /// Puts the line of a peer of this name behind a text.
+    fn put(&self, alloc: Global, name: &str, text: &mut Vec<u8>) -> Result<(), AllocError> {
+        let line = format!(in alloc;
+            "peer {name} open={} accepted={} known={} refused={} later={} octets={}\n",
+            self.open.load(Ordering::SeqCst),
+            self.accepted.load(Ordering::SeqCst),
+            self.known.load(Ordering::SeqCst),
+            self.refused.load(Ordering::SeqCst),
+            self.later.load(Ordering::SeqCst),
+            self.octets.load(Ordering::SeqCst),
+        )?;
+        text.extend_from_slice(line.as_bytes())
+    }
+}
+
+/// Lets every command in at once, counts for each peer what its sessions say and read, and tells of
+/// each session that has ended, in a line on standard error.
+#[derive(Drop)]
+pub struct CountingGate<'a> {
+    alloc: Global,
+    peers: &'a [Peer],
+    counts: Vec<PeerCounts>,
+}
+
+impl<'a> CountingGate<'a> {
+    /// A gate for the sessions of these peers, before the first of them.
+    pub fn new(alloc: Global, peers: &'a [Peer]) -> Result<CountingGate<'a>, AllocError> {
+        let mut counts = Vec::new(alloc);
+        for _peer in peers {
+            counts.push(PeerCounts::new())?;
+        }
+        Ok(CountingGate {
+            alloc,
+            peers,
+            counts,
+        })
+    }
+
+    /// Puts a line for each peer behind a text.
+    pub(crate) fn put_peers(&self, text: &mut Vec<u8>) -> Result<(), AllocError> {
+        for (peer, counts) in self.peers.iter().zip(&self.counts) {
+            counts.put(self.alloc, name_of(peer), text)?;
+        }
+        Ok(())
+    }
+}
+
+/// The name of a peer, as relay.conf has it: ASCII letters, digits and a few marks.
+fn name_of(peer: &Peer) -> &str {
+    str::from_utf8(peer.name.as_slice()).unwrap_or("?")
+}
+
+/// How a session ended, in one word.
+fn word_of(finish: Finish) -> &'static str {
+    match finish {
+        Finish::Quit => "Quit",
+        Finish::Broken => "Broken",
+        Finish::Fault => "Fault",
+        Finish::TurnsSpent => "TurnsSpent",
+        Finish::Held => "Held",
+    }
+}
+
+impl<R: Eprint> Gate<R> for CountingGate<'_> {
+    fn enter(&self, _rt: &R, _command: Command) -> bool {
+        true
+    }
+
+    fn is_one_by_one(&self) -> bool {
+        false
+    }
+
+    fn leave(&self, _rt: &R, _command: Command) {}
+
+    fn opened(&self, _rt: &R, peer: usize, _session: u64) {
+        if let Some(counts) = self.counts.get(peer) {
+            counts.open.fetch_add(1, Ordering::SeqCst);
+        }
+    }
+
+    fn counted(&self, _rt: &R, peer: usize, more: &Tally) {
+        if let Some(counts) = self.counts.get(peer) {
+            counts.add(more);
+        }
+    }
+
+    fn closed(
+        &self,
+        rt: &R,
+        peer: usize,
+        session: u64,
+        finish: Finish,
+        tally: &Tally,
+        seconds: u64,
+    ) {
+        if let Some(counts) = self.counts.get(peer) {
+            counts.open.fetch_sub(1, Ordering::SeqCst);
+        }
+        let Some(peer) = self.peers.get(peer) else {
+            return;
+        };
+        let _lost = eprintln!(rt;
+            "closed peer={} session={session} finish={} seconds={seconds} accepted={} known={} refused={} later={} octets={}",
+            name_of(peer),
+            word_of(finish),
+            tally.accepted,
+            tally.known,
+            tally.refused,
+            tally.later,
+            tally.octets,
+        );
+    }
 }

@@ -1,21 +1,28 @@
 //! A relay that is served on ports, over files (docs/PROTOCOL.md, `serve`).
 //!
 //! `run_relay` runs a relay in threads over any stores and any doors, and says what was counted
-//! once all threads have ended. `serve_on` opens the files of a configuration's buffers and the ports
-//! of its peers, runs the relay over them, and writes the report.
+//! once all threads have ended. `serve_on` opens the files of a configuration's buffers, the ports of
+//! its peers and the socket by which it is asked, runs the relay over them until it is told to stop,
+//! and writes the report.
 #![tactic(auto)]
 
+mod beside;
 mod clock;
+mod desk;
 mod figures;
 mod files;
 mod gate;
 mod ports;
 mod running;
 mod serving;
+mod streams;
+mod watched;
 
+pub use beside::{Beside, Figured};
 pub use clock::MachineClock;
-pub use files::open_stores;
-pub use gate::OpenGate;
+pub use desk::Desk;
+pub use files::{fit_files, hold_files};
+pub use gate::{CountingGate, OpenGate};
 pub use ports::open_ports;
 pub use running::run_relay;
 pub use serving::serve_on;

@@ -3,7 +3,7 @@ ghost use Rattle.std.specs.Prelude.{◌≡◌, ◌≤◌, All, IfErr, IfOk, leng
 ghost use Rattle.peer_ports.specs.Ports.{left_of};
 ghost use Rattle.relay_serve.specs.Ports.{IsPortFault, served_from};
 
-use peer_ports::Port;
+use peer_ports::{Port, Stop};
 use relay_conf::Peer;
 use relay_live::Door;
 use serve_terms::ServeError;
@@ -11,14 +11,16 @@ use std::alloc::Global;
 use std::net::{Net, TcpListener, TcpStream};
 
 /// A door for each peer that has a port, in the order of the peers: each takes so many connections,
-/// without a number as many as come. The error is want of memory, or the first port that can't be
-/// had.
-pub fn open_ports<N: Net<Listener = TcpListener, Stream = TcpStream>>(
+/// without a number as many as come, until it is told to stop, and each of these waits so many
+/// seconds for its peer. The error is want of memory, or the first port that can't be had.
+pub fn open_ports<'a, N: Net<Listener = TcpListener, Stream = TcpStream>>(
     net: &N,
     alloc: Global,
     peers: &[Peer],
     sessions: Option<u32>,
-) -> Result<Vec<Door<Port>>, ServeError>
+    stop: &'a Stop,
+    patience: u32,
+) -> Result<Vec<Door<Port<'a>>>, ServeError>
     ensures peers { IfOk result (λ doors. map (λ door. door.peer) doors.items
         ≡ served_from 0 peers.now) }
     ensures left { IfOk result (λ doors.
@@ -31,7 +33,7 @@ pub fn open_ports<N: Net<Listener = TcpListener, Stream = TcpStream>>(
         if peer.port == 0 {
             continue;
         }
-        match Port::listen(net, peer.port, sessions) {
+        match Port::listen(net, peer.port, sessions, stop, patience) {
             Ok(connections) => doors.push_reserved(Door {
                 peer: number,
                 connections,

@@ -1,17 +1,21 @@
 //! A relay runs in threads, over stores and doors that are given.
 ghost use Rattle.std.specs.Prelude.{◌≡◌, ◌<◌, ◌^◌, true, All, IfErr, IfOk, length, map};
+ghost use Rattle.live_settle.specs.Desks.{posts_in};
+ghost use Rattle.relay_live.specs.Counts.{accepted_in, posted_in};
 ghost use Rattle.relay_live.specs.Holding.{has_buffer};
+ghost use Rattle.relay_live.specs.Making.{buffers_in, ends_in, slots_of};
 ghost use Rattle.relay_serve.specs.Running.{CountsOf, IsRunFault, Ran, ended_as, lane_count};
 ghost use Rattle.relay_serve.specs.Running.{unbegun_as};
 ghost use Rattle.serve_terms.specs.Serve.{AreOf};
 
+use crate::beside::{Beside, Served, start_beside};
 use crate::figures::totals_of;
 use cyc_block::BlockStore;
 use live_session::{Clock, Gate};
 use live_store::{Archive, Register};
 use live_wire::Connections;
 use relay_conf::Config;
-use relay_live::{Counted, Door, Keeper, LiveError, Shared, serve_all};
+use relay_live::{Counted, Door, Keeper, Lends, LiveError, Shared, serve_all};
 use relay_report::Totals;
 use serve_terms::ServeError;
 use std::alloc::Global;
@@ -19,7 +23,8 @@ use std::hash::RandomState;
 use std::io::ErrorKind;
 use std::random::RandomSource;
 use std::sync::Wait;
-use std::sync::ledger::{Blank, Ledger};
+use std::sync::ledger::{Blank, Book, Ledger, Share};
+use std::thread;
 use std::thread::Threads;
 
 /// Runs a relay of this configuration over these stores, the i-th for buffer i: an end behind each
@@ -63,24 +68,158 @@ where
         (map (λ door. door.peer) doors.items) run.1) }
     ensures fault { IfErr result IsRunFault }
 {
-    let groups = lanes_of(config);
     let (book, all) = blank.open::<L>();
-    let shared: Shared<S, J, L> = match Shared::new(rt, alloc, config, stores, book, doors.len()) {
-        Ok(shared) => shared,
-        Err(error) => return Err(unbegun(error.kind())),
-    };
-    let hasher = match RandomState::new(rt) {
-        Ok(hasher) => hasher,
-        Err(error) => return Err(unbegun(error.kind())),
-    };
+    let shared = shared_by::<S, J, L, R>(rt, alloc, config, stores, book, doors.len())?;
+    let hasher = hasher_of(rt)?;
     let keeper = Keeper::new(&shared, register, &config.buffers, clock);
-    match serve_all(rt, alloc, hasher, &keeper, config, gate, groups, doors, all) {
-        Ok((_seats, counted)) => {
-            let totals = totals_of(rt, alloc, config, &shared, &counted)?;
-            Ok((totals, counted))
-        }
+    let counted = run_shared(rt, alloc, hasher, &keeper, config, gate, doors, all)?;
+    let totals = totals_of(rt, alloc, config, &shared, &counted)?;
+    Ok((totals, counted))
+}
+
+/// What so many ends share over these stores, before anything has come.
+fn shared_by<S: BlockStore + Drop, J: Archive, L: Ledger, R: RandomSource>(
+    rt: &R,
+    alloc: Global,
+    config: &Config,
+    stores: Vec<S>,
+    book: Book<L>,
+    ends: usize,
+) -> Result<Shared<S, J, L>, ServeError>
+    requires stores { map (λ store. length (S.blocks store)) stores.items
+        ≡ map (λ buffer. buffer.blocks) config.now.buffers.buffers.items }
+    requires honest { J.trusted ≡ true → All S.honest stores.items }
+    requires book { book.total ≡ 0 }
+    ensures buffers { IfOk result (λ shared.
+        buffers_in shared ≡ length config.now.buffers.buffers.items) }
+    ensures ends { IfOk result (λ shared. ends_in shared ≡ ends) }
+    ensures fault { IfErr result IsRunFault }
+{
+    match Shared::new(rt, alloc, config, stores, book, ends) {
+        Ok(shared) => Ok(shared),
+        Err(error) => Err(unbegun(error.kind())),
+    }
+}
+
+/// The seed of the relay's tables.
+fn hasher_of<R: RandomSource>(rt: &R) -> Result<RandomState, ServeError>
+    ensures fault { IfErr result IsRunFault }
+{
+    match RandomState::new(rt) {
+        Ok(hasher) => Ok(hasher),
+        Err(error) => Err(unbegun(error.kind())),
+    }
+}
+
+/// Runs a relay over what its threads share, until all of them have ended.
+fn run_shared<
+    'a,
+    X: Connections<R> + Drop + Send,
+    S: BlockStore + Drop + Send,
+    J: Archive + Send + Sync,
+    L: Ledger + Send + Sync,
+    C: Clock + Sync,
+    G: Gate<R> + Sync,
+    Q: Lends + Sync,
+    R: Threads + Wait + Sync,
+>(
+    rt: &R,
+    alloc: Global,
+    hasher: RandomState,
+    keeper: &Keeper<'a, S, J, L, C, Q>,
+    config: &'a Config,
+    gate: &'a G,
+    doors: Vec<Door<X>>,
+    all: Share<L>,
+) -> Result<Counted, ServeError>
+where
+    <X as Connections<R>>::Reader: Drop + Send,
+    <X as Connections<R>>::Writer: Drop + Send,
+    requires parts { (all.parts ≡ lane_count config.now) × (all.amount ≡ 0)
+        × (L.parts ≡ lane_count config.now) }
+    requires slots { slots_of keeper.now ≡ length doors.items }
+    requires few { length doors.items < 2 ^ 62 }
+    ensures posted { IfOk result (λ counted.
+        posts_in (posted_in counted) ≡ accepted_in counted) }
+    ensures ran { IfOk result (Ran ⟦<J as Archive>⟧ config.now
+        (map (λ door. door.peer) doors.items)) }
+    ensures fault { IfErr result IsRunFault }
+{
+    let groups = lanes_of(config);
+    match serve_all(rt, alloc, hasher, keeper, config, gate, groups, doors, all) {
+        Ok((_seats, counted)) => Ok(counted),
         Err(error) => Err(ended(error)),
     }
+}
+
+/// As `run_relay`, with something that goes on beside it, in a thread of its own, until all its
+/// threads have ended. That thread is had before any other.
+pub(crate) fn run_beside<
+    'a,
+    X: Connections<R> + Drop + Send,
+    S: BlockStore + Drop + Send,
+    J: Archive + Send + Sync,
+    L: Ledger + Send + Sync,
+    C: Clock + Sync,
+    G: Gate<R> + Sync,
+    B: Beside<R> + Sync,
+    R: Threads + Wait + RandomSource + Sync,
+>(
+    rt: &R,
+    alloc: Global,
+    config: &'a Config,
+    register: &'a Register,
+    blank: Blank,
+    stores: Vec<S>,
+    doors: Vec<Door<X>>,
+    clock: &'a C,
+    gate: &'a G,
+    beside: &'a B,
+) -> Result<Totals, ServeError>
+where
+    <X as Connections<R>>::Reader: Drop + Send,
+    <X as Connections<R>>::Writer: Drop + Send,
+    requires register { register.now ≡ J.register }
+    requires holds { J.holds ≡ has_buffer config.now.buffers }
+    requires name { blank.name ≡ L.name }
+    requires parts { (blank.parts ≡ L.parts) × (blank.parts ≡ lane_count config.now) }
+    requires stores { map (λ store. length (S.blocks store)) stores.items
+        ≡ map (λ buffer. buffer.blocks) config.now.buffers.buffers.items }
+    requires honest { J.trusted ≡ true → All S.honest stores.items }
+    requires few { length doors.items < 2 ^ 62 }
+    ensures totals { IfOk result (AreOf config.now) }
+    ensures fault { IfErr result IsRunFault }
+{
+    let (book, all) = blank.open::<L>();
+    let shared = shared_by::<S, J, L, R>(rt, alloc, config, stores, book, doors.len())?;
+    let hasher = hasher_of(rt)?;
+    let keeper = Keeper::new(&shared, register, &config.buffers, clock);
+    let served = Served::new(config, &shared, clock);
+    let keeper = &keeper;
+    let served = &served;
+    let ran = thread::scope(
+        thread::scope_env(),
+        rt,
+        move |scope| -> Result<Counted, ServeError>
+            requires parts { (all.parts ≡ lane_count config.now) × (all.amount ≡ 0)
+                × (L.parts ≡ lane_count config.now) }
+            requires slots { slots_of keeper.now ≡ length doors.items }
+            requires few { length doors.items < 2 ^ 62 }
+            ensures posted { IfOk result (λ counted.
+                posts_in (posted_in counted) ≡ accepted_in counted) }
+            ensures fault { IfErr result IsRunFault }
+        {
+            let Some(attending) = start_beside(scope, rt, beside, served) else {
+                return Err(ServeError::NoThread);
+            };
+            let ran = run_shared(rt, alloc, hasher, keeper, config, gate, doors, all);
+            beside.ended();
+            attending.join(rt);
+            ran
+        },
+    );
+    let counted = ran?;
+    Ok(totals_of(rt, alloc, config, &shared, &counted)?)
 }
 
 /// How many writers a relay has: one for each group, and one where there is no group.

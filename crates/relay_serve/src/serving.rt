@@ -5,14 +5,18 @@ ghost use Rattle.relay_serve.specs.Running.{IsRunFault};
 ghost use Rattle.serve_terms.specs.Serve.{AreOf, ServeGives};
 
 use crate::clock::MachineClock;
-use crate::files::open_stores;
-use crate::gate::OpenGate;
+use crate::desk::Desk;
+use crate::files::{fit_files, hold_files};
+use crate::gate::CountingGate;
 use crate::ports::open_ports;
-use crate::running::{lanes_of, run_relay};
+use crate::running::{lanes_of, run_beside};
+use crate::streams::fill_streams;
+use crate::watched::{Watched, watch_all};
 use file_blocks::FileBlocks;
 use live_store::Register;
-use peer_ports::Port;
+use peer_ports::{Port, Stop};
 use relay_conf::Config;
+use relay_control::Control;
 use relay_live::Door;
 use relay_report::Totals;
 use serve_terms::{ServeError, print_totals};
@@ -27,10 +31,15 @@ use std::sync::ledger::Blank;
 use std::thread::Threads;
 use std::time::Clock;
 
-/// Serves a relay of this configuration on the ports of the machine, over its files: the files are
-/// opened first, in the order of the buffers, those whose path is relative in the folder, then the
-/// ports, in the order of the peers. Each start formats the buffers anew. Once each port has served
-/// so many connections the report is written; without a number that never is.
+/// For how many seconds a connection waits for its peer.
+const PATIENCE: u32 = 3_600;
+
+/// Serves a relay of this configuration on the ports of the machine, over its files, until it is
+/// told to stop: the files are opened and locked first, in the order of the buffers, those whose
+/// path is relative in the folder, then the ports are had, in the order of the peers, then the files
+/// are made as long as they have to be, and last comes the socket in the folder by which it is asked.
+/// Each start formats the buffers anew. Once it was told to stop, or each port has served so many
+/// connections, the report is written. What it does is told in lines on standard error.
 pub fn serve_on<R, W: Write>(
     rt: &R,
     alloc: Global,
@@ -45,27 +54,62 @@ where
         + Net<Listener = TcpListener, Stream = TcpStream>
         + Files<File = File>
         + Clock
+        + Eprint
         + RandomSource
         + Sync,
     ensures { ServeGives config.now result (W.contents writer.old) (W.contents writer.new) }
 {
-    let stores = open_stores(rt, alloc, &config.buffers, folder)?;
-    let doors = open_ports(rt, alloc, &config.relay.peers, sessions)?;
-    let totals = run_on(rt, alloc, config, stores, doors)?;
-    print_totals(alloc, &totals, writer)
+    fill_streams(rt);
+    let files = hold_files(rt, alloc, &config.buffers, folder)?;
+    let stop = Stop::new();
+    let doors = open_ports(rt, alloc, &config.relay.peers, sessions, &stop, PATIENCE)?;
+    let stores = fit_files(alloc, &config.buffers, files)?;
+    let gate = CountingGate::new(alloc, &config.relay.peers)?;
+    let Ok(control) = Control::listen(rt, alloc, folder) else {
+        return Err(ServeError::Control);
+    };
+    let desk = Desk::new(alloc, &stop, &gate, control);
+    let _lost = eprintln!(rt; "serving ports={} buffers={}", doors.len(), stores.len());
+    let ran = run_on(rt, alloc, config, stores, doors, &gate, &desk);
+    let answer = print_run(alloc, config, ran, writer);
+    desk.close(rt, folder);
+    if answer.is_ok() {
+        let _lost = eprintln!(rt; "stopped");
+    }
+    answer
+}
+
+/// Writes the report of a relay that has run.
+fn print_run<W: Write>(
+    alloc: Global,
+    config: &Config,
+    ran: Result<Totals, ServeError>,
+    writer: &mut W,
+) -> Result<(), ServeError>
+    requires totals { IfOk ran (AreOf config.now) }
+    requires fault { IfErr ran IsRunFault }
+    ensures { ServeGives config.now result (W.contents writer.old) (W.contents writer.new) }
+{
+    let _ = config;
+    match ran {
+        Ok(totals) => print_totals(alloc, &totals, writer),
+        Err(error) => Err(error),
+    }
 }
 
 /// Runs the relay over these stores and ports, by the machine's clock. Nothing says that a file of
 /// the machine is honest, so nothing is promised of what the stores give.
-fn run_on<R>(
+fn run_on<'a, R>(
     rt: &R,
     alloc: Global,
     config: &Config,
     stores: Vec<FileBlocks>,
-    doors: Vec<Door<Port>>,
+    doors: Vec<Door<Port<'a>>>,
+    gate: &CountingGate<'_>,
+    desk: &Desk<'_>,
 ) -> Result<Totals, ServeError>
 where
-    R: Threads + Wait + Clock + RandomSource + Sync,
+    R: Threads + Wait + Clock + Eprint + RandomSource + Sync,
     requires stores { map count_of stores.items
         ≡ map (λ buffer. buffer.blocks) config.now.buffers.buffers.items }
     requires few { length doors.items < 2 ^ 62 }
@@ -75,10 +119,17 @@ where
     let register: Register = boxcar::Vec::new(alloc)?;
     let clock = MachineClock::new(rt);
     let blank = Blank::new(lanes_of(config) as u64);
-    match run_relay::<Port, FileBlocks, Brand, Brand, MachineClock<'_, R>, OpenGate, R>(
-        rt, alloc, config, &register, blank, stores, doors, &clock, &OpenGate,
-    ) {
-        Ok((totals, _counted)) => Ok(totals),
-        Err(error) => Err(error),
-    }
+    let stores = watch_all(rt, &config.buffers, stores)?;
+    run_beside::<
+        Port<'a>,
+        Watched<'_, FileBlocks, R>,
+        Brand,
+        Brand,
+        MachineClock<'_, R>,
+        CountingGate<'_>,
+        Desk<'_>,
+        R,
+    >(
+        rt, alloc, config, &register, blank, stores, doors, &clock, gate, desk,
+    )
 }

@@ -1,7 +1,13 @@
-use Rattle.std.proofs.Common.{◌∙◌}
-use Rattle.relay_serve.proofs.Sizes.{sizes_of}
+use Rattle.std.proofs.Common.{◌∙◌, List, ap, map}
+use Rattle.file_blocks.specs.Store.{count_of}
+use Rattle.file_blocks.specs.declared.blocks.FileBlocks.{FileBlocks}
+use Rattle.file_blocks.specs.declared.host.HostFile.{HostFile}
+use Rattle.relay_serve.proofs.Sizes.{watched_sizes}
 use Rattle.relay_serve.proofs.serving.run_on.Goals as goal
 
--- a store in a file has as many blocks as it was opened for
-pub run_relay-requires-clause-stores : goal.run_relay-requires-clause-stores
-run_relay-requires-clause-stores g c κs within = sizes_of _ ∙ c.requires.stores
+-- a watched store in a file has as many blocks as the file was opened for
+pub run_beside-requires-clause-stores : goal.run_beside-requires-clause-stores
+run_beside-requires-clause-stores g c κs within =
+    watched_sizes _
+    ∙ ap (λ (stores : List (FileBlocks HostFile)). map count_of stores) c.in_ok-stores.ensures.stores
+    ∙ c.requires.stores

@@ -8,7 +8,7 @@ use Rattle.relay_live.specs.Ends.{kept_of, peer_of, terms_at}
 use Rattle.relay_live.specs.Sessions.{Accounted, HasLists}
 use Rattle.relay_model.specs.Terms.{Terms}
 use Rattle.relay_serve.proofs.Kept.{made_of, made_there, one_there, same_there}
-use Rattle.relay_serve.proofs.running.run_relay.Goals as goal
+use Rattle.relay_serve.proofs.running.run_shared.Goals as goal
 
 -- what the seats had is what the totals are of
 pub returns-in-Ok-serve_all-clause-ran : goal.returns-in-Ok-serve_all-clause-ran

@@ -1,0 +1,130 @@
+//! Whoever is asked while a relay is served.
+use crate::beside::{Beside, Figured};
+use crate::gate::CountingGate;
+use peer_ports::Stop;
+use relay_control::{Control, Teller, Word};
+use relay_report::text_of;
+use std::alloc::{AllocError, Global};
+use std::fs::Files;
+use std::mem;
+use std::sync::atomic::{AtomicBool, Ordering};
+use std::sync::{Mutex, Wait};
+use std::time::Clock;
+
+/// How many seconds pass between two rounds of forgetting.
+const BETWEEN_ROUNDS: u64 = 60;
+
+/// How many of those who have asked while the relay ended are heard still, at most.
+const LAST_ONES: usize = 64;
+
+/// Answers what is asked at the socket of a relay's folder: `report` is told its figures and what
+/// each peer's sessions said, `stop` has its ports end, and who asked for that hears no end before
+/// the program has ended. Meanwhile it goes a round of forgetting each minute.
+#[derive(Drop)]
+pub struct Desk<'a> {
+    alloc: Global,
+    stop: &'a Stop,
+    gate: &'a CountingGate<'a>,
+    control: Control,
+    ended: AtomicBool,
+    /// Who waits for the end of the relay.
+    waiting: Mutex<Vec<Teller>>,
+}
+
+impl<'a> Desk<'a> {
+    /// A desk at which nobody has asked yet.
+    pub fn new(
+        alloc: Global,
+        stop: &'a Stop,
+        gate: &'a CountingGate<'a>,
+        control: Control,
+    ) -> Desk<'a> {
+        Desk {
+            alloc,
+            stop,
+            gate,
+            control,
+            ended: AtomicBool::new(false),
+            waiting: Mutex::new(Vec::new(alloc)),
+        }
+    }
+
+    /// Has the relay stop, and lets who asked for it wait.
+    fn stop<R: Wait + Eprint>(&self, rt: &R, teller: Teller) {
+        if !self.stop.is_asked() {
+            self.stop.ask();
+            let _lost = eprintln!(rt; "stopping");
+        }
+        let _lost = self.waiting.lock(rt).push(teller);
+    }
+
+    /// Tells whoever asked the report of the relay as it is, and a line for each peer.
+    fn report<F: Figured<R>, R: Clock>(
+        &self,
+        rt: &R,
+        relay: &F,
+        teller: &Teller,
+    ) -> Result<(), AllocError> {
+        let figures = relay.figures(rt, self.alloc)?;
+        let mut text = text_of(self.alloc, &figures)?;
+        self.gate.put_peers(&mut text)?;
+        teller.tell(rt, &text);
+        Ok(())
+    }
+
+    /// Answers whoever asks next, if anybody does.
+    fn answer<F: Figured<R>, R: Wait + Clock + Eprint>(&self, rt: &R, relay: &F) {
+        match self.control.next_word(rt) {
+            Some((Word::Stop, teller)) => self.stop(rt, teller),
+            Some((Word::Report, teller)) => {
+                let _untold = self.report(rt, relay, &teller);
+            }
+            None => {}
+        }
+    }
+
+    /// Takes the socket away. Who has asked meanwhile waits, as those who asked for the stop, until
+    /// the program has ended.
+    pub fn close<R: Wait + Clock + Files>(&self, rt: &R, folder: &str) {
+        self.control.close(rt, self.alloc, folder);
+        let mut waiting = self.waiting.lock(rt);
+        for _ in 0..LAST_ONES {
+            match self.control.next_word(rt) {
+                Some((_word, teller)) => {
+                    let _lost = waiting.push(teller);
+                }
+                None => break,
+            }
+        }
+        mem::forget(mem::replace(&mut *waiting, Vec::new(self.alloc)));
+    }
+}
+
+impl<R: Wait + Clock + Eprint> Beside<R> for Desk<'_> {
+    fn attend<F: Figured<R>>(&self, rt: &R, relay: &F) {
+        let mut last_round = second_of(rt);
+        for _ in rt.forever() {
+            if self.ended.load(Ordering::SeqCst) {
+                return;
+            }
+            self.answer(rt, relay);
+            let second = second_of(rt);
+            if second.saturating_sub(last_round) >= BETWEEN_ROUNDS {
+                relay.forget(rt);
+                last_round = second;
+            }
+        }
+    }
+
+    fn ended(&self) {
+        self.ended.store(true, Ordering::SeqCst);
+    }
+}
+
+/// The second of the machine's clock that never goes back, the first one where it can't be asked.
+fn second_of<R: Clock>(rt: &R) -> u64 {
+    match rt.monotonic() {
+        Ok(passed) => passed.as_secs(),
+        Err(_) => 0,
+    }
+}

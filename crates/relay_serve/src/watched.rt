@@ -1,0 +1,105 @@
+//! A store whose failures are told.
+ghost use Rattle.std.specs.Prelude.{◌≡◌, IfOk, length, map};
+ghost use Rattle.relay_serve.specs.Watched.{store_in};
+
+use cyc_block::{BLOCK_OCTETS, BlockStore, DeviceFailed};
+use relay_conf::{BufferConf, Buffers};
+use std::alloc::AllocError;
+use std::str;
+use std::time::Clock;
+
+/// A store of blocks that is asked by another, which tells of each call that failed, in a line a
+/// second at most on standard error, by the name of the buffer.
+#[derive(Drop)]
+pub(crate) struct Watched<'a, S, R> {
+    store: S,
+    rt: &'a R,
+    name: &'a [u8],
+    /// The second after that in which a failure was last told, 0 before that.
+    told: u64,
+}
+
+impl<'a, S, R: Clock + Eprint> Watched<'a, S, R> {
+    /// A store of which no failure was told.
+    fn new(rt: &'a R, name: &'a [u8], store: S) -> Watched<'a, S, R>
+        ensures { store_in result ≡ store }
+    {
+        Watched {
+            store,
+            rt,
+            name,
+            told: 0,
+        }
+    }
+
+    /// Tells that a call of this kind failed, unless one was told in this second.
+    fn tell(&mut self, kind: &str)
+        ensures same { self.new.store ≡ self.old.store }
+    {
+        let second = match self.rt.monotonic() {
+            Ok(passed) => passed.as_secs().saturating_add(1),
+            Err(_) => return,
+        };
+        if second == self.told {
+            return;
+        }
+        self.told = second;
+        let name = str::from_utf8(self.name).unwrap_or("?");
+        let _lost = eprintln!(self.rt; "failed buffer={name} kind={kind}");
+    }
+}
+
+impl<S: BlockStore, R: Clock + Eprint> BlockStore for Watched<'_, S, R> {
+    ghost blocks = { λ watched. S.blocks watched.store };
+
+    ghost calls = { λ watched. S.calls watched.store };
+
+    ghost failures = { λ watched. S.failures watched.store };
+
+    ghost honest = { λ watched. S.honest watched.store };
+
+    fn count(&self) -> u32 {
+        self.store.count()
+    }
+
+    fn read(&mut self, k: u32, octets: &mut [u8; BLOCK_OCTETS]) -> Result<(), DeviceFailed> {
+        let answer = self.store.read(k, octets);
+        if answer.is_err() {
+            self.tell("Read");
+        }
+        answer
+    }
+
+    fn write(&mut self, k: u32, octets: &[u8; BLOCK_OCTETS]) -> Result<(), DeviceFailed> {
+        let answer = self.store.write(k, octets);
+        if answer.is_err() {
+            self.tell("Write");
+        }
+        answer
+    }
+}
+
+/// Each store, watched by the name of its buffer.
+pub(crate) fn watch_all<'a, S: BlockStore + Drop, R: Clock + Eprint>(
+    rt: &'a R,
+    settings: &'a Buffers,
+    stores: Vec<S>,
+) -> Result<Vec<Watched<'a, S, R>>, AllocError>
+    requires count { length stores.items ≡ length settings.now.buffers.items }
+    ensures stores { IfOk result (λ all. map store_in all.items ≡ stores.items) }
+{
+    let mut all = Vec::with_capacity(*stores.allocator(), stores.len())?;
+    for store in stores {
+        let name = name_at(settings, all.len());
+        all.push_reserved(Watched::new(rt, name, store));
+    }
+    Ok(all)
+}
+
+/// The name of the buffer of this number.
+fn name_at(settings: &Buffers, number: usize) -> &[u8] {
+    match settings.buffers.get(number) {
+        Some(BufferConf { name, .. }) => name.as_slice(),
+        None => b"?",
+    }
+}
