@@ -9,11 +9,12 @@
 #![tactic(auto)]
 
 use relay_command::{Failure, Request, exit_code, gathering, print_failure, program_words, run};
+use relay_control::{Word, ask};
 use relay_serve::serve_on;
+use std::alloc::Global;
 use std::env::Env;
 use std::fs::{File, Files};
 use std::io;
-use std::io::ErrorKind;
 use std::net::{Net, TcpListener, TcpStream};
 use std::process::ExitCode;
 use std::random::RandomSource;
@@ -56,13 +57,22 @@ where
         move |config, folder, sessions, writer| serve_on(
             rt, alloc, config, folder, sessions, writer,
         ),
-        move |folder, request| ask(folder, request),
+        move |folder, request| ask_there(rt, alloc, folder, request),
     );
     let (_device, _unwritten) = output.into_parts();
     ran
 }
 
-/// What the relay tells that is served in a folder: none can be asked yet.
-fn ask(_folder: &str, _request: Request) -> io::Result<Vec<u8>> {
-    Err(io::Error::from(ErrorKind::Unsupported))
+/// What the relay tells that is served in a folder.
+fn ask_there<N: Net>(
+    net: &N,
+    alloc: Global,
+    folder: &str,
+    request: Request,
+) -> io::Result<Vec<u8>> {
+    let word = match request {
+        Request::Stop => Word::Stop,
+        Request::Report => Word::Report,
+    };
+    ask(net, alloc, folder, word)
 }

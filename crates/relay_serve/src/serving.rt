@@ -31,9 +31,6 @@ use std::sync::ledger::Blank;
 use std::thread::Threads;
 use std::time::Clock;
 
-/// For how many seconds a connection waits for its peer.
-const PATIENCE: u32 = 3_600;
-
 /// Serves a relay of this configuration on the ports of the machine, over its files, until it is
 /// told to stop: the files are opened and locked first, in the order of the buffers, those whose
 /// path is relative in the folder, then the ports are had, in the order of the peers, then the files
@@ -62,7 +59,7 @@ where
     fill_streams(rt);
     let files = hold_files(rt, alloc, &config.buffers, folder)?;
     let stop = Stop::new();
-    let doors = open_ports(rt, alloc, &config.relay.peers, sessions, &stop, PATIENCE)?;
+    let doors = open_ports(rt, alloc, &config.relay.peers, sessions, &stop, config.relay.patience)?;
     let stores = fit_files(alloc, &config.buffers, files)?;
     let gate = CountingGate::new(alloc, &config.relay.peers)?;
     let Ok(control) = Control::listen(rt, alloc, folder) else {
