@@ -257,9 +257,9 @@ class Started:
     # Those that may still run.
     running = []
 
-    def __init__(self, words, folder, is_nobody, passed):
+    def __init__(self, words, folder, user, passed):
         self.out, self.err = tempfile.TemporaryFile(), tempfile.TemporaryFile()
-        settings = {"user": NOBODY, "group": NOBODY, "extra_groups": []} if is_nobody else {}
+        settings = {"user": user, "group": user, "extra_groups": []} if user else {}
         self.process = subprocess.Popen(
             [str(it) for it in words], stdin=subprocess.DEVNULL, stdout=self.out, stderr=self.err,
             cwd=folder, pass_fds=passed, **settings)

@@ -1,10 +1,12 @@
 """A row that is played: what its lines do."""
 
+import itertools
 import os
 import re
 import shutil
 import socket
 import time
+from collections import namedtuple
 
 from peers import GREETING, NOBODY, TEXTS, Client, Started, Taken, Wrong, cut_to, listening
 from plays import PLAYS
@@ -22,8 +24,19 @@ K1 = {
 }
 
 
-# What is printed by a step that says nothing of it, and its status.
-NOTHING = ([], [], [0])
+# What is printed: on standard output, on standard error, lines there of what happens, a status that
+# is one of these.
+Printed = namedtuple("Printed", "out err events statuses")
+
+# What is printed by a step that says nothing of it.
+NOTHING = Printed([], [], [], [0])
+
+# The lines that tell what happens while a relay is served (docs/OPERATING.md, Lines).
+EVENT = re.compile(r"(serving|closed|failed|waiting)( \w+=\S*)+|stopping|stopped")
+
+# The users of programs that may have a few threads alone: each program has one of its own, since the
+# system counts a user's.
+USERS = itertools.count(61_000 + os.getpid() % 3_000)
 
 
 class Row:
@@ -40,7 +53,7 @@ class Row:
         # By their names; the relay has none.
         self.clients, self.programs = {}, {}
         self.started = []
-        self.is_nobody, self.limit, self.held, self.pipe = False, None, [], None
+        self.user, self.limit, self.threads, self.held, self.pipe = None, None, None, [], None
         self.sending = {}
         # What its last line `-- ` said.
         self.at = ""
@@ -157,7 +170,7 @@ class Row:
 
     def program(self):
         """The program, where nobody can run it."""
-        if not self.is_nobody:
+        if self.user is None:
             return self.given.program
         copy = self.folder / "cnrelay"
         if not copy.exists():
@@ -165,7 +178,7 @@ class Row:
             copy.chmod(0o755)
         self.folder.chmod(0o711)
         for it in (self.dir, *self.dir.rglob("*")):
-            os.chown(it, NOBODY, NOBODY, follow_symlinks=False)
+            os.chown(it, self.user, self.user, follow_symlinks=False)
         return copy
 
     def start(self, name, words):
@@ -179,8 +192,10 @@ class Row:
             # A write beyond the limit fails, and brings no signal.
             limits = f'trap "" XFSZ; ulimit -f {self.limit}; exec "$0" "$@"'
             words = ["/bin/sh", "-c", limits, *words]
+        if self.threads:
+            words = ["/usr/bin/prlimit", f"--nproc={self.threads}", *words]
         passed = [self.pipe[0]] if self.pipe else []
-        self.started.append(Started(words, self.folder, self.is_nobody, passed))
+        self.started.append(Started(words, self.folder, self.user, passed))
         self.programs[name] = self.started[-1]
         return self.started[-1]
 
@@ -190,7 +205,7 @@ class Row:
         self.most, self.calls = int(most[1]) if most else None, dict.fromkeys(ports, 0)
         relay = self.start("", f"serve {{dir}} {words}")
         end = time.monotonic() + self.given.patience
-        while not set(ports) <= listening():
+        while not (set(ports) <= listening() and "serving" in " ".join(relay.told(relay.err))):
             if relay.process.poll() is not None:
                 self.see_taken(relay)
                 raise Wrong(f"it ended with {relay.process.returncode}: {relay.told(relay.err)}")
@@ -225,13 +240,18 @@ class Row:
             self.give_rest()
         if not program.has_ended(self.given.patience):
             raise Wrong(f"it hasn't ended after {self.given.patience} seconds")
-        out, err = ([self.text(it) for it in lines] if lines is not None else None
-                    for lines in wanted[:2])
-        came = (program.told(program.out), program.told(program.err), program.process.returncode)
-        if not (are_lines(came[0], out) and are_lines(came[1], err) and came[2] in wanted[2]):
-            if 4 not in wanted[2]:
+        out, err, events = ([self.text(it) for it in lines] if lines is not None else None
+                            for lines in wanted[:3])
+        told = program.told(program.err)
+        happened = [it for it in told if EVENT.fullmatch(it)]
+        came = Printed(program.told(program.out), [it for it in told if it not in happened],
+                       happened, program.process.returncode)
+        is_right = are_lines(came.out, out) and are_lines(came.err, err)
+        is_told = all(any(is_line(it, event) for it in happened) for event in events)
+        if not (is_right and is_told and came.statuses in wanted.statuses):
+            if 4 not in wanted.statuses:
                 self.see_taken(program)
-            raise Wrong(f"{came}, not {(out, err, wanted[2])}")
+            raise Wrong(f"{came}, not {(out, err, events, wanted.statuses)}")
 
     # What lines of clients say.
 
@@ -318,7 +338,9 @@ class Row:
         elif line == "writes":
             self.write_conf()
         elif line == "nobody":
-            self.is_nobody = os.geteuid() == 0
+            self.user = NOBODY if os.geteuid() == 0 else None
+        elif name == "threads" and os.geteuid() == 0:
+            self.user, self.threads = next(USERS), int(rest)
         elif name == "limit":
             self.limit = int(rest)
         elif name == "serves":

@@ -237,8 +237,8 @@ fn round<S: Shares<J, R>, C: Clock, G: Gate<R>, J: Archive, H: Hears, W: Says, R
             write_on(rt, hall, wire, commands.newest());
         }
         Turned::Rests => {
-            flush(wire);
             counts.tell(rt, hall.gate);
+            flush(wire);
             receive(talk, wire, counts);
         }
         Turned::Held => stop(wire, Finish::Held),
