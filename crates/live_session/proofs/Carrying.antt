@@ -5,8 +5,10 @@ use Rattle.std.proofs.Common.{◌==◌}
 use Rattle.std.specs.Global.{Vec}
 use Rattle.std.specs.Prelude.{is_some, unwrap_or, vec_len}
 use Rattle.std.proofs.lemmas.List.{append-nil, append_assoc, take-append-drop}
+use Rattle.std.proofs.lemmas.Option.{none-some}
 use Rattle.live_session.specs.Carried.{Carried, Carries, CarriesOn, CarriesSame, EndsAs, HeardAs}
-use Rattle.live_session.specs.Carried.{WrittenAs, finish_of, is_break, is_broken, part_finish}
+use Rattle.live_session.specs.Carried.{Lasts, WrittenAs, finish_of, is_break, is_broken}
+use Rattle.live_session.specs.Carried.{part_finish}
 use Rattle.live_session.specs.Going.{parted_after}
 use Rattle.live_session.specs.declared.wire.Finish.{Finish}
 use Rattle.live_session.specs.declared.wire.Finish.TheVariants as finishes
@@ -192,6 +194,22 @@ some_of v empty is none nil =
 pub none_of : {T : Type 0} (o : Option T) → is_some o ≡ false → o ≡ None
 none_of None none = refl
 none_of (Some x) none = cc
+
+-- what is said of a connection that was stopped for its turns, where it says that they are spent
+pub spent_by : (last stopped : Option Finish) (said : Finish)
+    → stopped ≡ Some (unwrap_or last finishes.TurnsSpent)
+    → said ≡ unwrap_or stopped finishes.Broken → said ≡ finishes.TurnsSpent
+    → unwrap_or last finishes.TurnsSpent ≡ finishes.TurnsSpent
+spent_by last stopped said stops says is =
+    sym (says ∙ ap (λ o. unwrap_or o finishes.Broken) stops) ∙ is
+
+-- a connection that is over for its turns hadn't ended while it had them
+pub never_ended : (conversed left last : Option Finish) → Lasts None conversed
+    → Lasts conversed left → Lasts left last
+    → unwrap_or last finishes.TurnsSpent ≡ finishes.TurnsSpent → conversed ≡ None
+never_ended conversed left None one two three is = two.ended (three.ended refl)
+never_ended conversed left (Some finish) one two three is =
+    absurd (none-some finishes.TurnsSpent (one.unspent (two.unspent (three.unspent (ap Some is)))))
 
 -- an end is the end
 pub end_of_some : (o : Option Finish) (other : Finish) → is_some o ≡ true

@@ -1,5 +1,5 @@
 //! A session is served over a connection.
-ghost use Rattle.std.specs.Prelude.{◌≡◌, ◌≤◌, ◌+◌, ◌^◌, true, false, IfOk, None};
+ghost use Rattle.std.specs.Prelude.{◌≡◌, ◌≤◌, ◌^◌, true, false, IfOk, None};
 ghost use Rattle.article_verdict.specs.Config.{terms_of};
 ghost use Rattle.live_seats.specs.Seats.{IsSeatOf, count_of, end_of};
 ghost use Rattle.live_session.specs.Carried.{Begins, Carried, CarriesSame, IsFormed, IsServed};
@@ -196,8 +196,7 @@ fn converse<S: Shares<J, R>, C: Clock, G: Gate<R>, J: Archive, H: Hears, W: Says
         (carried (H.heard wire.new.reader) (W.said wire.new.writer)
         wire.new.outbox wire.new.finish) }
     ensures ends { Lasts wire.old.finish wire.new.finish }
-    ensures turns { wire.new.finish ≡ None
-        → turns_in counts.new ≡ turns_in counts.old + most_turns }
+    ensures turns { wire.new.finish ≡ None → turns_in counts.new ≡ most_turns }
 {
     let mut commands = Commands::of(talk.number);
     for _ in 0..TURNS {

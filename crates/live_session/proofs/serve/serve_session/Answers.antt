@@ -2,7 +2,7 @@ use Rattle.std.proofs.Common.{◌∙◌, None, Some, ap, sym, subst, true, false
 use Rattle.article_verdict.specs.Config.{terms_of}
 use Rattle.live_seats.specs.Seats.{IsSeatOf, end_of}
 use Rattle.live_seats.specs.declared.session.SessionSeat.{SessionSeat}
-use Rattle.live_session.proofs.Carrying.{end_of_some}
+use Rattle.live_session.proofs.Carrying.{end_of_some, never_ended, spent_by}
 use Rattle.live_session.proofs.Talks.{then_on, unbegun, whole}
 use Rattle.live_session.proofs.serve.serve_session.Goals as goal
 use Rattle.live_session.specs.Carried.{carried}
@@ -110,3 +110,17 @@ returns-clause-formed g c =
     (end_of_some last.finish finishes.Broken c.stop.ensures.ended
     ∙ ap Some (sym c.unwrap_or.ensures))
     (ap (λ v. v.items) c.stop.ensures.waiting ∙ c.flush.ensures.none) c.leave.ensures.closed
+
+-- it has had them all, since nothing had ended it before
+pub returns-clause-spent : goal.returns-clause-spent
+returns-clause-spent g c is =
+    let one = c.converse.new.wire.finish in
+    let two = c.leave.new.wire.finish in
+    let last = c.flush.new.wire.finish in
+    c.turns.ensures
+    ∙ c.tell.ensures.rest.1
+    ∙ c.leave.ensures.turns
+    ∙ c.converse.ensures.turns
+    (never_ended one two last c.converse.ensures.ends c.leave.ensures.ends c.flush.ensures.ends
+    (spent_by last c.stop.new.wire.finish c.unwrap_or.result c.stop.ensures.finish
+    c.unwrap_or.ensures is))
