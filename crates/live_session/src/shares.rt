@@ -114,6 +114,5 @@ pub trait Gate<R> {
         _finish: Finish,
         _tally: &Tally,
         _seconds: u64,
-    ) {
-    }
+    ) {}
 }

@@ -139,8 +139,7 @@ impl<'a, X, S: BlockStore + Drop, J: Archive, L: Ledger, C: Clock, G, Q: Lends> 
         );
         self.kept = served.kept;
         let seconds = self.clock.now().saturating_sub(began);
-        self.gate
-            .closed(rt, self.peer, number, served.finish, &served.tally, seconds);
+        self.gate.closed(rt, self.peer, number, served.finish, &served.tally, seconds);
         Conversed {
             seat: served.seat,
             reader: served.reader,
