@@ -40,15 +40,15 @@ none_counted p (y ∷ ys) (suc k) x none at =
 
 -- the receipt of a kept job
 receipt_of : {J : Type 0} {g : Ghosts J} (end : ℕ) (answer : KeptJob J g) (d : Done (Fate J g))
-    → is_receipt_of end answer.number answer.receipt.value.shown.index d ≡ true → BearsOut end answer d
+    → is_receipt_of end answer.number answer.register d ≡ true → BearsOut end answer d
 receipt_of {J} {g} end answer d is =
-    let kept : Bool = is_kept_as answer.receipt.value.shown.index d.outcome in
+    let kept : Bool = is_kept_as answer.register d.outcome in
     let parts = and_parts (d.end == end) ((d.number == answer.number) && kept) is in
     let rest = and_parts (d.number == answer.number) kept parts.1 in
     of_fate d.outcome refl parts.0 rest.0 rest.1
   where
     of_fate : (f : Fate J g) → d.outcome ≡ f → (d.end == end) ≡ true
-        → (d.number == answer.number) ≡ true → is_kept_as answer.receipt.value.shown.index f ≡ true
+        → (d.number == answer.number) ≡ true → is_kept_as answer.register f ≡ true
         → BearsOut end answer d
     of_fate (fates.Kept receipt posted) kept one two three = record {
       receipt = receipt;
@@ -56,7 +56,7 @@ receipt_of {J} {g} end answer d is =
       kept = kept;
       same_end = eqb-true d.end end one;
       same_number = eqb-true d.number answer.number two;
-      same_record = eqb-true receipt.shown.index answer.receipt.value.shown.index three;
+      same_record = eqb-true receipt.shown.index answer.register three;
     }
     of_fate (fates.Failed fault) kept one two three = absurd (cc)
     of_fate fates.Mixed kept one two three = absurd (cc)
@@ -78,7 +78,7 @@ one_end : {J : Type 0} {g : Ghosts J} (done : List (Done (Fate J g))) (end k : �
 one_end {J} {g} done end k list answer none at =
     let missing : KeptJob J g → Bool = λ a. not (has_receipt done end a) in
     let kept = none_counted missing list k answer none at in
-    let there = placed (is_receipt_of end answer.number answer.receipt.value.shown.index) done
+    let there = placed (is_receipt_of end answer.number answer.register) done
     (not-false (has_receipt done end answer) kept) in
     (there.0, there.1, there.2, receipt_of end answer there.1 there.3)
 

@@ -92,30 +92,30 @@ not_mixed {J} {g} done i d receipt posted below at is =
 -- an answer whose job is one of the set, or none of it
 answer_next : {J : Type 0} {g : Ghosts J} (jobs : BTreeSet (ℕ × ℕ × ℕ)) (end : ℕ)
     (answers : List (KeptJob J g)) (i : ℕ) (a : KeptJob J g) (told : ℕ) (found : Bool)
-    → a ≡ get_or answers i a → told ≡ a.receipt.value.shown.index → found ≡ has_job jobs end a.number told
-    → not (has_job jobs end (get_or answers i a).number (get_or answers i a).receipt.value.shown.index)
+    → a ≡ get_or answers i a → told ≡ a.register → found ≡ has_job jobs end a.number told
+    → not (has_job jobs end (get_or answers i a).number (get_or answers i a).register)
     ≡ not found
 answer_next {J} {g} jobs end answers i a told found at reads is =
-    ap (λ (x : KeptJob J g). not (has_job jobs end x.number x.receipt.value.shown.index)) (sym at)
+    ap (λ (x : KeptJob J g). not (has_job jobs end x.number x.register)) (sym at)
     ∙ ap (λ (n : ℕ). not (has_job jobs end a.number n)) (sym reads)
     ∙ ap not (sym is)
 
 pub answer_listed : {J : Type 0} {g : Ghosts J} (jobs : BTreeSet (ℕ × ℕ × ℕ)) (end : ℕ)
     (answers : List (KeptJob J g)) (i : ℕ) (a : KeptJob J g) (told : ℕ) (found : Bool)
-    → i < length answers → a ≡ get_or answers i a → told ≡ a.receipt.value.shown.index
+    → i < length answers → a ≡ get_or answers i a → told ≡ a.register
     → found ≡ has_job jobs end a.number told → found ≡ true
     → unlisted_of jobs end (take (i + 1) answers) ≡ unlisted_of jobs end (take i answers)
 answer_listed {J} {g} jobs end answers i a told found below at reads is listed =
-    count_by_more_no (λ (x : KeptJob J g). not (has_job jobs end x.number x.receipt.value.shown.index))
+    count_by_more_no (λ (x : KeptJob J g). not (has_job jobs end x.number x.register))
     answers i a below (answer_next jobs end answers i a told found at reads is ∙ ap not listed)
 
 pub answer_unlisted : {J : Type 0} {g : Ghosts J} (jobs : BTreeSet (ℕ × ℕ × ℕ)) (end : ℕ)
     (answers : List (KeptJob J g)) (i : ℕ) (a : KeptJob J g) (told : ℕ) (found : Bool)
-    → i < length answers → a ≡ get_or answers i a → told ≡ a.receipt.value.shown.index
+    → i < length answers → a ≡ get_or answers i a → told ≡ a.register
     → found ≡ has_job jobs end a.number told → found ≡ false
     → unlisted_of jobs end (take (i + 1) answers) ≡ unlisted_of jobs end (take i answers) + 1
 answer_unlisted {J} {g} jobs end answers i a told found below at reads is missing =
-    count_by_more_yes (λ (x : KeptJob J g). not (has_job jobs end x.number x.receipt.value.shown.index))
+    count_by_more_yes (λ (x : KeptJob J g). not (has_job jobs end x.number x.register))
     answers i a below (answer_next jobs end answers i a told found at reads is ∙ ap not missing)
 
 -- where the set has just the kept jobs, an answer is for none of them where it has no receipt
@@ -128,7 +128,7 @@ pub as_receipts : {J : Type 0} {g : Ghosts J} (jobs : BTreeSet (ℕ × ℕ × �
 as_receipts jobs done same end [] = refl
 as_receipts {J} {g} jobs done same end (answers ∷ rest) =
     ap (λ (test : KeptJob J g → Bool). count_by test answers + unlisted_from jobs (end + 1) rest)
-    (λ i a. not (same end a.number a.receipt.value.shown.index i))
+    (λ i a. not (same end a.number a.register i))
     ∙ ap (λ (n : ℕ). astray_of done end answers + n) (as_receipts jobs done same (end + 1) rest)
 
 -- the answers of one end, and those of the ends after it

@@ -15,8 +15,8 @@ answer number receipt =
     record {
       number = number;
       register = receipt.shown.index;
-      receipt = record { marker = record {}; value = receipt };
-      same = refl;
+      of = record {};
+      shown = ∣ (receipt.shown, receipt.here, refl) ∣₁;
     }
 
 -- what a writer told of a job

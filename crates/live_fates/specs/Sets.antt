@@ -22,7 +22,7 @@ has_job jobs end number register =
 abbrev pub unlisted_of : {J : Type 0} {g : Ghosts J} → BTreeSet (ℕ × ℕ × ℕ) → (end : ℕ)
     → List (KeptJob J g) → ℕ
 unlisted_of jobs end answers =
-    count_by (λ a. not (has_job jobs end a.number a.receipt.value.shown.index)) answers
+    count_by (λ a. not (has_job jobs end a.number a.register)) answers
 
 -- the same of all ends from this one on
 abbrev pub unlisted_from : {J : Type 0} {g : Ghosts J} → BTreeSet (ℕ × ℕ × ℕ) → (end : ℕ)

@@ -33,7 +33,7 @@ is_receipt_of end number register d =
 abbrev pub has_receipt : {J : Type 0} {g : Ghosts J} → List (Done (Fate J g)) → (end : ℕ)
     → KeptJob J g → Bool
 has_receipt done end answer =
-    list_any (is_receipt_of end answer.number answer.receipt.value.shown.index) done
+    list_any (is_receipt_of end answer.number answer.register) done
 
 -- how many of the kept answers of this end have another register number
 abbrev pub astray_of : {J : Type 0} {g : Ghosts J} → List (Done (Fate J g)) → (end : ℕ)
@@ -67,7 +67,7 @@ pub record BearsOut {J : Type 0} {g : Ghosts J} (end : ℕ) (answer : KeptJob J 
   pub kept : d.outcome ≡ fates.Kept receipt posted
   pub same_end : d.end ≡ end
   pub same_number : d.number ≡ answer.number
-  pub same_record : receipt.shown.index ≡ answer.receipt.value.shown.index
+  pub same_record : receipt.shown.index ≡ answer.register
 
 -- one of the jobs that writers told of bears it out
 abbrev pub IsBorneOut : {J : Type 0} {g : Ghosts J} → List (Done (Fate J g)) → (end : ℕ)

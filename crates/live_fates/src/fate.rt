@@ -1,14 +1,15 @@
 //! What became of a job, and what a session is told of it.
 ghost use Rattle.std.specs.Prelude.{◌≡◌};
+ghost use Rattle.boxcar.specs.Table.{Shows, Where};
 ghost use Rattle.live_fates.specs.Fates.{IsToldOf};
+ghost use Rattle.live_store.specs.declared.writing.entering.Record.{Record};
 
 use cyc_buffer::Fault;
 use live_seats::Outcome;
 use live_settle::Posted;
 use live_store::{Archive, Receipt};
-use std::marker::Brand;
+use std::marker::{Brand, PhantomData};
 use std::mem::size_of;
-use std::snapshot::Snapshot;
 
 /// What became of a job in its writer's hands (docs/PROTOCOL.md, Threads).
 #[derive(Drop)]
@@ -42,31 +43,28 @@ pub enum Told<J: Archive> {
 }
 
 /// A job of this end's that was answered kept (239, 235): its number in the end's order, and the
-/// receipt that came with the answer, of which its number in the register is kept.
+/// number in the register of the receipt that came with the answer.
 #[derive(Drop)]
 pub struct KeptJob<J: Archive> {
     pub number: u64,
-    /// The number of the receipt.
     pub register: usize,
-    /// The receipt, for contracts alone: it takes no memory.
-    pub receipt: Snapshot<Receipt<J>>,
-    ghost same: { register ≡ receipt.value.shown.index },
+    pub(crate) of: PhantomData<J>,
+    // The register had a record under the number.
+    ghost shown: { ∥ ((w : Where Record) × Shows J.register w × (w.index ≡ register)) ∥₁ },
 }
 
 // What the README says of the memory of an answer.
 const _: () = prove!(size_of::<KeptJob<Brand>>() == 16);
 
 impl<J: Archive> KeptJob<J> {
-    ghost use Rattle.std.specs.Prelude.{◌≡◌};
-
     /// The job of this number, answered kept with this receipt.
     pub fn new(number: u64, receipt: &Receipt<J>) -> KeptJob<J>
-        ensures { (result.number ≡ number) × (result.receipt.value ≡ receipt.now) }
+        ensures { (result.number ≡ number) × (result.register ≡ receipt.now.shown.index) }
     {
         KeptJob {
             number,
             register: receipt.number(),
-            receipt: Snapshot::of(receipt),
+            of: PhantomData,
         }
     }
 }

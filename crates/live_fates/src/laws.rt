@@ -27,7 +27,7 @@ pub fn fetched_is_handed_in<J: Archive>(
 )
     ghost run: { Run J J.Archive }
     requires register { register.now ≡ J.register }
-    requires number { number_in text.now ≡ answer.now.receipt.value.shown.index }
+    requires number { number_in text.now ≡ answer.now.register }
     requires told { AllTold (FitsJob J.holds) run.dones run.hands }
     requires among { ToldJob run done.now }
     requires borne { BearsOut run.end answer.now done.now }

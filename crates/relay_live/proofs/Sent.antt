@@ -2,7 +2,6 @@
 use denote.RattleType.{RattleType}
 use denote.Param.Send.{IsSend, sendable}
 use Rattle.live_fates.specs.contracts.fate.Fate as fate
-use Rattle.live_fates.specs.contracts.fate.KeptJob as kept
 use Rattle.cyc_buffer.proofs.answers.Fault.TheSendSync as faults
 use Rattle.live_settle.specs.contracts.desk.both.Posted as posted
 use Rattle.live_store.proofs.stored.Receipt.TheSendSync as receipts
@@ -23,10 +22,6 @@ posted_send = search (sendable, snapshot_send) depth 14
 -- so it may as a field
 posted_field_send : IsSend (posted.the_field).row
 posted_field_send = search (sendable, snapshot_send, posted_send) depth 14
-
--- an answer that was kept has numbers, and a receipt for contracts alone
-pub kept_send : (T : RattleType) (g : Ghosts T.Denot) → IsSend (kept.the_row T g)
-kept_send T g = search (sendable, snapshot_send) depth 8
 
 -- so what became of a job may go to any thread, with all that stands in it
 pub fate_send : (T : RattleType) (g : Ghosts T.Denot) → IsSend (fate.the_row T g)

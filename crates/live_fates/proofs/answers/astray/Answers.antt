@@ -1,4 +1,4 @@
-use Rattle.std.proofs.Common.{◌∙◌, ◌+◌, ℕ, sym, ap, arith}
+use Rattle.std.proofs.Common.{◌∙◌, ◌+◌, ℕ, refl, sym, ap, arith}
 use Rattle.live_fates.proofs.Jobs.{answer_listed, answer_unlisted}
 use Rattle.live_fates.proofs.answers.astray.Goals as goal
 
@@ -8,7 +8,7 @@ loop-answer-preserved-then-contains g c =
     record {
       count = inv.count ∙ sym (answer_listed c.args.jobs.now c.args.end c.args.answers.now
           c.loop-answer.answer-index c.answer-item.result c.answer-item.result.register c.contains.result
-          c.loop-answer-test.true c.answer-item.is c.answer-item.result.same c.contains.ensures
+          c.loop-answer-test.true c.answer-item.is refl c.contains.ensures
           c.if-contains.true);
       few = omega (arith, inv.few);
     }
@@ -20,7 +20,7 @@ loop-answer-preserved g c =
       count = ap (λ (n : ℕ). n + 1) inv.count
           ∙ sym (answer_unlisted c.args.jobs.now c.args.end c.args.answers.now
           c.loop-answer.answer-index c.answer-item.result c.answer-item.result.register c.contains.result
-          c.loop-answer-test.true c.answer-item.is c.answer-item.result.same c.contains.ensures
+          c.loop-answer-test.true c.answer-item.is refl c.contains.ensures
           c.if-contains.false);
       few = omega (arith, inv.few);
     }

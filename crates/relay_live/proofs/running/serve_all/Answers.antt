@@ -15,7 +15,7 @@ use Rattle.relay_live.specs.Ends.{kept_of, peer_of, terms_at}
 use Rattle.relay_live.specs.Sessions.{Accounted, HasLists}
 use Rattle.relay_live.proofs.Accounts.{at_map, each_same, marked, new_accounts}
 use Rattle.relay_live.proofs.Lists.{lists_of_all}
-use Rattle.relay_live.proofs.Sent.{fate_send, kept_send}
+use Rattle.relay_live.proofs.Sent.{fate_send}
 use Rattle.relay_live.proofs.running.serve_all.Goals as goal
 
 pub serve_seats-requires-clause-ends : goal.serve_seats-requires-clause-ends
@@ -110,7 +110,3 @@ returns-clause-kept g c =
 -- what was posted has parts for contracts alone, which any thread may have
 pub serve_seats-requires-send-O : goal.serve_seats-requires-send-O
 serve_seats-requires-send-O g c κs within = search (sendable, fate_send)
-
--- nor does what an end kept have parts of another thread
-pub serve_seats-requires-send-V : goal.serve_seats-requires-send-V
-serve_seats-requires-send-V g c κs within = search (sendable, kept_send)
