@@ -7,7 +7,7 @@ use Rattle.relay_live.proofs.end.End.converse.Goals as goal
 pub returns-clause-one_more : goal.returns-clause-one_more
 returns-clause-one_more g c honest trust =
     let served = c.serve_session-served.ensures in
-    one_more honest _ _ _ _ _ _ _ _ _ _ _ _ _ _ c.into_value.ensures
+    one_more honest _ _ _ _ _ _ _ _ _ _ _ _ _ _ c.into_value-number.ensures
     (ap (λ v. hands_at c.args.seat v.items) c.replace-kept.ensures.value)
     c.requires.new.0 c.requires.new.1
     (served_over honest g.J.Archive.trusted _ _ _ _ _ _ _ _ _ _ _ _ trust served.served
