@@ -124,6 +124,8 @@ impl<R: Wait> Service<R> for Bringing {
         }
         seat
     }
+
+    fn decline(&mut self, _rt: &R) {}
 }
 
 /// The job of this number of an end, under a message-id of its own.
