@@ -165,7 +165,7 @@ pub(crate) fn run_beside<
     B: Beside<R> + Sync,
     R: Threads + Wait + RandomSource + Sync,
 >(
-    rt: &R,
+    rt: &'a R,
     alloc: Global,
     config: &'a Config,
     register: &'a Register,

@@ -74,8 +74,7 @@ where
     };
     let desk = Desk::new(alloc, &stop, &gate, control);
     let _lost = eprintln!(rt; "serving ports={} buffers={}", doors.len(), stores.len());
-    let ran = run_on(rt, alloc, config, stores, doors, &gate, &desk);
-    let answer = print_run(alloc, config, ran, writer);
+    let answer = run_and_print(rt, alloc, config, stores, doors, &gate, &desk, writer);
     desk.close(rt, folder);
     if answer.is_ok() {
         let _lost = eprintln!(rt; "stopped");
@@ -83,22 +82,26 @@ where
     answer
 }
 
-/// Writes the report of a relay that has run.
-fn print_run<W: Write>(
+/// Runs the relay over these stores and ports, and writes its report.
+fn run_and_print<'a, R, W: Write>(
+    rt: &R,
     alloc: Global,
     config: &Config,
-    ran: Result<Totals, ServeError>,
+    stores: Vec<FileBlocks>,
+    doors: Vec<Door<Port<'a>>>,
+    gate: &CountingGate<'_>,
+    desk: &Desk<'_>,
     writer: &mut W,
 ) -> Result<(), ServeError>
-    requires totals { IfOk ran (AreOf config.now) }
-    requires fault { IfErr ran IsRunFault }
+where
+    R: Threads + Wait + Clock + Eprint + RandomSource + Sync,
+    requires stores { map count_of stores.items
+        ≡ map (λ buffer. buffer.blocks) config.now.buffers.buffers.items }
+    requires few { length doors.items < 2 ^ 62 }
     ensures { ServeGives config.now result (W.contents writer.old) (W.contents writer.new) }
 {
-    let _ = config;
-    match ran {
-        Ok(totals) => print_totals(alloc, &totals, writer),
-        Err(error) => Err(error),
-    }
+    let totals = run_on(rt, alloc, config, stores, doors, gate, desk)?;
+    print_totals(alloc, &totals, writer)
 }
 
 /// Runs the relay over these stores and ports, by the machine's clock. Nothing says that a file of

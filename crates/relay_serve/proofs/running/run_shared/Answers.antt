@@ -11,10 +11,10 @@ use Rattle.relay_serve.proofs.Kept.{made_of, made_there, one_there, same_there}
 use Rattle.relay_serve.proofs.running.run_shared.Goals as goal
 
 -- what the seats had is what the totals are of
-pub returns-in-Ok-serve_all-clause-ran : goal.returns-in-Ok-serve_all-clause-ran
-returns-in-Ok-serve_all-clause-ran g c =
-    let ran = c.in-Ok-serve_all.ensures in
-    let seats = c.in-Ok-serve_all._seats in
+pub returns-in-Ok-clause-ran : goal.returns-in-Ok-clause-ran
+returns-in-Ok-clause-ran g c =
+    let ran = c.in-Ok.ensures in
+    let seats = c.in-Ok._seats in
     let ends = seats.services.items in
     let config = c.args.config.now in
     let doors = length-map c.args.doors.items (λ door. door.peer) in
