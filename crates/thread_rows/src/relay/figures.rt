@@ -132,7 +132,10 @@ fn put_feed<S: BlockStore + Drop, J: Archive, L: Ledger, R: Wait>(
     shared: &Shared<S, J, L>,
     number: usize,
 ) {
-    if let Some(counts) = shared.feed_counts(rt, number as u16) {
+    let Ok(feed) = u16::try_from(number) else {
+        return;
+    };
+    if let Some(counts) = shared.feed_counts(rt, feed) {
         sheet.numbered(b"feed ", number as u64);
         sheet.numbered(b" gained ", counts.gained);
         sheet.numbered(b" taken ", counts.taken);

@@ -24,7 +24,7 @@ impl<'a> Row<'a> {
         let (call, rest) = word_of(words);
         let mut numbers = [0; 3];
         for (number, word) in numbers.iter_mut().zip(rest.split(|octet| *octet == b' ')) {
-            *number = number_in(word) as u32;
+            *number = u32::try_from(number_in(word)).unwrap_or(u32::MAX);
         }
         Row {
             name,
