@@ -8,7 +8,7 @@ ghost use Rattle.relay_serve.specs.Running.{CountsOf, IsRunFault, Ran, ended_as,
 ghost use Rattle.relay_serve.specs.Running.{unbegun_as};
 ghost use Rattle.serve_terms.specs.Serve.{AreOf};
 
-use crate::beside::{Beside, Served, start_beside};
+use crate::beside::{Beside, Figured, Served, start_beside};
 use crate::figures::totals_of;
 use cyc_block::BlockStore;
 use live_session::{Clock, Gate};
@@ -155,7 +155,6 @@ where
 /// As `run_relay`, with something that goes on beside it, in a thread of its own, until all its
 /// threads have ended. That thread is had before any other.
 pub(crate) fn run_beside<
-    'a,
     X: Connections<R> + Drop + Send,
     S: BlockStore + Drop + Send,
     J: Archive + Send + Sync,
@@ -165,16 +164,16 @@ pub(crate) fn run_beside<
     B: Beside<R> + Sync,
     R: Threads + Wait + RandomSource + Sync,
 >(
-    rt: &'a R,
+    rt: &R,
     alloc: Global,
-    config: &'a Config,
-    register: &'a Register,
+    config: &Config,
+    register: &Register,
     blank: Blank,
     stores: Vec<S>,
     doors: Vec<Door<X>>,
-    clock: &'a C,
-    gate: &'a G,
-    beside: &'a B,
+    clock: &C,
+    gate: &G,
+    beside: &B,
 ) -> Result<Totals, ServeError>
 where
     <X as Connections<R>>::Reader: Drop + Send,
@@ -195,9 +194,50 @@ where
     let hasher = hasher_of(rt)?;
     let keeper = Keeper::new(&shared, register, &config.buffers, clock);
     let served = Served::new(config, &shared, clock);
-    let keeper = &keeper;
-    let served = &served;
-    let ran = thread::scope(
+    let counted = attended(
+        rt, alloc, hasher, &keeper, config, gate, doors, all, beside, &served,
+    )?;
+    Ok(totals_of(rt, alloc, config, &shared, &counted)?)
+}
+
+/// Runs a relay over what its threads share, until all of them have ended, and beside it what goes
+/// on, which is started first.
+fn attended<
+    'a,
+    X: Connections<R> + Drop + Send,
+    S: BlockStore + Drop + Send,
+    J: Archive + Send + Sync,
+    L: Ledger + Send + Sync,
+    C: Clock + Sync,
+    G: Gate<R> + Sync,
+    Q: Lends + Sync,
+    B: Beside<R> + Sync,
+    F: Figured<R> + Sync,
+    R: Threads + Wait + Sync,
+>(
+    rt: &R,
+    alloc: Global,
+    hasher: RandomState,
+    keeper: &Keeper<'a, S, J, L, C, Q>,
+    config: &'a Config,
+    gate: &'a G,
+    doors: Vec<Door<X>>,
+    all: Share<L>,
+    beside: &B,
+    served: &F,
+) -> Result<Counted, ServeError>
+where
+    <X as Connections<R>>::Reader: Drop + Send,
+    <X as Connections<R>>::Writer: Drop + Send,
+    requires parts { (all.parts ≡ lane_count config.now) × (all.amount ≡ 0)
+        × (L.parts ≡ lane_count config.now) }
+    requires slots { slots_of keeper.now ≡ length doors.items }
+    requires few { length doors.items < 2 ^ 62 }
+    ensures posted { IfOk result (λ counted.
+        posts_in (posted_in counted) ≡ accepted_in counted) }
+    ensures fault { IfErr result IsRunFault }
+{
+    thread::scope(
         thread::scope_env(),
         rt,
         move |scope| -> Result<Counted, ServeError>
@@ -217,9 +257,7 @@ where
             attending.join(rt);
             ran
         },
-    );
-    let counted = ran?;
-    Ok(totals_of(rt, alloc, config, &shared, &counted)?)
+    )
 }
 
 /// How many writers a relay has: one for each group, and one where there is no group.
