@@ -8,6 +8,7 @@ import pwd
 import shutil
 import signal
 import subprocess
+import tempfile
 import time
 from pathlib import Path
 
@@ -43,11 +44,16 @@ class Server:
         if taken:
             raise Trouble(f"{name}: port {taken[0]} is taken")
         self.name = name
+        # What it tells on standard error, where nobody else takes that.
+        self.told = tempfile.TemporaryFile("w+")
+        settings.setdefault("stderr", self.told)
         self.process = subprocess.Popen(words, stdin=subprocess.DEVNULL, **settings)
         end = time.monotonic() + PATIENCE
         while not all(listens(port) for port in ports):
             if self.process.poll() is not None:
-                raise Trouble(f"{name} ended with {self.process.returncode} before it listened")
+                self.told.seek(0)
+                raise Trouble(f"{name} ended with {self.process.returncode} before it listened: "
+                              f"{self.told.read()}")
             if time.monotonic() > end:
                 self.stop()
                 raise Trouble(f"{name} doesn't listen after {PATIENCE} seconds")
