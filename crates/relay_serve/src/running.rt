@@ -28,8 +28,9 @@ use std::thread;
 use std::thread::Threads;
 
 /// Runs a relay of this configuration over these stores, the i-th for buffer i: an end behind each
-/// door, each end and each group's writer in a thread of its own, until all have ended. Each buffer
-/// is formatted anew. What comes back is what the run itself counted, and the totals, with the same
+/// door, each end and each group's writer in a thread of its own, until all have ended, and beside
+/// them what goes on, whose thread is had before any other. Each buffer is formatted anew. What comes
+/// back is what the run itself counted, and the totals, with the same
 /// numbers. The error is want of memory, of random numbers, or of a thread; what was served
 /// before stands, and nothing is counted.
 pub fn run_relay<
@@ -39,6 +40,7 @@ pub fn run_relay<
     L: Ledger + Send + Sync,
     C: Clock + Sync,
     G: Gate<R> + Sync,
+    B: Beside<R> + Sync,
     R: Threads + Wait + RandomSource + Sync,
 >(
     rt: &R,
@@ -50,6 +52,7 @@ pub fn run_relay<
     doors: Vec<Door<X>>,
     clock: &C,
     gate: &G,
+    beside: &B,
 ) -> Result<(Totals, Counted), ServeError>
 where
     <X as Connections<R>>::Reader: Drop + Send,
@@ -72,7 +75,10 @@ where
     let shared = shared_by::<S, J, L, R>(rt, alloc, config, stores, book, doors.len())?;
     let hasher = hasher_of(rt)?;
     let keeper = Keeper::new(&shared, register, &config.buffers, clock);
-    let counted = run_shared(rt, alloc, hasher, &keeper, config, gate, doors, all)?;
+    let served = Served::new(config, &shared, clock);
+    let counted = attended(
+        rt, alloc, hasher, &keeper, config, gate, doors, all, beside, &served,
+    )?;
     let totals = totals_of(rt, alloc, config, &shared, &counted)?;
     Ok((totals, counted))
 }
@@ -152,54 +158,6 @@ where
     }
 }
 
-/// As `run_relay`, with something that goes on beside it, in a thread of its own, until all its
-/// threads have ended. That thread is had before any other.
-pub(crate) fn run_beside<
-    X: Connections<R> + Drop + Send,
-    S: BlockStore + Drop + Send,
-    J: Archive + Send + Sync,
-    L: Ledger + Send + Sync,
-    C: Clock + Sync,
-    G: Gate<R> + Sync,
-    B: Beside<R> + Sync,
-    R: Threads + Wait + RandomSource + Sync,
->(
-    rt: &R,
-    alloc: Global,
-    config: &Config,
-    register: &Register,
-    blank: Blank,
-    stores: Vec<S>,
-    doors: Vec<Door<X>>,
-    clock: &C,
-    gate: &G,
-    beside: &B,
-) -> Result<Totals, ServeError>
-where
-    <X as Connections<R>>::Reader: Drop + Send,
-    <X as Connections<R>>::Writer: Drop + Send,
-    requires register { register.now ≡ J.register }
-    requires holds { J.holds ≡ has_buffer config.now.buffers }
-    requires name { blank.name ≡ L.name }
-    requires parts { (blank.parts ≡ L.parts) × (blank.parts ≡ lane_count config.now) }
-    requires stores { map (λ store. length (S.blocks store)) stores.items
-        ≡ map (λ buffer. buffer.blocks) config.now.buffers.buffers.items }
-    requires honest { J.trusted ≡ true → All S.honest stores.items }
-    requires few { length doors.items < 2 ^ 62 }
-    ensures totals { IfOk result (AreOf config.now) }
-    ensures fault { IfErr result IsRunFault }
-{
-    let (book, all) = blank.open::<L>();
-    let shared = shared_by::<S, J, L, R>(rt, alloc, config, stores, book, doors.len())?;
-    let hasher = hasher_of(rt)?;
-    let keeper = Keeper::new(&shared, register, &config.buffers, clock);
-    let served = Served::new(config, &shared, clock);
-    let counted = attended(
-        rt, alloc, hasher, &keeper, config, gate, doors, all, beside, &served,
-    )?;
-    Ok(totals_of(rt, alloc, config, &shared, &counted)?)
-}
-
 /// Runs a relay over what its threads share, until all of them have ended, and beside it what goes
 /// on, which is started first.
 fn attended<
@@ -233,8 +191,8 @@ where
         × (L.parts ≡ lane_count config.now) }
     requires slots { slots_of keeper.now ≡ length doors.items }
     requires few { length doors.items < 2 ^ 62 }
-    ensures posted { IfOk result (λ counted.
-        posts_in (posted_in counted) ≡ accepted_in counted) }
+    ensures ran { IfOk result (Ran ⟦<J as Archive>⟧ config.now
+        (map (λ door. door.peer) doors.items)) }
     ensures fault { IfErr result IsRunFault }
 {
     thread::scope(
@@ -245,8 +203,8 @@ where
                 × (L.parts ≡ lane_count config.now) }
             requires slots { slots_of keeper.now ≡ length doors.items }
             requires few { length doors.items < 2 ^ 62 }
-            ensures posted { IfOk result (λ counted.
-                posts_in (posted_in counted) ≡ accepted_in counted) }
+            ensures ran { IfOk result (Ran J.Archive config.entry.now
+                (map (λ door. door.peer) doors.items)) }
             ensures fault { IfErr result IsRunFault }
         {
             let Some(attending) = start_beside(scope, rt, beside, served) else {

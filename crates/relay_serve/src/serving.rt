@@ -9,7 +9,7 @@ use crate::desk::Desk;
 use crate::files::{fit_files, hold_files};
 use crate::gate::CountingGate;
 use crate::ports::open_ports;
-use crate::running::{lanes_of, run_beside};
+use crate::running::{lanes_of, run_relay};
 use crate::streams::fill_streams;
 use crate::watched::{Watched, watch_all};
 use file_blocks::FileBlocks;
@@ -127,7 +127,7 @@ where
     let clock = MachineClock::new(rt);
     let blank = Blank::new(lanes_of(config) as u64);
     let stores = watch_all(rt, &config.buffers, stores)?;
-    run_beside::<
+    match run_relay::<
         Port<'a>,
         Watched<'_, FileBlocks, R>,
         Brand,
@@ -138,5 +138,8 @@ where
         R,
     >(
         rt, alloc, config, &register, blank, stores, doors, &clock, gate, desk,
-    )
+    ) {
+        Ok((totals, _counted)) => Ok(totals),
+        Err(error) => Err(error),
+    }
 }

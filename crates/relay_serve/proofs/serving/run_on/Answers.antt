@@ -6,8 +6,8 @@ use Rattle.relay_serve.proofs.Sizes.{watched_sizes}
 use Rattle.relay_serve.proofs.serving.run_on.Goals as goal
 
 -- a watched store in a file has as many blocks as the file was opened for
-pub run_beside-requires-clause-stores : goal.run_beside-requires-clause-stores
-run_beside-requires-clause-stores g c κs within =
+pub run_relay-requires-clause-stores : goal.run_relay-requires-clause-stores
+run_relay-requires-clause-stores g c κs within =
     watched_sizes _
     ∙ ap (λ (stores : List (FileBlocks HostFile)). map count_of stores) c.in_ok-stores.ensures.stores
     ∙ c.requires.stores

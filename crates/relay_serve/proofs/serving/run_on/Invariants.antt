@@ -3,13 +3,13 @@ use Rattle.relay_live.specs.Holding.{has_buffer}
 use Rattle.relay_serve.proofs.serving.run_on.Given as goal
 
 -- the register that was just made, over the buffers of the configuration; no file is trusted
-abbrev pub ghosts-run_beside-J-Archive : goal.ghosts-run_beside-J-Archive
-ghosts-run_beside-J-Archive g a = record {
+abbrev pub ghosts-run_relay-J-Archive : goal.ghosts-run_relay-J-Archive
+ghosts-run_relay-J-Archive g a = record {
   register = a.register.now;
   trusted = false;
   holds = has_buffer a.config.now.buffers;
 }
 
 -- a ledger of as many parts as there are writers
-abbrev pub ghosts-run_beside-L-Ledger : goal.ghosts-run_beside-L-Ledger
-ghosts-run_beside-L-Ledger g a = record { name = a.blank.name; parts = a.blank.parts }
+abbrev pub ghosts-run_relay-L-Ledger : goal.ghosts-run_relay-L-Ledger
+ghosts-run_relay-L-Ledger g a = record { name = a.blank.name; parts = a.blank.parts }
