@@ -1,15 +1,16 @@
 -- What a connection carries as it is written to, read from and stopped.
 use Rattle.std.proofs.Common.{◌≡◌, ◌≢◌, ℕ, ◌++◌, Bool, true, false, List, [], ◌∷◌, Option, None}
 use Rattle.std.proofs.Common.{Some, refl, sym, ap, subst, ◌∙◌, take, drop, if◌then◌else◌, length}
-use Rattle.std.proofs.Common.{◌==◌}
+use Rattle.std.proofs.Common.{◌==◌, ⊎_elim}
 use Rattle.std.specs.Global.{Vec}
 use Rattle.std.specs.Prelude.{is_some, unwrap_or, vec_len}
 use Rattle.std.proofs.lemmas.List.{append-nil, append_assoc, take-append-drop}
 use Rattle.std.proofs.lemmas.Option.{none-some}
 use Rattle.live_session.specs.Carried.{Carried, Carries, CarriesOn, CarriesSame, EndsAs, HeardAs}
-use Rattle.live_session.specs.Carried.{Lasts, WrittenAs, finish_of, is_break, is_broken}
+use Rattle.live_session.specs.Carried.{Lasts, LastsOrHeld, Refusal, WrittenAs, finish_of, is_break, is_broken}
 use Rattle.live_session.specs.Carried.{part_finish}
 use Rattle.live_session.specs.Going.{parted_after}
+use Rattle.live_session.specs.declared.commands.Command.{Command}
 use Rattle.live_session.specs.declared.wire.Finish.{Finish}
 use Rattle.live_session.specs.declared.wire.Finish.TheVariants as finishes
 
@@ -204,12 +205,34 @@ spent_by last stopped said stops says is =
     sym (says ∙ ap (λ o. unwrap_or o finishes.Broken) stops) ∙ is
 
 -- a connection that is over for its turns hadn't ended while it had them
-pub never_ended : (conversed left last : Option Finish) → Lasts None conversed
-    → Lasts conversed left → Lasts left last
+pub never_ended : {refuses : Command → Type 0} (conversed left last : Option Finish)
+    → LastsOrHeld refuses None conversed → Lasts conversed left → Lasts left last
     → unwrap_or last finishes.TurnsSpent ≡ finishes.TurnsSpent → conversed ≡ None
 never_ended conversed left None one two three is = two.ended (three.ended refl)
 never_ended conversed left (Some finish) one two three is =
     absurd (none-some finishes.TurnsSpent (one.unspent (two.unspent (three.unspent (ap Some is)))))
+
+-- what is over for its turns isn't held
+spent-held : finishes.TurnsSpent ≡ finishes.Held → ⊥
+spent-held is = cc
+
+-- what comes to be held once its turns would end it was held before
+pub held_by : (last stopped : Option Finish) (said : Finish)
+    → stopped ≡ Some (unwrap_or last finishes.TurnsSpent)
+    → said ≡ unwrap_or stopped finishes.Broken → said ≡ finishes.Held
+    → last ≡ Some finishes.Held
+held_by None stopped said stops says is =
+    absurd (spent-held (sym (says ∙ ap (λ o. unwrap_or o finishes.Broken) stops) ∙ is))
+held_by (Some finish) stopped said stops says is =
+    ap Some (sym (says ∙ ap (λ o. unwrap_or o finishes.Broken) stops) ∙ is)
+
+-- a connection that was held had a gate that said no
+pub refused_by : {refuses : Command → Type 0} (conversed left last : Option Finish)
+    → LastsOrHeld refuses None conversed → Lasts conversed left → Lasts left last
+    → last ≡ Some finishes.Held → Refusal refuses
+refused_by conversed left last one two three is =
+    ⊎_elim (λ none. absurd (none-some finishes.Held none)) (λ refusal. refusal)
+    (one.held (two.unheld (three.unheld is)))
 
 -- an end is the end
 pub end_of_some : (o : Option Finish) (other : Finish) → is_some o ≡ true

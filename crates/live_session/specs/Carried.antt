@@ -1,11 +1,12 @@
 -- What a connection has carried of a session.
-use Rattle.std.specs.Prelude.{◌≡◌, ℕ, ◌++◌, Bool, true, false, List, [], codes, bytes_eq, take}
+use Rattle.std.specs.Prelude.{◌≡◌, ◌⊎◌, ℕ, ◌++◌, Bool, true, false, List, [], codes, bytes_eq, take}
 use Rattle.std.specs.Prelude.{Option, None, Some, if◌then◌else◌}
 use Rattle.std.specs.Global.{Vec}
 use Rattle.std.specs.Option.{IsSomeAnd}
 use Rattle.boxcar.specs.Table.{Shelves}
 use Rattle.live_session.specs.Course.{Course, Hands, IsClosed, Point, greeted}
 use Rattle.live_session.specs.Going.{Going, parted_after}
+use Rattle.live_session.specs.declared.commands.Command.{Command}
 use Rattle.live_session.specs.declared.talk.Talk.{Talk}
 use Rattle.live_session.specs.declared.wire.Finish.{Finish}
 use Rattle.live_session.specs.declared.wire.Finish.TheVariants as finishes
@@ -62,10 +63,22 @@ part_finish (Some finishes.Broken) octets = Some finishes.Broken
 part_finish (Some finishes.TurnsSpent) octets = Some finishes.TurnsSpent
 part_finish (Some finishes.Held) octets = Some finishes.Held
 
--- what has ended stays so, and it isn't for its turns that it ends meanwhile
+-- what has ended stays so, and it is neither for its turns that it ends meanwhile nor is it held
 pub record Lasts (old new : Option Finish) : Type 0 where
   pub ended : new ≡ None → old ≡ None
   pub unspent : new ≡ Some finishes.TurnsSpent → old ≡ Some finishes.TurnsSpent
+  pub unheld : new ≡ Some finishes.Held → old ≡ Some finishes.Held
+
+-- the gate said no to some command
+abbrev pub Refusal : (refuses : Command → Type 0) → Type 0
+Refusal refuses = ∥ ((command : Command) × refuses command) ∥₁
+
+-- what has ended stays so, it isn't for its turns that it ends meanwhile, and it is held only where
+-- the gate said no to some command
+pub record LastsOrHeld (refuses : Command → Type 0) (old new : Option Finish) : Type 0 where
+  pub ended : new ≡ None → old ≡ None
+  pub unspent : new ≡ Some finishes.TurnsSpent → old ≡ Some finishes.TurnsSpent
+  pub held : new ≡ Some finishes.Held → (old ≡ Some finishes.Held) ⊎ Refusal refuses
 
 -- it ends with no last reply of the session
 abbrev pub is_break : Finish → Bool

@@ -3,7 +3,7 @@ ghost use Rattle.std.specs.Prelude.{◌≡◌, ◌≤◌, ◌^◌, true, false, 
 ghost use Rattle.article_verdict.specs.Config.{terms_of};
 ghost use Rattle.live_seats.specs.Seats.{IsSeatOf, count_of, end_of};
 ghost use Rattle.live_session.specs.Carried.{Begins, Carried, CarriesSame, IsFormed, IsServed};
-ghost use Rattle.live_session.specs.Carried.{Lasts, ServesOn, carried};
+ghost use Rattle.live_session.specs.Carried.{Lasts, LastsOrHeld, Refusal, ServesOn, carried};
 ghost use Rattle.live_session.specs.Counts.{most_turns, turns_in};
 ghost use Rattle.live_session.specs.Going.{hands_at};
 ghost use Rattle.live_session.specs.declared.wire.Finish.TheVariants as finishes;
@@ -90,6 +90,8 @@ pub fn serve_session<S: Shares<J, R>, C: Clock, G: Gate<R>, J: Archive, H: Hears
         × (H.heard result.reader ≡ H.heard reader) × (W.said result.writer ≡ W.said writer) }
     // It is ended for its turns alone where it has had them all.
     ensures spent { result.finish ≡ finishes.TurnsSpent → result.turns ≡ most_turns }
+    // It is held only where the gate said no to a command.
+    ensures held { result.finish ≡ finishes.Held → Refusal (G.refuses hall.now.gate.now) }
 {
     if seat.handed() >= MOST_JOBS {
         return Served {
@@ -195,7 +197,7 @@ fn converse<S: Shares<J, R>, C: Clock, G: Gate<R>, J: Archive, H: Hears, W: Says
         (carried (H.heard wire.old.reader) (W.said wire.old.writer) wire.old.outbox wire.old.finish)
         (carried (H.heard wire.new.reader) (W.said wire.new.writer)
         wire.new.outbox wire.new.finish) }
-    ensures ends { Lasts wire.old.finish wire.new.finish }
+    ensures ends { LastsOrHeld (G.refuses hall.now.gate.now) wire.old.finish wire.new.finish }
     ensures turns { wire.new.finish ≡ None → turns_in counts.new ≡ most_turns }
 {
     let mut commands = Commands::of(talk.number);
@@ -226,7 +228,7 @@ fn round<S: Shares<J, R>, C: Clock, G: Gate<R>, J: Archive, H: Hears, W: Says, R
         (carried (H.heard wire.old.reader) (W.said wire.old.writer) wire.old.outbox wire.old.finish)
         (carried (H.heard wire.new.reader) (W.said wire.new.writer)
         wire.new.outbox wire.new.finish) }
-    ensures ends { Lasts wire.old.finish wire.new.finish }
+    ensures ends { LastsOrHeld (G.refuses hall.now.gate.now) wire.old.finish wire.new.finish }
     ensures turns { turns_in counts.new ≡ turns_in counts.old }
 {
     match turn(rt, alloc, hall, talk, commands) {

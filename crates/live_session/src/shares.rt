@@ -89,8 +89,15 @@ pub trait Clock {
 
 /// What lets commands in, one by one, and is told of sessions.
 pub trait Gate<R> {
+    ghost use Rattle.std.specs.Prelude.{◌≡◌, false};
+    ghost use Rattle.live_session.specs.declared.commands.Command.{Command};
+
+    /// What is so of a command to which it says no.
+    ghost refuses: { Self → Command → Type 0 };
+
     /// Before a command of a session: whether it may go on. It may wait.
-    fn enter(&self, rt: &R, command: Command) -> bool;
+    fn enter(&self, rt: &R, command: Command) -> bool
+        ensures { result ≡ false → ∥ refuses self.now command ∥₁ };
 
     /// Whether each reply is written before the next command is let in, so that `leave` tells it.
     fn is_one_by_one(&self) -> bool;

@@ -1,9 +1,11 @@
 //! A turn: the session plans, its step is done, and it hears the answer.
-ghost use Rattle.std.specs.Prelude.{◌≡◌};
+ghost use Rattle.std.specs.Prelude.{◌≡◌, ◌≢◌, false};
 ghost use Rattle.article_verdict.specs.Config.{terms_of};
 ghost use Rattle.live_seats.specs.Seats.{IsSeatOf, end_of};
+ghost use Rattle.live_session.specs.Carried.{Refusal};
 ghost use Rattle.live_session.specs.Going.{HearsAnswer, KeepsButSession, LetsGo};
 ghost use Rattle.live_session.specs.Going.{WentOn, said_in};
+ghost use Rattle.live_session.specs.declared.talk.Turned.TheVariants as turns;
 ghost use Rattle.peer_session.specs.declared.steps.Answer.TheVariants as answers;
 
 use crate::commands::Commands;
@@ -28,6 +30,7 @@ pub(crate) fn turn<S: Shares<J, R>, C: Clock, G: Gate<R>, J: Archive, R: Wait>(
     ensures seat { IsSeatOf hall.now.lanes.now talk.new.seat }
     ensures end { end_of talk.new.seat ≡ end_of talk.old.seat }
     ensures went { WentOn (terms_of hall.now.config.now) talk.old (said_in result) talk.new }
+    ensures held { result ≡ turns.Held → Refusal (G.refuses hall.now.gate.now) }
 {
     let at_command = talk.session.is_at_command();
     let now = hall.clock.now();
@@ -47,7 +50,9 @@ pub(crate) fn turn<S: Shares<J, R>, C: Clock, G: Gate<R>, J: Archive, R: Wait>(
 }
 
 /// Whether the gate lets the next command in.
-fn is_let_in<S, C, G: Gate<R>, R>(rt: &R, hall: &Hall<S, C, G>, commands: &mut Commands) -> bool {
+fn is_let_in<S, C, G: Gate<R>, R>(rt: &R, hall: &Hall<S, C, G>, commands: &mut Commands) -> bool
+    ensures { result ≡ false → Refusal (G.refuses hall.now.gate.now) }
+{
     let command = commands.next();
     hall.gate.enter(rt, command)
 }
@@ -59,6 +64,7 @@ fn hear<J: Archive>(talk: &mut Talk<J>, answer: Answer) -> Turned
     ensures memory { answer ≡ answers.Memory → LetsGo talk.old (said_in result) talk.new }
     ensures rest { KeepsButSession talk.old talk.new }
     ensures seat { talk.new.seat ≡ talk.old.seat }
+    ensures let_in { result ≢ turns.Held }
 {
     if let Answer::Memory = answer {
         talk.session.absorb(talk.number, Answer::Memory);

@@ -7,16 +7,22 @@ use std::time::{Clock, Duration, Instant};
 
 /// How many milliseconds a wait for a peer takes at once. Between two waits a line looks whether it
 /// is to stop.
-pub(crate) const PART: u64 = 1_000;
+pub(crate) const PART: u64 = 500;
 
-/// How many writes a line still makes once it is to stop, each of a part at most.
+/// How many such parts make a second.
+const PARTS_A_SECOND: u32 = 2;
+
+/// How many milliseconds a wait takes at once after the session has ended, or is to stop.
+const LATE_PART: u64 = 100;
+
+/// How many writes a line still makes once it is to stop, each of such a part at most.
 const LATE_WRITES: u32 = 8;
 
-/// For how many seconds what a peer sends on is read and dropped once its session has ended.
-const DROPPING: u64 = 5;
+/// For how many milliseconds what a peer sends on is read and dropped once its session has ended.
+const DROPPING: u64 = 5_000;
 
 /// The same once the relay is to stop.
-const DROPPING_LATE: u64 = 1;
+const DROPPING_LATE: u64 = 500;
 
 /// How many octets are dropped so, at most.
 const MOST_DROPPED: usize = 1 << 20;
@@ -32,7 +38,7 @@ pub struct Line<'a> {
     stream: TcpStream,
     stop: &'a Stop,
     /// How many parts in a row it waits for its peer.
-    patience: u32,
+    parts: u32,
     /// How many writes it still makes once it is to stop.
     late: u32,
 }
@@ -49,17 +55,18 @@ impl<'a> Line<'a> {
         stream.set_read_timeout(Some(Duration::from_millis(PART)))?;
         stream.set_write_timeout(Some(Duration::from_millis(PART)))?;
         let other = stream.try_clone()?;
+        let parts = patience.saturating_mul(PARTS_A_SECOND);
         let late = LATE_WRITES;
         let reader = Line {
             stream,
             stop,
-            patience,
+            parts,
             late,
         };
         let writer = Line {
             stream: other,
             stop,
-            patience,
+            parts,
             late,
         };
         Ok((reader, writer))
@@ -70,15 +77,17 @@ impl<'a> Line<'a> {
     /// that is closed with octets unread is reset, and what the peer hasn't read yet may be lost.
     pub(crate) fn finish<C: Clock>(&self, clock: &C) -> io::Result<()> {
         self.stream.shutdown(Shutdown::Write)?;
+        self.stream
+            .set_read_timeout(Some(Duration::from_millis(LATE_PART)))?;
         let begun = Instant::now(clock)?;
         let mut dropped: usize = 0;
         for _ in 0..MOST_DROPPED {
-            let seconds = if self.stop.is_asked() {
+            let longest = if self.stop.is_asked() {
                 DROPPING_LATE
             } else {
                 DROPPING
             };
-            let is_over = begun.elapsed(clock)? >= Duration::from_secs(seconds);
+            let is_over = begun.elapsed(clock)? >= Duration::from_millis(longest);
             if is_over || dropped >= MOST_DROPPED {
                 return Ok(());
             }
@@ -101,7 +110,7 @@ impl<'a> Line<'a> {
 
 impl Read for Line<'_> {
     fn read(&mut self, buf: &mut [u8]) -> io::Result<usize> {
-        for _ in 0..self.patience {
+        for _ in 0..self.parts {
             if self.stop.is_asked() {
                 return Ok(0);
             }
@@ -116,12 +125,14 @@ impl Read for Line<'_> {
 
 impl Write for Line<'_> {
     fn write(&mut self, buf: &[u8]) -> io::Result<usize> {
-        for _ in 0..self.patience {
+        for _ in 0..self.parts {
             if self.stop.is_asked() {
                 if self.late == 0 {
                     return Ok(0);
                 }
                 self.late -= 1;
+                self.stream
+                    .set_write_timeout(Some(Duration::from_millis(LATE_PART)))?;
             }
             match self.stream.write(buf) {
                 Err(error) if is_wait(&error) && !self.stop.is_asked() => {}

@@ -12,7 +12,7 @@ use std::time::{Clock, Duration};
 use std::{io, thread};
 
 /// How many milliseconds it waits at once for whoever asks.
-const PART: u64 = 250;
+const PART: u64 = 100;
 
 /// How many milliseconds it waits at once for his word, and until he takes what he is told.
 const HIS_PART: u64 = 250;

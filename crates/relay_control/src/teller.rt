@@ -7,7 +7,7 @@ use std::time::{Clock, Duration, Instant};
 const PIECE: usize = 16_384;
 
 /// For how many seconds he is told, at most.
-const TELLING: u64 = 3;
+const TELLING: u64 = 1;
 
 /// Whoever asked. He hears the end of what he is told once this is let go.
 #[derive(Drop)]

@@ -7,8 +7,8 @@ use relay_report::text_of;
 use std::alloc::{AllocError, Global};
 use std::fs::Files;
 use std::mem;
+use std::sync::Wait;
 use std::sync::atomic::{AtomicBool, Ordering};
-use std::sync::{Mutex, Wait};
 use std::time::Clock;
 
 /// How many seconds pass between two rounds of forgetting.
@@ -27,8 +27,6 @@ pub struct Desk<'a> {
     gate: &'a CountingGate<'a>,
     control: Control,
     ended: AtomicBool,
-    /// Who waits for the end of the relay.
-    waiting: Mutex<Vec<Teller>>,
 }
 
 impl<'a> Desk<'a> {
@@ -45,17 +43,16 @@ impl<'a> Desk<'a> {
             gate,
             control,
             ended: AtomicBool::new(false),
-            waiting: Mutex::new(Vec::new(alloc)),
         }
     }
 
-    /// Has the relay stop, and lets who asked for it wait.
-    fn stop<R: Wait + Eprint>(&self, rt: &R, teller: Teller) {
+    /// Has the relay stop. Who asked for it is never let go: he hears the end when the program ends.
+    fn stop<R: Eprint>(&self, rt: &R, teller: Teller) {
         if !self.stop.is_asked() {
             self.stop.ask();
             let _lost = eprintln!(rt; "stopping");
         }
-        let _lost = self.waiting.lock(rt).push(teller);
+        mem::forget(teller);
     }
 
     /// Tells whoever asked the report of the relay as it is, and a line for each peer.
@@ -73,7 +70,7 @@ impl<'a> Desk<'a> {
     }
 
     /// Answers whoever asks next, if anybody does.
-    fn answer<F: Figured<R>, R: Wait + Clock + Eprint>(&self, rt: &R, relay: &F) {
+    fn answer<F: Figured<R>, R: Clock + Eprint>(&self, rt: &R, relay: &F) {
         match self.control.next_word(rt) {
             Some((Word::Stop, teller)) => self.stop(rt, teller),
             Some((Word::Report, teller)) => {
@@ -85,18 +82,14 @@ impl<'a> Desk<'a> {
 
     /// Takes the socket away. Who has asked meanwhile waits, as those who asked for the stop, until
     /// the program has ended.
-    pub fn close<R: Wait + Clock + Files>(&self, rt: &R, folder: &str) {
+    pub fn close<R: Clock + Files>(&self, rt: &R, folder: &str) {
         self.control.close(rt, self.alloc, folder);
-        let mut waiting = self.waiting.lock(rt);
         for _ in 0..LAST_ONES {
             match self.control.next_word(rt) {
-                Some((_word, teller)) => {
-                    let _lost = waiting.push(teller);
-                }
+                Some((_word, teller)) => mem::forget(teller),
                 None => break,
             }
         }
-        mem::forget(mem::replace(&mut *waiting, Vec::new(self.alloc)));
     }
 }
 

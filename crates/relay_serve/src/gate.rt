@@ -1,26 +1,10 @@
-//! Gates that let every command in.
+//! The gate of a relay that is served.
 use live_session::{Command, Finish, Gate};
 use live_wire::Tally;
 use relay_conf::Peer;
 use std::alloc::{AllocError, Global};
 use std::str;
 use std::sync::atomic::{AtomicU64, Ordering};
-
-/// Lets every command in at once; replies are written as many at a time as there are.
-#[derive(Clone, Copy, Debug, PartialEq, Eq)]
-pub struct OpenGate;
-
-impl<R> Gate<R> for OpenGate {
-    fn enter(&self, _rt: &R, _command: Command) -> bool {
-        true
-    }
-
-    fn is_one_by_one(&self) -> bool {
-        false
-    }
-
-    fn leave(&self, _rt: &R, _command: Command) {}
-}
 
 /// What the sessions of a peer have said and read so far, and how many of them are open.
 #[derive(Drop)]
@@ -119,6 +103,9 @@ fn word_of(finish: Finish) -> &'static str {
 }
 
 impl<R: Eprint> Gate<R> for CountingGate<'_> {
+    // It says no to none.
+    ghost refuses = { λ _ _. ⊥ };
+
     fn enter(&self, _rt: &R, _command: Command) -> bool {
         true
     }

@@ -22,7 +22,7 @@ pub use beside::{Beside, Figured};
 pub use clock::MachineClock;
 pub use desk::Desk;
 pub use files::{fit_files, hold_files};
-pub use gate::{CountingGate, OpenGate};
+pub use gate::CountingGate;
 pub use ports::open_ports;
 pub use running::run_relay;
 pub use serving::serve_on;

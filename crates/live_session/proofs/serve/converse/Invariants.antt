@@ -1,7 +1,7 @@
 use Rattle.std.proofs.Common.{◌≡◌}
 use Rattle.article_verdict.specs.Config.{terms_of}
 use Rattle.live_seats.specs.Seats.{IsSeatOf, end_of}
-use Rattle.live_session.specs.Carried.{Lasts, ServesOn, carried}
+use Rattle.live_session.specs.Carried.{LastsOrHeld, ServesOn, carried}
 use Rattle.live_session.specs.Counts.{turns_in}
 use Rattle.live_session.proofs.serve.converse.Given as goal
 
@@ -14,6 +14,6 @@ invariant-loop g l = record {
       l.fn.wire.outbox l.fn.wire.finish)
       (carried (g.H.Hears.heard l.wire.reader) (g.W.Says.said l.wire.writer)
       l.wire.outbox l.wire.finish);
-  ends : Lasts l.fn.wire.finish l.wire.finish;
+  ends : LastsOrHeld (g.G.Gate.refuses l.hall.gate.now) l.fn.wire.finish l.wire.finish;
   turns : turns_in l.counts ≡ l.counter;
 }

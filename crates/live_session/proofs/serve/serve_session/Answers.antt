@@ -2,7 +2,7 @@ use Rattle.std.proofs.Common.{◌∙◌, None, Some, ap, sym, subst, true, false
 use Rattle.article_verdict.specs.Config.{terms_of}
 use Rattle.live_seats.specs.Seats.{IsSeatOf, end_of}
 use Rattle.live_seats.specs.declared.session.SessionSeat.{SessionSeat}
-use Rattle.live_session.proofs.Carrying.{end_of_some, never_ended, spent_by}
+use Rattle.live_session.proofs.Carrying.{end_of_some, held_by, never_ended, refused_by, spent_by}
 use Rattle.live_session.proofs.Talks.{then_on, unbegun, whole}
 use Rattle.live_session.proofs.serve.serve_session.Goals as goal
 use Rattle.live_session.specs.Carried.{carried}
@@ -124,3 +124,13 @@ returns-clause-spent g c is =
     (never_ended one two last c.converse.ensures.ends c.leave.ensures.ends c.flush.ensures.ends
     (spent_by last c.stop.new.wire.finish c.unwrap_or.result c.stop.ensures.finish
     c.unwrap_or.ensures is))
+
+-- it was held while it conversed, since what ends it later doesn't hold it
+pub returns-clause-held : goal.returns-clause-held
+returns-clause-held g c is =
+    let one = c.converse.new.wire.finish in
+    let two = c.leave.new.wire.finish in
+    let last = c.flush.new.wire.finish in
+    refused_by one two last c.converse.ensures.ends c.leave.ensures.ends c.flush.ensures.ends
+    (held_by last c.stop.new.wire.finish c.unwrap_or.result c.stop.ensures.finish
+    c.unwrap_or.ensures is)

@@ -6,13 +6,11 @@ pub returns-in-Memory-clause-memory : goal.returns-in-Memory-clause-memory
 returns-in-Memory-clause-memory g c is =
     record { forgets = c.absorb.ensures.memory refl; silent = refl }
 
-pub returns : goal.returns
-returns g c = record {
-  heard = λ honest w m d gathered told some planned is.
-      heard_for c.args.talk.now.number c.args.talk.now.session c.args.answer c.absorb-2.result.items
-      c.absorb-2.new.self c.absorb-2.ensures.heard c.absorb-2.ensures.given w m d gathered told
-      planned honest is;
-  memory = λ is. absurd (c.in_default.not-Memory is);
-  rest = record { reads = refl; hands = refl; place = record { number = refl; end_is = refl } };
-  seat = refl;
-}
+pub returns-clause-heard : goal.returns-clause-heard
+returns-clause-heard g c honest w m d gathered told some planned is =
+    heard_for c.args.talk.now.number c.args.talk.now.session c.args.answer c.absorb-2.result.items
+    c.absorb-2.new.self c.absorb-2.ensures.heard c.absorb-2.ensures.given w m d gathered told
+    planned honest is
+
+pub returns-clause-memory : goal.returns-clause-memory
+returns-clause-memory g c is = absurd (c.in_default.not-Memory is)

@@ -62,3 +62,7 @@ returns-clause-went g c =
     (record { reads = refl; hands = refl; place = record { number = refl; end_is = refl } })
     share.ensures.shared share.ensures.place share.ensures.memory
     c.hear-2.ensures.heard c.hear-2.ensures.memory c.hear-2.ensures.rest
+
+-- a turn that was had isn't held
+pub returns-clause-held : goal.returns-clause-held
+returns-clause-held g c held = absurd (c.hear-2.ensures.let_in held)
