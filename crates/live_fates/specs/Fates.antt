@@ -9,7 +9,7 @@ use Rattle.live_fates.specs.declared.fate.Told.TheVariants as told
 use Rattle.live_settle.specs.Posted.{IsPostOf}
 use Rattle.live_settle.specs.declared.desk.both.Posted.{Posted}
 use Rattle.live_store.specs.declared.record.Archive.{Ghosts}
-use Rattle.live_store.specs.Stores.{IsTextOf, IsStoreFault}
+use Rattle.live_store.specs.Stores.{IsTextOf, IsStoreFault, receipt_token}
 use Rattle.live_store.specs.declared.stored.Receipt.{Receipt}
 
 -- the article is kept
@@ -30,7 +30,7 @@ pub record IsKeptJob {J : Type 0} {g : Ghosts J} (handed : Handed) (receipt : Re
     (post : Posted)
     : Type 0 where
   pub text : IsTextOf handed.job.article.class handed.job.article.text receipt.shown
-  pub posted : IsPostOf handed.job.id handed.job.session receipt.token
+  pub posted : IsPostOf handed.job.id handed.job.session (receipt_token receipt)
       handed.job.article.permitted.items post
 
 -- the job is stored, settled and posted; or the fault is one of the storing of the text, of a
@@ -44,7 +44,7 @@ FitsJob holds fates.Mixed handed = Unit {0}
 -- what a fate tells: the same receipt, or that the job failed
 abbrev pub IsToldOf : {J : Type 0} {g : Ghosts J} → Fate J g → Told J g → Type 0
 IsToldOf (fates.Kept one posted) (told.Kept other) =
-    (one.token ≡ other.token) × (one.shown ≡ other.shown)
+    (receipt_token one ≡ receipt_token other) × (one.shown ≡ other.shown)
 IsToldOf (fates.Kept one posted) told.Failed = ⊥
 IsToldOf (fates.Failed fault) (told.Kept other) = ⊥
 IsToldOf (fates.Failed fault) told.Failed = Unit {0}

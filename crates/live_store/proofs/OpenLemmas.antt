@@ -12,6 +12,7 @@ use Rattle.news_terms.specs.Places as places
 use Rattle.news_terms.specs.Places.{size_of}
 use Rattle.news_terms.specs.Token.{Token}
 use Rattle.cyc_token.specs.Token.{token_view}
+use Rattle.cyc_token.specs.declared.Token as codes
 use Rattle.cyc_block.specs.declared.store.BlockStore.{Ghosts}
 use Rattle.cyc_buffer.specs.Agreement.{Agrees, Owns, CanWrite, CanFinish, blocks_written}
 use Rattle.cyc_buffer.specs.Agreement.{is_broken, token_of, Follows}
@@ -42,6 +43,16 @@ use Rattle.live_store.proofs.TiedLemmas.{tied_failed, tied_finish}
 pub the_same : {X : Type 0} (o r : Option X) (x y : X) → o ≡ Some x → r ≡ o → r ≡ Some y → x ≡ y
 the_same o r x y p q e = same_some (sym p ∙ sym q ∙ e)
 
+-- a token is known by its parts
+pub same_token : {t u : codes.Token} → token_view t ≡ token_view u → t ≡ u
+same_token e = λ i. record {
+  class = (e i).class;
+  buffer = (e i).buffer;
+  cycle = (e i).cycle;
+  first = (e i).first;
+  length = (e i).length;
+}
+
 owns_prop : (write : Open) (o : Option Progress) → IsProp (IsTheOpen write o)
 owns_prop write None = λ x y. absurd x
 owns_prop write (Some p) = hlevel props
@@ -54,7 +65,7 @@ token_by : (register : Shelves) (h : History) (b : Beside) (shown : Where Record
     → IsNamed b.write o shown → token_view (token_of b.write) ≡ token_in shown
 token_by register h b shown None number same = ap token_view (sym same)
 token_by register h b shown (Some own) number same =
-    number.named ∙ ap (λ (r : Record). token_view r.token) same.1
+    number.named ∙ ap (λ (r : Record). token_view r.token.value) same.1
 
 module _ {S : Type 0} {g : Ghosts S} (register : Shelves) (trusted : Bool) (buffer : Buffer S g)
     (b : Beside) (numbers : List (Option (Where Record)))

@@ -287,8 +287,8 @@ module _ {S : Type 0} {g : Ghosts S} (register : Shelves) (trusted : Bool) where
       }
       named_by (Some own) number same = record {
         shows = shows;
-        named = number.named ∙ ap (λ (r : Record). token_view r.token) same.1;
-        octets = subst (λ (r : Record). length r.text.value.items ≡ r.token.length) same.1
+        named = number.named ∙ ap (λ (r : Record). token_view r.token.value) same.1;
+        octets = subst (λ (r : Record). length r.text.value.items ≡ r.token.value.length) same.1
             number.octets;
         begun = subst (λ (r : Record). Continues r.text.value.items h) same.1 number.begun;
       }
@@ -301,7 +301,7 @@ pub named_again : (register : Shelves) (h : History) (b : Beside) (shown : Where
 named_again register h b shown None some number same shows = absurd (true≢false some)
 named_again register h b shown (Some own) some number same shows = record {
   shows = shows;
-  named = number.named ∙ ap (λ (r : Record). token_view r.token) same.1;
-  octets = subst (λ (r : Record). length r.text.value.items ≡ r.token.length) same.1 number.octets;
+  named = number.named ∙ ap (λ (r : Record). token_view r.token.value) same.1;
+  octets = subst (λ (r : Record). length r.text.value.items ≡ r.token.value.length) same.1 number.octets;
   begun = subst (λ (r : Record). Continues r.text.value.items h) same.1 number.begun;
 }

@@ -5,7 +5,7 @@ use Rattle.cyc_buffer.specs.declared.answers.BufError.{BufError}
 use Rattle.cyc_buffer.specs.declared.answers.BufError.TheVariants as errors
 use Rattle.cyc_buffer.specs.declared.answers.Fault.{Fault}
 use Rattle.cyc_token.specs.declared.Token.{Token}
-use Rattle.live_store.specs.declared.steps.handles.Entered.{Entered}
+use Rattle.live_store.specs.declared.steps.entered.Entered.{Entered}
 use Rattle.live_store.specs.declared.steps.handles.Mixed.{Mixed}
 use Rattle.live_store.specs.declared.writing.entering.Begun.{Begun}
 use Rattle.live_store.specs.declared.writing.entering.Record.{Record}

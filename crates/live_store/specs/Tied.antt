@@ -18,7 +18,7 @@ use Rattle.news_terms.specs.Token.{Token}
 
 -- the token of the record of a number, as the code has it
 abbrev pub named_in : Where Record → codes.Token
-named_in shown = shown.value.token
+named_in shown = shown.value.token.value
 
 -- the token of the record of a number
 abbrev pub token_in : Where Record → Token

@@ -26,5 +26,5 @@ pub use numbered::NumberedBuffer;
 pub use reading::read_block;
 pub use record::{Archive, Register, Shown};
 pub use steps::{Entered, Mixed};
-pub use stored::{Receipt, Stored};
+pub use stored::{Finished, Receipt, Stored};
 pub use writing::{Begun, Record, store};

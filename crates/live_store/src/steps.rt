@@ -1,6 +1,7 @@
 //! The steps under a buffer's lock, each one call of the buffer.
 ghost use Rattle.std.specs.Prelude.{◌≡◌, ◌↔◌, IsTrue, None, Some, IfSome, length, slice_index_or};
 ghost use Rattle.boxcar.specs.Table.{Shows};
+ghost use Rattle.live_store.specs.Handles.{shown_of};
 ghost use Rattle.live_store.specs.Tied.{text_in};
 ghost use Rattle.live_store.specs.Steps.{CanWriteFor, CanFinishFor, IsOfWrite, IsDevice};
 ghost use Rattle.cyc_buffer.specs.declared.answers.BufError.TheVariants as errors;
@@ -9,16 +10,18 @@ use crate::answers::{Reading, WriteFault};
 use crate::beside::Beside;
 use crate::numbered::NumberedBuffer;
 use crate::record::{Archive, Register, Shown};
-use crate::stored::Receipt;
+use crate::stored::{Finished, Receipt};
 use crate::writing::Begun;
 use cyc_block::{BlockStore, CHUNK_OCTETS};
 use cyc_buffer::{BufError, Fault, Found, Open, size_of};
 use cyc_token::Token;
 use std::marker::PhantomData;
 
+mod entered;
 mod handles;
 
-pub use handles::{Entered, Mixed};
+pub use entered::Entered;
+pub use handles::Mixed;
 pub(crate) use handles::{octets_of, refused};
 
 impl<S: BlockStore, J: Archive> NumberedBuffer<S, J> {
@@ -38,6 +41,7 @@ impl<S: BlockStore, J: Archive> NumberedBuffer<S, J> {
     ghost use Rattle.live_store.specs.Steps.{IsReadFault, HasOctets, IsShown, IsBeginFault};
     ghost use Rattle.live_store.specs.Steps.{IsWriteFault, as_found, IsMixedUp};
     ghost use Rattle.live_store.specs.Handles.{begun_token, begun_fresh, shown_of};
+    ghost use Rattle.live_store.specs.Stores.{receipt_token};
 
     /// Begins an article of a class and of so many octets, at least 1; `fresh` at the front of a
     /// cycle. What the front passes is gone from now on.
@@ -90,22 +94,22 @@ impl<S: BlockStore, J: Archive> NumberedBuffer<S, J> {
     pub fn write_next(
         &mut self,
         register: &Register,
-        shown: &Shown,
+        entered: &Entered,
         text: &[u8],
     ) -> Result<bool, WriteFault>
         requires register { register.now ≡ J.register }
-        requires shown { Shows J.register shown.now }
-        requires text { text.now ≡ text_in shown.now }
-        ensures writes { WritesOrMixed self.old shown.now text.now result self.new }
+        requires shown { Shows J.register (shown_of entered.now) }
+        requires text { text.now ≡ text_in (shown_of entered.now) }
+        ensures writes { WritesOrMixed self.old (shown_of entered.now) text.now result self.new }
         ensures fault { IfErr result (IsWriteFault text.now) }
         // Mixed says that no block can be written for the record.
         ensures mixed { IfErr result (λ e. IsMixedUp e
-            → IsSomeAnd (beside_of self.old) (λ b. CanWriteFor b shown.now) → ⊥) }
+            → IsSomeAnd (beside_of self.old) (λ b. CanWriteFor b (shown_of entered.now)) → ⊥) }
     {
         let Some(beside) = &self.beside else {
             return Err(WriteFault::Mixed(Mixed(())));
         };
-        if !can_write(register, beside, shown, text.len()) {
+        if !can_write(register, beside, entered, text.len()) {
             return Err(WriteFault::Mixed(Mixed(())));
         }
         let Some(
@@ -121,11 +125,23 @@ impl<S: BlockStore, J: Archive> NumberedBuffer<S, J> {
         };
         match self.buffer.write_next(&write, text) {
             Ok(last) => {
-                put(&mut self.beside, write, shown.again(), written + 1, false);
+                put(
+                    &mut self.beside,
+                    write,
+                    entered.shown.again(),
+                    written + 1,
+                    false,
+                );
                 Ok(last)
             }
             Err(error) => {
-                put(&mut self.beside, write, shown.again(), written, true);
+                put(
+                    &mut self.beside,
+                    write,
+                    entered.shown.again(),
+                    written,
+                    true,
+                );
                 Err(WriteFault::Device(device_fault(error)))
             }
         }
@@ -137,10 +153,10 @@ impl<S: BlockStore, J: Archive> NumberedBuffer<S, J> {
         &mut self,
         register: &Register,
         entered: Entered,
-    ) -> Result<Receipt<J>, (Mixed, Entered)>
+    ) -> Result<Finished<J>, (Mixed, Entered)>
         requires register { register.now ≡ J.register }
         requires shown { Shows J.register (shown_of entered) }
-        ensures named { IfOk result (λ receipt. receipt.shown ≡ shown_of entered) }
+        ensures named { IfOk result (λ finished. finished.receipt.shown ≡ shown_of entered) }
         ensures finished { OnOk result
             (Follows with_finish (buffer_of self.old) (buffer_of self.new)) }
         // It was the record's, all of it written, and nothing stands beside the buffer any more.
@@ -148,8 +164,9 @@ impl<S: BlockStore, J: Archive> NumberedBuffer<S, J> {
             (IsSomeAnd (beside_of self.old) (λ b. CanFinishFor b (shown_of entered))) }
         ensures closed { OnOk result (beside_of self.new ≡ None) }
         // The record's number stands at the article's first block; the other numbers stay.
-        ensures numbers { IfOk result (λ receipt. numbers_of self.new
-            ≡ slice_set (numbers_of self.old) receipt.token.first (Some (shown_of entered))) }
+        ensures numbers { IfOk result (λ finished. numbers_of self.new
+            ≡ slice_set (numbers_of self.old) (receipt_token finished.receipt).first
+            (Some (shown_of entered))) }
         // Mixed says that it can't be finished for the record, and nothing is changed.
         ensures mixed { OnErr result
             (IsSomeAnd (beside_of self.old) (λ b. CanFinishFor b (shown_of entered)) → ⊥) }
@@ -161,10 +178,10 @@ impl<S: BlockStore, J: Archive> NumberedBuffer<S, J> {
         let Some(beside) = &self.beside else {
             return Err((Mixed(()), entered));
         };
-        if !can_finish(register, beside, &entered.shown) {
+        if !can_finish(register, beside, &entered) {
             return Err((Mixed(()), entered));
         }
-        let Entered { shown } = entered;
+        let Entered { token: _, shown } = entered;
         let Some(
             Beside {
                 write,
@@ -178,11 +195,11 @@ impl<S: BlockStore, J: Archive> NumberedBuffer<S, J> {
         };
         let token = self.buffer.finish(write);
         self.numbers[token.first as usize] = Some(shown.again());
-        Ok(Receipt {
-            token,
+        let receipt = Receipt {
             shown,
             of: PhantomData,
-        })
+        };
+        Ok(Finished { token, receipt })
     }
 
     /// Abandons the open write, where it is the record's. Its space stays lost.
@@ -203,11 +220,12 @@ impl<S: BlockStore, J: Archive> NumberedBuffer<S, J> {
         // The device isn't called.
         ensures store { store_of (buffer_of self.new) ≡ store_of (buffer_of self.old) }
     {
-        let Entered { shown } = entered;
-        let Some(beside) = &self.beside else {
-            return Err(Mixed(()));
+        let named = match &self.beside {
+            Some(beside) => is_named(register, beside, &entered),
+            None => false,
         };
-        if !is_named(register, beside, &shown) {
+        let Entered { token: _, shown: _ } = entered;
+        if !named {
             return Err(Mixed(()));
         }
         let Some(
@@ -302,45 +320,45 @@ fn put(beside: &mut Option<Beside>, write: Open, shown: Shown, written: u32, bro
 
 /// Whether the next block of an open write can be written for a record, whose text has so many
 /// octets.
-fn can_write(register: &Register, beside: &Beside, shown: &Shown, octets: usize) -> bool
-    requires shown { Shows register.now shown.now }
+fn can_write(register: &Register, beside: &Beside, entered: &Entered, octets: usize) -> bool
+    requires shown { Shows register.now (shown_of entered.now) }
     requires own { IfSome beside.now.shown (λ w. Shows register.now w) }
-    requires octets { octets ≡ length (text_in shown.now) }
-    ensures { IsTrue result ↔ CanWriteFor beside.now shown.now }
+    requires octets { octets ≡ length (text_in (shown_of entered.now)) }
+    ensures { IsTrue result ↔ CanWriteFor beside.now (shown_of entered.now) }
 {
     let length = beside.write.length();
     !beside.broken
-        && is_named(register, beside, shown)
+        && is_named(register, beside, entered)
         && beside.written < size_of(length)
         && octets == length as usize
 }
 
 /// Whether an open write can be finished for a record.
-fn can_finish(register: &Register, beside: &Beside, shown: &Shown) -> bool
-    requires shown { Shows register.now shown.now }
+fn can_finish(register: &Register, beside: &Beside, entered: &Entered) -> bool
+    requires shown { Shows register.now (shown_of entered.now) }
     requires own { IfSome beside.now.shown (λ w. Shows register.now w) }
-    ensures { IsTrue result ↔ CanFinishFor beside.now shown.now }
+    ensures { IsTrue result ↔ CanFinishFor beside.now (shown_of entered.now) }
 {
     !beside.broken
         && beside.shown.is_some()
-        && is_named(register, beside, shown)
+        && is_named(register, beside, entered)
         && beside.written == size_of(beside.write.length())
 }
 
 /// Whether an open write is the record's: it has the record's number, or has none yet and has the
 /// record's token.
-fn is_named(register: &Register, beside: &Beside, shown: &Shown) -> bool
-    requires shown { Shows register.now shown.now }
+fn is_named(register: &Register, beside: &Beside, entered: &Entered) -> bool
+    requires shown { Shows register.now (shown_of entered.now) }
     requires own { IfSome beside.now.shown (λ w. Shows register.now w) }
-    ensures { IsTrue result ↔ IsOfWrite beside.now shown.now }
+    ensures { IsTrue result ↔ IsOfWrite beside.now (shown_of entered.now) }
 {
     match &beside.shown {
-        None => register.value(shown).token() == beside.write.token(),
+        None => entered.token == beside.write.token(),
         Some(own) => {
-            if own.index() != shown.index() {
+            if own.index() != entered.shown.index() {
                 return false;
             }
-            register.agrees(own, shown);
+            register.agrees(own, &entered.shown);
             true
         }
     }

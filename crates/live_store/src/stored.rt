@@ -1,33 +1,27 @@
 //! What a writer has of a job.
 ghost use Rattle.std.specs.Prelude.{◌≡◌};
 ghost use Rattle.boxcar.specs.Table.{Shows};
-ghost use Rattle.cyc_token.specs.Token.{token_view};
-ghost use Rattle.live_store.specs.Tied.{token_in};
+ghost use Rattle.live_store.specs.Tied.{named_in};
 
 use crate::record::{Archive, Shown};
 use crate::steps::Mixed;
 use cyc_buffer::Fault;
 use cyc_token::Token;
-use std::marker::PhantomData;
+use std::marker::{Brand, PhantomData};
+use std::mem::size_of;
 
-/// That a text is stored: its token, and its record's number.
+/// That a text is stored: its record's number. For contracts its token is the record's.
 #[derive(Drop)]
 pub struct Receipt<J: Archive> {
-    pub(crate) token: Token,
     pub(crate) shown: Shown,
     pub(crate) of: PhantomData<J>,
     ghost here: { Shows J.register shown },
-    ghost named: { token_view token ≡ token_in shown },
 }
 
-impl<J: Archive> Receipt<J> {
-    /// The token.
-    pub fn token(&self) -> Token
-        ensures { result ≡ self.now.token }
-    {
-        self.token
-    }
+// What the README says of the memory of a receipt.
+const _: () = prove!(size_of::<Receipt<Brand>>() == 24);
 
+impl<J: Archive> Receipt<J> {
     /// The number of the record.
     pub fn number(&self) -> usize
         ensures { result ≡ self.now.shown.index }
@@ -37,10 +31,9 @@ impl<J: Archive> Receipt<J> {
 
     /// The same receipt once more.
     pub fn again(&self) -> Receipt<J>
-        ensures { (result.token ≡ self.now.token) × (result.shown ≡ self.now.shown) }
+        ensures { result.shown ≡ self.now.shown }
     {
         Receipt {
-            token: self.token,
             shown: self.shown.again(),
             of: PhantomData,
         }
@@ -54,11 +47,46 @@ impl<J: Archive> Receipt<J> {
     }
 }
 
+/// What a finish gives: the receipt of the text, and its token at run time.
+#[derive(Drop)]
+pub struct Finished<J: Archive> {
+    pub(crate) token: Token,
+    pub(crate) receipt: Receipt<J>,
+    // The token is the receipt's.
+    ghost same: { named_in receipt.shown ≡ token },
+}
+
+impl<J: Archive> Finished<J> {
+    ghost use Rattle.std.specs.Prelude.{◌≡◌};
+    ghost use Rattle.live_store.specs.Tied.{named_in};
+
+    /// The token.
+    pub fn token(&self) -> Token
+        ensures { result ≡ named_in self.now.receipt.shown }
+    {
+        self.token
+    }
+
+    /// The receipt.
+    pub fn receipt(&self) -> &Receipt<J>
+        ensures { result.now ≡ self.now.receipt }
+    {
+        &self.receipt
+    }
+
+    /// The receipt alone.
+    pub fn into_receipt(self) -> Receipt<J>
+        ensures { result ≡ self.receipt }
+    {
+        self.receipt
+    }
+}
+
 /// How the storing of a text ended.
 #[derive(Drop)]
 pub enum Stored<J: Archive> {
     /// The text is stored.
-    Kept(Receipt<J>),
+    Kept(Finished<J>),
     /// The device failed, or the buffer has no further cycle.
     Failed(Fault),
     /// The buffer is not this writer's alone, or the text is none for it: another write was open

@@ -9,7 +9,7 @@ ghost use Rattle.news_terms.specs.ArticleTexts.{IsArticle};
 
 use crate::answers::WriteFault;
 use crate::numbered::NumberedBuffer;
-use crate::record::{Archive, Register, Shown};
+use crate::record::{Archive, Register};
 use crate::steps::{Entered, octets_of, refused};
 use crate::stored::Stored;
 use cyc_block::{BlockStore, CHUNK_OCTETS};
@@ -49,12 +49,12 @@ pub fn store<S: BlockStore, J: Archive, R: Wait>(
         },
     };
     let entered = Record::enter(rt, register, begun, text);
-    if let Err(fault) = write_all(rt, buffer, register, entered.shown(), text) {
+    if let Err(fault) = write_all(rt, buffer, register, &entered, text) {
         return give_up(rt, buffer, register, entered, fault);
     }
     let finished = buffer.lock(rt).finish(register, entered);
     match finished {
-        Ok(receipt) => Stored::Kept(receipt),
+        Ok(finished) => Stored::Kept(finished),
         Err((mixed, entered)) => {
             give_up(rt, buffer, register, entered, WriteFault::Mixed(mixed))
         }
@@ -66,18 +66,18 @@ fn write_all<S: BlockStore, J: Archive, R: Wait>(
     rt: &R,
     buffer: &Mutex<NumberedBuffer<S, J>>,
     register: &Register,
-    shown: &Shown,
+    entered: &Entered,
     text: &Vec<u8>,
 ) -> Result<(), WriteFault>
     requires register { register.now ≡ J.register }
-    requires shown { Shows J.register shown.now }
-    requires text { text.now.items ≡ text_in shown.now }
+    requires shown { Shows J.register (shown_of entered.now) }
+    requires text { text.now.items ≡ text_in (shown_of entered.now) }
     ensures { IfErr result (IsWriteFault text.now.items) }
 {
     for _ in 0..text.len().div_ceil(CHUNK_OCTETS) {
         let _last = buffer
             .lock(rt)
-            .write_next(register, shown, text.as_slice())?;
+            .write_next(register, entered, text.as_slice())?;
     }
     Ok(())
 }

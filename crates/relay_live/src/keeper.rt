@@ -143,9 +143,9 @@ impl<'a, S: BlockStore + Drop, J: Archive, L: Ledger, C: Clock, Q: Lends> Keeper
     {
         let job = &handed.job;
         let fate = match self.write(rt, &job.article) {
-            Some(Stored::Kept(receipt)) => {
-                if let Some(posted) = self.settle(rt, share, job, receipt.token()) {
-                    return Fate::Kept(receipt, posted);
+            Some(Stored::Kept(finished)) => {
+                if let Some(posted) = self.settle(rt, share, job, finished.token()) {
+                    return Fate::Kept(finished.into_receipt(), posted);
                 }
                 Fate::Mixed
             }

@@ -1,37 +1,10 @@
-//! What a writer holds of its article, and what it is told where nothing is stored: values that the
-//! steps alone make and use up.
+//! What a writer is told where nothing is stored: values that the steps alone make.
 ghost use Rattle.std.specs.Prelude.{◌≡◌, ◌≤◌, ◌⊎◌, ◌^◌, ℕ, length, IfOk, OnErr};
 ghost use Rattle.cyc_buffer.specs.declared.answers.FaultKind.TheVariants as kinds;
 ghost use Rattle.live_store.specs.Handles.{IsRefusedAs};
 ghost use Rattle.live_store.specs.Steps.{IsBeginFault};
 
-use crate::record::Shown;
 use cyc_buffer::{BufError, Fault};
-
-/// An article that was begun and has its record: its write is open. It can be neither copied nor
-/// let go: `finish` and `abandon` alone use it up.
-pub struct Entered {
-    pub(super) shown: Shown,
-}
-
-impl Entered {
-    ghost use Rattle.std.specs.Prelude.{◌≡◌};
-    ghost use Rattle.live_store.specs.Handles.{shown_of};
-
-    /// The article of this record, whose write is open.
-    pub(crate) fn new(shown: Shown) -> Entered
-        ensures { shown_of result ≡ shown }
-    {
-        Entered { shown }
-    }
-
-    /// Its record's number.
-    pub fn shown(&self) -> &Shown
-        ensures { result.now ≡ shown_of self.now }
-    {
-        &self.shown
-    }
-}
 
 /// Nothing is stored, and no device failed: the text is none for the buffer, another write is open
 /// there, or the open write isn't the record's. The steps alone say so.

@@ -3,6 +3,9 @@ ghost use Rattle.news_terms.specs.ArticleTexts.{IsArticle};
 
 use crate::record::Register;
 use crate::steps::Entered;
+use boxcar::Anything;
+use boxcar::slot::OnceSlot;
+use boxcar::table::Entry;
 use cyc_token::Token;
 use std::mem::size_of;
 use std::snapshot::Snapshot;
@@ -34,35 +37,31 @@ impl Begun {
     }
 }
 
-/// An article that was begun: its token and, for contracts alone, whether it was begun at the front
-/// of a cycle, and the octets of its text. Only `store` makes one, and enters it.
+/// An article that was begun, for contracts alone: its token, whether it was begun at the front of
+/// a cycle, and the octets of its text. Only `store` makes one, and enters it. It takes no memory:
+/// what it is of is known by its number.
 #[derive(Drop)]
 pub struct Record {
     /// The token that the article is finished under, if it is.
-    token: Token,
-    /// The flag that its begin was called with. It takes no memory.
+    token: Snapshot<Token>,
+    /// The flag that its begin was called with.
     fresh: Snapshot<bool>,
-    /// The text. It takes no memory.
+    /// The text.
     text: Snapshot<Vec<u8>>,
     // So each number of the register is that of an article.
     ghost is_article: { ∥ IsArticle text.value.items ∥₁ },
 }
 
-// What the README says of the memory of a record.
-const _: () = prove!(size_of::<Record>() == 16);
+// What the README says of the memory of a record, and of its place in the register.
+const _: () = prove!(size_of::<Record>() == 0);
+
+const _: () = prove!(size_of::<OnceSlot<Record, Entry<Anything>>>() == 16);
 
 impl Record {
     ghost use Rattle.std.specs.Prelude.{◌≡◌};
     ghost use Rattle.boxcar.specs.Table.{Shows};
     ghost use Rattle.live_store.specs.Handles.{begun_token, begun_fresh, shown_of};
     ghost use Rattle.live_store.specs.Tied.{text_in, named_in, fresh_in};
-
-    /// The token that the article is finished under, if it is.
-    pub fn token(&self) -> Token
-        ensures { result ≡ self.now.token }
-    {
-        self.token
-    }
 
     /// Enters an article under its token in the register. Where memory is refused it gives way and
     /// tries again: it answers with the record's number, or never.
@@ -81,12 +80,12 @@ impl Record {
         let Begun { token, fresh } = begun;
         for _ in rt.forever() {
             let record = Record {
-                token,
+                token: Snapshot::of(&token),
                 text: Snapshot::of(text),
                 fresh: Snapshot::of(&fresh),
             };
             match register.push_shown(rt, record) {
-                Ok(shown) => return Entered::new(shown),
+                Ok(shown) => return Entered::new(token, shown),
                 Err(_) => thread::yield_now(),
             }
         }

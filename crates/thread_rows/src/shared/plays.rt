@@ -78,10 +78,10 @@ pub(crate) fn put_played<J: Archive + Send + Sync, R: Threads + Wait + Sync>(
 /// Writes how the storing of a text ended.
 fn put_stored<J: Archive>(sheet: &mut Sheet, stored: &Stored<J>) {
     match stored {
-        Stored::Kept(receipt) => {
-            sheet.numbered(b"kept, record ", receipt.number() as u64);
+        Stored::Kept(finished) => {
+            sheet.numbered(b"kept, record ", finished.receipt().number() as u64);
             sheet.put(b", ");
-            sheet.debug(&receipt.token());
+            sheet.debug(&finished.token());
         }
         Stored::Failed(fault) => {
             sheet.put(b"failed, ");

@@ -7,8 +7,8 @@ use Rattle.live_store.proofs.TiedLemmas.{tied_abandon}
 use Rattle.live_store.proofs.OpenLemmas.{owns_of, shows_of}
 use Rattle.live_store.proofs.numbered.NumberedBuffer.abandon.Goals as goal
 
-pub is_named-requires-clause-own : goal.is_named-requires-clause-own
-is_named-requires-clause-own g c =
+pub is_named-named-requires-clause-own : goal.is_named-named-requires-clause-own
+is_named-named-requires-clause-own g c =
     subst (λ s. IfSome c.in-Some.beside.shown (λ w. Shows s w)) (sym c.requires.register)
     (shows_of g.J.Archive.register g.J.Archive.trusted c.args.self.now.buffer c.in-Some.beside
     c.args.self.now.numbers.items

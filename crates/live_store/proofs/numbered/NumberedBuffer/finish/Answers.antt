@@ -1,12 +1,11 @@
 use Rattle.std.proofs.Common.{sym, ◌∙◌, ap, subst, arith, Some, None, set}
 use Rattle.std.specs.Prelude.{IfSome}
 use Rattle.boxcar.specs.Table.{Shows, Where}
-use Rattle.cyc_token.specs.Token.{token_view}
 use Rattle.live_store.specs.declared.writing.entering.Record.{Record}
 use Rattle.live_store.specs.Tied.{Tied}
 use Rattle.live_store.specs.Steps.{CanFinishFor}
 use Rattle.live_store.proofs.OpenLemmas.{the_same, shows_of, can_finish, named_token}
-use Rattle.live_store.proofs.OpenLemmas.{place_of_first, tied_finished}
+use Rattle.live_store.proofs.OpenLemmas.{place_of_first, tied_finished, same_token}
 use Rattle.live_store.proofs.numbered.NumberedBuffer.finish.Goals as goal
 
 pub can_finish-requires-clause-own : goal.can_finish-requires-clause-own
@@ -68,10 +67,9 @@ invariant_of-result g c =
     (the_same c.args.self.now.beside c.take.result c.in-Some.beside field c.in-Some.is
     c.take.ensures.value c.in-Some-take.is) (c.can_finish.ensures.0 c.if-not-can_finish.false) in
     record {
-      here = c.requires.shown;
-      named = ap token_view c.finish-token.ensures.handle
-          ∙ named_token g.J.Archive.register g.J.Archive.trusted c.args.self.now.buffer field
-          c.args.self.now.numbers.items tied c.args.entered.shown can.unbroken can.named;
+      same = sym (c.finish-token.ensures.handle ∙ same_token (
+          named_token g.J.Archive.register g.J.Archive.trusted c.args.self.now.buffer field
+          c.args.self.now.numbers.items tied c.args.entered.shown can.unbroken can.named));
     }
 
 pub returns-clause-finished : goal.returns-clause-finished

@@ -28,21 +28,21 @@ invariant_of-self g c =
     let tied = subst (λ b. ∥ Tied g.J.Archive.trusted g.J.Archive.register
     c.args.self.now.buffer b c.args.self.now.numbers.items ∥₁)
     (sym c.take.ensures.value ∙ c.in-Some-take.is) c.args.self.now.tied in
-    let can = subst (λ b. CanWriteFor b c.args.shown.now)
+    let can = subst (λ b. CanWriteFor b c.args.entered.now.shown)
     (the_same c.args.self.now.beside c.take.result c.in-Some.beside field c.in-Some.is
     c.take.ensures.value c.in-Some-take.is) (c.can_write.ensures.0 c.if-not-can_write.false) in
     let writes = subst (λ x. CanWrite c.args.self.now.buffer field.write x
     → WritesNext c.args.self.now.buffer field.write x (Ok c.in-Ok.last) c.write_next.new.self)
     c.requires.text c.in-Ok.ensures.written
     (can_write g.J.Archive.register g.J.Archive.trusted c.args.self.now.buffer field
-    c.args.self.now.numbers.items tied c.args.shown.now can) in
+    c.args.self.now.numbers.items tied c.args.entered.now.shown can) in
     record {
       tied = subst (λ b. ∥ Tied g.J.Archive.trusted g.J.Archive.register c.write_next.new.self b
           c.args.self.now.numbers.items ∥₁)
           (sym (c.put.ensures ∙ ap (λ (w : Where Record). Some (beside_of field.write w
           (field.written + 1) false)) c.again.ensures))
           (tied_written g.J.Archive.register g.J.Archive.trusted c.args.self.now.buffer field
-          c.args.self.now.numbers.items tied c.write_next.new.self c.args.shown.now c.in-Ok.last
+          c.args.self.now.numbers.items tied c.write_next.new.self c.args.entered.now.shown c.in-Ok.last
           can c.requires.shown writes);
     }
 
@@ -52,21 +52,21 @@ invariant_of-self-in-Err g c =
     let tied = subst (λ b. ∥ Tied g.J.Archive.trusted g.J.Archive.register
     c.args.self.now.buffer b c.args.self.now.numbers.items ∥₁)
     (sym c.take.ensures.value ∙ c.in-Some-take.is) c.args.self.now.tied in
-    let can = subst (λ b. CanWriteFor b c.args.shown.now)
+    let can = subst (λ b. CanWriteFor b c.args.entered.now.shown)
     (the_same c.args.self.now.beside c.take.result c.in-Some.beside field c.in-Some.is
     c.take.ensures.value c.in-Some-take.is) (c.can_write.ensures.0 c.if-not-can_write.false) in
     let writes = subst (λ x. CanWrite c.args.self.now.buffer field.write x
     → WritesNext c.args.self.now.buffer field.write x (Err c.in-Err.error) c.write_next.new.self)
     c.requires.text c.in-Err.ensures.written
     (can_write g.J.Archive.register g.J.Archive.trusted c.args.self.now.buffer field
-    c.args.self.now.numbers.items tied c.args.shown.now can) in
+    c.args.self.now.numbers.items tied c.args.entered.now.shown can) in
     record {
       tied = subst (λ b. ∥ Tied g.J.Archive.trusted g.J.Archive.register c.write_next.new.self b
           c.args.self.now.numbers.items ∥₁)
           (sym (c.put-in-Err.ensures ∙ ap (λ (w : Where Record). Some (beside_of field.write w
           field.written true)) c.again-in-Err.ensures))
           (tied_broken g.J.Archive.register g.J.Archive.trusted c.args.self.now.buffer field
-          c.args.self.now.numbers.items tied c.write_next.new.self c.args.shown.now
+          c.args.self.now.numbers.items tied c.write_next.new.self c.args.entered.now.shown
           c.in-Err.error c.requires.shown writes);
     }
 
@@ -76,14 +76,14 @@ device_fault-requires g c =
     let tied = subst (λ b. ∥ Tied g.J.Archive.trusted g.J.Archive.register
     c.args.self.now.buffer b c.args.self.now.numbers.items ∥₁)
     (sym c.take.ensures.value ∙ c.in-Some-take.is) c.args.self.now.tied in
-    let can = subst (λ b. CanWriteFor b c.args.shown.now)
+    let can = subst (λ b. CanWriteFor b c.args.entered.now.shown)
     (the_same c.args.self.now.beside c.take.result c.in-Some.beside field c.in-Some.is
     c.take.ensures.value c.in-Some-take.is) (c.can_write.ensures.0 c.if-not-can_write.false) in
     let writes = subst (λ x. CanWrite c.args.self.now.buffer field.write x
     → WritesNext c.args.self.now.buffer field.write x (Err c.in-Err.error) c.write_next.new.self)
     c.requires.text c.in-Err.ensures.written
     (can_write g.J.Archive.register g.J.Archive.trusted c.args.self.now.buffer field
-    c.args.self.now.numbers.items tied c.args.shown.now can) in
+    c.args.self.now.numbers.items tied c.args.entered.now.shown can) in
     device_fails g.J.Archive.register g.J.Archive.trusted c.args.self.now.buffer
     c.args.self.now.beside c.args.self.now.numbers.items c.args.self.now.tied kinds.Write
     (length_of field.write) c.in-Err.error writes.fault
@@ -91,11 +91,11 @@ device_fault-requires g c =
 pub returns-in-Ok-clause-writes : goal.returns-in-Ok-clause-writes
 returns-in-Ok-clause-writes g c =
     let field = c.in-Some-take.field-0 in
-    let can = subst (λ b. CanWriteFor b c.args.shown.now)
+    let can = subst (λ b. CanWriteFor b c.args.entered.now.shown)
     (the_same c.args.self.now.beside c.take.result c.in-Some.beside field c.in-Some.is
     c.take.ensures.value c.in-Some-take.is) (c.can_write.ensures.0 c.if-not-can_write.false) in
     writes_record c.args.self.now _ field (sym c.take.ensures.value ∙ c.in-Some-take.is)
-    c.args.shown.now c.args.text.now c.requires.text can (Ok c.in-Ok.last) c.in-Ok.ensures.written
+    c.args.entered.now.shown c.args.text.now c.requires.text can (Ok c.in-Ok.last) c.in-Ok.ensures.written
     c.in-Ok.ensures.device
     (c.put.ensures ∙ ap (λ (w : Where Record). Some (beside_of field.write w
     (field.written + 1) false)) c.again.ensures)
@@ -104,11 +104,11 @@ returns-in-Ok-clause-writes g c =
 pub returns-in-Err-clause-writes : goal.returns-in-Err-clause-writes
 returns-in-Err-clause-writes g c =
     let field = c.in-Some-take.field-0 in
-    let can = subst (λ b. CanWriteFor b c.args.shown.now)
+    let can = subst (λ b. CanWriteFor b c.args.entered.now.shown)
     (the_same c.args.self.now.beside c.take.result c.in-Some.beside field c.in-Some.is
     c.take.ensures.value c.in-Some-take.is) (c.can_write.ensures.0 c.if-not-can_write.false) in
     writes_failed c.args.self.now _ field (sym c.take.ensures.value ∙ c.in-Some-take.is)
-    c.args.shown.now c.args.text.now c.requires.text can c.in-Err.error c.device_fault.result
+    c.args.entered.now.shown c.args.text.now c.requires.text can c.in-Err.error c.device_fault.result
     c.device_fault.ensures c.in-Err.ensures.written c.in-Err.ensures.device
     (c.put-in-Err.ensures ∙ ap (λ (w : Where Record). Some (beside_of field.write w
     field.written true)) c.again-in-Err.ensures)
@@ -120,14 +120,14 @@ returns-in-Err-clause-fault g c =
     let tied = subst (λ b. ∥ Tied g.J.Archive.trusted g.J.Archive.register
     c.args.self.now.buffer b c.args.self.now.numbers.items ∥₁)
     (sym c.take.ensures.value ∙ c.in-Some-take.is) c.args.self.now.tied in
-    let can = subst (λ b. CanWriteFor b c.args.shown.now)
+    let can = subst (λ b. CanWriteFor b c.args.entered.now.shown)
     (the_same c.args.self.now.beside c.take.result c.in-Some.beside field c.in-Some.is
     c.take.ensures.value c.in-Some-take.is) (c.can_write.ensures.0 c.if-not-can_write.false) in
     let writes = subst (λ x. CanWrite c.args.self.now.buffer field.write x
     → WritesNext c.args.self.now.buffer field.write x (Err c.in-Err.error) c.write_next.new.self)
     c.requires.text c.in-Err.ensures.written
     (can_write g.J.Archive.register g.J.Archive.trusted c.args.self.now.buffer field
-    c.args.self.now.numbers.items tied c.args.shown.now can) in
+    c.args.self.now.numbers.items tied c.args.entered.now.shown can) in
     let fault = device_fault_is g.J.Archive.register g.J.Archive.trusted c.args.self.now.buffer
     c.args.self.now.beside c.args.self.now.numbers.items c.args.self.now.tied kinds.Write
     (length_of field.write) c.in-Err.error c.device_fault.result writes.fault

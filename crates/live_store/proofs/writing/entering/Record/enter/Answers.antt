@@ -4,5 +4,5 @@ use Rattle.live_store.proofs.writing.entering.Record.enter.Goals as goal
 
 pub invariant_of-record : goal.invariant_of-record
 invariant_of-record g c = record {
-  is_article = subst (λ x. ∥ IsArticle x.items ∥₁) (sym c.of.ensures) c.requires.article;
+  is_article = subst (λ x. ∥ IsArticle x.items ∥₁) (sym c.of-in-loop.ensures) c.requires.article;
 }
