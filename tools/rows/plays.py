@@ -72,4 +72,47 @@ def sixty_two(row):
     row.counts.update(gained=len(first), waiting=waiting, overwritten=len(first) - waiting)
 
 
-PLAYS = {"sixty-two": sixty_two}
+CYCBUFF = b"cycbuff:A:a.buf:4\nmetacycbuff:G:A\n"
+STORAGE = b"method cnfs {\nclass: 1\nnewsgroups: *\noptions: G\n}\n"
+RELAY = b"own relay.example\npeer p1 one.example 0\npeer p2 two.example 0\nfeed p2 2 *\n"
+# Of each file of K1 how many octets those fronts have that are settings.
+FRONTS = {
+    "cycbuff.conf": (CYCBUFF, [33, 34]),
+    "storage.conf": (STORAGE, [0, 49, 50]),
+    "relay.conf": (RELAY, [*range(5, 19), 39, 40, 61, 62, 73, 74]),
+}
+
+
+def each_cut(row):
+    """Each front of each file of K1 is settings, or its fault is told."""
+    for name, (octets, wanted) in FRONTS.items():
+        files = {"cycbuff.conf": CYCBUFF, "storage.conf": b"", "relay.conf": b"own a\n"}
+        found = [end for end in range(len(octets) + 1)
+                 if not row.fault_of({**files, name: octets[:end]})]
+        if found != wanted:
+            raise Wrong(f"the fronts of {name} that are settings have {found} octets, not {wanted}")
+
+
+def lines_of(count, line):
+    """So many lines, from 0, each with its number in the place of each #."""
+    return "".join(line.replace("#", str(it)) + "\n" for it in range(count))
+
+
+def large_files(row):
+    """Files with as many buffers, groups and peers as there may be, and with one more; the line of a
+    fault far down."""
+    for count, fault in ((256, None), (257, "257: 5 Number")):
+        buffers = lines_of(count, "cycbuff:b#:b#.buf:1")
+        names = ",".join(f"b{it}" for it in range(count))
+        groups = lines_of(count, "metacycbuff:g#:b#")
+        row.checks("cycbuff.conf", f"{buffers}metacycbuff:G:{names}", fault or "256 buffers, 1 groups")
+        row.checks("cycbuff.conf", groups + buffers, fault or "256 buffers, 256 groups")
+    for count, fault in ((1024, None), (1025, "1026: 5 Number")):
+        peers = lines_of(count, "peer p# host#.example 119") + lines_of(count, "feed p# 1 group#.*")
+        row.checks("relay.conf", f"own relay.example\n{peers}", fault or "1024 peers, 1024 feeds")
+    comments = "# comment\r\n" * 9999
+    row.checks("cycbuff.conf", f"{comments}cycbuff:A:a:1\nmetacycbuff:G:A", "1 buffers, 1 groups")
+    row.checks("cycbuff.conf", f"{comments}cycbuf", "10000: 2 UnknownKey")
+
+
+PLAYS = {"sixty-two": sixty_two, "each-cut": each_cut, "large-files": large_files}

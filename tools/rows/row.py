@@ -55,8 +55,8 @@ class Row:
         self.started = []
         self.user, self.limit, self.threads, self.held, self.pipe = None, None, None, [], None
         self.sending = {}
-        # What its last line `-- ` said.
-        self.at = ""
+        # What its last line `-- ` said, and the last check.
+        self.at, self.told = "", ""
 
     # What lines of the configuration and of files say.
 
@@ -252,6 +252,30 @@ class Row:
             if 4 not in wanted.statuses:
                 self.see_taken(program)
             raise Wrong(f"{came}, not {(out, err, events, wanted.statuses)}")
+
+    def fault_of(self, files):
+        """What `cnrelay check` says of these files where it doesn't take them, else nothing."""
+        for name, octets in files.items():
+            (self.dir / name).write_bytes(octets)
+        program = self.start("(runs)", "check {dir}")
+        if not program.has_ended(self.given.patience):
+            raise Wrong(f"it hasn't ended after {self.given.patience} seconds")
+        out, err = program.told(program.out), program.told(program.err)
+        status = program.process.returncode
+        is_told = re.fullmatch(r"\w+\.conf:\d+: \d+ \w+", "\n".join(err))
+        if (status, len(out), err) != (0, 1, []) and not (status == 2 and is_told and not out):
+            raise Wrong(f"check ended with {status}: {out} {err}")
+        self.told = out[0] if out else err[0]
+        return err
+
+    def checks(self, name, text, wanted):
+        """A file of this text, beside others with as little as they may have, has so much, or this
+        fault."""
+        files = {"cycbuff.conf": "cycbuff:A:a.buf:4\nmetacycbuff:G:A\n", "storage.conf": "",
+                 "relay.conf": "own a\n", name: text}
+        fault = self.fault_of({it: each.encode("latin-1") for it, each in files.items()})
+        if (self.told != f"{name}:{wanted}") if fault else (f" {wanted}" not in f" {self.told}"):
+            raise Wrong(f"{name}: {self.told}, not {wanted}")
 
     # What lines of clients say.
 

@@ -4,20 +4,16 @@
 //! this program's own. README.md has the calls.
 #![tactic(auto)]
 
-mod conf;
-mod judging;
+mod blocks;
 mod sessions;
-mod stores;
 mod texts;
 
-use relay_conf::Config;
 use row_text::{Answers, Names, Sheet, failed, play};
 use sessions::Talk;
 use std::alloc::{AllocError, Global};
 use std::hash::RandomState;
 use std::process::ExitCode;
 use std::{io, str};
-use stores::Stores;
 
 fn main(rt: HostRuntime) -> ExitCode {
     match first_rows(&rt) {
@@ -30,42 +26,27 @@ fn main(rt: HostRuntime) -> ExitCode {
 #[derive(Clone, Copy)]
 enum Part {
     Texts,
-    Conf,
-    Judging,
+    Blocks,
     Sessions,
-    Stores,
 }
 
-/// The part that the next row is of, the texts that the rows of this part named, and what the rows
-/// of each part have left: the settings that articles are judged by, the session, and the stores.
+/// The part that the next row is of, the texts that the rows of this part named, and the session.
 #[derive(Drop)]
 struct Rows {
     part: Part,
     names: Names,
-    config: Config,
     talk: Talk,
-    stores: Stores,
 }
 
-/// No row yet. Articles are judged by K1, and the session is of its first peer.
+/// No row yet.
 fn first_rows(rt: &HostRuntime) -> io::Result<Rows> {
     let alloc = rt.alloc();
     let hasher = RandomState::new(rt)?;
     Ok(Rows {
         part: Part::Texts,
         names: Names::new(alloc),
-        config: k1(alloc)?,
-        talk: Talk::new(alloc, hasher, k1(alloc)?)?,
-        stores: Stores::new(rt)?,
+        talk: Talk::new(alloc, hasher)?,
     })
-}
-
-/// The built-in configuration K1.
-fn k1(alloc: Global) -> Result<Config, AllocError> {
-    match Config::k1(alloc) {
-        Ok(config) => Ok(config),
-        Err(_) => Err(AllocError),
-    }
 }
 
 impl Answers for Rows {
@@ -122,10 +103,8 @@ impl Rows {
     fn put_answer(&mut self, call: &str, cells: &[Vec<u8>], sheet: &mut Sheet) {
         match self.part {
             Part::Texts => texts::answer(call, cells, sheet),
-            Part::Conf => conf::answer(call, cells, sheet),
-            Part::Judging => judging::answer(&mut self.config, call, cells, sheet),
+            Part::Blocks => blocks::answer(call, cells, sheet),
             Part::Sessions => sessions::answer(&mut self.talk, call, cells, sheet),
-            Part::Stores => self.stores.answer(call, cells, sheet),
         }
     }
 }
@@ -137,10 +116,8 @@ fn part_of(cells: &[Vec<u8>]) -> Option<Part> {
     };
     match str::from_utf8(name).ok()? {
         "texts" => Some(Part::Texts),
-        "conf" => Some(Part::Conf),
-        "judging" => Some(Part::Judging),
+        "blocks" => Some(Part::Blocks),
         "sessions" => Some(Part::Sessions),
-        "stores" => Some(Part::Stores),
         _ => None,
     }
 }

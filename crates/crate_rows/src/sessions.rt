@@ -1,118 +1,96 @@
-//! Rows for peer_session.
+//! A row for sessions (peer_session): what one says where a step of its own hears the answer to
+//! another.
 
-mod answers;
-mod counts;
-mod reads;
-mod steps;
-mod talk;
-mod trials;
+use id_history::{Offer, Take};
+use peer_session::{Answer, Outcome, Session};
+use relay_conf::Config;
+use row_text::Sheet;
+use std::alloc::{AllocError, Global};
+use std::hash::RandomState;
 
-use row_text::{Sheet, joined, place_of};
-pub use talk::Talk;
+/// The number of the session.
+const NUMBER: u64 = 7;
 
-/// A call of the session.
-#[derive(Clone, Copy)]
-enum Call {
-    Open,
-    Now,
-    Send,
-    Bytes,
-    Turn,
-    Ask,
-    Break,
-    Phase,
-    Each,
-    Cuts,
-    Changes,
+/// The moment of its turns: the first of 2021.
+const MOMENT: u64 = 1_609_459_200;
+
+/// A session of the first peer of K1.
+#[derive(Drop)]
+pub struct Talk {
+    config: Config,
+    session: Session,
 }
 
-/// The names of the calls, in their order.
-const NAMES: &str = "open now send bytes turn ask break phase each cuts changes";
-
-/// The call of this name.
-fn call_of(name: &str) -> Option<Call> {
-    let call = match place_of(NAMES, name)? {
-        0 => Call::Open,
-        1 => Call::Now,
-        2 => Call::Send,
-        3 => Call::Bytes,
-        4 => Call::Turn,
-        5 => Call::Ask,
-        6 => Call::Break,
-        7 => Call::Phase,
-        8 => Call::Each,
-        9 => Call::Cuts,
-        10 => Call::Changes,
-        _ => return None,
-    };
-    Some(call)
-}
-
-/// Writes the answer of a call of the session.
-pub fn answer(talk: &mut Talk, name: &str, cells: &[Vec<u8>], sheet: &mut Sheet) {
-    let Some(call) = call_of(name) else {
-        return sheet.refuse();
-    };
-    match call {
-        Call::Turn => talk.turn(cells, sheet),
-        Call::Send => send(talk, cells, sheet),
-        Call::Break => talk.break_off(sheet),
-        Call::Phase => talk.put_phase(sheet),
-        _ => match cells {
-            [cell] => of_cell(talk, call, cell, sheet),
-            [first, rest @ ..] => of_cells(talk, call, first, rest, sheet),
-            [] => sheet.refuse(),
-        },
+impl Talk {
+    /// Nothing has come to it.
+    pub fn new(alloc: Global, hasher: RandomState) -> Result<Talk, AllocError> {
+        let config = k1(alloc)?;
+        let session = Session::open(alloc, hasher, &config, 0)?;
+        Ok(Talk { config, session })
     }
-}
 
-/// `send PARTS..`: the octets of these parts come in one piece.
-fn send(talk: &mut Talk, parts: &[Vec<u8>], sheet: &mut Sheet) {
-    match joined(sheet.alloc, parts) {
-        Ok(octets) => {
-            talk.feed(&octets, sheet);
-            sheet.number(octets.len() as u64);
+    /// Octets come.
+    fn feed(&mut self, octets: &[u8], sheet: &mut Sheet) {
+        if self.session.feed(octets).is_err() {
+            sheet.lack();
         }
-        Err(_) => sheet.lack(),
+    }
+
+    /// One turn, whose step hears this answer: what is said, or `nothing`.
+    fn turn(&mut self, answer: Answer, sheet: &mut Sheet) {
+        if self.session.plan(&self.config, MOMENT).is_err() {
+            return sheet.lack();
+        }
+        let said = self.session.absorb(NUMBER, answer);
+        if said.is_empty() {
+            sheet.next(b"nothing");
+        } else {
+            sheet.next(&said);
+        }
     }
 }
 
-/// Writes the answer of a call of one cell.
-fn of_cell(talk: &mut Talk, call: Call, cell: &[u8], sheet: &mut Sheet) {
-    match call {
-        Call::Open => talk.open(cell, sheet),
-        Call::Now => talk.set_moment(cell, sheet),
-        Call::Ask => talk.ask(cell, &[], sheet),
-        Call::Cuts => trials::put_cuts(talk, cell, sheet),
-        Call::Changes => trials::put_changes(talk, cell, sheet),
-        _ => sheet.refuse(),
+/// The built-in configuration K1.
+fn k1(alloc: Global) -> Result<Config, AllocError> {
+    match Config::k1(alloc) {
+        Ok(config) => Ok(config),
+        Err(_) => Err(AllocError),
     }
 }
 
-/// Writes the answer of a call of several cells.
-fn of_cells(talk: &mut Talk, call: Call, first: &[u8], rest: &[Vec<u8>], sheet: &mut Sheet) {
-    match (call, rest) {
-        (Call::Ask, answer) => talk.ask(first, answer, sheet),
-        (Call::Bytes, parts) => send_pieces(talk, first, parts, sheet),
-        (Call::Each, [last, sent, step, said, answer @ ..]) => {
-            let first = sheet.read(first);
-            let last = sheet.read(last);
-            trials::put_each(talk, first, last, [sent, step, said], answer, sheet)
+/// The answer of this name.
+fn answer_of(word: &[u8]) -> Option<Answer> {
+    if word == b"wanted".as_slice() {
+        return Some(Answer::Offer(Offer::Wanted));
+    }
+    if word == b"mine".as_slice() {
+        return Some(Answer::Take(Take::Mine));
+    }
+    if word == b"kept".as_slice() {
+        return Some(Answer::Slot(Some(Outcome::Kept)));
+    }
+    None
+}
+
+/// Writes the answer of a call.
+pub fn answer(talk: &mut Talk, call: &str, cells: &[Vec<u8>], sheet: &mut Sheet) {
+    match (call, cells) {
+        ("ask", [line, answers @ ..]) => {
+            talk.feed(line, sheet);
+            talk.feed(b"\r\n", sheet);
+            sheet.put(b"says");
+            put_turns(talk, answers, sheet);
         }
         _ => sheet.refuse(),
     }
 }
 
-/// `bytes N PARTS..`: the octets of these parts come in pieces of N octets, with a turn in vain
-/// after each.
-fn send_pieces(talk: &mut Talk, size: &[u8], parts: &[Vec<u8>], sheet: &mut Sheet) {
-    let size = sheet.read(size) as usize;
-    let Ok(octets) = joined(sheet.alloc, parts) else {
-        return sheet.lack();
-    };
-    sheet.number(octets.len() as u64);
-    for piece in octets.chunks(size.max(1)) {
-        talk.feed(piece, sheet);
-        talk.plan_in_vain(sheet);
+/// Writes what is said to each of these answers, of a turn of its own.
+fn put_turns(talk: &mut Talk, answers: &[Vec<u8>], sheet: &mut Sheet) {
+    for word in answers {
+        match answer_of(word) {
+            Some(answer) => talk.turn(answer, sheet),
+            None => return sheet.refuse(),
+        }
     }
 }

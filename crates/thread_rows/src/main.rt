@@ -1,8 +1,8 @@
-//! Rows and plays of what runs in threads, in two parts: the relay over connections and stores in
-//! memory, and what its threads share (docs/PROTOCOL.md, Threads).
+//! Rows of the relay over connections and stores in memory, in threads, and a play of a job queue
+//! (docs/PROTOCOL.md, Threads).
 //!
-//! Standard input holds the parts, each under a line `part NAME`. The line is printed again, with
-//! what came of the part. The parts stand in the file `stdin` of this crate, what they have to
+//! Standard input holds the rows, each under a line `== what it shows`. The line is printed again,
+//! with what came of the row. The rows stand in the file `stdin` of this crate, what they have to
 //! print in `stdout`.
 #![tactic(auto)]
 
@@ -10,8 +10,8 @@ mod articles;
 mod clock;
 mod looks;
 mod printing;
+mod queue;
 mod relay;
-mod shared;
 mod stores;
 mod words;
 
@@ -19,41 +19,16 @@ use row_text::Sheet;
 use std::alloc::{AllocError, Global};
 use std::io;
 use std::io::{ErrorKind, Read, Write};
-use std::random::RandomSource;
-use std::sync::Wait;
-use std::thread::Threads;
-use std::time::Clock;
 
 fn main(rt: HostRuntime) -> io::Result<()> {
     let alloc = rt.alloc();
     let mut input = Vec::new(alloc);
     rt.reader().read_to_end(&mut input)?;
     let lines = lines_of(alloc, &input)?;
-    for part in lines.chunk_by(|_line, next| !next.starts_with(b"part ".as_slice())) {
-        play(&rt, alloc, part)?;
-    }
-    Ok(())
-}
-
-/// Plays a part, and prints the line that it begins with before what comes of it.
-fn play<R>(rt: &R, alloc: Global, part: &[&[u8]]) -> io::Result<()>
-where
-    R: Threads + Wait + Clock + RandomSource + Print + Sync + 'static,
-{
-    let [head, lines @ ..] = part else {
-        return Err(failed());
-    };
+    relay::play(&rt, alloc, &lines)?;
     let mut sheet = Sheet::new(alloc);
-    sheet.put(head);
-    sheet.put(b"\n");
-    print(rt, &sheet)?;
-    if *head == b"part relay".as_slice() {
-        return relay::play(rt, alloc, lines);
-    }
-    if *head == b"part shared".as_slice() {
-        return shared::play(rt, alloc, lines);
-    }
-    Err(failed())
+    queue::full_queue(&rt, alloc, &mut sheet)?;
+    print(&rt, &sheet)
 }
 
 /// The lines of a text.

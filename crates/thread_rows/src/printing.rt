@@ -1,4 +1,4 @@
-//! What both parts print.
+//! What a fetch found.
 use live_store::{Archive, Fetched};
 use row_text::Sheet;
 

@@ -2,7 +2,6 @@
 
 use crate::texts::calls::Call;
 use crate::texts::lines::{put_made, put_some};
-use crate::texts::streams::put_in;
 use crate::texts::walks::{put_changes, put_fronts};
 use article_parse::Article;
 use date_rules::judge;
@@ -145,7 +144,11 @@ pub fn put_front_line(octets: &[u8], sheet: &mut Sheet) {
         return sheet.lack();
     };
     match put_line(&mut room, octets) {
-        Ok(()) => put_in(b"Line", &room, sheet),
+        Ok(()) => {
+            sheet.put(b"Line(");
+            sheet.cell(&room);
+            sheet.put(b")");
+        }
         Err(error) => sheet.debug(&error),
     }
 }

@@ -1,15 +1,10 @@
-//! The calls of `line_words`, `nntp_text` and `uwild`.
+//! The calls of `nntp_text` and `uwild`, and those of the other crates that take one content.
 
 use crate::texts::articles::put_identities;
 use crate::texts::calls::Call;
-use crate::texts::replies::put_reply;
 use crate::texts::walks::{put_changes, put_fronts};
 use article_parse::{is_blank, unfolded};
 use date_rules::{seconds, stamp};
-use line_words::{
-    Between, cut, first_word, has_only_digits, is_skipped, is_white, one_part, three_parts, trim,
-    two_parts,
-};
 use nntp_text::{Command, MsgId};
 use path_rules::loops;
 use row_text::Sheet;
@@ -23,41 +18,7 @@ const LAST_MOMENT: u64 = 253_370_764_799;
 /// Writes the answer of a call of one line.
 pub fn of_line(call: Call, line: &[u8], sheet: &mut Sheet) {
     match call {
-        Call::WordBetweenWhite => put_both(first_word(line, Between::White), sheet),
-        Call::WordBetweenSpaces => put_both(first_word(line, Between::Spaces), sheet),
-        Call::Trim => sheet.cell(trim(line)),
-        Call::IsWhite => put_white(line, sheet),
-        Call::HasOnlyDigits => sheet.debug(&has_only_digits(line)),
-        Call::IsSkipped => sheet.debug(&is_skipped(line)),
-        Call::IsBlank => sheet.debug(&is_blank(line)),
-        _ => of_command(call, line, sheet),
-    }
-}
-
-/// Writes whether an octet is white space.
-fn put_white(line: &[u8], sheet: &mut Sheet) {
-    match line {
-        [octet] => sheet.debug(&is_white(*octet)),
-        _ => sheet.refuse(),
-    }
-}
-
-/// Writes octets and what follows them, or that there are none.
-fn put_both(both: Option<(&[u8], &[u8])>, sheet: &mut Sheet) {
-    match both {
-        Some((first, second)) => {
-            sheet.cell(first);
-            sheet.next(second);
-        }
-        None => sheet.put(b"None"),
-    }
-}
-
-/// Writes the answer of a call of a command line or a message-id.
-fn of_command(call: Call, line: &[u8], sheet: &mut Sheet) {
-    match call {
         Call::MessageId => sheet.debug(&MsgId::parse(sheet.alloc, line)),
-        Call::Copied => put_copied(line, sheet),
         Call::Command => put_command(line, sheet),
         Call::CommandCuts => put_fronts(call, line, line.len(), sheet),
         Call::ExpressionCuts => put_fronts(call, line, line.len(), sheet),
@@ -76,29 +37,12 @@ pub fn put_expression_fault(octets: &[u8], sheet: &mut Sheet) {
     sheet.debug(&Expr::parse(sheet.alloc, octets).err());
 }
 
-/// Writes the texts of a message-id, or its fault.
-fn put_copied(line: &[u8], sheet: &mut Sheet) {
-    match MsgId::parse(sheet.alloc, line) {
-        Ok(id) => put_texts(id, sheet),
-        Err(error) => sheet.debug(&error),
-    }
-}
-
-/// Writes the text of a message-id, the octets of its copy, and the text that it leaves.
-fn put_texts(id: MsgId, sheet: &mut Sheet) {
-    sheet.cell(id.as_str().as_bytes());
-    match id.copied(sheet.alloc) {
-        Ok(copy) => sheet.next(copy.as_bytes()),
-        Err(_) => sheet.lack(),
-    }
-    sheet.next(id.into_string().as_bytes());
-}
-
 /// Writes the answer of a call of one text that isn't a line.
 fn of_content(call: Call, content: &[u8], sheet: &mut Sheet) {
     match call {
         Call::Stuff => put_made(stuff(sheet.alloc, content), sheet),
         Call::Unfolded => put_made(unfolded(sheet.alloc, content), sheet),
+        Call::IsBlank => sheet.debug(&is_blank(content)),
         Call::Identities => put_identities(content, sheet),
         Call::Seconds => put_seconds(content, sheet),
         Call::Stamp => put_stamp(content, sheet),
@@ -134,14 +78,10 @@ fn put_stamp(moment: &[u8], sheet: &mut Sheet) {
 /// Writes the answer of a call of two cells.
 pub fn of_two(call: Call, first: &[u8], second: &[u8], sheet: &mut Sheet) {
     match call {
-        Call::Reply => put_reply(first, second, sheet),
         Call::CommandChanges => put_changes(call, first, second, sheet),
         Call::Loops => sheet.debug(&loops(second, first)),
         Call::Judge => put_verdict(first, second, sheet),
-        _ => match second {
-            [octet] => of_octet(call, first, *octet, sheet),
-            _ => sheet.refuse(),
-        },
+        _ => sheet.refuse(),
     }
 }
 
@@ -150,28 +90,6 @@ fn put_verdict(expression: &[u8], name: &[u8], sheet: &mut Sheet) {
     match Expr::parse(sheet.alloc, expression) {
         Ok(expression) => sheet.debug(&expression.judge(name)),
         Err(error) => sheet.debug(&error),
-    }
-}
-
-/// Writes the answer of a call of a line and an octet.
-fn of_octet(call: Call, line: &[u8], octet: u8, sheet: &mut Sheet) {
-    match call {
-        Call::Cut => {
-            let (before, rest) = cut(line, octet);
-            sheet.cell(before);
-            sheet.put(b" ");
-            put_some(rest, sheet);
-        }
-        Call::OnePart => put_some(one_part(Some(line), octet), sheet),
-        Call::TwoParts => put_both(two_parts(Some(line), octet), sheet),
-        Call::ThreeParts => match three_parts(Some(line), octet) {
-            Some((first, second, third)) => {
-                put_both(Some((first, second)), sheet);
-                sheet.next(third);
-            }
-            None => sheet.put(b"None"),
-        },
-        _ => sheet.refuse(),
     }
 }
 

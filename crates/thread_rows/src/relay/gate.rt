@@ -136,6 +136,11 @@ impl<'a> Turns<'a> {
 }
 
 impl<R: Wait + Clock> Gate<R> for Turns<'_> {
+    ghost use Rattle.std.specs.Prelude.{⊤};
+
+    // Of a command that it doesn't let in nothing is said.
+    ghost refuses = { λ _ _. ⊤ };
+
     fn enter(&self, rt: &R, command: Command) -> bool {
         match self.manner {
             Manner::Open => true,

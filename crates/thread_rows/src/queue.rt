@@ -1,17 +1,34 @@
-//! Plays of a job queue, in one thread.
-ghost use Rattle.std.specs.Prelude.{OnOk};
+//! A play of a job queue, in one thread: how many jobs it holds.
 ghost use Rattle.crossbeam_queue.specs.Passes.{view, IsPassOf};
-ghost use Rattle.job_queue.specs.Delivery.{IsOpen, IsClosed, OfWriter};
+ghost use Rattle.job_queue.specs.Delivery.{IsOpen, OfWriter};
 
-use crate::shared::jobs::job;
+use crate::failed;
+use buffer_group::Job;
 use job_queue::{
-    Handed, JobQueue, Parcel, QueuePass, close_end, compare, compare_rest, end_pass, hand_over,
-    mark_closed, new_queue, take_one, writer_pass,
+    Handed, JobQueue, Parcel, QueuePass, end_pass, hand_over, mark_closed, new_queue, take_one,
+    writer_pass,
 };
+use nntp_text::MsgId;
 use row_text::Sheet;
+use sample_articles::{LEAST_OCTETS, sample_article};
 use std::alloc::Global;
 use std::io;
 use std::sync::Wait;
+
+/// A job of this session under this message-id, whose article is the smallest sample.
+fn job(alloc: Global, session: u64, id: &[u8]) -> io::Result<Job> {
+    let Ok(id) = MsgId::parse(alloc, id) else {
+        return Err(failed());
+    };
+    let Some(sample) = sample_article(alloc, LEAST_OCTETS)? else {
+        return Err(failed());
+    };
+    Ok(Job {
+        session,
+        id,
+        article: sample.into_accepted(alloc),
+    })
+}
 
 /// Hands a job of this end over, and says whether it went.
 fn handed<R: Wait>(
@@ -50,20 +67,6 @@ fn taken<R: Wait>(rt: &R, sheet: &mut Sheet, queue: &JobQueue, pass: &mut QueueP
     true
 }
 
-/// Takes all that the queue holds.
-fn all_taken<R: Wait>(rt: &R, sheet: &mut Sheet, queue: &JobQueue, pass: &mut QueuePass)
-    requires pass { IsPassOf queue.now pass.old }
-    requires writer { OfWriter (view pass.old) }
-    ensures pass { IsPassOf queue.now pass.new }
-    ensures writer { OfWriter (view pass.new) }
-{
-    for _ in 0..100 {
-        if !taken(rt, sheet, queue, pass) {
-            break;
-        }
-    }
-}
-
 /// Hands jobs over until one is given back, and says how many went.
 fn filled<R: Wait>(rt: &R, alloc: Global, queue: &JobQueue, pass: &mut QueuePass) -> io::Result<u64>
     requires pass { IsPassOf queue.now pass.old }
@@ -77,43 +80,6 @@ fn filled<R: Wait>(rt: &R, alloc: Global, queue: &JobQueue, pass: &mut QueuePass
         }
     }
     Ok(100)
-}
-
-/// Two ends hand jobs over and close, and the writer takes all; then the passes are compared.
-pub(crate) fn two_ends<R: Wait>(rt: &R, alloc: Global, sheet: &mut Sheet) -> io::Result<()> {
-    let (queue, mut first) = new_queue(alloc)?;
-    let mut writer = writer_pass(&queue, &mut first);
-    let mut zero = end_pass(&queue, &mut first);
-    let mut one = end_pass(&queue, &mut first);
-    let held = by_turns(rt, alloc, &queue, &mut zero, &mut one)?;
-    put_line(sheet, b"two ends, all handed over: ", held);
-    all_taken(rt, sheet, &queue, &mut writer);
-    compare(&queue, &mut writer, &mut zero, 0);
-    compare(&queue, &mut writer, &mut one, 1);
-    compare_rest(&queue, &mut writer, &mut first);
-    Ok(())
-}
-
-/// Ends 0 and 1 hand three jobs over by turns, and close; whether all went.
-fn by_turns<R: Wait>(
-    rt: &R,
-    alloc: Global,
-    queue: &JobQueue,
-    zero: &mut QueuePass,
-    one: &mut QueuePass,
-) -> io::Result<bool>
-    requires passes { IsPassOf queue.now zero.old × IsPassOf queue.now one.old }
-    requires zero { IsOpen 0 (view zero.old) }
-    requires one { IsOpen 1 (view one.old) }
-    ensures passes { IsPassOf queue.now zero.new × IsPassOf queue.now one.new }
-    ensures ends { OnOk result (IsClosed 0 (view zero.new) × IsClosed 1 (view one.new)) }
-{
-    let held = handed(rt, alloc, queue, zero, 0, 0)?
-        && handed(rt, alloc, queue, one, 1, 0)?
-        && handed(rt, alloc, queue, zero, 0, 1)?;
-    close_end(rt, queue, one, 1);
-    close_end(rt, queue, zero, 0);
-    Ok(held)
 }
 
 /// A queue that is full takes neither job nor mark; one parcel less, it takes the mark.

@@ -1,0 +1,74 @@
+//! Rows for the octets of blocks (cyc_block). The octets of a block are a word without the zeros at
+//! its end.
+
+use cyc_block::{BLOCK_OCTETS, CHUNK_OCTETS, Stamp, block_image, read_image};
+use row_text::Sheet;
+
+/// Writes the answer of a call.
+pub fn answer(call: &str, cells: &[Vec<u8>], sheet: &mut Sheet) {
+    match (call, cells) {
+        ("image_read", [octets]) => put_image(octets, sheet),
+        ("image_write", [cycle, first, index, length, class, payload]) => {
+            put_image_of([cycle, first, index, length, class], payload, sheet)
+        }
+        _ => sheet.refuse(),
+    }
+}
+
+/// The number of a word for four octets.
+fn number(word: &[u8], sheet: &mut Sheet) -> u32 {
+    sheet.read_up_to(4_294_967_295, word) as u32
+}
+
+/// Writes the image of the block with the stamp of these parts and this payload.
+fn put_image_of(parts: [&[u8]; 5], payload: &[u8], sheet: &mut Sheet) {
+    let stamp = Stamp {
+        cycle: number(parts[0], sheet),
+        first: number(parts[1], sheet),
+        index: number(parts[2], sheet),
+        article_length: number(parts[3], sheet),
+        class: sheet.read_up_to(255, parts[4]) as u8,
+    };
+    if payload.is_empty() || payload.len() > CHUNK_OCTETS {
+        return sheet.refuse();
+    }
+    put_block(&block_image(&stamp, payload), sheet);
+}
+
+/// Writes the stamp and the payload of the image that a block has, or that it has none.
+fn put_image(octets: &[u8], sheet: &mut Sheet) {
+    match read_image(&block_of(octets, sheet)) {
+        Some(image) => {
+            sheet.debug(&image.stamp);
+            sheet.next(image.payload);
+        }
+        None => sheet.put(b"None"),
+    }
+}
+
+/// The block of these octets and as many zeros as it has room for.
+fn block_of(octets: &[u8], sheet: &mut Sheet) -> [u8; BLOCK_OCTETS] {
+    let mut block = [0; BLOCK_OCTETS];
+    if octets.len() > BLOCK_OCTETS {
+        sheet.refuse();
+        return block;
+    }
+    block[..octets.len()].copy_from_slice(octets);
+    block
+}
+
+/// Writes the octets of a block, but for the zeros at its end.
+fn put_block(block: &[u8; BLOCK_OCTETS], sheet: &mut Sheet) {
+    let mut end = 0;
+    let mut place = 0usize;
+    for octet in block.iter() {
+        place = place.saturating_add(1);
+        if *octet != 0 {
+            end = place;
+        }
+    }
+    match block.get(..end) {
+        Some(octets) => sheet.cell(octets),
+        None => sheet.refuse(),
+    }
+}
