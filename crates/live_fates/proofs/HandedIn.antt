@@ -15,7 +15,8 @@ use Rattle.live_fates.specs.declared.fate.Fate.{Fate}
 use Rattle.live_fates.specs.declared.fate.Fate.TheVariants as fates
 use Rattle.live_fates.specs.declared.fate.KeptJob.{KeptJob}
 use Rattle.live_seats.specs.Gathered.{told_of, AllTold}
-use Rattle.live_seats.specs.Taken.{Name, done_name, name_of}
+use Rattle.job_names.specs.Names.{Name}
+use Rattle.live_seats.specs.Taken.{done_name, name_of}
 use Rattle.live_seats.specs.declared.outcome.Done.{Done}
 use Rattle.live_settle.specs.declared.desk.both.Posted.{Posted}
 use Rattle.live_store.specs.Tied.{text_in}

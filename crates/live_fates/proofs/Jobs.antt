@@ -1,11 +1,10 @@
 -- Kept jobs in a set.
 use Rattle.std.proofs.Common.{◌≡◌, ◌∙◌, ◌<◌, ◌+◌, ◌&&◌, ◌||◌, ◌==◌, ℕ, Bool, true, false, cond, not}
-use Rattle.std.proofs.Common.{List, [], ◌∷◌, ◌++◌, length, map, take, drop, get_or, count_by, sym}
+use Rattle.std.proofs.Common.{List, [], ◌∷◌, length, map, take, drop, get_or, count_by, sym}
 use Rattle.std.proofs.Common.{ap, refl, arith}
 use Rattle.std.proofs.lemmas.Bool.Decides.{nat_tests}
-use Rattle.std.proofs.lemmas.List.{at_drop_more, get_or-map, length-map, take_more}
-use Rattle.std.proofs.lemmas.List.Folds.{list_any-append}
-use Rattle.std.proofs.lemmas.List.Sums.{count_by_more_no, count_by_more_yes}
+use Rattle.std.proofs.lemmas.List.{at_drop_more, get_or-map, length-map}
+use Rattle.std.proofs.lemmas.List.Sums.{count_by_more_no, count_by_more_yes, sum_by-cons}
 use Rattle.std.specs.BTreeSet.{BTreeSet}
 use Rattle.std.specs.List.{list_any}
 use Rattle.std.specs.Ordering.{is_eq, nat_cmp, ordering_then}
@@ -47,47 +46,74 @@ same_job a b c x y z =
     and_assoc true q r = refl
     and_assoc false q r = refl
 
-one_apart : (e old first among : Bool) → old ≡ (first || among)
-    → cond e true old ≡ (first || (among || (e || false)))
-one_apart true old true among was = refl
-one_apart true old false true was = refl
-one_apart true old false false was = refl
-one_apart false old true true was = was
-one_apart false old true false was = was
-one_apart false old false true was = was
-one_apart false old false false was = was
+one_apart : (e old rest : Bool) → (cond e true old || rest) ≡ (old || (e || rest))
+one_apart true true rest = refl
+one_apart true false rest = refl
+one_apart false true rest = refl
+one_apart false false rest = refl
 
--- after one more kept job
-pub one_more_job : {J : Type 0} {g : Ghosts J} (done : List (Done (Fate J g))) (i : ℕ)
-    (d : Done (Fate J g)) (receipt : Receipt J g) (posted : Posted) (told : ℕ)
-    (old new first : Bool) (end number register : ℕ)
-    → i < length done → d ≡ get_or done i d → d.outcome ≡ fates.Kept receipt posted
-    → told ≡ receipt.shown.index
+-- after one more kept job, of those that were left to add
+pub one_more_job : {J : Type 0} {g : Ghosts J} (d : Done (Fate J g))
+    (left rest : List (Done (Fate J g))) (receipt : Receipt J g) (posted : Posted) (told : ℕ)
+    (old new all : Bool) (end number register : ℕ)
+    → left ≡ d ∷ rest → d.outcome ≡ fates.Kept receipt posted → told ≡ receipt.shown.index
     → new ≡ cond (is_eq (ordering_then (ordering_then (nat_cmp d.end end) (nat_cmp d.number number))
     (nat_cmp told register))) true old
-    → old ≡ (first || list_any (is_receipt_of end number register) (take i done))
-    → new ≡ (first || list_any (is_receipt_of end number register) (take (i + 1) done))
-one_more_job {J} {g} done i d receipt posted told old new first e n register below at is read put
-    was =
+    → (old || list_any (is_receipt_of end number register) left) ≡ all
+    → (new || list_any (is_receipt_of end number register) rest) ≡ all
+one_more_job {J} {g} d left rest receipt posted told old new all e n register from is read put was =
     let test : Done (Fate J g) → Bool = is_receipt_of e n register in
     let named : Bool → Bool = λ kept. (d.end == e) && ((d.number == n) && kept) in
-    put
-    ∙ ap (λ (e : Bool). cond e true old) (same_job d.end d.number told e n register)
+    ap (λ (b : Bool). b || list_any test rest)
+    (put
+    ∙ ap (λ (b : Bool). cond b true old) (same_job d.end d.number told e n register)
     ∙ ap (λ (r : ℕ). cond (named (r == register)) true old) read
-    ∙ ap (λ (f : Fate J g). cond (named (is_kept_as register f)) true old) (sym is)
-    ∙ one_apart (test d) old first (list_any test (take i done)) was
-    ∙ ap (λ (b : Bool). first || b) (sym (list_any-append test (take i done) (d ∷ [])))
-    ∙ ap (λ (ds : List (Done (Fate J g))). first || list_any test ds)
-    (sym (take_more done i d below ∙ ap (λ (x : Done (Fate J g)). take i done ++ x ∷ []) (sym at)))
+    ∙ ap (λ (f : Fate J g). cond (named (is_kept_as register f)) true old) (sym is))
+    ∙ one_apart (test d) old (list_any test rest)
+    ∙ ap (λ (ds : List (Done (Fate J g))). old || list_any test ds) (sym from)
+    ∙ was
 
--- a kept job isn't mixed up
-pub not_mixed : {J : Type 0} {g : Ghosts J} (done : List (Done (Fate J g))) (i : ℕ)
-    (d : Done (Fate J g)) (receipt : Receipt J g) (posted : Posted)
-    → i < length done → d ≡ get_or done i d → d.outcome ≡ fates.Kept receipt posted
-    → mixed_in (take (i + 1) done) ≡ mixed_in (take i done)
-not_mixed {J} {g} done i d receipt posted below at is =
-    count_by_more_no (λ (one : Done (Fate J g)). is_mixed one.outcome) done i d below
-    (ap (λ (one : Done (Fate J g)). is_mixed one.outcome) (sym at) ∙ ap is_mixed is)
+none_named : (p q : Bool) → (p && (q && false)) ≡ false
+none_named true true = refl
+none_named true false = refl
+none_named false q = refl
+
+-- a job that isn't kept is no job of the set
+pub no_job : {J : Type 0} {g : Ghosts J} (d : Done (Fate J g)) (left rest : List (Done (Fate J g)))
+    (outcome : Fate J g) (old all : Bool) (end number register : ℕ) → left ≡ d ∷ rest
+    → d.outcome ≡ outcome → is_kept_as register outcome ≡ false
+    → (old || list_any (is_receipt_of end number register) left) ≡ all
+    → (old || list_any (is_receipt_of end number register) rest) ≡ all
+no_job {J} {g} d left rest outcome old all e n register from is none was =
+    let test : Done (Fate J g) → Bool = is_receipt_of e n register in
+    let named : Bool → Bool = λ kept. (d.end == e) && ((d.number == n) && kept) in
+    let not_one : test d ≡ false =
+    ap (λ (f : Fate J g). named (is_kept_as register f)) is ∙ ap named none
+    ∙ none_named (d.end == e) (d.number == n)
+    in
+    ap (λ (b : Bool). old || (b || list_any test rest)) (sym not_one)
+    ∙ ap (λ (ds : List (Done (Fate J g))). old || list_any test ds) (sym from)
+    ∙ was
+
+-- where one of those that are left is mixed up, or isn't
+pub mixed_next : {J : Type 0} {g : Ghosts J} (d : Done (Fate J g))
+    (left rest : List (Done (Fate J g))) (outcome : Fate J g) → left ≡ d ∷ rest
+    → d.outcome ≡ outcome → mixed_in left ≡ cond (is_mixed outcome) 1 0 + mixed_in rest
+mixed_next {J} {g} d left rest outcome from is =
+    ap (λ (ds : List (Done (Fate J g))). mixed_in ds) from
+    ∙ sum_by-cons (λ (x : Done (Fate J g)). cond (is_mixed x.outcome) 1 0) d rest
+    ∙ ap (λ (f : Fate J g). cond (is_mixed f) 1 0 + mixed_in rest) is
+
+-- where none is left all were added
+pub none_left : {J : Type 0} {g : Ghosts J} (left : List (Done (Fate J g)))
+    (test : Done (Fate J g) → Bool) (new all : Bool) → left ≡ [] → (new || list_any test left) ≡ all
+    → new ≡ all
+none_left {J} {g} left test new all none is =
+    or_none new ∙ ap (λ (ds : List (Done (Fate J g))). new || list_any test ds) (sym none) ∙ is
+  where
+    or_none : (b : Bool) → b ≡ (b || false)
+    or_none true = refl
+    or_none false = refl
 
 -- an answer whose job is one of the set, or none of it
 answer_next : {J : Type 0} {g : Ghosts J} (jobs : BTreeSet (ℕ × ℕ × ℕ)) (end : ℕ)

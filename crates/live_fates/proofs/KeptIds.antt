@@ -1,8 +1,8 @@
 -- Kept jobs, one after the other.
-use Rattle.std.proofs.Common.{◌≡◌, ◌∙◌, ◌<◌, ◌+◌, ℕ, Bool, true, false, cond, List, [], ◌∷◌, ◌++◌}
-use Rattle.std.proofs.Common.{length, map, take, get_or, sym, ap, refl, arith, length-append}
+use Rattle.std.proofs.Common.{◌≡◌, ◌∙◌, ◌+◌, ℕ, Bool, true, false, cond, List, [], ◌∷◌, ◌++◌}
+use Rattle.std.proofs.Common.{length, map, ap, refl, arith, length-append}
 use Rattle.std.proofs.lemmas.List.{map-append}
-use Rattle.std.proofs.lemmas.List.Elements.{filter-append, filter_more}
+use Rattle.std.proofs.lemmas.List.Elements.{filter-append}
 use Rattle.std.specs.List.{filter}
 use Rattle.live_seats.specs.Gathered.{kept_by_all}
 use Rattle.live_seats.specs.Taken.{kept_in, worth}
@@ -12,19 +12,27 @@ use Rattle.live_store.specs.declared.record.Archive.{Ghosts}
 use Rattle.live_seats.specs.declared.outcome.Done.{Done}
 use Rattle.live_fates.specs.declared.fate.Fate.{Fate}
 
--- the ids of the kept jobs up to and with one that is kept
-pub ids_kept : {J : Type 0} {g : Ghosts J} (done : List (Done (Fate J g))) (i : ℕ)
-    (d : Done (Fate J g))
-    → i < length done → d ≡ get_or done i d → is_kept d.outcome ≡ true
-    → kept_ids (take (i + 1) done) ≡ kept_ids (take i done) ++ d.id ∷ []
-ids_kept {J} {g} done i d below at is =
-    let kept : Done (Fate J g) → Bool = λ x. is_kept x.outcome in
-    let before : List (Done (Fate J g)) = filter kept (take i done) in
-    ap (λ (ds : List (Done (Fate J g))). map (λ x. x.id) ds)
-    (filter_more kept done i d below
-    ∙ ap (λ (x : Done (Fate J g)). before ++ cond (kept x) (x ∷ []) []) (sym at)
-    ∙ ap (λ (b : Bool). before ++ cond b (d ∷ []) []) is)
-    ∙ map-append (λ (x : Done (Fate J g)). x.id) before (d ∷ [])
+ids_from : {J : Type 0} {g : Ghosts J} (d : Done (Fate J g)) (rest : List (Done (Fate J g)))
+    → Bool → List (List ℕ)
+ids_from {J} {g} d rest kept =
+    let others : List (Done (Fate J g)) = filter (λ (x : Done (Fate J g)). is_kept x.outcome) rest in
+    map (λ (x : Done (Fate J g)). x.id) (cond kept (d ∷ others) others)
+
+-- the ids of the kept jobs from one on that is kept
+pub ids_kept : {J : Type 0} {g : Ghosts J} (d : Done (Fate J g))
+    (left rest : List (Done (Fate J g))) → left ≡ d ∷ rest → is_kept d.outcome ≡ true
+    → kept_ids left ≡ d.id ∷ kept_ids rest
+unfolding ids_from
+ids_kept {J} {g} d left rest from is =
+    ap (λ (ds : List (Done (Fate J g))). kept_ids ds) from ∙ ap (ids_from d rest) is
+
+-- and from one on that isn't
+pub ids_not_kept : {J : Type 0} {g : Ghosts J} (d : Done (Fate J g))
+    (left rest : List (Done (Fate J g))) → left ≡ d ∷ rest → is_kept d.outcome ≡ false
+    → kept_ids left ≡ kept_ids rest
+unfolding ids_from
+ids_not_kept {J} {g} d left rest from is =
+    ap (λ (ds : List (Done (Fate J g))). kept_ids ds) from ∙ ap (ids_from d rest) is
 
 -- one job more, kept or not, where as many of the others are kept as there are ids
 kept_more : {J : Type 0} {g : Ghosts J} (d : Done (Fate J g)) (done : List (Done (Fate J g)))

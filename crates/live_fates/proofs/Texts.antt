@@ -1,9 +1,8 @@
 -- Message-ids in a set.
-use Rattle.std.proofs.Common.{◌≡◌, ◌∙◌, ◌-◌, ℕ, Bool, true, false, cond, ◌||◌, List, [], ◌∷◌, ◌++◌}
+use Rattle.std.proofs.Common.{◌≡◌, ◌∙◌, ◌-◌, ℕ, Bool, true, false, cond, ◌||◌, List, [], ◌∷◌}
 use Rattle.std.proofs.Common.{length, map, sym, ap, refl, arith}
 use Rattle.std.proofs.lemmas.Cmp.{nat_list_eq_equiv}
 use Rattle.std.proofs.lemmas.List.{length-map}
-use Rattle.std.proofs.lemmas.List.Folds.{list_any-append}
 use Rattle.std.proofs.lemmas.Map.Keys.{IsDistinct-cons, sorted_head, sorted_tail}
 use Rattle.std.proofs.lemmas.Map.Made.{IsDistinct-from_count, distinct_count-le, length-from_keys}
 use Rattle.std.proofs.lemmas.Map.Text.{is_eq-slice_cmp}
@@ -27,28 +26,37 @@ text_of key = key.now
 abbrev texts_cmp : Bor (List ℕ) → Bor (List ℕ) → Ordering
 texts_cmp x y = slice_cmp nat_cmp x.now y.now
 
-one_apart : (e old first among : Bool) → old ≡ (first || among)
-    → cond e true old ≡ (first || (among || (e || false)))
-one_apart true old true among was = refl
-one_apart true old false true was = refl
-one_apart true old false false was = refl
-one_apart false old true true was = was
-one_apart false old true false was = was
-one_apart false old false true was = was
-one_apart false old false false was = was
+one_apart : (e old rest : Bool) → (cond e true old || rest) ≡ (old || (e || rest))
+one_apart true true rest = refl
+one_apart true false rest = refl
+one_apart false true rest = refl
+one_apart false false rest = refl
 
--- after one more text
-pub one_more : (old new first : Bool) (ids : List (List ℕ)) (key k id : List ℕ) → key ≡ k
+-- after one more text, of those that were left to add
+pub one_more : (old new all : Bool) (left rest : List (List ℕ)) (key k id : List ℕ) → key ≡ k
+    → left ≡ k ∷ rest
     → new ≡ cond (is_eq (slice_cmp nat_cmp key id)) true old
-    → old ≡ (first || is_member bytes_eq ids id)
-    → new ≡ (first || is_member bytes_eq (ids ++ k ∷ []) id)
-one_more old new first ids key k id read puts was =
-    puts
+    → (old || is_member bytes_eq left id) ≡ all
+    → (new || is_member bytes_eq rest id) ≡ all
+one_more old new all left rest key k id read from puts was =
+    ap (λ (b : Bool). b || is_member bytes_eq rest id)
+    (puts
     ∙ ap (λ (t : List ℕ). cond (is_eq (slice_cmp nat_cmp t id)) true old) read
     ∙ ap (λ (e : Bool). cond e true old)
-    (is_eq-slice_cmp k id ∙ nat_list_eq_equiv.symm k id)
-    ∙ one_apart (bytes_eq id k) old first (is_member bytes_eq ids id) was
-    ∙ ap (λ (b : Bool). first || b) (sym (list_any-append (bytes_eq id) ids (k ∷ [])))
+    (is_eq-slice_cmp k id ∙ nat_list_eq_equiv.symm k id))
+    ∙ one_apart (bytes_eq id k) old (is_member bytes_eq rest id)
+    ∙ ap (λ (ids : List (List ℕ)). old || is_member bytes_eq ids id) (sym from)
+    ∙ was
+
+-- where none is left all were added
+pub none_left : (new all : Bool) (left : List (List ℕ)) (id : List ℕ) → left ≡ []
+    → (new || is_member bytes_eq left id) ≡ all → new ≡ all
+none_left new all left id none is =
+    or_none new ∙ ap (λ (ids : List (List ℕ)). new || is_member bytes_eq ids id) (sym none) ∙ is
+  where
+    or_none : (b : Bool) → b ≡ (b || false)
+    or_none true = refl
+    or_none false = refl
 
 less_apart : (k : Bor (List ℕ)) (ks : List (Bor (List ℕ)))
     → AllByRecursion (λ y. texts_cmp k y ≡ Less) ks

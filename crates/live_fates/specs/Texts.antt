@@ -21,6 +21,11 @@ pub record Run (J : Type 0) (g : Ghosts J) : Type 0 where
   pub hands : List (List (List Handed))
   pub end : ℕ
 
+-- a run, and a job of which a writer may have told in it
+pub record RunJob (J : Type 0) (g : Ghosts J) : Type 0 where
+  pub run : Run J g
+  pub done : Done (Fate J g)
+
 -- the writer of a group told of this job, and what the end of the run handed over to this group
 -- stands among the lists of the end
 pub record ToldJob {J : Type 0} {g : Ghosts J} (run : Run J g) (d : Done (Fate J g))

@@ -7,7 +7,7 @@ ghost use Rattle.live_fates.specs.Strays.{strays_in, mixed_in, is_receipt_of, Al
 ghost use Rattle.live_fates.specs.Strays.{NoneMixed};
 
 use crate::fate::{Fate, KeptJob};
-use live_seats::{Done, WriterSeat};
+use live_seats::{DoneList, WriterSeat};
 use live_store::Archive;
 use std::alloc::{AllocError, Global};
 use std::collections::BTreeSet;
@@ -39,16 +39,17 @@ pub fn strays<L: Ledger, J: Archive>(
 type Jobs = BTreeSet<(u64, u64, usize)>;
 
 /// Adds the kept jobs, and says how many are mixed up.
-fn add_jobs<J: Archive>(jobs: &mut Jobs, done: &[Done<Fate<J>>]) -> Result<u64, AllocError>
+fn add_jobs<J: Archive>(jobs: &mut Jobs, done: &DoneList<Fate<J>>) -> Result<u64, AllocError>
     ensures jobs { OnOk result ((end number register : ℕ) → has_job jobs.new end number register
         ≡ (has_job jobs.old end number register
-        || list_any (is_receipt_of end number register) done.now)) }
-    ensures mixed { IfOk result (λ n. n ≡ mixed_in done.now) }
+        || list_any (is_receipt_of end number register) done.now.items)) }
+    ensures mixed { IfOk result (λ n. n ≡ mixed_in done.now.items) }
     ensures few { IfOk result (λ n. n < 2 ^ 62) }
 {
     let mut mixed = 0;
-    for one in done {
-        match &one.outcome {
+    let mut left = done.all();
+    while let Some(one) = left.next() {
+        match one.outcome {
             Fate::Kept(receipt, _) => {
                 jobs.insert((one.end, one.number, receipt.number()))?;
                 continue;
@@ -90,7 +91,7 @@ fn add_all_jobs<L: Ledger, J: Archive>(
 {
     let mut mixed = 0u128;
     for writer in writers {
-        mixed += add_jobs(jobs, writer.done.as_slice())? as u128;
+        mixed += add_jobs(jobs, &writer.done)? as u128;
     }
     Ok(mixed)
 }

@@ -7,7 +7,7 @@ ghost use Rattle.live_fates.specs.Doubles.{all_told, doubles_in, kept_ids};
 ghost use Rattle.live_fates.specs.Sets.{has_text};
 
 use crate::fate::Fate;
-use live_seats::{Done, WriterSeat};
+use live_seats::{DoneList, WriterSeat};
 use live_store::Archive;
 use std::alloc::{AllocError, Global};
 use std::collections::BTreeSet;
@@ -27,26 +27,27 @@ pub fn doubles<L: Ledger, J: Archive>(
     let mut ids = BTreeSet::new(alloc);
     let mut kept = 0u128;
     for writer in writers {
-        kept += add_kept(&mut ids, writer.done.as_slice())? as u128;
+        kept += add_kept(&mut ids, &writer.done)? as u128;
     }
     Ok(kept - ids.len() as u128)
 }
 
 /// Adds the message-ids of the kept jobs, and says how many jobs these are.
 fn add_kept<'a, J: Archive>(
-    ids: &mut BTreeSet<&'a str>,
-    done: &'a [Done<Fate<J>>],
+    ids: &mut BTreeSet<&'a [u8]>,
+    done: &'a DoneList<Fate<J>>,
 ) -> Result<u64, AllocError>
     ensures ids { OnOk result ((id : List ℕ) → has_text ids.new id
-        ≡ (has_text ids.old id || is_member bytes_eq (kept_ids done.now) id)) }
-    ensures count { IfOk result (λ n. n ≡ length (kept_ids done.now)) }
+        ≡ (has_text ids.old id || is_member bytes_eq (kept_ids done.now.items) id)) }
+    ensures count { IfOk result (λ n. n ≡ length (kept_ids done.now.items)) }
 {
     let mut kept = 0;
-    for one in done {
+    let mut left = done.all();
+    while let Some(one) = left.next() {
         let Fate::Kept(..) = one.outcome else {
             continue;
         };
-        ids.insert(one.id.as_str())?;
+        ids.insert(one.id)?;
         kept += 1;
     }
     Ok(kept)

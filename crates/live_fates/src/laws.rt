@@ -4,11 +4,10 @@ ghost use Rattle.job_queue.specs.declared.parcel.Handed.{Handed};
 ghost use Rattle.live_fates.specs.Doubles.{all_told};
 ghost use Rattle.live_fates.specs.Fates.{FitsJob};
 ghost use Rattle.live_fates.specs.Strays.{BearsOut};
-ghost use Rattle.live_fates.specs.Texts.{Run, ToldJob, IsHandedIn, number_in, octets_in};
+ghost use Rattle.live_fates.specs.Texts.{RunJob, ToldJob, IsHandedIn, number_in, octets_in};
 ghost use Rattle.live_seats.specs.Gathered.{AllTold};
 
 use crate::fate::{Fate, KeptJob};
-use live_seats::Done;
 use live_store::{Archive, Register, Text, same_text};
 
 /// Where a job that a writer told of bears out a kept answer of an end, a text that is fetched
@@ -23,18 +22,19 @@ pub fn fetched_is_handed_in<J: Archive>(
     register: &Register,
     text: &Text<J>,
     answer: &KeptJob<J>,
-    done: &Done<Fate<J>>,
+    outcome: &Fate<J>,
 )
-    ghost run: { Run J J.Archive }
+    ghost job: { RunJob J J.Archive }
+    requires outcome { outcome.now ≡ job.done.outcome }
     requires register { register.now ≡ J.register }
     requires number { number_in text.now ≡ answer.now.register }
-    requires told { AllTold (FitsJob J.holds) run.dones run.hands }
-    requires among { ToldJob run done.now }
-    requires borne { BearsOut run.end answer.now done.now }
+    requires told { AllTold (FitsJob J.holds) job.run.dones job.run.hands }
+    requires among { ToldJob job.run job.done }
+    requires borne { BearsOut job.run.end answer.now job.done }
     ensures { J.trusted ≡ true
-        → ∥ IsHandedIn run.hands run.end answer.now.number (octets_in text.now) ∥₁ }
+        → ∥ IsHandedIn job.run.hands job.run.end answer.now.number (octets_in text.now) ∥₁ }
 {
-    if let Fate::Kept(receipt, _) = &done.outcome {
+    if let Fate::Kept(receipt, _) = outcome {
         same_text(register, text, receipt.shown());
     }
 }
@@ -42,13 +42,11 @@ pub fn fetched_is_handed_in<J: Archive>(
 /// A job that stands among all that the writers told of is one that the writer of some group told
 /// of. `serve_all` of relay_live says of its lists that there is one of each end (`lefts`), in it
 /// one for each group (`lists`), and as many writers as groups (`writers`).
-pub fn is_told_job<J: Archive>(done: &Done<Fate<J>>)
-    ghost run: { Run J J.Archive }
-    requires told { (j : ℕ) × (slice_get (all_told run.dones) j ≡ Some done.now) }
-    requires ends { run.end < length run.hands }
-    requires lists { (e : ℕ) (lists : List (List Handed)) → slice_get run.hands e ≡ Some lists
-        → length lists ≡ length run.dones }
-    ensures { ∥ ToldJob run done.now ∥₁ }
-{
-    let _ = done;
-}
+pub fn is_told_job<J: Archive>()
+    ghost job: { RunJob J J.Archive }
+    requires told { (j : ℕ) × (slice_get (all_told job.run.dones) j ≡ Some job.done) }
+    requires ends { job.run.end < length job.run.hands }
+    requires lists { (e : ℕ) (lists : List (List Handed)) → slice_get job.run.hands e ≡ Some lists
+        → length lists ≡ length job.run.dones }
+    ensures { ∥ ToldJob job.run job.done ∥₁ }
+{}

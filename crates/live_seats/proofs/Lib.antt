@@ -5,6 +5,7 @@ pub mod Told
 pub mod Lefts
 pub mod Writers
 pub mod Counts
+pub mod Dones
 pub mod Plans
 pub mod Ends
 pub mod Unused

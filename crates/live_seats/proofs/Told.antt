@@ -10,7 +10,8 @@ use Rattle.job_queue.specs.Parcels.{of_end, jobs_of}
 use Rattle.job_queue.specs.Delivery.{TookAll, TookNone, knows, end_limit}
 use Rattle.job_queue.specs.Passes.{QueuePass}
 use Rattle.live_seats.specs.declared.outcome.Done.{Done}
-use Rattle.live_seats.specs.Taken.{Name, name_of, done_name, FitEach, Took}
+use Rattle.job_names.specs.Names.{Name}
+use Rattle.live_seats.specs.Taken.{name_of, done_name, FitEach, Took}
 use Rattle.live_seats.specs.Gathered.{told_of, Told}
 
 -- the jobs of one end

@@ -6,13 +6,8 @@ use Rattle.job_queue.specs.Parcels.{of_end, has_mark, jobs_of}
 use Rattle.job_queue.specs.Passes.{QueuePass}
 use Rattle.job_queue.specs.declared.known.Known.{Known}
 use Rattle.job_queue.specs.declared.parcel.Handed.{Handed}
+use Rattle.job_names.specs.Names.{Name}
 use Rattle.live_seats.specs.declared.outcome.Done.{Done}
-
--- what names a job: its end, its number among those of the end, and its message-id
-pub record Name : Type 0 where
-  pub end : ℕ
-  pub number : ℕ
-  pub id : List ℕ
 
 -- the name of a job that was handed over
 abbrev pub name_of : Handed → Name

@@ -7,6 +7,7 @@
 #![tactic(auto)]
 
 mod count;
+mod done;
 mod gather;
 mod lane;
 mod open;
@@ -16,6 +17,7 @@ mod session;
 mod start;
 mod writer;
 
+pub use done::{DoneJob, DoneLeft, DoneList};
 pub use gather::{Seats, Totals, close};
 pub use lane::{LOOKS, Lane};
 pub use open::{Opened, open_all};

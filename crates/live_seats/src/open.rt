@@ -8,6 +8,7 @@ ghost use Rattle.live_seats.specs.Rows.{From};
 ghost use Rattle.live_seats.specs.Gathered.{IsRest, RestsFit};
 ghost use Rattle.live_seats.specs.Started.{AllReady, Fresh, IsUnused};
 
+use crate::done::DoneList;
 use crate::lane::Lane;
 use crate::outcome::Outcome;
 use crate::session::SessionSeat;
@@ -78,7 +79,7 @@ fn new_writer<L: Ledger, O: Outcome>(
     let closed = Vec::from_elem(alloc, false, ends)?;
     Ok(WriterSeat {
         pass,
-        done: Vec::new(alloc),
+        done: DoneList::new(alloc),
         closed,
         kept: 0,
         share,

@@ -5,6 +5,7 @@ ghost use Rattle.crossbeam_queue.specs.Passes.{IsPassOf};
 ghost use Rattle.live_seats.specs.Lanes.{queue_of};
 ghost use Rattle.live_seats.specs.Taken.{worth, kept_in, Took};
 
+use crate::done::DoneList;
 use crate::lane::Lane;
 use crate::outcome::{Done, Outcome};
 use job_queue::{Handed, Parcel, QueuePass};
@@ -29,7 +30,7 @@ pub trait Store<L: Ledger, O: Outcome, R> {
 pub struct WriterSeat<L: Ledger, O: Outcome> {
     pub(crate) pass: QueuePass,
     /// The jobs that it took, in order.
-    pub done: Vec<Done<O>>,
+    pub done: DoneList<O>,
     pub(crate) closed: Vec<bool>,
     pub(crate) kept: u64,
     pub(crate) share: Share<L>,
@@ -113,7 +114,7 @@ fn take_step<L: Ledger, O: Outcome, S: Store<L, O, R>, R: Wait>(
         mut share,
         lent,
     } = seat;
-    if done.reserve(1).is_err() {
+    if done.reserve_one().is_err() {
         thread::yield_now();
         return WriterSeat {
             pass,

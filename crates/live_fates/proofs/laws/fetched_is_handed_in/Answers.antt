@@ -1,4 +1,4 @@
-use Rattle.std.proofs.Common.{◌∙◌, ap}
+use Rattle.std.proofs.Common.{◌∙◌, ap, sym}
 use Rattle.boxcar.specs.Table.{Where}
 use Rattle.live_fates.proofs.HandedIn.{handed_in}
 use Rattle.live_fates.specs.Texts.{octets_in}
@@ -8,7 +8,8 @@ use Rattle.live_fates.proofs.laws.fetched_is_handed_in.Goals as goal
 
 pub returns-in-Kept : goal.returns-in-Kept
 returns-in-Kept g c =
-    let after = c.requires.1.1.1 in
-    λ trusted. handed_in g.J.Archive.holds g.run c.args.answer.now c.args.done.now
-    c.in-Kept.receipt _ (octets_in c.args.text.now) after.0 after.1.0 after.1.1 c.in-Kept.is
+    let after = c.requires.1.1.1.1 in
+    λ trusted. handed_in g.J.Archive.holds g.job.run c.args.answer.now g.job.done
+    c.in-Kept.receipt _ (octets_in c.args.text.now) after.0 after.1.0 after.1.1
+    (sym c.requires.1.0 ∙ c.in-Kept.is)
     (c.same_text.ensures trusted ∙ ap (λ (w : Where Record). text_in w) c.shown.ensures)

@@ -10,24 +10,23 @@ overflow_add-kept g c =
     let was = c.args.seat.counted in
     let one = worth_one c.is_kept.result in
     let is = c.worth_of-kept.ensures in
-    let same = c.args.seat.done.ok in
-    let small = c.args.seat.done.small in
-    record { fits = omega (arith, same.0, same.1) }
+    let few = c.reserve_one.ensures.few in
+    record { fits = omega arith }
 
 pub invariant_of-result-in-Job-clause-took : goal.invariant_of-result-in-Job-clause-took
 invariant_of-result-in-Job-clause-took g c =
     takes_job g.O.Outcome.fits c.args.seat.pass c.take.new.pass c.args.seat.done.items _ _ c.take.result c.in-Job.handed _ c.args.seat.took c.take.ensures.writer c.take.ensures.taken c.in-Job.is refl c.store-outcome.ensures.fits
-    (c.push_reserved.ensures.items ∙ ap (λ (l : List (Done _)). l ++ record { end = c.in-Job.handed.end; number = c.in-Job.handed.number; id = c.in-Job.handed.job.id; outcome = c.store-outcome.result } ∷ []) c.reserve.ensures.items)
+    (c.push_reserved.ensures.items ∙ ap (λ (l : List (Done _)). l ++ record { end = c.in-Job.handed.end; number = c.in-Job.handed.number; id = c.in-Job.handed.job.id; outcome = c.store-outcome.result } ∷ []) c.reserve_one.ensures.items)
 
 pub invariant_of-result-in-Job-clause-counted : goal.invariant_of-result-in-Job-clause-counted
 invariant_of-result-in-Job-clause-counted g c =
     kept_more g.O.Outcome.kept c.args.seat.done.items c.push_reserved.new.self.items _ c.args.seat.kept c.worth_of-kept.result
-    (c.push_reserved.ensures.items ∙ ap (λ (l : List (Done _)). l ++ record { end = c.in-Job.handed.end; number = c.in-Job.handed.number; id = c.in-Job.handed.job.id; outcome = c.store-outcome.result } ∷ []) c.reserve.ensures.items)
+    (c.push_reserved.ensures.items ∙ ap (λ (l : List (Done _)). l ++ record { end = c.in-Job.handed.end; number = c.in-Job.handed.number; id = c.in-Job.handed.job.id; outcome = c.store-outcome.result } ∷ []) c.reserve_one.ensures.items)
     c.args.seat.counted (c.worth_of-kept.ensures ∙ ap worth c.is_kept.ensures)
 
 pub invariant_of-result-in-Mark-clause-took : goal.invariant_of-result-in-Mark-clause-took
 invariant_of-result-in-Mark-clause-took g c =
-    takes_mark g.O.Outcome.fits c.args.seat.pass c.take.new.pass c.args.seat.done.items _ c.args.seat.closed.items _ c.take.result c.in-Mark.end c.args.seat.took c.take.ensures.writer c.take.ensures.taken c.in-Mark.is c.reserve.ensures.items c.close_flag.ensures
+    takes_mark g.O.Outcome.fits c.args.seat.pass c.take.new.pass c.args.seat.done.items _ c.args.seat.closed.items _ c.take.result c.in-Mark.end c.args.seat.took c.take.ensures.writer c.take.ensures.taken c.in-Mark.is c.reserve_one.ensures.items c.close_flag.ensures
 
 pub invariant_of-result-in-Mark-clause-counted : goal.invariant_of-result-in-Mark-clause-counted
-invariant_of-result-in-Mark-clause-counted g c = rw c.reserve.ensures.items c.args.seat.counted
+invariant_of-result-in-Mark-clause-counted g c = rw c.reserve_one.ensures.items c.args.seat.counted

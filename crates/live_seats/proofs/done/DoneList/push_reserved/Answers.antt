@@ -1,0 +1,10 @@
+use Rattle.live_seats.proofs.Dones.{listed_more}
+use Rattle.live_seats.proofs.done.DoneList.push_reserved.Goals as goal
+
+pub returns : goal.returns
+returns g c = record {
+  items = listed_more c.self.inside.names.names _ c.self.inside.outcomes.items _ _ _
+      c.args.self.now c.args.done.end c.args.done.number c.args.done.id _ c.args.done.outcome
+      c.self.invariant c.self.view_is c.push_reserved.ensures.names c.as_bytes.ensures.value
+      c.push_reserved-2.ensures.items;
+}
