@@ -168,6 +168,17 @@ class Client:
         if found:
             raise Wrong(f"{cut_to(found)}, not the end")
 
+    def unheard(self):
+        """The connection ends, or breaks, and nothing is sent before."""
+        try:
+            found = self.unread or self.socket.recv(200)
+        except TimeoutError:
+            raise Wrong(f"it hasn't ended after {self.patience} seconds") from None
+        except ConnectionError:
+            return
+        if found:
+            raise Wrong(f"{cut_to(found)}, not the end")
+
     def gone(self, soonest=0.0, latest=None):
         """The connection ends, or breaks, within these seconds."""
         begun = time.monotonic()
@@ -206,6 +217,20 @@ class Client:
         self.stream[0].start()
         for number in range(3):
             self.expect(b"239 <%s%d@x>\r\n" % (name.encode(), number))
+
+    def sips(self, octets):
+        """From here on reads so many octets every fiftieth of a second, in a thread, with little room
+        for what has come."""
+        self.socket.setsockopt(socket.SOL_SOCKET, socket.SO_RCVBUF, 4_096)
+
+        def read():
+            try:
+                while self.socket.recv(octets):
+                    time.sleep(0.02)
+            except OSError:
+                pass
+
+        threading.Thread(target=read, daemon=True).start()
 
     def streamed(self):
         """How many articles of its stream were answered 239, each in turn, before it ended."""
@@ -257,13 +282,25 @@ class Started:
     # Those that may still run.
     running = []
 
-    def __init__(self, words, folder, user, passed):
+    def __init__(self, words, folder, user, passed, is_full=False):
         self.out, self.err = tempfile.TemporaryFile(), tempfile.TemporaryFile()
+        self.full, out = None, self.out
+        if is_full:
+            self.full, out = full_pipe()
         settings = {"user": user, "group": user, "extra_groups": []} if user else {}
         self.process = subprocess.Popen(
-            [str(it) for it in words], stdin=subprocess.DEVNULL, stdout=self.out, stderr=self.err,
+            [str(it) for it in words], stdin=subprocess.DEVNULL, stdout=out, stderr=self.err,
             cwd=folder, pass_fds=passed, **settings)
         Started.running.append(self.process)
+        if is_full:
+            os.close(out)
+
+    def flows(self):
+        """What it writes to its full pipe is taken from here on; what the pipe was filled with isn't
+        its own."""
+        with open(self.full, "rb") as pipe:
+            self.full = None
+            self.out.write(pipe.read().lstrip(b"\0"))
 
     def has_ended(self, patience):
         try:
@@ -283,5 +320,19 @@ class Started:
                 self.process.send_signal(sign)
                 self.has_ended(patience)
         Started.running.remove(self.process)
+        if self.full is not None:
+            os.close(self.full)
         self.out.close()
         self.err.close()
+
+
+def full_pipe():
+    """The two ends of a pipe into which no further octet goes."""
+    reading, writing = os.pipe()
+    os.set_blocking(writing, False)
+    try:
+        while os.write(writing, bytes(4_096)):
+            pass
+    except BlockingIOError:
+        os.set_blocking(writing, True)
+    return reading, writing

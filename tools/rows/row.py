@@ -3,6 +3,7 @@
 import itertools
 import os
 import re
+import resource
 import shutil
 import socket
 import time
@@ -24,15 +25,19 @@ K1 = {
 }
 
 
-# What is printed: on standard output, on standard error, lines there of what happens, a status that
-# is one of these.
-Printed = namedtuple("Printed", "out err events statuses")
+# What is printed: on standard output, on standard error, lines there of what happens, such lines
+# with how many of them may stand there, a status that is one of these.
+Printed = namedtuple("Printed", "out err events most statuses")
 
 # What is printed by a step that says nothing of it.
-NOTHING = Printed([], [], [], [0])
+NOTHING = Printed([], [], [], [], [0])
 
 # The lines that tell what happens while a relay is served (docs/OPERATING.md, Lines).
 EVENT = re.compile(r"(serving|closed|failed|waiting)( \w+=\S*)+|stopping|stopped")
+
+# The lines that say what of a file.
+FILES = ("file", "folder", "pipe", "link", "symlink", "mode", "cut", "poke", "remove", "missing",
+         "holds")
 
 # The users of programs that may have a few threads alone: each program has one of its own, since the
 # system counts a user's.
@@ -54,6 +59,8 @@ class Row:
         self.clients, self.programs = {}, {}
         self.started = []
         self.user, self.limit, self.threads, self.held, self.pipe = None, None, None, [], None
+        # The standard streams that are closed, and whether standard output is a full pipe.
+        self.closed, self.is_full = [], False
         self.sending = {}
         # What its last line `-- ` said, and the last check.
         self.at, self.told = "", ""
@@ -88,7 +95,7 @@ class Row:
                 return str(self.counts[words[1]]).rjust(int(words[0]))
             if word == "from":
                 return f"{{>{self.counts[words[0]]}}}"
-            if word == "now":
+            if word == "now" or word.startswith("<"):
                 return found[0]
             if re.fullmatch(r"[a-z]+\d*", word):
                 return str(self.port(word))
@@ -142,6 +149,15 @@ class Row:
             (self.dir / more).chmod(int(name, 8))
         elif word == "cut":
             os.truncate(path, int(more))
+        elif word == "remove":
+            path.unlink()
+        elif word == "missing":
+            end = time.monotonic() + self.given.patience
+            while os.path.lexists(path):
+                relay = self.programs.get("")
+                if not relay or relay.process.poll() is not None or time.monotonic() > end:
+                    raise Wrong(f"{name} is there")
+                time.sleep(0.01)
         elif word == "poke":
             at, _, octets = more.partition(" ")
             with open(path, "r+b") as file:
@@ -194,8 +210,12 @@ class Row:
             words = ["/bin/sh", "-c", limits, *words]
         if self.threads:
             words = ["/usr/bin/prlimit", f"--nproc={self.threads}", *words]
+        if self.closed and not name:
+            closes = " ".join(f"{it}>&-" for it in self.closed)
+            words = ["/bin/sh", "-c", f'exec "$0" "$@" {closes}', *words]
         passed = [self.pipe[0]] if self.pipe else []
-        self.started.append(Started(words, self.folder, self.user, passed))
+        is_full = self.is_full and not name
+        self.started.append(Started(words, self.folder, self.user, passed, is_full))
         self.programs[name] = self.started[-1]
         return self.started[-1]
 
@@ -205,13 +225,24 @@ class Row:
         self.most, self.calls = int(most[1]) if most else None, dict.fromkeys(ports, 0)
         relay = self.start("", f"serve {{dir}} {words}")
         end = time.monotonic() + self.given.patience
-        while not (set(ports) <= listening() and "serving" in " ".join(relay.told(relay.err))):
+        while not (set(ports) <= listening()
+                   and ("serving" in " ".join(relay.told(relay.err)) or "2" in self.closed)):
             if relay.process.poll() is not None:
                 self.see_taken(relay)
                 raise Wrong(f"it ended with {relay.process.returncode}: {relay.told(relay.err)}")
             if time.monotonic() > end:
                 raise Wrong(f"it doesn't listen after {self.given.patience} seconds")
             time.sleep(0.01)
+
+    def may_have(self, word, count):
+        """The relay may open so many files more, or write no file beyond so many octets."""
+        pid = self.programs[""].process.pid
+        kind = resource.RLIMIT_NOFILE if word == "files" else resource.RLIMIT_FSIZE
+        most = resource.prlimit(pid, kind)[1]
+        if count and word == "files":
+            used = {int(it) for it in os.listdir(f"/proc/{pid}/fd")}
+            count = [it for it in range(len(used) + int(count) + 1) if it not in used][int(count)]
+        resource.prlimit(pid, kind, (int(count) if count else most, most))
 
     def see_taken(self, program):
         """Where the program says that a port of the row's own is taken, the row isn't wrong."""
@@ -242,16 +273,18 @@ class Row:
             raise Wrong(f"it hasn't ended after {self.given.patience} seconds")
         out, err, events = ([self.text(it) for it in lines] if lines is not None else None
                             for lines in wanted[:3])
+        most = [(int(count), self.text(line)) for count, line in wanted.most]
         told = program.told(program.err)
         happened = [it for it in told if EVENT.fullmatch(it)]
         came = Printed(program.told(program.out), [it for it in told if it not in happened],
-                       happened, program.process.returncode)
+                       happened, most, program.process.returncode)
         is_right = are_lines(came.out, out) and are_lines(came.err, err)
         is_told = all(any(is_line(it, event) for it in happened) for event in events)
-        if not (is_right and is_told and came.statuses in wanted.statuses):
+        are_few = all(sum(is_line(it, line) for it in happened) <= count for count, line in most)
+        if not (is_right and is_told and are_few and came.statuses in wanted.statuses):
             if 4 not in wanted.statuses:
                 self.see_taken(program)
-            raise Wrong(f"{came}, not {(out, err, events, wanted.statuses)}")
+            raise Wrong(f"{came}, not {(out, err, events, most, wanted.statuses)}")
 
     def fault_of(self, files):
         """What `cnrelay check` says of these files where it doesn't take them, else nothing."""
@@ -299,11 +332,24 @@ class Row:
             self.clients[name].closes()
         self.clients[name] = Client(connected, self.given.patience)
 
+    def try_port(self, name, port, program):
+        """A client connects with a port as soon as that listens, unless this program has ended."""
+        while self.programs[program].process.poll() is None:
+            try:
+                connected = socket.create_connection(("127.0.0.1", self.port(port)))
+            except OSError:
+                continue
+            self.clients[name] = Client(connected, self.given.patience)
+            return
+        self.clients[name] = Client(socket.socketpair()[0], self.given.patience)
+
     def on_client(self, name, word, rest):
         """Does what a line says of a client."""
         client = self.clients.get(name)
         if word == "calls":
             self.call(name, rest)
+        elif word == "tries":
+            self.try_port(name, *rest.split(" "))
         elif client is None:
             raise Wrong(f"no line has this form: {name} {word} {rest}")
         elif word in ("octets", "fills"):
@@ -321,7 +367,9 @@ class Row:
             client.streams(*rest.split(" "))
         elif word == "streamed":
             self.counts[name] = client.streamed()
-        elif word in ("ended", "closes", "shuts", "resets"):
+        elif word == "sips":
+            client.sips(int(rest))
+        elif word in ("ended", "unheard", "closes", "shuts", "resets"):
             getattr(client, word)()
         else:
             raise Wrong(f"no line has this form: {name} {word} {rest}")
@@ -346,6 +394,8 @@ class Row:
         """Does what a line says."""
         name, _, rest = line.partition(" ")
         word, _, more = rest.partition(" ")
+        if name == "in":
+            return self.do_in(float(word), more, wanted)
         if word in (">", ">>"):
             if name not in self.sending:
                 self.send()
@@ -357,7 +407,7 @@ class Row:
             self.at = f" ({rest})"
         elif name.endswith(".conf"):
             self.configure(name, rest)
-        elif name in ("file", "folder", "pipe", "link", "symlink", "mode", "cut", "poke", "holds"):
+        elif name in FILES:
             self.on_file(name, rest)
         elif line == "writes":
             self.write_conf()
@@ -367,6 +417,16 @@ class Row:
             self.user, self.threads = next(USERS), int(rest)
         elif name == "limit":
             self.limit = int(rest)
+        elif name == "closed":
+            self.closed = rest.split()
+        elif line == "full":
+            self.is_full = True
+        elif line == "flows":
+            self.programs[""].flows()
+        elif name in ("files", "octets"):
+            self.may_have(name, rest)
+        elif name == "waits":
+            time.sleep(float(rest))
         elif name == "serves":
             self.serves(rest)
         elif name == "runs":
@@ -383,9 +443,19 @@ class Row:
             self.start(name, more)
         elif word == "ends":
             self.ends(name, wanted)
+        elif word == "on":
+            if self.programs[name].has_ended(float(more)):
+                raise Wrong(f"{name} ended within {more} seconds")
         else:
             self.on_client(name, word, more)
         return None
+
+    def do_in(self, seconds, line, wanted):
+        """Does what a line says, within so many seconds."""
+        begun = time.monotonic()
+        self.do(line, wanted)
+        if time.monotonic() - begun > seconds:
+            raise Wrong(f"it took {time.monotonic() - begun:.1f} seconds")
 
     def play(self):
         """Plays it, and answers where it was when it went wrong, or None."""
@@ -423,10 +493,10 @@ def are_lines(found, wanted):
 
 
 def is_line(found, wanted):
-    """Whether the line is this one, where `{*}` is a number with the spaces before it, and `{>N}`
-    one that is no less than N."""
-    parts = re.split(r"(\{\*\}|\{>\d+\})", wanted)
+    """Whether the line is this one, where `{*}` is a number with the spaces before it, `{>N}` one
+    that is no less than N, and `{<N}` one that is less."""
+    parts = re.split(r"(\{\*\}|\{[<>]\d+\})", wanted)
     pattern = "".join(r" *(\d+)" if at % 2 else re.escape(it) for at, it in enumerate(parts))
     match = re.fullmatch(pattern, found)
-    least = [int(it[2:-1]) if it[1] == ">" else 0 for it in parts[1::2]]
-    return bool(match) and all(int(it) >= most for it, most in zip(match.groups(), least))
+    return bool(match) and all(form == "{*}" or (int(it) < int(form[2:-1])) == (form[1] == "<")
+                               for it, form in zip(match.groups(), parts[1::2]))
