@@ -1,4 +1,5 @@
 ghost use Rattle.std.specs.Prelude.{◌≡◌, ◌≤◌, ◌<◌, ◌*◌, ◌+◌, ℕ, length, false, IfOk};
+ghost use Rattle.std.specs.Prelude.{vec_capacity};
 ghost use Rattle.cyc_buffer.specs.Marks.{is_marked, marked_after, is_below, is_changed, has_mask};
 
 use std::alloc::{AllocError, Global};
@@ -18,11 +19,13 @@ impl Marks {
         ensures none { IfOk result (λ marks. (j : ℕ) → is_marked marks.words.items j ≡ false) }
         ensures room { IfOk result (λ marks. blocks ≤ 64 * length marks.words.items) }
         ensures least { IfOk result (λ marks. 64 * length marks.words.items < blocks + 64) }
+        // No more memory is taken than these words need.
+        ensures taken { IfOk result (λ marks. 64 * vec_capacity marks.words < blocks + 64) }
     {
         let count = blocks.div_ceil(WORD_BLOCKS);
         let mut words = Vec::with_capacity(alloc, count as usize)?;
         for _word in 0..count {
-            words.push(0)?;
+            words.push_reserved(0);
         }
         Ok(Marks { words })
     }

@@ -5,7 +5,7 @@ use Rattle.cyc_buffer.proofs.MarkLemmas.{none_marked}
 use Rattle.cyc_buffer.proofs.marks.Marks.new.Goals as goal
 
 pub returns-clause-none : goal.returns-clause-none
-returns-clause-none c j = ap (λ (ws : List ℕ). is_marked ws j) c.loop-word.invariant
+returns-clause-none c j = ap (λ (ws : List ℕ). is_marked ws j) c.loop-word.invariant.0
     ∙ none_marked c.loop-word._word j
 
 pub returns-clause-room : goal.returns-clause-room
@@ -14,6 +14,6 @@ returns-clause-room c =
       arith,
       c.loop-word-test.false,
       c.div_ceil-count.ensures,
-      ap length c.loop-word.invariant,
+      ap length c.loop-word.invariant.0,
       length-replicate {A = ℕ} c.loop-word._word 0,
     )
