@@ -27,7 +27,7 @@ pub data Asked : Type 0 where
   -- to tell the parts of a token
   Tells : (text : List ℕ) → Asked
   -- to serve the configuration in a folder on its ports: each until it has served so many
-  -- connections, or without an end
+  -- connections, or until the relay is told to stop
   Serves : (folder : List ℕ) (sessions : Option ℕ) → Asked
   -- to have the relay end that is served in a folder
   Stops : (folder : List ℕ) → Asked
