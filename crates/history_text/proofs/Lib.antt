@@ -1,0 +1,7 @@
+mod Appends
+mod Fields
+mod Histories
+mod Lists
+mod Loop
+mod Tests
+mod Tokens
