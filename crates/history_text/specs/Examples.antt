@@ -1,5 +1,5 @@
 -- The worked example *relay.hist* (docs/FORMATS.md, History file).
-use Rattle.std.specs.Prelude.{[], ◌∷◌, Some}
+use Rattle.std.specs.Prelude.{[], ◌∷◌, None, Some}
 use Rattle.news_terms.specs.Token.{Token}
 use Rattle.history_text.specs.History.{KeptId, KeptFeed, Kept}
 
@@ -29,4 +29,25 @@ first_stop =
       positions = 0 ∷ [];
       feeds = first_feed ∷ [];
       ids = first_id ∷ [];
+    }
+
+-- a stop in which no two numbers are alike: two groups, a feed that took one token of three that
+-- are past taking, and `<b@x>`, which was refused
+abbrev pub unlike_stop : Kept
+unlike_stop =
+    record {
+      stop = 2;
+      newest = 3;
+      positions = 7 ∷ 8 ∷ [];
+      feeds = record {
+        gained = 9;
+        passed = 6;
+        taken = 1;
+        waiting = record { class = 10; buffer = 11; cycle = 12; first = 13; length = 14 } ∷ [];
+      } ∷ [];
+      ids = record {
+        id = 60 ∷ 98 ∷ 64 ∷ 120 ∷ 62 ∷ [];
+        token = None;
+        moment = 4;
+      } ∷ [];
     }

@@ -1,6 +1,6 @@
 //! Laws of the text of a history, and the worked example *relay.hist*.
 ghost use Rattle.std.specs.Prelude.{◌≡◌, ◌∷◌, [], Some, drop, length, take};
-ghost use Rattle.history_text.specs.Examples.{first_stop};
+ghost use Rattle.history_text.specs.Examples.{first_stop, unlike_stop};
 ghost use Rattle.history_text.specs.History.{Kept, Fits, Holds, history_octets};
 ghost use Rattle.history_text.specs.Reading.{Gives};
 ghost use Rattle.history_text.specs.Room.{HasRoom};
@@ -37,4 +37,14 @@ pub fn first_stop_example()
     ensures last { drop 82 (history_octets first_stop)
         ≡ 0x05 ∷ 0x3C ∷ 0x61 ∷ 0x40 ∷ 0x78 ∷ 0x3E ∷ 0x02 ∷ 0 ∷ 0 ∷ 0 ∷ 0 ∷ 0x5F ∷ 0xEE ∷ 0x66
         ∷ 0 ∷ 1 ∷ 0 ∷ 0 ∷ 0 ∷ 0 ∷ 0 ∷ 0 ∷ 0 ∷ 0 ∷ 0 ∷ 0 ∷ 0 ∷ 0 ∷ 0xA4 ∷ [] }
+{}
+
+/// The text of a stop in which no two numbers are alike: where each of them stands.
+pub fn unlike_stop_example()
+    ensures { history_octets unlike_stop
+        ≡ 0x43 ∷ 0x4E ∷ 0x52 ∷ 0x31 ∷ 0 ∷ 0 ∷ 0 ∷ 0 ∷ 0 ∷ 0 ∷ 0 ∷ 2 ∷ 0 ∷ 0 ∷ 0 ∷ 0 ∷ 0 ∷ 0 ∷ 0 ∷
+        3 ∷ 0 ∷ 0 ∷ 0 ∷ 2 ∷ 0 ∷ 0 ∷ 0 ∷ 7 ∷ 0 ∷ 0 ∷ 0 ∷ 8 ∷ 0 ∷ 0 ∷ 0 ∷ 1 ∷ 0 ∷ 0 ∷ 0 ∷ 0 ∷ 0 ∷
+        0 ∷ 0 ∷ 9 ∷ 0 ∷ 0 ∷ 0 ∷ 0 ∷ 0 ∷ 0 ∷ 0 ∷ 6 ∷ 0 ∷ 0 ∷ 0 ∷ 0 ∷ 0 ∷ 0 ∷ 0 ∷ 1 ∷ 0 ∷ 0 ∷ 0 ∷
+        1 ∷ 10 ∷ 11 ∷ 0 ∷ 0 ∷ 0 ∷ 12 ∷ 0 ∷ 0 ∷ 0 ∷ 13 ∷ 0 ∷ 0 ∷ 0 ∷ 14 ∷ 0 ∷ 0 ∷ 0 ∷ 0 ∷ 0 ∷ 0 ∷
+        0 ∷ 1 ∷ 5 ∷ 60 ∷ 98 ∷ 64 ∷ 120 ∷ 62 ∷ 1 ∷ 0 ∷ 0 ∷ 0 ∷ 0 ∷ 0 ∷ 0 ∷ 0 ∷ 4 ∷ [] }
 {}
