@@ -31,8 +31,8 @@ first_stop =
       ids = first_id ∷ [];
     }
 
--- a stop in which no two numbers are alike: two groups, a feed that took one token of three that
--- are past taking, and `<b@x>`, which was refused
+-- a stop of which no two numbers are alike but those of its lists: two groups, a feed that gained
+-- nine tokens, six of them past taking and one taken, and `<b@x>`, which was refused
 abbrev pub unlike_stop : Kept
 unlike_stop =
     record {

@@ -39,7 +39,7 @@ pub fn first_stop_example()
         ∷ 0 ∷ 1 ∷ 0 ∷ 0 ∷ 0 ∷ 0 ∷ 0 ∷ 0 ∷ 0 ∷ 0 ∷ 0 ∷ 0 ∷ 0 ∷ 0 ∷ 0xA4 ∷ [] }
 {}
 
-/// The text of a stop in which no two numbers are alike: where each of them stands.
+/// The text of a stop of which no two numbers are alike but those of its lists: where each stands.
 pub fn unlike_stop_example()
     ensures { history_octets unlike_stop
         ≡ 0x43 ∷ 0x4E ∷ 0x52 ∷ 0x31 ∷ 0 ∷ 0 ∷ 0 ∷ 0 ∷ 0 ∷ 0 ∷ 0 ∷ 2 ∷ 0 ∷ 0 ∷ 0 ∷ 0 ∷ 0 ∷ 0 ∷ 0 ∷
