@@ -1,5 +1,6 @@
 pub mod ArticleFaults
 pub mod ArticleReadings
+pub mod Bitmaps
 pub mod BlockLemmas
 pub mod Choices
 pub mod CivilTimes

@@ -11,7 +11,9 @@ use Rattle.news_terms.specs.Places.{Buffer, Group, Mode, Interleave, Sequential,
 use Rattle.news_terms.specs.Places.{interleaved, sequential_at, place_in_buffer, place_in_runs}
 use Rattle.news_terms.specs.Places.{head_after, next_place, extents, front_after, on_line}
 use Rattle.news_terms.specs.Picks.{pick_by, pick_of, begins_in, placed_in, place_of_pick, head_past}
-use Rattle.news_terms.specs.Picks.{front_at, room_of}
+use Rattle.news_terms.specs.Picks.{front_at, room_of, head_of}
+use Rattle.news_terms.specs.Positions.{position_by, position_of}
+use Rattle.std.proofs.lemmas.Nat.{div-add-mod'}
 use Rattle.news_terms.proofs.Extents.{by_push, whose_turn, front_here, front_elsewhere}
 use Rattle.news_terms.proofs.InterleavedFronts as dealing
 use Rattle.news_terms.proofs.PickedBegins.{Own_head_of, Own_place_of, own_head_here}
@@ -326,3 +328,25 @@ picked_fronts group numbers begun fit i buffer there =
         (λ e. other (numbers.own index i whose.0 buffer whose.1 there e))
         ∙ earlier
         ∙ ap (front_at buffer) (sym (own_head_elsewhere group i buffer begun size other))
+
+-- Sequential: the blocks used of the current buffer's own run are those of the group's position
+pub used_of_position : (group : Group) (begun : List ℕ) → group.mode ≡ Sequential
+    → All (FitsGroup group) begun → (buffer : Buffer)
+    → slice_get group.buffers (position_of group begun).index ≡ Some buffer
+    → (head_of buffer.blocks (begins_in group (position_of group begun).index begun)).used
+    ≡ (position_of group begun).used
+used_of_position group begun mode fit buffer there =
+    by_mode group.mode group.buffers mode fit there
+  where
+    by_mode : (mode : Mode) (buffers : List Buffer) → mode ≡ Sequential
+        → All (FitsGroup (record { mode = mode; buffers = buffers })) begun
+        → slice_get buffers (position_by mode buffers begun).index ≡ Some buffer
+        → (head_of buffer.blocks (begins_in (record { mode = mode; buffers = buffers })
+        (position_by mode buffers begun).index begun)).used
+        ≡ (position_by mode buffers begun).used
+    by_mode Interleave buffers e fit there = absurd cc
+    by_mode Sequential buffers e fit there =
+        let run = (Head_of buffers begun).run in
+        ap (λ (head : Head). head.used)
+        ((all_stand buffers (run % length buffers) buffer there begun fit).cut.here
+        (run / length buffers) (sym (div-add-mod' run (length buffers))))

@@ -5,6 +5,7 @@ pub mod Blocks
 pub mod Command
 pub mod Dates
 pub mod Fronts
+pub mod HeadBlocks
 pub mod Lines
 pub mod MessageId
 pub mod Overview

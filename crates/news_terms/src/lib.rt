@@ -13,6 +13,7 @@ pub mod commands;
 pub mod cutting;
 pub mod dates;
 pub mod fronts;
+pub mod heads;
 pub mod ids;
 pub mod images;
 pub mod overviews;

@@ -3,7 +3,8 @@
 ghost use Rattle.std.specs.Prelude.{◌≡◌, ◌<◌, ℕ, List, ◌++◌, All, length, slice_get, Some, true};
 ghost use Rattle.std.specs.Prelude.{false, [], ◌∷◌};
 ghost use Rattle.news_terms.specs.Fronts.{HasOwnNumbers, FitsGroup};
-ghost use Rattle.news_terms.specs.Places.{Buffer, Group, next_place, extents, front_after};
+ghost use Rattle.news_terms.specs.Places.{Buffer, Group, Sequential, next_place, extents};
+ghost use Rattle.news_terms.specs.Places.{front_after};
 ghost use Rattle.news_terms.specs.Picks.{pick_of, begins_in, place_of_pick, head_of, front_at};
 ghost use Rattle.news_terms.specs.Positions.{position_of, pick_at, position_past};
 ghost use Rattle.news_terms.specs.PlaceExamples.{eight, six, eight_by_itself, eight_then_six};
@@ -48,6 +49,16 @@ pub fn positions_pick()
         → position_of group (begun ++ size ∷ [])
         ≡ position_past group.mode group.buffers (position_of group begun)
         (pick_of group begun size) size }
+{}
+
+/// Where buffers are filled one after the other, the blocks used of the current buffer's own run are
+/// those of the group's position: its front less its cycle's first place.
+pub fn positions_are_fronts()
+    ensures { (group : Group) (begun : List ℕ) → group.mode ≡ Sequential
+        → All (FitsGroup group) begun → (buffer : Buffer)
+        → slice_get group.buffers (position_of group begun).index ≡ Some buffer
+        → (head_of buffer.blocks (begins_in group (position_of group begun).index begun)).used
+        ≡ (position_of group begun).used }
 {}
 
 /// Two buffers of eight and six blocks one after the other: articles of five, four, two and three.
