@@ -1,4 +1,5 @@
 pub mod Failing
+pub mod Heads
 pub mod Image
 pub mod Seen
 pub mod Store

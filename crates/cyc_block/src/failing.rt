@@ -1,14 +1,16 @@
 ghost use Rattle.std.specs.Prelude.{◌≡◌, ◌≢◌, ◌<◌, ◌+◌, ◌-◌, ◌↔◌, length, slice_set};
 ghost use Rattle.std.specs.Prelude.{IsErr, OnErr, OnOk};
+ghost use Rattle.news_terms.specs.HeadBlocks.{head_blocks};
 ghost use Rattle.cyc_block.specs.Failing.{armed, calls_left, spent, store_below};
+ghost use Rattle.cyc_block.specs.Failing.{IsOneCall, FailsInTurn};
 ghost use Rattle.cyc_block.specs.Seen.{LooksSame};
 ghost use Rattle.cyc_block.specs.Store.{block_at, ChangesOnly};
 
 use crate::tally::Tally;
 use crate::{BLOCK_OCTETS, BlockStore, DeviceFailed};
 
-/// A store whose call number k fails once; reads and writes are counted together, from 1. The call
-/// that fails does nothing else. Armed again, it fails another call once.
+/// A store whose call number k fails once; reads and writes, those of head blocks too, are counted
+/// together, from 1. The call that fails does nothing else. Armed again, it fails another call once.
 #[derive(Debug, Drop)]
 pub struct FailAt<S> {
     store: S,
@@ -25,6 +27,7 @@ impl<S: BlockStore> FailAt<S> {
         ensures calls { calls_left result ≡ k }
         ensures spent { spent result ≡ 0 }
         ensures blocks { ⟦<FailAt<S> as BlockStore>⟧.blocks result ≡ S.blocks store }
+        ensures heads { ⟦<FailAt<S> as BlockStore>⟧.heads result ≡ S.heads store }
         ensures honest { S.honest store → ⟦<FailAt<S> as BlockStore>⟧.honest result }
     {
         FailAt {
@@ -52,6 +55,8 @@ impl<S: BlockStore> FailAt<S> {
 impl<S: BlockStore> BlockStore for FailAt<S> {
     ghost blocks = { λ failing. S.blocks failing.store };
 
+    ghost heads = { λ failing. S.heads failing.store };
+
     // A call that it fails on purpose is one that the store below isn't asked for.
     ghost calls = { λ failing. S.calls failing.store + spent failing };
 
@@ -69,25 +74,10 @@ impl<S: BlockStore> BlockStore for FailAt<S> {
             → OnOk result (octets.new ≡ block_at (S.blocks (store_below self.old)) k) }
         ensures same { S.honest (store_below self.old)
             → S.blocks (store_below self.new) ≡ S.blocks (store_below self.old) }
-        ensures honest { S.honest (store_below self.old) → S.honest (store_below self.new) }
-        ensures count { length (S.blocks (store_below self.new))
-            ≡ length (S.blocks (store_below self.old)) }
-        ensures calls { S.calls (store_below self.new) + spent self.new
-            ≡ S.calls (store_below self.old) + spent self.old + 1 }
-        ensures failed { OnErr result (S.failures (store_below self.old) + spent self.old
-            < S.failures (store_below self.new) + spent self.new) }
-        ensures no_failure { OnOk result (S.failures (store_below self.new) + spent self.new
-            ≡ S.failures (store_below self.old) + spent self.old) }
-        // Call number k fails and does nothing; every other is passed on, once, and fails only
-        // where the store below does.
-        ensures left { calls_left self.new ≡ calls_left self.old - 1 }
-        ensures due { calls_left self.old ≡ 1
-            → IsErr result × (store_below self.new ≡ store_below self.old)
-            × (spent self.new ≡ spent self.old + 1) }
-        ensures passed_on { calls_left self.old ≢ 1
-            → S.calls (store_below self.new) ≡ S.calls (store_below self.old) + 1 }
-        ensures not_due { calls_left self.old ≢ 1 → OnErr result
-            (S.failures (store_below self.old) < S.failures (store_below self.new)) }
+        ensures heads { S.honest (store_below self.old)
+            → S.heads (store_below self.new) ≡ S.heads (store_below self.old) }
+        ensures call { IsOneCall ⟦<S as BlockStore>⟧ self.old self.new result }
+        ensures turn { FailsInTurn ⟦<S as BlockStore>⟧ self.old self.new result }
     {
         counted(&mut self.left, &mut self.on_purpose)?;
         self.store.read(k, octets)
@@ -100,28 +90,44 @@ impl<S: BlockStore> BlockStore for FailAt<S> {
             ≡ slice_set (S.blocks (store_below self.old)) k octets.now) }
         ensures others { S.honest (store_below self.old)
             → ChangesOnly k (S.blocks (store_below self.old)) (S.blocks (store_below self.new)) }
-        ensures honest { S.honest (store_below self.old) → S.honest (store_below self.new) }
-        ensures count { length (S.blocks (store_below self.new))
-            ≡ length (S.blocks (store_below self.old)) }
-        ensures calls { S.calls (store_below self.new) + spent self.new
-            ≡ S.calls (store_below self.old) + spent self.old + 1 }
-        ensures failed { OnErr result (S.failures (store_below self.old) + spent self.old
-            < S.failures (store_below self.new) + spent self.new) }
-        ensures no_failure { OnOk result (S.failures (store_below self.new) + spent self.new
-            ≡ S.failures (store_below self.old) + spent self.old) }
-        // Call number k fails and does nothing; every other is passed on, once, and fails only
-        // where the store below does.
-        ensures left { calls_left self.new ≡ calls_left self.old - 1 }
-        ensures due { calls_left self.old ≡ 1
-            → IsErr result × (store_below self.new ≡ store_below self.old)
-            × (spent self.new ≡ spent self.old + 1) }
-        ensures passed_on { calls_left self.old ≢ 1
-            → S.calls (store_below self.new) ≡ S.calls (store_below self.old) + 1 }
-        ensures not_due { calls_left self.old ≢ 1 → OnErr result
-            (S.failures (store_below self.old) < S.failures (store_below self.new)) }
+        ensures heads { S.honest (store_below self.old)
+            → S.heads (store_below self.new) ≡ S.heads (store_below self.old) }
+        ensures call { IsOneCall ⟦<S as BlockStore>⟧ self.old self.new result }
+        ensures turn { FailsInTurn ⟦<S as BlockStore>⟧ self.old self.new result }
     {
         counted(&mut self.left, &mut self.on_purpose)?;
         self.store.write(k, octets)
+    }
+
+    fn read_head(&mut self, k: u32, octets: &mut [u8; BLOCK_OCTETS]) -> Result<(), DeviceFailed>
+        requires { k < head_blocks (length (S.blocks (store_below self.old))) }
+        ensures octets { S.honest (store_below self.old)
+            → OnOk result (octets.new ≡ block_at (S.heads (store_below self.old)) k) }
+        ensures same { S.honest (store_below self.old)
+            → S.heads (store_below self.new) ≡ S.heads (store_below self.old) }
+        ensures blocks { S.honest (store_below self.old)
+            → S.blocks (store_below self.new) ≡ S.blocks (store_below self.old) }
+        ensures call { IsOneCall ⟦<S as BlockStore>⟧ self.old self.new result }
+        ensures turn { FailsInTurn ⟦<S as BlockStore>⟧ self.old self.new result }
+    {
+        counted(&mut self.left, &mut self.on_purpose)?;
+        self.store.read_head(k, octets)
+    }
+
+    fn write_head(&mut self, k: u32, octets: &[u8; BLOCK_OCTETS]) -> Result<(), DeviceFailed>
+        requires { k < head_blocks (length (S.blocks (store_below self.old))) }
+        ensures written { S.honest (store_below self.old)
+            → OnOk result (S.heads (store_below self.new)
+            ≡ slice_set (S.heads (store_below self.old)) k octets.now) }
+        ensures others { S.honest (store_below self.old)
+            → ChangesOnly k (S.heads (store_below self.old)) (S.heads (store_below self.new)) }
+        ensures blocks { S.honest (store_below self.old)
+            → S.blocks (store_below self.new) ≡ S.blocks (store_below self.old) }
+        ensures call { IsOneCall ⟦<S as BlockStore>⟧ self.old self.new result }
+        ensures turn { FailsInTurn ⟦<S as BlockStore>⟧ self.old self.new result }
+    {
+        counted(&mut self.left, &mut self.on_purpose)?;
+        self.store.write_head(k, octets)
     }
 }
 

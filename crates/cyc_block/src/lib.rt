@@ -6,12 +6,14 @@
 #![tactic(auto)]
 
 mod failing;
+mod head;
 mod image;
 mod memory;
 mod store;
 mod tally;
 
 pub use failing::FailAt;
+pub use head::{HeadNumbers, HeadState, head_count, head_image, read_head_image};
 pub use image::{Image, Stamp, block_image, read_image};
 pub use memory::MemoryBlocks;
 pub use store::{BlockStore, DeviceFailed};

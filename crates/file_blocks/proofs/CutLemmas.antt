@@ -11,12 +11,16 @@ unfolding blocks_of
 length-blocks_of zero octets = refl
 length-blocks_of (suc n) octets = ap suc (length-blocks_of n (drop BLOCK_OCTETS octets))
 
+-- where each block but the first begins
+later_place : (k : ℕ) → suc k * BLOCK_OCTETS ≡ BLOCK_OCTETS + k * BLOCK_OCTETS
+later_place k = omega arith
+
 -- what is behind the first block begins a block later
 one_later : (k : ℕ) (octets : List ℕ)
     → drop (k * BLOCK_OCTETS) (drop BLOCK_OCTETS octets) ≡ drop (suc k * BLOCK_OCTETS) octets
 one_later k octets =
-    let e : BLOCK_OCTETS + k * BLOCK_OCTETS ≡ suc k * BLOCK_OCTETS = omega arith in
-    drop-drop (k * BLOCK_OCTETS) BLOCK_OCTETS octets ∙ ap (λ n. drop n octets) e
+    drop-drop (k * BLOCK_OCTETS) BLOCK_OCTETS octets
+    ∙ sym (ap (λ n. drop n octets) (later_place k))
 
 -- block k is what is read at its place
 pub block_there : (n k : ℕ) (octets : List ℕ) → k < n
@@ -28,33 +32,28 @@ block_there (suc n) (suc k) octets h =
     block_there n k (drop BLOCK_OCTETS octets) (omega (arith, h))
     ∙ ap (take BLOCK_OCTETS) (one_later k octets)
 
--- as the octets are the same before a block, so they are behind the first one
-before_it : (k : ℕ) (old new : List ℕ)
-    → take (suc k * BLOCK_OCTETS) new ≡ take (suc k * BLOCK_OCTETS) old
-    → take (k * BLOCK_OCTETS) (drop BLOCK_OCTETS new)
-    ≡ take (k * BLOCK_OCTETS) (drop BLOCK_OCTETS old)
-before_it k old new same =
-    let e : BLOCK_OCTETS + k * BLOCK_OCTETS ≡ suc k * BLOCK_OCTETS = omega arith in
-    sym (drop-take BLOCK_OCTETS (k * BLOCK_OCTETS) new)
-    ∙ ap (λ n. drop BLOCK_OCTETS (take n new)) e
-    ∙ ap (λ (octets : List ℕ). drop BLOCK_OCTETS octets) same
-    ∙ sym (ap (λ n. drop BLOCK_OCTETS (take n old)) e)
-    ∙ drop-take BLOCK_OCTETS (k * BLOCK_OCTETS) old
+-- as the octets are the same up to a place, so are those of them that are behind an earlier place
+front_behind : (earlier place : ℕ) (old new : List ℕ)
+    → take (earlier + place) new ≡ take (earlier + place) old
+    → take place (drop earlier new) ≡ take place (drop earlier old)
+front_behind earlier place old new same =
+    sym (drop-take earlier place new)
+    ∙ ap (λ (octets : List ℕ). drop earlier octets) same
+    ∙ drop-take earlier place old
 
--- and as they are the same behind it
-behind_it : (k : ℕ) (old new : List ℕ)
-    → drop (suc k * BLOCK_OCTETS + BLOCK_OCTETS) new
-    ≡ drop (suc k * BLOCK_OCTETS + BLOCK_OCTETS) old
-    → drop (k * BLOCK_OCTETS + BLOCK_OCTETS) (drop BLOCK_OCTETS new)
-    ≡ drop (k * BLOCK_OCTETS + BLOCK_OCTETS) (drop BLOCK_OCTETS old)
-behind_it k old new same =
-    let e : BLOCK_OCTETS + (k * BLOCK_OCTETS + BLOCK_OCTETS)
-    ≡ suc k * BLOCK_OCTETS + BLOCK_OCTETS = omega arith in
-    drop-drop (k * BLOCK_OCTETS + BLOCK_OCTETS) BLOCK_OCTETS new
-    ∙ ap (λ n. drop n new) e
-    ∙ same
-    ∙ sym (ap (λ n. drop n old) e)
-    ∙ sym (drop-drop (k * BLOCK_OCTETS + BLOCK_OCTETS) BLOCK_OCTETS old)
+-- a change at a place is one of the octets behind an earlier place
+pub change_behind : (earlier place : ℕ) (old new : List ℕ) → ChangesOnlyAt (earlier + place) old new
+    → ChangesOnlyAt place (drop earlier old) (drop earlier new)
+change_behind earlier place old new c =
+    let e : earlier + (place + BLOCK_OCTETS) ≡ earlier + place + BLOCK_OCTETS = omega arith in
+    record {
+      before = front_behind earlier place old new c.before;
+      behind = drop-drop (place + BLOCK_OCTETS) earlier new
+          ∙ ap (λ n. drop n new) e
+          ∙ c.behind
+          ∙ sym (ap (λ n. drop n old) e)
+          ∙ sym (drop-drop (place + BLOCK_OCTETS) earlier old);
+    }
 
 -- the first block is the same where only a later one changes
 first_stays : (k : ℕ) (old new : List ℕ)
@@ -76,10 +75,8 @@ block_changed (suc n) zero old new h c =
     ap (λ (rest : List ℕ). octets_at new 0 ∷ blocks_of n rest) c.behind
 block_changed (suc n) (suc k) old new h c =
     let later = block_changed n k (drop BLOCK_OCTETS old) (drop BLOCK_OCTETS new)
-    (omega (arith, h)) (record {
-      before = before_it k old new c.before;
-      behind = behind_it k old new c.behind;
-    }) in
+    (omega (arith, h)) (change_behind BLOCK_OCTETS (k * BLOCK_OCTETS) old new
+    (subst (λ p. ChangesOnlyAt p old new) (later_place k) c)) in
     let there = ap (take BLOCK_OCTETS) (one_later k new) in
     ap (λ (octets : List ℕ). octets ∷ blocks_of n (drop BLOCK_OCTETS new))
     (first_stays k old new c.before)
@@ -92,7 +89,7 @@ pub same_count : (n : ℕ) (old new : List ℕ)
 same_count n old new = length-blocks_of n new ∙ sym (length-blocks_of n old)
 
 -- a number below that of the blocks cut is below that asked for
-within : (n k : ℕ) (octets : List ℕ) → k < length (blocks_of n octets) → k < n
+pub within : (n k : ℕ) (octets : List ℕ) → k < length (blocks_of n octets) → k < n
 within n k octets h = omega (arith, h, length-blocks_of n octets)
 
 -- what is read at the place of block k is that block
@@ -126,3 +123,16 @@ pub other_blocks : (n k place : ℕ) (old new : List ℕ) → k < length (blocks
 other_blocks n k place old new h at c j other =
     ap (λ (blocks : List (List ℕ)). get_or blocks j []) (placed_change n k place old new h at c)
     ∙ get_or-set_other (blocks_of n old) k j (octets_at new place) [] other
+
+-- so many blocks are the same where the octets up to their end are
+pub same_front : (n : ℕ) (old new : List ℕ) → take (n * BLOCK_OCTETS) new ≡ take (n * BLOCK_OCTETS) old
+    → blocks_of n new ≡ blocks_of n old
+unfolding blocks_of
+same_front zero old new same = refl
+same_front (suc n) old new same =
+    let later = same_front n (drop BLOCK_OCTETS old) (drop BLOCK_OCTETS new)
+    (front_behind BLOCK_OCTETS (n * BLOCK_OCTETS) old new
+    (subst (λ p. take p new ≡ take p old) (later_place n) same)) in
+    ap (λ (octets : List ℕ). octets ∷ blocks_of n (drop BLOCK_OCTETS new))
+    (first_stays n old new same)
+    ∙ ap (λ (rest : List (List ℕ)). octets_at old 0 ∷ rest) later

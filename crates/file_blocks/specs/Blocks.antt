@@ -1,6 +1,7 @@
--- The blocks of a file, by its octets (docs/FORMATS.md, Blocks on the device).
-use Rattle.std.specs.Prelude.{◌≡◌, ◌+◌, ℕ, zero, suc, List, [], ◌∷◌, take, drop}
+-- The blocks of a file, by its octets (docs/FORMATS.md, Blocks on the device, Head blocks).
+use Rattle.std.specs.Prelude.{◌≡◌, ◌+◌, ◌*◌, ℕ, zero, suc, List, [], ◌∷◌, take, drop}
 use Rattle.cyc_block.specs.declared.TheConstants.{BLOCK_OCTETS}
+use Rattle.news_terms.specs.HeadBlocks.{head_blocks}
 
 -- the 512 octets at a place, fewer where the octets end before
 abbrev pub octets_at : List ℕ → (place : ℕ) → List ℕ
@@ -10,6 +11,10 @@ octets_at octets place = take BLOCK_OCTETS (drop place octets)
 unfoldable pub blocks_of : ℕ → List ℕ → List (List ℕ)
 blocks_of zero octets = []
 blocks_of (suc n) octets = octets_at octets 0 ∷ blocks_of n (drop BLOCK_OCTETS octets)
+
+-- the head blocks of a file of n blocks, which follow these (docs/FORMATS.md, Head blocks)
+abbrev pub heads_of : ℕ → List ℕ → List (List ℕ)
+heads_of n octets = blocks_of (head_blocks n) (drop (n * BLOCK_OCTETS) octets)
 
 -- only the 512 octets at a place are others than before
 pub record ChangesOnlyAt (place : ℕ) (old new : List ℕ) : Type 0 where

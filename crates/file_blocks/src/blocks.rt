@@ -1,15 +1,16 @@
 //! Blocks in a file.
-ghost use Rattle.std.specs.Prelude.{◌≡◌, ◌*◌, ◌↔◌, [], IfOk, IsTrue};
-ghost use Rattle.file_blocks.specs.Blocks.{blocks_of};
+ghost use Rattle.std.specs.Prelude.{◌≡◌, ◌+◌, ◌*◌, ◌↔◌, [], IfOk, IsTrue};
+ghost use Rattle.news_terms.specs.HeadBlocks.{head_blocks};
+ghost use Rattle.file_blocks.specs.Blocks.{blocks_of, heads_of};
 ghost use Rattle.file_blocks.specs.Store.{count_of, file_of};
 ghost use Rattle.file_blocks.specs.Host.{asked_of, held_identity, identity_of};
 
 use crate::host::{HeldFile, HostFile, Unusable};
 use crate::octets::OctetFile;
-use cyc_block::{BLOCK_OCTETS, BlockStore, DeviceFailed};
+use cyc_block::{BLOCK_OCTETS, BlockStore, DeviceFailed, head_count};
 use std::fs::{File, Files};
 
-/// The first blocks of a file: block k has the 512 octets from 512 k on.
+/// The first blocks of a file: block k has the 512 octets from 512 k on. Its head blocks follow them.
 #[derive(Drop)]
 pub struct FileBlocks<F = HostFile> {
     file: F,
@@ -18,7 +19,7 @@ pub struct FileBlocks<F = HostFile> {
 }
 
 impl<F: OctetFile> FileBlocks<F> {
-    /// The first n blocks of a file.
+    /// The first n blocks of a file, and their head blocks.
     pub fn new(file: F, n: u32) -> FileBlocks<F>
         ensures file { file_of result ≡ file }
         ensures count { count_of result ≡ n }
@@ -28,10 +29,10 @@ impl<F: OctetFile> FileBlocks<F> {
 }
 
 impl FileBlocks<HostFile> {
-    /// The first n blocks of the file at a path. The file is made where it isn't there, locked before
-    /// anything of it is read or written, and made longer with zeros where it is shorter; octets
-    /// that it has stay. The error says why it can't be used, and then nothing is promised of the
-    /// file.
+    /// The first n blocks of the file at a path, and their head blocks. The file is made where it
+    /// isn't there, locked before anything of it is read or written, and made longer with zeros
+    /// where it is shorter; octets that it has stay. The error says why it can't be used, and then
+    /// nothing is promised of the file.
     pub fn open<R: Files<File = File>>(
         rt: &R,
         path: &str,
@@ -43,15 +44,14 @@ impl FileBlocks<HostFile> {
         FileBlocks::of_held(HeldFile::hold(rt, path)?, n)
     }
 
-    /// The first n blocks of a file that is held, which is made longer with zeros where it is
-    /// shorter; octets that it has stay.
+    /// The first n blocks of a file that is held, and their head blocks. The file is made longer with
+    /// zeros where it is shorter; octets that it has stay.
     pub fn of_held(held: HeldFile, n: u32) -> Result<FileBlocks<HostFile>, Unusable>
         ensures count { IfOk result (λ store. count_of store ≡ n) }
         ensures unasked { IfOk result (λ store. asked_of (file_of store) ≡ []) }
         ensures same { IfOk result (λ store. identity_of (file_of store) ≡ held_identity held) }
     {
-        let size = u64::from(n) * BLOCK_OCTETS as u64;
-        Ok(FileBlocks::new(held.fit(size)?, n))
+        Ok(FileBlocks::new(held.fit(size_of(n))?, n))
     }
 
     /// Whether both are over one file, whatever its names: the same inode of the same device.
@@ -65,6 +65,8 @@ impl FileBlocks<HostFile> {
 
 impl<F: OctetFile> BlockStore for FileBlocks<F> {
     ghost blocks = { λ store. blocks_of store.count (F.held store.file) };
+
+    ghost heads = { λ store. heads_of store.count (F.held store.file) };
 
     ghost calls = { λ store. F.calls store.file };
 
@@ -83,6 +85,21 @@ impl<F: OctetFile> BlockStore for FileBlocks<F> {
     fn write(&mut self, k: u32, octets: &[u8; BLOCK_OCTETS]) -> Result<(), DeviceFailed> {
         self.file.write(place_of(k), octets)
     }
+
+    fn read_head(&mut self, k: u32, octets: &mut [u8; BLOCK_OCTETS]) -> Result<(), DeviceFailed> {
+        self.file.read(head_place_of(self.count, k), octets)
+    }
+
+    fn write_head(&mut self, k: u32, octets: &[u8; BLOCK_OCTETS]) -> Result<(), DeviceFailed> {
+        self.file.write(head_place_of(self.count, k), octets)
+    }
+}
+
+/// How many octets of a file n blocks and their head blocks take.
+fn size_of(n: u32) -> u64
+    ensures { result ≡ (n + head_blocks n) * BLOCK_OCTETS }
+{
+    (u64::from(n) + u64::from(head_count(n))) * BLOCK_OCTETS as u64
 }
 
 /// Where block k begins, in octets from the front of the file.
@@ -90,4 +107,11 @@ fn place_of(k: u32) -> u64
     ensures { result ≡ k * BLOCK_OCTETS }
 {
     u64::from(k) * BLOCK_OCTETS as u64
+}
+
+/// Where head block k of a file of n blocks begins, in octets from the front of the file.
+fn head_place_of(n: u32, k: u32) -> u64
+    ensures { result ≡ n * BLOCK_OCTETS + k * BLOCK_OCTETS }
+{
+    place_of(n) + place_of(k)
 }

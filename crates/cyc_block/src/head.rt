@@ -1,0 +1,153 @@
+//! Head blocks: the octets of a buffer's numbers.
+ghost use Rattle.std.specs.Prelude.{◌≡◌, IfSome, IsSomeAnd};
+ghost use Rattle.news_terms.specs.HeadBlocks.{HeadBlock, IsHeadBlock, Open, Closed};
+ghost use Rattle.news_terms.specs.HeadBlocks.{head_blocks, head_places, head_counts};
+ghost use Rattle.news_terms.specs.HeadBlocks.{head_image as image_of, state_octet as octet_of};
+ghost use Rattle.cyc_block.specs.Heads.{head_view, state_view};
+
+use crate::BLOCK_OCTETS;
+
+/// The blocks that one block of a bitmap has bits of.
+const BITS_OF_BLOCK: u32 = 4096;
+
+/// How many head blocks a store of so many blocks has.
+pub fn head_count(blocks: u32) -> u32
+    ensures { result ≡ head_blocks blocks }
+{
+    1 + blocks.div_ceil(BITS_OF_BLOCK)
+}
+
+/// What a device says of its buffer's state.
+#[derive(Clone, Copy, Debug, PartialEq, Eq)]
+pub enum HeadState {
+    /// It may have been changed since.
+    Open,
+    /// It was stopped.
+    Closed,
+}
+
+/// What head block 0 says of a buffer (docs/FORMATS.md, Head blocks).
+#[derive(Clone, Copy, Debug, PartialEq, Eq)]
+pub struct HeadNumbers {
+    /// Whether it was stopped.
+    pub state: HeadState,
+    /// The number of the buffer.
+    pub number: u8,
+    /// How many blocks it has.
+    pub blocks: u32,
+    /// The cycle that its first begin is in.
+    pub first_cycle: u32,
+    /// The cycle that the newest article is in; the first one where there is none.
+    pub cycle: u32,
+    /// The next block in that cycle.
+    pub head: u32,
+    /// The number of the stop.
+    pub stop: u64,
+    /// How many articles were begun.
+    pub begun: u64,
+    /// How many of them were finished.
+    pub stored: u64,
+}
+
+/// The octets of head block 0 of these numbers.
+pub fn head_image(numbers: &HeadNumbers) -> [u8; BLOCK_OCTETS]
+    ensures { result ≡ image_of (head_view numbers.now) }
+{
+    let mut image = [0u8; BLOCK_OCTETS];
+    image[..24].copy_from_slice(&places(numbers));
+    image[24..48].copy_from_slice(&counts(numbers));
+    image
+}
+
+/// The octets that say which buffer it is, and how far it is used.
+fn places(numbers: &HeadNumbers) -> [u8; 24]
+    ensures { result ≡ head_places (head_view numbers.now) }
+{
+    let blocks = numbers.blocks.to_be_bytes();
+    let first_cycle = numbers.first_cycle.to_be_bytes();
+    let cycle = numbers.cycle.to_be_bytes();
+    let head = numbers.head.to_be_bytes();
+    let mut octets = [0u8; 24];
+    octets[..4].copy_from_slice(b"CNH1");
+    octets[4] = state_octet(numbers.state);
+    octets[5] = numbers.number;
+    octets[8..12].copy_from_slice(&blocks);
+    octets[12..16].copy_from_slice(&first_cycle);
+    octets[16..20].copy_from_slice(&cycle);
+    octets[20..24].copy_from_slice(&head);
+    octets
+}
+
+/// The octets of the number of the stop and of the counts.
+fn counts(numbers: &HeadNumbers) -> [u8; 24]
+    ensures { result ≡ head_counts (head_view numbers.now) }
+{
+    let stop = numbers.stop.to_be_bytes();
+    let begun = numbers.begun.to_be_bytes();
+    let stored = numbers.stored.to_be_bytes();
+    let mut octets = [0u8; 24];
+    octets[..8].copy_from_slice(&stop);
+    octets[8..16].copy_from_slice(&begun);
+    octets[16..24].copy_from_slice(&stored);
+    octets
+}
+
+/// The octet of a state.
+fn state_octet(state: HeadState) -> u8
+    ensures { result ≡ octet_of (state_view state) }
+{
+    match state {
+        HeadState::Open => 0,
+        HeadState::Closed => 1,
+    }
+}
+
+/// Reads the octets of head block 0; none where they are no image of any numbers.
+pub fn read_head_image(image: &[u8; BLOCK_OCTETS]) -> Option<HeadNumbers>
+    ensures image { IfSome result (λ numbers.
+        IsHeadBlock (head_view numbers) × (image.now ≡ image_of (head_view numbers))) }
+    ensures read { (b : HeadBlock) → IsHeadBlock b → image.now ≡ image_of b
+        → IsSomeAnd result (λ numbers. head_view numbers ≡ b) }
+{
+    let numbers = read_numbers(image);
+    // The octets are an image exactly where they are the one of these numbers.
+    if image[..] != head_image(&numbers)[..] {
+        return None;
+    }
+    Some(numbers)
+}
+
+/// The numbers that the octets of head block 0 say.
+fn read_numbers(image: &[u8; BLOCK_OCTETS]) -> HeadNumbers
+    ensures { (b : HeadBlock) → IsHeadBlock b → image.now ≡ image_of b → head_view result ≡ b }
+{
+    HeadNumbers {
+        state: read_state(image[4]),
+        number: image[5],
+        blocks: u32::from_be_bytes([image[8], image[9], image[10], image[11]]),
+        first_cycle: u32::from_be_bytes([image[12], image[13], image[14], image[15]]),
+        cycle: u32::from_be_bytes([image[16], image[17], image[18], image[19]]),
+        head: u32::from_be_bytes([image[20], image[21], image[22], image[23]]),
+        stop: u64::from_be_bytes([
+            image[24], image[25], image[26], image[27], image[28], image[29], image[30], image[31],
+        ]),
+        begun: u64::from_be_bytes([
+            image[32], image[33], image[34], image[35], image[36], image[37], image[38], image[39],
+        ]),
+        stored: u64::from_be_bytes([
+            image[40], image[41], image[42], image[43], image[44], image[45], image[46], image[47],
+        ]),
+    }
+}
+
+/// The state that an octet says.
+fn read_state(octet: u8) -> HeadState
+    ensures open { octet ≡ 0 → state_view result ≡ Open }
+    ensures closed { octet ≡ 1 → state_view result ≡ Closed }
+{
+    if octet == 0 {
+        HeadState::Open
+    } else {
+        HeadState::Closed
+    }
+}
