@@ -52,6 +52,8 @@ impl<'a, S, R: Clock + Eprint> Watched<'a, S, R> {
 impl<S: BlockStore, R: Clock + Eprint> BlockStore for Watched<'_, S, R> {
     ghost blocks = { λ watched. S.blocks watched.store };
 
+    ghost heads = { λ watched. S.heads watched.store };
+
     ghost calls = { λ watched. S.calls watched.store };
 
     ghost failures = { λ watched. S.failures watched.store };
@@ -72,6 +74,22 @@ impl<S: BlockStore, R: Clock + Eprint> BlockStore for Watched<'_, S, R> {
 
     fn write(&mut self, k: u32, octets: &[u8; BLOCK_OCTETS]) -> Result<(), DeviceFailed> {
         let answer = self.store.write(k, octets);
+        if answer.is_err() {
+            self.tell("Write");
+        }
+        answer
+    }
+
+    fn read_head(&mut self, k: u32, octets: &mut [u8; BLOCK_OCTETS]) -> Result<(), DeviceFailed> {
+        let answer = self.store.read_head(k, octets);
+        if answer.is_err() {
+            self.tell("Read");
+        }
+        answer
+    }
+
+    fn write_head(&mut self, k: u32, octets: &[u8; BLOCK_OCTETS]) -> Result<(), DeviceFailed> {
+        let answer = self.store.write_head(k, octets);
         if answer.is_err() {
             self.tell("Write");
         }

@@ -34,6 +34,8 @@ pub(crate) struct Waiting<'a, R: Sync> {
 impl<R: Wait + Clock + Sync> BlockStore for Waiting<'_, R> {
     ghost blocks = { λ waiting. ⟦<FailAt<MemoryBlocks> as BlockStore>⟧.blocks waiting.store };
 
+    ghost heads = { λ waiting. ⟦<FailAt<MemoryBlocks> as BlockStore>⟧.heads waiting.store };
+
     ghost calls = { λ waiting. ⟦<FailAt<MemoryBlocks> as BlockStore>⟧.calls waiting.store };
 
     ghost failures = { λ waiting. ⟦<FailAt<MemoryBlocks> as BlockStore>⟧.failures waiting.store };
@@ -53,6 +55,17 @@ impl<R: Wait + Clock + Sync> BlockStore for Waiting<'_, R> {
         self.board.writing(self.rt);
         self.board.wait(self.rt, self.waits.writes);
         self.store.write(k, octets)
+    }
+
+    fn read_head(&mut self, k: u32, octets: &mut [u8; BLOCK_OCTETS]) -> Result<(), DeviceFailed> {
+        self.board.wait(self.rt, self.waits.reads);
+        self.store.read_head(k, octets)
+    }
+
+    fn write_head(&mut self, k: u32, octets: &[u8; BLOCK_OCTETS]) -> Result<(), DeviceFailed> {
+        self.board.writing(self.rt);
+        self.board.wait(self.rt, self.waits.writes);
+        self.store.write_head(k, octets)
     }
 }
 

@@ -7,5 +7,5 @@ invariant_of-result g c = record {
   tied = ∣ tied_new g.J.Archive.register g.J.Archive.trusted c.args.number c.args.first_cycle
       c.args.store c.in_ok-buffer.buffer c.in_ok-numbers.numbers.items c.requires
       c.in_ok-buffer.ensures.new
-      (c.in_ok-numbers.ensures ∙ ap (λ n. replicate n None) c.count.ensures) ∣₁;
+      (c.in_ok-numbers.ensures ∙ ap (λ n. replicate n None) c.count.ensures.blocks) ∣₁;
 }
