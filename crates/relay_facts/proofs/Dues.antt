@@ -1,5 +1,5 @@
 -- What is due in a Turn: the session goes on as it may, and an article that is taken is sound.
-use Rattle.std.proofs.Common.{◌≡◌, ◌∙◌, ◌<◌, ℕ, false, List, [], ◌∷◌, length, Option, None, Some}
+use Rattle.std.proofs.Common.{◌≡◌, ◌∙◌, ◌<◌, ℕ, true, false, List, [], ◌∷◌, length, Option, None, Some}
 use Rattle.std.proofs.Common.{Result, Ok, Err, refl, sym, ap, subst}
 use Rattle.std.proofs.lemmas.Bool.{cond_both}
 use Rattle.std.proofs.lemmas.Option.{none-some}
@@ -18,6 +18,7 @@ use Rattle.relay_model.specs.Asks.{judged_asked, or_push, leaving_due, without_o
 use Rattle.relay_model.specs.Claims.{Accepted}
 use Rattle.relay_model.specs.Invariants.{IsSoundArticle, held, may_carry}
 use Rattle.relay_model.specs.Judging.{Judges}
+use Rattle.relay_model.specs.Run.{is_running}
 use Rattle.relay_model.specs.State.{Session, Phase, Ready, Owes, Holds, Waits, Fetches, Leaving}
 use Rattle.relay_model.specs.State.{Ended, Transfer, TakesThis, Has, Job, in_phase, with_unread}
 use Rattle.relay_model.specs.State.{with_offers}
@@ -26,8 +27,9 @@ use Rattle.relay_facts.specs.Sound.{IsSound}
 use Rattle.relay_facts.proofs.Judged.{judged_sound}
 use Rattle.relay_facts.proofs.SessionOrderly.{Follows}
 
--- what holds of each session of a world in order
+-- what holds of each session of a world in order that runs
 pub record IsFit (w : Terms) (session : Session) : Type 0 where
+  pub runs : is_running session.phase ≡ true
   pub peer : session.peer < length w.peers
   pub carries : may_carry session.phase ≡ false → session.hand ≡ None
   pub holds : (article : Accepted) → held session.phase ≡ Some article → IsSoundArticle w article
@@ -65,6 +67,7 @@ pub in_idle_phase : (w : Terms) (old after : Session) (phase : Phase) → Follow
     → after.hand ≡ None
     → held phase ≡ None → Follows w old (in_phase after phase)
 in_idle_phase w old after phase follows none empty = record {
+  runs = follows.runs;
   peer = follows.peer;
   hand = follows.hand;
   carries = λ e. none;
@@ -77,11 +80,11 @@ pub with_others : (w : Terms) (old after : Session) (unread : List ℕ) (offers 
     → Follows w old (record after { unread = unread; offers = offers })
 with_others w old after unread offers follows =
     record {
+      runs = follows.runs;
       peer = follows.peer;
       hand = follows.hand;
       carries = follows.carries;
-      holds =
-          follows.holds;
+      holds = follows.holds;
     }
 
 -- CHECK, IHAVE
@@ -235,5 +238,11 @@ pub due_fits : (w : Terms) → IsSound w → (old : Session) → IsFit w old →
     → DueFits w old d
 due_fits w sound old fit now d e =
     phase_fits w sound old fit
-    (record { peer = refl; hand = refl; carries = fit.carries; holds = fit.holds })
+    (record {
+      runs = fit.runs;
+      peer = refl;
+      hand = refl;
+      carries = fit.carries;
+      holds = fit.holds;
+    })
     now old.phase refl d e

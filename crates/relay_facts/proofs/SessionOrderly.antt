@@ -8,7 +8,7 @@ use Rattle.relay_model.specs.Claims.{Accepted, Storing, Stage, Waiting}
 use Rattle.relay_model.specs.Invariants.{IsNumbered, IsSized, IsSoundArticle, IsKeptRight, held}
 use Rattle.relay_model.specs.Invariants.{may_carry}
 use Rattle.relay_facts.proofs.Orderly.{IsOrderly}
-use Rattle.relay_model.specs.Run.{is_taken}
+use Rattle.relay_model.specs.Run.{is_running, is_taken}
 use Rattle.relay_model.specs.State.{State, Session, Job, put_at}
 use Rattle.relay_model.specs.Terms.{Terms}
 use Rattle.relay_model.specs.World.{World}
@@ -26,20 +26,21 @@ FitsOne group size = (1 ≤ size) × FitsGroup group size
 abbrev pub Puts : State → ℕ → Session → State → Type 0
 Puts σ s next τ = (n : ℕ) → τ.session n ≡ put_at σ.session s (Some next) n
 
--- one session is another of the same peer
+-- a session that runs goes on as another of the same peer
 pub numbered_put : (w : Terms) (σ τ : State) (s : ℕ) (old next : Session) → σ.session s ≡ Some old
-    → next.peer ≡ old.peer → Puts σ s next τ → τ.newest ≡ σ.newest → IsNumbered w σ → IsNumbered w τ
-numbered_put w σ τ s old next there peer puts newest num = record {
+    → is_running old.phase ≡ true → next.peer ≡ old.peer → Puts σ s next τ → τ.newest ≡ σ.newest
+    → IsNumbered w σ → IsNumbered w τ
+numbered_put w σ τ s old next there runs peer puts newest num = record {
   unopened = λ n free.
       let before = ap (λ m. is_taken m n) (sym newest) ∙ free in
       puts n ∙ put_at_both (λ o. o ≡ None) σ.session s (Some next) n
       (λ e. absurd (none-some old (sym (num.unopened n before) ∙ ap σ.session e ∙ there)))
       (λ apart. num.unopened n before);
-  peer = λ n session is.
+  peer = λ n session is running.
       put_at_both (λ o. o ≡ Some session → session.peer < length w.peers) σ.session s (Some next) n
       (λ e same. subst (λ (one : Session). one.peer < length w.peers) (same_Some next session same)
-      (subst (λ m. m < length w.peers) (sym peer) (num.peer s old there)))
-      (λ apart same. num.peer n session same)
+      (subst (λ m. m < length w.peers) (sym peer) (num.peer s old there runs)))
+      (λ apart same. num.peer n session same running)
       (sym (puts n) ∙ is);
 }
 
@@ -65,8 +66,9 @@ pub record Leaves (x y : World) (s : ℕ) (next : Session) : Type 0 where
   pub queue : (g : ℕ) → y.work.queue g ≡ x.work.queue g
   pub writer : (g : ℕ) → y.work.writer g ≡ x.work.writer g
 
--- a session that may follow another where its hand stays
+-- a session that may follow one that runs where its hand stays
 pub record Follows (w : Terms) (old next : Session) : Type 0 where
+  pub runs : is_running old.phase ≡ true
   pub peer : next.peer ≡ old.peer
   pub hand : next.hand ≡ old.hand
   pub carries : may_carry next.phase ≡ false → next.hand ≡ None
@@ -77,8 +79,8 @@ pub follows_orderly : (w : Terms) (x y : World) (s : ℕ) (old next : Session)
     → x.state.session s ≡ Some old
     → Follows w old next → Leaves x y s next → IsOrderly w x → IsOrderly w y
 follows_orderly w x y s old next there follows leaves orderly = record {
-  numbered = numbered_put w x.state y.state s old next there follows.peer leaves.puts leaves.newest
-      orderly.numbered;
+  numbered = numbered_put w x.state y.state s old next there follows.runs follows.peer leaves.puts
+      leaves.newest orderly.numbered;
   placed = session_placed w x y s next leaves.claims leaves.begun leaves.puts leaves.queue
       leaves.writer
       (follows.hand ∙ sym (ap hand_of there)) follows.carries orderly.placed;
@@ -95,13 +97,13 @@ follows_orderly w x y s old next there follows leaves orderly = record {
 -- an article is taken into the session's hand
 pub taken_orderly : (w : Terms) (x : World) (s : ℕ) (old next : Session) (id : List ℕ)
     (article : Accepted)
-    → x.state.session s ≡ Some old → IsFree x.state id → old.hand ≡ None
-    → next.peer ≡ old.peer → next.hand ≡ Some (job_of s id article) → may_carry next.phase ≡ true
+    → x.state.session s ≡ Some old → is_running old.phase ≡ true → IsFree x.state id
+    → old.hand ≡ None → next.peer ≡ old.peer → next.hand ≡ Some (job_of s id article) → may_carry next.phase ≡ true
     → held next.phase ≡ None → IsSoundArticle w article → IsOrderly w x
     → IsOrderly w (taken x s id article next)
-taken_orderly w x s old next id article there free empty peer hand carries holds sound orderly =
+taken_orderly w x s old next id article there runs free empty peer hand carries holds sound orderly =
     let after = taken x s id article next in record {
-      numbered = numbered_put w x.state after.state s old next there peer (λ n. refl) refl
+      numbered = numbered_put w x.state after.state s old next there runs peer (λ n. refl) refl
           orderly.numbered;
       placed = taken_placed w x s id article next free (ap hand_of there ∙ empty) hand
           (λ not. absurd (cc (not, carries))) orderly.placed;
@@ -124,13 +126,13 @@ taken_orderly w x s old next id article there free empty peer hand carries holds
 
 -- the job in hand is handed to its queue
 pub handed_orderly : (w : Terms) (x : World) (s : ℕ) (old next : Session) (job : Job)
-    → x.state.session s ≡ Some old → old.hand ≡ Some job
+    → x.state.session s ≡ Some old → is_running old.phase ≡ true → old.hand ≡ Some job
     → next.peer ≡ old.peer → next.hand ≡ None
     → ((article : Accepted) → held next.phase ≡ Some article → IsSoundArticle w article)
     → IsOrderly w x → IsOrderly w (handed x s job next)
-handed_orderly w x s old next job there full peer empty holds orderly =
+handed_orderly w x s old next job there runs full peer empty holds orderly =
     let after = handed x s job next in record {
-      numbered = numbered_put w x.state after.state s old next there peer (λ n. refl) refl
+      numbered = numbered_put w x.state after.state s old next there runs peer (λ n. refl) refl
           orderly.numbered;
       placed = pushed_placed w x s job next (ap hand_of there ∙ full) empty orderly.placed;
       sized = record {

@@ -1,10 +1,10 @@
 -- Open, Bytes, Break.
-use Rattle.std.proofs.Common.{◌≡◌, ◌<◌, ◌++◌, ℕ, false, List, length, Option, None, Some, refl, sym}
+use Rattle.std.proofs.Common.{◌≡◌, ◌<◌, ◌++◌, ℕ, true, false, List, length, Option, None, Some, refl, sym}
 use Rattle.std.proofs.Common.{ap, subst, arith, true≢false}
 use Rattle.std.proofs.lemmas.Bool.{leb-false, lt-leb}
 use Rattle.std.proofs.lemmas.Option.{none-some, same_Some}
 use Rattle.relay_facts.proofs.Orderly.{IsOrderly}
-use Rattle.relay_model.specs.Run.{is_taken, opened, new_session}
+use Rattle.relay_model.specs.Run.{is_running, is_taken, opened, new_session}
 use Rattle.relay_model.specs.State.{Session, Leaving, in_phase, with_unread}
 use Rattle.relay_model.specs.Terms.{Terms}
 use Rattle.relay_model.specs.World.{World, with_session}
@@ -33,12 +33,12 @@ opened_orderly w x s peer free inside orderly =
         unopened = λ n empty. let was = was_free x.state.newest s n free empty in
             put_at_both (λ o. o ≡ None) x.state.session s (Some (new_session peer)) n
             (λ e. absurd (was.1 e)) (λ apart. orderly.numbered.unopened n was.0);
-        peer = λ n session.
+        peer = λ n session is running.
             put_at_both (λ o. o ≡ Some session → session.peer < length w.peers) x.state.session s
             (Some (new_session peer)) n
             (λ e same. subst (λ (one : Session). one.peer < length w.peers)
             (same_Some (new_session peer) session same) inside)
-            (λ apart same. orderly.numbered.peer n session same);
+            (λ apart same. orderly.numbered.peer n session same running) is;
       };
       placed = session_placed w x after s (new_session peer)
           (alike x.state after.state (λ id. refl)) (λ g. refl) (λ n. refl)
@@ -67,12 +67,13 @@ leaves_all x s next = record {
 
 -- Bytes: octets join those that aren't read
 pub fed_orderly : (w : Terms) (x : World) (s : ℕ) (session : Session) (piece : List ℕ)
-    → x.state.session s ≡ Some session → IsOrderly w x
+    → x.state.session s ≡ Some session → is_running session.phase ≡ true → IsOrderly w x
     → IsOrderly w (with_session x s (with_unread session (session.unread ++ piece)))
-fed_orderly w x s session piece there orderly =
+fed_orderly w x s session piece there runs orderly =
     let next = with_unread session (session.unread ++ piece) in
     follows_orderly w x (with_session x s next) s session next there
     (record {
+      runs = runs;
       peer = refl;
       hand = refl;
       carries = orderly.placed.empty s session there;
@@ -82,12 +83,13 @@ fed_orderly w x s session piece there orderly =
 
 -- Break: the session leaves, with what is in its hand
 pub broken_orderly : (w : Terms) (x : World) (s : ℕ) (session : Session)
-    → x.state.session s ≡ Some session → IsOrderly w x
+    → x.state.session s ≡ Some session → is_running session.phase ≡ true → IsOrderly w x
     → IsOrderly w (with_session x s (in_phase session Leaving))
-broken_orderly w x s session there orderly =
+broken_orderly w x s session there runs orderly =
     let next = in_phase session Leaving in
     follows_orderly w x (with_session x s next) s session next there
     (record {
+      runs = runs;
       peer = refl;
       hand = refl;
       carries = λ e. absurd (true≢false e);

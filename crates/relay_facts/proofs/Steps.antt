@@ -1,7 +1,8 @@
 -- Each step from a world in order leads to one.
-use Rattle.std.proofs.Common.{◌≡◌, ◌∙◌, ◌<◌, ◌-◌, ◌++◌, ℕ, nat_lt, Bool, true, false, List, [], ◌∷◌}
+use Rattle.std.proofs.Common.{◌≡◌, ◌∙◌, ◌<◌, ◌≤◌, ◌-◌, ◌++◌, ℕ, nat_lt, nat_le, Bool, true, false, List, [], ◌∷◌}
 use Rattle.std.proofs.Common.{length, Option, None, Some, refl, sym, ap, subst, if◌then◌else◌}
-use Rattle.std.proofs.lemmas.Bool.{ltb-true}
+use Rattle.std.proofs.Common.{true≢false}
+use Rattle.std.proofs.lemmas.Bool.{ltb-true, leb-true}
 use Rattle.std.proofs.lemmas.Option.{none-some, same_Some}
 use Rattle.std.specs.Prelude.{slice_get, option_map}
 use Rattle.news_terms.specs.Places.{Buffer}
@@ -11,12 +12,14 @@ use Rattle.relay_facts.proofs.Orderly.{IsOrderly}
 use Rattle.relay_model.specs.Run.{Event, Open, Bytes, Turn, Write, Break, Expire, Restart, Step}
 use Rattle.relay_model.specs.Run.{IsRefused, WantsMemory, IsDone, Does, Restarts, IsBusy, HasNoRoom}
 use Rattle.relay_model.specs.Run.{HasNot, refusal, is_taken, expired, reads_front, forgotten}
-use Rattle.relay_model.specs.Run.{expirer_at, passed_of, restarted}
+use Rattle.relay_model.specs.Run.{expirer_at, passed_of, restarted, first_of_two, is_there}
+use Rattle.relay_model.specs.Run.{is_reading, is_running}
 use Rattle.relay_model.specs.Run as run
-use Rattle.relay_model.specs.State.{Session, Ended, in_phase}
-use Rattle.relay_model.specs.Terms.{Terms}
+use Rattle.relay_model.specs.State.{Session, Phase, Ready, Owes, Holds, Waits, Fetches, Leaving}
+use Rattle.relay_model.specs.State.{Ended, in_phase}
+use Rattle.relay_model.specs.Terms.{Terms, last_moment}
 use Rattle.relay_model.specs.World.{World, Output, Expirer, Reading, Forgetting, NoPeer}
-use Rattle.relay_model.specs.World.{SessionTaken, with_failures}
+use Rattle.relay_model.specs.World.{SessionTaken, NoSession, BadMoment, Fault, with_failures}
 use Rattle.relay_facts.specs.Sound.{IsSound}
 use Rattle.relay_facts.proofs.ClaimSteps.{all_alike, forgetting_alike}
 use Rattle.relay_facts.proofs.Places.{carries}
@@ -115,7 +118,7 @@ restarted_orderly w x failures idle orderly = record {
   numbered = record {
     unopened = λ s free. ap (λ o. option_map (λ (one : Session). in_phase one Ended) o)
         (orderly.numbered.unopened s free);
-    peer = λ s session. peers s session (x.state.session s) refl;
+    peer = λ s session. peers session (x.state.session s);
   };
   placed = restarted_placed w x failures idle orderly.placed;
   sized = record {
@@ -127,13 +130,14 @@ restarted_orderly w x failures idle orderly = record {
   };
 }
   where
-    peers : (s : ℕ) (session : Session) (o : Option Session) → x.state.session s ≡ o
+    peers : (session : Session) (o : Option Session)
         → option_map (λ (one : Session). in_phase one Ended) o ≡ Some session
-        → session.peer < length w.peers
-    peers s session None there e = absurd (none-some session e)
-    peers s session (Some one) there e =
-        subst (λ (two : Session). two.peer < length w.peers)
-        (same_Some (in_phase one Ended) session e) (orderly.numbered.peer s one there)
+        → is_running session.phase ≡ true → session.peer < length w.peers
+    peers session None e running = absurd (none-some session e)
+    peers session (Some one) e running =
+        absurd (true≢false (sym running
+        ∙ ap (λ (two : Session). is_running two.phase)
+        (sym (same_Some (in_phase one Ended) session e))))
 
     holds : (session : Session) (article : Accepted) (o : Option Session)
         → option_map (λ (one : Session). in_phase one Ended) o ≡ Some session
@@ -155,6 +159,13 @@ restart_orderly w x output x' (HasNot i buffer failures there idle failed said e
 restart_orderly w x output x' (run.IsDone failures idle rises said e) orderly =
     subst (IsOrderly w) (sym e) (restarted_orderly w x failures idle orderly)
 
+-- where neither of two tests finds a fault both are passed
+pub first_passes : (one : Bool) (fault : Fault) (other : Bool) (next : Fault)
+    → first_of_two one fault other next ≡ None → (one ≡ true) × (other ≡ true)
+first_passes true fault true next e = (refl, refl)
+first_passes true fault false next e = absurd (none-some next (sym e))
+first_passes false fault other next e = absurd (none-some fault (sym e))
+
 -- a session that may open has a number that is free and a peer
 pub may_open : (taken known : Bool)
     → (if taken then Some SessionTaken else (if known then None else Some NoPeer)) ≡ None
@@ -162,6 +173,34 @@ pub may_open : (taken known : Bool)
 may_open true known e = absurd (none-some SessionTaken (sym e))
 may_open false true e = (refl, refl)
 may_open false false e = absurd (none-some NoPeer (sym e))
+
+-- a session that may read runs
+reads_runs : (o : Option Session) (session : Session) → o ≡ Some session
+    → (if is_there is_reading o then None else Some NoSession) ≡ None
+    → is_running session.phase ≡ true
+reads_runs o session there free =
+    by_phase session.phase
+    (subst (λ (one : Option Session). (if is_there is_reading one then None else Some NoSession)
+    ≡ None) there free)
+  where
+    by_phase : (phase : Phase) → (if is_reading phase then None else Some NoSession) ≡ None
+        → is_running phase ≡ true
+    by_phase Ready e = refl
+    by_phase (Owes transfer id) e = refl
+    by_phase (Holds id article) e = refl
+    by_phase (Waits transfer id) e = refl
+    by_phase (Fetches asked token had) e = refl
+    by_phase Leaving e = refl
+    by_phase Ended e = absurd (none-some NoSession (sym e))
+
+-- a session that may take a Turn runs, and the moment is none past the last one
+pub may_turn : (o : Option Session) (session : Session) (now : ℕ) → o ≡ Some session
+    → first_of_two (is_there is_running o) NoSession (nat_le now last_moment) BadMoment ≡ None
+    → (is_running session.phase ≡ true) × (now ≤ last_moment)
+may_turn o session now there free =
+    let runs = first_passes (is_there is_running o) NoSession (nat_le now last_moment) BadMoment
+    free in
+    (ap (is_there is_running) (sym there) ∙ runs.0, leb-true now last_moment runs.1)
 
 -- an event that is done
 done_orderly : (w : Terms) → IsSound w → (x : World) (event : Event) (output : Output) (x' : World)
@@ -171,13 +210,18 @@ done_orderly w sound x (Open s peer) output x' free does orderly =
     subst (IsOrderly w) (sym does.1)
     (opened_orderly w x s peer may.0 (ltb-true peer (length w.peers) may.1) orderly)
 done_orderly w sound x (Bytes s piece) output x' free does orderly =
-    subst (IsOrderly w) (sym does.3) (fed_orderly w x s does.0 piece does.1 orderly)
+    subst (IsOrderly w) (sym does.3)
+    (fed_orderly w x s does.0 piece does.1
+    (reads_runs (x.state.session s) does.0 does.1 free) orderly)
 done_orderly w sound x (Turn s now) output x' free does orderly =
-    turn_orderly w sound x s now output x' does orderly
+    turn_orderly w sound x s now output x' does
+    (may_turn (x.state.session s) does.session now does.there free).0 orderly
 done_orderly w sound x (Write g now) output x' free does orderly =
     write_orderly w x g now x' does.1 orderly
 done_orderly w sound x (Break s) output x' free does orderly =
-    subst (IsOrderly w) (sym does.3) (broken_orderly w x s does.0 does.1 orderly)
+    subst (IsOrderly w) (sym does.3)
+    (broken_orderly w x s does.0 does.1 (reads_runs (x.state.session s) does.0 does.1 free)
+    orderly)
 done_orderly w sound x (Expire shard now) output x' free does orderly =
     subst (IsOrderly w) (sym does.1) (expired_orderly w x shard now x.work.expirer orderly)
 done_orderly w sound x Restart output x' free does orderly =

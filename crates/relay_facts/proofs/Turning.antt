@@ -16,7 +16,7 @@ use Rattle.relay_model.specs.Hears.{Heard, Hears, ReadHeard, goes_on, offer_hear
 use Rattle.relay_model.specs.Hears.{take_heard, outcome_heard, slot_heard, push_heard}
 use Rattle.relay_model.specs.Invariants.{IsSoundArticle}
 use Rattle.relay_facts.proofs.Orderly.{IsOrderly}
-use Rattle.relay_model.specs.Run.{Turns}
+use Rattle.relay_model.specs.Run.{Turns, is_running}
 use Rattle.relay_model.specs.Shares.{Answer, ToPush, Shares, Reading, IsFound, HasNotRead, Pushing}
 use Rattle.relay_model.specs.Shares.{queue_taken, ring_of, pushed, untold}
 use Rattle.relay_model.specs.State.{Session, Ready, Owes, Holds, Waits, Fetches, Leaving, Ended}
@@ -36,12 +36,13 @@ use Rattle.relay_facts.proofs.Taken.{IsFree, job_of}
 use Rattle.relay_facts.proofs.Sessions.{leaves_all}
 use Rattle.relay_facts.proofs.Unmoved.{alike}
 
--- the session of a world in order is fit
+-- a session of a world in order that runs is fit
 session_fits : (w : Terms) (x : World) → IsOrderly w x → (s : ℕ) (session : Session)
-    → x.state.session s ≡ Some session
+    → x.state.session s ≡ Some session → is_running session.phase ≡ true
     → IsFit w session
-session_fits w x is s session there = record {
-  peer = is.numbered.peer s session there;
+session_fits w x is s session there runs = record {
+  runs = runs;
+  peer = is.numbered.peer s session there runs;
   carries = is.placed.empty s session there;
   holds = λ article has. is.sized.held_one s session article there has;
 }
@@ -84,6 +85,7 @@ leaves_claim x s id claim next same = record {
 leaving_follows : (w : Terms) (old after : Session) → Follows w old after
     → Follows w old (in_phase after Leaving)
 leaving_follows w old after f = record {
+  runs = f.runs;
   peer = f.peer;
   hand = f.hand;
   carries = λ e. absurd (true≢false e);
@@ -215,8 +217,8 @@ take_orderly w x s old after there is f none transfer id article sound claim at 
         subst (λ v. IsOrderly w (with_session v s heard.session)) (sym to)
         (subst (λ n. IsOrderly w (with_session (with_claim x id (Storing s article Waiting)) s n))
         (sym (session_of hears))
-        (taken_orderly w x s old next id article there free (sym f.hand ∙ none) f.peer refl refl
-        refl sound is))
+        (taken_orderly w x s old next id article there f.runs free (sym f.hand ∙ none) f.peer refl
+        refl refl sound is))
 
     stays : (claim : Claim) (next : Session) → x.state.claim id ≡ claim → y ≡ with_claim x id claim
         → heard.session ≡ next
@@ -227,6 +229,7 @@ take_orderly w x s old after there is f none transfer id article sound claim at 
 
     holding : Follows w old (in_phase after (Holds id article))
     holding = record {
+      runs = f.runs;
       peer = f.peer;
       hand = f.hand;
       carries = λ e. none;
@@ -266,7 +269,7 @@ push_orderly w x s old after there is f job has true answer y heard pushes told 
     ap (λ (one : Heard). one.session) (hears ∙ ap (push_heard after) room) in
     subst (λ v. IsOrderly w (with_session v s heard.session)) (sym pushes.1)
     (subst (λ n. IsOrderly w (with_session (pushed x job) s n)) (sym session)
-    (handed_orderly w x s old next job there (sym f.hand ∙ has) f.peer refl f.holds is))
+    (handed_orderly w x s old next job there f.runs (sym f.hand ∙ has) f.peer refl f.holds is))
 push_orderly w x s old after there is f job has false answer y heard pushes told says hears =
     let room : told ≡ false = cc (says, pushes.0) in
     let session : heard.session ≡ after =
@@ -340,10 +343,11 @@ asked_orderly w x s now old after there is f Ends fits answer y heard shares hea
 
 -- a Turn of a world in order leads to one
 pub turn_orderly : (w : Terms) → IsSound w → (x : World) (s now : ℕ) (output : Output) (x' : World)
-    → Turns w x s now output x' → IsOrderly w x → IsOrderly w x'
-turn_orderly w sound x s now output x' turn is =
-    let fits = due_fits w sound turn.session (session_fits w x is s turn.session turn.there) now
-    turn.due turn.is_due in
+    → (turn : Turns w x s now output x') → is_running turn.session.phase ≡ true → IsOrderly w x
+    → IsOrderly w x'
+turn_orderly w sound x s now output x' turn runs is =
+    let fits = due_fits w sound turn.session (session_fits w x is s turn.session turn.there runs)
+    now turn.due turn.is_due in
     subst (IsOrderly w) (sym turn.after)
     (asked_orderly w x s now turn.session turn.due.after turn.there is fits.follows turn.due.ask
     fits.asks

@@ -10,7 +10,7 @@ use Rattle.relay_model.specs.Claims.{Accepted, Claim, Unknown, Offered, Storing,
 use Rattle.relay_model.specs.Claims.{Stage, Waiting, Begun, Whole}
 use Rattle.relay_model.specs.Claims as claims
 use Rattle.relay_model.specs.Counted.{IsCounted}
-use Rattle.relay_model.specs.Run.{is_taken}
+use Rattle.relay_model.specs.Run.{is_running, is_taken}
 use Rattle.relay_model.specs.State.{State, Session, Kept, Job}
 use Rattle.relay_model.specs.State as phases
 use Rattle.relay_model.specs.Terms.{Terms}
@@ -127,11 +127,11 @@ pub record IsSized (w : Terms) (σ : State) : Type 0 where
       → held session.phase ≡ Some article → IsSoundArticle w article
   pub kept : All IsKeptRight σ.kept
 
--- a number above every earlier one has no session, and each session is of a peer
+-- a number above every earlier one has no session, and each session that runs is of a peer
 pub record IsNumbered (w : Terms) (σ : State) : Type 0 where
   pub unopened : (s : ℕ) → is_taken σ.newest s ≡ false → σ.session s ≡ None
   pub peer : (s : ℕ) (session : Session) → σ.session s ≡ Some session
-      → session.peer < length w.peers
+      → is_running session.phase ≡ true → session.peer < length w.peers
 
 -- what holds of every world of a run from the empty world
 pub record IsWell (w : Terms) (x : World) : Type 0 where
