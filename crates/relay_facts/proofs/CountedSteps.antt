@@ -3,14 +3,14 @@ use Rattle.std.proofs.Common.{◌≡◌, ◌+◌, ◌-◌, ◌≤◌, ℕ, Bool,
 use Rattle.std.proofs.Common.{length, All, Option, None, Some, slice_get, refl, sym, ap}
 use Rattle.std.proofs.Common.{subst, arith, le_of_eq, nat_lt, zero-le}
 use Rattle.std.proofs.lemmas.List.Elements.{All-nil}
-use Rattle.news_terms.specs.Places.{Buffer, extents}
+use Rattle.news_terms.specs.Places.{Buffer, Group, extents}
 use Rattle.news_terms.specs.Token.{Token}
 use Rattle.relay_model.specs.Asks.{Ask, Rests, GoesOn, Says, Leaves, Offers, Looks, Reads}
 use Rattle.relay_model.specs.Asks.{TakesQueue, Refuses, Takes, Pushes, LooksInSlot, Releases, Ends}
 use Rattle.relay_model.specs.Claims.{Passed}
 use Rattle.relay_model.specs.Counted.{IsCounted, IsInTime, to_settle, sum_below}
 use Rattle.relay_model.specs.Run.{expired, reads_front, forgotten, Restarts, IsBusy, HasNoRoom}
-use Rattle.relay_model.specs.Run.{HasNot, restarted, Turns}
+use Rattle.relay_model.specs.Run.{HasNot, Turns}
 use Rattle.relay_model.specs.Run as run
 use Rattle.relay_model.specs.Shares.{Answer, Shares, Reading, IsFound, HasNotRead, Pushing}
 use Rattle.relay_model.specs.Shares.{queue_taken, after_take_of, ring_of, pushed}
@@ -19,7 +19,9 @@ use Rattle.relay_model.specs.Terms.{Terms, queue_limit}
 use Rattle.relay_model.specs.World.{World, Output, Expirer, Forgetting, empty_world}
 use Rattle.relay_model.specs.World.{with_session}
 use Rattle.relay_model.specs.World as world
+use Rattle.relay_facts.specs.Started.{HasSameStore}
 use Rattle.relay_facts.proofs.Puts.{put_at_both}
+use Rattle.relay_facts.proofs.Restarted.{stopped, store_itself}
 use Rattle.relay_facts.proofs.Sums.{sums_same, sums_ordered}
 
 -- the same was begun, accepted and gained, and no writer has more to settle
@@ -160,7 +162,20 @@ expired_counted w x shard now (Forgetting fronts left) counted =
     counted_still w x (forgotten w x shard now fronts (left - 1)) (λ g. refl) refl (λ f. refl)
     (λ g. refl) counted
 
--- Restart: no writer has anything to settle any more
+-- after a stop no writer has anything to settle any more
+pub stopped_counted : (w v : Terms) → HasSameStore w v → (x : World) (failures : ℕ → ℕ)
+    (newest : Option ℕ) → IsCounted w x → IsCounted v (stopped x failures newest)
+stopped_counted w v same x failures newest counted =
+    by v.groups same.groups
+    (counted_as w x (stopped x failures newest) (λ g. refl) refl (λ f. refl) (λ g. zero-le) counted)
+  where
+    by : (groups : List Group) → groups ≡ w.groups → IsCounted w (stopped x failures newest)
+        → IsCounted (record v { groups = groups }) (stopped x failures newest)
+    by groups e is =
+        subst (λ list. IsCounted (record v { groups = list }) (stopped x failures newest)) (sym e)
+        (record { in_time = is.in_time; settled = is.settled; gained = is.gained })
+
+-- Restart
 pub restart_counted : (w : Terms) (x : World) (output : Output) (x' : World)
     → Restarts w x output x' → IsCounted w x → IsCounted w x'
 restart_counted w x output x' (IsBusy id busy said e) counted = subst (IsCounted w) (sym e) counted
@@ -170,4 +185,4 @@ restart_counted w x output x' (HasNot i buffer failures there idle failed said e
     subst (IsCounted w) (sym e) (failing_counted w x failures counted)
 restart_counted w x output x' (run.IsDone failures idle rises said e) counted =
     subst (IsCounted w) (sym e)
-    (counted_as w x (restarted x failures) (λ g. refl) refl (λ f. refl) (λ g. zero-le) counted)
+    (stopped_counted w w (store_itself w) x failures x.state.newest counted)

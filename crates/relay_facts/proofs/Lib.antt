@@ -20,6 +20,7 @@ pub mod SessionOrderly
 pub mod Sessions
 pub mod SoundExample
 pub mod ShortLists
+pub mod StartedWell
 pub mod StepErrands
 pub mod Skipping
 pub mod Steps

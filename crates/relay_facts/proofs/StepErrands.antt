@@ -1,24 +1,24 @@
 -- Each step keeps that sessions wait for one thing.
-use Rattle.std.proofs.Common.{◌≡◌, ◌∙◌, ◌-◌, ◌++◌, ℕ, nat_lt, false, List, [], ◌∷◌, length, Option}
-use Rattle.std.proofs.Common.{None, Some, refl, sym, ap, subst, true≢false}
-use Rattle.std.proofs.lemmas.Option.{none-some, same_Some}
-use Rattle.std.specs.Prelude.{slice_get, option_map}
+use Rattle.std.proofs.Common.{◌≡◌, ◌-◌, ◌++◌, ℕ, nat_lt, false, List, [], ◌∷◌, length, Option}
+use Rattle.std.proofs.Common.{None, Some, refl, sym, ap, subst}
+use Rattle.std.proofs.lemmas.Option.{none-some}
+use Rattle.std.specs.Prelude.{slice_get}
 use Rattle.news_terms.specs.Places.{Buffer}
-use Rattle.relay_model.specs.Awaited.{told_by, IsFree, NoErrand, Awaits, IsAwaited}
-use Rattle.relay_model.specs.Claims.{Accepted, Passed, Stage, Storing, Unknown, is_storing}
+use Rattle.relay_model.specs.Awaited.{told_by, Awaits, IsAwaited}
+use Rattle.relay_model.specs.Claims.{Accepted, Passed, Stage, Storing, Unknown}
 use Rattle.relay_facts.proofs.Orderly.{IsOrderly}
 use Rattle.relay_model.specs.Run.{Event, Open, Bytes, Turn, Write, Break, Expire, Restart, Step}
 use Rattle.relay_model.specs.Run.{IsRefused, WantsMemory, IsDone, Does, Restarts, IsBusy, HasNoRoom}
 use Rattle.relay_model.specs.Run.{HasNot, refusal, is_taken, opened, new_session, expired}
 use Rattle.relay_model.specs.Run.{reads_front, forgotten, expirer_at, passed_of, restarted}
 use Rattle.relay_model.specs.Run as run
-use Rattle.relay_model.specs.State.{Session, Leaving, Ended, in_phase, with_unread}
+use Rattle.relay_model.specs.State.{Session, Leaving, in_phase, with_unread}
 use Rattle.relay_model.specs.Terms.{Terms}
 use Rattle.relay_model.specs.World.{World, Output, Expirer, Reading, Forgetting, with_failures}
 use Rattle.relay_model.specs.World.{with_session, empty_world}
 use Rattle.relay_facts.proofs.ClaimSteps.{all_alike, forgetting_alike}
 use Rattle.relay_facts.proofs.Errands.{same_errand, errand_of, awaited_session, awaited_same}
-use Rattle.relay_facts.proofs.Restarted.{IsIdle, restart_storing}
+use Rattle.relay_facts.proofs.Restarted.{stopped_awaited}
 use Rattle.relay_facts.proofs.Steps.{may_open}
 use Rattle.relay_facts.proofs.TurnErrands.{turn_awaited}
 use Rattle.relay_facts.proofs.Unmoved.{alike}
@@ -94,33 +94,6 @@ expired_awaited w x shard now (Reading fronts) a =
 expired_awaited w x shard now (Forgetting fronts left) a =
     forgotten_awaited w x shard now fronts (left - 1) a
 
--- a Restart that is done
-restarted_awaited : (x : World) (failures : ℕ → ℕ) → IsIdle x → IsAwaited (restarted x failures)
-restarted_awaited x failures idle = record {
-  there = λ s session e. ended s session (x.state.session s) e;
-  absent = λ s e. free s;
-}
-  where
-    y : World
-    y = restarted x failures
-
-    free : (s : ℕ) → IsFree y s
-    free s = record {
-      stores = λ id stores. true≢false
-          (sym (ap is_storing (restart_storing s stores.article stores.stage (x.state.claim id)
-          stores.claimed)) ∙ idle id);
-      told = λ g told. none-some s told;
-      slot = refl;
-    }
-
-    ended : (s : ℕ) (session : Session) (o : Option Session)
-        → option_map (λ (one : Session). in_phase one Ended) o ≡ Some session
-        → Awaits y s session.phase
-    ended s session None e = absurd (none-some session e)
-    ended s session (Some one) e =
-        subst (λ (two : Session). Awaits y s two.phase) (same_Some (in_phase one Ended) session e)
-        (NoErrand (free s))
-
 -- Restart
 restart_awaited : (w : Terms) (x : World) (output : Output) (x' : World) → Restarts w x output x'
     → IsAwaited x → IsAwaited x'
@@ -132,7 +105,7 @@ restart_awaited w x output x' (HasNot i buffer failures there idle failed said e
     subst IsAwaited (sym e) (still x (with_failures x failures) (λ t. refl) (λ id. refl) (λ g. refl)
     (λ t. refl) a)
 restart_awaited w x output x' (run.IsDone failures idle rises said e) a =
-    subst IsAwaited (sym e) (restarted_awaited x failures idle)
+    subst IsAwaited (sym e) (stopped_awaited x failures x.state.newest idle)
 
 -- an event that isn't refused
 done_awaited : (w : Terms) (x : World) (event : Event) (output : Output) (x' : World)

@@ -1,13 +1,11 @@
 -- Each step from a world in order leads to one.
-use Rattle.std.proofs.Common.{◌≡◌, ◌∙◌, ◌<◌, ◌≤◌, ◌-◌, ◌++◌, ℕ, nat_lt, nat_le, Bool, true, false, List, [], ◌∷◌}
+use Rattle.std.proofs.Common.{◌≡◌, ◌∙◌, ◌≤◌, ◌-◌, ◌++◌, ℕ, nat_lt, nat_le, Bool, true, false, List, [], ◌∷◌}
 use Rattle.std.proofs.Common.{length, Option, None, Some, refl, sym, ap, subst, if◌then◌else◌}
-use Rattle.std.proofs.Common.{true≢false}
 use Rattle.std.proofs.lemmas.Bool.{ltb-true, leb-true}
-use Rattle.std.proofs.lemmas.Option.{none-some, same_Some}
-use Rattle.std.specs.Prelude.{slice_get, option_map}
+use Rattle.std.proofs.lemmas.Option.{none-some}
+use Rattle.std.specs.Prelude.{slice_get}
 use Rattle.news_terms.specs.Places.{Buffer}
-use Rattle.relay_model.specs.Claims.{Accepted, Passed}
-use Rattle.relay_model.specs.Invariants.{IsSoundArticle, held}
+use Rattle.relay_model.specs.Claims.{Passed}
 use Rattle.relay_facts.proofs.Orderly.{IsOrderly}
 use Rattle.relay_model.specs.Run.{Event, Open, Bytes, Turn, Write, Break, Expire, Restart, Step}
 use Rattle.relay_model.specs.Run.{IsRefused, WantsMemory, IsDone, Does, Restarts, IsBusy, HasNoRoom}
@@ -16,14 +14,14 @@ use Rattle.relay_model.specs.Run.{expirer_at, passed_of, restarted, first_of_two
 use Rattle.relay_model.specs.Run.{is_reading, is_running}
 use Rattle.relay_model.specs.Run as run
 use Rattle.relay_model.specs.State.{Session, Phase, Ready, Owes, Holds, Waits, Fetches, Leaving}
-use Rattle.relay_model.specs.State.{Ended, in_phase}
+use Rattle.relay_model.specs.State.{Ended}
 use Rattle.relay_model.specs.Terms.{Terms, last_moment}
 use Rattle.relay_model.specs.World.{World, Output, Expirer, Reading, Forgetting, NoPeer}
 use Rattle.relay_model.specs.World.{SessionTaken, NoSession, BadMoment, Fault, with_failures}
 use Rattle.relay_facts.specs.Sound.{IsSound}
 use Rattle.relay_facts.proofs.ClaimSteps.{all_alike, forgetting_alike}
 use Rattle.relay_facts.proofs.Places.{carries}
-use Rattle.relay_facts.proofs.Restarted.{IsIdle, restarted_placed, restart_storing}
+use Rattle.relay_facts.proofs.Restarted.{stopped_orderly, store_itself}
 use Rattle.relay_facts.proofs.Sessions.{opened_orderly, fed_orderly, broken_orderly}
 use Rattle.relay_facts.proofs.Turning.{turn_orderly}
 use Rattle.relay_facts.proofs.Unmoved.{StoresAlike, alike, unmoved_placed}
@@ -107,47 +105,6 @@ expired_orderly w x shard now (Reading fronts) orderly =
 expired_orderly w x shard now (Forgetting fronts left) orderly =
     forgotten_orderly w x shard now fronts (left - 1) orderly
 
--- the sessions after a Restart
-ended : Option Session → Option Session
-ended o = option_map (λ (one : Session). in_phase one Ended) o
-
--- Restart, where nothing is being stored
-pub restarted_orderly : (w : Terms) (x : World) (failures : ℕ → ℕ) → IsIdle x → IsOrderly w x
-    → IsOrderly w (restarted x failures)
-restarted_orderly w x failures idle orderly = record {
-  numbered = record {
-    unopened = λ s free. ap (λ o. option_map (λ (one : Session). in_phase one Ended) o)
-        (orderly.numbered.unopened s free);
-    peer = λ s session. peers session (x.state.session s);
-  };
-  placed = restarted_placed w x failures idle orderly.placed;
-  sized = record {
-    begun = orderly.sized.begun;
-    storing = λ id s article stage e. orderly.sized.storing id s article stage
-        (restart_storing s article stage (x.state.claim id) e);
-    held_one = λ s session article. holds session article (x.state.session s);
-    kept = orderly.sized.kept;
-  };
-}
-  where
-    peers : (session : Session) (o : Option Session)
-        → option_map (λ (one : Session). in_phase one Ended) o ≡ Some session
-        → is_running session.phase ≡ true → session.peer < length w.peers
-    peers session None e running = absurd (none-some session e)
-    peers session (Some one) e running =
-        absurd (true≢false (sym running
-        ∙ ap (λ (two : Session). is_running two.phase)
-        (sym (same_Some (in_phase one Ended) session e))))
-
-    holds : (session : Session) (article : Accepted) (o : Option Session)
-        → option_map (λ (one : Session). in_phase one Ended) o ≡ Some session
-        → held session.phase ≡ Some article → IsSoundArticle w article
-    holds session article None e has = absurd (none-some session e)
-    holds session article (Some one) e has =
-        absurd (none-some article
-        (ap (λ (two : Session). held two.phase) (same_Some (in_phase one Ended) session e)
-        ∙ has))
-
 -- Restart
 restart_orderly : (w : Terms) (x : World) (output : Output) (x' : World) → Restarts w x output x'
     → IsOrderly w x → IsOrderly w x'
@@ -157,7 +114,8 @@ restart_orderly w x output x' (HasNoRoom failures rises said e) orderly =
 restart_orderly w x output x' (HasNot i buffer failures there idle failed said e) orderly =
     subst (IsOrderly w) (sym e) (failing_orderly w x failures orderly)
 restart_orderly w x output x' (run.IsDone failures idle rises said e) orderly =
-    subst (IsOrderly w) (sym e) (restarted_orderly w x failures idle orderly)
+    subst (IsOrderly w) (sym e)
+    (stopped_orderly w w (store_itself w) x failures x.state.newest (λ s free. free) idle orderly)
 
 -- where neither of two tests finds a fault both are passed
 pub first_passes : (one : Bool) (fault : Fault) (other : Bool) (next : Fault)

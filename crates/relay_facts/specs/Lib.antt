@@ -1,3 +1,4 @@
 pub mod Apart
 pub mod Sound
 pub mod SoundExample
+pub mod Started

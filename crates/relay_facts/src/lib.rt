@@ -3,10 +3,12 @@
 //! There is no code: each function has an empty body, and its contract is what is proved.
 #![tactic(auto)]
 
-ghost use Rattle.std.specs.Prelude.{◌≡◌, ◌++◌, ◌≤◌, ◌<◌, ◌^◌, ℕ, List, Some, length, slice_get};
+ghost use Rattle.std.specs.Prelude.{◌≡◌, ◌++◌, ◌≤◌, ◌<◌, ◌^◌, ℕ, List, Some, false, length};
+ghost use Rattle.std.specs.Prelude.{slice_get};
 ghost use Rattle.news_terms.specs.Places.{Buffer, Group, extents, front_after, on_line};
 ghost use Rattle.news_terms.specs.Token.{Token};
 ghost use Rattle.relay_model.specs.Awaited.{Errand, WaitsFor};
+ghost use Rattle.relay_model.specs.Claims.{is_storing};
 ghost use Rattle.relay_model.specs.Fetches.{text_under, extents_from};
 ghost use Rattle.relay_model.specs.Invariants.{IsWell};
 ghost use Rattle.relay_model.specs.Run.{Event, Run, Step};
@@ -16,6 +18,7 @@ ghost use Rattle.relay_model.specs.World.{World, Output, Finished, empty_world};
 ghost use Rattle.relay_facts.specs.Apart.{HasNone};
 ghost use Rattle.relay_facts.specs.Sound.{IsSound};
 ghost use Rattle.relay_facts.specs.SoundExample.{sound_terms};
+ghost use Rattle.relay_facts.specs.Started.{HasSameStore, started};
 
 /// The world before anything came is well, each step from a well world leads to one, and so does
 /// each run.
@@ -25,6 +28,14 @@ pub fn stay_well()
         → IsWell w x → Step w x event output x' → IsWell w x' }
     ensures run { (w : Terms) (x x' : World) (events : List Event) (outputs : List Output)
         → IsSound w → IsWell w x → Run w x events outputs x' → IsWell w x' }
+{}
+
+/// A relay that is stopped where no id is being stored, and started again, is well by the settings
+/// that it is started with: its buffers, groups and feeds stay, its peers may be others.
+pub fn started_stays_well()
+    ensures { (w v : Terms) (x : World) (failures : ℕ → ℕ) → HasSameStore w v
+        → ((id : List ℕ) → is_storing (x.state.claim id) ≡ false) → IsWell w x
+        → IsWell v (started x failures) }
 {}
 
 /// Of each session at most one thing is on its way: its article is being stored, or a writer is to
