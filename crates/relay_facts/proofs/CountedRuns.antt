@@ -15,17 +15,17 @@ done_counted : (w : Terms) (x : World) (event : Event) (output : Output) (x' : W
     → Does w x event output x' → IsOrderly w x → IsCounted w x → IsCounted w x'
 done_counted w x (Open s peer) output x' does orderly counted =
     subst (IsCounted w) (sym does.1)
-    (counted_still w x _ (λ g. refl) refl (λ f. refl) (λ g. refl) counted)
+    (counted_still w x _ (λ g. refl) refl refl (λ f. refl) (λ g. refl) counted)
 done_counted w x (Bytes s piece) output x' does orderly counted =
     subst (IsCounted w) (sym does.3)
-    (counted_still w x _ (λ g. refl) refl (λ f. refl) (λ g. refl) counted)
+    (counted_still w x _ (λ g. refl) refl refl (λ f. refl) (λ g. refl) counted)
 done_counted w x (Turn s now) output x' does orderly counted =
     turn_counted w x s now output x' does counted
 done_counted w x (Write g now) output x' does orderly counted =
     write_counted w x g now x' does.1 orderly counted
 done_counted w x (Break s) output x' does orderly counted =
     subst (IsCounted w) (sym does.3)
-    (counted_still w x _ (λ g. refl) refl (λ f. refl) (λ g. refl) counted)
+    (counted_still w x _ (λ g. refl) refl refl (λ f. refl) (λ g. refl) counted)
 done_counted w x (Expire shard now) output x' does orderly counted =
     subst (IsCounted w) (sym does.1) (expired_counted w x shard now x.work.expirer counted)
 done_counted w x Restart output x' does orderly counted =

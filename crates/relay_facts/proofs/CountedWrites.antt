@@ -10,7 +10,7 @@ use Rattle.std.proofs.lemmas.Option.{slice_get_within}
 use Rattle.news_terms.specs.Places.{Group, extents, next_place}
 use Rattle.news_terms.specs.Token.{Token}
 use Rattle.news_terms.proofs.Extents.{extents_push}
-use Rattle.relay_model.specs.Counted.{IsCounted, IsInTime, to_settle, sum_below}
+use Rattle.relay_model.specs.Counted.{IsCounted, IsInTime, to_settle, to_accept, sum_below}
 use Rattle.relay_model.specs.Invariants.{IsAt, IsSoundArticle, job_at}
 use Rattle.relay_model.specs.State.{State, Feed, Job, put_at}
 use Rattle.relay_model.specs.Terms.{Terms}
@@ -18,7 +18,7 @@ use Rattle.relay_model.specs.World.{World, Writer, Idle, Popped, Writing, Finish
 use Rattle.relay_model.specs.World.{Forgotten, IsKept, HasFailed, with_failures}
 use Rattle.relay_model.specs.Writers.{Writes, NoJob, Pops, HasBegun, FindsWorn, WritesBlock}
 use Rattle.relay_model.specs.Writers.{FailsToWrite, HasStored, Settles, Closes, Forgets, TellsKept}
-use Rattle.relay_model.specs.Writers.{TellsFailed, Begins, Accepts}
+use Rattle.relay_model.specs.Writers.{TellsFailed, Begins, Stores, Accepts}
 use Rattle.relay_model.specs.Writers.{writer_at, popped, answered, gaining, job_size}
 use Rattle.relay_facts.proofs.CountedSteps.{counted_as}
 use Rattle.relay_facts.proofs.Orderly.{IsOrderly}
@@ -38,34 +38,42 @@ writer_within w x orderly g job has =
     subst (λ n. n < length w.groups) stored.of_group
     (slice_get_within w.groups job.article.group sound.group sound.there)
 
--- one writer goes on with no more to settle than it had, and the state counts the same
+-- where one writer goes on with no more than it had, each has no more
+no_more : (f : Writer → ℕ) (x y : World) (g : ℕ) (next : Writer)
+    → ((h : ℕ) → y.work.writer h ≡ put_at x.work.writer g next h)
+    → f next ≤ f (x.work.writer g) → (h : ℕ) → f (y.work.writer h) ≤ f (x.work.writer h)
+no_more f x y g next writer fewer h =
+    subst (λ one. f one ≤ f (x.work.writer h)) (sym (writer h))
+    (put_at_both (λ one. f one ≤ f (x.work.writer h)) x.work.writer g next h
+    (λ e. subst (λ n. f next ≤ f (x.work.writer n)) (sym e) fewer)
+    (λ other. le_refl (f (x.work.writer h))))
+
+-- one writer goes on with no more to settle and to accept than it had, and the state counts the
+-- same
 writer_counted : (w : Terms) (x y : World) (g : ℕ) (next : Writer)
     → ((h : ℕ) → y.state.begun h ≡ x.state.begun h) → y.state.accepted ≡ x.state.accepted
+    → y.state.kept ≡ x.state.kept
     → ((f : ℕ) → (y.state.feed f).gained ≡ (x.state.feed f).gained)
     → ((h : ℕ) → y.work.writer h ≡ put_at x.work.writer g next h)
-    → to_settle next ≤ to_settle (x.work.writer g) → IsCounted w x → IsCounted w y
-writer_counted w x y g next begun accepted gained writer fewer counted =
-    counted_as w x y begun accepted gained
-    (λ h. subst (λ one. to_settle one ≤ to_settle (x.work.writer h)) (sym (writer h))
-    (put_at_both (λ one. to_settle one ≤ to_settle (x.work.writer h)) x.work.writer g next h
-    (λ e. subst (λ n. to_settle next ≤ to_settle (x.work.writer n)) (sym e) fewer)
-    (λ other. le_refl (to_settle (x.work.writer h)))))
-    counted
+    → to_settle next ≤ to_settle (x.work.writer g) → to_accept next ≤ to_accept (x.work.writer g)
+    → IsCounted w x → IsCounted w y
+writer_counted w x y g next begun accepted kept gained writer fewer less counted =
+    counted_as w x y begun accepted kept gained (no_more to_settle x y g next writer fewer)
+    (no_more to_accept x y g next writer less) counted
 
--- what one writer has to settle changes: the sum changes by that
-settling : (w : Terms) (x : World) (g : ℕ) (next : Writer) → g < length w.groups
-    → sum_below (λ h. to_settle (put_at x.work.writer g next h)) (length w.groups)
-    + to_settle (x.work.writer g)
-    ≡ sum_below (λ h. to_settle (x.work.writer h)) (length w.groups) + to_settle next
-settling w x g next within =
-    let here : to_settle (put_at x.work.writer g next g) ≡ to_settle next =
-    ap to_settle (put_at_here x.work.writer g next g refl) in
+-- what one writer has changes: the sum changes by that
+settling : (f : Writer → ℕ) (w : Terms) (x : World) (g : ℕ) (next : Writer) → g < length w.groups
+    → sum_below (λ h. f (put_at x.work.writer g next h)) (length w.groups) + f (x.work.writer g)
+    ≡ sum_below (λ h. f (x.work.writer h)) (length w.groups) + f next
+settling f w x g next within =
+    let here : f (put_at x.work.writer g next g) ≡ f next =
+    ap f (put_at_here x.work.writer g next g refl) in
     omega (
       arith,
       here,
-      sums_but (λ h. to_settle (put_at x.work.writer g next h)) (λ h. to_settle (x.work.writer h))
+      sums_but (λ h. f (put_at x.work.writer g next h)) (λ h. f (x.work.writer h))
           g (length w.groups) within
-          (λ h other. ap to_settle (put_at_there x.work.writer g next h other)),
+          (λ h other. ap f (put_at_there x.work.writer g next h other)),
     )
 
 -- one more size begun: the sum is one more
@@ -99,10 +107,16 @@ begun_counted w x g job token τ has begins orderly counted =
       settled = omega (
         arith,
         counted.settled,
-        settling w x g (Writing job token 0) within,
+        settling to_settle w x g (Writing job token 0) within,
         ap to_settle has,
         beginning w x.state.begun group_of (job_size job) (subst (λ n. n < length w.groups)
             (sym at.0) within),
+      );
+      stored = omega (
+        arith,
+        counted.stored,
+        settling to_accept w x g (Writing job token 0) within,
+        ap to_accept has,
       );
       gained = counted.gained;
     })
@@ -149,8 +163,15 @@ settled_counted w x g job token now τ has accepts orderly counted =
       settled = omega (
         arith,
         counted.settled,
-        settling w x g (Settled job.session) (writer_within w x orderly g job (ap job_at has)),
+        settling to_settle w x g (Settled job.session) within,
         ap to_settle has,
+        one_more,
+      );
+      stored = omega (
+        arith,
+        counted.stored,
+        settling to_accept w x g (Settled job.session) within,
+        ap to_accept has,
         one_more,
       );
       gained = λ f. omega (
@@ -161,9 +182,40 @@ settled_counted w x g job token now τ has accepts orderly counted =
       );
     })
   where
+    within : g < length w.groups
+    within = writer_within w x orderly g job (ap job_at has)
+
     one_more : length (x.state.accepted ++ (token, job.article.permitted) ∷ [])
         ≡ length x.state.accepted + 1
     one_more = length-append x.state.accepted ((token, job.article.permitted) ∷ [])
+
+-- it finishes the job
+finished_counted : (w : Terms) (x : World) (g : ℕ) (job : Job) (token : Token) (written : ℕ)
+    (τ : State) → x.work.writer g ≡ Writing job token written → Stores x.state job token τ
+    → IsOrderly w x → IsCounted w x → IsCounted w (writer_at x τ g (Finished job token))
+finished_counted w x g job token written τ has stores orderly counted =
+    subst (λ ρ. IsCounted w (writer_at x ρ g (Finished job token))) (sym stores.after)
+    (record {
+      in_time = counted.in_time;
+      settled = omega (
+        arith,
+        counted.settled,
+        settling to_settle w x g (Finished job token) within,
+        ap to_settle has,
+      );
+      stored = omega (
+        arith,
+        counted.stored,
+        settling to_accept w x g (Finished job token) within,
+        ap to_accept has,
+        length-append x.state.kept
+            (record { token = token; id = job.id; text = job.article.text } ∷ []),
+      );
+      gained = counted.gained;
+    })
+  where
+    within : g < length w.groups
+    within = writer_within w x orderly g job (ap job_at has)
 
 -- Write
 pub write_counted : (w : Terms) (x : World) (g now : ℕ) (x' : World) → Writes w x g now x'
@@ -172,48 +224,45 @@ write_counted w x g now x' (NoJob idle empty e) orderly counted =
     subst (IsCounted w) (sym e) counted
 write_counted w x g now x' (Pops job rest idle queue e) orderly counted =
     subst (IsCounted w) (sym e)
-    (writer_counted w x (popped x g job rest) g (Popped job) (λ h. refl) refl (λ f. refl)
-    (λ h. refl) zero-le counted)
+    (writer_counted w x (popped x g job rest) g (Popped job) (λ h. refl) refl refl (λ f. refl)
+    (λ h. refl) zero-le zero-le counted)
 write_counted w x g now x' (HasBegun job token τ has begins e) orderly counted =
     subst (IsCounted w) (sym e) (begun_counted w x g job token τ has begins orderly counted)
 write_counted w x g now x' (FindsWorn job has worn e) orderly counted =
     subst (IsCounted w) (sym e)
     (writer_counted w x (writer_at x x.state g (Failed job None)) g (Failed job None) (λ h. refl)
-    refl (λ f. refl) (λ h. refl) zero-le counted)
+    refl refl (λ f. refl) (λ h. refl) zero-le zero-le counted)
 write_counted w x g now x' (WritesBlock job token written failures has left rises e) orderly
     counted =
     let next = Writing job token (written + 1) in
     subst (IsCounted w) (sym e)
     (writer_counted w x (with_failures (writer_at x x.state g next) failures) g next (λ h. refl)
-    refl (λ f. refl) (λ h. refl) (le_of_eq (sym (ap to_settle has))) counted)
+    refl refl (λ f. refl) (λ h. refl) (le_of_eq (sym (ap to_settle has))) zero-le counted)
 write_counted w x g now x' (FailsToWrite job token written failures τ has left failed fails e)
     orderly counted =
     let next = Failed job (Some token) in
     subst (IsCounted w) (sym e)
     (subst (λ ρ. IsCounted w (with_failures (writer_at x ρ g next) failures)) (sym fails.after)
-    (writer_counted w x _ g next (λ h. refl) refl (λ f. refl) (λ h. refl) zero-le counted))
+    (writer_counted w x _ g next (λ h. refl) refl refl (λ f. refl) (λ h. refl) zero-le zero-le counted))
 write_counted w x g now x' (HasStored job token written τ has all stores e) orderly counted =
-    let next = Finished job token in
     subst (IsCounted w) (sym e)
-    (subst (λ ρ. IsCounted w (writer_at x ρ g next)) (sym stores.after)
-    (writer_counted w x _ g next (λ h. refl) refl (λ f. refl) (λ h. refl)
-    (le_of_eq (sym (ap to_settle has))) counted))
+    (finished_counted w x g job token written τ has stores orderly counted)
 write_counted w x g now x' (Settles job token τ has accepts e) orderly counted =
     subst (IsCounted w) (sym e) (settled_counted w x g job token now τ has accepts orderly counted)
 write_counted w x g now x' (Closes job token has e) orderly counted =
     subst (IsCounted w) (sym e)
     (writer_counted w x (writer_at x x.state g (Failed job None)) g (Failed job None) (λ h. refl)
-    refl (λ f. refl) (λ h. refl) zero-le counted)
+    refl refl (λ f. refl) (λ h. refl) zero-le zero-le counted)
 write_counted w x g now x' (Forgets job τ has abandons e) orderly counted =
     let next = Forgotten job.session in
     subst (IsCounted w) (sym e)
     (subst (λ ρ. IsCounted w (writer_at x ρ g next)) (sym abandons.after)
-    (writer_counted w x _ g next (λ h. refl) refl (λ f. refl) (λ h. refl) zero-le counted))
+    (writer_counted w x _ g next (λ h. refl) refl refl (λ f. refl) (λ h. refl) zero-le zero-le counted))
 write_counted w x g now x' (TellsKept s has e) orderly counted =
     subst (IsCounted w) (sym e)
-    (writer_counted w x (answered x g s IsKept) g Idle (λ h. refl) refl (λ f. refl) (λ h. refl)
-    zero-le counted)
+    (writer_counted w x (answered x g s IsKept) g Idle (λ h. refl) refl refl (λ f. refl) (λ h. refl)
+    zero-le zero-le counted)
 write_counted w x g now x' (TellsFailed s has e) orderly counted =
     subst (IsCounted w) (sym e)
-    (writer_counted w x (answered x g s HasFailed) g Idle (λ h. refl) refl (λ f. refl)
-    (λ h. refl) zero-le counted)
+    (writer_counted w x (answered x g s HasFailed) g Idle (λ h. refl) refl refl (λ f. refl)
+    (λ h. refl) zero-le zero-le counted)

@@ -1,8 +1,9 @@
--- What holds of every world, but for what is on its way to the sessions and what is counted: it is
--- kept for itself, and those are kept where it holds.
+-- What holds of every world, but for what is on its way to the sessions, what is counted and what
+-- is on record: it is kept for itself, and those are kept where it holds.
 use Rattle.relay_model.specs.Awaited.{IsAwaited}
 use Rattle.relay_model.specs.Counted.{IsCounted}
 use Rattle.relay_model.specs.Invariants.{IsNumbered, IsPlaced, IsSized, IsWell}
+use Rattle.relay_model.specs.OnRecord.{IsOnRecord}
 use Rattle.relay_model.specs.Terms.{Terms}
 use Rattle.relay_model.specs.World.{World}
 
@@ -17,13 +18,15 @@ pub orderly_of : (w : Terms) (x : World) → IsWell w x → IsOrderly w x
 orderly_of w x well =
     record { numbered = well.numbered; placed = well.placed; sized = well.sized }
 
--- a world that is in order, of which what is on its way and what is counted hold, is well
-pub well_of : (w : Terms) (x : World) → IsOrderly w x → IsAwaited x → IsCounted w x → IsWell w x
-well_of w x orderly awaited counted =
+-- a world that is in order, of which the others hold, is well
+pub well_of : (w : Terms) (x : World) → IsOrderly w x → IsAwaited x → IsCounted w x
+    → IsOnRecord w x.state → IsWell w x
+well_of w x orderly awaited counted on_record =
     record {
       numbered = orderly.numbered;
       placed = orderly.placed;
       sized = orderly.sized;
       awaited = awaited;
       counted = counted;
+      on_record = on_record;
     }

@@ -7,6 +7,7 @@ use Rattle.relay_model.specs.World.{World, Output, empty_world}
 use Rattle.relay_facts.specs.Sound.{IsSound}
 use Rattle.relay_facts.proofs.CountedSteps.{empty_counted}
 use Rattle.relay_facts.proofs.CountedRuns.{step_counted}
+use Rattle.relay_facts.proofs.OnRecord.{empty_on_record, step_on_record}
 use Rattle.relay_facts.proofs.Orderly.{IsOrderly, orderly_of, well_of}
 use Rattle.relay_facts.proofs.StepErrands.{empty_awaited, step_awaited}
 use Rattle.relay_facts.proofs.Steps.{step_orderly}
@@ -19,7 +20,7 @@ empty_orderly w failures = search rules
 pub empty_well : (w : Terms) (failures : ℕ → ℕ) → IsWell w (empty_world failures)
 empty_well w failures =
     well_of w (empty_world failures) (empty_orderly w failures) (empty_awaited failures)
-    (empty_counted w failures)
+    (empty_counted w failures) (empty_on_record w failures)
 
 -- a step
 pub step_well : (w : Terms) (x x' : World) (event : Event) (output : Output) → IsSound w
@@ -29,6 +30,7 @@ step_well w x x' event output sound well step =
     well_of w x' (step_orderly w x x' event output sound orderly step)
     (step_awaited w x x' event output orderly well.awaited step)
     (step_counted w x x' event output orderly well.counted step)
+    (step_on_record w x x' event output sound well.sized well.on_record step)
 
 -- a run
 pub run_well : (w : Terms) (x x' : World) (events : List Event) (outputs : List Output)

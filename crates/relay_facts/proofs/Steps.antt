@@ -1,7 +1,7 @@
 -- Each step from a world in order leads to one.
-use Rattle.std.proofs.Common.{◌≡◌, ◌∙◌, ◌≤◌, ◌-◌, ◌++◌, ℕ, nat_lt, nat_le, Bool, true, false, List, [], ◌∷◌}
+use Rattle.std.proofs.Common.{◌≡◌, ◌∙◌, ◌-◌, ◌++◌, ℕ, nat_lt, nat_le, Bool, true, false, List, [], ◌∷◌}
 use Rattle.std.proofs.Common.{length, Option, None, Some, refl, sym, ap, subst, if◌then◌else◌}
-use Rattle.std.proofs.lemmas.Bool.{ltb-true, leb-true}
+use Rattle.std.proofs.lemmas.Bool.{ltb-true}
 use Rattle.std.proofs.lemmas.Option.{none-some}
 use Rattle.std.specs.Prelude.{slice_get}
 use Rattle.news_terms.specs.Places.{Buffer}
@@ -151,14 +151,13 @@ reads_runs o session there free =
     by_phase Leaving e = refl
     by_phase Ended e = absurd (none-some NoSession (sym e))
 
--- a session that may take a Turn runs, and the moment is none past the last one
-pub may_turn : (o : Option Session) (session : Session) (now : ℕ) → o ≡ Some session
+-- a session that may take a Turn runs
+turns_runs : (o : Option Session) (session : Session) (now : ℕ) → o ≡ Some session
     → first_of_two (is_there is_running o) NoSession (nat_le now last_moment) BadMoment ≡ None
-    → (is_running session.phase ≡ true) × (now ≤ last_moment)
-may_turn o session now there free =
-    let runs = first_passes (is_there is_running o) NoSession (nat_le now last_moment) BadMoment
-    free in
-    (ap (is_there is_running) (sym there) ∙ runs.0, leb-true now last_moment runs.1)
+    → is_running session.phase ≡ true
+turns_runs o session now there free =
+    ap (is_there is_running) (sym there)
+    ∙ (first_passes (is_there is_running o) NoSession (nat_le now last_moment) BadMoment free).0
 
 -- an event that is done
 done_orderly : (w : Terms) → IsSound w → (x : World) (event : Event) (output : Output) (x' : World)
@@ -173,7 +172,7 @@ done_orderly w sound x (Bytes s piece) output x' free does orderly =
     (reads_runs (x.state.session s) does.0 does.1 free) orderly)
 done_orderly w sound x (Turn s now) output x' free does orderly =
     turn_orderly w sound x s now output x' does
-    (may_turn (x.state.session s) does.session now does.there free).0 orderly
+    (turns_runs (x.state.session s) does.session now does.there free) orderly
 done_orderly w sound x (Write g now) output x' free does orderly =
     write_orderly w x g now x' does.1 orderly
 done_orderly w sound x (Break s) output x' free does orderly =

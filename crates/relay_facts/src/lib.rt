@@ -4,13 +4,15 @@
 #![tactic(auto)]
 
 ghost use Rattle.std.specs.Prelude.{◌≡◌, ◌++◌, ◌≤◌, ◌<◌, ◌^◌, ℕ, List, Some, false, length};
-ghost use Rattle.std.specs.Prelude.{slice_get};
+ghost use Rattle.std.specs.Prelude.{slice_get, All, sum_by};
 ghost use Rattle.news_terms.specs.Places.{Buffer, Group, extents, front_after, on_line};
 ghost use Rattle.news_terms.specs.Token.{Token};
 ghost use Rattle.relay_model.specs.Awaited.{Errand, WaitsFor};
-ghost use Rattle.relay_model.specs.Claims.{is_storing};
+ghost use Rattle.relay_model.specs.Claims.{Stored, is_storing};
 ghost use Rattle.relay_model.specs.Fetches.{text_under, extents_from};
-ghost use Rattle.relay_model.specs.Invariants.{IsWell};
+ghost use Rattle.relay_model.specs.Figures.{buffer_figures};
+ghost use Rattle.relay_model.specs.Invariants.{IsSized, IsWell};
+ghost use Rattle.relay_model.specs.OnRecord.{IsBelow, IsOnRecord};
 ghost use Rattle.relay_model.specs.Run.{Event, Run, Step};
 ghost use Rattle.relay_model.specs.State.{Job, Kept, Session, Transfer, Waits};
 ghost use Rattle.relay_model.specs.Terms.{Terms};
@@ -28,6 +30,28 @@ pub fn stay_well()
         → IsWell w x → Step w x event output x' → IsWell w x' }
     ensures run { (w : Terms) (x x' : World) (events : List Event) (outputs : List Output)
         → IsSound w → IsWell w x → Run w x events outputs x' → IsWell w x' }
+{}
+
+/// What can be written down at a stop and read back at a start is so in the world before anything
+/// came, and each step keeps it.
+pub fn stay_on_record()
+    ensures begins { (w : Terms) (failures : ℕ → ℕ)
+        → IsOnRecord w (empty_world failures).state }
+    ensures kept { (w : Terms) (x x' : World) (event : Event) (output : Output) → IsSound w
+        → IsSized w x.state → IsOnRecord w x.state → Step w x event output x'
+        → IsOnRecord w x'.state }
+{}
+
+/// The token of each id that is stored, and each that a feed gained, is below the front of its
+/// buffer, and no feed gained more tokens than articles are stored in all buffers together.
+pub fn recorded_is_stored()
+    ensures stored { (w : Terms) (x : World) (id : List ℕ) (token : Token) (moment : ℕ)
+        → IsWell w x → x.state.claim id ≡ Stored token moment → IsBelow w x.state token }
+    ensures gained { (w : Terms) (x : World) (f : ℕ) → IsWell w x
+        → All (IsBelow w x.state) (x.state.feed f).gained }
+    ensures most { (w : Terms) (x : World) (f : ℕ) → IsWell w x
+        → length (x.state.feed f).gained
+        ≤ sum_by (λ buffer. (buffer_figures w x.state buffer).stored) w.buffers }
 {}
 
 /// A relay that is stopped where no id is being stored, and started again, is well by the settings

@@ -17,22 +17,24 @@ use Rattle.relay_model.specs.World.{empty_world}
 use Rattle.relay_model.specs.Writers.{Accepts}
 use Rattle.relay_facts.specs.Sound.{IsSound}
 use Rattle.relay_facts.proofs.Puts.{put_id_both}
+use Rattle.relay_facts.proofs.SameTokens.{same_itself}
 use Rattle.relay_laws.specs.Laws.{Always, AcceptsStored, GainsOnce, is_at, tokens_for}
 use Rattle.relay_laws.proofs.Counts.{count-le, count-none}
 use Rattle.relay_laws.proofs.Gained.{gains_permitted}
-use Rattle.relay_laws.proofs.Moves.{Moves, SameStore, step_moves}
-use Rattle.relay_laws.proofs.Moves as moves
+use Rattle.relay_facts.proofs.ClaimMoves.{goes_whole, goes_stored}
+use Rattle.relay_facts.proofs.Moves.{Moves, SameStore, step_moves}
+use Rattle.relay_facts.proofs.Moves as moves
 use Rattle.relay_laws.proofs.OneText.{OneEach, each_kept, empty_each}
 use Rattle.relay_laws.proofs.Runs.{always_keeps}
-use Rattle.relay_laws.proofs.Tests.{Same_place, same_itself, same_places}
+use Rattle.relay_laws.proofs.Tests.{Same_place, same_places}
 use Rattle.relay_laws.proofs.Accepting.{IsWhole, is_text, HasText, IsTaken, times_accepted}
-use Rattle.relay_laws.proofs.Accepting.{AcceptsOnce, goes_whole, goes_stored, quiet_kept}
+use Rattle.relay_laws.proofs.Accepting.{AcceptsOnce, quiet_kept}
 use Rattle.relay_laws.proofs.Accepting.{claim_kept, stored_kept, apart_texts}
 
 -- Accept keeps all this
-accepted_kept : (w : Terms) (σ τ : State) (job : Job) (token : Token) (now : ℕ)
-    → Accepts σ job token now τ → OneEach w σ → AcceptsOnce σ → AcceptsOnce τ
-accepted_kept w σ τ job token now accepts each holds = record {
+accepted_kept : (σ τ : State) (job : Job) (token : Token) (now : ℕ)
+    → Accepts σ job token now τ → OneEach σ → AcceptsOnce σ → AcceptsOnce τ
+accepted_kept σ τ job token now accepts each holds = record {
   texts = λ id had is.
       subst (λ list. HasText list id had) (sym kept) (holds.texts id had (was id had is).0);
   taken =
@@ -47,7 +49,7 @@ accepted_kept w σ τ job token now accepts each holds = record {
       (All-push (λ (one : Token × List ℕ). Same_place one.0 had → ⊥) σ.accepted new
       (holds.apart id had (was id had is).0)
       (λ same.
-      apart_texts w σ each id job.id had token same (was id had is).1
+      apart_texts σ each id job.id had token same (was id had is).1
       (holds.texts id had (was id had is).0) (holds.texts job.id token whole)));
   once = λ wanted.
       subst (λ list. times_accepted wanted list ≤ 1) (sym accepted)
@@ -142,7 +144,7 @@ accepted_kept w σ τ job token now accepts each holds = record {
         (λ other e. le_trans (holds.some id had moment e) (le-add_right _ _))
 
 -- each move keeps all this
-once_kept : (w : Terms) (σ τ : State) → Moves w σ τ → OneEach w σ → AcceptsOnce σ → AcceptsOnce τ
+once_kept : (w : Terms) (σ τ : State) → Moves w σ τ → OneEach σ → AcceptsOnce σ → AcceptsOnce τ
 once_kept w σ τ (moves.LeavesStore same) each holds =
     quiet_kept σ τ same.kept same.accepted
     (λ id token is. (
@@ -158,14 +160,14 @@ once_kept w σ τ (moves.Begun job token begins) each holds =
     (λ had moment e. cc) (ap (λ (ρ : State). ρ.kept) begins.after)
     (ap (λ (ρ : State). ρ.accepted) begins.after) holds
 once_kept w σ τ (moves.Stored job token stores) each holds =
-    stored_kept w σ τ job token stores each holds
+    stored_kept σ τ job token stores each holds
 once_kept w σ τ (moves.Failed job token fails) each holds =
     claim_kept σ τ job (Storing job.session job.article Failed)
     (λ k. ap (λ (ρ : State). ρ.claim k) fails.after) (λ s article had e. cc)
     (λ had moment e. cc) (ap (λ (ρ : State). ρ.kept) fails.after)
     (ap (λ (ρ : State). ρ.accepted) fails.after) holds
-once_kept w σ τ (moves.Accepted job token now accepts) each holds =
-    accepted_kept w σ τ job token now accepts each holds
+once_kept w σ τ (moves.Accepted job token now timed accepts) each holds =
+    accepted_kept σ τ job token now accepts each holds
 once_kept w σ τ (moves.Abandoned job abandons) each holds =
     claim_kept σ τ job Unknown
     (λ k. ap (λ (ρ : State). ρ.claim k) abandons.after) (λ s article had e. cc)
@@ -187,21 +189,21 @@ empty_once failures = record {
     never e = cc
 
 -- what is kept, and where
-record Both (w : Terms) (σ : State) : Type 0 where
-  each : OneEach w σ
+record Both (σ : State) : Type 0 where
+  each : OneEach σ
   once : AcceptsOnce σ
 
 -- all this holds after every run from the beginning
-always_once : (w : Terms) → IsSound w → Always w (λ x. Both w x.state)
+always_once : (w : Terms) → IsSound w → Always w (λ x. Both x.state)
 always_once w sound =
-    always_keeps w sound (λ x. Both w x.state)
+    always_keeps w sound (λ x. Both x.state)
     (λ x event output x' well step both.
     let move = step_moves w x event output x' step in
     record {
-      each = each_kept w sound x.state x'.state move well.sized both.each;
+      each = each_kept w sound x.state x'.state move well.sized well.on_record both.each;
       once = once_kept w x.state x'.state move both.each both.once;
     })
-    (λ failures. record { each = empty_each w failures; once = empty_once failures })
+    (λ failures. record { each = empty_each failures; once = empty_once failures })
 
 -- the token of a message-id that is stored was accepted exactly once
 pub accepts_stored : (w : Terms) → IsSound w → Always w AcceptsStored

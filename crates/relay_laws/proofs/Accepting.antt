@@ -10,11 +10,9 @@ use Rattle.news_terms.specs.Token.{Token, same_token}
 use Rattle.relay_model.specs.Claims.{Accepted, Claim, Storing, Stored}
 use Rattle.relay_model.specs.Claims.{Whole}
 use Rattle.relay_model.specs.State.{State, Job, Kept, put_id}
-use Rattle.relay_model.specs.Terms.{Terms}
 use Rattle.relay_model.specs.Writers.{Stores}
 use Rattle.relay_facts.proofs.Puts.{put_id_both, same_id, is_itself}
 use Rattle.relay_laws.specs.Laws.{is_at}
-use Rattle.relay_laws.proofs.ClaimMoves.{ClaimGoes, Stays, IsEarly, IsForgotten, is_early}
 use Rattle.relay_laws.proofs.Counts.{count-two}
 use Rattle.relay_laws.proofs.OneText.{OneEach}
 use Rattle.relay_laws.proofs.Tests.{Same_place, passes_place}
@@ -49,25 +47,6 @@ pub record AcceptsOnce (σ : State) : Type 0 where
   pub once : (token : Token) → times_accepted token σ.accepted ≤ 1
   pub some : (id : List ℕ) (token : Token) (moment : ℕ) → σ.claim id ≡ Stored token moment
       → 1 ≤ times_accepted token σ.accepted
-
--- a claim that goes on is whole only where it was
-pub goes_whole : (before after : Claim) → ClaimGoes before after → (s : ℕ) (article : Accepted)
-    (token : Token) → after ≡ Storing s article (Whole token)
-    → before ≡ Storing s article (Whole token)
-goes_whole before after (Stays same) s article token e = sym same ∙ e
-goes_whole before after (IsEarly one other) s article token e =
-    absurd (true≢false (sym other ∙ ap is_early e))
-goes_whole before after (IsForgotten had moment was is) s article token e =
-    absurd (true≢false (sym (ap is_early is) ∙ ap is_early e))
-
--- and stored only where it was
-pub goes_stored : (before after : Claim) → ClaimGoes before after → (token : Token) (moment : ℕ)
-    → after ≡ Stored token moment → before ≡ Stored token moment
-goes_stored before after (Stays same) token moment e = sym same ∙ e
-goes_stored before after (IsEarly one other) token moment e =
-    absurd (true≢false (sym other ∙ ap is_early e))
-goes_stored before after (IsForgotten had at was is) token moment e =
-    absurd (true≢false (sym (ap is_early is) ∙ ap is_early e))
 
 -- a move that keeps and accepts nothing, after which nothing is whole or stored that wasn't
 pub quiet_kept : (σ τ : State) → τ.kept ≡ σ.kept → τ.accepted ≡ σ.accepted
@@ -152,9 +131,9 @@ text_new kept id token text =
     one_more n e = omega (arith, e)
 
 -- Store keeps all this
-pub stored_kept : (w : Terms) (σ τ : State) (job : Job) (token : Token) → Stores σ job token τ
-    → OneEach w σ → AcceptsOnce σ → AcceptsOnce τ
-stored_kept w σ τ job token stores each holds = record {
+pub stored_kept : (σ τ : State) (job : Job) (token : Token) → Stores σ job token τ
+    → OneEach σ → AcceptsOnce σ → AcceptsOnce τ
+stored_kept σ τ job token stores each holds = record {
   texts = λ id had is.
       subst (λ list. HasText list id had) (sym kept) (by_text id had is);
   taken =
@@ -230,10 +209,10 @@ stored_kept w σ τ job token stores each holds = record {
         (sym (claims id) ∙ is.2)
 
 -- two message-ids don't have texts at one place
-pub apart_texts : (w : Terms) (σ : State) → OneEach w σ → (id other : List ℕ) (token had : Token)
+pub apart_texts : (σ : State) → OneEach σ → (id other : List ℕ) (token had : Token)
     → Same_place had token → bytes_eq id other ≡ false → HasText σ.kept id token
     → HasText σ.kept other had → ⊥
-apart_texts w σ each id other token had same differs first second =
+apart_texts σ each id other token had same differs first second =
     omega (
       arith,
       first,

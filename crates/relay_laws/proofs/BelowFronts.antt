@@ -1,48 +1,24 @@
--- What is below the front of its buffer, and the place of an article that is begun.
-use Rattle.std.proofs.Common.{◌≡◌, ◌∙◌, ℕ, ◌+◌, ◌*◌, ◌≤◌, ◌<◌, ◌==◌, false, List, All, count_by}
-use Rattle.std.proofs.Common.{find, length}
-use Rattle.std.proofs.Common.{sym, ap, subst, arith, le_of_eq, le_trans, lt_of_lt_of_le}
+-- What is below the front of its buffer is apart from the place of an article that is begun.
+use Rattle.std.proofs.Common.{◌≡◌, ◌∙◌, ◌+◌, ◌*◌, ◌≤◌, ◌<◌, ◌==◌, false, List, All, count_by}
+use Rattle.std.proofs.Common.{find}
+use Rattle.std.proofs.Common.{sym, ap, subst, arith}
 use Rattle.std.proofs.lemmas.Bool.{false_from_ne_true}
 use Rattle.std.proofs.lemmas.List.Elements.{All-weaker}
 use Rattle.std.proofs.lemmas.Option.{same_Some}
-use Rattle.news_terms.specs.Places.{Buffer, Place, on_line, size_of}
+use Rattle.news_terms.specs.Places.{Buffer, Place, on_line}
 use Rattle.news_terms.specs.Token.{Token}
-use Rattle.news_terms.proofs.FrontLaws.{next_ends}
 use Rattle.relay_model.specs.Fetches.{front_of}
 use Rattle.relay_model.specs.Invariants.{IsSized}
+use Rattle.relay_model.specs.OnRecord.{IsBelow}
 use Rattle.relay_model.specs.State.{State, Job, Kept}
 use Rattle.relay_model.specs.Terms.{Terms}
-use Rattle.relay_model.specs.Writers.{job_size, token_at}
+use Rattle.relay_model.specs.Writers.{token_at}
 use Rattle.relay_facts.specs.Sound.{IsSound}
 use Rattle.relay_laws.specs.Laws.{is_at}
 use Rattle.relay_laws.proofs.Counts.{count-none}
-use Rattle.relay_laws.proofs.Moves.{Moves}
-use Rattle.relay_laws.proofs.NamedBuffers.{Named}
-use Rattle.relay_laws.proofs.RisingFronts.{BeginFacts, WithSize, place_named, begins_past}
-use Rattle.relay_laws.proofs.RisingFronts.{front_then}
-use Rattle.relay_laws.proofs.RisingFronts.{front_rises}
+use Rattle.relay_facts.proofs.NamedBuffers.{Named}
+use Rattle.relay_facts.proofs.RisingFronts.{BeginFacts, place_named, begins_past}
 use Rattle.relay_laws.proofs.Tests.{Same_place, at_place}
-
--- the token's blocks lie in its buffer, below the front
-pub record IsBelow (w : Terms) (σ : State) (token : Token) : Type 0 where
-  pub buffer : Buffer
-  pub named : Named w token.buffer buffer
-  pub some : 1 ≤ token.length
-  pub inside : token.first + size_of token.length ≤ buffer.blocks
-  pub below : on_line buffer.blocks token.cycle token.first < front_of w σ buffer
-
--- what is below the front stays below it
-pub below_rises : (w : Terms) → IsSound w → (σ τ : State) → Moves w σ τ → IsSized w σ
-    → (token : Token) → IsBelow w σ token → IsBelow w τ token
-below_rises w sound σ τ move sized token is = record {
-  buffer = is.buffer;
-  named = is.named;
-  some = is.some;
-  inside = is.inside;
-  below =
-      lt_of_lt_of_le is.below
-      (front_rises w sound σ τ move sized token.buffer is.buffer is.named);
-}
 
 -- a place below the front isn't one at the front or past it
 pub below_apart : (w : Terms) (σ : State) (old new : Token) → IsBelow w σ old → (buffer : Buffer)
@@ -83,29 +59,6 @@ none_past w σ token buffer named past kept below =
     (λ (one : Kept). is_at token.buffer token.cycle token.first one ≡ false)
     (λ one is. other_place one token (below_apart w σ one.token token is buffer named past)) kept
     below)
-
--- the new token is below the front once its article is begun
-pub new_below : (w : Terms) → IsSound w → (σ : State) (job : Job) (place : Place)
-    → BeginFacts w σ job place
-    → IsBelow w (WithSize σ job.article.group (job_size job)) (token_at job place)
-new_below w sound σ job place facts = record {
-  buffer = place.buffer;
-  named = place_named w sound σ job place facts;
-  some = octets (length job.article.text) facts.sound.some;
-  inside =
-      (next_ends facts.sound.group (σ.begun job.article.group) (job_size job) facts.sound.fits place
-      facts.next).ends;
-  below =
-      le_trans (behind (on_line place.buffer.blocks place.cycle place.first) (job_size job)
-      facts.sound.some)
-      (le_of_eq (sym (front_then w sound σ job place facts)));
-}
-  where
-    behind : (n size : ℕ) → 1 ≤ size → n < n + size
-    behind n size some = omega arith
-
-    octets : (n : ℕ) → 1 ≤ size_of n → 1 ≤ n
-    octets n some = omega (arith, some)
 
 -- no token that is below the front has its place
 pub new_apart : (w : Terms) → IsSound w → (σ : State) → IsSized w σ → (job : Job) (place : Place)

@@ -31,7 +31,7 @@ use Rattle.relay_laws.specs.Opens.{open_write}
 use Rattle.relay_laws.proofs.OpenSteps.{Opens_go, Opens_none, Begins_one, Stores_one, Less_open}
 use Rattle.relay_laws.proofs.OpenSteps.{step_opens}
 use Rattle.relay_laws.proofs.OpenWrites.{OpenAt, OpensAlone, alone_begins, alone_kept}
-use Rattle.relay_laws.proofs.RisingFronts.{BeginFacts, begin_facts}
+use Rattle.relay_facts.proofs.RisingFronts.{BeginFacts, begin_facts}
 use Rattle.relay_laws.proofs.Runs.{always_keeps}
 
 -- articles of other buffers leave the cycle of this one

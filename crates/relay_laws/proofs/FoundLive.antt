@@ -15,12 +15,13 @@ use Rattle.relay_model.specs.Fetches as fetches
 use Rattle.relay_model.specs.State.{State, Kept}
 use Rattle.relay_model.specs.Terms.{Terms}
 use Rattle.relay_model.specs.Fetches.{fetched, front_of, decided_in, article_of, NotKnown, Gone}
+use Rattle.relay_model.specs.OnRecord.{IsBelow}
 use Rattle.relay_facts.specs.Sound.{IsSound}
 use Rattle.relay_laws.specs.Laws.{Always, FindsUntilGone}
 use Rattle.relay_laws.specs.Rules.{IsGoneToken, IsLiveToken}
-use Rattle.relay_laws.proofs.BelowFronts.{IsBelow}
-use Rattle.relay_laws.proofs.OneText.{always_each, one_text_a_token}
-use Rattle.relay_laws.proofs.Tests.{same_itself}
+use Rattle.relay_laws.proofs.OneText.{one_text_a_token}
+use Rattle.relay_laws.proofs.Runs.{always_well}
+use Rattle.relay_facts.proofs.SameTokens.{same_itself}
 
 -- where none is counted, each fails
 none_passes : {X : Type 0} (p : X → Bool) (xs : List X) → count_by p xs ≡ 0
@@ -136,8 +137,8 @@ found_live w σ token text live under =
 -- so each text that is whole is found until it is gone
 pub found_until_gone : (w : Terms) → IsSound w → Always w (FindsUntilGone w)
 found_until_gone w sound failures events outputs x run k d inside apart =
-    let each = always_each w sound failures events outputs x run in
+    let below = (always_well w sound failures events outputs x run).on_record.kept in
     let one = get_or x.state.kept k d in
     found_live w x.state one.token one.text
-    (live_by w x.state one.token (each.below k d inside) apart)
+    (live_by w x.state one.token (below k d inside) apart)
     (each_under x.state.kept (one_text_a_token w sound failures events outputs x run) k d inside)

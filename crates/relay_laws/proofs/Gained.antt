@@ -11,8 +11,8 @@ use Rattle.relay_model.specs.Terms.{Terms}
 use Rattle.relay_model.specs.World.{empty_world}
 use Rattle.relay_model.specs.Writers.{gaining}
 use Rattle.relay_laws.specs.Laws.{Always, GainsPermitted, tokens_for}
-use Rattle.relay_laws.proofs.Moves.{Moves, step_moves}
-use Rattle.relay_laws.proofs.Moves as moves
+use Rattle.relay_facts.proofs.Moves.{Moves, goes_gained, step_moves}
+use Rattle.relay_facts.proofs.Moves as moves
 use Rattle.relay_laws.proofs.Runs.{run_keeps}
 
 -- the token of one accepted article, where it is for the feed
@@ -58,11 +58,12 @@ Gains σ = (f : ℕ) → (σ.feed f).gained ≡ tokens_for f σ.accepted
 -- each move keeps what the feeds gained
 gains_kept : (w : Terms) (σ τ : State) → Moves w σ τ → Gains σ → Gains τ
 gains_kept w σ τ (moves.LeavesStore same) gains =
-    λ f. same.gained f ∙ gains f ∙ ap (tokens_for f) (sym same.accepted)
+    λ f. goes_gained (σ.feed f) (τ.feed f) (same.feeds f) ∙ gains f
+    ∙ ap (tokens_for f) (sym same.accepted)
 gains_kept w σ τ (moves.Begun job token begins) gains = subst Gains (sym begins.after) gains
 gains_kept w σ τ (moves.Stored job token stores) gains = subst Gains (sym stores.after) gains
 gains_kept w σ τ (moves.Failed job token fails) gains = subst Gains (sym fails.after) gains
-gains_kept w σ τ (moves.Accepted job token now accepts) gains =
+gains_kept w σ τ (moves.Accepted job token now timed accepts) gains =
     subst Gains (sym accepts.after)
     (gaining_permitted σ.feed σ.accepted token job.article.permitted gains)
 gains_kept w σ τ (moves.Abandoned job abandons) gains = subst Gains (sym abandons.after) gains

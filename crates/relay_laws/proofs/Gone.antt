@@ -13,9 +13,9 @@ use Rattle.relay_model.specs.World.{World}
 use Rattle.relay_facts.specs.Sound.{IsSound}
 use Rattle.relay_laws.specs.Laws.{AlwaysFrom, FindsGone}
 use Rattle.relay_laws.specs.Rules.{IsGoneToken}
-use Rattle.relay_laws.proofs.Moves.{step_moves}
-use Rattle.relay_laws.proofs.NamedBuffers.{Named}
-use Rattle.relay_laws.proofs.RisingFronts.{front_rises}
+use Rattle.relay_facts.proofs.Moves.{step_moves}
+use Rattle.relay_facts.proofs.NamedBuffers.{Named}
+use Rattle.relay_facts.proofs.RisingFronts.{front_rises}
 use Rattle.relay_laws.proofs.Runs.{well_run_keeps}
 
 -- no run lowers the front of a buffer

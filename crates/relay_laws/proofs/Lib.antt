@@ -2,7 +2,6 @@ pub mod AcceptedOnce
 pub mod Accepting
 pub mod BelowFronts
 pub mod BufferFigures
-pub mod ClaimMoves
 pub mod Counted
 pub mod Counts
 pub mod Cuts
@@ -13,12 +12,9 @@ pub mod Forgotten
 pub mod FoundLive
 pub mod Gained
 pub mod Gone
-pub mod GroupFronts
 pub mod JobsTold
 pub mod Judgements
 pub mod KnownTokens
-pub mod Moves
-pub mod NamedBuffers
 pub mod OfferDues
 pub mod OfferSteps
 pub mod OfferTurns
@@ -36,7 +32,6 @@ pub mod Permitted
 pub mod ReadFronts
 pub mod Reasons
 pub mod Remembered
-pub mod RisingFronts
 pub mod Runs
 pub mod RunsOfJobs
 pub mod Sessions

@@ -1,14 +1,14 @@
--- One text a token: each article that is begun lies at the front of its buffer or past it, so no
--- two lie at one place.
-use Rattle.std.proofs.Common.{◌≡◌, ◌∙◌, ℕ, ◌+◌, ◌≤◌, Bool, true, false, List, [], ◌∷◌, ◌++◌, All}
+-- One text a token: each article that is begun lies at the front of its buffer or past it, where
+-- nothing is kept or begun, so no two lie at one place.
+use Rattle.std.proofs.Common.{◌≡◌, ◌∙◌, ℕ, ◌+◌, ◌≤◌, Bool, true, false, List, [], ◌∷◌, ◌++◌}
 use Rattle.std.proofs.Common.{count_by, cond, bytes_eq, refl, sym, ap, subst, zero-le}
 use Rattle.std.proofs.Common.{le_of_eq, le_trans, add-zero, true≢false, ◌⊎◌, inl, inr}
-use Rattle.std.proofs.lemmas.List.Elements.{All-push, All-nil, All-weaker}
 use Rattle.std.proofs.lemmas.List.Sums.{sum_by_push}
 use Rattle.news_terms.specs.Token.{Token, same_token}
 use Rattle.relay_model.specs.Claims.{Accepted, Claim, Unknown, Storing, Stored, Begun, Failed}
 use Rattle.relay_model.specs.Claims.{Whole}
 use Rattle.relay_model.specs.Invariants.{IsSized}
+use Rattle.relay_model.specs.OnRecord.{IsOnRecord, IsBelow}
 use Rattle.relay_model.specs.State.{State, Job, Kept, put_id}
 use Rattle.relay_model.specs.Terms.{Terms}
 use Rattle.relay_model.specs.World.{empty_world}
@@ -16,13 +16,12 @@ use Rattle.relay_model.specs.Writers.{Begins, Stores, token_at}
 use Rattle.relay_facts.specs.Sound.{IsSound}
 use Rattle.relay_facts.proofs.Puts.{put_id_both, same_id, is_itself}
 use Rattle.relay_laws.specs.Laws.{Always, is_at, OneTextAPlace, OneTextAToken}
-use Rattle.relay_laws.proofs.BelowFronts.{IsBelow, below_rises, other_place, none_past, new_below}
-use Rattle.relay_laws.proofs.BelowFronts.{new_apart}
-use Rattle.relay_laws.proofs.ClaimMoves.{ClaimGoes, Stays, IsEarly, IsForgotten, is_early}
+use Rattle.relay_laws.proofs.BelowFronts.{other_place, none_past, new_apart}
+use Rattle.relay_facts.proofs.ClaimMoves.{goes_begun}
 use Rattle.relay_laws.proofs.Counts.{count-le}
-use Rattle.relay_laws.proofs.Moves.{Moves, SameStore, step_moves}
-use Rattle.relay_laws.proofs.Moves as moves
-use Rattle.relay_laws.proofs.RisingFronts.{BeginFacts, begin_facts, place_named, begins_past}
+use Rattle.relay_facts.proofs.Moves.{Moves, SameStore, step_moves}
+use Rattle.relay_facts.proofs.Moves as moves
+use Rattle.relay_facts.proofs.RisingFronts.{BeginFacts, begin_facts, place_named, begins_past}
 use Rattle.relay_laws.proofs.Runs.{always_keeps}
 use Rattle.relay_laws.proofs.Tests.{Same_place, turned, at_place, passes_place, same_places}
 
@@ -31,10 +30,8 @@ abbrev pub IsBegun : State → List ℕ → Token → Type 0
 IsBegun σ id token =
     (s : ℕ) × (article : Accepted) × (σ.claim id ≡ Storing s article (Begun token))
 
--- the places of what is kept and begun: below the fronts, and each alone
-pub record OneEach (w : Terms) (σ : State) : Type 0 where
-  pub below : All (λ (one : Kept). IsBelow w σ one.token) σ.kept
-  pub begun : (id : List ℕ) (token : Token) → IsBegun σ id token → IsBelow w σ token
+-- the places of what is kept and begun: each alone
+pub record OneEach (σ : State) : Type 0 where
   pub one : (buffer cycle first : ℕ) → count_by (is_at buffer cycle first) σ.kept ≤ 1
   pub none : (id : List ℕ) (token : Token) → IsBegun σ id token
       → count_by (is_at token.buffer token.cycle token.first) σ.kept ≡ 0
@@ -46,15 +43,8 @@ abbrev BeginsNone : State → State → Type 0
 BeginsNone σ τ = (id : List ℕ) (token : Token) → IsBegun τ id token → IsBegun σ id token
 
 -- a move that begins nothing and stores nothing
-quiet_kept : (w : Terms) → IsSound w → (σ τ : State) → Moves w σ τ → IsSized w σ → BeginsNone σ τ
-    → τ.kept ≡ σ.kept → OneEach w σ → OneEach w τ
-quiet_kept w sound σ τ move sized begins_none same each = record {
-  below =
-      subst (All (λ (one : Kept). IsBelow w τ one.token)) (sym same)
-      (All-weaker (λ (one : Kept). IsBelow w σ one.token) (λ (one : Kept). IsBelow w τ one.token)
-      (λ one is. below_rises w sound σ τ move sized one.token is) σ.kept each.below);
-  begun = λ id token is.
-      below_rises w sound σ τ move sized token (each.begun id token (begins_none id token is));
+quiet_kept : (σ τ : State) → BeginsNone σ τ → τ.kept ≡ σ.kept → OneEach σ → OneEach τ
+quiet_kept σ τ begins_none same each = record {
   one = λ buffer cycle first.
       subst (λ kept. count_by (is_at buffer cycle first) kept ≤ 1) (sym same)
       (each.one buffer cycle first);
@@ -64,21 +54,6 @@ quiet_kept w sound σ τ move sized begins_none same each = record {
   alone = λ id other token had e f place.
       each.alone id other token had (begins_none id token e) (begins_none other had f) place;
 }
-
--- an early claim is not begun
-early_none : (claim : Claim) → is_early claim ≡ true → (s : ℕ) (article : Accepted) (token : Token)
-    → claim ≡ Storing s article (Begun token) → ⊥
-early_none claim early s article token e = true≢false (sym early ∙ ap is_early e)
-
--- a claim that goes on is begun only where it was
-goes_none : (before after : Claim) → ClaimGoes before after → (s : ℕ) (article : Accepted)
-    (token : Token) → after ≡ Storing s article (Begun token)
-    → before ≡ Storing s article (Begun token)
-goes_none before after (Stays same) s article token e = sym same ∙ e
-goes_none before after (IsEarly one other) s article token e =
-    absurd (early_none after other s article token e)
-goes_none before after (IsForgotten had moment was is) s article token e =
-    absurd (early_none after (ap is_early is) s article token e)
 
 -- one id's claim becomes one that isn't begun
 puts_none : (σ : State) (id : List ℕ) (new : Claim)
@@ -102,13 +77,8 @@ was_begun w σ τ job token begins k had is =
 
 -- Begin keeps all this
 begun_kept : (w : Terms) → IsSound w → (σ τ : State) (job : Job) (token : Token)
-    → Begins w σ job token τ → IsSized w σ → OneEach w σ → OneEach w τ
-begun_kept w sound σ τ job token begins sized each = record {
-  below =
-      subst (All (λ (one : Kept). IsBelow w τ one.token)) (sym kept)
-      (All-weaker (λ (one : Kept). IsBelow w σ one.token) (λ (one : Kept). IsBelow w τ one.token)
-      (λ one is. rises one.token is) σ.kept each.below);
-  begun = λ k had is. by_begun k had (was_begun w σ τ job token begins k had is);
+    → Begins w σ job token τ → IsSized w σ → IsOnRecord w σ → OneEach σ → OneEach τ
+begun_kept w sound σ τ job token begins sized recorded each = record {
   one = λ buffer cycle first.
       subst (λ list. count_by (is_at buffer cycle first) list ≤ 1) (sym kept)
       (each.one buffer cycle first);
@@ -126,22 +96,6 @@ begun_kept w sound σ τ job token begins sized each = record {
     kept : τ.kept ≡ σ.kept
     kept = ap (λ (ρ : State). ρ.kept) begins.after
 
-    rises : (had : Token) → IsBelow w σ had → IsBelow w τ had
-    rises = below_rises w sound σ τ (moves.Begun job token begins) sized
-
-    fresh : IsBelow w τ token
-    fresh =
-        let new = new_below w sound σ job begins.place facts in
-        subst (IsBelow w τ) (sym begins.named)
-        (subst (λ ρ. IsBelow w ρ (token_at job begins.place)) (sym begins.after)
-        (record {
-          buffer = new.buffer;
-          named = new.named;
-          some = new.some;
-          inside = new.inside;
-          below = new.below;
-        }))
-
     apart : (had : Token) → IsBelow w σ had → Same_place had token → ⊥
     apart had is same =
         new_apart w sound σ sized job begins.place facts had is
@@ -153,12 +107,10 @@ begun_kept w sound σ τ job token begins sized each = record {
         (sym begins.named)
         (none_past w σ (token_at job begins.place) begins.place.buffer
         (place_named w sound σ job begins.place facts)
-        (begins_past w sound σ sized job begins.place facts) σ.kept each.below)
+        (begins_past w sound σ sized job begins.place facts) σ.kept recorded.kept)
 
-    by_begun : (k : List ℕ) (had : Token) → ((k ≡ job.id) × (token ≡ had)) ⊎ IsBegun σ k had
-        → IsBelow w τ had
-    by_begun k had (inl new) = subst (IsBelow w τ) new.1 fresh
-    by_begun k had (inr old) = rises had (each.begun k had old)
+    was_below : (k : List ℕ) (had : Token) → IsBegun σ k had → IsBelow w σ had
+    was_below k had is = recorded.begun k is.0 is.1 had is.2
 
     by_none : (k : List ℕ) (had : Token) → ((k ≡ job.id) × (token ≡ had)) ⊎ IsBegun σ k had
         → count_by (is_at had.buffer had.cycle had.first) σ.kept ≡ 0
@@ -171,18 +123,18 @@ begun_kept w sound σ τ job token begins sized each = record {
         → ((other ≡ job.id) × (token ≡ had)) ⊎ IsBegun σ other had → Same_place one had → k ≡ other
     by_alone k other one had (inl new) (inl too) same = new.0 ∙ sym too.0
     by_alone k other one had (inl new) (inr old) same =
-        absurd (apart had (each.begun other had old)
+        absurd (apart had (was_below other had old)
         (turned token had (subst (λ t. Same_place t had) (sym new.1) same)))
     by_alone k other one had (inr old) (inl new) same =
-        absurd (apart one (each.begun k one old) (subst (Same_place one) (sym new.1) same))
+        absurd (apart one (was_below k one old) (subst (Same_place one) (sym new.1) same))
     by_alone k other one had (inr old) (inr too) same = each.alone k other one had old too same
 
 -- how many texts lie at a place once one more text is whole
-stored_one : (w : Terms) (σ : State) (job : Job) (token : Token) → OneEach w σ
+stored_one : (σ : State) (job : Job) (token : Token) → OneEach σ
     → IsBegun σ job.id token → (buffer cycle first : ℕ) (one : Kept) → one.token ≡ token
     → (test : Bool) → is_at buffer cycle first one ≡ test
     → count_by (is_at buffer cycle first) σ.kept + cond test 1 0 ≤ 1
-stored_one w σ job token each begun buffer cycle first one under true passes =
+stored_one σ job token each begun buffer cycle first one under true passes =
     let place : (one.token.buffer ≡ buffer) × (one.token.cycle ≡ cycle)
     × (one.token.first ≡ first) = at_place one buffer cycle first passes in
     let none : count_by (is_at buffer cycle first) σ.kept ≡ 0 =
@@ -194,25 +146,18 @@ stored_one w σ job token each begun buffer cycle first one under true passes =
     (sym place.0 ∙ ap (λ (t : Token). t.buffer) under)
     ∙ each.none job.id token begun in
     le_of_eq (ap (λ n. n + 1) none)
-stored_one w σ job token each begun buffer cycle first one under false fails =
+stored_one σ job token each begun buffer cycle first one under false fails =
     le_trans (le_of_eq (add-zero (count_by (is_at buffer cycle first) σ.kept)))
     (each.one buffer cycle first)
 
 -- Store keeps all this
-stored_kept : (w : Terms) → IsSound w → (σ τ : State) (job : Job) (token : Token)
-    → Stores σ job token τ → IsSized w σ → OneEach w σ → OneEach w τ
-stored_kept w sound σ τ job token stores sized each = record {
-  below =
-      subst (All (λ (one : Kept). IsBelow w τ one.token)) (sym kept)
-      (All-push (λ (one : Kept). IsBelow w τ one.token) σ.kept new
-      (All-weaker (λ (one : Kept). IsBelow w σ one.token) (λ (one : Kept). IsBelow w τ one.token)
-      (λ one is. rises one.token is) σ.kept each.below)
-      (rises token (each.begun job.id token begun)));
-  begun = λ k had is. rises had (each.begun k had (was k had is).0);
+stored_kept : (σ τ : State) (job : Job) (token : Token) → Stores σ job token τ → OneEach σ
+    → OneEach τ
+stored_kept σ τ job token stores each = record {
   one = λ buffer cycle first.
       subst (λ list. count_by (is_at buffer cycle first) list ≤ 1) (sym kept)
       (le_trans (le_of_eq (sum_by_push (λ one. cond (is_at buffer cycle first one) 1 0) σ.kept new))
-      (stored_one w σ job token each begun buffer cycle first new refl _ refl));
+      (stored_one σ job token each begun buffer cycle first new refl _ refl));
   none = λ k had is.
       ap (count_by (is_at had.buffer had.cycle had.first)) kept
       ∙ sum_by_push (λ one. cond (is_at had.buffer had.cycle had.first one) 1 0) σ.kept new
@@ -235,9 +180,6 @@ stored_kept w sound σ τ job token stores sized each = record {
     kept : τ.kept ≡ σ.kept ++ new ∷ []
     kept = ap (λ (ρ : State). ρ.kept) stores.after
 
-    rises : (had : Token) → IsBelow w σ had → IsBelow w τ had
-    rises = below_rises w sound σ τ (moves.Stored job token stores) sized
-
     was : (k : List ℕ) (had : Token) → IsBegun τ k had → IsBegun σ k had × (k ≡ job.id → ⊥)
     was k had is =
         put_id_both
@@ -251,33 +193,33 @@ stored_kept w sound σ τ job token stores sized each = record {
         (sym (ap (λ (ρ : State). ρ.claim k) stores.after) ∙ is.2)
 
 -- each move keeps all this
-pub each_kept : (w : Terms) → IsSound w → (σ τ : State) → Moves w σ τ → IsSized w σ → OneEach w σ
-    → OneEach w τ
-each_kept w sound σ τ (moves.LeavesStore same) sized each =
-    quiet_kept w sound σ τ (moves.LeavesStore same) sized
+pub each_kept : (w : Terms) → IsSound w → (σ τ : State) → Moves w σ τ → IsSized w σ
+    → IsOnRecord w σ → OneEach σ → OneEach τ
+each_kept w sound σ τ (moves.LeavesStore same) sized recorded each =
+    quiet_kept σ τ
     (λ k token is.
-    (is.0, is.1, goes_none (σ.claim k) (τ.claim k) (same.claims k) is.0 is.1 token is.2))
+    (is.0, is.1, goes_begun (σ.claim k) (τ.claim k) (same.claims k) is.0 is.1 token is.2))
     same.kept each
-each_kept w sound σ τ (moves.Begun job token begins) sized each =
-    begun_kept w sound σ τ job token begins sized each
-each_kept w sound σ τ (moves.Stored job token stores) sized each =
-    stored_kept w sound σ τ job token stores sized each
-each_kept w sound σ τ (moves.Failed job token fails) sized each =
-    quiet_kept w sound σ τ (moves.Failed job token fails) sized
+each_kept w sound σ τ (moves.Begun job token begins) sized recorded each =
+    begun_kept w sound σ τ job token begins sized recorded each
+each_kept w sound σ τ (moves.Stored job token stores) sized recorded each =
+    stored_kept σ τ job token stores each
+each_kept w sound σ τ (moves.Failed job token fails) sized recorded each =
+    quiet_kept σ τ
     (λ k had is.
     puts_none σ job.id (Storing job.session job.article Failed)
     (λ s article under e. cc) k had is.0 is.1
     (sym (ap (λ (ρ : State). ρ.claim k) fails.after) ∙ is.2))
     (ap (λ (ρ : State). ρ.kept) fails.after) each
-each_kept w sound σ τ (moves.Accepted job token now accepts) sized each =
-    quiet_kept w sound σ τ (moves.Accepted job token now accepts) sized
+each_kept w sound σ τ (moves.Accepted job token now timed accepts) sized recorded each =
+    quiet_kept σ τ
     (λ k had is.
     puts_none σ job.id (Stored token now)
     (λ s article under e. cc) k had is.0 is.1
     (sym (ap (λ (ρ : State). ρ.claim k) accepts.after) ∙ is.2))
     (ap (λ (ρ : State). ρ.kept) accepts.after) each
-each_kept w sound σ τ (moves.Abandoned job abandons) sized each =
-    quiet_kept w sound σ τ (moves.Abandoned job abandons) sized
+each_kept w sound σ τ (moves.Abandoned job abandons) sized recorded each =
+    quiet_kept σ τ
     (λ k had is.
     puts_none σ job.id Unknown
     (λ s article under e. cc) k had is.0 is.1
@@ -285,10 +227,8 @@ each_kept w sound σ τ (moves.Abandoned job abandons) sized each =
     (ap (λ (ρ : State). ρ.kept) abandons.after) each
 
 -- nothing is begun and nothing kept at the beginning
-pub empty_each : (w : Terms) (failures : ℕ → ℕ) → OneEach w (empty_world failures).state
-empty_each w failures = record {
-  below = All-nil (λ (one : Kept). IsBelow w (empty_world failures).state one.token);
-  begun = λ id token is. absurd (never is.2);
+pub empty_each : (failures : ℕ → ℕ) → OneEach (empty_world failures).state
+empty_each failures = record {
   one = λ buffer cycle first. zero-le;
   none = λ id token is. refl;
   alone = λ id other token had is f same. absurd (never is.2);
@@ -299,12 +239,13 @@ empty_each w failures = record {
     never e = cc
 
 -- all this holds after every run from the beginning
-pub always_each : (w : Terms) → IsSound w → Always w (λ x. OneEach w x.state)
+pub always_each : (w : Terms) → IsSound w → Always w (λ x. OneEach x.state)
 always_each w sound =
-    always_keeps w sound (λ x. OneEach w x.state)
+    always_keeps w sound (λ x. OneEach x.state)
     (λ x event output x' well step each.
-    each_kept w sound x.state x'.state (step_moves w x event output x' step) well.sized each)
-    (empty_each w)
+    each_kept w sound x.state x'.state (step_moves w x event output x' step) well.sized
+    well.on_record each)
+    empty_each
 
 -- no two texts lie at one place
 pub one_text_a_place : (w : Terms) → IsSound w → Always w OneTextAPlace

@@ -16,10 +16,10 @@ use Rattle.relay_laws.specs.Laws.{Always}
 use Rattle.relay_laws.specs.Opens.{AreApart, BeginsElsewhere, OpensAreFree, OpensAreNewest}
 use Rattle.relay_laws.specs.Opens.{OpensKeepFronts, open_write}
 use Rattle.relay_laws.specs.Rules.{IsLiveToken}
-use Rattle.relay_laws.proofs.NamedBuffers.{Named, named_in_group}
+use Rattle.relay_facts.proofs.NamedBuffers.{Named, named_in_group}
 use Rattle.relay_laws.proofs.OpenSteps.{Opens_go, Opens_none, Begins_one, Stores_one, step_opens}
-use Rattle.relay_laws.proofs.RisingFronts.{BeginFacts, begin_facts, place_at}
-use Rattle.relay_laws.proofs.RisingFronts.{same_front}
+use Rattle.relay_facts.proofs.RisingFronts.{BeginFacts, begin_facts, place_at}
+use Rattle.relay_facts.proofs.RisingFronts.{same_front}
 use Rattle.relay_laws.proofs.Runs.{always_well}
 use Rattle.relay_laws.proofs.OpenWrites.{Ends_before, OpenAt, always_alone}
 use Rattle.relay_laws.proofs.OpenWrites.{front_left, groups_apart}

@@ -5,12 +5,12 @@ use Rattle.std.proofs.lemmas.Option.{none-some}
 use Rattle.news_terms.specs.Token.{Token}
 use Rattle.relay_model.specs.Run.{Event, Open, Bytes, Turn, Write, Break, Expire, Restart, Step}
 use Rattle.relay_model.specs.Run.{Does, IsRefused, WantsMemory, IsDone, Restarts, IsBusy}
-use Rattle.relay_model.specs.Run.{HasNoRoom, HasNot}
+use Rattle.relay_model.specs.Run.{HasNoRoom, HasNot, is_running, is_there, refusal}
 use Rattle.relay_model.specs.Run as run
 use Rattle.relay_model.specs.State.{State, Job, put_at}
 use Rattle.relay_model.specs.Terms.{Terms}
 use Rattle.relay_model.specs.World.{World, Writer, Output, Idle, Popped, Writing, Finished, Settled}
-use Rattle.relay_model.specs.World.{Forgotten}
+use Rattle.relay_model.specs.World.{Forgotten, NoSession}
 use Rattle.relay_model.specs.World as world
 use Rattle.relay_model.specs.Writers.{Begins, Stores, Writes, NoJob, Pops, HasBegun, FindsWorn}
 use Rattle.relay_model.specs.Writers.{WritesBlock, FailsToWrite, HasStored, Settles, Closes}
@@ -18,7 +18,7 @@ use Rattle.relay_model.specs.Writers.{Forgets}
 use Rattle.relay_model.specs.Writers.{TellsKept, TellsFailed}
 use Rattle.relay_facts.proofs.Puts.{put_at_both}
 use Rattle.relay_laws.specs.Opens.{open_write}
-use Rattle.relay_laws.proofs.Moves.{SameStore, same_store, moved, turn_same, expired_same}
+use Rattle.relay_facts.proofs.Moves.{SameStore, same_store, moved, turn_same, expired_same, is_timed}
 use Rattle.relay_laws.proofs.WriterSteps.{writers, turn_writers, expired_writers}
 
 -- a write that is open was open before
@@ -134,26 +134,28 @@ restart_opens w x output y (run.IsDone failures idle rises said e) =
 
 -- an event that isn't refused
 does_opens : (w : Terms) (x : World) (event : Event) (output : Output) (y : World)
-    → Does w x event output y → Opens_go w x y
-does_opens w x (Open s peer) output y does =
+    → refusal w x.state event ≡ None → Does w x event output y → Opens_go w x y
+does_opens w x (Open s peer) output y free does =
     Opens_none
     (λ g token is. ap (λ (v : World). open_write (v.work.writer g)) (sym does.1) ∙ is)
     (λ h. ap (λ (v : World). v.state.begun h) does.1) (ap (λ (v : World). v.state.kept) does.1)
-does_opens w x (Bytes s piece) output y does =
+does_opens w x (Bytes s piece) output y free does =
     Opens_none
     (λ g token is. ap (λ (v : World). open_write (v.work.writer g)) (sym does.3) ∙ is)
     (λ h. ap (λ (v : World). v.state.begun h) does.3) (ap (λ (v : World). v.state.kept) does.3)
-does_opens w x (Turn s now) output y does =
-    still w x y (turn_writers w x s now output y does) (turn_same w x s now output y does)
-does_opens w x (Write g now) output y does = write_opens w x g now y does.1
-does_opens w x (Break s) output y does =
+does_opens w x (Turn s now) output y free does =
+    still w x y (turn_writers w x s now output y does)
+    (turn_same w x s now (is_timed (is_there is_running (x.state.session s)) NoSession now free)
+    output y does)
+does_opens w x (Write g now) output y free does = write_opens w x g now y does.1
+does_opens w x (Break s) output y free does =
     Opens_none
     (λ g token is. ap (λ (v : World). open_write (v.work.writer g)) (sym does.3) ∙ is)
     (λ h. ap (λ (v : World). v.state.begun h) does.3) (ap (λ (v : World). v.state.kept) does.3)
-does_opens w x (Expire shard now) output y does =
+does_opens w x (Expire shard now) output y free does =
     still w x y (ap writers does.1 ∙ expired_writers w x shard now x.work.expirer)
     (moved x.state y _ does.1 (expired_same w x shard now x.work.expirer))
-does_opens w x Restart output y does = restart_opens w x output y does
+does_opens w x Restart output y free does = restart_opens w x output y does
 
 -- each step
 pub step_opens : (w : Terms) (x : World) (event : Event) (output : Output) (y : World)
@@ -162,4 +164,4 @@ step_opens w x event output y (IsRefused fault is said e) =
     still w x y (ap writers e) (moved x.state y x e (same_store x.state))
 step_opens w x event output y (WantsMemory takes said e) =
     still w x y (ap writers e) (moved x.state y x e (same_store x.state))
-step_opens w x event output y (IsDone free does) = does_opens w x event output y does
+step_opens w x event output y (IsDone free does) = does_opens w x event output y free does

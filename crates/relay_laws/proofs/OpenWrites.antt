@@ -20,12 +20,12 @@ use Rattle.relay_facts.specs.Sound.{IsSound}
 use Rattle.relay_facts.proofs.Puts.{put_at_both}
 use Rattle.relay_laws.specs.Laws.{Always}
 use Rattle.relay_laws.specs.Opens.{open_write}
-use Rattle.relay_laws.proofs.GroupFronts.{front_elsewhere}
-use Rattle.relay_laws.proofs.Moves.{Moves, step_moves}
-use Rattle.relay_laws.proofs.NamedBuffers.{Named, named_in_group}
+use Rattle.relay_facts.proofs.GroupFronts.{front_elsewhere}
+use Rattle.relay_facts.proofs.Moves.{Moves, step_moves}
+use Rattle.relay_facts.proofs.NamedBuffers.{Named, named_in_group}
 use Rattle.relay_laws.proofs.OpenSteps.{Opens_go, Opens_none, Begins_one, Stores_one, step_opens}
-use Rattle.relay_laws.proofs.RisingFronts.{BeginFacts, begin_facts, begins_past, front_rises}
-use Rattle.relay_laws.proofs.RisingFronts.{front_then, place_at, place_named, same_front}
+use Rattle.relay_facts.proofs.RisingFronts.{BeginFacts, begin_facts, begins_past, front_rises}
+use Rattle.relay_facts.proofs.RisingFronts.{front_then, place_at, place_named, same_front}
 use Rattle.relay_laws.proofs.Runs.{always_keeps}
 
 -- the text ends before this place of the endless line of its buffer

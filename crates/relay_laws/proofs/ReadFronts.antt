@@ -30,11 +30,11 @@ use Rattle.relay_laws.specs.Forgetting.{ForgetsGone, FrontsAreRead, IsReadFront,
 use Rattle.relay_laws.specs.Laws.{Always, AlwaysFrom}
 use Rattle.relay_laws.specs.Rules.{IsGoneToken}
 use Rattle.relay_laws.proofs.Gone.{gone_stays}
-use Rattle.relay_laws.proofs.Moves.{Moves, step_moves}
-use Rattle.relay_laws.proofs.NamedBuffers.{Named, only_found}
+use Rattle.relay_facts.proofs.Moves.{Moves, step_moves}
+use Rattle.relay_facts.proofs.NamedBuffers.{Named, only_found}
 use Rattle.relay_laws.proofs.Remembered.{Goes_on, Keeps, IsForgotten, Stays, IsNew}
 use Rattle.relay_laws.proofs.Remembered.{step_goes}
-use Rattle.relay_laws.proofs.RisingFronts.{front_rises}
+use Rattle.relay_facts.proofs.RisingFronts.{front_rises}
 use Rattle.relay_laws.proofs.Runs.{always_keeps, well_run_keeps}
 
 -- a buffer is the one that its number names

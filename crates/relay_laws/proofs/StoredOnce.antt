@@ -12,9 +12,9 @@ use Rattle.relay_model.specs.World.{World, Output, empty_world}
 use Rattle.relay_model.specs.Writers.{IsHopeless, HasFailedToStore, CannotBegin}
 use Rattle.relay_facts.proofs.Puts.{put_id_both, same_id}
 use Rattle.relay_laws.specs.Laws.{texts_of, is_remembered, RunRemembering}
-use Rattle.relay_laws.proofs.ClaimMoves.{ClaimGoes, Stays, IsEarly, IsForgotten, is_early}
-use Rattle.relay_laws.proofs.Moves.{Moves, SameStore, step_moves}
-use Rattle.relay_laws.proofs.Moves as moves
+use Rattle.relay_facts.proofs.ClaimMoves.{ClaimGoes, Stays, IsEarly, IsForgotten, is_early}
+use Rattle.relay_facts.proofs.Moves.{Moves, SameStore, step_moves}
+use Rattle.relay_facts.proofs.Moves as moves
 
 -- how many texts a message-id at this stage has
 abbrev texts_at_stage : Stage → ℕ
@@ -51,7 +51,7 @@ goes_due : (before after : Claim)
     → (is_remembered before ≡ true → is_remembered after ≡ true) → ClaimGoes before after
     → texts_due after ≡ texts_due before
 goes_due before after remembers (Stays e) = ap texts_due e
-goes_due before after remembers (IsEarly one other) =
+goes_due before after remembers (IsEarly one other timed) =
     early_due after other ∙ sym (early_due before one)
 goes_due before after remembers (IsForgotten token moment was is) =
     absurd (true≢false (sym (remembers (ap is_remembered was)) ∙ ap is_remembered is))
@@ -100,7 +100,7 @@ due_kept w id σ τ (moves.Stored job token stores) remembers due =
 due_kept w id σ τ (moves.Failed job token fails) remembers due =
     subst (IsDue id) (sym fails.after)
     (put_due σ id job.id _ (sym (ap texts_due fails.begun)) due)
-due_kept w id σ τ (moves.Accepted job token now accepts) remembers due =
+due_kept w id σ τ (moves.Accepted job token now timed accepts) remembers due =
     subst (IsDue id) (sym accepts.after)
     (put_due σ id job.id _ (sym (ap texts_due accepts.whole)) due)
 due_kept w id σ τ (moves.Abandoned job abandons) remembers due =

@@ -10,6 +10,7 @@ use Rattle.relay_model.specs.Claims.{Accepted, Claim, Unknown, Offered, Storing,
 use Rattle.relay_model.specs.Claims.{Stage, Waiting, Begun, Whole}
 use Rattle.relay_model.specs.Claims as claims
 use Rattle.relay_model.specs.Counted.{IsCounted}
+use Rattle.relay_model.specs.OnRecord.{IsOnRecord}
 use Rattle.relay_model.specs.Run.{is_running, is_taken}
 use Rattle.relay_model.specs.State.{State, Session, Kept, Job}
 use Rattle.relay_model.specs.State as phases
@@ -140,3 +141,4 @@ pub record IsWell (w : Terms) (x : World) : Type 0 where
   pub sized : IsSized w x.state
   pub awaited : IsAwaited x
   pub counted : IsCounted w x
+  pub on_record : IsOnRecord w x.state

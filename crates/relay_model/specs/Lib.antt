@@ -7,6 +7,7 @@ pub mod Figures
 pub mod Hears
 pub mod Invariants
 pub mod Judging
+pub mod OnRecord
 pub mod Run
 pub mod Shares
 pub mod State

@@ -20,10 +20,10 @@ use Rattle.news_terms.specs.Settings.{IsBufferAt}
 use Rattle.relay_facts.specs.Sound.{IsSound}
 use Rattle.relay_facts.proofs.BufferCount.{own_numbers}
 use Rattle.relay_facts.proofs.Puts.{put_at_here}
-use Rattle.relay_laws.proofs.GroupFronts.{front_in_group, front_elsewhere}
-use Rattle.relay_laws.proofs.Moves.{Moves, SameStore}
-use Rattle.relay_laws.proofs.Moves as moves
-use Rattle.relay_laws.proofs.NamedBuffers.{Named, named_number, named_in_group}
+use Rattle.relay_facts.proofs.GroupFronts.{front_in_group, front_elsewhere}
+use Rattle.relay_facts.proofs.Moves.{Moves, SameStore}
+use Rattle.relay_facts.proofs.Moves as moves
+use Rattle.relay_facts.proofs.NamedBuffers.{Named, named_number, named_in_group}
 
 -- what a begin does, in the words of places: its article fits its group, which gives the place, in
 -- one of the group's buffers
@@ -144,7 +144,7 @@ front_rises w sound σ τ (moves.Stored job token stores) sized number buffer na
     le_of_eq (ap (λ ρ. front_of w ρ buffer) (sym stores.after))
 front_rises w sound σ τ (moves.Failed job token fails) sized number buffer named =
     le_of_eq (ap (λ ρ. front_of w ρ buffer) (sym fails.after))
-front_rises w sound σ τ (moves.Accepted job token now accepts) sized number buffer named =
+front_rises w sound σ τ (moves.Accepted job token now timed accepts) sized number buffer named =
     le_of_eq (ap (λ ρ. front_of w ρ buffer) (sym accepts.after))
 front_rises w sound σ τ (moves.Abandoned job abandons) sized number buffer named =
     le_of_eq (ap (λ ρ. front_of w ρ buffer) (sym abandons.after))

@@ -4,12 +4,10 @@ use Rattle.std.proofs.Common.{slice_get, Option, None, Some, ◌⊎◌, inl, inr
 use Rattle.std.proofs.Common.{add-zero, zero-add}
 use Rattle.std.proofs.lemmas.Bool.{cond-false, cases_eq, ne_eqb}
 use Rattle.std.proofs.lemmas.List.Sums.{fold-append}
-use Rattle.std.proofs.lemmas.Option.{same_Some, none-some}
-use Rattle.news_terms.specs.Fronts.{IsAmongBuffers}
-use Rattle.news_terms.specs.Places.{Buffer, Group, Place, next_place, with_extent, extents_after}
+use Rattle.std.proofs.lemmas.Option.{same_Some}
+use Rattle.news_terms.specs.Places.{Buffer, Group, Place, next_place, with_extent}
 use Rattle.news_terms.specs.Places.{extents, front_past, front_after, on_line}
 use Rattle.news_terms.proofs.Extents.{extents_after_push}
-use Rattle.news_terms.proofs.FrontLaws.{next_among}
 use Rattle.relay_model.specs.Fetches.{extents_from, front_of}
 use Rattle.relay_model.specs.State.{State}
 use Rattle.relay_model.specs.State.{put_at}
@@ -17,11 +15,7 @@ use Rattle.relay_model.specs.Terms.{Terms}
 use Rattle.news_terms.specs.Settings.{IsBufferAt}
 use Rattle.relay_facts.specs.Sound.{IsSound}
 use Rattle.relay_facts.proofs.Puts.{put_at_here, put_at_there}
-
--- no buffer of the group has this number
-abbrev Has_no : Group → ℕ → Type 0
-Has_no group number =
-    (i : ℕ) (buffer : Buffer) → slice_get group.buffers i ≡ Some buffer → buffer.number ≡ number → ⊥
+use Rattle.relay_facts.proofs.Skipping.{one_group}
 
 -- an article elsewhere leaves a front
 past_elsewhere : (buffer : Buffer) (front : ℕ) (place : Place) (size : ℕ)
@@ -31,76 +25,19 @@ past_elsewhere buffer front place size other =
     cond-false (place.buffer.number == buffer.number) _ _
     (ne_eqb place.buffer.number buffer.number other)
 
--- a group that hasn't the buffer leaves its front
-skips_group : (buffer : Buffer) (group : Group) → Has_no group buffer.number
-    → (before sizes : List ℕ) (front : ℕ)
-    → fold (front_past buffer) front (extents_after group before sizes) ≡ front
-skips_group buffer group without before [] front = refl
-skips_group buffer group without before (size ∷ sizes) front =
-    by_place (next_place group before size) refl
-    (skips_group buffer group without (before ++ size ∷ []) sizes)
-  where
-    by_place : (found : Option Place) → next_place group before size ≡ found
-        → ((start : ℕ)
-        → fold (front_past buffer) start (extents_after group (before ++ size ∷ []) sizes) ≡ start)
-        → fold (front_past buffer) front
-        (with_extent found size (extents_after group (before ++ size ∷ []) sizes)) ≡ front
-    by_place None next rest = rest front
-    by_place (Some place) next rest =
-        let among : IsAmongBuffers group place = next_among group before size place next in
-        rest (front_past buffer front (record { place = place; size = size }))
-        ∙ past_elsewhere buffer front place size (without among.index place.buffer among.there)
-
--- groups that haven't the buffer leave its front
-skips_groups : (buffer : Buffer) (i : ℕ) (groups : List Group) (begun : ℕ → List ℕ) (front : ℕ)
-    → ((j : ℕ) (group : Group) → slice_get groups j ≡ Some group → Has_no group buffer.number)
-    → fold (front_past buffer) front (extents_from i groups begun) ≡ front
-skips_groups buffer i [] begun front without = refl
-skips_groups buffer i (group ∷ groups) begun front without =
-    fold-append (front_past buffer) front (extents group (begun i))
-    (extents_from (i + 1) groups begun)
-    ∙ skips_groups buffer (i + 1) groups begun _ (λ j one there. without (suc j) one there)
-    ∙ skips_group buffer group (without zero group refl) [] (begun i) front
-
--- the front of a buffer is the one of its group, where no other group has it
-only_group : (buffer : Buffer) (i : ℕ) (groups : List Group) (begun : ℕ → List ℕ) (front : ℕ)
-    (j : ℕ)
-    (group : Group) → slice_get groups j ≡ Some group
-    → ((h : ℕ) (other : Group) → slice_get groups h ≡ Some other → (h ≡ j → ⊥)
-    → Has_no other buffer.number)
-    → fold (front_past buffer) front (extents_from i groups begun)
-    ≡ fold (front_past buffer) front (extents group (begun (i + j)))
-only_group buffer i [] begun front j group there others = absurd (none-some group there)
-only_group buffer i (first ∷ groups) begun front zero group there others =
-    fold-append (front_past buffer) front (extents first (begun i))
-    (extents_from (i + 1) groups begun)
-    ∙ skips_groups buffer (i + 1) groups begun _
-    (λ h other at. others (suc h) other at (λ e. absurd (omega arith)))
-    ∙ ap (λ one. fold (front_past buffer) front (extents one (begun i)))
-    (same_Some first group there)
-    ∙ ap (λ n. fold (front_past buffer) front (extents group (begun n))) (sym (add-zero i))
-only_group buffer i (first ∷ groups) begun front (suc j) group there others =
-    let index : i + 1 + j ≡ i + suc j = omega arith in
-    fold-append (front_past buffer) front (extents first (begun i))
-    (extents_from (i + 1) groups begun)
-    ∙ ap (λ start. fold (front_past buffer) start (extents_from (i + 1) groups begun))
-    (skips_group buffer first (others zero first refl (λ e. absurd (omega arith))) [] (begun i)
-    front)
-    ∙ only_group buffer (i + 1) groups begun front j group there
-    (λ h other at differs. others (suc h) other at (λ e. differs (omega arith)))
-    ∙ ap (λ n. fold (front_past buffer) front (extents group (begun n))) index
-
 -- the front of a buffer of a group, by what the group began
 pub front_in_group : (w : Terms) → IsSound w → (σ : State) (g i : ℕ) (buffer : Buffer)
     → (at : IsBufferAt w.groups g i buffer)
     → front_of w σ buffer ≡ front_after buffer (extents at.group (σ.begun g))
 front_in_group w sound σ g i buffer at =
-    only_group buffer 0 w.groups σ.begun (on_line buffer.blocks buffer.first_cycle 0) g at.group
-    at.is_group
-    (λ h other there differs j one is same.
-    differs
-    (sound.places.once h g j i one buffer
-    (record { group = other; is_group = there; is_buffer = is }) at same).0)
+    one_group 0 w.groups σ.begun g at.group buffer at.is_group
+    (λ h other there differs. record {
+      apart = λ j one is same.
+          differs
+          (sound.places.once h g j i one buffer
+          (record { group = other; is_group = there; is_buffer = is }) at same).0;
+    })
+    (on_line buffer.blocks buffer.first_cycle 0)
     ∙ ap (λ n. front_after buffer (extents at.group (σ.begun n))) (zero-add g)
 
 -- one more article elsewhere leaves the front of a buffer

@@ -1,15 +1,17 @@
 -- How a step that neither begins nor ends a write changes a claim: it stays, or nothing is begun
--- for it before and after, or what was stored is forgotten.
-use Rattle.std.proofs.Common.{◌≡◌, ℕ, ◌+◌, ◌==◌, ◌&&◌, nat_le, Bool, true, false, List, Option}
+-- for it before and after, and its moment is one that there is, or what was stored is forgotten.
+use Rattle.std.proofs.Common.{◌≡◌, ◌∙◌, ℕ, ◌+◌, ◌≤◌, ◌==◌, ◌&&◌, nat_le, Bool, true, false, List, Option}
 use Rattle.std.proofs.Common.{None}
-use Rattle.std.proofs.Common.{Some, if◌then◌else◌, refl, sym, subst}
+use Rattle.std.proofs.Common.{Some, if◌then◌else◌, refl, sym, ap, subst, true≢false}
 use Rattle.news_terms.specs.Token.{Token}
 use Rattle.relay_model.specs.Claims.{Accepted, Claim, Unknown, Offered, Storing, Stored, Refused}
 use Rattle.relay_model.specs.Claims.{Waiting, Begun, Failed, Whole, Passed, is_passed, after_offer}
 use Rattle.relay_model.specs.Claims.{after_take, after_refuse, after_release, after_expire}
 use Rattle.relay_model.specs.Claims.{after_restart}
+use Rattle.relay_model.specs.OnRecord.{IsTimed}
 use Rattle.relay_model.specs.Run.{forgetting, shard_of}
 use Rattle.relay_model.specs.State.{put_id}
+use Rattle.relay_model.specs.Terms.{last_moment}
 use Rattle.relay_facts.proofs.Puts.{put_id_both, same_id}
 
 -- nothing is begun for the message-id, and nothing is stored
@@ -26,7 +28,7 @@ is_early (Refused moment) = true
 -- how the claim goes on
 pub data ClaimGoes (before after : Claim) : Type 0 where
   Stays : after ≡ before → ClaimGoes before after
-  IsEarly : is_early before ≡ true → is_early after ≡ true → ClaimGoes before after
+  IsEarly : is_early before ≡ true → is_early after ≡ true → IsTimed after → ClaimGoes before after
   IsForgotten : (token : Token) (moment : ℕ) → before ≡ Stored token moment → after ≡ Unknown
       → ClaimGoes before after
 
@@ -38,7 +40,7 @@ by_test before one other false first second = second
 
 -- CHECK and IHAVE
 pub offer_goes : (s : ℕ) (claim : Claim) → ClaimGoes claim (after_offer s claim)
-offer_goes s Unknown = IsEarly refl refl
+offer_goes s Unknown = IsEarly refl refl tt
 offer_goes s (Offered other) = Stays refl
 offer_goes s (Storing other article stage) = Stays refl
 offer_goes s (Stored token moment) = Stays refl
@@ -47,27 +49,28 @@ offer_goes s (Refused moment) = Stays refl
 -- an article that was accepted
 pub take_goes : (s : ℕ) (article : Accepted) (claim : Claim)
     → ClaimGoes claim (after_take s article claim)
-take_goes s article Unknown = IsEarly refl refl
-take_goes s article (Offered other) = IsEarly refl refl
+take_goes s article Unknown = IsEarly refl refl tt
+take_goes s article (Offered other) = IsEarly refl refl tt
 take_goes s article (Storing other stored stage) = Stays refl
 take_goes s article (Stored token moment) = Stays refl
 take_goes s article (Refused moment) = Stays refl
 
 -- an article that was refused
-pub refuse_goes : (s now : ℕ) (claim : Claim) → ClaimGoes claim (after_refuse s now claim)
-refuse_goes s now Unknown = IsEarly refl refl
-refuse_goes s now (Offered other) =
-    by_test (Offered other) (Refused now) (Offered other) (other == s) (IsEarly refl refl)
+pub refuse_goes : (s now : ℕ) → now ≤ last_moment → (claim : Claim)
+    → ClaimGoes claim (after_refuse s now claim)
+refuse_goes s now timed Unknown = IsEarly refl refl timed
+refuse_goes s now timed (Offered other) =
+    by_test (Offered other) (Refused now) (Offered other) (other == s) (IsEarly refl refl timed)
     (Stays refl)
-refuse_goes s now (Storing other article stage) = Stays refl
-refuse_goes s now (Stored token moment) = Stays refl
-refuse_goes s now (Refused moment) = Stays refl
+refuse_goes s now timed (Storing other article stage) = Stays refl
+refuse_goes s now timed (Stored token moment) = Stays refl
+refuse_goes s now timed (Refused moment) = Stays refl
 
 -- an open offer that ends
 pub release_goes : (s : ℕ) (claim : Claim) → ClaimGoes claim (after_release s claim)
 release_goes s Unknown = Stays refl
 release_goes s (Offered other) =
-    by_test (Offered other) Unknown (Offered other) (other == s) (IsEarly refl refl) (Stays refl)
+    by_test (Offered other) Unknown (Offered other) (other == s) (IsEarly refl refl tt) (Stays refl)
 release_goes s (Storing other article stage) = Stays refl
 release_goes s (Stored token moment) = Stays refl
 release_goes s (Refused moment) = Stays refl
@@ -84,7 +87,7 @@ expire_goes now remember fronts (Stored token moment) =
     (IsForgotten token moment refl refl) (Stays refl)
 expire_goes now remember fronts (Refused moment) =
     by_test (Refused moment) Unknown (Refused moment) (nat_le (moment + remember) now)
-    (IsEarly refl refl) (Stays refl)
+    (IsEarly refl refl tt) (Stays refl)
 
 -- Expire, of the ids of a shard
 pub forgetting_goes : (claim : List ℕ → Claim) (shard now : ℕ) (remember : Option ℕ)
@@ -98,7 +101,7 @@ forgetting_goes claim shard now (Some remember) fronts id =
 -- Restart
 pub restart_goes : (claim : Claim) → ClaimGoes claim (after_restart claim)
 restart_goes Unknown = Stays refl
-restart_goes (Offered other) = IsEarly refl refl
+restart_goes (Offered other) = IsEarly refl refl tt
 restart_goes (Storing other article stage) = Stays refl
 restart_goes (Stored token moment) = Stays refl
 restart_goes (Refused moment) = Stays refl
@@ -110,3 +113,38 @@ put_goes claim id new goes k =
     put_id_both (ClaimGoes (claim k)) claim id new k
     (λ same. subst (λ n. ClaimGoes (claim n) new) (sym (same_id k id same)) goes)
     (λ other. Stays refl)
+
+-- a claim that goes on has a moment that there is, if it had
+pub goes_timed : (before after : Claim) → ClaimGoes before after → IsTimed before → IsTimed after
+goes_timed before after (Stays same) timed = subst IsTimed (sym same) timed
+goes_timed before after (IsEarly one other new) timed = new
+goes_timed before after (IsForgotten had moment was is) timed = subst IsTimed (sym is) tt
+
+-- it is none that isn't early but where it was that one
+goes_late : (before after late : Claim) → ClaimGoes before after → is_early late ≡ false
+    → after ≡ late → before ≡ late
+goes_late before after late (Stays same) is_late e = sym same ∙ e
+goes_late before after late (IsEarly one other new) is_late e =
+    absurd (true≢false (sym other ∙ ap is_early e ∙ is_late))
+goes_late before after late (IsForgotten had moment was is) is_late e =
+    absurd (true≢false (sym (ap is_early is) ∙ ap is_early e ∙ is_late))
+
+-- so it is begun only where it was
+pub goes_begun : (before after : Claim) → ClaimGoes before after → (s : ℕ) (article : Accepted)
+    (token : Token) → after ≡ Storing s article (Begun token)
+    → before ≡ Storing s article (Begun token)
+goes_begun before after goes s article token =
+    goes_late before after (Storing s article (Begun token)) goes refl
+
+-- whole only where it was
+pub goes_whole : (before after : Claim) → ClaimGoes before after → (s : ℕ) (article : Accepted)
+    (token : Token) → after ≡ Storing s article (Whole token)
+    → before ≡ Storing s article (Whole token)
+goes_whole before after goes s article token =
+    goes_late before after (Storing s article (Whole token)) goes refl
+
+-- and stored only where it was
+pub goes_stored : (before after : Claim) → ClaimGoes before after → (token : Token) (moment : ℕ)
+    → after ≡ Stored token moment → before ≡ Stored token moment
+goes_stored before after goes token moment =
+    goes_late before after (Stored token moment) goes refl
