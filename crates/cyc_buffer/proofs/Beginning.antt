@@ -6,8 +6,8 @@ use Rattle.std.proofs.lemmas.Bool.{cond-false, false≢true}
 use Rattle.news_terms.specs.Places.{Buffer, Head, size_of}
 use Rattle.cyc_buffer.specs.History.{Article, Begin, head_of, finished_at}
 use Rattle.news_terms.specs.Picks.{place_after, head_past}
-use Rattle.cyc_buffer.specs.Register.{IsStart, IsKept, IsUnpassed, Writes, Keeps, buffer_of}
-use Rattle.cyc_buffer.specs.Register.{line_head, is_passed, mark_passed}
+use Rattle.cyc_buffer.specs.Register.{IsStart, IsKept, IsKeptWhole, IsUnpassed, Writes, Keeps}
+use Rattle.cyc_buffer.specs.Register.{buffer_of, line_head, is_passed, mark_passed}
 use Rattle.cyc_buffer.specs.History.{History, with_begin}
 use Rattle.cyc_buffer.specs.Marks.{is_marked}
 use Rattle.cyc_buffer.specs.Progress.{started}
@@ -164,8 +164,10 @@ module _ (old new : Register) (h : History) (class octets : ℕ) (fresh : Bool) 
   )
 
   keeps_kept : (block : ℕ) → block < new.line.blocks
-      → (is_marked new.kept.words.items block ≡ true)
-      ↔ IsKept new.line (with_begin class octets fresh h) block
+      → (is_marked new.kept.words.items block ≡ true
+      → IsKept new.line (with_begin class octets fresh h) block)
+      × (IsKeptWhole new.line (with_begin class octets fresh h) block
+      → is_marked new.kept.words.items block ≡ true)
   keeps_kept block within = (
     (λ t.
         let m = left_marked (is_marked new.kept.words.items block)
@@ -186,22 +188,29 @@ module _ (old new : Register) (h : History) (class octets : ℕ) (fresh : Bool) 
           here = s.here;
           unpassed = subst (IsUnpassed new.line s.cycle) s.here b.1;
         }),
-    (λ s.
+    (λ (w : IsKeptWhole new.line (with_begin class octets fresh h) block).
+        let s = w.kept in
         let b = was_here s.cycle s.first s.index s.article s.finished s.inside
         (subst (IsUnpassed new.line s.cycle) (sym s.here) s.unpassed) in
+        let f = was_here s.cycle s.first 0 s.article s.finished
+        (has_some s.cycle s.first s.article b.0)
+        (subst (IsUnpassed new.line s.cycle) (sym (add-zero s.first)) w.start) in
         stays_marked (is_marked new.kept.words.items block) (is_marked old.kept.words.items block)
         (is_passed old.line at (size_of octets) block)
         (kept block) (ap (is_passed old.line at (size_of octets)) (sym s.here) ∙ b.2)
         ((keeps.kept block (omega (arith, within, ap (λ (b : Buffer). b.blocks) buffer))).1
         (record {
-          cycle = s.cycle;
-          first = s.first;
-          index = s.index;
-          article = s.article;
-          finished = b.0;
-          inside = s.inside;
-          here = s.here;
-          unpassed = subst (IsUnpassed old.line s.cycle) s.here b.1;
+          kept = record {
+            cycle = s.cycle;
+            first = s.first;
+            index = s.index;
+            article = s.article;
+            finished = b.0;
+            inside = s.inside;
+            here = s.here;
+            unpassed = subst (IsUnpassed old.line s.cycle) s.here b.1;
+          };
+          start = subst (IsUnpassed old.line s.cycle) (add-zero s.first) f.1;
         }))),
   )
 

@@ -9,7 +9,8 @@ use Rattle.news_terms.specs.Places.{Buffer, Head, size_of}
 use Rattle.cyc_buffer.specs.History.{Article, Begin, Writing, History, head_of, is_at, finished_at}
 use Rattle.cyc_buffer.specs.History.{with_finish, token_at, stored_count}
 use Rattle.news_terms.specs.Picks.{place_after}
-use Rattle.cyc_buffer.specs.Register.{IsStart, IsKept, IsUnpassed, Writes, Keeps, buffer_of}
+use Rattle.cyc_buffer.specs.Register.{IsStart, IsKept, IsKeptWhole, IsUnpassed, Writes, Keeps}
+use Rattle.cyc_buffer.specs.Register.{buffer_of}
 use Rattle.cyc_buffer.specs.Marks.{is_marked, is_among, marked_after}
 use Rattle.cyc_buffer.specs.Progress.{IsTheOpen, written_of}
 use Rattle.cyc_buffer.specs.declared.line.Line.{Line}
@@ -176,8 +177,9 @@ module _ (old new : Register) (buffer : Buffer) (earlier : List Begin) (fresh : 
     ]),
   )
 
-  keeps_kept : (block : ℕ) → block < new.line.blocks → (is_marked new.kept.words.items block ≡ true)
-      ↔ IsKept new.line now block
+  keeps_kept : (block : ℕ) → block < new.line.blocks
+      → (is_marked new.kept.words.items block ≡ true → IsKept new.line now block)
+      × (IsKeptWhole new.line now block → is_marked new.kept.words.items block ≡ true)
   keeps_kept block within = (
     (λ t. elim (cases_Bool (is_among at.used (at.used + size_of w.octets) block)) [
       | inl e ↦
@@ -208,30 +210,36 @@ module _ (old new : Register) (buffer : Buffer) (earlier : List Begin) (fresh : 
             unpassed = subst (λ (l : Line). IsUnpassed l was.cycle block) (sym line) was.unpassed;
           }
     ]),
-    (λ s. elim (finished_now buffer earlier fresh w s.cycle s.first s.article s.finished) [
-      | inl p ↦
-          let same = (at_parts buffer at s.cycle s.first p.0).1 in
-          let size : size_of (length s.article.text) ≡ size_of w.octets =
-          ap (λ (a : Article). size_of (length a.text)) (sym p.1) ∙ size_is in
-          kept block ∙ cond-true (is_among at.used (at.used + size_of w.octets) block) true
-          (is_marked old.kept.words.items block)
-          (among at.used (at.used + size_of w.octets) block (omega (arith, same, s.here))
-          (omega (arith, same, s.here, s.inside, size)))
-      | inr p ↦
-          let was = (keeps.kept block (omega (arith, within, ap (λ (l : Line). l.blocks) line))).1
-          (record {
-            cycle = s.cycle;
-            first = s.first;
-            index = s.index;
-            article = s.article;
-            finished = p;
-            inside = s.inside;
-            here = s.here;
-            unpassed = subst (λ (l : Line). IsUnpassed l s.cycle block) line s.unpassed;
-          }) in
-          kept block ∙ ap (cond (is_among at.used (at.used + size_of w.octets) block) true) was
-          ∙ set_stays (is_among at.used (at.used + size_of w.octets) block)
-    ]),
+    (λ (v : IsKeptWhole new.line now block).
+        let s = v.kept in
+        elim (finished_now buffer earlier fresh w s.cycle s.first s.article s.finished) [
+          | inl p ↦
+              let same = (at_parts buffer at s.cycle s.first p.0).1 in
+              let size : size_of (length s.article.text) ≡ size_of w.octets =
+              ap (λ (a : Article). size_of (length a.text)) (sym p.1) ∙ size_is in
+              kept block ∙ cond-true (is_among at.used (at.used + size_of w.octets) block) true
+              (is_marked old.kept.words.items block)
+              (among at.used (at.used + size_of w.octets) block (omega (arith, same, s.here))
+              (omega (arith, same, s.here, s.inside, size)))
+          | inr p ↦
+              let same_blocks = ap (λ (l : Line). l.blocks) line in
+              let was = (keeps.kept block (omega (arith, within, same_blocks))).1
+              (record {
+                kept = record {
+                  cycle = s.cycle;
+                  first = s.first;
+                  index = s.index;
+                  article = s.article;
+                  finished = p;
+                  inside = s.inside;
+                  here = s.here;
+                  unpassed = subst (λ (l : Line). IsUnpassed l s.cycle block) line s.unpassed;
+                };
+                start = subst (λ (l : Line). IsUnpassed l s.cycle s.first) line v.start;
+              }) in
+              kept block ∙ ap (cond (is_among at.used (at.used + size_of w.octets) block) true) was
+              ∙ set_stays (is_among at.used (at.used + size_of w.octets) block)
+        ]),
   )
 
   -- one more is stored

@@ -13,7 +13,7 @@ use Rattle.cyc_token.specs.Token.{token_view}
 use Rattle.cyc_token.specs.declared.Token.{Token}
 use Rattle.cyc_buffer.specs.Agreement.{Holds}
 use Rattle.cyc_buffer.specs.Answers.{Answer, Chunk, Gone, Unknown, by_text, front_view}
-use Rattle.cyc_buffer.specs.Answers.{or_by_text, answer, Shows, IsLiveBlock, IsUnread}
+use Rattle.cyc_buffer.specs.Answers.{or_by_text, answer, Shows, IsLiveBlock, IsOfLive, IsUnread}
 use Rattle.cyc_buffer.specs.Answers.{IsRead}
 use Rattle.cyc_buffer.specs.History.{Article, History, finished_at, text_under}
 use Rattle.cyc_buffer.specs.History.{text_of}
@@ -130,14 +130,17 @@ module _ (r : Register) (h : History) (token : Token) (k : ℕ) (keeps : Keeps r
         unpassed = unpassed;
       }))
       ((keeps.kept (token.first + k) block_within).1 (record {
-        cycle = token.cycle;
-        first = token.first;
-        index = k;
-        article = u.article;
-        finished = u.finished;
-        inside = inside;
-        here = refl;
-        unpassed = unpassed_block u.article u.finished inside;
+        kept = record {
+          cycle = token.cycle;
+          first = token.first;
+          index = k;
+          article = u.article;
+          finished = u.finished;
+          inside = inside;
+          here = refl;
+          unpassed = unpassed_block u.article u.finished inside;
+        };
+        start = unpassed;
       }))
 
   -- where the block is marked, a finished article begins at the token's place
@@ -346,22 +349,31 @@ module _ (r : Register) (h : History) (block : ℕ) (keeps : Keeps r h)
             (omega (arith, within, same_blocks)) (omega (arith, room, same_blocks)) s.unpassed);
       }
 
-  -- and one has its mark
-  pub marked_live : IsLiveBlock h block → is_marked r.kept.words.items block ≡ true
-  marked_live b =
+  -- and one of a live article has its mark
+  pub marked_live : IsOfLive h block → is_marked r.kept.words.items block ≡ true
+  marked_live whole =
+      let b = whole.block_is in
+      let l = lies h.buffer h.begins b.cycle b.first b.article keeps.sizes b.finished in
+      let first = subst (λ n. IsLive h.buffer.blocks n (on_line h.buffer.blocks b.cycle b.first))
+      (front_same r h keeps) whole.whole in
       let live = subst (λ n. IsLive h.buffer.blocks n (on_line h.buffer.blocks b.cycle block))
       (front_same r h keeps) b.live in
       (keeps.kept block within).1 (record {
-        cycle = b.cycle;
-        first = b.first;
-        index = b.index;
-        article = b.article;
-        finished = b.finished;
-        inside = b.inside;
-        here = b.here;
-        unpassed = live_place h.buffer.blocks r.line.cycle r.line.used b.cycle block
-            (omega (arith, within, same_blocks)) (omega (arith, room, same_blocks)) live.begun
-            live.here;
+        kept = record {
+          cycle = b.cycle;
+          first = b.first;
+          index = b.index;
+          article = b.article;
+          finished = b.finished;
+          inside = b.inside;
+          here = b.here;
+          unpassed = live_place h.buffer.blocks r.line.cycle r.line.used b.cycle block
+              (omega (arith, within, same_blocks)) (omega (arith, room, same_blocks)) live.begun
+              live.here;
+        };
+        start = live_place h.buffer.blocks r.line.cycle r.line.used b.cycle b.first
+            (omega (arith, l.within, l.some)) (omega (arith, room, same_blocks)) first.begun
+            first.here;
       })
 
 -- where the block is to be read, neither the numbers nor the marks decide

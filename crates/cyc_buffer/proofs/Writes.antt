@@ -91,14 +91,19 @@ keeps_stays old new h o stays writes keeps = record {
             }),
         (λ s. ap (λ (m : Marks). is_marked m.words.items block) stays.kept ∙ was.1
             (record {
-              cycle = s.cycle;
-              first = s.first;
-              index = s.index;
-              article = s.article;
-              finished = s.finished;
-              inside = s.inside;
-              here = s.here;
-              unpassed = subst (λ (l : Line). IsUnpassed l s.cycle block) stays.line s.unpassed;
+              kept = record {
+                cycle = s.kept.cycle;
+                first = s.kept.first;
+                index = s.kept.index;
+                article = s.kept.article;
+                finished = s.kept.finished;
+                inside = s.kept.inside;
+                here = s.kept.here;
+                unpassed = subst (λ (l : Line). IsUnpassed l s.kept.cycle block) stays.line
+                    s.kept.unpassed;
+              };
+              start = subst (λ (l : Line). IsUnpassed l s.kept.cycle s.kept.first) stays.line
+                  s.start;
             })),
       );
   begun = ap (λ (n : Counts). n.begun) stays.counts ∙ keeps.begun;

@@ -129,6 +129,12 @@ pub record IsLiveBlock (h : History) (block : ℕ) : Type 0 where
   pub here : first + index ≡ block
   pub live : IsLive h.buffer.blocks (front_of h) (on_line h.buffer.blocks cycle block)
 
+-- the block is one of a finished article's that is live: the front hasn't passed its first block
+pub record IsOfLive (h : History) (block : ℕ) : Type 0 where
+  pub block_is : IsLiveBlock h block
+  pub whole : IsLive h.buffer.blocks (front_of h)
+      (on_line h.buffer.blocks block_is.cycle block_is.first)
+
 -- the numbers decide the answer, or no finished article begins at the token's place,
 -- or the block that is asked for is no finished article's
 abbrev pub IsUnread : History → Token → (k : ℕ) → Type 0
@@ -138,9 +144,9 @@ IsUnread h token k =
     ⊎ (IsLiveBlock h (token.first + k) → ⊥)
 
 -- the numbers don't decide the answer, a finished article begins at the token's place,
--- and the block that is asked for is a finished article's
+-- and the block that is asked for is one of a live finished article's
 pub record IsRead (h : History) (token : Token) (k : ℕ) : Type 0 where
   pub article : Article
   pub undecided : by_numbers h.buffer (front_of h) token k ≡ None
   pub begins : finished_at h.buffer h.begins token.cycle token.first ≡ Some article
-  pub block : IsLiveBlock h (token.first + k)
+  pub block : IsOfLive h (token.first + k)

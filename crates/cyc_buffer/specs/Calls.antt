@@ -94,7 +94,7 @@ pub record ReadsBlock {S : Type 0} {g : Ghosts S} (old : Buffer S g) (token : To
   -- It isn't called where the numbers decide, or nothing was finished there.
   pub uncalled : (trusted : Bool) (h : History) → Agrees trusted old h
       → IsUnread h (token_view token) k → store_of new ≡ store_of old
-  -- It is called where the block is one of a finished article's.
+  -- It is called where the block is one of a live finished article's.
   pub read : (trusted : Bool) (h : History) → Agrees trusted old h
       → IsRead h (token_view token) k → g.calls (store_of new) ≡ g.calls (store_of old) + 1
   -- It failed or not, as the result says.

@@ -70,6 +70,12 @@ pub record IsKept (line : Line) (h : History) (block : ℕ) : Type 0 where
   pub here : first + index ≡ block
   pub unpassed : IsUnpassed line cycle block
 
+-- The block is one of a finished article's whose first block isn't passed either: of a live one's.
+-- What is left of an article whose first block is passed may have its marks or not.
+pub record IsKeptWhole (line : Line) (h : History) (block : ℕ) : Type 0 where
+  pub kept : IsKept line h block
+  pub start : IsUnpassed line kept.cycle kept.first
+
 -- an article has as many blocks as its begin took, and its numbers have room in a token
 pub record IsOfSize (blocks : ℕ) (article : Article) : Type 0 where
   pub size : size_of (length article.text) ≡ blocks
@@ -120,7 +126,8 @@ pub record Keeps (r : Register) (h : History) : Type 0 where
   pub starts : (block : ℕ) → block < r.line.blocks
       → (is_marked r.starts.words.items block ≡ true) ↔ IsStart r.line h block
   pub kept : (block : ℕ) → block < r.line.blocks
-      → (is_marked r.kept.words.items block ≡ true) ↔ IsKept r.line h block
+      → (is_marked r.kept.words.items block ≡ true → IsKept r.line h block)
+      × (IsKeptWhole r.line h block → is_marked r.kept.words.items block ≡ true)
   pub begun : r.counts.begun ≡ length h.begins
   pub stored : r.counts.stored ≡ stored_count h.begins
   pub writing : Writes h r.progress h.writing

@@ -65,8 +65,9 @@ pub(crate) struct Register {
     pub(crate) line: Line,
     /// The blocks in which a finished article begins that the front hasn't passed.
     pub(crate) starts: Marks,
-    /// The blocks of finished articles that the front hasn't passed. What such a block holds is
-    /// known; any other may hold anything, an image of this very token too.
+    /// Blocks of finished articles that the front hasn't passed, all those of live ones among them.
+    /// What such a block holds is known; any other may hold anything, an image of this very token
+    /// too.
     pub(crate) kept: Marks,
     pub(crate) counts: Counts,
     pub(crate) progress: Option<Progress>,
