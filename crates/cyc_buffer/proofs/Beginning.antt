@@ -7,7 +7,7 @@ use Rattle.news_terms.specs.Places.{Buffer, Head, size_of}
 use Rattle.cyc_buffer.specs.History.{Article, Begin, head_of, finished_at}
 use Rattle.news_terms.specs.Picks.{place_after, head_past}
 use Rattle.cyc_buffer.specs.Register.{IsStart, IsKept, IsKeptWhole, IsUnpassed, Writes, Keeps}
-use Rattle.cyc_buffer.specs.Register.{buffer_of, line_head, is_passed, mark_passed}
+use Rattle.cyc_buffer.specs.Register.{IsUnpassedBy, buffer_of, line_head, is_passed, mark_passed}
 use Rattle.cyc_buffer.specs.History.{History, with_begin}
 use Rattle.cyc_buffer.specs.Marks.{is_marked}
 use Rattle.cyc_buffer.specs.Progress.{started}
@@ -16,7 +16,7 @@ use Rattle.cyc_token.specs.Token.{token_view}
 use Rattle.news_terms.specs.Token as tokens
 use Rattle.cyc_buffer.specs.declared.register.Progress.{Progress}
 use Rattle.cyc_token.specs.declared.Token.{Token}
-use Rattle.cyc_buffer.proofs.Places.{IsHeld, passes}
+use Rattle.cyc_buffer.proofs.Places.{passes}
 use Rattle.cyc_buffer.proofs.Keeping.{as_cycles, place_shifted, block_before, block_after, line_is}
 use Rattle.cyc_buffer.proofs.Finished.{lies, was_finished}
 
@@ -31,7 +31,7 @@ stays_marked new old p e q t = e ∙ cond-false p false old q ∙ t
 
 -- a block is unpassed, where the head is here
 abbrev IsHeldAt : Head → (cycle block : ℕ) → Type 0
-IsHeldAt head cycle block = IsHeld head.run head.used cycle block
+IsHeldAt head cycle block = IsUnpassedBy head.run head.used cycle block
 
 -- a token of these parts
 abbrev token_of : (class buffer cycle first octets : ℕ) → tokens.Token

@@ -10,12 +10,11 @@ use Rattle.cyc_buffer.specs.Agreement.{Holds, HoldsOpen, open_block}
 use Rattle.cyc_buffer.specs.History.{Article, Begin, Writing, History, finished_at, with_begin}
 use Rattle.cyc_buffer.specs.History.{with_finish}
 use Rattle.cyc_buffer.specs.Progress.{IsTheOpen, written_of}
-use Rattle.cyc_buffer.specs.Register.{IsUnpassed, Writes, Keeps}
+use Rattle.cyc_buffer.specs.Register.{IsUnpassed, IsUnpassedBy, Writes, Keeps}
 use Rattle.cyc_buffer.specs.declared.line.Line.{Line}
 use Rattle.cyc_buffer.specs.declared.register.Open.{Open}
 use Rattle.cyc_buffer.specs.declared.register.Progress.{Progress}
 use Rattle.cyc_buffer.specs.declared.register.Register.{Register}
-use Rattle.cyc_buffer.proofs.Places.{IsHeld}
 use Rattle.cyc_buffer.proofs.Finished.{at_parts}
 use Rattle.cyc_buffer.proofs.Keeping.{block_before, line_is}
 use Rattle.cyc_buffer.proofs.Finishing.{newest, place, finished_now, old_history, whole_text}
@@ -23,7 +22,7 @@ use Rattle.cyc_buffer.proofs.Finishing.{history_of}
 
 -- a block is unpassed, where the head is here
 abbrev IsHeldAt : Head → (cycle block : ℕ) → Type 0
-IsHeldAt head cycle block = IsHeld head.run head.used cycle block
+IsHeldAt head cycle block = IsUnpassedBy head.run head.used cycle block
 
 -- of a write of which nothing is written no block is held
 none_held : (blocks : List (List ℕ)) (p : Option Progress) (w : Writing) → w.blocks ≡ 0

@@ -5,10 +5,10 @@ use Rattle.std.specs.List.{AllByRecursion}
 use Rattle.news_terms.specs.Places.{Buffer, Head, size_of}
 use Rattle.cyc_buffer.specs.History.{Article, Begin, head_of, finished_at}
 use Rattle.news_terms.specs.Picks.{place_after}
-use Rattle.cyc_buffer.specs.Register.{IsSized, Keeps, line_head}
+use Rattle.cyc_buffer.specs.Register.{IsSized, IsUnpassedBy, Keeps, line_head}
 use Rattle.cyc_buffer.specs.History.{History}
 use Rattle.cyc_buffer.specs.declared.register.Register.{Register}
-use Rattle.cyc_buffer.proofs.Places.{IsPlaced, IsHeld, IsPast, placed, passes, held_before}
+use Rattle.cyc_buffer.proofs.Places.{IsPlaced, IsPast, placed, passes, held_before}
 use Rattle.cyc_buffer.proofs.Places.{held_after}
 use Rattle.cyc_buffer.proofs.Finished.{Lies, lies, was_finished, stays_finished}
 
@@ -21,7 +21,7 @@ pub record Block (buffer : Buffer) (begins : List Begin) (cycle used : ℕ) (blo
   pub finished : finished_at buffer begins since first ≡ Some article
   pub inside : index < size_of (length article.text)
   pub here : first + index ≡ block
-  pub held : IsHeld cycle used since block
+  pub held : IsUnpassedBy cycle used since block
 
 -- a head of a buffer, its runs counted as cycles
 abbrev pub as_cycles : Buffer → Head → Head
@@ -84,9 +84,9 @@ pub block_before : (buffer : Buffer) (begins : List Begin) (b : Begin) (since fi
     → (let head = as_cycles buffer (head_of buffer.blocks begins) in
     let at = as_cycles buffer (place_after buffer.blocks (head_of buffer.blocks begins) b.fresh
     b.size) in
-    IsHeld at.run (at.used + b.size) since (first + index)
+    IsUnpassedBy at.run (at.used + b.size) since (first + index)
     → (finished_at buffer begins since first ≡ Some article)
-    × IsHeld head.run head.used since (first + index)
+    × IsUnpassedBy head.run head.used since (first + index)
     × (passes buffer.blocks head.run head.used at.run at.used b.size (first + index) ≡ false))
 block_before buffer begins b since first index article sized none finished inside held =
     let was = was_finished buffer begins b since first article none finished in
@@ -108,10 +108,10 @@ pub block_after : (buffer : Buffer) (begins : List Begin) (b : Begin) (since fir
     → (let head = as_cycles buffer (head_of buffer.blocks begins) in
     let at = as_cycles buffer (place_after buffer.blocks (head_of buffer.blocks begins) b.fresh
     b.size) in
-    IsHeld head.run head.used since (first + index)
+    IsUnpassedBy head.run head.used since (first + index)
     → passes buffer.blocks head.run head.used at.run at.used b.size (first + index) ≡ false
     → (finished_at buffer (b ∷ begins) since first ≡ Some article)
-    × IsHeld at.run (at.used + b.size) since (first + index))
+    × IsUnpassedBy at.run (at.used + b.size) since (first + index))
 block_after buffer begins b since first index article sized finished inside held unpassed =
     let l = lies buffer begins since first article sized finished in (
       stays_finished buffer begins b since first article sized finished,

@@ -9,3 +9,4 @@ mod Contents
 mod Writes
 pub mod Numbers
 pub mod Reading
+pub mod StopLemmas

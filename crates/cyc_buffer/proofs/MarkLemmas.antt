@@ -7,10 +7,14 @@ use Rattle.std.specs.Int.{bit_at, bit_not}
 use Rattle.std.proofs.lemmas.Bool.{cases_lt, cases_eq, lt-ltb, le-ltb, le-leb, lt-leb}
 use Rattle.std.proofs.lemmas.List.{get_or-set_same, get_or-set_other, get_or-replicate}
 use Rattle.std.proofs.lemmas.List.{length-replicate}
+use Rattle.std.proofs.lemmas.Grind.{same_number_lists}
 use Rattle.std.proofs.lemmas.Nat.Bits.{bit_at_ones, bit_at_ones_above, bit_at_and, bit_at_or}
 use Rattle.std.proofs.lemmas.Nat.Bits.{bit_at_not, bit_at-lt, bit_at-zero}
 use Rattle.std.proofs.Math.ListN.{get_or-eq_default}
 use Rattle.std.proofs.Math.Nat.{div-add-mod}
+use Rattle.news_terms.specs.HeadBlocks.{bits_of_block, octet_of, bitmap_block}
+use Rattle.news_terms.specs.Places.{block_size}
+use Rattle.news_terms.proofs.Bitmaps.{octet_at, octets_length}
 use Rattle.cyc_buffer.specs.Marks.{is_marked, is_among, marked_after}
 
 -- the lowest bits of a run of ones
@@ -148,3 +152,15 @@ none_marked n j = elim (cases_lt (j / 64) n) [
   where
     zero_bit : (bit_at 0 (j % 64) == 1) ≡ false
     zero_bit = ap (λ b. b == 1) (bit_at-zero (j % 64))
+
+-- octets that are each one of a bitmap's block are all of it
+pub whole_block : (octets : List ℕ) (marked : ℕ → Bool) (i from : ℕ)
+    → from ≡ bits_of_block * i → length octets ≡ block_size
+    → ((m : ℕ) → m < block_size → get_or octets m 0 ≡ octet_of marked (from + 8 * m))
+    → octets ≡ bitmap_block marked i
+whole_block octets marked i from e size each =
+    same_number_lists octets (bitmap_block marked i)
+    (size ∙ sym (octets_length marked (bits_of_block * i) block_size))
+    (λ m h. each m (omega (arith, h, size))
+    ∙ ap (λ n. octet_of marked (n + 8 * m)) e
+    ∙ sym (octet_at marked (bits_of_block * i) block_size m (omega (arith, h, size))))

@@ -1,5 +1,5 @@
 -- Where begins go, and what the front passes by one.
-use Rattle.std.proofs.Common.{◌≡◌, ℕ, ◌+◌, ◌<◌, ◌≤◌, ◌⊎◌, inl, inr, nat_lt, nat_le, ◌==◌, ◌&&◌}
+use Rattle.std.proofs.Common.{◌≡◌, ◌∙◌, ℕ, ◌+◌, ◌<◌, ◌≤◌, ◌⊎◌, inl, inr, nat_lt, nat_le, ◌==◌, ◌&&◌}
 use Rattle.std.proofs.Common.{◌||◌, not, Bool, true, false, refl, arith, cond}
 use Rattle.std.proofs.lemmas.Bool.{cases_lt, cond_both, le-ltb, lt-leb, leb-true, leb-false}
 use Rattle.std.proofs.lemmas.Bool.{ltb-false, eqb-true, eq-eqb, and_cases, and_left, and_right}
@@ -7,6 +7,7 @@ use Rattle.std.proofs.lemmas.Bool.{or_parts, or_from, not-false, not_from_true}
 use Rattle.news_terms.specs.Places.{Head, place_in_runs}
 use Rattle.news_terms.specs.Picks.{place_after}
 use Rattle.cyc_buffer.specs.Marks.{is_among}
+use Rattle.cyc_buffer.specs.Register.{IsUnpassedBy}
 
 -- a begin goes right behind the head, or to the front of the next run
 abbrev pub IsPlaced : (blocks : ℕ) → Head → (size : ℕ) → Head → Type 0
@@ -55,10 +56,6 @@ pub not_among : (from to j : ℕ) → IsBeside from to j → is_among from to j 
 not_among from to j (inl h) = and_left (nat_le from j) (nat_lt j to) (lt-leb from j h)
 not_among from to j (inr h) = and_right (nat_le from j) (nat_lt j to) (le-ltb j to h)
 
--- the block was not passed since the cycle, where the head is here
-abbrev pub IsHeld : (cycle used at block : ℕ) → Type 0
-IsHeld cycle used at block = ((at ≡ cycle) × (block < used)) ⊎ ((at + 1 ≡ cycle) × (used ≤ block))
-
 -- the place is at the head or behind it
 abbrev pub IsPast : (cycle used at block : ℕ) → Type 0
 IsPast cycle used at block = (cycle < at) ⊎ ((at ≡ cycle) × (used ≤ block))
@@ -71,8 +68,8 @@ passes blocks cycle used run first size j =
 -- what was not passed by a begin, and isn't at the old head or behind it, was not passed before
 pub held_before : (blocks : ℕ) (head at : Head) (size c j : ℕ) → IsPlaced blocks head size at
     → j < blocks
-    → IsHeld at.run (at.used + size) c j
-    → (IsHeld head.run head.used c j
+    → IsUnpassedBy at.run (at.used + size) c j
+    → (IsUnpassedBy head.run head.used c j
     × (passes blocks head.run head.used at.run at.used size j ≡ false))
     ⊎ IsPast head.run head.used c j
 held_before blocks head at size c j (inl p) h (inl q) = elim (cases_lt j head.used) [
@@ -111,8 +108,8 @@ held_before blocks head at size c j (inr p) h (inr q) = elim (cases_lt j head.us
 -- what was not passed before, and is not passed by the begin, is not passed
 pub held_after : (blocks : ℕ) (head at : Head) (size c j : ℕ) → IsPlaced blocks head size at
     → j < blocks
-    → IsHeld head.run head.used c j → passes blocks head.run head.used at.run at.used size j ≡ false
-    → IsHeld at.run (at.used + size) c j
+    → IsUnpassedBy head.run head.used c j → passes blocks head.run head.used at.run at.used size j ≡ false
+    → IsUnpassedBy at.run (at.used + size) c j
 held_after blocks head at size c j (inl p) h (inl q) e =
     inl (omega (arith, p.0, q.0), omega (arith, p.1, q.1))
 held_after blocks head at size c j (inl p) h (inr q) e =
@@ -142,9 +139,15 @@ held_after blocks head at size c j (inr p) h (inr q) e =
     ]
 
 -- a block is unpassed since one cycle at most
-pub one_cycle : (cycle used c d block : ℕ) → IsHeld cycle used c block → IsHeld cycle used d block
+pub one_cycle : (cycle used c d block : ℕ) → IsUnpassedBy cycle used c block → IsUnpassedBy cycle used d block
     → c ≡ d
 one_cycle cycle used c d block (inl p) (inl q) = omega (arith, p.0, q.0)
 one_cycle cycle used c d block (inl p) (inr q) = absurd (omega (arith, p.1, q.1))
 one_cycle cycle used c d block (inr p) (inl q) = absurd (omega (arith, p.1, q.1))
 one_cycle cycle used c d block (inr p) (inr q) = omega (arith, p.0, q.0)
+
+-- what isn't passed where the head is here isn't where it is told otherwise
+pub moved : (cycle used c u since block : ℕ) → cycle ≡ c → used ≡ u
+    → IsUnpassedBy cycle used since block → IsUnpassedBy c u since block
+moved cycle used c u since block e f (inl p) = inl (p.0 ∙ e, omega (arith, p.1, f))
+moved cycle used c u since block e f (inr p) = inr (p.0 ∙ e, omega (arith, p.1, f))

@@ -2,8 +2,10 @@ pub mod Agreement
 pub mod Answers
 pub mod Arming
 pub mod Calls
+pub mod Head
 pub mod History
 pub mod Look
 pub mod Marks
 pub mod Progress
 pub mod Register
+pub mod Stopped

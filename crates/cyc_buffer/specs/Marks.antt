@@ -7,6 +7,10 @@ use Rattle.std.specs.Int.{bit_at}
 abbrev pub is_marked : List ℕ → ℕ → Bool
 is_marked words j = bit_at (get_or words (j / 64) 0) (j % 64) == 1
 
+-- the mark of block j is set, and it is one of so many blocks
+abbrev pub is_told : List ℕ → (count j : ℕ) → Bool
+is_told words count j = nat_lt j count && is_marked words j
+
 -- block j is one of those from one up to another
 abbrev pub is_among : (from to j : ℕ) → Bool
 is_among from to j = nat_le from j && nat_lt j to

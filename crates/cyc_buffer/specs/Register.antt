@@ -13,6 +13,7 @@ use Rattle.cyc_buffer.specs.declared.line.Place.{Place}
 use Rattle.cyc_buffer.specs.declared.register.Progress.{Progress}
 use Rattle.cyc_buffer.specs.declared.register.Register.{Register}
 use Rattle.news_terms.specs.BlockImage.{chunk_size}
+use Rattle.news_terms.specs.HeadBlocks.{HeadBlock, HeadState}
 use Rattle.news_terms.specs.Places.{Buffer, Head, size_of}
 
 -- the buffer that a line is of
@@ -39,6 +40,20 @@ is_passed line at size j =
 abbrev pub mark_passed : Line → Head → (size j : ℕ) → Bool → Bool
 mark_passed line at size j old = if is_passed line at size j then false else old
 
+-- what a head block in this state says of a register's buffer
+abbrev pub numbers_in : Register → HeadState → (stop : ℕ) → HeadBlock
+numbers_in r state stop = record {
+  state = state;
+  number = r.line.number;
+  blocks = r.line.blocks;
+  first_cycle = r.line.first_cycle;
+  cycle = r.line.cycle;
+  head = r.line.used;
+  stop = stop;
+  begun = r.counts.begun;
+  stored = r.counts.stored;
+}
+
 -- all of the register but its progress is the same
 pub record Stays (old new : Register) : Type 0 where
   pub line : new.line ≡ old.line
@@ -46,11 +61,15 @@ pub record Stays (old new : Register) : Type 0 where
   pub kept : new.kept ≡ old.kept
   pub counts : new.counts ≡ old.counts
 
--- the front has not passed this block since it was in this cycle: it is behind the head in the
--- cycle of the head, or before it in the cycle before
+-- the front has not passed this block since it was in this cycle, where so much of a cycle is used:
+-- it is before the head in the cycle of the head, or behind it in the cycle before
+abbrev pub IsUnpassedBy : (cycle used since block : ℕ) → Type 0
+IsUnpassedBy cycle used since block =
+    ((since ≡ cycle) × (block < used)) ⊎ ((since + 1 ≡ cycle) × (used ≤ block))
+
+-- the front of a line has not passed this block since it was in this cycle
 abbrev pub IsUnpassed : Line → (cycle block : ℕ) → Type 0
-IsUnpassed line cycle block =
-    ((cycle ≡ line.cycle) × (block < line.used)) ⊎ ((cycle + 1 ≡ line.cycle) × (line.used ≤ block))
+IsUnpassed line cycle block = IsUnpassedBy line.cycle line.used cycle block
 
 -- a finished article begins at the block, which isn't passed
 pub record IsStart (line : Line) (h : History) (block : ℕ) : Type 0 where

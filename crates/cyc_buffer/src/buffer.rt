@@ -15,7 +15,11 @@ use std::alloc::{AllocError, Global};
 #[derive(Debug, Drop)]
 pub struct Buffer<S: BlockStore> {
     pub(crate) store: S,
-    register: Register,
+    pub(crate) register: Register,
+    /// The number of the stop that it was started from; 0 where it was made anew.
+    pub(crate) stop: u64,
+    /// Head block 0 says that the buffer may change.
+    pub(crate) has_open_head: bool,
     ghost counted: { register.line.blocks ≡ length (S.blocks store) },
 }
 
@@ -53,7 +57,12 @@ impl<S: BlockStore> Buffer<S> {
     {
         let blocks = store.count();
         let register = Register::new(alloc, number, blocks, first_cycle)?;
-        Ok(Buffer { store, register })
+        Ok(Buffer {
+            store,
+            register,
+            stop: 0,
+            has_open_head: false,
+        })
     }
 
     /// Begins an article of a class and of so many octets, at least 1; `fresh` at the front of a

@@ -12,8 +12,10 @@ pub mod laws;
 mod line;
 mod marks;
 mod register;
+mod stopping;
 
 pub use answers::{BufError, Fault, FaultKind, Found, Front};
 pub use buffer::Buffer;
 pub use line::size_of;
 pub use register::Open;
+pub use stopping::Unstopped;

@@ -1,11 +1,17 @@
-ghost use Rattle.std.specs.Prelude.{◌≡◌, ◌≤◌, ◌<◌, ◌*◌, ◌+◌, ℕ, length, false, IfOk};
+ghost use Rattle.std.specs.Prelude.{◌≡◌, ◌≤◌, ◌<◌, ◌*◌, ◌+◌, ◌^◌, ℕ, length, false, IfOk};
 ghost use Rattle.std.specs.Prelude.{vec_capacity};
+ghost use Rattle.news_terms.specs.HeadBlocks.{bitmap_block as bitmap_of, octet_of, weight};
 ghost use Rattle.cyc_buffer.specs.Marks.{is_marked, marked_after, is_below, is_changed, has_mask};
+ghost use Rattle.cyc_buffer.specs.Marks.{is_told};
 
+use cyc_block::BLOCK_OCTETS;
 use std::alloc::{AllocError, Global};
 
 /// How many blocks a word has marks of.
 const WORD_BLOCKS: u32 = 64;
+
+/// How many blocks a block of a bitmap has bits of.
+const BITMAP_BLOCKS: u64 = 4096;
 
 /// A mark for each block of a buffer, set or not.
 #[derive(Debug, Drop)]
@@ -37,6 +43,48 @@ impl Marks {
     {
         let word = self.words[(block / WORD_BLOCKS) as usize];
         word >> (block % WORD_BLOCKS) & 1 == 1
+    }
+
+    /// Block i of the bitmap of the marks of so many blocks.
+    pub(crate) fn bitmap_block(&self, i: u32, count: u32) -> [u8; BLOCK_OCTETS]
+        requires { count ≤ 64 * length self.now.words.items }
+        ensures { result ≡ bitmap_of (is_told self.now.words.items count) i }
+    {
+        let from = u64::from(i) * BITMAP_BLOCKS;
+        let mut octets = [0; BLOCK_OCTETS];
+        for k in 0..BLOCK_OCTETS {
+            octets[k] = self.octet(from + 8 * k as u64, count);
+        }
+        octets
+    }
+
+    /// The octet of the marks of eight blocks, the first of them in the highest bit.
+    fn octet(&self, from: u64, count: u32) -> u8
+        requires room { count ≤ 64 * length self.now.words.items }
+        requires fits { from < 2 ^ 63 }
+        ensures { result ≡ octet_of (is_told self.now.words.items count) from }
+    {
+        self.weight(from, count, 128)
+            + self.weight(from + 1, count, 64)
+            + self.weight(from + 2, count, 32)
+            + self.weight(from + 3, count, 16)
+            + self.weight(from + 4, count, 8)
+            + self.weight(from + 5, count, 4)
+            + self.weight(from + 6, count, 2)
+            + self.weight(from + 7, count, 1)
+    }
+
+    /// What a bit counts for where its block is one of so many and is marked, else 0.
+    fn weight(&self, block: u64, count: u32, of: u8) -> u8
+        requires { count ≤ 64 * length self.now.words.items }
+        ensures told { result ≡ weight (is_told self.now.words.items count block) of }
+        ensures most { result ≤ of }
+    {
+        if block < u64::from(count) && self.has(block as u32) {
+            of
+        } else {
+            0
+        }
     }
 
     /// Sets or clears the marks of the blocks from one up to another, a word at a time.

@@ -5,7 +5,7 @@ ghost use Rattle.cyc_buffer.specs.Progress.{start_of, end_of, open_count};
 use crate::answers::{BufError, Fault, FaultKind, Front};
 use crate::line::{Line, Place, size_of};
 use crate::marks::Marks;
-use cyc_block::Stamp;
+use cyc_block::{HeadNumbers, HeadState, Stamp};
 use cyc_token::Token;
 use std::alloc::{AllocError, Global};
 
@@ -107,7 +107,8 @@ impl Register {
     ghost use Rattle.cyc_buffer.specs.Progress.{IsTheOpen, written_of, has_failed, started};
     ghost use Rattle.cyc_buffer.specs.Progress.{CanWriteOn, CanFinishOn, counted, failed, stamp_of};
     ghost use Rattle.cyc_buffer.specs.Register.{Keeps, buffer_of, mark_passed, line_head};
-    ghost use Rattle.cyc_buffer.specs.Register.{place_view, Stays};
+    ghost use Rattle.cyc_buffer.specs.Register.{place_view, Stays, numbers_in};
+    ghost use Rattle.cyc_block.specs.Heads.{head_view, state_view};
 
     /// The register of a buffer in which nothing was begun.
     pub(crate) fn new(
@@ -138,6 +139,23 @@ impl Register {
             },
             progress: None,
         })
+    }
+
+    /// What head block 0 says of the buffer, in a state and under the number of a stop.
+    pub(crate) fn numbers(&self, state: HeadState, stop: u64) -> HeadNumbers
+        ensures { head_view result ≡ numbers_in self.now (state_view state) stop }
+    {
+        HeadNumbers {
+            state,
+            number: self.line.number,
+            blocks: self.line.blocks,
+            first_cycle: self.line.first_cycle,
+            cycle: self.line.cycle,
+            head: self.line.used,
+            stop,
+            begun: self.counts.begun,
+            stored: self.counts.stored,
+        }
     }
 
     /// The buffer's front.

@@ -1,0 +1,55 @@
+-- What a buffer's head blocks have to do with it, and what a stop and an opening of its head leave.
+use Rattle.std.specs.Prelude.{◌≡◌, ◌<◌, ◌⊎◌, ℕ, Bool, true, false, is_some, length}
+use Rattle.cyc_block.specs.Store.{block_at}
+use Rattle.cyc_block.specs.declared.store.BlockStore.{Ghosts}
+use Rattle.cyc_buffer.specs.Agreement.{Agrees, store_of, register_of}
+use Rattle.cyc_buffer.specs.Answers.{fault_of}
+use Rattle.cyc_buffer.specs.History.{History}
+use Rattle.cyc_buffer.specs.Register.{buffer_of}
+use Rattle.cyc_buffer.specs.Stopped.{TellsStarts}
+use Rattle.cyc_buffer.specs.declared.answers.BufError.{BufError}
+use Rattle.cyc_buffer.specs.declared.answers.BufError.TheVariants as errors
+use Rattle.cyc_buffer.specs.declared.answers.FaultKind.TheVariants as kinds
+use Rattle.cyc_buffer.specs.declared.buffer.Buffer.{Buffer}
+
+-- head block 0 says that the buffer may change
+abbrev pub has_open_head : {S : Type 0} {g : Ghosts S} → Buffer S g → Bool
+has_open_head buffer = buffer.has_open_head
+
+-- the number of the stop that the buffer was started from; 0 where it was made anew
+abbrev pub stop_of : {S : Type 0} {g : Ghosts S} → Buffer S g → ℕ
+stop_of buffer = buffer.stop
+
+-- a write is open
+abbrev pub is_busy : {S : Type 0} {g : Ghosts S} → Buffer S g → Bool
+is_busy buffer = is_some (register_of buffer).progress
+
+-- the error is the device's at a write that spoke of no article
+abbrev pub IsHeadFault : {S : Type 0} {g : Ghosts S} → Buffer S g → BufError → Type 0
+IsHeadFault buffer e =
+    e ≡ errors.Device (fault_of (buffer_of (register_of buffer).line) kinds.Write 0)
+
+-- a stop is refused while a write is open, or where the device failed during the call
+abbrev pub IsStopRefusal : {S : Type 0} {g : Ghosts S} → Buffer S g → BufError → Buffer S g → Type 0
+IsStopRefusal old errors.TooBig new = ⊥
+IsStopRefusal old (errors.Worn fault) new = ⊥
+IsStopRefusal old errors.Busy new = (is_busy old ≡ true) × (store_of new ≡ store_of old)
+IsStopRefusal {g = g} old (errors.Device fault) new =
+    (is_busy old ≡ false) × IsHeadFault old (errors.Device fault)
+    × (g.failures (store_of old) < g.failures (store_of new))
+
+-- Of a buffer and its device's blocks nothing is another than before but what the head blocks hold:
+-- an honest device stays honest, and so do its blocks stay.
+pub record LeavesBuffer {S : Type 0} {g : Ghosts S} (old new : Buffer S g) : Type 0 where
+  pub register : register_of new ≡ register_of old
+  pub opened : has_open_head new ≡ has_open_head old
+  pub stop : stop_of new ≡ stop_of old
+  pub honest : g.honest (store_of old) → g.honest (store_of new)
+  pub blocks : g.honest (store_of old) → g.blocks (store_of new) ≡ g.blocks (store_of old)
+  pub count : length (g.blocks (store_of new)) ≡ length (g.blocks (store_of old))
+
+-- head block 0 holds what it held, or the bitmap is there
+abbrev pub IsInOrder : {S : Type 0} {g : Ghosts S} → Buffer S g → Buffer S g → Type 0
+IsInOrder {g = g} old new =
+    (block_at (g.heads (store_of new)) 0 ≡ block_at (g.heads (store_of old)) 0)
+    ⊎ ((h : History) → Agrees true old h → TellsStarts (g.heads (store_of new)) h)
