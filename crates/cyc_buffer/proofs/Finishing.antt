@@ -27,15 +27,15 @@ abbrev pub history_of : Buffer → List Begin → Option Writing → History
 history_of buffer begins writing = record { buffer = buffer; begins = begins; writing = writing }
 
 -- a block among some
-among : (from to j : ℕ) → from ≤ j → j < to → is_among from to j ≡ true
+pub among : (from to j : ℕ) → from ≤ j → j < to → is_among from to j ≡ true
 among from to j h k = and_from (nat_le from j) (nat_lt j to) (le-leb from j h) (lt-ltb j to k)
 
-among_parts : (from to j : ℕ) → is_among from to j ≡ true → (from ≤ j) × (j < to)
+pub among_parts : (from to j : ℕ) → is_among from to j ≡ true → (from ≤ j) × (j < to)
 among_parts from to j e = let p = and_parts (nat_le from j) (nat_lt j to) e in
     (leb-true from j p.0, ltb-true j to p.1)
 
 -- a mark that is set stays set
-set_stays : (p : Bool) → cond p true true ≡ true
+pub set_stays : (p : Bool) → cond p true true ≡ true
 set_stays true = refl
 set_stays false = refl
 

@@ -10,3 +10,13 @@ mod Writes
 pub mod Numbers
 pub mod Reading
 pub mod StopLemmas
+mod Apart
+pub mod StartLemmas
+pub mod Sound
+pub mod Refusals
+mod Rising
+pub mod Stretches
+pub mod Whole
+pub mod BitLemmas
+mod Restored
+pub mod Answered

@@ -7,5 +7,7 @@ pub mod History
 pub mod Look
 pub mod Marks
 pub mod Progress
+pub mod Reads
 pub mod Register
+pub mod Starting
 pub mod Stopped

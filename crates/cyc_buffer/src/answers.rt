@@ -1,4 +1,7 @@
 ghost use Rattle.std.specs.Prelude.{◌≡◌};
+ghost use Rattle.cyc_buffer.specs.declared.answers.StartError.TheVariants as StartError;
+
+use std::alloc::AllocError;
 
 /// A front of a buffer: what lies a whole buffer before it is gone. A buffer alone makes one, of
 /// itself.
@@ -86,6 +89,29 @@ pub enum BufError {
     Busy,
     /// The device failed during the call.
     Device(Fault),
+}
+
+/// Why a buffer isn't started, in the order of trial.
+#[derive(Clone, Copy, Debug, PartialEq, Eq)]
+pub enum StartError {
+    /// Memory was refused.
+    Memory,
+    /// A read of the device failed.
+    Device,
+    /// Head block 0 is none of this buffer's.
+    NoHead,
+    /// The buffer was not stopped.
+    Unclosed,
+    /// The numbers, the bitmap and the blocks don't agree.
+    Damaged,
+}
+
+impl From<AllocError> for StartError {
+    ghost from_gives = { λ _ made. made ≡ StartError.Memory };
+
+    fn from(_error: AllocError) -> StartError {
+        StartError::Memory
+    }
 }
 
 /// What a read found.

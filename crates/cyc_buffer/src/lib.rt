@@ -7,15 +7,20 @@
 
 mod answers;
 mod arming;
+mod articles;
+mod bits;
 mod buffer;
 pub mod laws;
 mod line;
 mod marks;
 mod register;
+mod starting;
+mod stopped;
 mod stopping;
 
-pub use answers::{BufError, Fault, FaultKind, Found, Front};
+pub use answers::{BufError, Fault, FaultKind, Found, Front, StartError};
 pub use buffer::Buffer;
 pub use line::size_of;
 pub use register::Open;
+pub use starting::{Refused, Started};
 pub use stopping::Unstopped;

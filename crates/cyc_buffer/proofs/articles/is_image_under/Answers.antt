@@ -1,0 +1,12 @@
+-- What is no image is none of this block.
+use Rattle.std.proofs.lemmas.Bool.{false≢true}
+use Rattle.cyc_token.specs.Token.{token_view}
+use Rattle.cyc_buffer.specs.Stopped.{block_under}
+use Rattle.cyc_buffer.proofs.articles.is_image_under.Goals as goal
+
+pub returns-in_default : goal.returns-in_default
+returns-in_default c = (
+  λ e. absurd (false≢true e),
+  λ h. absurd (c.in_default.ensures.read
+      (block_under (token_view c.args.token.now) c.args.k h.payload) h.block h.image),
+)

@@ -1,0 +1,102 @@
+-- One block more of the stretch.
+use Rattle.std.proofs.Common.{◌≡◌, ◌∙◌, ◌+◌, ◌++◌, ◌∷◌, [], true, length, sym, ap}
+use Rattle.std.proofs.Common.{subst, arith}
+use Rattle.std.specs.Global.{Vec}
+use Rattle.cyc_token.specs.declared.Token.{Token}
+use Rattle.cyc_token.specs.Token.{token_view}
+use Rattle.cyc_buffer.specs.Marks.{is_marked, marked_after}
+use Rattle.cyc_buffer.specs.Reads.{IsDamageBy, IsMissing, IsNone, IsFound, HasRead, StaysHeld}
+use Rattle.cyc_buffer.specs.declared.marks.Marks.{Marks}
+use Rattle.cyc_buffer.proofs.Refusals.{damage_by, held_on, passed_on, pushed_on}
+use Rattle.cyc_buffer.proofs.Stretches.{read_skip, read_more}
+use Rattle.cyc_buffer.proofs.articles.read_articles.Goals as goal
+use Rattle.cyc_buffer.proofs.articles.read_articles.Goals.{then-has+in_ok-token+else-is_err, else-has}
+
+pub returns-in_err-token-clause-refused : goal.returns-in_err-token-clause-refused
+returns-in_err-token-clause-refused g c honest =
+    let starts = is_marked c.args.starts.now.words.items in
+    let stretch = c.args.stretch.now in
+    let first = c.loop-first.first in
+    passed_on (IsDamageBy (IsMissing starts (g.S.BlockStore.blocks c.args.store.now) stretch.number
+    stretch.cycle stretch.end c.args.from)) _ _ c.from_residual.ensures
+    (damage_by c.in_err-token.field-0.0 (λ none. record {
+      at = first;
+      behind = c.loop-first.invariant.range;
+      before = c.loop-first-test.true;
+      marked = sym c.has.ensures ∙ c.if-has.true;
+      none = subst (λ blocks. IsNone starts blocks stretch.number stretch.cycle stretch.end first)
+          (c.loop-first.invariant.held.blocks honest) none;
+    })
+    (c.in_err-token.ensures.refused (c.loop-first.invariant.held.honest honest)))
+
+pub loop-first-preserved : goal.loop-first-preserved
+loop-first-preserved g c =
+    let store = c.args.store.now in
+    let was = c.loop-first.invariant in
+    let starts = is_marked c.args.starts.now.words.items in
+    let stretch = c.args.stretch.now in
+    let first = c.loop-first.first in
+    elim c.if-has.branch [
+      | then-has+in_ok-token+else-is_err w ↦
+          let found = w.in_ok-token.ensures in
+          record {
+            range = omega (arith, was.range);
+            held = subst (λ s. StaysHeld g.S.BlockStore store s) (sym w.store-is)
+                (held_on g.S.BlockStore store c.loop-first.store w.read_whole.new.store was.held
+                found.held);
+            failures = ap g.S.BlockStore.failures w.store-is ∙ found.no_failure ∙ was.failures;
+            room = ap (λ (m : Marks). length m.words.items) w.kept-is ∙ w.change.ensures.room
+                ∙ was.room;
+            read = λ honest.
+                let pushed : c.if-has.tokens.items
+                ≡ c.loop-first.tokens.items ++ w.in_ok-token.token ∷ [] =
+                ap (λ (v : Vec Token). v.items) w.tokens-is
+                ∙ pushed_on w.push.result
+                (c.loop-first.tokens.items ++ w.in_ok-token.token ∷ []) c.loop-first.tokens.items _ (sym w.is_err.ensures.value ∙ w.if-is_err.false)
+                w.push.ensures.items in
+                read_more starts (g.S.BlockStore.blocks store) stretch.number stretch.cycle
+                stretch.end c.args.from first c.args.tokens.now.items c.loop-first.tokens.items
+                c.if-has.tokens.items c.args.kept.now.words.items c.loop-first.kept.words.items
+                c.if-has.kept.words.items w.in_ok-token.token was.range
+                (sym c.has.ensures ∙ w.if-has.true)
+                (subst (λ blocks. IsFound starts blocks stretch.number stretch.cycle stretch.end
+                first (token_view w.in_ok-token.token)) (was.held.blocks honest)
+                (found.found (was.held.honest honest)))
+                pushed
+                (λ j. ap (λ (m : Marks). is_marked m.words.items j) w.kept-is
+                ∙ subst (λ n. is_marked w.change.new.self.words.items j
+                ≡ marked_after first (first + n) true j
+                (is_marked c.loop-first.kept.words.items j))
+                w.size_of.ensures (w.change.ensures.changed j))
+                (was.read honest);
+          }
+      | else-has w ↦ record {
+        range = omega (arith, was.range);
+        held = subst (λ s. StaysHeld g.S.BlockStore store s) (sym w.store-is) was.held;
+        failures = ap g.S.BlockStore.failures w.store-is ∙ was.failures;
+        room = ap (λ (m : Marks). length m.words.items) w.kept-is ∙ was.room;
+        read = λ honest.
+            let tokens = ap (λ (v : Vec Token). v.items) w.tokens-is in
+            let kept = ap (λ (m : Marks). m.words.items) w.kept-is in
+            read_skip starts (g.S.BlockStore.blocks store) stretch.number stretch.cycle
+            stretch.end c.args.from first c.args.tokens.now.items c.if-has.tokens.items
+            c.args.kept.now.words.items c.if-has.kept.words.items
+            (sym c.has.ensures ∙ w.if-has.false)
+            (subst (λ ks. HasRead starts (g.S.BlockStore.blocks store) stretch.number
+            stretch.cycle stretch.end c.args.from first c.args.tokens.now.items
+            c.if-has.tokens.items c.args.kept.now.words.items ks) (sym kept)
+            (subst (λ ts. HasRead starts (g.S.BlockStore.blocks store) stretch.number
+            stretch.cycle stretch.end c.args.from first c.args.tokens.now.items
+            ts c.args.kept.now.words.items c.loop-first.kept.words.items) (sym tokens)
+            (was.read honest)));
+      }
+    ]
+
+pub returns-clause-read : goal.returns-clause-read
+returns-clause-read g c honest =
+    subst (λ n. HasRead (is_marked c.args.starts.now.words.items)
+    (g.S.BlockStore.blocks c.args.store.now) c.args.stretch.now.number c.args.stretch.now.cycle
+    c.args.stretch.now.end c.args.from n c.args.tokens.now.items c.loop-first.tokens.items
+    c.args.kept.now.words.items c.loop-first.kept.words.items)
+    (omega (arith, c.requires.order, c.loop-first-test.false, c.loop-first.auto.first))
+    (c.loop-first.invariant.read honest)

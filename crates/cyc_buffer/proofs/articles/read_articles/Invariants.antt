@@ -1,0 +1,17 @@
+use Rattle.std.proofs.Common.{◌≡◌, ◌≤◌, length}
+use Rattle.cyc_buffer.specs.Marks.{is_marked}
+use Rattle.cyc_buffer.specs.Reads.{StaysHeld, HasRead}
+use Rattle.cyc_buffer.proofs.articles.read_articles.Given as goal
+
+-- the articles that begin before the block are read, and the store holds what it held
+abbrev pub invariant-loop-first : goal.invariant-loop-first
+invariant-loop-first g l = record {
+  range : l.from ≤ l.first;
+  held : StaysHeld g.S.BlockStore l.initial.store l.store;
+  failures : g.S.BlockStore.failures l.store ≡ g.S.BlockStore.failures l.initial.store;
+  room : length l.kept.words.items ≡ length l.initial.kept.words.items;
+  read : g.S.BlockStore.honest l.initial.store
+      → HasRead (is_marked l.starts.words.items) (g.S.BlockStore.blocks l.initial.store)
+      l.stretch.number l.stretch.cycle l.stretch.end l.from l.first l.initial.tokens.items
+      l.tokens.items l.initial.kept.words.items l.kept.words.items;
+}

@@ -1,0 +1,19 @@
+-- Where another article begins inside one, none begins at its first block.
+use Rattle.std.proofs.Common.{◌∙◌, sym, ap, arith}
+use Rattle.std.proofs.lemmas.Bool.{false≢true}
+use Rattle.news_terms.specs.Token as terms
+use Rattle.cyc_token.specs.Token.{token_view}
+use Rattle.cyc_buffer.proofs.Refusals.{same_token}
+use Rattle.cyc_buffer.proofs.articles.read_whole.Goals as goal
+
+pub returns-then-not-are_clear-clause-refused : goal.returns-then-not-are_clear-clause-refused
+returns-then-not-are_clear-clause-refused g c honest t here read clear =
+    let found = c.in_ok-token.ensures in
+    let is = found.read honest in
+    let same = same_token (g.S.BlockStore.blocks c.args.store.now) c.args.stretch.now.number
+    c.args.stretch.now.cycle c.args.stretch.now.end c.args.first t (token_view c.in_ok-token.token)
+    (found.only honest) is.buffer is.cycle found.place.0 here read in
+    let length = ap (λ (u : terms.Token). u.length) same in
+    let mark = c.are_clear.ensures.marked c.if-not-are_clear.true in
+    false≢true (sym (clear mark.at (omega (arith, mark.behind, here))
+    (omega (arith, mark.before, here, length, c.size_of.ensures))) ∙ mark.marked)

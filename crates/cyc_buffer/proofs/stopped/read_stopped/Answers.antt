@@ -1,0 +1,106 @@
+-- All of the device was read, or something is wrong with it.
+use Rattle.std.proofs.Common.{◌≡◌, ◌∙◌, length, refl, sym, ap, subst}
+use Rattle.news_terms.specs.Places.{Buffer}
+use Rattle.cyc_block.specs.Heads.{head_view}
+use Rattle.cyc_buffer.specs.Marks.{is_marked}
+use Rattle.cyc_buffer.specs.Reads.{AreBits, IsBeyond, IsRefusedBy, HasReadAll}
+use Rattle.cyc_buffer.specs.Register.{numbers_in}
+use Rattle.cyc_buffer.specs.Stopped.{IsDamaged, BitBeyond, has_bit}
+use Rattle.cyc_buffer.specs.declared.marks.Marks.{Marks}
+use Rattle.cyc_buffer.proofs.Refusals.{damage_refuses, passed_on}
+use Rattle.cyc_buffer.proofs.stopped.read_stopped.Goals as goal
+
+pub returns-in_err-read_bitmap-clause-refused : goal.returns-in_err-read_bitmap-clause-refused
+returns-in_err-read_bitmap-clause-refused g c honest =
+    let store = c.args.store.now in
+    let heads = g.S.BlockStore.heads store in
+    let blocks = g.S.BlockStore.blocks store in
+    let numbers = c.in_ok-numbers.numbers in
+    let closed = c.in_ok-numbers.ensures in
+    let buffer : Buffer = record {
+      number = c.args.number;
+      blocks = length blocks;
+      first_cycle = c.args.first_cycle;
+    } in
+    passed_on (IsRefusedBy heads blocks buffer) _ _ c.from_residual-in_err-read_bitmap.ensures
+    (damage_refuses heads blocks buffer c.in_err-read_bitmap.field-0.0
+    (λ beyond. record {
+      numbers = head_view numbers;
+      says = closed.says honest;
+      closed = closed.closed;
+      damaged =
+          let b = subst (λ hs. IsBeyond hs numbers.blocks) (closed.held.heads honest) beyond in
+          BitBeyond b.at b.behind b.within b.set;
+    })
+    (c.in_err-read_bitmap.ensures.refused (closed.held.honest honest)))
+
+pub returns-in_err-tokens-clause-refused : goal.returns-in_err-tokens-clause-refused
+returns-in_err-tokens-clause-refused g c honest =
+    let store = c.args.store.now in
+    let heads = g.S.BlockStore.heads store in
+    let blocks = g.S.BlockStore.blocks store in
+    let numbers = c.in_ok-numbers.numbers in
+    let closed = c.in_ok-numbers.ensures in
+    let bitmap = c.in_ok-read_bitmap.ensures in
+    let buffer : Buffer = record {
+      number = c.args.number;
+      blocks = length blocks;
+      first_cycle = c.args.first_cycle;
+    } in
+    let bits : AreBits heads numbers.blocks c.read_bitmap.new.starts.words.items =
+    subst (λ hs. AreBits hs numbers.blocks c.read_bitmap.new.starts.words.items)
+    (closed.held.heads honest) (bitmap.bits (closed.held.honest honest)) in
+    passed_on (IsRefusedBy heads blocks buffer) _ _ c.from_residual-in_err-tokens.ensures
+    (damage_refuses heads blocks buffer c.in_err-tokens.field-0.0
+    (λ damaged. record {
+      numbers = head_view numbers;
+      says = closed.says honest;
+      closed = closed.closed;
+      damaged = subst (λ bs. IsDamaged heads bs (head_view numbers))
+          (bitmap.held.blocks (closed.held.honest honest) ∙ closed.held.blocks honest) damaged;
+    })
+    (c.in_err-tokens.ensures.refused (bitmap.held.honest (closed.held.honest honest)) heads bits))
+
+pub returns-clause-started : goal.returns-clause-started
+returns-clause-started g c honest =
+    let store = c.args.store.now in
+    let heads = g.S.BlockStore.heads store in
+    let blocks = g.S.BlockStore.blocks store in
+    let numbers = c.in_ok-numbers.numbers in
+    let closed = c.in_ok-numbers.ensures in
+    let bitmap = c.in_ok-read_bitmap.ensures in
+    let all = c.in_ok-tokens.ensures in
+    let register = c.stopped_register.result in
+    let starts = c.read_bitmap.new.starts.words.items in
+    let same_starts : starts ≡ register.starts.words.items =
+    ap (λ (m : Marks). m.words.items) (sym c.stopped_register.ensures.starts) in
+    let same_kept : c.read_all.new.kept.words.items ≡ register.kept.words.items =
+    ap (λ (m : Marks). m.words.items) (sym c.stopped_register.ensures.kept) in
+    record {
+      numbers = head_view numbers;
+      says = closed.says honest;
+      closed = closed.closed;
+      stop_is = refl;
+      sound = closed.sound;
+      beyond = λ j behind within. ap (λ hs. has_bit hs j) (sym (closed.held.heads honest))
+          ∙ bitmap.none_beyond (closed.held.honest honest) j behind within;
+      register_is = ap (λ state. numbers_in register state numbers.stop) (sym closed.closed)
+          ∙ c.stopped_register.ensures.numbers;
+      progress = c.stopped_register.ensures.progress;
+      bits = subst (λ hs. AreBits hs numbers.blocks register.starts.words.items)
+          (closed.held.heads honest)
+          (subst (λ ws. AreBits (g.S.BlockStore.heads c.read_closed.new.store) numbers.blocks ws)
+          same_starts (bitmap.bits (closed.held.honest honest)));
+      some_kept = c.in_ok-kept.kept.words.items;
+      unkept = c.in_ok-kept.ensures.none;
+      all = subst (λ ks. HasReadAll (is_marked register.starts.words.items) blocks
+          (head_view numbers) c.in_ok-tokens.tokens.items c.in_ok-kept.kept.words.items ks)
+          same_kept
+          (subst (λ ws. HasReadAll (is_marked ws) blocks (head_view numbers)
+          c.in_ok-tokens.tokens.items c.in_ok-kept.kept.words.items c.read_all.new.kept.words.items)
+          same_starts
+          (subst (λ bs. HasReadAll (is_marked starts) bs (head_view numbers)
+          c.in_ok-tokens.tokens.items c.in_ok-kept.kept.words.items c.read_all.new.kept.words.items)
+          (bitmap.held.blocks (closed.held.honest honest) ∙ closed.held.blocks honest)
+          (all.read (bitmap.held.honest (closed.held.honest honest)))));
+    }

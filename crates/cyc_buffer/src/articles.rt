@@ -1,0 +1,204 @@
+//! What a start reads of a buffer's articles.
+ghost use Rattle.std.specs.Prelude.{◌≡◌, ◌↔◌, ◌+◌, ◌*◌, ◌^◌, ◌<◌, ◌≤◌, ℕ, length, true, false};
+ghost use Rattle.std.specs.Prelude.{IsTrue, IfErr, IfOk, IfSome, IfNone, OnOk};
+ghost use Rattle.news_terms.specs.BlockImage.{Block, IsBlock, block_image as image_of};
+ghost use Rattle.news_terms.specs.Places.{size_of};
+ghost use Rattle.cyc_block.specs.Store.{block_at};
+ghost use Rattle.cyc_token.specs.Token.{token_view};
+ghost use Rattle.cyc_buffer.specs.Marks.{is_marked};
+ghost use Rattle.cyc_buffer.specs.Reads.{StaysHeld, IsBlamed, IsDamageBy, IsOfToken, IsRead};
+ghost use Rattle.cyc_buffer.specs.Reads.{IsFound, IsNone, IsMissing, HasRead};
+ghost use Rattle.cyc_buffer.specs.Stopped.{IsImageUnder};
+
+use crate::answers::StartError;
+use crate::line::size_of;
+use crate::marks::Marks;
+use cyc_block::{BLOCK_OCTETS, BlockStore, CHUNK_OCTETS, Stamp, read_image};
+use cyc_token::Token;
+
+/// Where articles are looked for: in blocks of this buffer, since this cycle, and they end by this
+/// block.
+#[derive(Clone, Copy, Debug)]
+pub(crate) struct Stretch {
+    pub(crate) number: u8,
+    pub(crate) cycle: u32,
+    pub(crate) end: u32,
+}
+
+/// The octets of a block.
+fn read_octets<S: BlockStore>(store: &mut S, block: u32) -> Result<[u8; BLOCK_OCTETS], StartError>
+    requires { block < length (S.blocks store.old) }
+    ensures octets { S.honest store.old
+        → IfOk result (λ octets. octets ≡ block_at (S.blocks store.old) block) }
+    ensures device { IfErr result (λ error. IsDamageBy ⊥ error) }
+    ensures held { StaysHeld S.BlockStore store.old store.new }
+    ensures failed { IfErr result (IsBlamed S.BlockStore store.old store.new) }
+    ensures no_failure { OnOk result (S.failures store.new ≡ S.failures store.old) }
+{
+    let mut octets = [0; BLOCK_OCTETS];
+    match store.read(block, &mut octets) {
+        Ok(()) => Ok(octets),
+        Err(_failed) => Err(StartError::Device),
+    }
+}
+
+/// The token of the article that a first block says; none where the octets are no image.
+fn token_of(octets: &[u8; BLOCK_OCTETS], buffer: u8, cycle: u32, first: u32) -> Option<Token>
+    ensures place { IfSome result (λ token. (token.buffer ≡ buffer) × (token.cycle ≡ cycle)
+        × (token.first ≡ first)) }
+    ensures only { IfSome result (λ token. IsOfToken octets.now (token_view token)) }
+    ensures none { IfNone result ((b : Block) → IsBlock b → octets.now ≡ image_of b → ⊥) }
+{
+    let image = read_image(octets)?;
+    Some(Token {
+        class: image.stamp.class,
+        buffer,
+        cycle,
+        first,
+        length: image.stamp.article_length,
+    })
+}
+
+/// Whether the octets are an image of block k of the article under a token, as full as that is.
+fn is_image_under(octets: &[u8; BLOCK_OCTETS], token: &Token, k: u32) -> bool
+    ensures { IsTrue result ↔ IsImageUnder octets.now (token_view token.now) k }
+{
+    let Some(image) = read_image(octets) else {
+        return false;
+    };
+    let wanted = Stamp {
+        cycle: token.cycle,
+        first: token.first,
+        index: k,
+        article_length: token.length,
+        class: token.class,
+    };
+    let left = (token.length as usize).saturating_sub(CHUNK_OCTETS * k as usize);
+    image.stamp == wanted && image.payload.len() == left.min(CHUNK_OCTETS)
+}
+
+/// Reads the blocks of the article under a token behind its first, which have to be its images.
+fn read_images<S: BlockStore>(store: &mut S, token: &Token) -> Result<(), StartError>
+    requires fits { token.now.first + size_of token.now.length < 2 ^ 32 }
+    requires within { token.now.first + size_of token.now.length ≤ length (S.blocks store.old) }
+    ensures images { S.honest store.old → OnOk result ((k : ℕ) → 1 ≤ k
+        → k < size_of token.now.length
+        → IsImageUnder (block_at (S.blocks store.old) (token.now.first + k)) (token_view token.now) k) }
+    ensures refused { S.honest store.old → IfErr result (IsDamageBy (((k : ℕ)
+        → k < size_of token.now.length
+        → IsImageUnder (block_at (S.blocks store.old) (token.now.first + k)) (token_view token.now) k)
+        → ⊥)) }
+    ensures held { StaysHeld S.BlockStore store.old store.new }
+    ensures failed { IfErr result (IsBlamed S.BlockStore store.old store.new) }
+    ensures no_failure { OnOk result (S.failures store.new ≡ S.failures store.old) }
+{
+    for k in 1..size_of(token.length) {
+        let octets = read_octets(store, token.first + k)?;
+        if !is_image_under(&octets, token, k) {
+            return Err(StartError::Damaged);
+        }
+    }
+    Ok(())
+}
+
+/// The token of the article that begins at a block, all of whose blocks are images of it.
+fn read_article<S: BlockStore>(
+    store: &mut S,
+    stretch: &Stretch,
+    first: u32,
+) -> Result<Token, StartError>
+    requires inside { first < stretch.now.end }
+    requires within { stretch.now.end ≤ length (S.blocks store.old) }
+    ensures read { S.honest store.old → IfOk result (λ token.
+        IsRead (S.blocks store.old) stretch.now.number stretch.now.cycle stretch.now.end
+        (token_view token)) }
+    ensures only { S.honest store.old → IfOk result (λ token.
+        IsOfToken (block_at (S.blocks store.old) first) (token_view token)) }
+    ensures place { IfOk result (λ token. (token.first ≡ first)
+        × (token.first + size_of token.length ≤ stretch.now.end)) }
+    ensures refused { S.honest store.old → IfErr result (IsDamageBy (
+        IsNone (λ j. false) (S.blocks store.old) stretch.now.number stretch.now.cycle
+        stretch.now.end first)) }
+    ensures held { StaysHeld S.BlockStore store.old store.new }
+    ensures failed { IfErr result (IsBlamed S.BlockStore store.old store.new) }
+    ensures no_failure { OnOk result (S.failures store.new ≡ S.failures store.old) }
+{
+    let octets = read_octets(store, first)?;
+    let Some(token) = token_of(&octets, stretch.number, stretch.cycle, first) else {
+        return Err(StartError::Damaged);
+    };
+    let size = size_of(token.length);
+    if size < 1 || size > stretch.end - first || !is_image_under(&octets, &token, 0) {
+        return Err(StartError::Damaged);
+    }
+    read_images(store, &token)?;
+    Ok(token)
+}
+
+/// The token of the whole article that begins at a block: no other begins inside it.
+fn read_whole<S: BlockStore>(
+    store: &mut S,
+    starts: &Marks,
+    stretch: &Stretch,
+    first: u32,
+) -> Result<Token, StartError>
+    requires inside { first < stretch.now.end }
+    requires within { stretch.now.end ≤ length (S.blocks store.old) }
+    requires room { stretch.now.end ≤ 64 * length starts.now.words.items }
+    ensures found { S.honest store.old → IfOk result (λ token.
+        IsFound (is_marked starts.now.words.items) (S.blocks store.old) stretch.now.number
+        stretch.now.cycle stretch.now.end first (token_view token)) }
+    ensures place { IfOk result (λ token. (token.first ≡ first)
+        × (token.first + size_of token.length ≤ stretch.now.end)) }
+    ensures refused { S.honest store.old → IfErr result (IsDamageBy (
+        IsNone (is_marked starts.now.words.items) (S.blocks store.old) stretch.now.number
+        stretch.now.cycle stretch.now.end first)) }
+    ensures held { StaysHeld S.BlockStore store.old store.new }
+    ensures failed { IfErr result (IsBlamed S.BlockStore store.old store.new) }
+    ensures no_failure { OnOk result (S.failures store.new ≡ S.failures store.old) }
+{
+    let token = read_article(store, stretch, first)?;
+    let end = first + size_of(token.length);
+    if !starts.are_clear(first + 1, end) {
+        return Err(StartError::Damaged);
+    }
+    Ok(token)
+}
+
+/// Reads the articles that begin from a block up to the stretch's end, lists their tokens and
+/// marks their blocks.
+pub(crate) fn read_articles<S: BlockStore>(
+    store: &mut S,
+    starts: &Marks,
+    stretch: &Stretch,
+    from: u32,
+    kept: &mut Marks,
+    tokens: &mut Vec<Token>,
+) -> Result<(), StartError>
+    requires order { from ≤ stretch.now.end }
+    requires within { stretch.now.end ≤ length (S.blocks store.old) }
+    requires room { stretch.now.end ≤ 64 * length starts.now.words.items }
+    requires kept_room { stretch.now.end ≤ 64 * length kept.old.words.items }
+    ensures read { S.honest store.old → OnOk result (
+        HasRead (is_marked starts.now.words.items) (S.blocks store.old) stretch.now.number
+        stretch.now.cycle stretch.now.end from stretch.now.end
+        tokens.old.items tokens.new.items kept.old.words.items kept.new.words.items) }
+    ensures refused { S.honest store.old → IfErr result (IsDamageBy (
+        IsMissing (is_marked starts.now.words.items) (S.blocks store.old) stretch.now.number
+        stretch.now.cycle stretch.now.end from)) }
+    ensures kept { length kept.new.words.items ≡ length kept.old.words.items }
+    ensures held { StaysHeld S.BlockStore store.old store.new }
+    ensures failed { IfErr result (IsBlamed S.BlockStore store.old store.new) }
+    ensures no_failure { OnOk result (S.failures store.new ≡ S.failures store.old) }
+{
+    for first in from..stretch.end {
+        if starts.has(first) {
+            let token = read_whole(store, starts, stretch, first)?;
+            kept.change(first, first + size_of(token.length), true);
+            if tokens.push(token).is_err() {
+                return Err(StartError::Memory);
+            }
+        }
+    }
+    Ok(())
+}

@@ -1,0 +1,259 @@
+//! What a start reads of the buffer that was stopped on a store.
+ghost use Rattle.std.specs.Prelude.{◌≡◌, ◌<◌, ◌≤◌, ◌*◌, ℕ, true, false, length, IfErr, IfOk};
+ghost use Rattle.std.specs.Prelude.{◌+◌, OnOk, List, None};
+ghost use Rattle.news_terms.specs.HeadBlocks.{Closed};
+ghost use Rattle.cyc_block.specs.Heads.{head_view, state_view};
+ghost use Rattle.cyc_buffer.specs.Marks.{is_marked};
+ghost use Rattle.cyc_buffer.specs.Reads.{StaysHeld, IsBlamed, IsDamageBy, IsRefusedBy, SaysOnly};
+ghost use Rattle.cyc_buffer.specs.Reads.{AreSound, AreBits, HasReadBehind, HasReadAll, HasStarted};
+ghost use Rattle.cyc_buffer.specs.Register.{numbers_in};
+ghost use Rattle.cyc_buffer.specs.Stopped.{IsDamaged};
+
+use crate::answers::StartError;
+use crate::articles::{Stretch, read_articles};
+use crate::bits::{read_bitmap, read_head_octets};
+use crate::line::Line;
+use crate::marks::Marks;
+use crate::register::{Counts, Register};
+use cyc_block::{BlockStore, HeadNumbers, HeadState, read_head_image};
+use cyc_token::Token;
+use std::alloc::Global;
+
+/// What was read off a store of the buffer that was stopped on it.
+#[derive(Debug, Drop)]
+pub(crate) struct Stopped {
+    pub(crate) register: Register,
+    pub(crate) stop: u64,
+    pub(crate) tokens: Vec<Token>,
+}
+
+/// The buffer that was stopped on a store, all of whose numbers, bits and live finished articles
+/// are read first.
+pub(crate) fn read_stopped<S: BlockStore>(
+    alloc: Global,
+    store: &mut S,
+    number: u8,
+    first_cycle: u32,
+) -> Result<Stopped, StartError>
+    ensures started { S.honest store.old → IfOk result (λ stopped.
+        HasStarted (S.heads store.old) (S.blocks store.old) (record {
+          number = number;
+          blocks = length (S.blocks store.old);
+          first_cycle = first_cycle;
+        }) stopped.stop stopped.register stopped.tokens.items) }
+    ensures refused { S.honest store.old → IfErr result (
+        IsRefusedBy (S.heads store.old) (S.blocks store.old) (record {
+          number = number;
+          blocks = length (S.blocks store.old);
+          first_cycle = first_cycle;
+        })) }
+    ensures count { IfOk result (λ stopped.
+        stopped.register.line.blocks ≡ length (S.blocks store.old)) }
+    ensures idle { IfOk result (λ stopped. stopped.register.progress ≡ None) }
+    ensures held { StaysHeld S.BlockStore store.old store.new }
+    ensures failed { IfErr result (IsBlamed S.BlockStore store.old store.new) }
+    ensures no_failure { OnOk result (S.failures store.new ≡ S.failures store.old) }
+{
+    let numbers = read_closed(store, number, first_cycle)?;
+    let mut starts = Marks::new(alloc, numbers.blocks)?;
+    read_bitmap(store, numbers.blocks, &mut starts)?;
+    let mut kept = Marks::new(alloc, numbers.blocks)?;
+    let tokens = read_all(alloc, store, &numbers, &starts, &mut kept)?;
+    Ok(Stopped {
+        register: stopped_register(&numbers, starts, kept),
+        stop: numbers.stop,
+        tokens,
+    })
+}
+
+/// The numbers that head block 0 says, where it is this buffer's, which was stopped, and they can
+/// be a buffer's.
+fn read_closed<S: BlockStore>(
+    store: &mut S,
+    number: u8,
+    first_cycle: u32,
+) -> Result<HeadNumbers, StartError>
+    ensures says { S.honest store.old → IfOk result (λ numbers.
+        SaysOnly (S.heads store.old) (record {
+          number = number;
+          blocks = length (S.blocks store.old);
+          first_cycle = first_cycle;
+        }) (head_view numbers)) }
+    ensures closed { IfOk result (λ numbers. state_view numbers.state ≡ Closed) }
+    ensures sound { IfOk result (λ numbers. AreSound (head_view numbers)) }
+    ensures refused { S.honest store.old → IfErr result (
+        IsRefusedBy (S.heads store.old) (S.blocks store.old) (record {
+          number = number;
+          blocks = length (S.blocks store.old);
+          first_cycle = first_cycle;
+        })) }
+    ensures blocks { IfOk result (λ numbers. numbers.blocks ≡ length (S.blocks store.old)) }
+    ensures held { StaysHeld S.BlockStore store.old store.new }
+    ensures failed { IfErr result (IsBlamed S.BlockStore store.old store.new) }
+    ensures no_failure { OnOk result (S.failures store.new ≡ S.failures store.old) }
+{
+    let numbers = read_numbers(store, number, first_cycle)?;
+    match numbers.state {
+        HeadState::Open => Err(StartError::Unclosed),
+        HeadState::Closed => {
+            if are_sound(&numbers) {
+                Ok(numbers)
+            } else {
+                Err(StartError::Damaged)
+            }
+        }
+    }
+}
+
+/// The numbers that head block 0 says, where it is this buffer's.
+fn read_numbers<S: BlockStore>(
+    store: &mut S,
+    number: u8,
+    first_cycle: u32,
+) -> Result<HeadNumbers, StartError>
+    ensures says { S.honest store.old → IfOk result (λ numbers.
+        SaysOnly (S.heads store.old) (record {
+          number = number;
+          blocks = length (S.blocks store.old);
+          first_cycle = first_cycle;
+        }) (head_view numbers)) }
+    ensures refused { S.honest store.old → IfErr result (
+        IsRefusedBy (S.heads store.old) (S.blocks store.old) (record {
+          number = number;
+          blocks = length (S.blocks store.old);
+          first_cycle = first_cycle;
+        })) }
+    ensures blocks { IfOk result (λ numbers. numbers.blocks ≡ length (S.blocks store.old)) }
+    ensures held { StaysHeld S.BlockStore store.old store.new }
+    ensures failed { IfErr result (IsBlamed S.BlockStore store.old store.new) }
+    ensures no_failure { OnOk result (S.failures store.new ≡ S.failures store.old) }
+{
+    let blocks = store.count();
+    let octets = read_head_octets(store, 0)?;
+    let Some(numbers) = read_head_image(&octets) else {
+        return Err(StartError::NoHead);
+    };
+    if numbers.number != number || numbers.blocks != blocks || numbers.first_cycle != first_cycle {
+        return Err(StartError::NoHead);
+    }
+    Ok(numbers)
+}
+
+/// Whether the numbers of a head block can be those of a buffer.
+fn are_sound(numbers: &HeadNumbers) -> bool
+    ensures sound { result ≡ true → AreSound (head_view numbers.now) }
+    ensures damaged { result ≡ false → (heads blocks : List (List ℕ))
+        → IsDamaged heads blocks (head_view numbers.now) }
+{
+    if numbers.head > numbers.blocks || numbers.cycle < numbers.first_cycle {
+        return false;
+    }
+    let cycles = u64::from(numbers.cycle - numbers.first_cycle);
+    let passed = cycles * u64::from(numbers.blocks) + u64::from(numbers.head);
+    numbers.begun <= passed && numbers.stored <= numbers.begun
+}
+
+/// Reads all articles that the marks say, marks their blocks, and lists their tokens.
+fn read_all<S: BlockStore>(
+    alloc: Global,
+    store: &mut S,
+    numbers: &HeadNumbers,
+    starts: &Marks,
+    kept: &mut Marks,
+) -> Result<Vec<Token>, StartError>
+    requires sound { AreSound (head_view numbers.now) }
+    requires count { length (S.blocks store.old) ≡ numbers.now.blocks }
+    requires room { numbers.now.blocks ≤ 64 * length starts.now.words.items }
+    requires kept_room { numbers.now.blocks ≤ 64 * length kept.old.words.items }
+    ensures read { S.honest store.old → IfOk result (λ tokens.
+        HasReadAll (is_marked starts.now.words.items) (S.blocks store.old) (head_view numbers.now)
+        tokens.items kept.old.words.items kept.new.words.items) }
+    ensures refused { S.honest store.old → (heads : List (List ℕ))
+        → AreBits heads numbers.now.blocks starts.now.words.items → IfErr result (IsDamageBy (
+        IsDamaged heads (S.blocks store.old) (head_view numbers.now))) }
+    ensures kept { length kept.new.words.items ≡ length kept.old.words.items }
+    ensures held { StaysHeld S.BlockStore store.old store.new }
+    ensures failed { IfErr result (IsBlamed S.BlockStore store.old store.new) }
+    ensures no_failure { OnOk result (S.failures store.new ≡ S.failures store.old) }
+{
+    // Rising by place, what is behind the head comes first.
+    let mut tokens = read_behind(alloc, store, numbers, starts, kept)?;
+    let before = Stretch {
+        number: numbers.number,
+        cycle: numbers.cycle,
+        end: numbers.head,
+    };
+    read_articles(store, starts, &before, 0, kept, &mut tokens)?;
+    Ok(tokens)
+}
+
+/// Reads the articles behind the head, which are of the cycle before; in the first cycle there are
+/// none.
+fn read_behind<S: BlockStore>(
+    alloc: Global,
+    store: &mut S,
+    numbers: &HeadNumbers,
+    starts: &Marks,
+    kept: &mut Marks,
+) -> Result<Vec<Token>, StartError>
+    requires sound { AreSound (head_view numbers.now) }
+    requires count { length (S.blocks store.old) ≡ numbers.now.blocks }
+    requires room { numbers.now.blocks ≤ 64 * length starts.now.words.items }
+    requires kept_room { numbers.now.blocks ≤ 64 * length kept.old.words.items }
+    ensures read { S.honest store.old → IfOk result (λ tokens.
+        HasReadBehind (is_marked starts.now.words.items) (S.blocks store.old)
+        (head_view numbers.now) tokens.items kept.old.words.items kept.new.words.items) }
+    ensures refused { S.honest store.old → (heads : List (List ℕ))
+        → AreBits heads numbers.now.blocks starts.now.words.items → IfErr result (IsDamageBy (
+        IsDamaged heads (S.blocks store.old) (head_view numbers.now))) }
+    ensures kept { length kept.new.words.items ≡ length kept.old.words.items }
+    ensures held { StaysHeld S.BlockStore store.old store.new }
+    ensures failed { IfErr result (IsBlamed S.BlockStore store.old store.new) }
+    ensures no_failure { OnOk result (S.failures store.new ≡ S.failures store.old) }
+{
+    let mut tokens = Vec::new(alloc);
+    if numbers.cycle > numbers.first_cycle {
+        let behind = Stretch {
+            number: numbers.number,
+            cycle: numbers.cycle - 1,
+            end: numbers.blocks,
+        };
+        read_articles(store, starts, &behind, numbers.head, kept, &mut tokens)?;
+        return Ok(tokens);
+    }
+    if !starts.are_clear(numbers.head, numbers.blocks) {
+        return Err(StartError::Damaged);
+    }
+    Ok(tokens)
+}
+
+/// The register that sound numbers of a stopped buffer say, with these marks.
+fn stopped_register(numbers: &HeadNumbers, starts: Marks, kept: Marks) -> Register
+    requires sound { AreSound (head_view numbers.now) }
+    requires starts_room { numbers.now.blocks ≤ 64 * length starts.words.items }
+    requires kept_room { numbers.now.blocks ≤ 64 * length kept.words.items }
+    requires starts_least { 64 * length starts.words.items < numbers.now.blocks + 64 }
+    requires kept_least { 64 * length kept.words.items < numbers.now.blocks + 64 }
+    ensures numbers { numbers_in result (state_view numbers.now.state) numbers.now.stop
+        ≡ head_view numbers.now }
+    ensures starts { result.starts ≡ starts }
+    ensures kept { result.kept ≡ kept }
+    ensures progress { result.progress ≡ None }
+{
+    Register {
+        line: Line {
+            number: numbers.number,
+            blocks: numbers.blocks,
+            first_cycle: numbers.first_cycle,
+            cycle: numbers.cycle,
+            used: numbers.head,
+        },
+        starts,
+        kept,
+        counts: Counts {
+            begun: numbers.begun,
+            stored: numbers.stored,
+        },
+        progress: None,
+    }
+}
