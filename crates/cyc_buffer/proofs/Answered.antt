@@ -205,13 +205,14 @@ pub outside_of : (heads blocks : List (List ℕ)) (buffer : Buffer) (stop : ℕ)
     → IsRefusedBy heads blocks buffer error → IsOutside error
 outside_of heads blocks buffer stop h held is errors.Memory r = tt
 outside_of heads blocks buffer stop h held is errors.Device r = tt
-outside_of heads blocks buffer stop h held is errors.NoHead r = r (numbers_of Closed stop h) (record {
-  numbers = held.fit;
-  image = held.numbers;
-  number = ap (λ (b : Buffer). b.number) is;
-  blocks = ap (λ (b : Buffer). b.blocks) is;
-  first_cycle = ap (λ (b : Buffer). b.first_cycle) is;
-})
+outside_of heads blocks buffer stop h held is errors.NoHead r =
+    r (numbers_of Closed stop h) (record {
+      numbers = held.fit;
+      image = held.numbers;
+      number = ap (λ (b : Buffer). b.number) is;
+      blocks = ap (λ (b : Buffer). b.blocks) is;
+      first_cycle = ap (λ (b : Buffer). b.first_cycle) is;
+    })
 outside_of heads blocks buffer stop h held is errors.Unclosed r =
     open_closed (sym r.opened ∙ ap (λ (b : HeadBlock). b.state)
     (r.says.only (numbers_of Closed stop h) held.fit held.numbers))

@@ -20,3 +20,4 @@ pub mod Whole
 pub mod BitLemmas
 mod Restored
 pub mod Answered
+pub mod SameRegister

@@ -8,7 +8,8 @@ use Rattle.news_terms.specs.Places.{Buffer}
 use Rattle.news_terms.specs.Token.{Token}
 use Rattle.cyc_block.specs.Store.{block_at}
 use Rattle.cyc_block.specs.declared.store.BlockStore.{Ghosts}
-use Rattle.cyc_buffer.specs.Reads.{StaysHeld, IsDamageBy, IsDamagedBy, IsOfToken, IsRead, IsRefusedBy}
+use Rattle.cyc_buffer.specs.Reads.{StaysHeld, IsDamageBy, IsDamagedBy, IsOfToken, IsRead}
+use Rattle.cyc_buffer.specs.Reads.{IsRefusedBy}
 use Rattle.cyc_buffer.specs.Stopped.{block_under}
 use Rattle.cyc_buffer.specs.declared.answers.StartError.{StartError}
 use Rattle.cyc_buffer.specs.declared.answers.StartError.TheVariants as errors

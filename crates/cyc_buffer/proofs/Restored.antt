@@ -15,7 +15,8 @@ use Rattle.cyc_buffer.specs.Stopped.{IsRising, IsWhole, has_bit}
 use Rattle.cyc_buffer.proofs.Refusals.{same_token}
 use Rattle.cyc_buffer.proofs.Rising.{rising_from, rising_wider}
 use Rattle.cyc_buffer.proofs.StartLemmas.{IsCovered, IsMarkedWhole, IsReadFirst}
-use Rattle.cyc_buffer.proofs.Whole.{read_before, read_behind, whole_before, whole_behind, whole_within}
+use Rattle.cyc_buffer.proofs.Whole.{read_before, read_behind, whole_before, whole_behind}
+use Rattle.cyc_buffer.proofs.Whole.{whole_within}
 
 -- tokens of the same parts are the same
 token_by_view : (t u : Token) → token_view t ≡ token_view u → t ≡ u

@@ -158,7 +158,8 @@ module _ (heads blocks : List (List ℕ)) (stop : ℕ) (h : History)
       let s = (held.bitmap.starts j (omega (arith, inside, l.within))).0 e in
       let same : s.cycle ≡ cycle =
       one_cycle (cycle_of h) (used_of h) s.cycle cycle j s.unpassed (subst
-      (IsUnpassedBy (cycle_of h) (used_of h) cycle) {x = first + (j - first)} (omega (arith, behind))
+      (IsUnpassedBy (cycle_of h) (used_of h) cycle) {x = first + (j - first)}
+      (omega (arith, behind))
       (unpassed_inside heads blocks stop h held cycle first (j - first) article finished
       (omega (arith, behind, inside)) unpassed)) in
       let other : finished_at h.buffer h.begins cycle j ≡ Some s.article =
@@ -206,7 +207,9 @@ module _ (heads blocks : List (List ℕ)) (stop : ℕ) (h : History)
   not_damaged (CycleBelow e) = omega (arith, e)
   not_damaged (BegunAbove e) = omega (arith, e, begun_fits)
   not_damaged (StoredAbove e) = omega (arith, e, stored_within h.begins)
-  not_damaged (BitBeyond j behind within e) = false≢true (sym (held.bitmap.beyond j behind within) ∙ e)
+  not_damaged (BitBeyond j behind within e) =
+      false≢true (sym (held.bitmap.beyond j behind within) ∙ e)
   not_damaged (NotWhole j within e none) =
       let s = (held.bitmap.starts j within).0 e in
-      none (token_for s.cycle j s.article) refl (whole_live s.cycle j s.article s.finished s.unpassed)
+      none (token_for s.cycle j s.article) refl
+      (whole_live s.cycle j s.article s.finished s.unpassed)

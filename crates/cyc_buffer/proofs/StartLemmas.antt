@@ -169,7 +169,8 @@ module _ (heads blocks : List (List ℕ)) (stop : ℕ) (h : History)
               c.read.unpassed));
         }
 
-    -- the blocks of a live article are marked: the token that was read at its first block is its own
+    -- the blocks of a live article are marked: the token that was read at its first block is its
+    -- own
     marked_of : (block : ℕ) → IsKeptWhole r.line h block
         → is_marked r.kept.words.items block ≡ true
     marked_of block w =

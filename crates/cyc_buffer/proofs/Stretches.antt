@@ -4,7 +4,8 @@ use Rattle.std.proofs.Common.{sym, ap, subst, arith, cond, List, [], ◌∷◌, 
 use Rattle.std.specs.List.{Contains}
 use Rattle.std.proofs.lemmas.Bool.{false≢true, cases_order}
 use Rattle.std.proofs.lemmas.List.{map_push}
-use Rattle.std.proofs.lemmas.List.Elements.{Contains-push, Contains-push_cases, Contains-append_left}
+use Rattle.std.proofs.lemmas.List.Elements.{Contains-push, Contains-push_cases}
+use Rattle.std.proofs.lemmas.List.Elements.{Contains-append_left}
 use Rattle.news_terms.specs.Places.{size_of, on_line}
 use Rattle.news_terms.specs.Token as terms
 use Rattle.cyc_token.specs.Token.{token_view}
@@ -77,7 +78,8 @@ module _ (starts : ℕ → Bool) (blocks : List (List ℕ)) (number since end : 
   }
 
   -- One article more: its token is listed, and its blocks are marked.
-  module _ (from to : ℕ) (old_tokens tokens new_tokens : List Token) (old_kept kept new_kept : List ℕ)
+  module _ (from to : ℕ) (old_tokens tokens new_tokens : List Token)
+      (old_kept kept new_kept : List ℕ)
       (token : Token) (behind : from ≤ to) (marked : starts to ≡ true)
       (found : IsFound starts blocks number since end to (token_view token))
       (pushed : new_tokens ≡ tokens ++ token ∷ [])

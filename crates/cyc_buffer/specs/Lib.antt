@@ -9,5 +9,6 @@ pub mod Marks
 pub mod Progress
 pub mod Reads
 pub mod Register
+pub mod Restart
 pub mod Starting
 pub mod Stopped

@@ -139,7 +139,8 @@ pub record IsTold (starts : ℕ → Bool) (blocks : List (List ℕ)) (number sin
   pub inside : index < size_of token.length
   pub here : token.first + index ≡ at
 
--- each token's place is at this place or behind it, and behind the one before; all are before an end
+-- each token's place is at this place or behind it, and behind the one before; all are before the
+-- end
 abbrev pub IsRisingTo : (blocks place end : ℕ) → List terms.Token → Type 0
 IsRisingTo blocks place end [] = place ≤ end
 IsRisingTo blocks place end (t ∷ ts) =

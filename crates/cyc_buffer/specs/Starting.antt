@@ -1,8 +1,8 @@
 -- What a start says of a device (docs/PROTOCOL.md, Clean stop and start).
 use Rattle.std.specs.Prelude.{◌≡◌, ◌↔◌, ℕ, List, map}
-use Rattle.std.specs.List.{Contains}
+use Rattle.std.specs.List.{Contains, sum_by}
 use Rattle.news_terms.specs.HeadBlocks.{HeadBlock, Open, Closed}
-use Rattle.news_terms.specs.Places.{Buffer}
+use Rattle.news_terms.specs.Places.{Buffer, size_of}
 use Rattle.cyc_token.specs.Token.{token_view}
 use Rattle.cyc_token.specs.declared.Token.{Token}
 use Rattle.cyc_buffer.specs.History.{History}
@@ -38,6 +38,10 @@ IsOutside errors.Device = Unit {0}
 IsOutside errors.NoHead = ⊥
 IsOutside errors.Unclosed = ⊥
 IsOutside errors.Damaged = ⊥
+
+-- the blocks that the articles under tokens take
+abbrev pub blocks_in : List Token → ℕ
+blocks_in tokens = sum_by (λ (t : Token). size_of t.length) tokens
 
 -- the tokens are those of the history's live finished articles, rising by place
 pub record ListsLive (tokens : List Token) (h : History) : Type 0 where

@@ -8,6 +8,7 @@ ghost use Rattle.cyc_token.specs.Token.{token_view};
 ghost use Rattle.cyc_buffer.specs.Marks.{is_marked};
 ghost use Rattle.cyc_buffer.specs.Reads.{StaysHeld, IsBlamed, IsDamageBy, IsOfToken, IsRead};
 ghost use Rattle.cyc_buffer.specs.Reads.{IsFound, IsNone, IsMissing, HasRead};
+ghost use Rattle.cyc_buffer.specs.Starting.{blocks_in};
 ghost use Rattle.cyc_buffer.specs.Stopped.{IsImageUnder};
 
 use crate::answers::StartError;
@@ -31,6 +32,7 @@ fn read_octets<S: BlockStore>(store: &mut S, block: u32) -> Result<[u8; BLOCK_OC
     ensures octets { S.honest store.old
         → IfOk result (λ octets. octets ≡ block_at (S.blocks store.old) block) }
     ensures device { IfErr result (λ error. IsDamageBy ⊥ error) }
+    ensures calls { S.calls store.new ≡ S.calls store.old + 1 }
     ensures held { StaysHeld S.BlockStore store.old store.new }
     ensures failed { IfErr result (IsBlamed S.BlockStore store.old store.new) }
     ensures no_failure { OnOk result (S.failures store.new ≡ S.failures store.old) }
@@ -79,15 +81,20 @@ fn is_image_under(octets: &[u8; BLOCK_OCTETS], token: &Token, k: u32) -> bool
 
 /// Reads the blocks of the article under a token behind its first, which have to be its images.
 fn read_images<S: BlockStore>(store: &mut S, token: &Token) -> Result<(), StartError>
+    requires some { 1 ≤ token.now.length }
     requires fits { token.now.first + size_of token.now.length < 2 ^ 32 }
     requires within { token.now.first + size_of token.now.length ≤ length (S.blocks store.old) }
     ensures images { S.honest store.old → OnOk result ((k : ℕ) → 1 ≤ k
         → k < size_of token.now.length
-        → IsImageUnder (block_at (S.blocks store.old) (token.now.first + k)) (token_view token.now) k) }
+        → IsImageUnder (block_at (S.blocks store.old) (token.now.first + k))
+        (token_view token.now) k) }
     ensures refused { S.honest store.old → IfErr result (IsDamageBy (((k : ℕ)
         → k < size_of token.now.length
-        → IsImageUnder (block_at (S.blocks store.old) (token.now.first + k)) (token_view token.now) k)
+        → IsImageUnder (block_at (S.blocks store.old) (token.now.first + k))
+        (token_view token.now) k)
         → ⊥)) }
+    ensures calls { OnOk result (S.calls store.new + 1
+        ≡ S.calls store.old + size_of token.now.length) }
     ensures held { StaysHeld S.BlockStore store.old store.new }
     ensures failed { IfErr result (IsBlamed S.BlockStore store.old store.new) }
     ensures no_failure { OnOk result (S.failures store.new ≡ S.failures store.old) }
@@ -119,6 +126,8 @@ fn read_article<S: BlockStore>(
     ensures refused { S.honest store.old → IfErr result (IsDamageBy (
         IsNone (λ j. false) (S.blocks store.old) stretch.now.number stretch.now.cycle
         stretch.now.end first)) }
+    ensures calls { IfOk result (λ token.
+        S.calls store.new ≡ S.calls store.old + size_of token.length) }
     ensures held { StaysHeld S.BlockStore store.old store.new }
     ensures failed { IfErr result (IsBlamed S.BlockStore store.old store.new) }
     ensures no_failure { OnOk result (S.failures store.new ≡ S.failures store.old) }
@@ -153,6 +162,8 @@ fn read_whole<S: BlockStore>(
     ensures refused { S.honest store.old → IfErr result (IsDamageBy (
         IsNone (is_marked starts.now.words.items) (S.blocks store.old) stretch.now.number
         stretch.now.cycle stretch.now.end first)) }
+    ensures calls { IfOk result (λ token.
+        S.calls store.new ≡ S.calls store.old + size_of token.length) }
     ensures held { StaysHeld S.BlockStore store.old store.new }
     ensures failed { IfErr result (IsBlamed S.BlockStore store.old store.new) }
     ensures no_failure { OnOk result (S.failures store.new ≡ S.failures store.old) }
@@ -187,6 +198,8 @@ pub(crate) fn read_articles<S: BlockStore>(
         IsMissing (is_marked starts.now.words.items) (S.blocks store.old) stretch.now.number
         stretch.now.cycle stretch.now.end from)) }
     ensures kept { length kept.new.words.items ≡ length kept.old.words.items }
+    ensures calls { OnOk result (S.calls store.new + blocks_in tokens.old.items
+        ≡ S.calls store.old + blocks_in tokens.new.items) }
     ensures held { StaysHeld S.BlockStore store.old store.new }
     ensures failed { IfErr result (IsBlamed S.BlockStore store.old store.new) }
     ensures no_failure { OnOk result (S.failures store.new ≡ S.failures store.old) }

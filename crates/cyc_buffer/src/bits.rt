@@ -74,6 +74,7 @@ pub(crate) fn read_head_octets<S: BlockStore>(
     ensures octets { S.honest store.old
         → IfOk result (λ octets. octets ≡ block_at (S.heads store.old) k) }
     ensures device { IfErr result (λ error. IsDamageBy ⊥ error) }
+    ensures calls { S.calls store.new ≡ S.calls store.old + 1 }
     ensures held { StaysHeld S.BlockStore store.old store.new }
     ensures failed { IfErr result (IsBlamed S.BlockStore store.old store.new) }
     ensures no_failure { OnOk result (S.failures store.new ≡ S.failures store.old) }
@@ -100,6 +101,8 @@ pub(crate) fn read_bitmap<S: BlockStore>(
     ensures refused { S.honest store.old
         → IfErr result (IsDamageBy (IsBeyond (S.heads store.old) blocks)) }
     ensures room { length starts.new.words.items ≡ length starts.old.words.items }
+    ensures calls { OnOk result (S.calls store.new
+        ≡ S.calls store.old + bitmap_blocks blocks) }
     ensures held { StaysHeld S.BlockStore store.old store.new }
     ensures failed { IfErr result (IsBlamed S.BlockStore store.old store.new) }
     ensures no_failure { OnOk result (S.failures store.new ≡ S.failures store.old) }

@@ -1,10 +1,11 @@
 //! How a buffer is started from what it left on its device.
-ghost use Rattle.std.specs.Prelude.{◌≡◌, ◌<◌, ℕ, true, false, length, IfErr, IfOk, OnOk};
+ghost use Rattle.std.specs.Prelude.{◌≡◌, ◌+◌, ◌<◌, ℕ, true, false, length, IfErr, IfOk, OnOk};
+ghost use Rattle.news_terms.specs.HeadBlocks.{head_blocks};
 ghost use Rattle.cyc_buffer.specs.Agreement.{Agrees, store_of};
 ghost use Rattle.cyc_buffer.specs.Head.{has_open_head, is_busy, stop_of};
 ghost use Rattle.cyc_buffer.specs.History.{History};
 ghost use Rattle.cyc_buffer.specs.Reads.{IsBlamed, StaysHeld};
-ghost use Rattle.cyc_buffer.specs.Starting.{IsOutside, IsReason, ListsLive, Starts};
+ghost use Rattle.cyc_buffer.specs.Starting.{IsOutside, IsReason, ListsLive, Starts, blocks_in};
 ghost use Rattle.cyc_buffer.specs.Stopped.{HoldsStopped};
 
 use crate::answers::StartError;
@@ -92,6 +93,10 @@ impl<S: BlockStore> Buffer<S> {
             → S.heads refused.store ≡ S.heads store) }
         ensures count { IfErr result (λ refused.
             length (S.blocks refused.store) ≡ length (S.blocks store)) }
+        // Each head block and each block of a listed article is read once.
+        ensures calls { IfOk result (λ started. S.calls (store_of started.buffer)
+            ≡ S.calls store + head_blocks (length (S.blocks store))
+            + blocks_in started.tokens.items) }
         ensures failed { IfErr result (λ refused.
             IsBlamed S.BlockStore store refused.store refused.error) }
         ensures no_failure { IfOk result (λ started.

@@ -1,12 +1,13 @@
 //! What a start reads of the buffer that was stopped on a store.
 ghost use Rattle.std.specs.Prelude.{◌≡◌, ◌<◌, ◌≤◌, ◌*◌, ℕ, true, false, length, IfErr, IfOk};
 ghost use Rattle.std.specs.Prelude.{◌+◌, OnOk, List, None};
-ghost use Rattle.news_terms.specs.HeadBlocks.{Closed};
+ghost use Rattle.news_terms.specs.HeadBlocks.{Closed, head_blocks};
 ghost use Rattle.cyc_block.specs.Heads.{head_view, state_view};
 ghost use Rattle.cyc_buffer.specs.Marks.{is_marked};
 ghost use Rattle.cyc_buffer.specs.Reads.{StaysHeld, IsBlamed, IsDamageBy, IsRefusedBy, SaysOnly};
 ghost use Rattle.cyc_buffer.specs.Reads.{AreSound, AreBits, HasReadBehind, HasReadAll, HasStarted};
 ghost use Rattle.cyc_buffer.specs.Register.{numbers_in};
+ghost use Rattle.cyc_buffer.specs.Starting.{blocks_in};
 ghost use Rattle.cyc_buffer.specs.Stopped.{IsDamaged};
 
 use crate::answers::StartError;
@@ -50,6 +51,8 @@ pub(crate) fn read_stopped<S: BlockStore>(
     ensures count { IfOk result (λ stopped.
         stopped.register.line.blocks ≡ length (S.blocks store.old)) }
     ensures idle { IfOk result (λ stopped. stopped.register.progress ≡ None) }
+    ensures calls { IfOk result (λ stopped. S.calls store.new ≡ S.calls store.old
+        + head_blocks (length (S.blocks store.old)) + blocks_in stopped.tokens.items) }
     ensures held { StaysHeld S.BlockStore store.old store.new }
     ensures failed { IfErr result (IsBlamed S.BlockStore store.old store.new) }
     ensures no_failure { OnOk result (S.failures store.new ≡ S.failures store.old) }
@@ -88,6 +91,7 @@ fn read_closed<S: BlockStore>(
           first_cycle = first_cycle;
         })) }
     ensures blocks { IfOk result (λ numbers. numbers.blocks ≡ length (S.blocks store.old)) }
+    ensures calls { OnOk result (S.calls store.new ≡ S.calls store.old + 1) }
     ensures held { StaysHeld S.BlockStore store.old store.new }
     ensures failed { IfErr result (IsBlamed S.BlockStore store.old store.new) }
     ensures no_failure { OnOk result (S.failures store.new ≡ S.failures store.old) }
@@ -124,6 +128,7 @@ fn read_numbers<S: BlockStore>(
           first_cycle = first_cycle;
         })) }
     ensures blocks { IfOk result (λ numbers. numbers.blocks ≡ length (S.blocks store.old)) }
+    ensures calls { OnOk result (S.calls store.new ≡ S.calls store.old + 1) }
     ensures held { StaysHeld S.BlockStore store.old store.new }
     ensures failed { IfErr result (IsBlamed S.BlockStore store.old store.new) }
     ensures no_failure { OnOk result (S.failures store.new ≡ S.failures store.old) }
@@ -172,6 +177,8 @@ fn read_all<S: BlockStore>(
         → AreBits heads numbers.now.blocks starts.now.words.items → IfErr result (IsDamageBy (
         IsDamaged heads (S.blocks store.old) (head_view numbers.now))) }
     ensures kept { length kept.new.words.items ≡ length kept.old.words.items }
+    ensures calls { IfOk result (λ tokens.
+        S.calls store.new ≡ S.calls store.old + blocks_in tokens.items) }
     ensures held { StaysHeld S.BlockStore store.old store.new }
     ensures failed { IfErr result (IsBlamed S.BlockStore store.old store.new) }
     ensures no_failure { OnOk result (S.failures store.new ≡ S.failures store.old) }
@@ -207,6 +214,8 @@ fn read_behind<S: BlockStore>(
         → AreBits heads numbers.now.blocks starts.now.words.items → IfErr result (IsDamageBy (
         IsDamaged heads (S.blocks store.old) (head_view numbers.now))) }
     ensures kept { length kept.new.words.items ≡ length kept.old.words.items }
+    ensures calls { IfOk result (λ tokens.
+        S.calls store.new ≡ S.calls store.old + blocks_in tokens.items) }
     ensures held { StaysHeld S.BlockStore store.old store.new }
     ensures failed { IfErr result (IsBlamed S.BlockStore store.old store.new) }
     ensures no_failure { OnOk result (S.failures store.new ≡ S.failures store.old) }

@@ -2,10 +2,13 @@
 use Rattle.std.proofs.Common.{◌≡◌, ◌∙◌, ◌+◌, ◌++◌, ◌∷◌, [], true, length, sym, ap}
 use Rattle.std.proofs.Common.{subst, arith}
 use Rattle.std.specs.Global.{Vec}
+use Rattle.std.proofs.lemmas.List.Sums.{sum_by_push}
 use Rattle.cyc_token.specs.declared.Token.{Token}
+use Rattle.news_terms.specs.Places.{size_of}
 use Rattle.cyc_token.specs.Token.{token_view}
 use Rattle.cyc_buffer.specs.Marks.{is_marked, marked_after}
 use Rattle.cyc_buffer.specs.Reads.{IsDamageBy, IsMissing, IsNone, IsFound, HasRead, StaysHeld}
+use Rattle.cyc_buffer.specs.Starting.{blocks_in}
 use Rattle.cyc_buffer.specs.declared.marks.Marks.{Marks}
 use Rattle.cyc_buffer.proofs.Refusals.{damage_by, held_on, passed_on, pushed_on}
 use Rattle.cyc_buffer.proofs.Stretches.{read_skip, read_more}
@@ -39,21 +42,31 @@ loop-first-preserved g c =
     elim c.if-has.branch [
       | then-has+in_ok-token+else-is_err w ↦
           let found = w.in_ok-token.ensures in
+          let pushed : c.if-has.tokens.items
+          ≡ c.loop-first.tokens.items ++ w.in_ok-token.token ∷ [] =
+          ap (λ (v : Vec Token). v.items) w.tokens-is
+          ∙ pushed_on w.push.result
+          (c.loop-first.tokens.items ++ w.in_ok-token.token ∷ []) c.loop-first.tokens.items _
+          (sym w.is_err.ensures.value ∙ w.if-is_err.false)
+          w.push.ensures.items in
           record {
             range = omega (arith, was.range);
             held = subst (λ s. StaysHeld g.S.BlockStore store s) (sym w.store-is)
                 (held_on g.S.BlockStore store c.loop-first.store w.read_whole.new.store was.held
                 found.held);
             failures = ap g.S.BlockStore.failures w.store-is ∙ found.no_failure ∙ was.failures;
+            calls = omega (
+              arith,
+              ap g.S.BlockStore.calls w.store-is,
+              found.calls,
+              was.calls,
+              ap blocks_in pushed,
+              sum_by_push (λ (t : Token). size_of t.length) c.loop-first.tokens.items
+                  w.in_ok-token.token,
+            );
             room = ap (λ (m : Marks). length m.words.items) w.kept-is ∙ w.change.ensures.room
                 ∙ was.room;
             read = λ honest.
-                let pushed : c.if-has.tokens.items
-                ≡ c.loop-first.tokens.items ++ w.in_ok-token.token ∷ [] =
-                ap (λ (v : Vec Token). v.items) w.tokens-is
-                ∙ pushed_on w.push.result
-                (c.loop-first.tokens.items ++ w.in_ok-token.token ∷ []) c.loop-first.tokens.items _ (sym w.is_err.ensures.value ∙ w.if-is_err.false)
-                w.push.ensures.items in
                 read_more starts (g.S.BlockStore.blocks store) stretch.number stretch.cycle
                 stretch.end c.args.from first c.args.tokens.now.items c.loop-first.tokens.items
                 c.if-has.tokens.items c.args.kept.now.words.items c.loop-first.kept.words.items
@@ -74,6 +87,12 @@ loop-first-preserved g c =
         range = omega (arith, was.range);
         held = subst (λ s. StaysHeld g.S.BlockStore store s) (sym w.store-is) was.held;
         failures = ap g.S.BlockStore.failures w.store-is ∙ was.failures;
+        calls = omega (
+          arith,
+          ap g.S.BlockStore.calls w.store-is,
+          was.calls,
+          ap (λ (v : Vec Token). blocks_in v.items) w.tokens-is,
+        );
         room = ap (λ (m : Marks). length m.words.items) w.kept-is ∙ was.room;
         read = λ honest.
             let tokens = ap (λ (v : Vec Token). v.items) w.tokens-is in

@@ -1,6 +1,7 @@
-use Rattle.std.proofs.Common.{◌≡◌, ◌≤◌, length}
+use Rattle.std.proofs.Common.{◌≡◌, ◌+◌, ◌≤◌, length}
 use Rattle.cyc_buffer.specs.Marks.{is_marked}
 use Rattle.cyc_buffer.specs.Reads.{StaysHeld, HasRead}
+use Rattle.cyc_buffer.specs.Starting.{blocks_in}
 use Rattle.cyc_buffer.proofs.articles.read_articles.Given as goal
 
 -- the articles that begin before the block are read, and the store holds what it held
@@ -9,6 +10,8 @@ invariant-loop-first g l = record {
   range : l.from ≤ l.first;
   held : StaysHeld g.S.BlockStore l.initial.store l.store;
   failures : g.S.BlockStore.failures l.store ≡ g.S.BlockStore.failures l.initial.store;
+  calls : g.S.BlockStore.calls l.store + blocks_in l.initial.tokens.items
+      ≡ g.S.BlockStore.calls l.initial.store + blocks_in l.tokens.items;
   room : length l.kept.words.items ≡ length l.initial.kept.words.items;
   read : g.S.BlockStore.honest l.initial.store
       → HasRead (is_marked l.starts.words.items) (g.S.BlockStore.blocks l.initial.store)

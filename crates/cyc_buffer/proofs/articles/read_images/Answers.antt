@@ -26,4 +26,5 @@ loop-k-preserved g c = (
       | inr h ↦ absurd (omega (arith, h, before))
     ]
   ],
+  omega (arith, c.in_ok-octets.ensures.calls, c.read_octets.ensures.calls, c.loop-k.invariant.3),
 )

@@ -13,3 +13,4 @@ invariant-loop-k g l =
     × (g.S.BlockStore.honest l.initial.store → (k : ℕ) → 1 ≤ k → k < l.k
     → IsImageUnder (block_at (g.S.BlockStore.blocks l.initial.store) (l.token.first + k))
     (token_view l.token) k)
+    × (g.S.BlockStore.calls l.store + 1 ≡ g.S.BlockStore.calls l.initial.store + l.k)

@@ -45,4 +45,5 @@ loop-i-preserved g c =
             ∙ c.take_bits.ensures.none all (j - 4096 * i) (omega (arith, behind, h))
             (omega (arith, h, before))
       ],
+      omega (arith, c.read_head_octets.ensures.calls, c.loop-i.invariant.5),
     )

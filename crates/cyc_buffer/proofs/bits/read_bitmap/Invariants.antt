@@ -1,4 +1,4 @@
-use Rattle.std.proofs.Common.{◌≡◌, ◌<◌, ◌≤◌, ◌*◌, ℕ, length, false}
+use Rattle.std.proofs.Common.{◌≡◌, ◌<◌, ◌≤◌, ◌+◌, ◌*◌, ℕ, length, false}
 use Rattle.news_terms.specs.HeadBlocks.{bits_of_block}
 use Rattle.cyc_buffer.specs.Marks.{is_marked}
 use Rattle.cyc_buffer.specs.Reads.{StaysHeld}
@@ -15,3 +15,4 @@ invariant-loop-i g l =
     → is_marked l.starts.words.items j ≡ has_bit (g.S.BlockStore.heads l.initial.store) j)
     × (g.S.BlockStore.honest l.initial.store → (j : ℕ) → l.blocks ≤ j → j < bits_of_block * l.i
     → has_bit (g.S.BlockStore.heads l.initial.store) j ≡ false)
+    × (g.S.BlockStore.calls l.store ≡ g.S.BlockStore.calls l.initial.store + l.i)
