@@ -33,7 +33,7 @@ impl Group {
     ghost use Rattle.news_terms.specs.Picks.{pick_of};
     ghost use Rattle.news_terms.specs.Places as places;
     ghost use Rattle.news_terms.specs.Places.{size_of};
-    ghost use Rattle.news_terms.specs.Positions.{index_after};
+    ghost use Rattle.news_terms.specs.Positions.{index_after, position_of};
     ghost use Rattle.relay_conf.specs.Places.{mode_view};
 
     /// A group whose buffers have so many blocks, in order, before anything is begun.
@@ -50,6 +50,34 @@ impl Group {
             position: 0,
             used: 0,
         }
+    }
+
+    /// A group that was at this place of its buffers, as it is again: where one is filled after the
+    /// other with so many blocks used of the current one's run; where they take turns these are 0.
+    pub fn resume(mode: Mode, blocks: Vec<u32>, position: usize, used: u32) -> Group
+        requires { position < length blocks.items }
+        ensures places { (group : places.Group) (begun : List ℕ) → mode_view mode ≡ group.mode
+            → blocks.items ≡ blocks_in group.buffers
+            → position_of group begun ≡ record { index = position; used = used }
+            → KeepsPlaces result group begun }
+        ensures mode { group_mode result ≡ mode }
+        ensures blocks { group_blocks result ≡ blocks.items }
+    {
+        Group {
+            mode,
+            blocks,
+            position,
+            used,
+        }
+    }
+
+    /// The place of the current buffer in the group, counted from 0.
+    pub fn position(&self) -> usize
+        ensures places { (group : places.Group) (begun : List ℕ) → KeepsPlaces self.now group begun
+            → result ≡ (position_of group begun).index }
+        ensures within { result < buffer_count self.now }
+    {
+        self.position
     }
 
     /// Where the next article of the group goes, which has so many octets.
