@@ -199,7 +199,7 @@ found_past first all (p ∷ pairs) apart found = (
 )
 
 -- where the keys differ, each entry is what a look-up of its key finds
-each_found : (pairs : Pairs) → IsDistinct string_eq (keys_of pairs)
+pub each_found : (pairs : Pairs) → IsDistinct string_eq (keys_of pairs)
     → AllByRecursion (λ p. lookup (string_eq p.0) pairs ≡ Some p.1) pairs
 unfolding IsDistinct
 each_found [] once = tt

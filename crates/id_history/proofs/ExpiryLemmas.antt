@@ -1,12 +1,13 @@
 -- What is left of a shard after what may be forgotten is taken out of its map.
-use Rattle.std.proofs.Common.{◌≡◌, ◌∙◌, ap, sym, refl, Bool, true, false, cond, not, List, ℕ, [], ◌∷◌}
+use Rattle.std.proofs.Common.{◌≡◌, ◌∙◌, ap, sym, refl, Bool, true, false, cond, not, List, ℕ, []}
+use Rattle.std.proofs.Common.{◌∷◌}
 use Rattle.std.proofs.Common.{Option, None, Some, String, Global, inl, inr, filter, length, ◌<◌}
 use Rattle.std.proofs.Math.ListN.{get_or, set}
 use Rattle.std.proofs.lemmas.Bool.{cases_Bool, eq-eqb}
 use Rattle.std.proofs.lemmas.Bool.Decides.{eqb_tells}
 use Rattle.std.proofs.lemmas.Map.{NonePasses, lookup-none}
 use Rattle.std.proofs.lemmas.Map.Entries.{option_filter}
-use Rattle.std.specs.HashMap.{IsUnique}
+use Rattle.std.specs.HashMap.{HashMap, IsUnique}
 use Rattle.std.specs.List.{AllByRecursion, IsDistinct}
 use Rattle.std.specs.Map.{lookup, keys_of}
 use Rattle.std.specs.Str.{bytes_eq}
@@ -15,6 +16,7 @@ use Rattle.std.proofs.lemmas.Slice.Eq.{bytes_eq-Decides}
 use Rattle.relay_model.specs.Claims.{Claim, Passed, after_expire}
 use Rattle.relay_model.specs.Claims as claim
 use Rattle.id_history.specs.Expiry.{is_forgotten}
+use Rattle.id_history.specs.OnlyIds.{OnlyIds}
 use Rattle.id_history.specs.Mark.{Mark, Unknown, mark_of, claim_of, entry_mark}
 use Rattle.id_history.specs.Shard.{mark_at, Keeps}
 use Rattle.id_history.specs.declared.claims.Entry.{Entry}
@@ -99,7 +101,8 @@ lookup-kept id p (e ∷ es) once =
     ∙ elim (cases_Bool (test e.0)) [
       | inl passes ↦
           let same : (y : String Global) → test y ≡ string_eq e.0 y = λ y.
-          ap (λ x. bytes_eq x (string_bytes y)) ((bytes_eq-Decides id (string_bytes e.0)).0 passes) in
+          ap (λ x. bytes_eq x (string_bytes y))
+          ((bytes_eq-Decides id (string_bytes e.0)).0 passes) in
           let gone : lookup test rest ≡ None = later
           ∙ ap (option_filter p) (lookup-none test es (none_passes test e.0 es same once.0)) in
           ap (λ b. cond (p e.1) (cond b (Some e.1) (lookup test rest)) (lookup test rest)) passes
@@ -110,6 +113,16 @@ lookup-kept id p (e ∷ es) once =
           ∙ same-cond (p e.1) (lookup test rest) ∙ later
           ∙ ap (λ b. option_filter p (cond b (Some e.1) (lookup test es))) (sym fails)
     ]
+
+-- what passes a test of the entries has the keys of message-ids alone
+pub OnlyIds-kept : {S : Type 0} (old new : HashMap (String Global) Entry S) (p : Entry → Bool)
+    → IsUnique string_eq old → new.entries ≡ filter (λ e. p e.1) old.entries → OnlyIds old
+    → OnlyIds new
+OnlyIds-kept old new p once left only = record {
+  none = λ text fault.
+      ap (lookup (λ k. bytes_eq text (string_bytes k))) left
+      ∙ lookup-kept text p old.entries once ∙ ap (option_filter p) (only.none text fault);
+}
 
 -- the shard keeps what an Expire leaves of the claims that it kept
 pub Keeps-expired : (old new : Shard) (now remember : ℕ) (fronts : List Passed)

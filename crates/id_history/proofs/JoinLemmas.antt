@@ -53,7 +53,7 @@ both_fail true b fails = absurd (true≢false fails)
 both_fail false b fails = (refl, fails)
 
 -- and one that holds on its right side holds
-right_holds : (a b : Bool) → b ≡ true → (a || b) ≡ true
+pub right_holds : (a b : Bool) → b ≡ true → (a || b) ≡ true
 right_holds true b holds = refl
 right_holds false b holds = holds
 
@@ -79,7 +79,7 @@ first_member : (x : List ℕ) (xs : List (List ℕ)) → is_member bytes_eq (x �
 first_member x xs = ap (λ b. b || is_member bytes_eq xs x) (nat_list_eq_equiv.refl x)
 
 -- two lists of ids that share none, each without doubles, have none together
-IsDistinct-join : (xs ys : List (List ℕ)) → IsDistinct bytes_eq xs → IsDistinct bytes_eq ys
+pub IsDistinct-join : (xs ys : List (List ℕ)) → IsDistinct bytes_eq xs → IsDistinct bytes_eq ys
     → ((id : List ℕ) → is_member bytes_eq xs id ≡ true → is_member bytes_eq ys id ≡ false)
     → IsDistinct bytes_eq (xs ++ ys)
 unfolding IsDistinct
@@ -159,7 +159,7 @@ CountsOf-join a b c x y z joins sums p q = record {
         ∙ sym (sum_by-append (λ id. cond (test (c id)) 1 0) p.ids q.ids)
 
 -- the claims of the ids of the first n shards
-pub below : ℕ → (List ℕ → Claim) → List ℕ → Claim
+unfoldable pub below : ℕ → (List ℕ → Claim) → List ℕ → Claim
 below n claims id = cond (ltb (shard_of id) n) (claims id) Unknown
 
 -- of no shards there is nothing to count

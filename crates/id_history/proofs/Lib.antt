@@ -1,8 +1,17 @@
 mod ClaimLemmas
 mod CountLaws
 mod CountLemmas
+mod EachLemmas
 mod ExpiryLemmas
+mod FitLemmas
 mod JoinLemmas
+mod LastingJoins
+mod LastingLaws
+mod LastingLemmas
+mod LastingOrder
 mod MarkLemmas
+mod OnlyIdsLemmas
 mod OwnLemmas
+mod RoomLemmas
+mod RoomOfAll
 mod ShardsLemmas

@@ -2,8 +2,11 @@ pub mod Answers
 pub mod Changes
 pub mod Counts
 pub mod Expiry
+pub mod Lasting
+pub mod LastingIn
 pub mod Mark
 pub mod Marks
+pub mod OnlyIds
 pub mod Own
 pub mod Shard
 pub mod Shards

@@ -1,14 +1,19 @@
-ghost use Rattle.std.specs.Prelude.{◌≡◌, ◌≢◌, ◌^◌, ℕ, List, Some, is_some, option_map};
-ghost use Rattle.std.specs.Prelude.{IsOk, IfOk, IfSome, OnOk, OnErr};
+ghost use Rattle.std.specs.Prelude.{◌≡◌, ◌≢◌, ◌^◌, ℕ, List, None, Some, is_some, option_map};
+ghost use Rattle.std.specs.Prelude.{IsOk, IfOk, IfSome, OnOk, OnErr, ◌+◌, ◌≤◌, vec_len};
+ghost use Rattle.std.specs.Prelude.{vec_capacity};
+ghost use Rattle.std.specs.List.{AllByRecursion};
 ghost use Rattle.cyc_token.specs.Token.{token_view};
 ghost use Rattle.relay_model.specs.Claims.{Accepted, Claim, Unknown, offer_answer, after_offer};
 ghost use Rattle.relay_model.specs.Claims.{take_answer, after_take, after_refuse, after_release};
 ghost use Rattle.relay_model.specs.Claims.{after_forget, is_storing_for, after_settle, look_answer};
+ghost use Rattle.id_history.specs.OnlyIds.{OnlyIds};
 
 use crate::counts::Counts;
 use crate::expiry::{is_over, is_passed};
+use crate::keys::{id_of, kept, text_of};
 use cyc_buffer::Front;
 use cyc_token::Token;
+use history_text::KeptId;
 use nntp_text::MsgId;
 use std::alloc::{AllocError, Global};
 use std::collections::HashMap;
@@ -73,8 +78,11 @@ enum Entry {
 }
 
 impl Entry {
-    ghost use Rattle.std.specs.Prelude.{if◌then◌else◌, map};
-    ghost use Rattle.id_history.specs.Mark.{claim_of, entry_mark};
+    ghost use Rattle.std.specs.Prelude.{if◌then◌else◌};
+    ghost use Rattle.std.specs.Prelude.{map};
+    ghost use Rattle.id_history.specs.Lasting.{claim_since};
+    ghost use Rattle.id_history.specs.LastingIn.{kept_by, kept_with};
+    ghost use Rattle.id_history.specs.Mark.{claim_of, entry_mark, mark_of};
     ghost use Rattle.id_history.specs.Counts.{Numbers};
     ghost use Rattle.id_history.specs.Expiry.{is_forgotten, passed_view};
 
@@ -106,6 +114,29 @@ impl Entry {
             Entry::Refused { moment } => is_over(moment, remember, now),
         }
     }
+
+    /// The entry of an id that is stored under the token, or was refused, since the moment.
+    fn since(token: Option<Token>, moment: u64) -> Entry
+        ensures { entry_mark (Some result)
+            ≡ mark_of (claim_since (option_map token_view token) moment) }
+    {
+        match token {
+            Some(token) => Entry::Stored { token, moment },
+            None => Entry::Refused { moment },
+        }
+    }
+
+    /// The token and the moment of what lasts; nothing lasts of an offer, nor of what is being
+    /// stored.
+    fn fate(&self) -> Option<(Option<Token>, u64)>
+        ensures { (id : List ℕ) → kept_with id result ≡ kept_by id self.now }
+    {
+        match *self {
+            Entry::Offered { .. } | Entry::Storing { .. } => None,
+            Entry::Stored { token, moment } => Some((Some(token), moment)),
+            Entry::Refused { moment } => Some((None, moment)),
+        }
+    }
 }
 
 /// What is known of message-ids (docs/PROTOCOL.md, Claims). Sessions go by their numbers, moments
@@ -115,6 +146,7 @@ impl Entry {
 pub struct Shard {
     entries: HashMap<String, Entry, RandomState>,
     alloc: Global,
+    ghost ids: { OnlyIds entries },
 }
 
 impl Shard {
@@ -127,7 +159,11 @@ impl Shard {
     ghost use Rattle.std.specs.Prelude.{map};
     ghost use Rattle.relay_model.specs.Claims.{after_expire};
     ghost use Rattle.id_history.specs.Counts.{AtMost, CountsOf};
+    ghost use Rattle.history_text.specs.History.{IdFits};
+    ghost use Rattle.history_text.specs.Views.{id_view};
     ghost use Rattle.id_history.specs.Expiry.{passed_view};
+    ghost use Rattle.id_history.specs.Lasting.{claim_of_kept, GathersLasting};
+    ghost use Rattle.id_history.specs.LastingIn.{lasting_count};
 
     /// A shard to which every message-id is unknown.
     pub fn new(alloc: Global, hasher: RandomState) -> Shard
@@ -264,6 +300,9 @@ impl Shard {
 
         // So those of many shards can be added.
         ensures few { AtMost (2 ^ 63) result }
+
+        // As many ids last as are stored or were refused.
+        ensures lasting { result.stored + result.refused ≡ lasting_count self.now }
     {
         let mut counts = Counts::none();
         for entry in self.entries.values() {
@@ -272,14 +311,44 @@ impl Shard {
         counts
     }
 
-    /// Forgets at this moment what was stored or refused so many seconds ago or earlier, of what was
-    /// stored only what is gone by these fronts. It takes no memory.
+    /// Forgets at this moment what was stored or refused so many seconds ago or earlier, of what
+    /// was stored only what is gone by these fronts. It takes no memory.
     pub fn expire(&mut self, now: u64, remember: u64, fronts: &[Front])
         ensures { (claims : List ℕ → Claim) → Keeps self.old claims → Keeps self.new
             (λ id. after_expire now remember (map passed_view fronts.now) (claims id)) }
     {
         self.entries
             .retain(|_, entry| !entry.is_forgotten(now, remember, fronts));
+    }
+
+    /// Puts what lasts behind the list, in no order, for which there is room.
+    pub(crate) fn append(&self, list: &mut Vec<KeptId>) -> Result<(), AllocError>
+        requires { vec_len list.old + lasting_count self.now ≤ vec_capacity list.old }
+        ensures gathers { OnOk result ((claims : List ℕ → Claim) → Keeps self.now claims
+            → GathersLasting (map id_view list.old.items) (map id_view list.new.items) claims) }
+        ensures fits { OnOk result (AllByRecursion IdFits (map id_view list.old.items)
+            → AllByRecursion IdFits (map id_view list.new.items)) }
+        ensures len { OnOk result
+            (vec_len list.new ≡ vec_len list.old + lasting_count self.now) }
+        ensures capacity { OnOk result (vec_capacity list.new ≡ vec_capacity list.old) }
+    {
+        for (text, entry) in self.entries.iter() {
+            if let Some((token, moment)) = entry.fate() {
+                let id = id_of(self.alloc, text.as_str())?;
+                list.push_reserved(kept(id, token, moment));
+            }
+        }
+        Ok(())
+    }
+
+    /// The id has what lasted of its claim.
+    pub(crate) fn put(&mut self, one: KeptId) -> Result<(), AllocError>
+        ensures claims { OnOk result (ChangesClaim (Keeps self.old) (Keeps self.new) one.id
+            (λ claim. claim_of_kept (id_view one))) }
+        ensures err { OnErr result (KeepsClaims (Keeps self.old) (Keeps self.new)) }
+    {
+        let KeptId { id, token, moment } = one;
+        self.insert(id, Entry::since(token, moment))
     }
 
     /// The entry of the id.
@@ -294,8 +363,17 @@ impl Shard {
         ensures ok { OnOk result (SetsMark self.old self.new id.now (entry_mark (Some entry))) }
         ensures err { OnErr result (SameMarks self.old self.new) }
     {
-        let text = id.copied(self.alloc)?.into_string();
-        self.entries.insert(text, entry)?;
+        let id = id.copied(self.alloc)?;
+        self.insert(id, entry)
+    }
+
+    /// Makes an entry for the id, which may have had another.
+    fn insert(&mut self, id: MsgId, entry: Entry) -> Result<(), AllocError>
+        ensures ok { OnOk result (SetsMark self.old self.new id (entry_mark (Some entry))) }
+        ensures err { OnErr result (SameMarks self.old self.new) }
+    {
+        let _octets = id.as_bytes();
+        self.entries.insert(id.into_string(), entry)?;
         Ok(())
     }
 
@@ -304,7 +382,7 @@ impl Shard {
         requires { mark_at self.old id.now ≢ mark.Unknown }
         ensures { SetsMark self.old self.new id.now (entry_mark (Some entry)) }
     {
-        if let Some(kept) = self.entries.get_mut(id.as_str()) {
+        if let Some(kept) = self.entries.get_mut(text_of(id)) {
             *kept = entry;
         }
     }
@@ -313,6 +391,6 @@ impl Shard {
     fn remove(&mut self, id: &MsgId)
         ensures { SetsMark self.old self.new id.now mark.Unknown }
     {
-        self.entries.remove(id.as_str());
+        self.entries.remove(text_of(id));
     }
 }

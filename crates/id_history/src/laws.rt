@@ -1,7 +1,9 @@
 //! Laws of what a shard keeps: each is the contract of an empty body.
-ghost use Rattle.std.specs.Prelude.{◌≡◌, ◌↔◌, ℕ, List};
-ghost use Rattle.relay_model.specs.Claims.{Claim};
+ghost use Rattle.std.specs.Prelude.{◌≡◌, ◌↔◌, ℕ, List, false};
+ghost use Rattle.history_text.specs.History.{KeptId, Rises};
+ghost use Rattle.relay_model.specs.Claims.{Claim, after_restart, is_storing};
 ghost use Rattle.id_history.specs.Counts.{CountsOf};
+ghost use Rattle.id_history.specs.Lasting.{AreLasting, lasting};
 ghost use Rattle.id_history.specs.Mark.{mark_of};
 ghost use Rattle.id_history.specs.Shard.{Keeps};
 ghost use Rattle.id_history.specs.Shards.{KeepsAll};
@@ -29,4 +31,31 @@ pub fn all_keep_some(shards: &Shards)
 pub fn counts_are_of_claims(one: Counts, other: Counts)
     ensures { (claims : List ℕ → Claim) → CountsOf claims one → CountsOf claims other
         → one ≡ other }
+{}
+
+/// What is left of claims is one list.
+pub fn one_is_left()
+    ensures { (one other : List KeptId) (claims : List ℕ → Claim) → AreLasting one claims
+        → AreLasting other claims → one ≡ other }
+{}
+
+/// Each list of ids that rise is what is left of some claims, so of a shard that is resumed from it
+/// something is said.
+pub fn each_was_left()
+    ensures { (entries : List KeptId) → Rises entries
+        → (claims : List ℕ → Claim) × AreLasting entries claims }
+{}
+
+/// What a resume makes reads back as what it was given.
+pub fn reads_back()
+    ensures { (shard : Shard) (entries again : List KeptId) → Rises entries
+        → ((claims : List ℕ → Claim) → AreLasting entries claims
+        → Keeps shard (λ id. lasting (claims id)))
+        → ((claims : List ℕ → Claim) → Keeps shard claims → AreLasting again claims)
+        → again ≡ entries }
+{}
+
+/// Where an id isn't being stored, what is left of its claim is what a Restart leaves.
+pub fn lasting_is_restarted()
+    ensures { (claim : Claim) → is_storing claim ≡ false → lasting claim ≡ after_restart claim }
 {}

@@ -1,5 +1,6 @@
 ghost use Rattle.std.specs.Prelude.{◌≡◌, ◌≢◌, ◌<◌, ℕ, List, Some, is_some, length, map, option_map};
-ghost use Rattle.std.specs.Prelude.{IsOk, IfOk, IfSome, OnOk, OnErr};
+ghost use Rattle.std.specs.Prelude.{IsOk, IfOk, IfSome, OnOk, OnErr, ◌+◌, vec_len, vec_capacity};
+ghost use Rattle.std.specs.List.{AllByRecursion};
 ghost use Rattle.cyc_token.specs.Token.{token_view};
 ghost use Rattle.relay_model.specs.Claims.{Accepted, Claim, Unknown, offer_answer, after_offer};
 ghost use Rattle.relay_model.specs.Claims.{take_answer, after_take, after_refuse, after_release};
@@ -13,8 +14,10 @@ ghost use Rattle.id_history.specs.Expiry.{passed_view};
 
 use crate::claims::{Offer, Settled, Shard, Take};
 use crate::counts::Counts;
+use crate::lasting::{reserve, sort};
 use cyc_buffer::Front;
 use cyc_token::Token;
+use history_text::KeptId;
 use nntp_text::MsgId;
 use std::alloc::{AllocError, Global};
 use std::hash::RandomState;
@@ -45,17 +48,29 @@ pub struct Shards {
 }
 
 impl Shards {
-    ghost use Rattle.id_history.specs.Shards.{KeepsAll};
+    ghost use Rattle.history_text.specs.Views.{id_view};
+    ghost use Rattle.history_text.specs.History.{IdFits};
+    ghost use Rattle.id_history.specs.Lasting.{AreLasting, claim_of_kept, lasting};
+    ghost use Rattle.id_history.specs.LastingIn.{all_lasting};
+    ghost use Rattle.id_history.specs.Shards.{KeepsAll, EachKeeps};
     ghost use Rattle.id_history.specs.Counts.{CountsOf};
 
-    /// Shards to which every message-id is unknown. The hashers are seeded anew, since peers choose
+    /// Shards to which every message-id is unknown. The hasher is seeded anew, since peers choose
     /// the message-ids; the error is that no seed was to be had, or memory.
     pub fn new(rt: &impl RandomSource, alloc: Global) -> io::Result<Shards>
         ensures { IfOk result (λ shards. KeepsAll shards (λ id. Unknown)) }
     {
+        let hasher = RandomState::new(rt)?;
+        Ok(Shards::seeded(alloc, hasher)?)
+    }
+
+    /// Shards with this hasher to which every message-id is unknown.
+    fn seeded(alloc: Global, hasher: RandomState) -> Result<Shards, AllocError>
+        ensures { IfOk result (λ shards. KeepsAll shards (λ id. Unknown)) }
+    {
         let mut shards = Vec::with_capacity(alloc, SHARD_COUNT)?;
         for _ in 0..SHARD_COUNT {
-            shards.push_reserved(Shard::new(alloc, RandomState::new(rt)?));
+            shards.push_reserved(Shard::new(alloc, hasher));
         }
         Ok(Shards { shards })
     }
@@ -149,9 +164,63 @@ impl Shards {
         self.shards[shard].expire(now, remember, fronts);
     }
 
+    /// See `Shard::entries`: it gives those of all shards, rising by their octets.
+    pub fn entries(&self, alloc: Global) -> Result<Vec<KeptId>, AllocError>
+        ensures lasting { IfOk result (λ entries. (claims : List ℕ → Claim)
+            → KeepsAll self.now claims → AreLasting (map id_view entries.items) claims) }
+        ensures fits { IfOk result (λ entries. AllByRecursion IdFits (map id_view entries.items)) }
+        ensures room { IfOk result (λ entries. vec_capacity entries ≡ vec_len entries) }
+    {
+        let mut entries = Vec::new(alloc);
+        reserve(&mut entries, self.counts())?;
+        for shard in &self.shards {
+            shard.gather(&mut entries)?;
+        }
+        sort(&mut entries);
+        Ok(entries)
+    }
+
+    /// See `Shard::resume`: all sixteen have this hasher.
+    pub fn resume(
+        alloc: Global,
+        hasher: RandomState,
+        entries: Vec<KeptId>,
+    ) -> Result<Shards, AllocError>
+        ensures { IfOk result (λ shards. (claims : List ℕ → Claim)
+            → AreLasting (map id_view entries.items) claims
+            → KeepsAll shards (λ id. lasting (claims id))) }
+    {
+        let mut shards = Shards::seeded(alloc, hasher)?;
+        for one in entries {
+            shards.put(one)?;
+        }
+        Ok(shards)
+    }
+
+    /// The id has what lasted of its claim.
+    fn put(&mut self, one: KeptId) -> Result<(), AllocError>
+        ensures { OnOk result (ChangesClaim (KeepsAll self.old) (KeepsAll self.new) one.id
+            (λ claim. claim_of_kept (id_view one))) }
+    {
+        let shard = shard_of(&one.id);
+        self.shards[shard].put(one)
+    }
+
+    /// The sixteen shards, in the order of `shard_of`, each with its own ids.
+    pub fn into_shards(self) -> Vec<Shard>
+        ensures sixteen { length result.items ≡ shard_count }
+        ensures keeps { (claims : List ℕ → Claim) → KeepsAll self claims
+            → EachKeeps result.items claims }
+    {
+        let Shards { shards } = self;
+        shards
+    }
+
     /// See `Shard::counts`: it adds those of all shards.
     pub fn counts(&self) -> Counts
-        ensures { (claims : List ℕ → Claim) → KeepsAll self.now claims → CountsOf claims result }
+        ensures claims { (claims : List ℕ → Claim) → KeepsAll self.now claims
+            → CountsOf claims result }
+        ensures lasting { result.stored + result.refused ≡ all_lasting self.now }
     {
         let mut counts = Counts::none();
         for shard in &self.shards {

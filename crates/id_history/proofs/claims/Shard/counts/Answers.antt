@@ -6,6 +6,7 @@ use Rattle.std.specs.Map.Iter.{deref}
 use Rattle.id_history.specs.Counts.{Numbers}
 use Rattle.id_history.proofs.CountLemmas.{claim_by, number_of, Numbers-push, AtMost-so_far}
 use Rattle.id_history.proofs.CountLemmas.{AtMost-one, CountsOf-from_entries}
+use Rattle.id_history.proofs.RoomLemmas.{lasting-counts}
 use Rattle.id_history.proofs.claims.Shard.counts.Goals as goal
 
 -- so far there are no more entries than the map has
@@ -61,3 +62,14 @@ returns-clause-few c =
       c.values-entry-items.ensures.fits,
     ))
     c.loop-entry.invariant
+
+-- those of the entries that are left
+pub returns-clause-lasting : goal.returns-clause-lasting
+returns-clause-lasting c =
+    let all = iter_end deref (values c.args.self.now.entries) c.loop-entry.yielded
+    c.into_iter-entry-iterator.result c.loop-entry.entry-iterator c.next.new.self c.next.result
+    (c.into_iter-entry-iterator.ensures.into_iter_gives ∙ c.values-entry-items.ensures.rest)
+    c.loop-entry.yielded_by c.in-None.is c.next.ensures.steps in
+    lasting-counts c.args.self.now c.loop-entry.counts
+    (subst (λ entries. Numbers c.loop-entry.counts (number_of entries)) all.0
+    c.loop-entry.invariant)

@@ -3,6 +3,7 @@ use Rattle.std.proofs.Math.ListN.{get_or}
 use Rattle.id_history.proofs.JoinLemmas.{AtMost-weaker, AtMost-plus, Joins-next, CountsOf-join}
 use Rattle.id_history.proofs.JoinLemmas.{CountsOf-none, Sums, below, below_all}
 use Rattle.id_history.proofs.ShardsLemmas.{claims_in, Keeps-in}
+use Rattle.id_history.proofs.RoomOfAll.{lasting_more, lasting_all}
 use Rattle.id_history.proofs.shards.Shards.counts.Goals as goal
 
 -- no shard, nothing counted
@@ -15,6 +16,7 @@ loop-shard-init c = (
     stored = omega (arith, c.none-counts.ensures.stored);
     refused = omega (arith, c.none-counts.ensures.refused);
   },
+  omega (arith, c.none-counts.ensures.stored, c.none-counts.ensures.refused),
 )
 
 -- sixteen times 2 ^ 63 is far from 2 ^ 128
@@ -57,11 +59,22 @@ loop-shard-preserved c =
       AtMost-plus (c.loop-shard.shard-index * 2 ^ 63) (2 ^ 63) _
           c.loop-shard.counts c.counts.result c.plus-counts.result (omega arith) sums
           c.loop-shard.invariant.1 c.counts.ensures.few,
+      lasting_more shards c.shard-item.result c.loop-shard.shard-index c.loop-shard.counts
+          c.counts.result c.plus-counts.result at
+          (omega (arith, c.loop-shard-test.true, ap length c.deref-shard-items.ensures.value))
+          sums c.loop-shard.invariant.2 c.counts.ensures.lasting,
     )
 
 -- after the last shard these are all ids
-pub returns : goal.returns
-returns c = λ claims keeps.
+pub returns-clause-claims : goal.returns-clause-claims
+returns-clause-claims c = λ claims keeps.
     below_all c.args.self.now claims c.loop-shard.counts c.loop-shard.shard-index
     (omega (arith, c.loop-shard-test.false, ap length c.deref-shard-items.ensures.value))
     (c.loop-shard.invariant.0 claims keeps)
+
+-- and all that are left
+pub returns-clause-lasting : goal.returns-clause-lasting
+returns-clause-lasting c =
+    c.loop-shard.invariant.2
+    ∙ lasting_all c.args.self.now c.loop-shard.shard-index
+    (omega (arith, c.loop-shard-test.false, ap length c.deref-shard-items.ensures.value))

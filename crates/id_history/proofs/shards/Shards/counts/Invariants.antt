@@ -1,6 +1,8 @@
-use Rattle.std.proofs.Common.{◌*◌, ◌^◌, List, ℕ}
+use Rattle.std.proofs.Common.{◌≡◌, ◌+◌, ◌*◌, ◌^◌, List, ℕ, take}
+use Rattle.std.specs.List.{sum_by}
 use Rattle.relay_model.specs.Claims.{Claim}
 use Rattle.id_history.specs.Counts.{CountsOf, AtMost}
+use Rattle.id_history.specs.LastingIn.{lasting_count}
 use Rattle.id_history.specs.Shards.{KeepsAll}
 use Rattle.id_history.proofs.JoinLemmas.{below}
 use Rattle.id_history.proofs.shards.Shards.counts.Given as goal
@@ -11,3 +13,5 @@ invariant-loop-shard l =
     ((claims : List ℕ → Claim) → KeepsAll l.self claims
     → CountsOf (below l.shard-index claims) l.counts)
     × AtMost (l.shard-index * 2 ^ 63) l.counts
+    × (l.counts.stored + l.counts.refused
+    ≡ sum_by lasting_count (take l.shard-index l.self.shards.items))

@@ -1,0 +1,10 @@
+use Rattle.std.proofs.Common.{map}
+use Rattle.history_text.specs.Views.{id_view}
+use Rattle.relay_model.specs.Claims.{Unknown}
+use Rattle.id_history.specs.Lasting.{put_all}
+use Rattle.id_history.specs.Shard.{Keeps}
+use Rattle.id_history.proofs.claims.Shard.resume.Given as goal
+
+-- the shard has what was put so far
+abbrev pub invariant-loop-one : goal.invariant-loop-one
+invariant-loop-one l = Keeps l.shard (put_all (λ id. Unknown) (map id_view l.yielded))
