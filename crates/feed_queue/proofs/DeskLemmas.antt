@@ -8,11 +8,11 @@ use Rattle.std.proofs.Math.Seq.{get_or-append_seam}
 use Rattle.std.proofs.lemmas.Bool.Decides.{eqb_tells}
 use Rattle.std.proofs.lemmas.List.{get_or-set_same, get_or-set_other, length-set, length-append}
 use Rattle.std.proofs.lemmas.List.{length-take, get_or-take, get_or_default}
-use Rattle.std.proofs.lemmas.List.{take_more, map-append}
+use Rattle.std.proofs.lemmas.List.{take_more, map-append, length-map}
 use Rattle.std.proofs.lemmas.List.Folds.{list_any-append, list_any_none}
 use Rattle.std.specs.List.{All, list_any}
 use Rattle.feed_queue.specs.declared.rings.Ring.{Ring}
-use Rattle.feed_queue.specs.Feeds.{KeepsFeed, KeepFeeds, CountBelow, no_feed, with_gained}
+use Rattle.feed_queue.specs.Feeds.{KeepsFeed, KeepFeeds, CountBelow, with_gained}
 use Rattle.feed_queue.specs.Feeds.{ring_size}
 use Rattle.relay_conf.specs.declared.relay.Feed as conf
 use Rattle.cyc_token.specs.Token.{token_view}
@@ -29,48 +29,56 @@ along one other size n feed v rings sizes feeds keeps =
     subst (KeepsFeed other n) feeds
     (subst (λ m. KeepsFeed other m feed) sizes (subst (λ r. KeepsFeed r size feed) rings keeps))
 
--- one more ring of a feed that gained nothing
-pub keeps-more : (rings : List Ring) (sizes : List ℕ) (one : Ring) (size : ℕ)
-    → KeepsFeed one size no_feed → KeepFeeds rings sizes (λ f. no_feed)
-    → KeepFeeds (rings ++ one ∷ []) (sizes ++ size ∷ []) (λ f. no_feed)
-keeps-more rings sizes one size keeps all =
+-- one more ring, which keeps the next feed
+pub keeps-more : (rings : List Ring) (sizes : List ℕ) (one : Ring) (size : ℕ) (feeds : ℕ → Feed)
+    → KeepsFeed one size (feeds (length rings)) → KeepFeeds rings sizes feeds
+    → KeepFeeds (rings ++ one ∷ []) (sizes ++ size ∷ []) feeds
+keeps-more rings sizes one size feeds keeps all =
     record {
       count = length-append rings (one ∷ []) ∙ ap (λ n. n + 1) all.count
           ∙ sym (length-append sizes (size ∷ []));
       each = λ f none within. elim (eqb_tells f (length rings)) [
         | inl same ↦ along one (get_or (rings ++ one ∷ []) f none) size
-            (get_or (sizes ++ size ∷ []) f 0) no_feed no_feed
+            (get_or (sizes ++ size ∷ []) f 0) (feeds (length rings)) (feeds f)
             (sym (ap (λ i. get_or (rings ++ one ∷ []) i none) same.1
             ∙ get_or-append_seam rings one [] none))
             (sym (ap (λ i. get_or (sizes ++ size ∷ []) i 0) (same.1 ∙ all.count)
             ∙ get_or-append_seam sizes size [] 0))
-            refl keeps
+            (ap feeds (sym same.1)) keeps
         | inr other ↦
             let least : f < length rings =
             omega (arith, within, other.1, length-append rings (one ∷ [])) in
             along (get_or rings f none) (get_or (rings ++ one ∷ []) f none)
-            (get_or sizes f 0) (get_or (sizes ++ size ∷ []) f 0) no_feed no_feed
+            (get_or sizes f 0) (get_or (sizes ++ size ∷ []) f 0) (feeds f) (feeds f)
             (sym (get_or-append rings (one ∷ []) none f least))
             (sym (get_or-append sizes (size ∷ []) 0 f (omega (arith, least, all.count))))
             refl (all.each f none least)
       ];
     }
 
+-- so many rings keep so many feeds
+count-so_far : (rings : List Ring) (feeds : List conf.Feed) (n : ℕ) (kept : ℕ → Feed)
+    → n < length feeds → KeepFeeds rings (map ring_size (take n feeds)) kept → length rings ≡ n
+count-so_far rings feeds n kept there all =
+    all.count ∙ length-map (take n feeds) ring_size ∙ omega (arith, length-take n feeds, there)
+
 -- the same, of the next of a configuration
 pub keeps-next : (old new : List Ring) (one : Ring) (feeds : List conf.Feed) (n : ℕ)
-    (feed : conf.Feed) → new ≡ old ++ one ∷ [] → n < length feeds → feed ≡ get_or feeds n feed
-    → KeepsFeed one feed.ring no_feed
-    → KeepFeeds old (map ring_size (take n feeds)) (λ f. no_feed)
-    → KeepFeeds new (map ring_size (take (n + 1) feeds)) (λ f. no_feed)
-keeps-next old new one feeds n feed added there at keeps all =
+    (feed : conf.Feed) (kept : ℕ → Feed) → new ≡ old ++ one ∷ [] → n < length feeds
+    → feed ≡ get_or feeds n feed → KeepsFeed one feed.ring (kept n)
+    → KeepFeeds old (map ring_size (take n feeds)) kept
+    → KeepFeeds new (map ring_size (take (n + 1) feeds)) kept
+keeps-next old new one feeds n feed kept added there at keeps all =
     let sizes : map ring_size (take (n + 1) feeds)
     ≡ map ring_size (take n feeds) ++ feed.ring ∷ [] =
     ap (map ring_size) (take_more feeds n feed there
     ∙ ap (λ x. take n feeds ++ x ∷ []) (sym at))
     ∙ map-append ring_size (take n feeds) (feed ∷ []) in
-    subst (λ rings. KeepFeeds rings (map ring_size (take (n + 1) feeds)) (λ f. no_feed)) (sym added)
-    (subst (λ xs. KeepFeeds (old ++ one ∷ []) xs (λ f. no_feed)) (sym sizes)
-    (keeps-more old (map ring_size (take n feeds)) one feed.ring keeps all))
+    subst (λ rings. KeepFeeds rings (map ring_size (take (n + 1) feeds)) kept) (sym added)
+    (subst (λ xs. KeepFeeds (old ++ one ∷ []) xs kept) (sym sizes)
+    (keeps-more old (map ring_size (take n feeds)) one feed.ring kept
+    (subst (λ k. KeepsFeed one feed.ring (kept k)) (sym (count-so_far old feeds n kept there all))
+    keeps) all))
 
 -- the same feeds are kept
 pub keeps-same : (rings : List Ring) (sizes : List ℕ) (feeds others : ℕ → Feed)

@@ -1,5 +1,7 @@
 mod DeskLemmas
 mod KeepLemmas
+mod LeftLaws
+mod LeftLemmas
 mod PermissionLemmas
 mod RingLemmas
 mod SomeFeeds

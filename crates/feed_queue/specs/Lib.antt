@@ -1,4 +1,5 @@
 pub mod Examples
 pub mod Feeds
+pub mod Left
 pub mod Permission
 pub mod Taking

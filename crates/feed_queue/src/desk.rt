@@ -2,7 +2,7 @@
 ghost use Rattle.std.specs.Prelude.{◌≡◌, ◌+◌, ◌-◌, ◌^◌, ◌≤◌, ◌<◌, ◌↔◌, ℕ, List, map, slice_index};
 ghost use Rattle.std.specs.Prelude.{Ok, None, ◌++◌, ◌∷◌, [], IfOk, IfSome, IsOk, OnErr, not, nat_eq};
 ghost use Rattle.std.specs.Prelude.{vec_capacity, vec_len};
-ghost use Rattle.std.specs.List.{All, list_any};
+ghost use Rattle.std.specs.List.{All, AllZip, list_any};
 ghost use Rattle.cyc_token.specs.Token.{token_view};
 ghost use Rattle.id_history.specs.Answers.{token_of};
 ghost use Rattle.news_terms.specs.Ring.{taken_items};
@@ -11,10 +11,14 @@ ghost use Rattle.relay_model.specs.State.{Feed, put_at};
 ghost use Rattle.relay_model.specs.Writers.{gaining};
 ghost use Rattle.feed_queue.specs.Feeds.{KeepsFeeds, CountBelow, HasRoomToCount, ring_count};
 ghost use Rattle.feed_queue.specs.Feeds.{ring_size, no_feed, with_gained};
+ghost use Rattle.feed_queue.specs.Left.{IsLeft, AreLeft};
 ghost use Rattle.feed_queue.specs.Taking.{IsTaken, AreCounts};
+ghost use Rattle.history_text.specs.History.{FeedFits, RingHolds};
+ghost use Rattle.history_text.specs.Views.{feed_view};
 
 use crate::rings::Ring;
 use cyc_token::Token;
+use history_text::KeptFeed;
 use id_history::Settled;
 use std::alloc::{AllocError, Global};
 
@@ -143,6 +147,47 @@ impl FeedDesk {
         let items = self.rings[place].oldest(alloc, most)?;
         let missed = self.rings[place].pass(most);
         Ok(Some(Taken { missed, items }))
+    }
+
+    /// What is left of the feed. `None` exactly where there is no such feed.
+    pub fn kept(&self, alloc: Global, feed: u16) -> Result<Option<KeptFeed>, AllocError>
+        ensures left { IfOk result (λ answer. IfSome answer (λ kept.
+            (sizes : List ℕ) (feeds : ℕ → Feed) → KeepsFeeds self.now sizes feeds
+            → IsLeft (feed_view kept) (slice_index sizes feed) (feeds feed))) }
+
+        // Each part has room in the text of a history.
+        ensures fits { IfOk result (λ answer. IfSome answer (λ kept. FeedFits (feed_view kept))) }
+
+        // Memory is taken for the tokens that wait, and for no more.
+        ensures room { IfOk result (λ answer. IfSome answer (λ kept.
+            vec_capacity kept.waiting ≡ vec_len kept.waiting)) }
+
+        // That there is no such feed is said whatever memory there is.
+        ensures missing { (result ≡ Ok None) ↔ (ring_count self.now ≤ feed) }
+    {
+        let place = usize::from(feed);
+        if place >= self.rings.len() {
+            return Ok(None);
+        }
+        Ok(Some(self.rings[place].kept(alloc)?))
+    }
+
+    /// A desk of feeds of which this was left, with the room of their rings. No token is posted.
+    pub fn resume(
+        alloc: Global,
+        feeds: &[relay_conf::Feed],
+        kept: &[KeptFeed],
+    ) -> Result<FeedDesk, AllocError>
+        requires { AllZip RingHolds (map feed_view kept.now) (map ring_size feeds.now) }
+        ensures { IfOk result (λ desk. (feed : ℕ → Feed)
+            → AreLeft (map feed_view kept.now) (map ring_size feeds.now) feed
+            → KeepsFeeds desk (map ring_size feeds.now) feed) }
+    {
+        let mut rings = Vec::with_capacity(alloc, feeds.len())?;
+        for (place, feed) in feeds.iter().enumerate() {
+            rings.push_reserved(Ring::resume(alloc, feed.ring, &kept[place])?);
+        }
+        Ok(FeedDesk { rings })
     }
 
     /// The counts of the feed, which takes no memory; `None` exactly where there is no such feed.

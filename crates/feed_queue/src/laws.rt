@@ -1,7 +1,9 @@
 //! Laws of what a desk keeps, and the worked example *ring*: each is the contract of an empty body.
 ghost use Rattle.std.specs.Prelude.{◌≡◌, ◌<◌, ◌^◌, ◌∷◌, [], ℕ, List, length, map, slice_get};
 ghost use Rattle.std.specs.Prelude.{slice_index};
+ghost use Rattle.cyc_token.specs.Token.{token_view};
 ghost use Rattle.news_terms.specs.Ring.{missed, taken_items, ring};
+ghost use Rattle.news_terms.specs.Token.{IsToken};
 ghost use Rattle.relay_conf.specs.declared.relay.Feed as conf;
 ghost use Rattle.relay_conf.specs.declared.relay.Peer.{Peer};
 ghost use Rattle.relay_model.specs.Shares.{as_ring, after_take_of, ring_of};
@@ -10,9 +12,12 @@ ghost use Rattle.relay_model.specs.State.{Feed};
 ghost use Rattle.feed_queue.specs.Examples.{token_at, three_posted, gained_three, taken_two};
 ghost use Rattle.feed_queue.specs.Feeds.{KeepsFeeds, HasRoomToCount, no_feed, ring_count};
 ghost use Rattle.feed_queue.specs.Feeds.{ring_size};
+ghost use Rattle.feed_queue.specs.Left.{IsLeft};
 ghost use Rattle.feed_queue.specs.Permission.{HasFeeds};
+ghost use Rattle.history_text.specs.History.{KeptFeed, RingHolds};
 
 use crate::FeedDesk;
+use cyc_token::Token;
 
 /// Every desk keeps some feeds, so nothing is said of it in vain.
 pub fn keeps_some(desk: &FeedDesk)
@@ -31,6 +36,29 @@ pub fn sizes_of_terms()
     ensures { (w : Terms) (peers : List Peer) (feeds : List conf.Feed)
         → HasFeeds w peers feeds → (f : ℕ)
         → slice_index (map ring_size feeds) f ≡ ring_of (slice_get w.feeds f) }
+{}
+
+/// Each part of a token has its range, so that it has room in the text of a history.
+pub fn is_token(token: Token)
+    ensures { IsToken (token_view token) }
+{}
+
+/// What is left of a feed is one value.
+pub fn one_is_left()
+    ensures { (one other : KeptFeed) (size : ℕ) (feed : Feed) → IsLeft one size feed
+        → IsLeft other size feed → one ≡ other }
+{}
+
+/// All that a ring holds is left of some feed, so of a ring that is resumed something is said.
+pub fn each_was_left()
+    ensures { (kept : KeptFeed) (ring : ℕ) → RingHolds kept ring
+        → (feed : Feed) × IsLeft kept ring feed }
+{}
+
+/// What is left of a feed fits its ring, so it can be resumed.
+pub fn left_holds()
+    ensures { (kept : KeptFeed) (size : ℕ) (feed : Feed) → IsLeft kept size feed
+        → RingHolds kept size }
 {}
 
 /// A ring of 2 after three posts, taken twice.

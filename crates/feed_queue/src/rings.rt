@@ -1,11 +1,17 @@
 //! One ring.
 ghost use Rattle.std.specs.Prelude.{◌≡◌, ◌+◌, ◌-◌, ◌≤◌, ◌<◌, ◌^◌, ℕ, length, map, min, take, IfOk};
 ghost use Rattle.std.specs.Prelude.{IsOk, vec_capacity, vec_len};
-ghost use Rattle.std.specs.List.{enumerate_from};
+ghost use Rattle.std.specs.List.{AllByRecursion, enumerate_from};
+ghost use Rattle.cyc_token.specs.Token.{token_view};
+ghost use Rattle.history_text.specs.History.{FeedFits};
+ghost use Rattle.history_text.specs.Views.{feed_view};
+ghost use Rattle.news_terms.specs.Token.{IsToken};
 
 use crate::desk::Counts;
+use crate::laws::is_token;
 use circular_buffer::HeapCircularBuffer;
 use cyc_token::Token;
+use history_text::KeptFeed;
 use std::alloc::{AllocError, Global};
 
 /// The end of a feed's list, as much of it as fits and isn't taken, with counts of the list.
@@ -21,15 +27,17 @@ pub(crate) struct Ring {
     ghost within: { passed ≤ gained },
     ghost had: { taken ≤ passed },
     ghost waits: { length tokens.items ≡ min tokens.capacity (gained - passed) },
+    ghost small: { tokens.capacity < 2 ^ 32 },
 }
 
 impl Ring {
-    ghost use Rattle.cyc_token.specs.Token.{token_view};
     ghost use Rattle.news_terms.specs.Ring.{missed, taken_items};
     ghost use Rattle.relay_model.specs.Shares.{after_take_of, as_ring};
     ghost use Rattle.relay_model.specs.State.{Feed};
     ghost use Rattle.feed_queue.specs.Feeds.{KeepsFeed, no_feed, with_gained};
+    ghost use Rattle.feed_queue.specs.Left.{IsLeft};
     ghost use Rattle.feed_queue.specs.Taking.{AreCounts, item_view};
+    ghost use Rattle.history_text.specs.History.{RingHolds};
 
     /// The ring of a feed that gained nothing, with room for so many tokens.
     pub(crate) fn new(alloc: Global, size: u32) -> Result<Ring, AllocError>
@@ -97,6 +105,37 @@ impl Ring {
         self.gained - self.tokens.len() as u64
     }
 
+    /// What is left of the feed.
+    pub(crate) fn kept(&self, alloc: Global) -> Result<KeptFeed, AllocError>
+        ensures left { IfOk result (λ kept. (size : ℕ) (feed : Feed) → KeepsFeed self.now size feed
+            → IsLeft (feed_view kept) size feed) }
+        ensures fits { IfOk result (λ kept. FeedFits (feed_view kept)) }
+
+        // Room is taken for the tokens that wait, and for no more.
+        ensures room { IfOk result (λ kept. vec_capacity kept.waiting ≡ vec_len kept.waiting) }
+    {
+        let waiting = all_of(alloc, &self.tokens)?;
+        Ok(left(self.gained, self.passed, self.taken, waiting))
+    }
+
+    /// The ring of a feed of which this was left, with room for so many tokens.
+    pub(crate) fn resume(alloc: Global, size: u32, kept: &KeptFeed) -> Result<Ring, AllocError>
+        requires { RingHolds (feed_view kept.now) size }
+        ensures { IfOk result (λ ring. (feed : Feed) → IsLeft (feed_view kept.now) size feed
+            → KeepsFeed ring size feed) }
+    {
+        let mut tokens = HeapCircularBuffer::with_capacity(alloc, size as usize)?;
+        for token in &kept.waiting {
+            tokens.push_back(*token);
+        }
+        Ok(Ring {
+            tokens,
+            gained: kept.gained,
+            passed: kept.passed,
+            taken: kept.taken,
+        })
+    }
+
     /// The counts of the feed.
     pub(crate) fn counts(&self) -> Counts
         ensures counts { (size : ℕ) (feed : Feed) → KeepsFeed self.now size feed
@@ -134,4 +173,34 @@ fn numbered(
         items.push_reserved((number, *token));
     }
     Ok(items)
+}
+
+/// All tokens of the ring, the oldest first.
+fn all_of(alloc: Global, tokens: &HeapCircularBuffer<Token>) -> Result<Vec<Token>, AllocError>
+    ensures items { IfOk result (λ items. items.items ≡ tokens.now.items) }
+    ensures fits { IfOk result (λ items. AllByRecursion IsToken (map token_view items.items)) }
+    ensures room { IfOk result (λ items. vec_capacity items ≡ vec_len items) }
+{
+    let mut items = Vec::with_capacity(alloc, tokens.len())?;
+    for token in tokens.iter() {
+        is_token(*token);
+        items.push_reserved(*token);
+    }
+    Ok(items)
+}
+
+/// What is left of a feed with these counts and tokens, which has room in the text of a history.
+fn left(gained: u64, passed: u64, taken: u64, waiting: Vec<Token>) -> KeptFeed
+    requires few { length waiting.items < 2 ^ 32 }
+    requires tokens { AllByRecursion IsToken (map token_view waiting.items) }
+    ensures value { result
+        ≡ record { gained = gained; passed = passed; taken = taken; waiting = waiting } }
+    ensures fits { FeedFits (feed_view result) }
+{
+    KeptFeed {
+        gained,
+        passed,
+        taken,
+        waiting,
+    }
 }
