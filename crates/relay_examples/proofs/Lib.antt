@@ -4,6 +4,7 @@ mod FailedReads
 mod Moments
 mod Playing
 mod Premises
+mod Recording
 mod RingArticles
 mod Turning
 mod Unstored

@@ -4,6 +4,7 @@ pub mod Figures
 pub mod Judgements
 pub mod LineRows
 pub mod OtherTerms
+pub mod Records
 pub mod Rows
 pub mod StateRows
 pub mod Terms

@@ -6,6 +6,7 @@
 pub mod feeds;
 pub mod figures;
 pub mod judgements;
+pub mod records;
 pub mod rows;
 pub mod rules;
 pub mod states;
