@@ -11,7 +11,7 @@ use Rattle.relay_conf.specs.declared.settings.Method.{Method}
 use Rattle.relay_conf.specs.Cycbuff.{CycbuffSettings, cycbuff_of}
 use Rattle.relay_conf.specs.Faults.{ConfGives}
 use Rattle.relay_conf.specs.K1.{k1_buffers, every_newsgroup, k1_entries, k1_relay}
-use Rattle.relay_conf.specs.Relay as relay
+use Rattle.relay_conf.specs.RelayLines as relay
 use Rattle.relay_conf.specs.RelayViews.{RelayGives, HasSettings, relay_view}
 use Rattle.relay_conf.specs.Settings.{buffers_view}
 use Rattle.relay_conf.specs.Storage.{entry_view}

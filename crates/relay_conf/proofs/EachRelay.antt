@@ -3,10 +3,10 @@ use Rattle.std.proofs.Common.{ℕ, List, Ok, Err, refl, inl, inr}
 use Rattle.uwild.specs.Readings.{HasReading}
 use Rattle.uwild.proofs.EachText as texts
 use Rattle.relay_conf.specs.declared.faults.Fault.TheVariants.{Pattern}
-use Rattle.relay_conf.specs.Relay.{RawLine, SaidLine, Skipped, Own, MaxArticle, Cutoff, Remember}
-use Rattle.relay_conf.specs.Relay.{Patience}
-use Rattle.relay_conf.specs.Relay.{PeerLine, FeedLine, FeedSays, RawSays, LineSays, early_fault}
-use Rattle.relay_conf.specs.Relay.{relay_said, relay_line}
+use Rattle.relay_conf.specs.RelayLines.{RawLine, SaidLine, Skipped, Own, MaxArticle, Cutoff}
+use Rattle.relay_conf.specs.RelayLines.{Remember, Patience, PeerLine, FeedLine, FeedSays, RawSays}
+use Rattle.relay_conf.specs.RelayLines.{LineSays, relay_line, Bind, ConnectionsLine}
+use Rattle.relay_conf.specs.Relay.{early_fault, relay_said}
 use Rattle.relay_conf.specs.Readings.{RelayHasReading}
 use Rattle.relay_conf.proofs.EachReading.{SaysSome}
 use Rattle.relay_conf.proofs.EachReading as readings
@@ -26,7 +26,9 @@ raw_says (Ok (MaxArticle octets)) = (Ok (MaxArticle octets), refl)
 raw_says (Ok (Cutoff seconds)) = (Ok (Cutoff seconds), refl)
 raw_says (Ok (Remember seconds)) = (Ok (Remember seconds), refl)
 raw_says (Ok (Patience seconds)) = (Ok (Patience seconds), refl)
+raw_says (Ok (Bind address)) = (Ok (Bind address), refl)
 raw_says (Ok (PeerLine name identity port)) = (Ok (PeerLine name identity port), refl)
+raw_says (Ok (ConnectionsLine name connections)) = (Ok (ConnectionsLine name connections), refl)
 raw_says (Ok (FeedLine name ring text)) = feed_says name ring text (texts.each_reading text)
 
 -- A line says something, whatever stands before it.

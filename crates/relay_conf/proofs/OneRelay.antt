@@ -4,10 +4,10 @@ use Rattle.news_terms.proofs.ExpressionReadings.{one_expression}
 use Rattle.news_terms.proofs.ExpressionFaults.{expression_without_fault}
 use Rattle.relay_conf.specs.declared.faults.LineFault.{LineFault}
 use Rattle.relay_conf.specs.Faults.{first_fault}
-use Rattle.relay_conf.specs.Relay.{RawLine, SaidLine, Skipped, Own, MaxArticle, Cutoff, Remember}
-use Rattle.relay_conf.specs.Relay.{Patience}
-use Rattle.relay_conf.specs.Relay.{PeerLine, FeedLine, FeedSays, RawSays, LineSays, early_fault}
-use Rattle.relay_conf.specs.Relay.{relay_said, relay_line, RelaySettings}
+use Rattle.relay_conf.specs.RelayLines.{RawLine, SaidLine, Skipped, Own, MaxArticle, Cutoff}
+use Rattle.relay_conf.specs.RelayLines.{Remember, Patience, PeerLine, FeedLine, FeedSays, RawSays}
+use Rattle.relay_conf.specs.RelayLines.{LineSays, relay_line, Bind, ConnectionsLine}
+use Rattle.relay_conf.specs.Relay.{early_fault, relay_said, RelaySettings}
 use Rattle.relay_conf.specs.RelayViews.{HasFault, HasSettings}
 use Rattle.relay_conf.proofs.OneReading.{SaysOnce, StopsAt, fault_said}
 use Rattle.relay_conf.proofs.OneReading as readings
@@ -32,7 +32,9 @@ raw_once (Ok (MaxArticle octets)) a b h k = h ∙ sym k
 raw_once (Ok (Cutoff seconds)) a b h k = h ∙ sym k
 raw_once (Ok (Remember seconds)) a b h k = h ∙ sym k
 raw_once (Ok (Patience seconds)) a b h k = h ∙ sym k
+raw_once (Ok (Bind address)) a b h k = h ∙ sym k
 raw_once (Ok (PeerLine name identity port)) a b h k = h ∙ sym k
+raw_once (Ok (ConnectionsLine name connections)) a b h k = h ∙ sym k
 raw_once (Ok (FeedLine name ring text)) a b h k = feed_once name ring text a b h k
 
 -- A line says one thing, whatever stands before it.

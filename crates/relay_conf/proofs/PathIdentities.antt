@@ -9,6 +9,7 @@ use Rattle.std.specs.List.{list_all, starts_with, onto_first}
 use Rattle.std.specs.Str.{byte}
 use Rattle.std.proofs.lemmas.Bool.{and_parts, and_from, and_left, or_from, both_ways, ne_eqb}
 use Rattle.std.proofs.lemmas.List.Sums.{AllPass-from_list_all, take_while-cons}
+use Rattle.std.proofs.lemmas.List.Folds.{list_all-map}
 use Rattle.news_terms.specs.Article.{is_empty, without_outer_white}
 use Rattle.news_terms.specs.Path.{cut_at_bangs, path_octets, path_pieces, before_tail, is_posted}
 use Rattle.news_terms.specs.Path.{before_posted, path_identities, is_agent}
@@ -16,20 +17,21 @@ use Rattle.news_terms.specs.Path as path
 use Rattle.news_terms.proofs.PathUpdates.{agent_octet, all_agent}
 use Rattle.line_words.specs.Comments.{is_skipped}
 use Rattle.line_words.specs.Numbers.{number_within}
-use Rattle.line_words.specs.Parts.{one_of, three_of}
+use Rattle.line_words.specs.Parts.{one_of, two_of, three_of}
 use Rattle.line_words.proofs.Cuts.{some_part}
 use Rattle.relay_conf.specs.declared.faults.Fault.{Fault}
 use Rattle.relay_conf.specs.declared.faults.Fault.TheVariants.{Syntax}
 use Rattle.relay_conf.specs.declared.relay.Peer.{Peer}
 use Rattle.relay_conf.specs.Faults.{first_fault, whole_fault}
 use Rattle.relay_conf.specs.LineByLine.{SayEach}
-use Rattle.relay_conf.specs.Relay.{RelayLine, RawLine, SaidLine, Skipped, Own, MaxArticle, Cutoff}
-use Rattle.relay_conf.specs.Relay.{Remember, Patience, PeerLine, FeedLine, RawSays, LineSays}
-use Rattle.relay_conf.specs.Relay.{own_line}
-use Rattle.relay_conf.specs.Relay.{number_line, with_number, peer_ported, peer_line, feed_ringed}
-use Rattle.relay_conf.specs.Relay.{feed_line, relay_words, relay_line, own_of, peer_of, stand_of}
-use Rattle.relay_conf.specs.Relay.{early_fault, late_fault, no_own_fault, first_or, settings_of}
-use Rattle.relay_conf.specs.Relay.{relay_said, RelaySettings}
+use Rattle.relay_conf.specs.RelayLines.{RelayLine, RawLine, SaidLine, Skipped, Own, MaxArticle}
+use Rattle.relay_conf.specs.RelayLines.{Cutoff, Remember, Patience, PeerLine, FeedLine, RawSays}
+use Rattle.relay_conf.specs.RelayLines.{LineSays, own_line, number_line, with_number, peer_ported}
+use Rattle.relay_conf.specs.RelayLines.{peer_line, feed_ringed, feed_line, relay_words, relay_line}
+use Rattle.relay_conf.specs.RelayLines.{Bind, ConnectionsLine, address_of, address_or_fault}
+use Rattle.relay_conf.specs.RelayLines.{bind_line, connections_line, connections_numbered}
+use Rattle.relay_conf.specs.Relay.{own_of, peer_of, stand_of, early_fault, late_fault, no_own_fault}
+use Rattle.relay_conf.specs.Relay.{first_or, settings_of, relay_said, RelaySettings, connected}
 use Rattle.relay_conf.specs.RelayViews.{HasSettings}
 use Rattle.relay_conf.specs.Words.{words, is_name, is_name_octet, is_identity}
 use Rattle.relay_conf.proofs.FaultlessLines.{behind_trial, no_whole_fault}
@@ -108,7 +110,9 @@ HasIdentity (Ok (MaxArticle octets)) = Unit {0}
 HasIdentity (Ok (Cutoff seconds)) = Unit {0}
 HasIdentity (Ok (Remember seconds)) = Unit {0}
 HasIdentity (Ok (Patience seconds)) = Unit {0}
+HasIdentity (Ok (Bind address)) = Unit {0}
 HasIdentity (Ok (PeerLine name identity port)) = is_identity identity ≡ true
+HasIdentity (Ok (ConnectionsLine name connections)) = Unit {0}
 HasIdentity (Ok (FeedLine name ring expression)) = Unit {0}
 
 -- So it is of one of two lines.
@@ -143,6 +147,26 @@ of_peer (Some three) =
     (λ e. of_port three.0 three.1 (number_within 0 65535 three.2)
     (and_parts (is_name three.0) (is_identity three.1) e).1) tt
 
+-- of what follows `bind`,
+of_address : (address : Option (List ℕ)) → HasIdentity (address_or_fault address)
+of_address None = tt
+of_address (Some address) = tt
+
+of_bind : (word : Option (List ℕ)) → HasIdentity (bind_line word)
+of_bind None = tt
+of_bind (Some word) = of_address (address_of word)
+
+-- of what follows `connections`,
+of_count : (name : List ℕ) (count : Option ℕ) → HasIdentity (connections_numbered name count)
+of_count name None = tt
+of_count name (Some count) = tt
+
+of_connections : (two : Option (List ℕ × List ℕ)) → HasIdentity (connections_line two)
+of_connections None = tt
+of_connections (Some two) =
+    of_either (is_name two.0) (connections_numbered two.0 (number_within 1 64 two.1)) (Err Syntax)
+    (λ e. of_count two.0 (number_within 1 64 two.1)) tt
+
 -- and of what follows `feed`.
 of_ring : (name text : List ℕ) (ring : Option ℕ) → HasIdentity (feed_ringed name text ring)
 of_ring name text None = tt
@@ -167,8 +191,10 @@ of_words (word ∷ after) =
     (λ e. of_number Remember (number_line 0 4000000000 (one_of after)) (λ n. tt))
     (of_either (bytes_eq word (codes "patience")) _ _
     (λ e. of_number Patience (number_line 1 86400 (one_of after)) (λ n. tt))
+    (of_either (bytes_eq word (codes "bind")) _ _ (λ e. of_bind (one_of after))
     (of_either (bytes_eq word (codes "peer")) _ _ (λ e. of_peer (three_of after))
-    (of_either (bytes_eq word (codes "feed")) _ _ (λ e. of_feed (three_of after)) tt))))))
+    (of_either (bytes_eq word (codes "connections")) _ _ (λ e. of_connections (two_of after))
+    (of_either (bytes_eq word (codes "feed")) _ _ (λ e. of_feed (three_of after)) tt))))))))
 
 -- and of a line.
 of_line : (line : List ℕ) → HasIdentity (relay_line line)
@@ -185,7 +211,9 @@ of_said (Ok (MaxArticle octets)) said h k = subst HasIdentity (sym h) tt
 of_said (Ok (Cutoff seconds)) said h k = subst HasIdentity (sym h) tt
 of_said (Ok (Remember seconds)) said h k = subst HasIdentity (sym h) tt
 of_said (Ok (Patience seconds)) said h k = subst HasIdentity (sym h) tt
+of_said (Ok (Bind address)) said h k = subst HasIdentity (sym h) tt
 of_said (Ok (PeerLine name identity port)) said h k = subst HasIdentity (sym h) k
+of_said (Ok (ConnectionsLine name connections)) said h k = subst HasIdentity (sym h) tt
 of_said (Ok (FeedLine name ring text)) (Err fault) h k = tt
 of_said (Ok (FeedLine name ring text)) (Ok line) h k = subst (λ (l : _). HasIdentity (Ok l))
     (sym h.2) tt
@@ -216,7 +244,9 @@ owns_pass (Ok (MaxArticle octets) ∷ said) h = owns_pass said h.1
 owns_pass (Ok (Cutoff seconds) ∷ said) h = owns_pass said h.1
 owns_pass (Ok (Remember seconds) ∷ said) h = owns_pass said h.1
 owns_pass (Ok (Patience seconds) ∷ said) h = owns_pass said h.1
+owns_pass (Ok (Bind address) ∷ said) h = owns_pass said h.1
 owns_pass (Ok (PeerLine name identity port) ∷ said) h = owns_pass said h.1
+owns_pass (Ok (ConnectionsLine name connections) ∷ said) h = owns_pass said h.1
 owns_pass (Ok (FeedLine name ring expression) ∷ said) h = owns_pass said h.1
 
 -- and so are those of the peers.
@@ -230,8 +260,10 @@ peers_pass (Ok (MaxArticle octets) ∷ said) h = peers_pass said h.1
 peers_pass (Ok (Cutoff seconds) ∷ said) h = peers_pass said h.1
 peers_pass (Ok (Remember seconds) ∷ said) h = peers_pass said h.1
 peers_pass (Ok (Patience seconds) ∷ said) h = peers_pass said h.1
+peers_pass (Ok (Bind address) ∷ said) h = peers_pass said h.1
 peers_pass (Ok (PeerLine name identity port) ∷ said) h =
     and_from _ _ (identity_is_agent identity h.0) (peers_pass said h.1)
+peers_pass (Ok (ConnectionsLine name connections) ∷ said) h = peers_pass said h.1
 peers_pass (Ok (FeedLine name ring expression) ∷ said) h = peers_pass said h.1
 
 -- The settings that lines say together are theirs, and one of them says the own identity.
@@ -263,7 +295,9 @@ pub peers_are_agents : (lines : List (List ℕ)) (settings : RelaySettings)
     → All (λ (peer : Peer). is_agent peer.identity ≡ true) settings.peers
 peers_are_agents lines settings h =
     let parts = of_settings h.said settings h.gives in
+    let stand = stand_of h.said in
     AllPass-from_list_all (λ (peer : Peer). is_agent peer.identity) settings.peers
     (subst (λ (s : RelaySettings). list_all (λ (peer : Peer). is_agent peer.identity) s.peers
     ≡ true)
-    parts.1 (peers_pass h.said (all_have [] lines h.said h.says)))
+    parts.1 (list_all-map (λ (peer : Peer). is_agent peer.identity) (connected stand.connections)
+    stand.peers ∙ peers_pass h.said (all_have [] lines h.said h.says)))

@@ -1,7 +1,7 @@
 -- The numbers that lines of relay.conf say are in their ranges.
 use Rattle.std.proofs.Common.{◌≡◌, ℕ, ◌≤◌, Bool, true, false, cond}
 use Rattle.std.proofs.Common.{List, [], ◌∷◌, ◌++◌, All, Option, None, Some, Result, Ok}
-use Rattle.std.proofs.Common.{Err, refl, sym, subst}
+use Rattle.std.proofs.Common.{Err, refl, sym, subst, arith}
 use Rattle.std.specs.Prelude.{◌&&◌, filter_map, codes, bytes_eq}
 use Rattle.std.specs.List.{cons_option}
 use Rattle.std.specs.Option.{ForSome}
@@ -11,20 +11,22 @@ use Rattle.std.proofs.lemmas.Option.{same_Some}
 use Rattle.news_terms.specs.Article.{without_outer_white}
 use Rattle.line_words.specs.Comments.{is_skipped}
 use Rattle.line_words.specs.Numbers.{number_within}
-use Rattle.line_words.specs.Parts.{one_of, three_of}
+use Rattle.line_words.specs.Parts.{one_of, two_of, three_of}
 use Rattle.relay_conf.specs.declared.faults.Fault.{Fault}
 use Rattle.relay_conf.specs.declared.faults.Fault.TheVariants.{Syntax}
 use Rattle.relay_conf.specs.declared.relay.Feed.{Feed}
 use Rattle.relay_conf.specs.declared.relay.Peer.{Peer}
+use Rattle.relay_conf.specs.declared.relay.PeerConnections.{PeerConnections}
 use Rattle.relay_conf.specs.LineByLine.{SayEach}
-use Rattle.relay_conf.specs.Relay.{RelayLine, RawLine, SaidLine, Skipped, Own, MaxArticle, Cutoff}
-use Rattle.relay_conf.specs.Relay.{Remember, Patience, PeerLine, FeedLine, RawSays, LineSays}
-use Rattle.relay_conf.specs.Relay.{own_line}
-use Rattle.relay_conf.specs.Relay.{number_line, number_or_fault, with_number, peer_ported}
-use Rattle.relay_conf.specs.Relay.{peer_line, feed_ringed, feed_line, relay_words, relay_line}
-use Rattle.relay_conf.specs.Relay.{max_article_of, cutoff_of, remember_of, patience_of}
-use Rattle.relay_conf.specs.Relay.{feed_of, peer_number}
-use Rattle.relay_conf.specs.Relay.{first_or, first_of}
+use Rattle.relay_conf.specs.RelayLines.{RelayLine, RawLine, SaidLine, Skipped, Own, MaxArticle}
+use Rattle.relay_conf.specs.RelayLines.{Cutoff, Remember, Patience, PeerLine, FeedLine, RawSays}
+use Rattle.relay_conf.specs.RelayLines.{LineSays, own_line, number_line, number_or_fault}
+use Rattle.relay_conf.specs.RelayLines.{with_number, peer_ported, peer_line, feed_ringed, feed_line}
+use Rattle.relay_conf.specs.RelayLines.{relay_words, relay_line, Bind, ConnectionsLine, address_of}
+use Rattle.relay_conf.specs.RelayLines.{address_or_fault, bind_line, connections_line}
+use Rattle.relay_conf.specs.RelayLines.{connections_numbered}
+use Rattle.relay_conf.specs.Relay.{max_article_of, cutoff_of, remember_of, patience_of, feed_of}
+use Rattle.relay_conf.specs.Relay.{peer_number, first_or, first_of, connections_for, connections_of}
 use Rattle.relay_conf.specs.Words.{words, is_name, is_identity}
 use Rattle.relay_conf.proofs.FaultlessLines.{IsIn}
 use Rattle.relay_conf.proofs.FaultlessLines.{read_within}
@@ -38,7 +40,9 @@ Is_ranged (Ok (MaxArticle octets)) = (1 ≤ octets) × (octets ≤ 16777216)
 Is_ranged (Ok (Cutoff seconds)) = seconds ≤ 4000000000
 Is_ranged (Ok (Remember seconds)) = seconds ≤ 4000000000
 Is_ranged (Ok (Patience seconds)) = (1 ≤ seconds) × (seconds ≤ 86400)
+Is_ranged (Ok (Bind address)) = Unit {0}
 Is_ranged (Ok (PeerLine name identity port)) = Unit {0}
+Is_ranged (Ok (ConnectionsLine name connections)) = (1 ≤ connections) × (connections ≤ 64)
 Is_ranged (Ok (FeedLine name ring expression)) = (1 ≤ ring) × (ring ≤ 65536)
 
 -- So they are of one of two lines.
@@ -90,6 +94,26 @@ of_feed (Some three) =
     (Err Syntax)
     (of_ring three.0 three.2 (number_within 1 65536 three.1) (read_within 1 65536 three.1)) tt
 
+-- of what follows `bind` and `connections`,
+of_address : (address : Option (List ℕ)) → Is_ranged (address_or_fault address)
+of_address None = tt
+of_address (Some address) = tt
+
+of_bind : (word : Option (List ℕ)) → Is_ranged (bind_line word)
+of_bind None = tt
+of_bind (Some word) = of_address (address_of word)
+
+of_count : (name : List ℕ) (count : Option ℕ) → IsIn 1 64 count
+    → Is_ranged (connections_numbered name count)
+of_count name None within = tt
+of_count name (Some count) within = within
+
+of_connections : (two : Option (List ℕ × List ℕ)) → Is_ranged (connections_line two)
+of_connections None = tt
+of_connections (Some two) =
+    of_either (is_name two.0) (connections_numbered two.0 (number_within 1 64 two.1)) (Err Syntax)
+    (of_count two.0 (number_within 1 64 two.1) (read_within 1 64 two.1)) tt
+
 -- of the words of a line,
 of_words : (said : List (List ℕ)) → Is_ranged (relay_words said)
 of_words [] = tt
@@ -103,8 +127,10 @@ of_words (word ∷ after) =
     (of_number Remember 0 4000000000 (one_of after) (λ n least most. most))
     (of_either (bytes_eq word (codes "patience")) _ _
     (of_number Patience 1 86400 (one_of after) (λ n least most. (least, most)))
+    (of_either (bytes_eq word (codes "bind")) _ _ (of_bind (one_of after))
     (of_either (bytes_eq word (codes "peer")) _ _ (of_peer (three_of after))
-    (of_either (bytes_eq word (codes "feed")) _ _ (of_feed (three_of after)) tt))))))
+    (of_either (bytes_eq word (codes "connections")) _ _ (of_connections (two_of after))
+    (of_either (bytes_eq word (codes "feed")) _ _ (of_feed (three_of after)) tt))))))))
 
 -- of a line,
 of_line : (line : List ℕ) → Is_ranged (relay_line line)
@@ -121,7 +147,9 @@ of_said (Ok (MaxArticle octets)) said h k = subst Is_ranged (sym h) k
 of_said (Ok (Cutoff seconds)) said h k = subst Is_ranged (sym h) k
 of_said (Ok (Remember seconds)) said h k = subst Is_ranged (sym h) k
 of_said (Ok (Patience seconds)) said h k = subst Is_ranged (sym h) k
+of_said (Ok (Bind address)) said h k = subst Is_ranged (sym h) tt
 of_said (Ok (PeerLine name identity port)) said h k = subst Is_ranged (sym h) tt
+of_said (Ok (ConnectionsLine name connections)) said h k = subst Is_ranged (sym h) k
 of_said (Ok (FeedLine name ring text)) (Err fault) h k = tt
 of_said (Ok (FeedLine name ring text)) (Ok line) h k =
     subst (λ (l : _). Is_ranged (Ok l)) (sym h.2) k
@@ -162,7 +190,9 @@ octets_given (Ok (MaxArticle octets)) n is e =
 octets_given (Ok (Cutoff seconds)) n is e = cc
 octets_given (Ok (Remember seconds)) n is e = cc
 octets_given (Ok (Patience seconds)) n is e = cc
+octets_given (Ok (Bind address)) n is e = cc
 octets_given (Ok (PeerLine name identity port)) n is e = cc
+octets_given (Ok (ConnectionsLine name connections)) n is e = cc
 octets_given (Ok (FeedLine name ring expression)) n is e = cc
 
 pub cutoff_given : (one : SaidLine) (n : ℕ) → Is_ranged one → cutoff_of one ≡ Some n → n ≤ 4000000000
@@ -174,7 +204,9 @@ cutoff_given (Ok (Cutoff seconds)) n is e =
     subst (λ m. m ≤ 4000000000) (same_Some seconds n e) is
 cutoff_given (Ok (Remember seconds)) n is e = cc
 cutoff_given (Ok (Patience seconds)) n is e = cc
+cutoff_given (Ok (Bind address)) n is e = cc
 cutoff_given (Ok (PeerLine name identity port)) n is e = cc
+cutoff_given (Ok (ConnectionsLine name connections)) n is e = cc
 cutoff_given (Ok (FeedLine name ring expression)) n is e = cc
 
 pub remember_given : (one : SaidLine) (n : ℕ) → Is_ranged one → remember_of one ≡ Some n
@@ -187,7 +219,9 @@ remember_given (Ok (Cutoff seconds)) n is e = cc
 remember_given (Ok (Remember seconds)) n is e =
     subst (λ m. m ≤ 4000000000) (same_Some seconds n e) is
 remember_given (Ok (Patience seconds)) n is e = cc
+remember_given (Ok (Bind address)) n is e = cc
 remember_given (Ok (PeerLine name identity port)) n is e = cc
+remember_given (Ok (ConnectionsLine name connections)) n is e = cc
 remember_given (Ok (FeedLine name ring expression)) n is e = cc
 
 pub patience_given : (one : SaidLine) (n : ℕ) → Is_ranged one → patience_of one ≡ Some n
@@ -200,8 +234,28 @@ patience_given (Ok (Cutoff seconds)) n is e = cc
 patience_given (Ok (Remember seconds)) n is e = cc
 patience_given (Ok (Patience seconds)) n is e =
     subst (λ m. (1 ≤ m) × (m ≤ 86400)) (same_Some seconds n e) is
+patience_given (Ok (Bind address)) n is e = cc
 patience_given (Ok (PeerLine name identity port)) n is e = cc
+patience_given (Ok (ConnectionsLine name connections)) n is e = cc
 patience_given (Ok (FeedLine name ring expression)) n is e = cc
+
+-- the connections,
+pub connections_given : (one : SaidLine) (of : PeerConnections) → Is_ranged one
+    → connections_of one ≡ Some of → (1 ≤ of.connections) × (of.connections ≤ 64)
+connections_given (Err fault) of is e = cc
+connections_given (Ok Skipped) of is e = cc
+connections_given (Ok (Own identity)) of is e = cc
+connections_given (Ok (MaxArticle octets)) of is e = cc
+connections_given (Ok (Cutoff seconds)) of is e = cc
+connections_given (Ok (Remember seconds)) of is e = cc
+connections_given (Ok (Patience seconds)) of is e = cc
+connections_given (Ok (Bind address)) of is e = cc
+connections_given (Ok (PeerLine name identity port)) of is e = cc
+connections_given (Ok (ConnectionsLine name connections)) of is e =
+    let one : PeerConnections = record { name = name; connections = connections } in
+    subst (λ (c : PeerConnections). (1 ≤ c.connections) × (c.connections ≤ 64)) (same_Some one of e)
+    is
+connections_given (Ok (FeedLine name ring expression)) of is e = cc
 
 -- and the rings.
 pub ring_given : (peers : List Peer) (one : SaidLine) (feed : Feed) → Is_ranged one
@@ -213,11 +267,31 @@ ring_given peers (Ok (MaxArticle octets)) feed is e = cc
 ring_given peers (Ok (Cutoff seconds)) feed is e = cc
 ring_given peers (Ok (Remember seconds)) feed is e = cc
 ring_given peers (Ok (Patience seconds)) feed is e = cc
+ring_given peers (Ok (Bind address)) feed is e = cc
 ring_given peers (Ok (PeerLine name identity port)) feed is e = cc
+ring_given peers (Ok (ConnectionsLine name connections)) feed is e = cc
 ring_given peers (Ok (FeedLine name ring expression)) feed is e =
     let one : Feed =
     record { peer = peer_number peers name; ring = ring; expression = expression } in
     subst (λ (f : Feed). (1 ≤ f.ring) × (f.ring ≤ 65536)) (same_Some one feed e) is
+
+-- The connections of a peer are in their range, where those that are said are.
+pub connected_in_range : (all : List PeerConnections)
+    → All (λ (one : PeerConnections). (1 ≤ one.connections) × (one.connections ≤ 64)) all
+    → (name : List ℕ) → (1 ≤ connections_for all name) × (connections_for all name ≤ 64)
+connected_in_range [] each name = (omega arith, omega arith)
+connected_in_range (one ∷ more) each name =
+    let P : PeerConnections → Type 0 = λ (c : PeerConnections).
+    (1 ≤ c.connections) × (c.connections ≤ 64) in
+    by_test (bytes_eq name one.name) refl (All-head P one more each)
+    (connected_in_range more (All-tail P one more each) name)
+  where
+    by_test : (b : Bool) → bytes_eq name one.name ≡ b
+        → (1 ≤ one.connections) × (one.connections ≤ 64)
+        → (1 ≤ connections_for more name) × (connections_for more name ≤ 64)
+        → (1 ≤ connections_for (one ∷ more) name) × (connections_for (one ∷ more) name ≤ 64)
+    by_test true e first later = rw e first
+    by_test false e first later = rw e later
 
 -- The first of numbers, else another, is as each of them and the other are.
 pub first_holds : (P : ℕ → Type 0) (other : ℕ) (numbers : List ℕ) → P other → All P numbers

@@ -8,6 +8,7 @@ use Rattle.std.specs.Option.{option_to_list}
 use Rattle.std.proofs.lemmas.List.{map-append, length-append}
 use Rattle.std.proofs.lemmas.Bool.{leb-false}
 use Rattle.news_terms.specs.Pattern.{Marked}
+use Rattle.relay_conf.specs.declared.faults.Fault.{}
 use Rattle.relay_conf.specs.declared.faults.Fault.TheVariants.{Number, Duplicate, UnknownName}
 use Rattle.relay_conf.specs.declared.faults.LineFault.{LineFault}
 use Rattle.relay_conf.specs.declared.faults.Refusal.{Refusal}
@@ -15,23 +16,26 @@ use Rattle.relay_conf.specs.declared.faults.Refusal.TheVariants.{Memory, Faulty}
 use Rattle.relay_conf.specs.declared.relay.Peer.{Peer}
 use Rattle.relay_conf.specs.declared.relay.Feed.{Feed}
 use Rattle.relay_conf.specs.declared.relay.NamedFeed.{NamedFeed}
+use Rattle.relay_conf.specs.declared.relay.NamedLine.{NamedLine}
 use Rattle.relay_conf.specs.Drafts.{StepGives, IsDrawnFrom}
 use Rattle.relay_conf.specs.Faults.{first_fault, whole_fault, unless_fault, ConfGives}
-use Rattle.relay_conf.specs.Relay.{RelayLine, SaidLine, LineSays, Stand, stand_of, Skipped, Own}
-use Rattle.relay_conf.specs.Relay.{MaxArticle, Cutoff, Remember, Patience, PeerLine, FeedLine}
-use Rattle.relay_conf.specs.Relay.{own_of, max_article_of, cutoff_of, remember_of, patience_of}
-use Rattle.relay_conf.specs.Relay.{peer_of, feed_name_of}
-use Rattle.relay_conf.specs.Relay.{feed_of, once, peer_fault, feed_fault, line_fault, early_fault}
-use Rattle.relay_conf.specs.Relay.{late_fault, is_peer, peer_number, no_own_fault, first_or}
-use Rattle.relay_conf.specs.Relay.{first_of, relay_said, relay_line, RelaySettings}
+use Rattle.relay_conf.specs.Faults.{fault_or_later}
+use Rattle.relay_conf.specs.RelayLines.{RelayLine, SaidLine, LineSays, Skipped, Own, MaxArticle}
+use Rattle.relay_conf.specs.RelayLines.{Cutoff, Remember, Patience, PeerLine, FeedLine, relay_line}
+use Rattle.relay_conf.specs.RelayLines.{Bind, ConnectionsLine}
+use Rattle.relay_conf.specs.Relay.{Stand, stand_of, own_of, max_article_of, cutoff_of, remember_of}
+use Rattle.relay_conf.specs.Relay.{patience_of, peer_of, feed_name_of, feed_of, once, peer_fault}
+use Rattle.relay_conf.specs.Relay.{line_fault, early_fault, late_fault, is_peer, peer_number}
+use Rattle.relay_conf.specs.Relay.{no_own_fault, first_or, first_of, relay_said, RelaySettings}
+use Rattle.relay_conf.specs.Relay.{again_fault, bind_of, connected, connections_of, each_address}
+use Rattle.relay_conf.specs.Relay.{unknown_fault}
 use Rattle.relay_conf.specs.declared.relay.RelayDraft.{RelayDraft}
-use Rattle.relay_conf.specs.RelayDraft.{FeedStep, RelayStep, IsDraftOf, Lists, draft_view}
-use Rattle.relay_conf.specs.RelayDraft.{known_number, Reading, stand_view, fault_behind, after_line}
-use Rattle.relay_conf.specs.RelayDraft.{named_of, named_from, IsReadingOf, first_unknown}
-use Rattle.relay_conf.specs.RelayDraft.{numbered_feed, draft_said}
+use Rattle.relay_conf.specs.RelayDraft.{FeedStep, RelayStep, IsDraftOf, Lists, draft_view, Reading}
+use Rattle.relay_conf.specs.RelayDraft.{stand_view, fault_behind, after_line, named_of, named_from}
+use Rattle.relay_conf.specs.RelayDraft.{IsReadingOf, first_unknown, numbered_feed, draft_said}
+use Rattle.relay_conf.specs.RelayDraft.{nothing, named_feed_of}
 use Rattle.relay_conf.specs.Expressions.{ExpressionGives}
 use Rattle.relay_conf.specs.RelayViews.{relay_view, RelayGives}
-use Rattle.relay_conf.specs.RelayDraft.{nothing}
 use Rattle.relay_conf.specs.declared.faults.ConfError.{ConfError}
 use Rattle.relay_conf.specs.declared.settings.Relay.{Relay}
 use Rattle.relay_conf.proofs.FirstFaults.{filter_one}
@@ -46,7 +50,9 @@ join st line =
       cutoffs = st.cutoffs ++ option_to_list (cutoff_of line);
       remembers = st.remembers ++ option_to_list (remember_of line);
       patiences = st.patiences ++ option_to_list (patience_of line);
+      binds = st.binds ++ option_to_list (bind_of line);
       peers = st.peers ++ option_to_list (peer_of line);
+      connections = st.connections ++ option_to_list (connections_of line);
       feed_names = st.feed_names ++ option_to_list (feed_name_of line);
     }
 
@@ -59,7 +65,9 @@ stand_one said line = rw (
   filter_one cutoff_of said line,
   filter_one remember_of said line,
   filter_one patience_of said line,
+  filter_one bind_of said line,
   filter_one peer_of said line,
+  filter_one connections_of said line,
   filter_one feed_name_of said line,
 ) refl
 
@@ -86,33 +94,52 @@ stand_after number r (Remember seconds) h = simp append-nil
 stand_after number r (Patience seconds) h = simp append-nil
     (ap (λ (xs : List ℕ). record (stand_view r) { patiences = xs })
     (once_none r.patience seconds h))
+stand_after number r (Bind address) h = simp append-nil
+    (ap (λ (xs : List (List ℕ)). record (stand_view r) { binds = xs }) (once_none r.bind address h))
 stand_after number r (PeerLine name identity port) h = simp append-nil
+stand_after number r (ConnectionsLine name connections) h = simp append-nil
 stand_after number r (FeedLine name ring expression) h = simp (append-nil, map-append)
 
--- The feeds of lines and one more.
+-- The names that lines and one more say something of.
 pub named_one : (number : ℕ) (said : List SaidLine) (line : SaidLine)
     → named_from number (said ++ line ∷ []) ≡ named_from number said ++ option_to_list
     (named_of (number + length said) line)
 named_one number [] line = append-nil (option_to_list (named_of number line))
     ∙ ap (λ (k : ℕ). option_to_list (named_of k line)) (omega arith)
 named_one number (s ∷ said) line =
-    ap (λ (fs : List NamedFeed). option_to_list (named_of number s) ++ fs)
+    ap (λ (ns : List NamedLine). option_to_list (named_of number s) ++ ns)
     (named_one (number + 1) said line)
     ∙ sym (append_assoc (option_to_list (named_of number s)) (named_from (number + 1) said)
     (option_to_list (named_of (number + 1 + length said) line)))
     ∙ ap (λ (k : ℕ). (option_to_list (named_of number s) ++ named_from (number + 1) said)
     ++ option_to_list (named_of k line)) (omega arith)
 
+-- The names after a line.
+pub named_after : (number : ℕ) (r : Reading) (line : RelayLine (List Marked))
+    → (after_line number r line).named ≡ r.named ++ option_to_list (named_of number (Ok line))
+named_after number r Skipped = simp append-nil
+named_after number r (Own identity) = simp append-nil
+named_after number r (MaxArticle octets) = simp append-nil
+named_after number r (Cutoff seconds) = simp append-nil
+named_after number r (Remember seconds) = simp append-nil
+named_after number r (Patience seconds) = simp append-nil
+named_after number r (Bind address) = simp append-nil
+named_after number r (PeerLine name identity port) = simp append-nil
+named_after number r (ConnectionsLine name connections) = refl
+named_after number r (FeedLine name ring expression) = refl
+
 -- The feeds after a line.
 pub feeds_after : (number : ℕ) (r : Reading) (line : RelayLine (List Marked))
-    → (after_line number r line).feeds ≡ r.feeds ++ option_to_list (named_of number (Ok line))
+    → (after_line number r line).feeds ≡ r.feeds ++ option_to_list (named_feed_of (Ok line))
 feeds_after number r Skipped = simp append-nil
 feeds_after number r (Own identity) = simp append-nil
 feeds_after number r (MaxArticle octets) = simp append-nil
 feeds_after number r (Cutoff seconds) = simp append-nil
 feeds_after number r (Remember seconds) = simp append-nil
 feeds_after number r (Patience seconds) = simp append-nil
+feeds_after number r (Bind address) = simp append-nil
 feeds_after number r (PeerLine name identity port) = simp append-nil
+feeds_after number r (ConnectionsLine name connections) = simp append-nil
 feeds_after number r (FeedLine name ring expression) = refl
 
 -- One peer more is within the limit.
@@ -133,8 +160,10 @@ few_after number r (MaxArticle octets) h few = few
 few_after number r (Cutoff seconds) h few = few
 few_after number r (Remember seconds) h few = few
 few_after number r (Patience seconds) h few = few
+few_after number r (Bind address) h few = few
 few_after number r (PeerLine name identity port) h few = let room = peer_room r.peers name h in
     simp length-append (omega (arith, room))
+few_after number r (ConnectionsLine name connections) h few = few
 few_after number r (FeedLine name ring expression) h few = few
 
 -- The reading after a line without fault is that of the lines with it.
@@ -147,8 +176,12 @@ reading_more said r line none reading =
           ∙ ap (λ (st : Stand). join st (Ok line)) reading.stand
           ∙ sym (stand_one said (Ok line));
       feeds = feeds_after (length said + 1) r line
-          ∙ ap (λ (fs : List NamedFeed).
-          fs ++ option_to_list (named_of (length said + 1) (Ok line))) reading.feeds
+          ∙ ap (λ (fs : List NamedFeed). fs ++ option_to_list (named_feed_of (Ok line)))
+          reading.feeds
+          ∙ sym (filter_one named_feed_of said (Ok line));
+      named = named_after (length said + 1) r line
+          ∙ ap (λ (ns : List NamedLine).
+          ns ++ option_to_list (named_of (length said + 1) (Ok line))) reading.named
           ∙ ap (λ (k : ℕ). named_from 1 said ++ option_to_list (named_of k (Ok line)))
           (omega arith)
           ∙ sym (named_one 1 said (Ok line));
@@ -193,7 +226,21 @@ late_next : (peers : List Peer) (before : List SaidLine) (line : SaidLine) (said
 late_next peers before line said h = h ∙ ap (λ (k : ℕ). first_unknown peers (named_from k said))
     (omega (arith, length-append before (line ∷ [])))
 
--- The first feed of no peer is the first fault that is looked for after the last line.
+-- A line that says something of a name has a fault where that is no peer's, else the later one.
+late_name : (peers : List Peer) (name : List ℕ) (line : ℕ) (later : Option LineFault)
+    (more : List NamedLine) → later ≡ first_unknown peers more
+    → fault_or_later line (unknown_fault peers (Some name)) later
+    ≡ first_unknown peers (record { line = line; name = name } ∷ more)
+late_name peers name line later more h = by_test (is_peer peers name) refl
+  where
+    by_test : (b : Bool) → is_peer peers name ≡ b
+        → fault_or_later line (unknown_fault peers (Some name)) later
+        ≡ first_unknown peers (record { line = line; name = name } ∷ more)
+    by_test true e = rw e h
+    by_test false e = rw e refl
+
+-- The first line that says something of no peer is the first fault that is looked for after the
+-- last line.
 pub late_is_unknown : (peers : List Peer) (before said : List SaidLine)
     → first_fault (late_fault peers) before said ≡ first_unknown peers
     (named_from (length before + 1) said)
@@ -213,48 +260,38 @@ late_is_unknown peers before (Ok (Remember seconds) ∷ said) = late_next peers 
     (Ok (Remember seconds)) said (late_is_unknown peers (before ++ Ok (Remember seconds) ∷ []) said)
 late_is_unknown peers before (Ok (Patience seconds) ∷ said) = late_next peers before
     (Ok (Patience seconds)) said (late_is_unknown peers (before ++ Ok (Patience seconds) ∷ []) said)
+late_is_unknown peers before (Ok (Bind address) ∷ said) = late_next peers before
+    (Ok (Bind address)) said (late_is_unknown peers (before ++ Ok (Bind address) ∷ []) said)
 late_is_unknown peers before (Ok (PeerLine name identity port) ∷ said) = late_next peers before
     (Ok (PeerLine name identity port)) said
     (late_is_unknown peers (before ++ Ok (PeerLine name identity port) ∷ []) said)
+late_is_unknown peers before (Ok (ConnectionsLine name connections) ∷ said) =
+    late_name peers name (length before + 1) _ _
+    (late_next peers before (Ok (ConnectionsLine name connections)) said
+    (late_is_unknown peers (before ++ Ok (ConnectionsLine name connections) ∷ []) said))
 late_is_unknown peers before (Ok (FeedLine name ring expression) ∷ said) =
-    by_test (is_peer peers name) refl
+    late_name peers name (length before + 1) _ _
     (late_next peers before (Ok (FeedLine name ring expression)) said
     (late_is_unknown peers (before ++ Ok (FeedLine name ring expression) ∷ []) said))
-  where
-    by_test : (b : Bool) → is_peer peers name ≡ b
-        → first_fault (late_fault peers) (before ++ Ok (FeedLine name ring expression) ∷ []) said
-        ≡ first_unknown peers (named_from (length before + 1 + 1) said)
-        → first_fault (late_fault peers) before (Ok (FeedLine name ring expression) ∷ said)
-        ≡ first_unknown peers (named_from (length before + 1)
-        (Ok (FeedLine name ring expression) ∷ said))
-    by_test true e after = rw e after
-    by_test false e after = rw e refl
 
 -- The feeds of lines by the numbers of their peers.
-pub feeds_are_numbered : (peers : List Peer) (number : ℕ) (said : List SaidLine)
-    → filter_map (feed_of peers) said ≡ map (numbered_feed peers) (named_from number said)
-feeds_are_numbered peers number [] = refl
-feeds_are_numbered peers number (Err fault ∷ said) = feeds_are_numbered peers (number + 1) said
-feeds_are_numbered peers number (Ok Skipped ∷ said) = feeds_are_numbered peers (number + 1) said
-feeds_are_numbered peers number (Ok (Own identity) ∷ said) = feeds_are_numbered peers
-    (number + 1) said
-feeds_are_numbered peers number (Ok (MaxArticle octets) ∷ said) = feeds_are_numbered peers
-    (number + 1) said
-feeds_are_numbered peers number (Ok (Cutoff seconds) ∷ said) = feeds_are_numbered peers
-    (number + 1) said
-feeds_are_numbered peers number (Ok (Remember seconds) ∷ said) = feeds_are_numbered peers
-    (number + 1) said
-feeds_are_numbered peers number (Ok (Patience seconds) ∷ said) = feeds_are_numbered peers
-    (number + 1) said
-feeds_are_numbered peers number (Ok (PeerLine name identity port) ∷ said) = feeds_are_numbered peers
-    (number + 1) said
-feeds_are_numbered peers number (Ok (FeedLine name ring expression) ∷ said) =
-    ap (λ (fs : List Feed). record {
-      peer = peer_number peers name;
-      ring = ring;
-      expression =
-          expression;
-    } ∷ fs) (feeds_are_numbered peers (number + 1) said)
+pub feeds_are_numbered : (peers : List Peer) (said : List SaidLine)
+    → filter_map (feed_of peers) said ≡ map (numbered_feed peers) (filter_map named_feed_of said)
+feeds_are_numbered peers [] = refl
+feeds_are_numbered peers (Err fault ∷ said) = feeds_are_numbered peers said
+feeds_are_numbered peers (Ok Skipped ∷ said) = feeds_are_numbered peers said
+feeds_are_numbered peers (Ok (Own identity) ∷ said) = feeds_are_numbered peers said
+feeds_are_numbered peers (Ok (MaxArticle octets) ∷ said) = feeds_are_numbered peers said
+feeds_are_numbered peers (Ok (Cutoff seconds) ∷ said) = feeds_are_numbered peers said
+feeds_are_numbered peers (Ok (Remember seconds) ∷ said) = feeds_are_numbered peers said
+feeds_are_numbered peers (Ok (Patience seconds) ∷ said) = feeds_are_numbered peers said
+feeds_are_numbered peers (Ok (Bind address) ∷ said) = feeds_are_numbered peers said
+feeds_are_numbered peers (Ok (PeerLine name identity port) ∷ said) = feeds_are_numbered peers said
+feeds_are_numbered peers (Ok (ConnectionsLine name connections) ∷ said) = feeds_are_numbered peers said
+feeds_are_numbered peers (Ok (FeedLine name ring expression) ∷ said) =
+    let feed : Feed =
+    record { peer = peer_number peers name; ring = ring; expression = expression } in
+    ap (λ (fs : List Feed). feed ∷ fs) (feeds_are_numbered peers said)
 
 -- An expression that isn't read ends the step.
 pub feed_err : (number : ℕ) (name : List ℕ) (ring : ℕ) (text : List ℕ) (r after : Reading)
@@ -270,44 +307,30 @@ feed_err number name ring text r after (Err e) refusal is gives =
     by_refusal Memory g = tt
     by_refusal (Faulty fault) g = record { said = Err fault; says = g; found = refl }
 
--- A feed of a name that has one is a second.
-pub feed_taken : (names : List (List ℕ)) (name : List ℕ) (b added : Bool)
+-- A name that is listed is Duplicate.
+pub name_taken : (names : List (List ℕ)) (name : List ℕ) (b added : Bool)
     → b ≡ list_any (bytes_eq name) names → added ≡ not b → added ≡ false
-    → feed_fault names name ≡ Some Duplicate
-feed_taken names name true added listed is new = rw (← listed) refl
-feed_taken names name false added listed is new = cc
+    → again_fault names name ≡ Some Duplicate
+name_taken names name true added listed is new = rw (← listed) refl
+name_taken names name false added listed is new = cc
 
--- A feed of a name that has none is the first.
-pub feed_free : (names : List (List ℕ)) (name : List ℕ) (b added : Bool)
+-- A name that isn't listed is the first.
+pub name_free : (names : List (List ℕ)) (name : List ℕ) (b added : Bool)
     → b ≡ list_any (bytes_eq name) names → added ≡ not b → added ≡ true
-    → feed_fault names name ≡ None
-feed_free names name true added listed is new = cc
-feed_free names name false added listed is new = rw (← listed) refl
+    → again_fault names name ≡ None
+name_free names name true added listed is new = cc
+name_free names name false added listed is new = rw (← listed) refl
 
--- A feed of no peer is the first.
-pub unknown_first : (peers : List Peer) (feed : NamedFeed) (more : List NamedFeed)
-    → known_number peers feed.name ≡ None → first_unknown peers (feed ∷ more) ≡ Some
-    (record { line = feed.line; fault = UnknownName })
-unknown_first peers feed more h = by_test (is_peer peers feed.name) refl
-  where
-    by_test : (b : Bool) → is_peer peers feed.name ≡ b → first_unknown peers (feed ∷ more) ≡ Some
-        (record { line = feed.line; fault = UnknownName })
-    by_test true e = let some : Some (peer_number peers feed.name) ≡ None = rw e at h in cc
-    by_test false e = rw e refl
+-- A name of no peer is the first.
+pub unknown_first : (peers : List Peer) (one : NamedLine) (more : List NamedLine)
+    → is_peer peers one.name ≡ false → first_unknown peers (one ∷ more) ≡ Some
+    (record { line = one.line; fault = UnknownName })
+unknown_first peers one more e = rw e refl
 
--- A feed of a peer is passed.
-pub known_first : (peers : List Peer) (feed : NamedFeed) (more : List NamedFeed) (number : ℕ)
-    → known_number peers feed.name ≡ Some number
-    → (first_unknown peers (feed ∷ more) ≡ first_unknown peers more) ×
-    (peer_number peers feed.name ≡ number)
-known_first peers feed more number h = by_test (is_peer peers feed.name) refl
-  where
-    by_test : (b : Bool) → is_peer peers feed.name ≡ b
-        → (first_unknown peers (feed ∷ more) ≡ first_unknown peers more) ×
-        (peer_number peers feed.name ≡ number)
-    by_test true e = let some : Some (peer_number peers feed.name) ≡ Some number = rw e at h in
-        (rw e refl, cc)
-    by_test false e = let none : None ≡ Some number = rw e at h in cc
+-- A name of a peer is passed.
+pub known_first : (peers : List Peer) (one : NamedLine) (more : List NamedLine)
+    → is_peer peers one.name ≡ true → first_unknown peers (one ∷ more) ≡ first_unknown peers more
+known_first peers one more e = rw e refl
 
 first_or_is : {X : Type 0} (o : Option X) (d : X) → first_or d (option_to_list o) ≡ unwrap_or o d
 first_or_is None d = refl
@@ -317,17 +340,19 @@ first_of_is : {X : Type 0} (o : Option X) → first_of (option_to_list o) ≡ o
 first_of_is None = refl
 first_of_is (Some x) = refl
 
--- what lines without early fault say, by what stands and the feeds
-abbrev pub said_by_stand : Stand → List NamedFeed → Result RelaySettings LineFault
-said_by_stand st feeds =
-    unless_fault (whole_fault (no_own_fault st.owns)) (unless_fault (first_unknown st.peers feeds)
+-- what lines without early fault say, by what stands, the feeds and the names
+abbrev pub said_by_stand : Stand → List NamedFeed → List NamedLine
+    → Result RelaySettings LineFault
+said_by_stand st feeds named =
+    unless_fault (whole_fault (no_own_fault st.owns)) (unless_fault (first_unknown st.peers named)
     (Ok (record {
       own = first_or [] st.owns;
       max_article = first_or 1000000 st.sizes;
       cutoff = first_or 864000 st.cutoffs;
       remember = first_of st.remembers;
       patience = first_or 3600 st.patiences;
-      peers = st.peers;
+      bind = first_or each_address st.binds;
+      peers = map (connected st.connections) st.peers;
       feeds = map (numbered_feed st.peers) feeds;
     })))
 
@@ -338,16 +363,20 @@ reading_says said r none reading =
     rw (
       none,
       late_is_unknown (stand_of said).peers [] said,
-      feeds_are_numbered (stand_of said).peers 1 said,
+      feeds_are_numbered (stand_of said).peers said,
     )
-    (ap (λ (st : Stand). said_by_stand st (named_from 1 said)) (sym reading.stand)
-    ∙ ap (said_by_stand (stand_view r)) (sym reading.feeds)
+    (ap (λ (st : Stand). said_by_stand st (filter_map named_feed_of said) (named_from 1 said))
+    (sym reading.stand)
+    ∙ ap (λ (fs : List NamedFeed). said_by_stand (stand_view r) fs (named_from 1 said))
+    (sym reading.feeds)
+    ∙ ap (said_by_stand (stand_view r) r.feeds) (sym reading.named)
     ∙ rw (
       first_or_is r.own [],
       first_or_is r.max_article 1000000,
       first_or_is r.cutoff 864000,
       first_of_is r.remember,
       first_or_is r.patience 3600,
+      first_or_is r.bind each_address,
     ) refl)
 
 -- The draft of no lines.
@@ -355,7 +384,7 @@ pub no_draft : (d : RelayDraft) → draft_view d ≡ nothing → Lists d → IsD
 no_draft d e listed =
     record {
       reading = subst (IsReadingOf []) (sym e)
-          (record { stand = refl; feeds = refl; few = lit≤ tt });
+          (record { stand = refl; feeds = refl; named = refl; few = lit≤ tt });
       listed = listed;
     }
 

@@ -1,17 +1,17 @@
 -- Comments and empty lines of relay.conf.
 use Rattle.std.proofs.Common.{◌≡◌, ℕ, true, List, [], ◌∷◌, ◌++◌, Some, Ok, refl, ap, ◌∙◌, sym}
 use Rattle.std.proofs.Common.{subst}
-use Rattle.std.specs.Prelude.{◌↔◌, filter_map}
+use Rattle.std.specs.Prelude.{◌↔◌, filter_map, map}
 use Rattle.news_terms.specs.Article.{without_outer_white}
 use Rattle.relay_conf.specs.declared.relay.Feed.{Feed}
 use Rattle.relay_conf.specs.Faults.{first_fault, whole_fault}
 use Rattle.line_words.specs.Comments.{is_skipped}
-use Rattle.relay_conf.specs.Relay.{RawLine, SaidLine, Skipped, RawSays, LineSays, Stand, stand_of}
-use Rattle.relay_conf.specs.Relay.{own_of, max_article_of, cutoff_of, remember_of, patience_of}
-use Rattle.relay_conf.specs.Relay.{peer_of}
-use Rattle.relay_conf.specs.Relay.{feed_name_of, feed_of, line_fault, early_fault, late_fault}
-use Rattle.relay_conf.specs.Relay.{no_own_fault, first_or, first_of, settings_of, relay_said}
-use Rattle.relay_conf.specs.Relay.{relay_line, RelaySettings}
+use Rattle.relay_conf.specs.RelayLines.{RawLine, SaidLine, Skipped, RawSays, LineSays, relay_line}
+use Rattle.relay_conf.specs.Relay.{Stand, stand_of, own_of, max_article_of, cutoff_of, remember_of}
+use Rattle.relay_conf.specs.Relay.{patience_of, peer_of, feed_name_of, feed_of, line_fault}
+use Rattle.relay_conf.specs.Relay.{early_fault, late_fault, no_own_fault, first_or, first_of}
+use Rattle.relay_conf.specs.Relay.{settings_of, relay_said, RelaySettings, bind_of, connected}
+use Rattle.relay_conf.specs.Relay.{connections_of, each_address}
 use Rattle.relay_conf.specs.RelayViews.{HasSettings}
 use Rattle.relay_conf.proofs.SkippedLines.{is_quiet, settings_in, kept_same, quiet_same}
 use Rattle.relay_conf.proofs.SkippedLines.{unless_same, settings_without}
@@ -27,7 +27,9 @@ stand_same before after =
       kept_same cutoff_of before (Ok Skipped) after refl,
       kept_same remember_of before (Ok Skipped) after refl,
       kept_same patience_of before (Ok Skipped) after refl,
+      kept_same bind_of before (Ok Skipped) after refl,
       kept_same peer_of before (Ok Skipped) after refl,
+      kept_same connections_of before (Ok Skipped) after refl,
       kept_same feed_name_of before (Ok Skipped) after refl,
     ) refl
 
@@ -40,7 +42,8 @@ settings_by stand feeds =
       cutoff = first_or 864000 stand.cutoffs;
       remember = first_of stand.remembers;
       patience = first_or 3600 stand.patiences;
-      peers = stand.peers;
+      bind = first_or each_address stand.binds;
+      peers = map (connected stand.connections) stand.peers;
       feeds = feeds;
     }
 

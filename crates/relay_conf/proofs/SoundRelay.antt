@@ -8,23 +8,23 @@ use Rattle.std.specs.Prelude.{filter_map, bytes_eq, nat_le}
 use Rattle.std.specs.List.{list_any, position_or_len}
 use Rattle.std.specs.Option.{option_to_list}
 use Rattle.std.proofs.lemmas.Bool.{cases_lt, le-leb, ltb-true}
-use Rattle.std.proofs.lemmas.List.{length-append}
-use Rattle.std.proofs.lemmas.List.Elements.{All-append, All-nil, All-push}
+use Rattle.std.proofs.lemmas.List.{length-append, length-map}
+use Rattle.std.proofs.lemmas.List.Elements.{All-append, All-map, All-nil, All-push}
 use Rattle.std.proofs.lemmas.Option.{same_Some, slice_get-get_or}
 use Rattle.news_terms.specs.Path.{is_agent}
 use Rattle.std.proofs.lemmas.Slice.Eq.{bytes_eq-Decides}
 use Rattle.relay_conf.specs.declared.faults.Fault.TheVariants.{Duplicate, Number}
 use Rattle.relay_conf.specs.declared.relay.Feed.{Feed}
 use Rattle.relay_conf.specs.declared.relay.Peer.{Peer}
+use Rattle.relay_conf.specs.declared.relay.PeerConnections.{PeerConnections}
 use Rattle.relay_conf.specs.Faults.{first_fault, whole_fault}
-use Rattle.relay_conf.specs.Relay.{SaidLine, Skipped, Own, MaxArticle, Cutoff}
-use Rattle.relay_conf.specs.Relay.{Remember, Patience, PeerLine, FeedLine}
+use Rattle.relay_conf.specs.RelayLines.{SaidLine, Skipped, Own, MaxArticle, Cutoff, Remember}
+use Rattle.relay_conf.specs.RelayLines.{Patience, PeerLine, FeedLine, Bind, ConnectionsLine}
 use Rattle.relay_conf.specs.Relay.{peer_of, max_article_of, cutoff_of, remember_of, patience_of}
-use Rattle.relay_conf.specs.Relay.{feed_name_of}
-use Rattle.relay_conf.specs.Relay.{feed_of, peer_number, is_peer, peer_fault, feed_fault}
+use Rattle.relay_conf.specs.Relay.{feed_name_of, feed_of, peer_number, is_peer, peer_fault}
 use Rattle.relay_conf.specs.Relay.{unknown_fault, line_fault, stand_of, early_fault, late_fault}
-use Rattle.relay_conf.specs.Relay.{no_own_fault, settings_of, RelaySettings}
-use Rattle.relay_conf.specs.Relay.{Stand}
+use Rattle.relay_conf.specs.Relay.{no_own_fault, settings_of, RelaySettings, Stand, again_fault}
+use Rattle.relay_conf.specs.Relay.{connected, connections_of, name_in}
 use Rattle.relay_conf.specs.RelayViews.{HasSettings}
 use Rattle.relay_conf.specs.SoundRelay.{IsSoundRelay}
 use Rattle.relay_conf.proofs.FaultlessLines.{behind_trial, no_fault_keeps, no_unknown}
@@ -33,7 +33,7 @@ use Rattle.relay_conf.proofs.ListPlaces.{Apart, apart_more, found_at, holds_at}
 use Rattle.relay_conf.proofs.PathIdentities.{own_is_agent, peers_are_agents}
 use Rattle.relay_conf.proofs.RangedRelay.{all_ranged, all_given, octets_given, cutoff_given}
 use Rattle.relay_conf.proofs.RangedRelay.{remember_given, patience_given, ring_given, first_holds}
-use Rattle.relay_conf.proofs.RangedRelay.{first_known}
+use Rattle.relay_conf.proofs.RangedRelay.{first_known, connections_given, connected_in_range}
 
 -- HOW MANY PEERS
 
@@ -59,10 +59,14 @@ few_more stand (Ok (MaxArticle octets)) e few = omega (arith, length-append stan
 few_more stand (Ok (Cutoff seconds)) e few = omega (arith, length-append stand.peers [], few)
 few_more stand (Ok (Remember seconds)) e few = omega (arith, length-append stand.peers [], few)
 few_more stand (Ok (Patience seconds)) e few = omega (arith, length-append stand.peers [], few)
+few_more stand (Ok (Bind address)) e few = omega (arith, length-append stand.peers [], few)
 few_more stand (Ok (PeerLine name identity port)) e few =
     let room = not_full stand.peers name e in
-    let one : Peer = record { name = name; identity = identity; port = port } in
+    let one : Peer =
+    record { name = name; identity = identity; port = port; connections = 1 } in
     omega (arith, length-append stand.peers (one ∷ []), room)
+few_more stand (Ok (ConnectionsLine name connections)) e few =
+    omega (arith, length-append stand.peers [], few)
 few_more stand (Ok (FeedLine name ring expression)) e few =
     omega (arith, length-append stand.peers [], few)
 
@@ -79,7 +83,7 @@ few_peers said none =
 -- THE PEERS OF FEEDS
 
 -- A name that passes is none of these.
-is_new : (names : List (List ℕ)) (name : List ℕ) → feed_fault names name ≡ None → (i : ℕ)
+is_new : (names : List (List ℕ)) (name : List ℕ) → again_fault names name ≡ None → (i : ℕ)
     → slice_get names i ≢ Some name
 is_new names name e i at =
     let t : list_any (bytes_eq name) names ≡ true =
@@ -103,7 +107,11 @@ apart_next stand (Ok (Remember seconds)) e apart =
     subst Apart (sym (append-nil stand.feed_names)) apart
 apart_next stand (Ok (Patience seconds)) e apart =
     subst Apart (sym (append-nil stand.feed_names)) apart
+apart_next stand (Ok (Bind address)) e apart =
+    subst Apart (sym (append-nil stand.feed_names)) apart
 apart_next stand (Ok (PeerLine name identity port)) e apart =
+    subst Apart (sym (append-nil stand.feed_names)) apart
+apart_next stand (Ok (ConnectionsLine name connections)) e apart =
     subst Apart (sym (append-nil stand.feed_names)) apart
 apart_next stand (Ok (FeedLine name ring expression)) e apart =
     apart_more stand.feed_names name (is_new stand.feed_names name e) apart
@@ -117,6 +125,21 @@ names_apart said none =
     subst Apart (sym (filter_one feed_name_of before line))
     (apart_next (stand_of before) line e apart))
     [] said none (λ i j x at other. cc)
+
+-- A feed behind a line without a fault is of a peer.
+feed_known : (peers : List Peer) (line : SaidLine) → unknown_fault peers (name_in line) ≡ None
+    → unknown_fault peers (feed_name_of line) ≡ None
+feed_known peers (Err fault) e = refl
+feed_known peers (Ok Skipped) e = refl
+feed_known peers (Ok (Own identity)) e = refl
+feed_known peers (Ok (MaxArticle octets)) e = refl
+feed_known peers (Ok (Cutoff seconds)) e = refl
+feed_known peers (Ok (Remember seconds)) e = refl
+feed_known peers (Ok (Patience seconds)) e = refl
+feed_known peers (Ok (Bind address)) e = refl
+feed_known peers (Ok (PeerLine name identity port)) e = refl
+feed_known peers (Ok (ConnectionsLine name connections)) e = refl
+feed_known peers (Ok (FeedLine name ring expression)) e = e
 
 -- A feed's name is that of a peer behind a line without a fault.
 named_next : (peers : List Peer) (names : List (List ℕ)) (name : Option (List ℕ))
@@ -139,7 +162,8 @@ names_known peers said none =
     no_fault_keeps (late_fault peers) (λ before. All P (filter_map feed_name_of before))
     (λ before line e all.
     subst (All P) (sym (filter_one feed_name_of before line))
-    (named_next peers (filter_map feed_name_of before) (feed_name_of line) e all))
+    (named_next peers (filter_map feed_name_of before) (feed_name_of line)
+    (feed_known peers line e) all))
     [] said none (All-nil P)
 
 -- A feed is of the peer whose name stands at its place.
@@ -155,7 +179,9 @@ name_at peers (Ok (MaxArticle octets) ∷ said) i feed e = name_at peers said i 
 name_at peers (Ok (Cutoff seconds) ∷ said) i feed e = name_at peers said i feed e
 name_at peers (Ok (Remember seconds) ∷ said) i feed e = name_at peers said i feed e
 name_at peers (Ok (Patience seconds) ∷ said) i feed e = name_at peers said i feed e
+name_at peers (Ok (Bind address) ∷ said) i feed e = name_at peers said i feed e
 name_at peers (Ok (PeerLine name identity port) ∷ said) i feed e = name_at peers said i feed e
+name_at peers (Ok (ConnectionsLine name connections) ∷ said) i feed e = name_at peers said i feed e
 name_at peers (Ok (FeedLine name ring expression) ∷ said) zero feed e =
     let one : Feed =
     record { peer = peer_number peers name; ring = ring; expression = expression } in
@@ -240,6 +266,9 @@ relay_is_sound lines settings h =
     let patience = first_holds (λ n. (1 ≤ n) × (n ≤ 86400)) 3600 stand.patiences
     (omega arith, omega arith) (all_given (λ n. (1 ≤ n) × (n ≤ 86400)) patience_of
     patience_given said ranged) in
+    let connections = all_given
+    (λ (one : PeerConnections). (1 ≤ one.connections) × (one.connections ≤ 64)) connections_of
+    connections_given said ranged in
     subst IsSoundRelay same
     (record {
       own = subst (λ (s : RelaySettings). IsTrue (is_agent s.own)) (sym same)
@@ -247,10 +276,17 @@ relay_is_sound lines settings h =
       identities = subst (λ (s : RelaySettings).
           All (λ (peer : Peer). IsTrue (is_agent peer.identity)) s.peers) (sym same)
           (peers_are_agents lines settings h);
-      few_peers = few_peers said early.0;
+      few_peers = subst (λ n. n ≤ 1024)
+          (sym (length-map stand.peers (connected stand.connections))) (few_peers said early.0);
+      connections = All-map (λ (peer : Peer). (1 ≤ peer.connections) × (peer.connections ≤ 64))
+          (connected stand.connections) stand.peers (λ k d less.
+          connected_in_range stand.connections connections (get_or stand.peers k d).name);
       rings = all_given (λ (feed : Feed). (1 ≤ feed.ring) × (feed.ring ≤ 65536))
           (feed_of stand.peers) (ring_given stand.peers) said ranged;
-      of_peers = feeds_within stand.peers said late.0;
+      of_peers = subst (λ n. All (λ (feed : Feed). feed.peer < n)
+          (filter_map (feed_of stand.peers) said))
+          (sym (length-map stand.peers (connected stand.connections)))
+          (feeds_within stand.peers said late.0);
       own_feed = own_feeds stand.peers said early.0 late.0;
       some_octets = octets.0;
       most_octets = octets.1;

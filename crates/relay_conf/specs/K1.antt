@@ -5,7 +5,7 @@ use Rattle.news_terms.specs.StorageClass.{Entry}
 use Rattle.relay_conf.specs.declared.settings.Config.{Config}
 use Rattle.relay_conf.specs.declared.cycbuff.Mode.TheVariants.{Interleave}
 use Rattle.relay_conf.specs.Cycbuff.{CycbuffSettings}
-use Rattle.relay_conf.specs.Relay.{RelaySettings}
+use Rattle.relay_conf.specs.Relay.{RelaySettings, each_address}
 use Rattle.relay_conf.specs.RelayViews.{relay_view}
 use Rattle.relay_conf.specs.Settings.{buffers_view}
 use Rattle.relay_conf.specs.Storage.{entry_view}
@@ -45,8 +45,11 @@ k1_relay =
       cutoff = 864000;
       remember = None;
       patience = 3600;
-      peers = record { name = codes "p1"; identity = codes "one.example"; port = 0 }
-          ∷ record { name = codes "p2"; identity = codes "two.example"; port = 0 } ∷ [];
+      bind = each_address;
+      peers =
+          record { name = codes "p1"; identity = codes "one.example"; port = 0; connections = 1 }
+          ∷ record { name = codes "p2"; identity = codes "two.example"; port = 0; connections = 1 }
+          ∷ [];
       feeds = record { peer = 1; ring = 2; expression = every_newsgroup } ∷ [];
     }
 

@@ -11,6 +11,7 @@ pub mod Places
 pub mod Readings
 pub mod Relay
 pub mod RelayDraft
+pub mod RelayLines
 pub mod RelayViews
 pub mod Settings
 pub mod SoundRelay

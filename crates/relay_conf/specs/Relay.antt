@@ -1,146 +1,17 @@
--- relay.conf: what its lines say, one by one and together.
-use Rattle.std.specs.Prelude.{◌≡◌, ℕ, ◌&&◌, nat_le, nat_lt, Bool, List, [], ◌∷◌, length, map}
-use Rattle.std.specs.Prelude.{filter_map, codes, bytes_eq, Option, None, Some, Result, Ok, Err}
-use Rattle.std.specs.Prelude.{if◌then◌else◌}
+-- relay.conf: what its lines say together.
+use Rattle.std.specs.Prelude.{ℕ, nat_le, nat_lt, Bool, List, [], ◌∷◌, length, map, filter_map}
+use Rattle.std.specs.Prelude.{bytes_eq, Option, None, Some, Result, Ok, Err, if◌then◌else◌}
 use Rattle.std.specs.List.{list_any, position_or_len}
-use Rattle.news_terms.specs.Article.{without_outer_white}
-use Rattle.news_terms.specs.Pattern.{Marked, ExpressionFault, IsExpressionText, HasLeftmostFault}
 use Rattle.relay_conf.specs.declared.faults.Fault.{Fault}
-use Rattle.relay_conf.specs.declared.faults.Fault.TheVariants.{Syntax, UnknownKey, Duplicate}
-use Rattle.relay_conf.specs.declared.faults.Fault.TheVariants.{UnknownName, Number, Pattern}
+use Rattle.relay_conf.specs.declared.faults.Fault.TheVariants.{Syntax, Duplicate, UnknownName}
+use Rattle.relay_conf.specs.declared.faults.Fault.TheVariants.{Number}
 use Rattle.relay_conf.specs.declared.faults.LineFault.{LineFault}
 use Rattle.relay_conf.specs.declared.relay.Peer.{Peer}
 use Rattle.relay_conf.specs.declared.relay.Feed.{Feed}
+use Rattle.relay_conf.specs.declared.relay.PeerConnections.{PeerConnections}
 use Rattle.relay_conf.specs.Faults.{first_fault, whole_fault, unless_fault}
-use Rattle.line_words.specs.Comments.{is_skipped}
-use Rattle.relay_conf.specs.Words.{words, is_name, is_identity}
-use Rattle.line_words.specs.Parts.{one_of, three_of}
-use Rattle.line_words.specs.Numbers.{number_within}
-
--- what a line of relay.conf says, faults apart; a feed has its expression as E: first its text,
--- then what that is (docs/FORMATS.md, Configuration)
-pub data RelayLine (E : Type 0) : Type 0 where
-  -- a comment or an empty line
-  Skipped : RelayLine E
-  -- `own IDENTITY`
-  Own : (identity : List ℕ) → RelayLine E
-  -- `maxart N`
-  MaxArticle : (octets : ℕ) → RelayLine E
-  -- `cutoff N`
-  Cutoff : (seconds : ℕ) → RelayLine E
-  -- `remember N`
-  Remember : (seconds : ℕ) → RelayLine E
-  -- `patience N`
-  Patience : (seconds : ℕ) → RelayLine E
-  -- `peer NAME IDENTITY PORT`
-  PeerLine : (name identity : List ℕ) (port : ℕ) → RelayLine E
-  -- `feed NAME RING EXPR`
-  FeedLine : (name : List ℕ) (ring : ℕ) (expression : E) → RelayLine E
-
--- a line alone, its expression as text
-abbrev pub RawLine : Type 0
-RawLine = Result (RelayLine (List ℕ)) Fault
-
--- a line with its expression read
-abbrev pub SaidLine : Type 0
-SaidLine = Result (RelayLine (List Marked)) Fault
-
--- what follows `own` (docs/FORMATS.md, Configuration)
-abbrev pub own_line : (word : Option (List ℕ)) → RawLine
-own_line None = Err Syntax
-own_line (Some identity) = if is_identity identity then Ok (Own identity) else Err Syntax
-
--- a number, where the word is one (docs/FORMATS.md, Configuration)
-abbrev pub number_or_fault : Option ℕ → Result ℕ Fault
-number_or_fault None = Err Number
-number_or_fault (Some number) = Ok number
-
--- the one number of a line, in this range (docs/FORMATS.md, Configuration)
-abbrev pub number_line : (least most : ℕ) → (word : Option (List ℕ)) → Result ℕ Fault
-number_line least most None = Err Syntax
-number_line least most (Some word) = number_or_fault (number_within least most word)
-
--- a line of a number
-abbrev pub with_number : (ℕ → RelayLine (List ℕ)) → Result ℕ Fault → RawLine
-with_number line (Err fault) = Err fault
-with_number line (Ok number) = Ok (line number)
-
--- a peer, or Number where its port is none (docs/FORMATS.md, Configuration)
-abbrev pub peer_ported : (name identity : List ℕ) → Option ℕ → RawLine
-peer_ported name identity None = Err Number
-peer_ported name identity (Some port) = Ok (PeerLine name identity port)
-
--- what follows `peer` (docs/FORMATS.md, Configuration)
-abbrev pub peer_line : (three : Option (List ℕ × List ℕ × List ℕ)) → RawLine
-peer_line None = Err Syntax
-peer_line (Some three) =
-    if is_name three.0 && is_identity three.1
-    then peer_ported three.0 three.1 (number_within 0 65535 three.2)
-    else Err Syntax
-
--- a feed, or Number where its ring is none (docs/FORMATS.md, Configuration)
-abbrev pub feed_ringed : (name text : List ℕ) → Option ℕ → RawLine
-feed_ringed name text None = Err Number
-feed_ringed name text (Some ring) = Ok (FeedLine name ring text)
-
--- what follows `feed` (docs/FORMATS.md, Configuration)
-abbrev pub feed_line : (three : Option (List ℕ × List ℕ × List ℕ)) → RawLine
-feed_line None = Err Syntax
-feed_line (Some three) =
-    if is_name three.0
-    then feed_ringed three.0 three.2 (number_within 1 65536 three.1)
-    else Err Syntax
-
--- what the words of a line say (docs/FORMATS.md, Configuration)
-abbrev pub relay_words : List (List ℕ) → RawLine
-relay_words [] = Err UnknownKey
-relay_words (word ∷ after) =
-    if bytes_eq word (codes "own") then own_line (one_of after)
-    else if bytes_eq word (codes "maxart")
-    then with_number MaxArticle (number_line 1 16777216 (one_of after))
-    else if bytes_eq word (codes "cutoff")
-    then with_number Cutoff (number_line 0 4000000000 (one_of after))
-    else if bytes_eq word (codes "remember")
-    then with_number Remember (number_line 0 4000000000 (one_of after))
-    else if bytes_eq word (codes "patience")
-    then with_number Patience (number_line 1 86400 (one_of after))
-    else if bytes_eq word (codes "peer") then peer_line (three_of after)
-    else if bytes_eq word (codes "feed") then feed_line (three_of after)
-    else Err UnknownKey
-
--- what a line without white space at its ends says (docs/FORMATS.md, Configuration)
-abbrev pub relay_trimmed : List ℕ → RawLine
-relay_trimmed line = if is_skipped line then Ok Skipped else relay_words (words line)
-
--- what a line of relay.conf says, or its fault alone, its expression as text (docs/FORMATS.md,
--- Configuration)
-abbrev pub relay_line : List ℕ → RawLine
-relay_line line = relay_trimmed (without_outer_white line)
-
--- the feed says the expression that its text is, or Pattern where that has a fault
--- (docs/FORMATS.md, Configuration)
-abbrev pub FeedSays : (name : List ℕ) (ring : ℕ) (text : List ℕ) → SaidLine → Type 0
-FeedSays name ring text (Err fault) =
-    (fault ≡ Pattern) × ((found : ExpressionFault) × HasLeftmostFault text found)
-FeedSays name ring text (Ok line) =
-    (expression : List Marked) × IsExpressionText text expression
-    × (line ≡ FeedLine name ring expression)
-
--- what a line says once its expression is read (docs/FORMATS.md, Configuration)
-abbrev pub RawSays : RawLine → SaidLine → Type 0
-RawSays (Err fault) said = said ≡ Err fault
-RawSays (Ok Skipped) said = said ≡ Ok Skipped
-RawSays (Ok (Own identity)) said = said ≡ Ok (Own identity)
-RawSays (Ok (MaxArticle octets)) said = said ≡ Ok (MaxArticle octets)
-RawSays (Ok (Cutoff seconds)) said = said ≡ Ok (Cutoff seconds)
-RawSays (Ok (Remember seconds)) said = said ≡ Ok (Remember seconds)
-RawSays (Ok (Patience seconds)) said = said ≡ Ok (Patience seconds)
-RawSays (Ok (PeerLine name identity port)) said = said ≡ Ok (PeerLine name identity port)
-RawSays (Ok (FeedLine name ring text)) said = FeedSays name ring text said
-
--- what a line of relay.conf says, whatever stands before it (docs/FORMATS.md, Configuration)
-abbrev pub LineSays : (before : List SaidLine) → (line : List ℕ) → SaidLine → Type 0
-LineSays before line said = RawSays (relay_line line) said
+use Rattle.relay_conf.specs.RelayLines.{SaidLine, Skipped, Own, MaxArticle, Cutoff, Remember}
+use Rattle.relay_conf.specs.RelayLines.{Patience, Bind, PeerLine, ConnectionsLine, FeedLine}
 
 -- the own identity that a line says
 abbrev pub own_of : SaidLine → Option (List ℕ)
@@ -151,7 +22,9 @@ own_of (Ok (MaxArticle octets)) = None
 own_of (Ok (Cutoff seconds)) = None
 own_of (Ok (Remember seconds)) = None
 own_of (Ok (Patience seconds)) = None
+own_of (Ok (Bind address)) = None
 own_of (Ok (PeerLine name identity port)) = None
+own_of (Ok (ConnectionsLine name connections)) = None
 own_of (Ok (FeedLine name ring expression)) = None
 
 -- the largest article that a line says
@@ -163,7 +36,9 @@ max_article_of (Ok (MaxArticle octets)) = Some octets
 max_article_of (Ok (Cutoff seconds)) = None
 max_article_of (Ok (Remember seconds)) = None
 max_article_of (Ok (Patience seconds)) = None
+max_article_of (Ok (Bind address)) = None
 max_article_of (Ok (PeerLine name identity port)) = None
+max_article_of (Ok (ConnectionsLine name connections)) = None
 max_article_of (Ok (FeedLine name ring expression)) = None
 
 -- the cutoff that a line says
@@ -175,7 +50,9 @@ cutoff_of (Ok (MaxArticle octets)) = None
 cutoff_of (Ok (Cutoff seconds)) = Some seconds
 cutoff_of (Ok (Remember seconds)) = None
 cutoff_of (Ok (Patience seconds)) = None
+cutoff_of (Ok (Bind address)) = None
 cutoff_of (Ok (PeerLine name identity port)) = None
+cutoff_of (Ok (ConnectionsLine name connections)) = None
 cutoff_of (Ok (FeedLine name ring expression)) = None
 
 -- how long a line says that ids are remembered
@@ -187,7 +64,9 @@ remember_of (Ok (MaxArticle octets)) = None
 remember_of (Ok (Cutoff seconds)) = None
 remember_of (Ok (Remember seconds)) = Some seconds
 remember_of (Ok (Patience seconds)) = None
+remember_of (Ok (Bind address)) = None
 remember_of (Ok (PeerLine name identity port)) = None
+remember_of (Ok (ConnectionsLine name connections)) = None
 remember_of (Ok (FeedLine name ring expression)) = None
 
 -- how long a line says that a silent peer is waited for
@@ -199,10 +78,26 @@ patience_of (Ok (MaxArticle octets)) = None
 patience_of (Ok (Cutoff seconds)) = None
 patience_of (Ok (Remember seconds)) = None
 patience_of (Ok (Patience seconds)) = Some seconds
+patience_of (Ok (Bind address)) = None
 patience_of (Ok (PeerLine name identity port)) = None
+patience_of (Ok (ConnectionsLine name connections)) = None
 patience_of (Ok (FeedLine name ring expression)) = None
 
--- the peer that a line says
+-- the address that a line says
+abbrev pub bind_of : SaidLine → Option (List ℕ)
+bind_of (Err fault) = None
+bind_of (Ok Skipped) = None
+bind_of (Ok (Own identity)) = None
+bind_of (Ok (MaxArticle octets)) = None
+bind_of (Ok (Cutoff seconds)) = None
+bind_of (Ok (Remember seconds)) = None
+bind_of (Ok (Patience seconds)) = None
+bind_of (Ok (Bind address)) = Some address
+bind_of (Ok (PeerLine name identity port)) = None
+bind_of (Ok (ConnectionsLine name connections)) = None
+bind_of (Ok (FeedLine name ring expression)) = None
+
+-- the peer that a line says, with one connection
 abbrev pub peer_of : SaidLine → Option Peer
 peer_of (Err fault) = None
 peer_of (Ok Skipped) = None
@@ -211,9 +106,26 @@ peer_of (Ok (MaxArticle octets)) = None
 peer_of (Ok (Cutoff seconds)) = None
 peer_of (Ok (Remember seconds)) = None
 peer_of (Ok (Patience seconds)) = None
+peer_of (Ok (Bind address)) = None
 peer_of (Ok (PeerLine name identity port)) =
-    Some (record { name = name; identity = identity; port = port })
+    Some (record { name = name; identity = identity; port = port; connections = 1 })
+peer_of (Ok (ConnectionsLine name connections)) = None
 peer_of (Ok (FeedLine name ring expression)) = None
+
+-- the connections that a line says, by the name of their peer
+abbrev pub connections_of : SaidLine → Option PeerConnections
+connections_of (Err fault) = None
+connections_of (Ok Skipped) = None
+connections_of (Ok (Own identity)) = None
+connections_of (Ok (MaxArticle octets)) = None
+connections_of (Ok (Cutoff seconds)) = None
+connections_of (Ok (Remember seconds)) = None
+connections_of (Ok (Patience seconds)) = None
+connections_of (Ok (Bind address)) = None
+connections_of (Ok (PeerLine name identity port)) = None
+connections_of (Ok (ConnectionsLine name connections)) =
+    Some (record { name = name; connections = connections })
+connections_of (Ok (FeedLine name ring expression)) = None
 
 -- the name of the peer whose feed a line says
 abbrev pub feed_name_of : SaidLine → Option (List ℕ)
@@ -224,13 +136,33 @@ feed_name_of (Ok (MaxArticle octets)) = None
 feed_name_of (Ok (Cutoff seconds)) = None
 feed_name_of (Ok (Remember seconds)) = None
 feed_name_of (Ok (Patience seconds)) = None
+feed_name_of (Ok (Bind address)) = None
 feed_name_of (Ok (PeerLine name identity port)) = None
+feed_name_of (Ok (ConnectionsLine name connections)) = None
 feed_name_of (Ok (FeedLine name ring expression)) = Some name
+
+-- the name of a peer that a line says something of: its connections or its feed
+abbrev pub name_in : SaidLine → Option (List ℕ)
+name_in (Err fault) = None
+name_in (Ok Skipped) = None
+name_in (Ok (Own identity)) = None
+name_in (Ok (MaxArticle octets)) = None
+name_in (Ok (Cutoff seconds)) = None
+name_in (Ok (Remember seconds)) = None
+name_in (Ok (Patience seconds)) = None
+name_in (Ok (Bind address)) = None
+name_in (Ok (PeerLine name identity port)) = None
+name_in (Ok (ConnectionsLine name connections)) = Some name
+name_in (Ok (FeedLine name ring expression)) = Some name
 
 -- the number of the peer of a name: how many stand before the first of that name (docs/FORMATS.md,
 -- Configuration)
 abbrev pub peer_number : List Peer → (name : List ℕ) → ℕ
 peer_number peers name = position_or_len (λ peer. bytes_eq name peer.name) peers
+
+-- a peer has this name (docs/FORMATS.md, Configuration)
+abbrev pub is_peer : List Peer → (name : List ℕ) → Bool
+is_peer peers name = nat_lt (peer_number peers name) (length peers)
 
 -- the feed that a line says, over these peers (docs/FORMATS.md, Configuration)
 abbrev pub feed_of : List Peer → SaidLine → Option Feed
@@ -241,7 +173,9 @@ feed_of peers (Ok (MaxArticle octets)) = None
 feed_of peers (Ok (Cutoff seconds)) = None
 feed_of peers (Ok (Remember seconds)) = None
 feed_of peers (Ok (Patience seconds)) = None
+feed_of peers (Ok (Bind address)) = None
 feed_of peers (Ok (PeerLine name identity port)) = None
+feed_of peers (Ok (ConnectionsLine name connections)) = None
 feed_of peers (Ok (FeedLine name ring expression)) =
     Some (record { peer = peer_number peers name; ring = ring; expression = expression })
 
@@ -252,7 +186,9 @@ pub record Stand : Type 0 where
   pub cutoffs : List ℕ
   pub remembers : List ℕ
   pub patiences : List ℕ
+  pub binds : List (List ℕ)
   pub peers : List Peer
+  pub connections : List PeerConnections
   pub feed_names : List (List ℕ)
 
 -- the same of these lines
@@ -264,7 +200,9 @@ stand_of said =
       cutoffs = filter_map cutoff_of said;
       remembers = filter_map remember_of said;
       patiences = filter_map patience_of said;
+      binds = filter_map bind_of said;
       peers = filter_map peer_of said;
+      connections = filter_map connections_of said;
       feed_names = filter_map feed_name_of said;
     }
 
@@ -277,12 +215,13 @@ once (first ∷ more) = Some Duplicate
 abbrev pub peer_fault : List Peer → (name : List ℕ) → Option Fault
 peer_fault peers name =
     if nat_le 1024 (length peers) then Some Number
-    else if list_any (bytes_eq name) (map (λ peer. peer.name) peers) then Some Duplicate
+    else if is_peer peers name then Some Duplicate
     else None
 
--- one feed more: at most one for each peer (docs/FORMATS.md, Configuration)
-abbrev pub feed_fault : (names : List (List ℕ)) → (name : List ℕ) → Option Fault
-feed_fault names name = if list_any (bytes_eq name) names then Some Duplicate else None
+-- one line more of a peer: at most one feed, and one number of connections, for each
+-- (docs/FORMATS.md, Configuration)
+abbrev pub again_fault : (names : List (List ℕ)) → (name : List ℕ) → Option Fault
+again_fault names name = if list_any (bytes_eq name) names then Some Duplicate else None
 
 -- what is wrong with a line behind what stands, looked for line by line (docs/FORMATS.md,
 -- Configuration)
@@ -294,25 +233,24 @@ line_fault stand (Ok (MaxArticle octets)) = once stand.sizes
 line_fault stand (Ok (Cutoff seconds)) = once stand.cutoffs
 line_fault stand (Ok (Remember seconds)) = once stand.remembers
 line_fault stand (Ok (Patience seconds)) = once stand.patiences
+line_fault stand (Ok (Bind address)) = once stand.binds
 line_fault stand (Ok (PeerLine name identity port)) = peer_fault stand.peers name
-line_fault stand (Ok (FeedLine name ring expression)) = feed_fault stand.feed_names name
+line_fault stand (Ok (ConnectionsLine name connections)) =
+    again_fault (map (λ one. one.name) stand.connections) name
+line_fault stand (Ok (FeedLine name ring expression)) = again_fault stand.feed_names name
 
 -- the same behind the lines before it (docs/FORMATS.md, Configuration)
 abbrev pub early_fault : (before : List SaidLine) → SaidLine → Option Fault
 early_fault before line = line_fault (stand_of before) line
 
--- a peer has this name (docs/FORMATS.md, Configuration)
-abbrev pub is_peer : List Peer → (name : List ℕ) → Bool
-is_peer peers name = nat_lt (peer_number peers name) (length peers)
-
--- a feed of no peer (docs/FORMATS.md, Configuration)
+-- a feed, or a number of connections, of no peer (docs/FORMATS.md, Configuration)
 abbrev pub unknown_fault : List Peer → Option (List ℕ) → Option Fault
 unknown_fault peers None = None
 unknown_fault peers (Some name) = if is_peer peers name then None else Some UnknownName
 
 -- what is wrong with a line, looked for after the last line (docs/FORMATS.md, Configuration)
 abbrev pub late_fault : List Peer → (before : List SaidLine) → SaidLine → Option Fault
-late_fault peers before line = unknown_fault peers (feed_name_of line)
+late_fault peers before line = unknown_fault peers (name_in line)
 
 -- a file without `own` (docs/FORMATS.md, Configuration)
 abbrev pub no_own_fault : (owns : List (List ℕ)) → Option Fault
@@ -336,8 +274,30 @@ pub record RelaySettings : Type 0 where
   pub cutoff : ℕ
   pub remember : Option ℕ
   pub patience : ℕ
+  pub bind : List ℕ
   pub peers : List Peer
   pub feeds : List Feed
+
+-- the connections of the peer of a name: what the first of these says that is of it, else one
+-- (docs/FORMATS.md, Configuration)
+abbrev pub connections_for : List PeerConnections → (name : List ℕ) → ℕ
+connections_for [] name = 1
+connections_for (one ∷ more) name =
+    if bytes_eq name one.name then one.connections else connections_for more name
+
+-- a peer with its connections (docs/FORMATS.md, Configuration)
+abbrev pub connected : List PeerConnections → Peer → Peer
+connected all peer =
+    record {
+      name = peer.name;
+      identity = peer.identity;
+      port = peer.port;
+      connections = connections_for all peer.name;
+    }
+
+-- the address without `bind`, which stands for all of the machine (docs/FORMATS.md, Configuration)
+abbrev pub each_address : List ℕ
+each_address = 0 ∷ 0 ∷ 0 ∷ 0 ∷ []
 
 -- the settings that lines without fault say (docs/FORMATS.md, Configuration)
 abbrev pub settings_of : List SaidLine → RelaySettings
@@ -348,7 +308,8 @@ settings_of said =
       cutoff = first_or 864000 (stand_of said).cutoffs;
       remember = first_of (stand_of said).remembers;
       patience = first_or 3600 (stand_of said).patiences;
-      peers = (stand_of said).peers;
+      bind = first_or each_address (stand_of said).binds;
+      peers = map (connected (stand_of said).connections) (stand_of said).peers;
       feeds = filter_map (feed_of (stand_of said).peers) said;
     }
 

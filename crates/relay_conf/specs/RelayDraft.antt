@@ -1,6 +1,6 @@
 -- How far the lines of relay.conf are read. No public contract cites it.
 use Rattle.std.specs.Prelude.{◌≡◌, ℕ, ◌+◌, ◌≤◌, List, [], ◌∷◌, ◌++◌, length, map, bytes_eq}
-use Rattle.std.specs.Prelude.{unwrap_or, Option, None, Some, Result, Ok, Err, if◌then◌else◌}
+use Rattle.std.specs.Prelude.{filter_map, unwrap_or, Option, None, Some, Result, Ok, Err, if◌then◌else◌}
 use Rattle.std.specs.List.{list_any}
 use Rattle.std.specs.Option.{option_to_list}
 use Rattle.std.specs.HashSet.{contains_text}
@@ -12,13 +12,16 @@ use Rattle.relay_conf.specs.declared.faults.Refusal.{Refusal}
 use Rattle.relay_conf.specs.declared.relay.Peer.{Peer}
 use Rattle.relay_conf.specs.declared.relay.Feed.{Feed}
 use Rattle.relay_conf.specs.declared.relay.NamedFeed.{NamedFeed}
+use Rattle.relay_conf.specs.declared.relay.NamedLine.{NamedLine}
+use Rattle.relay_conf.specs.declared.relay.PeerConnections.{PeerConnections}
 use Rattle.relay_conf.specs.declared.relay.RelayDraft.{RelayDraft}
 use Rattle.relay_conf.specs.Faults.{whole_fault, unless_fault}
 use Rattle.relay_conf.specs.Drafts.{ReadingGives}
-use Rattle.relay_conf.specs.Relay.{RelayLine, RawLine, SaidLine, RawSays, Stand, stand_of, Skipped}
-use Rattle.relay_conf.specs.Relay.{Own, MaxArticle, Cutoff, Remember, Patience, PeerLine}
-use Rattle.relay_conf.specs.Relay.{FeedLine}
-use Rattle.relay_conf.specs.Relay.{line_fault, peer_number, is_peer, no_own_fault, RelaySettings}
+use Rattle.relay_conf.specs.RelayLines.{RelayLine, RawLine, SaidLine, RawSays, Skipped, Own}
+use Rattle.relay_conf.specs.RelayLines.{MaxArticle, Cutoff, Remember, Patience, Bind, PeerLine}
+use Rattle.relay_conf.specs.RelayLines.{ConnectionsLine, FeedLine}
+use Rattle.relay_conf.specs.Relay.{Stand, stand_of, connected, each_address, line_fault}
+use Rattle.relay_conf.specs.Relay.{peer_number, is_peer, no_own_fault, RelaySettings}
 
 -- what lines so far say
 pub record Reading : Type 0 where
@@ -27,7 +30,10 @@ pub record Reading : Type 0 where
   pub cutoff : Option ℕ
   pub remember : Option ℕ
   pub patience : Option ℕ
+  pub bind : Option (List ℕ)
   pub peers : List Peer
+  pub connections : List PeerConnections
+  pub named : List NamedLine
   pub feeds : List NamedFeed
 
 -- the draft as a reading
@@ -39,7 +45,10 @@ draft_view d =
       cutoff = d.cutoff;
       remember = d.remember;
       patience = d.patience;
+      bind = d.bind;
       peers = d.peers.items;
+      connections = d.connections.items;
+      named = d.named.items;
       feeds = d.feeds.items;
     }
 
@@ -52,7 +61,10 @@ nothing =
       cutoff = None;
       remember = None;
       patience = None;
+      bind = None;
       peers = [];
+      connections = [];
+      named = [];
       feeds = [];
     }
 
@@ -69,7 +81,9 @@ stand_view r =
       cutoffs = option_to_list r.cutoff;
       remembers = option_to_list r.remember;
       patiences = option_to_list r.patience;
+      binds = option_to_list r.bind;
       peers = r.peers;
+      connections = r.connections;
       feed_names = map (λ feed. feed.name) r.feeds;
     }
 
@@ -81,12 +95,21 @@ after_line number r (MaxArticle octets) = record r { max_article = Some octets }
 after_line number r (Cutoff seconds) = record r { cutoff = Some seconds }
 after_line number r (Remember seconds) = record r { remember = Some seconds }
 after_line number r (Patience seconds) = record r { patience = Some seconds }
+after_line number r (Bind address) = record r { bind = Some address }
 after_line number r (PeerLine name identity port) =
-    record r { peers = r.peers ++ record { name = name; identity = identity; port = port } ∷ [] }
+    record r {
+      peers = r.peers
+          ++ record { name = name; identity = identity; port = port; connections = 1 } ∷ [];
+    }
+after_line number r (ConnectionsLine name connections) =
+    record r {
+      connections = r.connections ++ record { name = name; connections = connections } ∷ [];
+      named = r.named ++ record { line = number; name = name } ∷ [];
+    }
 after_line number r (FeedLine name ring expression) =
     record r {
-      feeds = r.feeds
-          ++ record { line = number; name = name; ring = ring; expression = expression } ∷ [];
+      feeds = r.feeds ++ record { name = name; ring = ring; expression = expression } ∷ [];
+      named = r.named ++ record { line = number; name = name } ∷ [];
     }
 
 -- what is wrong with a line behind a reading
@@ -99,6 +122,12 @@ abbrev pub RelayStep : ℕ → Reading → RawLine → (after : Reading) → Res
 RelayStep number r raw after result =
     ReadingGives (RawSays raw) fault_behind (after_line number) r after result
 
+-- the same of the connections of a peer
+abbrev pub ConnectionsStep : ℕ → (name : List ℕ) (connections : ℕ) → Reading → (after : Reading)
+    → Result (Unit {0}) Refusal → Type 0
+ConnectionsStep number name connections r after result =
+    RelayStep number r (Ok (ConnectionsLine name connections)) after result
+
 -- the same of a feed
 abbrev pub FeedStep : ℕ → (name : List ℕ) (ring : ℕ) (text : List ℕ) → Reading
     → (after : Reading) → Result (Unit {0}) Refusal → Type 0
@@ -106,14 +135,40 @@ FeedStep number name ring text r after result =
     RelayStep number r (Ok (FeedLine name ring text)) after result
 
 -- the set has just the names of the feeds
-abbrev pub Lists : RelayDraft → Type 0
-Lists d =
+abbrev pub ListsFeeds : RelayDraft → Type 0
+ListsFeeds d =
     (name : List ℕ)
     → contains_text d.feed_names.names name
     ≡ list_any (bytes_eq name) (map (λ feed. feed.name) d.feeds.items)
 
--- the feed that a line of this number says, by the name of its peer
-abbrev pub named_of : ℕ → SaidLine → Option NamedFeed
+-- the other set has just the names of the peers whose connections are said
+abbrev pub ListsConnections : RelayDraft → Type 0
+ListsConnections d =
+    (name : List ℕ)
+    → contains_text d.connected_names.names name
+    ≡ list_any (bytes_eq name) (map (λ one. one.name) d.connections.items)
+
+-- the sets have just these names
+abbrev pub Lists : RelayDraft → Type 0
+Lists d = ListsFeeds d × ListsConnections d
+
+-- the feed that a line says, by the name of its peer
+abbrev pub named_feed_of : SaidLine → Option NamedFeed
+named_feed_of (Err fault) = None
+named_feed_of (Ok Skipped) = None
+named_feed_of (Ok (Own identity)) = None
+named_feed_of (Ok (MaxArticle octets)) = None
+named_feed_of (Ok (Cutoff seconds)) = None
+named_feed_of (Ok (Remember seconds)) = None
+named_feed_of (Ok (Patience seconds)) = None
+named_feed_of (Ok (Bind address)) = None
+named_feed_of (Ok (PeerLine name identity port)) = None
+named_feed_of (Ok (ConnectionsLine name connections)) = None
+named_feed_of (Ok (FeedLine name ring expression)) =
+    Some (record { name = name; ring = ring; expression = expression })
+
+-- the name of a peer that a line of this number says something of
+abbrev pub named_of : ℕ → SaidLine → Option NamedLine
 named_of number (Err fault) = None
 named_of number (Ok Skipped) = None
 named_of number (Ok (Own identity)) = None
@@ -121,12 +176,15 @@ named_of number (Ok (MaxArticle octets)) = None
 named_of number (Ok (Cutoff seconds)) = None
 named_of number (Ok (Remember seconds)) = None
 named_of number (Ok (Patience seconds)) = None
+named_of number (Ok (Bind address)) = None
 named_of number (Ok (PeerLine name identity port)) = None
+named_of number (Ok (ConnectionsLine name connections)) =
+    Some (record { line = number; name = name })
 named_of number (Ok (FeedLine name ring expression)) =
-    Some (record { line = number; name = name; ring = ring; expression = expression })
+    Some (record { line = number; name = name })
 
--- the feeds that lines from this number on say
-abbrev pub named_from : ℕ → List SaidLine → List NamedFeed
+-- the names of peers that lines from this number on say something of
+abbrev pub named_from : ℕ → List SaidLine → List NamedLine
 named_from number [] = []
 named_from number (line ∷ more) =
     option_to_list (named_of number line) ++ named_from (number + 1) more
@@ -134,7 +192,8 @@ named_from number (line ∷ more) =
 -- a reading is that of these lines
 pub record IsReadingOf (said : List SaidLine) (r : Reading) : Type 0 where
   pub stand : stand_view r ≡ stand_of said
-  pub feeds : r.feeds ≡ named_from 1 said
+  pub feeds : r.feeds ≡ filter_map named_feed_of said
+  pub named : r.named ≡ named_from 1 said
   pub few : length r.peers ≤ 1024
 
 -- a draft is that of these lines
@@ -142,26 +201,21 @@ pub record IsDraftOf (said : List SaidLine) (d : RelayDraft) : Type 0 where
   pub reading : IsReadingOf said (draft_view d)
   pub listed : Lists d
 
--- the number of the peer of a name, where there is one
-abbrev pub known_number : List Peer → (name : List ℕ) → Option ℕ
-known_number peers name = if is_peer peers name then Some (peer_number peers name) else None
-
--- the first feed of no peer
-abbrev pub first_unknown : List Peer → List NamedFeed → Option LineFault
+-- the first line that says something of no peer
+abbrev pub first_unknown : List Peer → List NamedLine → Option LineFault
 first_unknown peers [] = None
-first_unknown peers (feed ∷ more) =
-    if is_peer peers feed.name then first_unknown peers more
-    else Some (record { line = feed.line; fault = UnknownName })
+first_unknown peers (one ∷ more) =
+    if is_peer peers one.name then first_unknown peers more
+    else Some (record { line = one.line; fault = UnknownName })
+
+-- nothing, or the first line that says something of no peer
+abbrev pub named_said : List Peer → List NamedLine → Result (Unit {0}) LineFault
+named_said peers named = unless_fault (first_unknown peers named) (Ok tt)
 
 -- a feed by the number of its peer
 abbrev pub numbered_feed : List Peer → NamedFeed → Feed
 numbered_feed peers feed =
     record { peer = peer_number peers feed.name; ring = feed.ring; expression = feed.expression }
-
--- the feeds by the numbers of their peers, or the first that is of no peer
-abbrev pub named_said : List Peer → List NamedFeed → Result (List Feed) LineFault
-named_said peers named =
-    unless_fault (first_unknown peers named) (Ok (map (numbered_feed peers) named))
 
 -- the settings of a reading
 abbrev pub reading_settings : Reading → RelaySettings
@@ -172,7 +226,8 @@ reading_settings r =
       cutoff = unwrap_or r.cutoff 864000;
       remember = r.remember;
       patience = unwrap_or r.patience 3600;
-      peers = r.peers;
+      bind = unwrap_or r.bind each_address;
+      peers = map (connected r.connections) r.peers;
       feeds = map (numbered_feed r.peers) r.feeds;
     }
 
@@ -180,4 +235,4 @@ reading_settings r =
 abbrev pub draft_said : Reading → Result RelaySettings LineFault
 draft_said r =
     unless_fault (whole_fault (no_own_fault (option_to_list r.own)))
-    (unless_fault (first_unknown r.peers r.feeds) (Ok (reading_settings r)))
+    (unless_fault (first_unknown r.peers r.named) (Ok (reading_settings r)))

@@ -1,5 +1,6 @@
 -- Lines of relay.conf that were read, as the definitions have them.
 use Rattle.std.specs.Prelude.{ℕ, List, Result, Ok, Err, IsTrue}
+use Rattle.std.specs.Net.Addr.{ipv4_octets}
 use Rattle.relay_conf.specs.declared.faults.Fault.{Fault}
 use Rattle.relay_conf.specs.declared.relay_lines.Line.{Line}
 use Rattle.relay_conf.specs.declared.relay_lines.Line.TheVariants as lines
@@ -8,9 +9,10 @@ use Rattle.relay_conf.specs.declared.faults.ConfError.{ConfError}
 use Rattle.relay_conf.specs.declared.settings.Relay.{Relay}
 use Rattle.relay_conf.specs.Words.{is_name}
 use Rattle.relay_conf.specs.LineByLine.{SayTogether, HaveFault, LinesGive}
-use Rattle.relay_conf.specs.Relay.{LineSays, RelaySettings, early_fault, relay_said, RelayLine}
-use Rattle.relay_conf.specs.Relay.{RawLine, Skipped, Own, MaxArticle, Cutoff, Remember, Patience}
-use Rattle.relay_conf.specs.Relay.{PeerLine, FeedLine}
+use Rattle.relay_conf.specs.RelayLines.{LineSays, RelayLine, RawLine, Skipped, Own, MaxArticle}
+use Rattle.relay_conf.specs.RelayLines.{Cutoff, Remember, Patience, Bind, PeerLine, ConnectionsLine}
+use Rattle.relay_conf.specs.RelayLines.{FeedLine}
+use Rattle.relay_conf.specs.Relay.{RelaySettings, early_fault, relay_said}
 
 -- a line of relay.conf as the definitions have it, its expression as text
 abbrev pub raw_view : Line → RelayLine (List ℕ)
@@ -20,7 +22,9 @@ raw_view (lines.MaxArticle octets) = MaxArticle octets
 raw_view (lines.Cutoff seconds) = Cutoff seconds
 raw_view (lines.Remember seconds) = Remember seconds
 raw_view (lines.Patience seconds) = Patience seconds
+raw_view (lines.Bind address) = Bind address
 raw_view (lines.Peer name identity port) = PeerLine name.now identity.now port
+raw_view (lines.Connections name connections) = ConnectionsLine name.now connections
 raw_view (lines.Feed name ring text) = FeedLine name.now ring text.now
 
 -- the answer is what a line says alone
@@ -28,7 +32,7 @@ abbrev pub raw_by : Result Line Fault → RawLine
 raw_by (Ok line) = Ok (raw_view line)
 raw_by (Err fault) = Err fault
 
--- a feed's name is a name
+-- the name of a feed, and that of connections, is a name
 abbrev pub IsNamed : Line → Type 0
 IsNamed lines.Skipped = Unit {0}
 IsNamed (lines.Own identity) = Unit {0}
@@ -36,7 +40,9 @@ IsNamed (lines.MaxArticle octets) = Unit {0}
 IsNamed (lines.Cutoff seconds) = Unit {0}
 IsNamed (lines.Remember seconds) = Unit {0}
 IsNamed (lines.Patience seconds) = Unit {0}
+IsNamed (lines.Bind address) = Unit {0}
 IsNamed (lines.Peer name identity port) = Unit {0}
+IsNamed (lines.Connections name connections) = IsTrue (is_name name.now)
 IsNamed (lines.Feed name ring text) = IsTrue (is_name name.now)
 
 -- the settings of relay.conf as the definitions have them
@@ -48,6 +54,7 @@ relay_view relay =
       cutoff = relay.cutoff;
       remember = relay.remember;
       patience = relay.patience;
+      bind = ipv4_octets relay.bind;
       peers = relay.peers.items;
       feeds = relay.feeds.items;
     }

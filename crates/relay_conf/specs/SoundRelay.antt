@@ -12,6 +12,8 @@ pub record IsSoundRelay (settings : RelaySettings) : Type 0 where
   pub identities : All (λ peer. IsTrue (is_agent peer.identity)) settings.peers
   -- there are at most 1,024 peers
   pub few_peers : length settings.peers ≤ 1024
+  -- 1 to 64 connections of a peer are served at once
+  pub connections : All (λ peer. (1 ≤ peer.connections) × (peer.connections ≤ 64)) settings.peers
   -- a ring holds 1 to 65,536 tokens, and is of one of the peers, which has no other
   pub rings : All (λ feed. (1 ≤ feed.ring) × (feed.ring ≤ 65536)) settings.feeds
   pub of_peers : All (λ feed. feed.peer < length settings.peers) settings.feeds

@@ -11,6 +11,7 @@ mod faults;
 pub mod laws;
 mod lines;
 mod names;
+mod peers;
 mod relay;
 mod relay_lines;
 mod settings;

@@ -1,12 +1,10 @@
 //! relay.conf: the relay itself, its peers and their feeds (docs/FORMATS.md, Configuration).
-ghost use Rattle.std.specs.Prelude.{◌≡◌, ◌≤◌, ◌∷◌, ◌++◌, [], length, map, bytes_eq, vec_items};
-ghost use Rattle.std.specs.Prelude.{IsTrue, Ok, OnOk};
-ghost use Rattle.std.specs.List.{list_any};
+ghost use Rattle.std.specs.Prelude.{◌≡◌, ◌≤◌, ◌∷◌, ◌++◌, [], length, IsTrue, Ok, OnOk};
 ghost use Rattle.relay_conf.specs.Faults.{ConfGives, LineGives};
 ghost use Rattle.relay_conf.specs.Lines.{lines_of};
 ghost use Rattle.relay_conf.specs.Relay.{RelaySettings, peer_fault};
-ghost use Rattle.relay_conf.specs.RelayDraft.{RelayStep, FeedStep, Lists, nothing, draft_view};
-ghost use Rattle.relay_conf.specs.RelayDraft.{draft_said, named_said, known_number, with_peers};
+ghost use Rattle.relay_conf.specs.RelayDraft.{RelayStep, ConnectionsStep, FeedStep, Lists, nothing};
+ghost use Rattle.relay_conf.specs.RelayDraft.{draft_view, draft_said, with_peers};
 ghost use Rattle.relay_conf.specs.RelayViews.{relay_view, raw_view, IsNamed, RelayGives};
 ghost use Rattle.relay_conf.specs.SoundRelay.{IsSoundRelay};
 ghost use Rattle.relay_conf.specs.Words.{is_name};
@@ -16,18 +14,29 @@ use crate::expressions::expression_of;
 use crate::faults::{ConfError, Fault, LineFault, Refusal};
 use crate::lines::lines_of;
 use crate::names::NameSet;
+use crate::peers::{connected, is_peer, known_names, numbered};
 use crate::relay_lines::{Line, relay_line};
 use crate::settings::Relay;
 use line_words::Octets;
 use std::alloc::Global;
+use std::net::Ipv4Addr;
 use uwild::Expr;
 
-/// A peer: its name, its identity and its port, where 0 is not served.
+/// A peer: its name, its identity, its port, where 0 is not served, and how many of its connections
+/// are served at once.
 #[derive(Debug, Drop)]
 pub struct Peer {
     pub name: Octets,
     pub identity: Octets,
     pub port: u16,
+    pub connections: u32,
+}
+
+/// How many connections of a peer are served at once, by its name.
+#[derive(Drop)]
+pub struct PeerConnections {
+    pub name: Octets,
+    pub connections: u32,
 }
 
 /// A feed: the number of its peer, the tokens that its ring holds, and the newsgroups that it
@@ -48,6 +57,9 @@ const CUTOFF: u64 = 864_000;
 /// The seconds without `patience`.
 const PATIENCE: u32 = 3_600;
 
+/// The address without `bind`: all of the machine.
+const EACH_ADDRESS: [u8; 4] = [0; 4];
+
 /// Reads the text of relay.conf.
 pub fn read_relay(alloc: Global, text: &[u8]) -> Result<Relay, ConfError>
     ensures { RelayGives result (lines_of text.now) }
@@ -65,23 +77,36 @@ pub(crate) struct RelayDraft {
     cutoff: Option<u64>,
     remember: Option<u64>,
     patience: Option<u32>,
+    bind: Option<[u8; 4]>,
     peers: Vec<Peer>,
+    connections: Vec<PeerConnections>,
     feeds: Vec<NamedFeed>,
+    /// The names of peers that lines say something of.
+    named: Vec<NamedLine>,
+    /// The names of the connections.
+    connected_names: NameSet,
     /// The names of the feeds.
     feed_names: NameSet,
 }
 
-/// A feed by the name of its peer, and its line.
+/// The number of a line, and the name of the peer that it says something of.
+#[derive(Drop)]
+pub(crate) struct NamedLine {
+    pub(crate) line: usize,
+    pub(crate) name: Octets,
+}
+
+/// A feed by the name of its peer.
 #[derive(Drop)]
 pub(crate) struct NamedFeed {
-    line: usize,
-    name: Octets,
-    ring: u32,
-    expression: Expr,
+    pub(crate) name: Octets,
+    pub(crate) ring: u32,
+    pub(crate) expression: Expr,
 }
 
 impl LineByLine for RelayDraft {
-    ghost use Rattle.relay_conf.specs.Relay.{SaidLine, LineSays, early_fault};
+    ghost use Rattle.relay_conf.specs.RelayLines.{SaidLine, LineSays};
+    ghost use Rattle.relay_conf.specs.Relay.{early_fault};
     ghost use Rattle.relay_conf.specs.RelayDraft.{IsDraftOf};
 
     ghost Known = { Unit {0} };
@@ -113,8 +138,12 @@ impl RelayDraft {
             cutoff: None,
             remember: None,
             patience: None,
+            bind: None,
             peers: Vec::new(alloc),
+            connections: Vec::new(alloc),
             feeds: Vec::new(alloc),
+            named: Vec::new(alloc),
+            connected_names: NameSet::new(alloc),
             feed_names: NameSet::new(alloc),
         }
     }
@@ -133,7 +162,11 @@ impl RelayDraft {
             Line::Cutoff(seconds) => set_once(&mut self.cutoff, seconds),
             Line::Remember(seconds) => set_once(&mut self.remember, seconds),
             Line::Patience(seconds) => set_once(&mut self.patience, seconds),
+            Line::Bind(address) => set_once(&mut self.bind, address),
             Line::Peer(name, identity, port) => self.add_peer(alloc, name, identity, port),
+            Line::Connections(name, connections) => {
+                self.add_connections(alloc, number, name, connections)
+            }
             Line::Feed(name, ring, text) => self.add_feed(alloc, number, name, ring, text),
         }
     }
@@ -149,19 +182,49 @@ impl RelayDraft {
         ensures fault { LineGives result (peer_fault self.old.peers.items name.now) }
         ensures peers { OnOk result (draft_view self.new ≡ with_peers (draft_view self.old)
             (self.old.peers.items
-            ++ record { name = name.now; identity = identity.now; port = port } ∷ [])) }
+            ++ record { name = name.now; identity = identity.now; port = port; connections = 1 }
+            ∷ [])) }
         ensures names { OnOk result (self.new.feed_names ≡ self.old.feed_names) }
+        ensures connected { OnOk result (self.new.connected_names ≡ self.old.connected_names) }
     {
         if self.peers.len() >= 1_024 {
             return Err(Refusal::Faulty(Fault::Number));
         }
-        if has_peer(&self.peers, name) {
+        if is_peer(&self.peers, name) {
             return Err(Refusal::Faulty(Fault::Duplicate));
         }
         self.peers.push(Peer {
             name: Octets::copied(alloc, name)?,
             identity: Octets::copied(alloc, identity)?,
             port,
+            connections: 1,
+        })?;
+        Ok(())
+    }
+
+    /// Adds the connections of a peer.
+    fn add_connections(
+        &mut self,
+        alloc: Global,
+        line: usize,
+        name: &[u8],
+        connections: u32,
+    ) -> Result<(), Refusal>
+        requires { IsTrue (is_name name.now) }
+        ensures step { Lists self.old → ConnectionsStep line name.now connections
+            (draft_view self.old) (draft_view self.new) result }
+        ensures listed { Lists self.old → OnOk result (Lists self.new) }
+    {
+        if !self.connected_names.add(alloc, name)? {
+            return Err(Refusal::Faulty(Fault::Duplicate));
+        }
+        self.connections.push(PeerConnections {
+            name: Octets::copied(alloc, name)?,
+            connections,
+        })?;
+        self.named.push(NamedLine {
+            line,
+            name: Octets::copied(alloc, name)?,
         })?;
         Ok(())
     }
@@ -185,10 +248,13 @@ impl RelayDraft {
             return Err(Refusal::Faulty(Fault::Duplicate));
         }
         self.feeds.push(NamedFeed {
-            line,
             name: Octets::copied(alloc, name)?,
             ring,
             expression,
+        })?;
+        self.named.push(NamedLine {
+            line,
+            name: Octets::copied(alloc, name)?,
         })?;
         Ok(())
     }
@@ -207,8 +273,12 @@ fn finished(alloc: Global, draft: RelayDraft) -> Result<Relay, ConfError>
         cutoff,
         remember,
         patience,
+        bind,
         peers,
+        connections,
         feeds,
+        named,
+        connected_names: _,
         feed_names: _,
     } = draft;
     let Some(own) = own else {
@@ -217,58 +287,17 @@ fn finished(alloc: Global, draft: RelayDraft) -> Result<Relay, ConfError>
             fault: Fault::Syntax,
         }));
     };
+    known_names(&peers, &named)?;
     let feeds = numbered(alloc, &peers, feeds)?;
+    let peers = connected(alloc, peers, &connections)?;
     Ok(Relay {
         own,
         max_article: max_article.unwrap_or(MAX_ARTICLE),
         cutoff: cutoff.unwrap_or(CUTOFF),
         remember,
         patience: patience.unwrap_or(PATIENCE),
+        bind: Ipv4Addr::from_octets(bind.unwrap_or(EACH_ADDRESS)),
         peers,
         feeds,
     })
-}
-
-/// Whether a peer has this name.
-fn has_peer(peers: &[Peer], name: &[u8]) -> bool
-    ensures { result ≡ list_any (bytes_eq name.now) (map (λ peer. peer.name) peers.now) }
-{
-    peers.iter().any(|peer| name == peer.name.as_slice())
-}
-
-/// The number of the peer of a name, where there is one.
-fn number_of(peers: &[Peer], name: &[u8]) -> Option<u16>
-    requires { length peers.now ≤ 1024 }
-    ensures { result ≡ known_number peers.now name.now }
-{
-    let number = peers.iter().position(|peer| name == peer.name.as_slice())?;
-    Some(number as u16)
-}
-
-/// The feeds by the numbers of their peers, or the first that is of no peer.
-fn numbered(alloc: Global, peers: &[Peer], named: Vec<NamedFeed>) -> Result<Vec<Feed>, ConfError>
-    requires { length peers.now ≤ 1024 }
-    ensures { ConfGives vec_items result (named_said peers.now named.items) }
-{
-    let mut feeds = Vec::new(alloc);
-    for feed in named {
-        let NamedFeed {
-            line,
-            name,
-            ring,
-            expression,
-        } = feed;
-        let Some(peer) = number_of(peers, name.as_slice()) else {
-            return Err(ConfError::Faulty(LineFault {
-                line,
-                fault: Fault::UnknownName,
-            }));
-        };
-        feeds.push(Feed {
-            peer,
-            ring,
-            expression,
-        })?;
-    }
-    Ok(feeds)
 }

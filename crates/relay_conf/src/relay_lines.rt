@@ -1,13 +1,13 @@
 //! The lines of relay.conf, each read alone.
 ghost use Rattle.std.specs.Prelude.{◌≡◌, ◌≤◌, IfOk};
-ghost use Rattle.line_words.specs.Parts.{one_of, three_of};
-ghost use Rattle.relay_conf.specs.Relay as terms;
+ghost use Rattle.line_words.specs.Parts.{one_of, two_of, three_of};
+ghost use Rattle.relay_conf.specs.RelayLines as terms;
 ghost use Rattle.relay_conf.specs.RelayViews.{raw_by, IsNamed};
 ghost use Rattle.relay_conf.specs.Words.{words};
 
 use crate::faults::Fault;
-use crate::words::{first_word, is_identity, is_name, one_word, three_words};
-use line_words::{is_skipped, number_within, trim};
+use crate::words::{first_word, is_identity, is_name, one_word, three_words, two_words};
+use line_words::{cut, is_skipped, number_within, three_parts, trim};
 
 /// What a line says, without fault.
 #[derive(Clone, Copy)]
@@ -24,8 +24,12 @@ pub(crate) enum Line<'a> {
     Remember(u64),
     /// The seconds for which a silent peer is waited for.
     Patience(u32),
+    /// The address on which ports listen.
+    Bind([u8; 4]),
     /// A peer: its name, its identity and its port.
     Peer(&'a [u8], &'a [u8], u16),
+    /// The name of a peer and how many of its connections are served at once.
+    Connections(&'a [u8], u32),
     /// A feed: the name of its peer, its ring and the text of its expression.
     Feed(&'a [u8], u32, &'a [u8]),
 }
@@ -52,8 +56,12 @@ pub(crate) fn relay_line(line: &[u8]) -> Result<Line<'_>, Fault>
         Ok(Line::Remember(number_line(0, 4_000_000_000, rest)?))
     } else if word == b"patience".as_slice() {
         Ok(Line::Patience(number_line(1, 86_400, rest)? as u32))
+    } else if word == b"bind".as_slice() {
+        bind_line(rest)
     } else if word == b"peer".as_slice() {
         peer_line(rest)
+    } else if word == b"connections".as_slice() {
+        connections_line(rest)
     } else if word == b"feed".as_slice() {
         feed_line(rest)
     } else {
@@ -86,6 +94,45 @@ fn number_line(least: u64, most: u64, rest: &[u8]) -> Result<u64, Fault>
     }
 }
 
+/// Reads what follows `bind`.
+fn bind_line(rest: &[u8]) -> Result<Line<'_>, Fault>
+    ensures named { IfOk result IsNamed }
+    ensures says { raw_by result ≡ terms.bind_line (one_of (words rest.now)) }
+{
+    let Some(word) = one_word(rest) else {
+        return Err(Fault::Syntax);
+    };
+    match address_of(word) {
+        Some(address) => Ok(Line::Bind(address)),
+        None => Err(Fault::Syntax),
+    }
+}
+
+/// The octets of an IPv4 address, where the word is one.
+fn address_of(word: &[u8]) -> Option<[u8; 4]>
+    ensures { result ≡ terms.address_of word.now }
+{
+    let (first, rest) = cut(word, b'.');
+    let (second, third, fourth) = three_parts(rest, b'.')?;
+    Some([
+        octet_of(first)?,
+        octet_of(second)?,
+        octet_of(third)?,
+        octet_of(fourth)?,
+    ])
+}
+
+/// The number of a part of an address: to 255, and without a 0 in front of further digits.
+fn octet_of(word: &[u8]) -> Option<u8>
+    ensures { result ≡ terms.octet_of word.now }
+{
+    if word.len() > 1 && word.starts_with(b"0") {
+        return None;
+    }
+    let number = number_within(0, 255, word)?;
+    Some(number as u8)
+}
+
 /// Reads what follows `peer`.
 fn peer_line(rest: &[u8]) -> Result<Line<'_>, Fault>
     ensures named { IfOk result IsNamed }
@@ -99,6 +146,23 @@ fn peer_line(rest: &[u8]) -> Result<Line<'_>, Fault>
     }
     match number_within(0, 65_535, port) {
         Some(port) => Ok(Line::Peer(name, identity, port as u16)),
+        None => Err(Fault::Number),
+    }
+}
+
+/// Reads what follows `connections`.
+fn connections_line(rest: &[u8]) -> Result<Line<'_>, Fault>
+    ensures says { raw_by result ≡ terms.connections_line (two_of (words rest.now)) }
+    ensures named { IfOk result IsNamed }
+{
+    let Some((name, connections)) = two_words(rest) else {
+        return Err(Fault::Syntax);
+    };
+    if !is_name(name) {
+        return Err(Fault::Syntax);
+    }
+    match number_within(1, 64, connections) {
+        Some(connections) => Ok(Line::Connections(name, connections as u32)),
         None => Err(Fault::Number),
     }
 }

@@ -1,6 +1,7 @@
 //! The settings of the configuration's files, with what holds of each value of them
 //! (docs/FORMATS.md, Configuration).
 ghost use Rattle.std.specs.Prelude.{◌≤◌, ◌<◌, ◌^◌, All, length, map};
+ghost use Rattle.std.specs.Net.Addr.{ipv4_octets};
 ghost use Rattle.std.proofs.Props.{props};
 ghost use Rattle.news_terms.specs.Settings.{AreSound};
 ghost use Rattle.news_terms.proofs.OneSoundness.{AreSound-prop};
@@ -10,6 +11,7 @@ ghost use Rattle.relay_conf.specs.SoundRelay.{IsSoundRelay};
 use crate::cycbuff::{BufferConf, GroupConf};
 use crate::relay::{Feed, Peer};
 use line_words::Octets;
+use std::net::Ipv4Addr;
 use uwild::Expr;
 
 /// The settings of cycbuff.conf. Buffers and groups are numbered from 0, each in the order of their
@@ -51,6 +53,8 @@ pub struct Relay {
     pub remember: Option<u64>,
     /// The seconds for which a silent peer is waited for.
     pub patience: u32,
+    /// The address of the machine on which ports listen; 0.0.0.0 stands for all.
+    pub bind: Ipv4Addr,
     pub peers: Vec<Peer>,
     pub feeds: Vec<Feed>,
     pub ghost sound: { IsSoundRelay (record {
@@ -59,6 +63,7 @@ pub struct Relay {
       cutoff = cutoff;
       remember = remember;
       patience = patience;
+      bind = ipv4_octets bind;
       peers = peers.items;
       feeds = feeds.items;
     }) } by { Prim.hlevel props },

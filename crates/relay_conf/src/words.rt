@@ -2,7 +2,7 @@
 ghost use Rattle.std.specs.Prelude.{◌≡◌, ◌∷◌, [], option_map, MatchOption};
 ghost use Rattle.std.specs.Option.{option_copied};
 ghost use Rattle.std.specs.List.{list_all};
-ghost use Rattle.line_words.specs.Parts.{one_of, three_of};
+ghost use Rattle.line_words.specs.Parts.{one_of, two_of, three_of};
 ghost use Rattle.relay_conf.specs.Words.{words};
 ghost use Rattle.relay_conf.specs.Words as terms;
 
@@ -48,14 +48,22 @@ pub(crate) fn one_word(line: &[u8]) -> Option<&[u8]>
     }
 }
 
+/// The two words of a line, where there are just two.
+pub(crate) fn two_words(line: &[u8]) -> Option<(&[u8], &[u8])>
+    ensures { option_map (λ two. (two.0.now, two.1.now)) result ≡ two_of (words line.now) }
+{
+    let (first, rest) = first_word(line)?;
+    Some((first, one_word(rest)?))
+}
+
 /// The three words of a line, where there are just three.
 pub(crate) fn three_words(line: &[u8]) -> Option<(&[u8], &[u8], &[u8])>
     ensures { option_map (λ three. (three.0.now, three.1.now, three.2.now)) result
         ≡ three_of (words line.now) }
 {
     let (first, rest) = first_word(line)?;
-    let (second, rest) = first_word(rest)?;
-    Some((first, second, one_word(rest)?))
+    let (second, third) = two_words(rest)?;
+    Some((first, second, third))
 }
 
 /// Whether the word is an identity: 1 to 64 octets of names, the first no dot.

@@ -2,7 +2,8 @@ use Rattle.std.proofs.Common.{◌∙◌, subst, map, List, ℕ, Err}
 use Rattle.std.specs.Borrow.{Bor}
 use Rattle.relay_conf.specs.Drafts.{DraftGives, IsDrawnFrom}
 use Rattle.relay_conf.specs.Lines.{lines_of}
-use Rattle.relay_conf.specs.Relay.{LineSays, early_fault, relay_said}
+use Rattle.relay_conf.specs.RelayLines.{LineSays}
+use Rattle.relay_conf.specs.Relay.{early_fault, relay_said}
 use Rattle.relay_conf.specs.RelayDraft.{IsDraftOf, draft_view}
 use Rattle.relay_conf.specs.RelayViews.{relay_view}
 use Rattle.relay_conf.proofs.LinesRead.{read_of, draft_fails}

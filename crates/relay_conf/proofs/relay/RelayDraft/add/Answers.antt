@@ -1,6 +1,6 @@
 use Rattle.std.proofs.Common.{refl, ap, Some, Ok, List, ℕ, Option}
-use Rattle.relay_conf.specs.Relay.{Skipped, Own, MaxArticle, Cutoff, Remember, Patience}
-use Rattle.relay_conf.specs.Relay.{PeerLine}
+use Rattle.relay_conf.specs.RelayLines.{Skipped, Own, MaxArticle, Cutoff, Remember, Patience}
+use Rattle.relay_conf.specs.RelayLines.{PeerLine, Bind}
 use Rattle.relay_conf.specs.RelayDraft.{Reading, draft_view, after_line}
 use Rattle.relay_conf.proofs.LinesRead.{read_by}
 use Rattle.relay_conf.proofs.relay.RelayDraft.add.Goals as goal
@@ -53,6 +53,15 @@ returns-in-Patience-clause-step c = λ listed.
     (after_line c.args.number) _ c.set_once-in-Patience.new.slot (Some seconds) (Patience seconds)
     c.set_once-in-Patience.result refl c.set_once-in-Patience.ensures.fault
     c.set_once-in-Patience.ensures.set refl)
+
+pub returns-in-Bind-clause-step : goal.returns-in-Bind-clause-step
+returns-in-Bind-clause-step c = λ listed.
+    let address = c.in-Bind.address in
+    rw c.in-Bind.is
+    (read_by (λ (slot : Option (List ℕ)). draft_view (record c.args.self.now { bind = slot })) _ _
+    (after_line c.args.number) _ c.set_once-in-Bind.new.slot (Some address) (Bind address)
+    c.set_once-in-Bind.result refl c.set_once-in-Bind.ensures.fault
+    c.set_once-in-Bind.ensures.set refl)
 
 pub returns-in-Peer-clause-step : goal.returns-in-Peer-clause-step
 returns-in-Peer-clause-step c = λ listed.

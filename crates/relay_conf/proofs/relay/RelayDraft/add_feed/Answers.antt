@@ -4,10 +4,11 @@ use Rattle.std.specs.List.{list_any}
 use Rattle.std.specs.HashSet.{contains_text}
 use Rattle.std.proofs.lemmas.List.{map-append}
 use Rattle.relay_conf.specs.RelayDraft.{draft_view}
-use Rattle.relay_conf.specs.Relay.{FeedLine}
+use Rattle.relay_conf.specs.RelayLines.{FeedLine}
 use Rattle.relay_conf.specs.declared.relay.NamedFeed.{NamedFeed}
+use Rattle.relay_conf.specs.declared.relay.NamedLine.{NamedLine}
 use Rattle.relay_conf.proofs.NameTexts.{any_more}
-use Rattle.relay_conf.proofs.RelayReadings.{feed_err, feed_taken, feed_free}
+use Rattle.relay_conf.proofs.RelayReadings.{feed_err, name_taken, name_free}
 use Rattle.relay_conf.proofs.relay.RelayDraft.add_feed.Goals as goal
 
 pub returns-in_err-expression-clause-step : goal.returns-in_err-expression-clause-step
@@ -20,16 +21,15 @@ pub returns-then-not-branch-clause-step : goal.returns-then-not-branch-clause-st
 returns-then-not-branch-clause-step c = λ listed. record {
   said = Ok (FeedLine c.args.name.now c.args.ring c.in_ok-expression.expression);
   says = (c.in_ok-expression.expression, c.in_ok-expression.ensures, refl);
-  found = feed_taken (map (λ (feed : NamedFeed). feed.name) c.args.self.now.feeds.items)
+  found = name_taken (map (λ (feed : NamedFeed). feed.name) c.args.self.now.feeds.items)
       c.args.name.now (contains_text c.args.self.now.feed_names.names c.args.name.now)
       c.in_ok-add.field-0
-      (listed c.args.name.now) c.in_ok-add.ensures.added c.if-not-branch.true;
+      (listed.0 c.args.name.now) c.in_ok-add.ensures.added c.if-not-branch.true;
 }
 
 -- the feed as it is kept
-abbrev kept : goal.In_ok-push → NamedFeed
+abbrev kept : goal.In_ok-push-2 → NamedFeed
 kept c = record {
-  line = c.args.line;
   name = c.args.name.now;
   ring = c.args.ring;
   expression =
@@ -37,10 +37,9 @@ kept c = record {
 }
 
 -- it joins the others
-pushed : (c : goal.In_ok-push) → c.push.new.self.items ≡ c.args.self.now.feeds.items ++ kept c ∷ []
+pushed : (c : goal.In_ok-push-2) → c.push.new.self.items ≡ c.args.self.now.feeds.items ++ kept c ∷ []
 pushed c =
     let feed : List ℕ → NamedFeed = λ name. record {
-      line = c.args.line;
       name = name;
       ring =
           c.args.ring;
@@ -49,24 +48,42 @@ pushed c =
     c.in_ok-push.ensures.items
     ∙ ap (λ (name : List ℕ). c.args.self.now.feeds.items ++ feed name ∷ []) c.in_ok-copied.ensures
 
+-- The line joins those that say something of a peer.
+noted : (c : goal.In_ok-push-2) → c.push-2.new.self.items ≡ c.args.self.now.named.items ++ record {
+  line = c.args.line;
+  name = c.args.name.now;
+} ∷ []
+noted c =
+    let one : List ℕ → NamedLine = λ name. record { line = c.args.line; name = name } in
+    c.in_ok-push-2.ensures.items
+    ∙ ap (λ (name : List ℕ). c.args.self.now.named.items ++ one name ∷ []) c.in_ok-copied-2.ensures
+
 pub returns-clause-step : goal.returns-clause-step
 returns-clause-step c = λ listed. record {
   line = FeedLine c.args.name.now c.args.ring c.in_ok-expression.expression;
   says = (c.in_ok-expression.expression, c.in_ok-expression.ensures, refl);
-  none = feed_free (map (λ (feed : NamedFeed). feed.name) c.args.self.now.feeds.items)
+  none = name_free (map (λ (feed : NamedFeed). feed.name) c.args.self.now.feeds.items)
       c.args.name.now (contains_text c.args.self.now.feed_names.names c.args.name.now)
       c.in_ok-add.field-0
-      (listed c.args.name.now) c.in_ok-add.ensures.added c.if-not-branch.false;
-  reading = ap (λ (feeds : List NamedFeed). record (draft_view c.args.self.now) { feeds = feeds })
-      (pushed c);
+      (listed.0 c.args.name.now) c.in_ok-add.ensures.added c.if-not-branch.false;
+  reading = ap (λ (feeds : List NamedFeed). record (draft_view c.args.self.now) {
+    feeds = feeds;
+    named = c.push-2.new.self.items;
+  }) (pushed c)
+      ∙ ap (λ (named : List NamedLine). record (draft_view c.args.self.now) {
+        feeds = c.args.self.now.feeds.items ++ kept c ∷ [];
+        named = named;
+      }) (noted c);
 }
 
 pub returns-clause-listed : goal.returns-clause-listed
-returns-clause-listed c = λ listed name.
-    let name_of : NamedFeed → List ℕ = λ feed. feed.name in
-    c.in_ok-add.ensures.names name
-    ∙ ap (λ found. bytes_eq c.args.name.now name || found) (listed name)
-    ∙ any_more (map name_of c.args.self.now.feeds.items) c.args.name.now name
-    ∙ ap (list_any (bytes_eq name))
-    (sym (map-append name_of c.args.self.now.feeds.items (kept c ∷ []))
-    ∙ ap (map name_of) (sym (pushed c)))
+returns-clause-listed c = λ listed.
+    let name_of : NamedFeed → List ℕ = λ feed. feed.name in (
+      λ name. c.in_ok-add.ensures.names name
+          ∙ ap (λ found. bytes_eq c.args.name.now name || found) (listed.0 name)
+          ∙ any_more (map name_of c.args.self.now.feeds.items) c.args.name.now name
+          ∙ ap (list_any (bytes_eq name))
+          (sym (map-append name_of c.args.self.now.feeds.items (kept c ∷ []))
+          ∙ ap (map name_of) (sym (pushed c))),
+      listed.1,
+    )

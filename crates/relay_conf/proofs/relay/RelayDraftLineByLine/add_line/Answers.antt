@@ -1,5 +1,5 @@
 use Rattle.std.proofs.Common.{refl, subst, Err}
-use Rattle.relay_conf.specs.Relay.{RawLine, RawSays}
+use Rattle.relay_conf.specs.RelayLines.{RawLine, RawSays}
 use Rattle.relay_conf.specs.RelayDraft.{Lists, RelayStep, draft_view}
 use Rattle.relay_conf.proofs.RelayReadings.{relay_step}
 use Rattle.relay_conf.proofs.relay.RelayDraftLineByLine.add_line.Goals as goal

@@ -1,0 +1,35 @@
+use Rattle.std.proofs.Common.{◌≡◌, ◌∙◌, ap, sym, map, List, ℕ, ◌++◌, ◌∷◌, []}
+use Rattle.std.specs.Prelude.{bytes_eq, ◌||◌}
+use Rattle.std.specs.List.{list_any}
+use Rattle.std.proofs.lemmas.List.{map-append}
+use Rattle.relay_conf.specs.declared.relay.PeerConnections.{PeerConnections}
+use Rattle.relay_conf.proofs.NameTexts.{any_more}
+use Rattle.relay_conf.proofs.relay.RelayDraft.add_connections.Goals as goal
+
+-- the connections as they are kept
+abbrev kept : goal.In_ok-push-2 → PeerConnections
+kept c = record { name = c.args.name.now; connections = c.args.connections }
+
+-- They join the others.
+pushed : (c : goal.In_ok-push-2) → c.push.new.self.items ≡ c.args.self.now.connections.items
+    ++ kept c ∷ []
+pushed c =
+    let one : List ℕ → PeerConnections = λ name. record {
+      name = name;
+      connections = c.args.connections;
+    } in
+    c.in_ok-push.ensures.items
+    ∙ ap (λ (name : List ℕ). c.args.self.now.connections.items ++ one name ∷ [])
+    c.in_ok-copied.ensures
+
+pub returns-clause-listed : goal.returns-clause-listed
+returns-clause-listed c = λ listed.
+    let name_of : PeerConnections → List ℕ = λ one. one.name in (
+      listed.0,
+      λ name. c.in_ok-add.ensures.names name
+          ∙ ap (λ found. bytes_eq c.args.name.now name || found) (listed.1 name)
+          ∙ any_more (map name_of c.args.self.now.connections.items) c.args.name.now name
+          ∙ ap (list_any (bytes_eq name))
+          (sym (map-append name_of c.args.self.now.connections.items (kept c ∷ []))
+          ∙ ap (map name_of) (sym (pushed c))),
+    )

@@ -1,0 +1,198 @@
+-- relay.conf: what its lines say, one by one.
+use Rattle.std.specs.Prelude.{◌≡◌, ℕ, ◌&&◌, nat_eq, nat_lt, List, [], ◌∷◌, length, codes, bytes_eq}
+use Rattle.std.specs.Prelude.{Option, None, Some, Result, Ok, Err, if◌then◌else◌}
+use Rattle.std.specs.List.{starts_with}
+use Rattle.std.specs.Str.{byte}
+use Rattle.news_terms.specs.Article.{without_outer_white}
+use Rattle.news_terms.specs.Pattern.{Marked, ExpressionFault, IsExpressionText, HasLeftmostFault}
+use Rattle.relay_conf.specs.declared.faults.Fault.{Fault}
+use Rattle.relay_conf.specs.declared.faults.Fault.TheVariants.{Syntax, UnknownKey, Number, Pattern}
+use Rattle.line_words.specs.Comments.{is_skipped}
+use Rattle.line_words.specs.Numbers.{number_within}
+use Rattle.line_words.specs.Parts.{parts, one_of, two_of, three_of}
+use Rattle.relay_conf.specs.Words.{words, is_name, is_identity}
+
+-- what a line of relay.conf says, faults apart; a feed has its expression as E: first its text,
+-- then what that is (docs/FORMATS.md, Configuration)
+pub data RelayLine (E : Type 0) : Type 0 where
+  -- a comment or an empty line
+  Skipped : RelayLine E
+  -- `own IDENTITY`
+  Own : (identity : List ℕ) → RelayLine E
+  -- `maxart N`
+  MaxArticle : (octets : ℕ) → RelayLine E
+  -- `cutoff N`
+  Cutoff : (seconds : ℕ) → RelayLine E
+  -- `remember N`
+  Remember : (seconds : ℕ) → RelayLine E
+  -- `patience N`
+  Patience : (seconds : ℕ) → RelayLine E
+  -- `bind ADDRESS`
+  Bind : (address : List ℕ) → RelayLine E
+  -- `peer NAME IDENTITY PORT`
+  PeerLine : (name identity : List ℕ) (port : ℕ) → RelayLine E
+  -- `connections NAME N`
+  ConnectionsLine : (name : List ℕ) (connections : ℕ) → RelayLine E
+  -- `feed NAME RING EXPR`
+  FeedLine : (name : List ℕ) (ring : ℕ) (expression : E) → RelayLine E
+
+-- a line alone, its expression as text
+abbrev pub RawLine : Type 0
+RawLine = Result (RelayLine (List ℕ)) Fault
+
+-- a line with its expression read
+abbrev pub SaidLine : Type 0
+SaidLine = Result (RelayLine (List Marked)) Fault
+
+-- what follows `own` (docs/FORMATS.md, Configuration)
+abbrev pub own_line : (word : Option (List ℕ)) → RawLine
+own_line None = Err Syntax
+own_line (Some identity) = if is_identity identity then Ok (Own identity) else Err Syntax
+
+-- a number, where the word is one (docs/FORMATS.md, Configuration)
+abbrev pub number_or_fault : Option ℕ → Result ℕ Fault
+number_or_fault None = Err Number
+number_or_fault (Some number) = Ok number
+
+-- the one number of a line, in this range (docs/FORMATS.md, Configuration)
+abbrev pub number_line : (least most : ℕ) → (word : Option (List ℕ)) → Result ℕ Fault
+number_line least most None = Err Syntax
+number_line least most (Some word) = number_or_fault (number_within least most word)
+
+-- a line of a number
+abbrev pub with_number : (ℕ → RelayLine (List ℕ)) → Result ℕ Fault → RawLine
+with_number line (Err fault) = Err fault
+with_number line (Ok number) = Ok (line number)
+
+-- a part of an address: a number to 255, without a 0 in front of further digits (docs/FORMATS.md,
+-- Configuration)
+abbrev pub octet_of : List ℕ → Option ℕ
+octet_of word =
+    if nat_lt 1 (length word) && starts_with nat_eq word (codes "0") then None
+    else number_within 0 255 word
+
+-- an address of these parts (docs/FORMATS.md, Configuration)
+abbrev pub four_octets : (first second third fourth : Option ℕ) → Option (List ℕ)
+four_octets (Some first) (Some second) (Some third) (Some fourth) =
+    Some (first ∷ second ∷ third ∷ fourth ∷ [])
+four_octets (Some first) (Some second) (Some third) None = None
+four_octets (Some first) (Some second) None fourth = None
+four_octets (Some first) None third fourth = None
+four_octets None second third fourth = None
+
+-- the address of a first part and three more (docs/FORMATS.md, Configuration)
+abbrev pub address_with : (first : List ℕ) → Option (List ℕ × List ℕ × List ℕ) → Option (List ℕ)
+address_with first None = None
+address_with first (Some more) =
+    four_octets (octet_of first) (octet_of more.0) (octet_of more.1) (octet_of more.2)
+
+-- the address of these parts (docs/FORMATS.md, Configuration)
+abbrev pub address_of_parts : List (List ℕ) → Option (List ℕ)
+address_of_parts [] = None
+address_of_parts (first ∷ more) = address_with first (three_of more)
+
+-- an IPv4 address: four parts with dots between them (docs/FORMATS.md, Configuration)
+abbrev pub address_of : List ℕ → Option (List ℕ)
+address_of word = address_of_parts (parts (byte ".") word)
+
+-- an address, where the word is one (docs/FORMATS.md, Configuration)
+abbrev pub address_or_fault : Option (List ℕ) → RawLine
+address_or_fault None = Err Syntax
+address_or_fault (Some address) = Ok (Bind address)
+
+-- what follows `bind` (docs/FORMATS.md, Configuration)
+abbrev pub bind_line : (word : Option (List ℕ)) → RawLine
+bind_line None = Err Syntax
+bind_line (Some word) = address_or_fault (address_of word)
+
+-- a peer, or Number where its port is none (docs/FORMATS.md, Configuration)
+abbrev pub peer_ported : (name identity : List ℕ) → Option ℕ → RawLine
+peer_ported name identity None = Err Number
+peer_ported name identity (Some port) = Ok (PeerLine name identity port)
+
+-- what follows `peer` (docs/FORMATS.md, Configuration)
+abbrev pub peer_line : (three : Option (List ℕ × List ℕ × List ℕ)) → RawLine
+peer_line None = Err Syntax
+peer_line (Some three) =
+    if is_name three.0 && is_identity three.1
+    then peer_ported three.0 three.1 (number_within 0 65535 three.2)
+    else Err Syntax
+
+-- the connections of a peer, or Number where they are none (docs/FORMATS.md, Configuration)
+abbrev pub connections_numbered : (name : List ℕ) → Option ℕ → RawLine
+connections_numbered name None = Err Number
+connections_numbered name (Some connections) = Ok (ConnectionsLine name connections)
+
+-- what follows `connections` (docs/FORMATS.md, Configuration)
+abbrev pub connections_line : (two : Option (List ℕ × List ℕ)) → RawLine
+connections_line None = Err Syntax
+connections_line (Some two) =
+    if is_name two.0 then connections_numbered two.0 (number_within 1 64 two.1) else Err Syntax
+
+-- a feed, or Number where its ring is none (docs/FORMATS.md, Configuration)
+abbrev pub feed_ringed : (name text : List ℕ) → Option ℕ → RawLine
+feed_ringed name text None = Err Number
+feed_ringed name text (Some ring) = Ok (FeedLine name ring text)
+
+-- what follows `feed` (docs/FORMATS.md, Configuration)
+abbrev pub feed_line : (three : Option (List ℕ × List ℕ × List ℕ)) → RawLine
+feed_line None = Err Syntax
+feed_line (Some three) =
+    if is_name three.0
+    then feed_ringed three.0 three.2 (number_within 1 65536 three.1)
+    else Err Syntax
+
+-- what the words of a line say (docs/FORMATS.md, Configuration)
+abbrev pub relay_words : List (List ℕ) → RawLine
+relay_words [] = Err UnknownKey
+relay_words (word ∷ after) =
+    if bytes_eq word (codes "own") then own_line (one_of after)
+    else if bytes_eq word (codes "maxart")
+    then with_number MaxArticle (number_line 1 16777216 (one_of after))
+    else if bytes_eq word (codes "cutoff")
+    then with_number Cutoff (number_line 0 4000000000 (one_of after))
+    else if bytes_eq word (codes "remember")
+    then with_number Remember (number_line 0 4000000000 (one_of after))
+    else if bytes_eq word (codes "patience")
+    then with_number Patience (number_line 1 86400 (one_of after))
+    else if bytes_eq word (codes "bind") then bind_line (one_of after)
+    else if bytes_eq word (codes "peer") then peer_line (three_of after)
+    else if bytes_eq word (codes "connections") then connections_line (two_of after)
+    else if bytes_eq word (codes "feed") then feed_line (three_of after)
+    else Err UnknownKey
+
+-- what a line without white space at its ends says (docs/FORMATS.md, Configuration)
+abbrev pub relay_trimmed : List ℕ → RawLine
+relay_trimmed line = if is_skipped line then Ok Skipped else relay_words (words line)
+
+-- what a line of relay.conf says, or its fault alone, its expression as text (docs/FORMATS.md,
+-- Configuration)
+abbrev pub relay_line : List ℕ → RawLine
+relay_line line = relay_trimmed (without_outer_white line)
+
+-- the feed says the expression that its text is, or Pattern where that has a fault
+-- (docs/FORMATS.md, Configuration)
+abbrev pub FeedSays : (name : List ℕ) (ring : ℕ) (text : List ℕ) → SaidLine → Type 0
+FeedSays name ring text (Err fault) =
+    (fault ≡ Pattern) × ((found : ExpressionFault) × HasLeftmostFault text found)
+FeedSays name ring text (Ok line) =
+    (expression : List Marked) × IsExpressionText text expression
+    × (line ≡ FeedLine name ring expression)
+
+-- what a line says once its expression is read (docs/FORMATS.md, Configuration)
+abbrev pub RawSays : RawLine → SaidLine → Type 0
+RawSays (Err fault) said = said ≡ Err fault
+RawSays (Ok Skipped) said = said ≡ Ok Skipped
+RawSays (Ok (Own identity)) said = said ≡ Ok (Own identity)
+RawSays (Ok (MaxArticle octets)) said = said ≡ Ok (MaxArticle octets)
+RawSays (Ok (Cutoff seconds)) said = said ≡ Ok (Cutoff seconds)
+RawSays (Ok (Remember seconds)) said = said ≡ Ok (Remember seconds)
+RawSays (Ok (Patience seconds)) said = said ≡ Ok (Patience seconds)
+RawSays (Ok (Bind address)) said = said ≡ Ok (Bind address)
+RawSays (Ok (PeerLine name identity port)) said = said ≡ Ok (PeerLine name identity port)
+RawSays (Ok (ConnectionsLine name connections)) said = said ≡ Ok (ConnectionsLine name connections)
+RawSays (Ok (FeedLine name ring text)) said = FeedSays name ring text said
+
+-- what a line of relay.conf says, whatever stands before it (docs/FORMATS.md, Configuration)
+abbrev pub LineSays : (before : List SaidLine) → (line : List ℕ) → SaidLine → Type 0
+LineSays before line said = RawSays (relay_line line) said
