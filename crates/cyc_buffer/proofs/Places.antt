@@ -108,7 +108,8 @@ held_before blocks head at size c j (inr p) h (inr q) = elim (cases_lt j head.us
 -- what was not passed before, and is not passed by the begin, is not passed
 pub held_after : (blocks : ℕ) (head at : Head) (size c j : ℕ) → IsPlaced blocks head size at
     → j < blocks
-    → IsUnpassedBy head.run head.used c j → passes blocks head.run head.used at.run at.used size j ≡ false
+    → IsUnpassedBy head.run head.used c j
+    → passes blocks head.run head.used at.run at.used size j ≡ false
     → IsUnpassedBy at.run (at.used + size) c j
 held_after blocks head at size c j (inl p) h (inl q) e =
     inl (omega (arith, p.0, q.0), omega (arith, p.1, q.1))
@@ -139,7 +140,8 @@ held_after blocks head at size c j (inr p) h (inr q) e =
     ]
 
 -- a block is unpassed since one cycle at most
-pub one_cycle : (cycle used c d block : ℕ) → IsUnpassedBy cycle used c block → IsUnpassedBy cycle used d block
+pub one_cycle : (cycle used c d block : ℕ) → IsUnpassedBy cycle used c block
+    → IsUnpassedBy cycle used d block
     → c ≡ d
 one_cycle cycle used c d block (inl p) (inl q) = omega (arith, p.0, q.0)
 one_cycle cycle used c d block (inl p) (inr q) = absurd (omega (arith, p.1, q.1))

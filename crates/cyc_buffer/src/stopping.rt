@@ -53,7 +53,7 @@ impl<S: BlockStore> Buffer<S> {
         ensures refusal { IfErr result (λ refused.
             IsStopRefusal self refused.error refused.buffer) }
         ensures busy { is_busy self ≡ true → OnOk result ⊥ }
-        // A refusal leaves the buffer as it was; where head block 0 is another, the bitmap is there.
+        // Refused, the buffer is as it was; where head block 0 is another, the bitmap is there.
         ensures same { IfErr result (λ refused. Follows (λ h. h) self refused.buffer) }
         ensures head { IfErr result (λ refused.
             has_open_head refused.buffer ≡ has_open_head self) }
