@@ -71,9 +71,6 @@ module _ (heads blocks : List (List ℕ)) (buffer : Buffer) (stop : ℕ) (regist
     same : s.numbers ≡ numbers_of Closed kept_stop h
     same = s.says.only (numbers_of Closed kept_stop h) held.fit held.numbers
 
-    pub stop_of_history : stop ≡ kept_stop
-    stop_of_history = sym s.stop_is ∙ ap (λ (b : HeadBlock). b.stop) same
-
     in_register : numbers_in register Closed stop ≡ numbers_of Closed kept_stop h
     in_register = s.register_is ∙ same
 

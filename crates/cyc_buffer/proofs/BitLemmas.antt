@@ -6,7 +6,7 @@ use Rattle.cyc_buffer.specs.Reads.{IsBeyond, HasBitPast}
 use Rattle.cyc_buffer.specs.Stopped.{has_bit}
 
 -- bit k of block i of the bitmap
-pub bit_there : (heads : List (List ℕ)) (i k : ℕ) → k < bits_of_block
+bit_there : (heads : List (List ℕ)) (i k : ℕ) → k < bits_of_block
     → has_bit heads (bits_of_block * i + k) ≡ is_set (block_at heads (i + 1)) k
 bit_there heads i k inside =
     ap (λ n. is_set (block_at heads n) ((bits_of_block * i + k) % bits_of_block))

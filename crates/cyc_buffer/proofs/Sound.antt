@@ -25,14 +25,14 @@ use Rattle.cyc_buffer.proofs.Reading.{is_block}
 use Rattle.cyc_buffer.proofs.StartLemmas.{unpassed_inside}
 
 -- the head is within the buffer
-pub used_within : (blocks : ℕ) (begins : List Begin) → AllByRecursion (IsSized blocks) begins
+used_within : (blocks : ℕ) (begins : List Begin) → AllByRecursion (IsSized blocks) begins
     → (head_of blocks begins).used ≤ blocks
 used_within blocks [] sized = omega arith
 used_within blocks (b ∷ earlier) sized =
     placed_within blocks (head_of blocks earlier) b.fresh b.size sized.0.within
 
 -- no more were begun than blocks were passed
-pub begun_within : (blocks : ℕ) (begins : List Begin) → AllByRecursion (IsSized blocks) begins
+begun_within : (blocks : ℕ) (begins : List Begin) → AllByRecursion (IsSized blocks) begins
     → length begins
     ≤ (head_of blocks begins).run * blocks + (head_of blocks begins).used
 begun_within blocks [] sized = omega arith
@@ -57,7 +57,7 @@ begun_within blocks (b ∷ earlier) sized =
     one_more run blocks = omega arith
 
 -- no more were stored than begun
-pub stored_within : (begins : List Begin) → stored_count begins ≤ length begins
+stored_within : (begins : List Begin) → stored_count begins ≤ length begins
 stored_within [] = omega arith
 stored_within (b ∷ earlier) =
     let rest = stored_within earlier in
@@ -84,12 +84,8 @@ module _ (heads blocks : List (List ℕ)) (stop : ℕ) (h : History)
   pub head_within : used_of h ≤ h.buffer.blocks
   head_within = used_within h.buffer.blocks h.begins held.sizes
 
-  -- the cycle is not below the first
-  pub cycle_within : h.buffer.first_cycle ≤ cycle_of h
-  cycle_within = omega arith
-
   -- no more were begun than blocks were passed
-  pub begun_fits : length h.begins ≤ passed_blocks (numbers_of Closed stop h)
+  begun_fits : length h.begins ≤ passed_blocks (numbers_of Closed stop h)
   begun_fits =
       let run : cycle_of h - h.buffer.first_cycle ≡ (head_of h.buffer.blocks h.begins).run =
       omega arith in

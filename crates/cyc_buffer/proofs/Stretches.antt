@@ -17,18 +17,6 @@ use Rattle.cyc_buffer.proofs.Finishing.{among, among_parts, set_stays}
 use Rattle.cyc_buffer.proofs.Rising.{rising_wider, rising_push}
 
 module _ (starts : ℕ → Bool) (blocks : List (List ℕ)) (number since end : ℕ) where
-  -- before the first block nothing is read
-  pub read_none : (from : ℕ) (tokens : List Token) (kept : List ℕ)
-      → HasRead starts blocks number since end from from tokens tokens kept kept
-  read_none from tokens kept = record {
-    each = λ at behind before marked. absurd (omega (arith, behind, before));
-    listed = λ t c. inl c;
-    stay_listed = λ t c. c;
-    told = λ j m. inl m;
-    stay_marked = λ j m. m;
-    rising = λ count place rising. rising;
-  }
-
   -- an article among the blocks up to one is among those up to the next
   more_among : (from to : ℕ) (t : terms.Token) → IsAmong starts blocks number since end from to t
       → IsAmong starts blocks number since end from (to + 1) t

@@ -51,7 +51,7 @@ module _ (heads blocks : List (List ℕ)) (b : HeadBlock) (words : List ℕ)
   ]
 
   -- the marks are clear inside a whole article
-  pub whole_clear : (t : Token) → IsWhole heads blocks b t → IsClear (is_marked words) t
+  whole_clear : (t : Token) → IsWhole heads blocks b t → IsClear (is_marked words) t
   whole_clear t w j behind inside =
       bits j (omega (arith, inside, whole_within t w)) ∙ w.clear j behind inside
 
