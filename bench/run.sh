@@ -1,10 +1,15 @@
 #!/usr/bin/env bash
 # Builds the benchmarks and runs one of them: bench/run.sh relay for the whole relay, bench/run.sh relay count for its
-# instructions (by valgrind), or cutting, articles, paths, patterns or settings for the crates of texts and settings.
+# instructions (by valgrind), bench/run.sh history for a stop and a start with a million message-ids, or cutting,
+# articles, paths, patterns or settings for the crates of texts and settings.
 set -euo pipefail
 cd "$(dirname "${BASH_SOURCE[0]}")"
 word="${1:-cutting}"
 out=../crates/relay_bench/out
+if [ "$word" = history ]; then
+    (cd ../crates/history_bench && rt run)
+    exec ../crates/history_bench/out/history_bench "${2:-1000000}"
+fi
 # Without words the program does nothing: this proves and builds it.
 (cd ../crates/relay_bench && rt run)
 if [ "$word" = relay ]; then
