@@ -23,7 +23,7 @@ const LONG_PAUSE: u64 = 1_000;
 /// The system's numbers for want of descriptors: of the machine (ENFILE), of the program (EMFILE).
 const NO_DESCRIPTOR: [i32; 2] = [23, 24];
 
-/// A port of a peer, on all IPv4 addresses of the machine.
+/// A port of a peer, on one IPv4 address of the machine or, at 0.0.0.0, on all.
 #[derive(Drop)]
 pub struct Port<'a> {
     listener: TcpListener,
@@ -38,10 +38,11 @@ pub struct Port<'a> {
 }
 
 impl<'a> Port<'a> {
-    /// Listens on a port, for so many connections, until it is told to stop. The error is the
-    /// system's.
+    /// Listens on a port of this address, for so many connections, until it is told to stop. The
+    /// error is the system's.
     pub fn listen<N: Net<Listener = TcpListener, Stream = TcpStream>>(
         net: &N,
+        address: Ipv4Addr,
         port: u16,
         connections: Option<u32>,
         stop: &'a Stop,
@@ -49,8 +50,7 @@ impl<'a> Port<'a> {
     ) -> io::Result<Port<'a>>
         ensures { IfOk result (λ port. left_of port ≡ connections) }
     {
-        let address = SocketAddr::from((Ipv4Addr::UNSPECIFIED, port));
-        let listener = TcpListener::bind(net, address)?;
+        let listener = TcpListener::bind(net, SocketAddr::from((address, port)))?;
         wait_in_parts(&listener)?;
         stop.count_made();
         Ok(Port {
@@ -62,13 +62,29 @@ impl<'a> Port<'a> {
         })
     }
 
+    /// The same port for a further end, which takes as many connections as this one still does.
+    /// Each connection is given by one of them. The error is the system's.
+    pub fn another(&self) -> io::Result<Port<'a>>
+        ensures { IfOk result (λ port. left_of port ≡ left_of self.now) }
+    {
+        let listener = self.listener.try_clone()?;
+        self.stop.count_made();
+        Ok(Port {
+            listener,
+            left: self.left,
+            stop: self.stop,
+            patience: self.patience,
+            is_served: AtomicBool::new(false),
+        })
+    }
+
     /// Its number, where the system chose it.
     pub fn number(&self) -> io::Result<u16> {
         Ok(self.listener.local_addr()?.port())
     }
 
     /// Counts this port as one that is served, once.
-    fn begin(&self) {
+    pub(crate) fn begin(&self) {
         if !self.is_served.swap(true, Ordering::SeqCst) {
             self.stop.count_begun();
         }

@@ -31,7 +31,7 @@ where
     R: Net<Listener = TcpListener, Stream = TcpStream> + Wait + Clock + Eprint,
 {
     let stop = Stop::new();
-    let mut port = Port::listen(rt, 0, Some(2), &stop, 5)?;
+    let mut port = Port::listen(rt, Ipv4Addr::UNSPECIFIED, 0, Some(2), &stop, 5)?;
     let mut client = client_of(rt, &port)?;
     client.write_all(b"abc")?;
     let Some((mut ear, mut mouth)) = port.next_one(rt) else {
@@ -59,7 +59,7 @@ where
     R: Net<Listener = TcpListener, Stream = TcpStream> + Wait + Clock + Eprint,
 {
     let stop = Stop::new();
-    let mut port = Port::listen(rt, 0, None, &stop, 5)?;
+    let mut port = Port::listen(rt, Ipv4Addr::UNSPECIFIED, 0, None, &stop, 5)?;
     let mut client = client_of(rt, &port)?;
     client.write_all(&[b'x'; 20_000])?;
     client.shutdown(Shutdown::Write)?;
@@ -81,7 +81,7 @@ where
     R: Net<Listener = TcpListener, Stream = TcpStream> + Wait + Clock + Eprint,
 {
     let stop = Stop::new();
-    let mut port = Port::listen(rt, 0, None, &stop, 1)?;
+    let mut port = Port::listen(rt, Ipv4Addr::UNSPECIFIED, 0, None, &stop, 1)?;
     let mut client = client_of(rt, &port)?;
     let _waiting = client_of(rt, &port)?;
     let Some((mut ear, mut mouth)) = port.next_one(rt) else {
@@ -105,8 +105,8 @@ where
     R: Net<Listener = TcpListener, Stream = TcpStream> + Threads + Wait + Clock + Eprint + Sync,
 {
     let stop = Stop::new();
-    let mut first = Port::listen(rt, 0, None, &stop, 5)?;
-    let mut second = Port::listen(rt, 0, None, &stop, 5)?;
+    let mut first = Port::listen(rt, Ipv4Addr::UNSPECIFIED, 0, None, &stop, 5)?;
+    let mut second = Port::listen(rt, Ipv4Addr::UNSPECIFIED, 0, None, &stop, 5)?;
     let _early = client_of(rt, &first)?;
     let _late = client_of(rt, &second)?;
     let is_given = AtomicBool::new(false);
@@ -125,6 +125,59 @@ where
         },
     );
     Ok(has_first && has_second)
+}
+
+/// Of two ends of one port, each for one connection, each gives one of two clients while the other's
+/// is open, and no more; both are answered.
+fn two_ends<R>(rt: &R, alloc: Global) -> io::Result<bool>
+where
+    R: Net<Listener = TcpListener, Stream = TcpStream> + Wait + Clock + Eprint,
+{
+    let stop = Stop::new();
+    let mut first = Port::listen(rt, Ipv4Addr::UNSPECIFIED, 0, Some(1), &stop, 5)?;
+    let mut second = first.another()?;
+    let mut early = client_of(rt, &first)?;
+    let mut late = client_of(rt, &second)?;
+    second.begin();
+    let Some((_ear, mut mouth)) = first.next_one(rt) else {
+        return Ok(false);
+    };
+    let Some((_other_ear, mut other_mouth)) = second.next_one(rt) else {
+        return Ok(false);
+    };
+    let said = mouth.say(&room(alloc)?, 0)?;
+    let other_said = other_mouth.say(&room(alloc)?, 0)?;
+    let mut back = [0; 16];
+    let are_answered = early.read(&mut back)? == 16 && late.read(&mut back)? == 16;
+    let have_ended = first.next_one(rt).is_none() && second.next_one(rt).is_none();
+    Ok(said == 16 && other_said == 16 && are_answered && have_ended)
+}
+
+/// A port of 127.0.0.2 gives the client that connects there, and none can connect at 127.0.0.1.
+fn one_address<R>(rt: &R) -> io::Result<bool>
+where
+    R: Net<Listener = TcpListener, Stream = TcpStream> + Wait + Clock + Eprint,
+{
+    let stop = Stop::new();
+    let address = Ipv4Addr::new(127, 0, 0, 2);
+    let mut port = Port::listen(rt, address, 0, None, &stop, 5)?;
+    let elsewhere = client_of(rt, &port).is_ok();
+    let _client = TcpStream::connect(rt, SocketAddr::from((address, port.number()?)))?;
+    Ok(!elsewhere && port.next_one(rt).is_some())
+}
+
+#[test]
+fn two_ends_of_a_port_give_a_client_each(rt: HostRuntime) -> io::Result<()> {
+    let served = two_ends(&rt, rt.alloc())?;
+    assert!(rt; served);
+    Ok(())
+}
+
+#[test]
+fn a_port_is_of_its_address_alone(rt: HostRuntime) -> io::Result<()> {
+    let served = one_address(&rt)?;
+    assert!(rt; served);
+    Ok(())
 }
 
 #[test]
@@ -158,8 +211,8 @@ fn no_port_is_served_before_all_are(rt: HostRuntime) -> io::Result<()> {
 #[test]
 fn a_port_is_had_once(rt: HostRuntime) -> io::Result<()> {
     let stop = Stop::new();
-    let first = Port::listen(&rt, 0, None, &stop, 5)?;
+    let first = Port::listen(&rt, Ipv4Addr::UNSPECIFIED, 0, None, &stop, 5)?;
     let number = first.number()?;
-    assert!(rt; Port::listen(&rt, number, None, &stop, 5).is_err());
+    assert!(rt; Port::listen(&rt, Ipv4Addr::UNSPECIFIED, number, None, &stop, 5).is_err());
     Ok(())
 }
