@@ -1,3 +1,4 @@
+mod Doors
 mod Kept
 mod Printed
 mod Sizes

@@ -1,15 +1,17 @@
 -- The ports of the peers (docs/FORMATS.md, relay.conf).
-use Rattle.std.specs.Prelude.{◌≡◌, ◌≢◌, ◌+◌, ◌==◌, ℕ, List, [], ◌∷◌, Any, if◌then◌else◌}
+use Rattle.std.specs.Prelude.{◌≡◌, ◌≢◌, ◌+◌, ◌==◌, ◌++◌, ℕ, List, [], ◌∷◌, Any, replicate}
+use Rattle.std.specs.Prelude.{if◌then◌else◌}
 use Rattle.relay_conf.specs.declared.relay.Peer.{Peer}
 use Rattle.serve_terms.specs.declared.fault.ServeError.{ServeError}
 use Rattle.serve_terms.specs.declared.fault.ServeError.TheVariants as faults
 
--- the numbers of the peers that have a port, where the first of them has this number
-abbrev pub served_from : ℕ → List Peer → List ℕ
-served_from number [] = []
-served_from number (peer ∷ peers) =
-    if peer.port == 0 then served_from (number + 1) peers
-    else number ∷ served_from (number + 1) peers
+-- the peers of the ends, where the first of these peers has this number: each that has a port, as
+-- often as its connections are served at once
+abbrev pub ends_from : ℕ → List Peer → List ℕ
+ends_from number [] = []
+ends_from number (peer ∷ peers) =
+    if peer.port == 0 then ends_from (number + 1) peers
+    else replicate peer.connections number ++ ends_from (number + 1) peers
 
 -- memory was refused, or the port of a peer can't be had; a peer of port 0 has none
 abbrev pub IsPortFault : List Peer → ServeError → Type 0

@@ -1,45 +1,86 @@
 //! The ports of the peers (docs/FORMATS.md, relay.conf).
-ghost use Rattle.std.specs.Prelude.{◌≡◌, ◌≤◌, All, IfErr, IfOk, length, map};
+ghost use Rattle.std.specs.Prelude.{◌≡◌, ◌≢◌, ◌+◌, ◌*◌, ◌≤◌, ◌∷◌, ◌++◌, [], ℕ, Option, List, All};
+ghost use Rattle.std.specs.Prelude.{Any, IfErr, IfOk, OnOk, length, map, replicate};
 ghost use Rattle.peer_ports.specs.Ports.{left_of};
-ghost use Rattle.relay_serve.specs.Ports.{IsPortFault, served_from};
+ghost use Rattle.relay_conf.specs.declared.relay.Peer.{Peer};
+ghost use Rattle.relay_serve.specs.Ports.{IsPortFault, ends_from};
 
 use peer_ports::{Port, Stop};
-use relay_conf::Peer;
+use relay_conf::{Peer, Relay};
 use relay_live::Door;
 use serve_terms::ServeError;
-use std::alloc::Global;
+use std::alloc::{AllocError, Global};
 use std::net::{Net, TcpListener, TcpStream};
 
-/// A door for each peer that has a port, in the order of the peers: each takes so many connections,
-/// without a number as many as come, until it is told to stop, and each of these waits so many
-/// seconds for its peer. The error is want of memory, or the first port that can't be had.
+/// The doors of each peer that has a port, in the order of the peers: so many for each as its
+/// connections are served at once, all of them behind its one port. Each takes so many connections,
+/// without a number as many as come, until it is told to stop. The error is want of memory, or the
+/// first port that can't be had.
 pub fn open_ports<'a, N: Net<Listener = TcpListener, Stream = TcpStream>>(
     net: &N,
     alloc: Global,
-    peers: &[Peer],
+    relay: &Relay,
     sessions: Option<u32>,
     stop: &'a Stop,
-    patience: u32,
 ) -> Result<Vec<Door<Port<'a>>>, ServeError>
     ensures peers { IfOk result (λ doors. map (λ door. door.peer) doors.items
-        ≡ served_from 0 peers.now) }
+        ≡ ends_from 0 relay.now.peers.items) }
     ensures left { IfOk result (λ doors.
         All (λ door. left_of door.connections ≡ sessions) doors.items) }
-    ensures few { IfOk result (λ doors. length doors.items ≤ length peers.now) }
-    ensures fault { IfErr result (IsPortFault peers.now) }
+    ensures few { IfOk result (λ doors. length doors.items ≤ 64 * 1024) }
+    ensures fault { IfErr result (IsPortFault relay.now.peers.items) }
 {
-    let mut doors = Vec::with_capacity(alloc, peers.len())?;
-    for (number, peer) in peers.iter().enumerate() {
+    let mut doors = Vec::new(alloc);
+    for (number, peer) in relay.peers.iter().enumerate() {
         if peer.port == 0 {
             continue;
         }
-        match Port::listen(net, peer.port, sessions, stop, patience) {
-            Ok(connections) => doors.push_reserved(Door {
-                peer: number,
-                connections,
-            }),
+        match Port::listen(net, relay.bind, peer.port, sessions, stop, relay.patience) {
+            Ok(first) => add_doors(&mut doors, number, peer, first)?,
             Err(_) => return Err(ServeError::Port(peer.port)),
         }
     }
     Ok(doors)
+}
+
+/// Adds the doors of a peer, the one of this port last; the others are behind the same port.
+fn add_doors<'a>(
+    doors: &mut Vec<Door<Port<'a>>>,
+    number: usize,
+    peer: &Peer,
+    first: Port<'a>,
+) -> Result<(), ServeError>
+    requires some { 1 ≤ peer.now.connections }
+    requires port { peer.now.port ≢ 0 }
+    ensures peers { OnOk result (map (λ door. door.peer) doors.new.items
+        ≡ map (λ door. door.peer) doors.old.items ++ replicate peer.now.connections number) }
+    ensures count { OnOk result (length doors.new.items
+        ≡ length doors.old.items + peer.now.connections) }
+    ensures left { (left : Option ℕ) → left_of first.entry ≡ left
+        → All (λ door. left_of door.connections ≡ left) doors.old.items
+        → OnOk result (All (λ door. left_of door.connections ≡ left) doors.new.items) }
+    ensures fault { (peers : List Peer) → Any (λ one. one.port ≡ peer.now.port) peers
+        → IfErr result (IsPortFault peers) }
+{
+    for _ in 1..peer.connections {
+        let Ok(connections) = first.another() else {
+            return Err(ServeError::Port(peer.port));
+        };
+        add_door(doors, number, connections)?;
+    }
+    add_door(doors, number, first)?;
+    Ok(())
+}
+
+/// Adds a door.
+fn add_door<'a>(
+    doors: &mut Vec<Door<Port<'a>>>,
+    peer: usize,
+    connections: Port<'a>,
+) -> Result<(), AllocError>
+    ensures { OnOk result (doors.new.items
+        ≡ doors.old.items ++ record { peer = peer; connections = connections.entry } ∷ []) }
+{
+    doors.push(Door { peer, connections })?;
+    Ok(())
 }

@@ -59,14 +59,7 @@ where
     fill_streams(rt);
     let files = hold_files(rt, alloc, &config.buffers, folder)?;
     let stop = Stop::new();
-    let doors = open_ports(
-        rt,
-        alloc,
-        &config.relay.peers,
-        sessions,
-        &stop,
-        config.relay.patience,
-    )?;
+    let doors = open_ports(rt, alloc, &config.relay, sessions, &stop)?;
     let stores = fit_files(alloc, &config.buffers, files)?;
     let gate = CountingGate::new(alloc, &config.relay.peers)?;
     let Ok(control) = Control::listen(rt, alloc, folder) else {
