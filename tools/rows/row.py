@@ -111,7 +111,7 @@ class Row:
         if name == "relay.conf":
             def key(it):
                 words = it.split(" ")
-                return words[: 2 if words[0] in ("peer", "feed") else 1]
+                return words[: 2 if words[0] in ("peer", "feed", "connections") else 1]
 
             at = [key(it) for it in self.conf[name]]
             if key(line) in at:
@@ -312,9 +312,9 @@ class Row:
 
     # What lines of clients say.
 
-    def connected(self, port):
+    def connected(self, port, address="127.0.0.1"):
         try:
-            return socket.create_connection(("127.0.0.1", port), self.given.patience)
+            return socket.create_connection((address, port), self.given.patience)
         except OSError as error:
             raise Wrong(f"no connection: {error}") from None
 
@@ -325,12 +325,21 @@ class Row:
             connected.settimeout(self.given.patience)
             connected.connect(str(self.dir / where))
         else:
-            port = self.port(where)
-            connected = self.connected(port)
+            named, _, address = where.partition("@")
+            port = self.port(named)
+            connected = self.connected(port, address or "127.0.0.1")
             self.calls[port] = self.calls.get(port, 0) + 1
         if name in self.clients:
             self.clients[name].closes()
         self.clients[name] = Client(connected, self.given.patience)
+
+    def miss(self, port):
+        """Nothing listens at this port of 127.0.0.1."""
+        try:
+            socket.create_connection(("127.0.0.1", self.port(port)), self.given.patience).close()
+        except ConnectionRefusedError:
+            return
+        raise Wrong(f"something listens at {port} of 127.0.0.1")
 
     def try_port(self, name, port, program):
         """A client connects with a port as soon as that listens, unless this program has ended."""
@@ -350,6 +359,8 @@ class Row:
             self.call(name, rest)
         elif word == "tries":
             self.try_port(name, *rest.split(" "))
+        elif word == "misses":
+            self.miss(rest)
         elif client is None:
             raise Wrong(f"no line has this form: {name} {word} {rest}")
         elif word in ("octets", "fills"):
