@@ -24,7 +24,7 @@ pub enum Fate<J: Archive> {
 }
 
 // What the README says of the memory of what became of a job.
-const _: () = prove!(size_of::<Fate<Brand>>() == 32);
+const _: () = prove!(size_of::<Fate<Brand>>() == 16);
 
 impl<J: Archive> Outcome for Fate<J> {
     ghost use Rattle.live_fates.specs.Fates.{is_kept, FitsJob};

@@ -17,7 +17,7 @@ impl<S: BlockStore, J: Archive> NumberedBuffer<S, J> {
     ghost use Rattle.live_store.specs.Steps.{buffer_of, beside_of, numbers_of};
 
     /// A buffer over all blocks of a store, in which nothing was begun yet. All memory is taken
-    /// here: beside the buffer's own, 32 octets for each block.
+    /// here: beside the buffer's own, 16 octets for each block.
     pub fn format(
         alloc: Global,
         store: S,

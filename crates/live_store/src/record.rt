@@ -4,13 +4,13 @@ use std::marker::Brand;
 use std::mem::size_of;
 
 // What the README says of the memory of a number.
-const _: () = prove!(size_of::<Option<Shown>>() == 32);
+const _: () = prove!(size_of::<Option<Shown>>() == 16);
 
 /// The register of a relay: a record never changes under its number, and none is ever taken out.
-pub type Register = boxcar::Vec<Record>;
+pub type Register = live_register::Register<Record>;
 
 /// A record's number, with what shows that the register holds the record under it.
-pub type Shown = boxcar::Pushed<Record>;
+pub type Shown = live_register::Shown<Record>;
 
 /// Which register the numbers are of, whether the stores are promised to be honest, and which
 /// buffers a group has.

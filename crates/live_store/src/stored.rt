@@ -19,7 +19,7 @@ pub struct Receipt<J: Archive> {
 }
 
 // What the README says of the memory of a receipt.
-const _: () = prove!(size_of::<Receipt<Brand>>() == 24);
+const _: () = prove!(size_of::<Receipt<Brand>>() == 8);
 
 impl<J: Archive> Receipt<J> {
     /// The number of the record.

@@ -116,7 +116,7 @@ where
     ensures totals { IfOk result (AreOf config.now) }
     ensures fault { IfErr result IsRunFault }
 {
-    let register: Register = boxcar::Vec::new(alloc)?;
+    let register = Register::new(alloc)?;
     let clock = MachineClock::new(rt);
     let blank = Blank::new(lanes_of(config) as u64);
     let stores = watch_all(rt, &config.buffers, stores)?;

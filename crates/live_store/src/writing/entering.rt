@@ -3,10 +3,8 @@ ghost use Rattle.news_terms.specs.ArticleTexts.{IsArticle};
 
 use crate::record::Register;
 use crate::steps::Entered;
-use boxcar::Anything;
-use boxcar::slot::OnceSlot;
-use boxcar::table::Entry;
 use cyc_token::Token;
+use live_register::Place;
 use std::mem::size_of;
 use std::snapshot::Snapshot;
 use std::sync::Wait;
@@ -55,7 +53,7 @@ pub struct Record {
 // What the README says of the memory of a record, and of its place in the register.
 const _: () = prove!(size_of::<Record>() == 0);
 
-const _: () = prove!(size_of::<OnceSlot<Record, Entry<Anything>>>() == 16);
+const _: () = prove!(size_of::<Place<Record>>() == 16);
 
 impl Record {
     ghost use Rattle.std.specs.Prelude.{◌≡◌};
@@ -84,7 +82,7 @@ impl Record {
                 text: Snapshot::of(text),
                 fresh: Snapshot::of(&fresh),
             };
-            match register.push_shown(rt, record) {
+            match register.enter(rt, record) {
                 Ok(shown) => return Entered::new(token, shown),
                 Err(_) => thread::yield_now(),
             }

@@ -158,7 +158,7 @@ where
     if groups == 0 {
         return Err(failed());
     }
-    let register: Register = boxcar::Vec::new(alloc)?;
+    let register = Register::new(alloc)?;
     let blank = Blank::new(groups as u64);
     serve::<Brand, Brand, R>(rt, alloc, &config, &register, blank, groups, row, failing)
 }
