@@ -6,5 +6,5 @@ returns g c = λ trusted x agrees.
     record {
       buffers = c.in_ok-named_buffers.ensures trusted x agrees;
       feeds = c.in_ok-named_feeds.ensures trusted x agrees;
-      ids = c.counts.ensures x.state.claim agrees.core.claims;
+      ids = c.counts.ensures.claims x.state.claim agrees.core.claims;
     }
