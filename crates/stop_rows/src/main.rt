@@ -1,0 +1,65 @@
+//! Rows for what a clean stop leaves and what a start makes of it: buffers over blocks in memory,
+//! and texts of histories. Each line of standard input is a call with its cells, and is printed
+//! with its answer. The gate runs it with the file `stdin`, and compares what it prints with the
+//! file `stdout`, whose answers are those of docs/, never this program's own. README.md has the
+//! calls.
+#![tactic(auto)]
+
+mod articles;
+mod bench;
+mod calls;
+mod histories;
+mod octets;
+mod runs;
+mod steps;
+
+use bench::Bench;
+use calls::{Call, call_of};
+use histories::Texts;
+use row_text::{Answers, Sheet, play};
+use std::alloc::{AllocError, Global};
+use std::process::ExitCode;
+use std::str;
+
+fn main(rt: HostRuntime) -> ExitCode {
+    let mut rows = Rows {
+        bench: Bench::Nothing,
+        texts: Texts::new(rt.alloc()),
+    };
+    play(&rt, &mut rows)
+}
+
+/// The buffer and the text of a history that the rows so far have left.
+#[derive(Drop)]
+struct Rows {
+    bench: Bench,
+    texts: Texts,
+}
+
+impl Answers for Rows {
+    fn answer(
+        &mut self,
+        alloc: Global,
+        call: &[u8],
+        cells: &[Vec<u8>],
+        text: &mut Vec<u8>,
+    ) -> Result<bool, AllocError> {
+        let mut sheet = Sheet::new(alloc);
+        match str::from_utf8(call) {
+            Ok(call) => self.put_answer(call, cells, &mut sheet),
+            Err(_) => sheet.refuse(),
+        }
+        sheet.end(text)
+    }
+}
+
+impl Rows {
+    /// Writes the answer of a call.
+    fn put_answer(&mut self, name: &str, cells: &[Vec<u8>], sheet: &mut Sheet) {
+        match call_of(name) {
+            Some(Call::Text(call)) => self.texts.answer(call, cells, sheet),
+            Some(call) => self.bench.answer(call, name, cells, sheet),
+            None => sheet.refuse(),
+        }
+    }
+}
