@@ -1,6 +1,5 @@
 pub mod Armings
 pub mod Begins
-pub mod HostFaults
 pub mod BegunShelf
 pub mod CodeBegins
 pub mod Ending

@@ -1,5 +1,4 @@
 mod Doors
 mod Kept
 mod Printed
-mod ServeFaults
 mod Sizes
