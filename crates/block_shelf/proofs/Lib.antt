@@ -1,5 +1,6 @@
 pub mod Armings
 pub mod Begins
+pub mod HostFaults
 pub mod BegunShelf
 pub mod CodeBegins
 pub mod Ending

@@ -320,7 +320,7 @@ module _ {S : Type 0} {g : Ghosts S} (settings : Buffers) (stores : List S) (she
           is_said = new_said w.groups buffer;
           failed = ap (λ (each : places.Buffer). failures_in g stores each.number) one.is
               ∙ ap (λ found. unwrap_or (option_map g.failures found) 0) one.there
-              ∙ ap g.failures (sym code.is_new.over);
+              ∙ sym code.is_new.failures;
         };
       }
 

@@ -1,9 +1,10 @@
 -- A shelf before anything is begun, over stores of which the i-th is that of buffer i
 -- (docs/PROTOCOL.md, Store).
-use Rattle.std.specs.Prelude.{◌≡◌, ℕ, Bool, true, List, [], length, None, Some, slice_get, All}
+use Rattle.std.specs.Prelude.{◌≡◌, ◌<◌, ◌+◌, ℕ, Bool, true, List, [], length, None, Some, slice_get, All}
 use Rattle.std.specs.Prelude.{option_map, unwrap_or}
 use Rattle.cyc_block.specs.declared.store.BlockStore.{Ghosts}
 use Rattle.cyc_buffer.specs.Agreement.{Agrees, store_of}
+use Rattle.cyc_buffer.specs.Head.{has_open_head, LeavesBlocks}
 use Rattle.cyc_buffer.specs.History.{new_history}
 use Rattle.cyc_buffer.specs.declared.buffer.Buffer.{Buffer}
 use Rattle.news_terms.specs.Places as places
@@ -11,7 +12,11 @@ use Rattle.relay_conf.specs.Settings.{places_of_buffers, places_of_groups}
 use Rattle.relay_conf.specs.declared.settings.Buffers.{Buffers}
 use Rattle.relay_model.specs.Terms.{Terms}
 use Rattle.block_shelf.specs.Keeping.{KeepsTexts, HasRack}
+use Rattle.block_shelf.specs.declared.filling.ShelfError.{ShelfError}
+use Rattle.block_shelf.specs.declared.filling.ShelfError.TheVariants as errors
 use Rattle.block_shelf.specs.declared.shelf.Rack.{Rack}
+use Rattle.block_shelf.specs.declared.beginning.BeginError.{BeginError}
+use Rattle.block_shelf.specs.declared.beginning.BeginError.TheVariants as begins
 use Rattle.block_shelf.specs.declared.shelf.Shelf.{Shelf}
 
 -- how often the device at each place of a list has failed, 0 where there is none
@@ -35,7 +40,11 @@ pub record IsNewOver {S : Type 0} {g : Ghosts S} (number : ℕ) (store : S) (cod
         blocks = length (g.blocks store);
         first_cycle = 0;
       }))
-  pub over : store_of code ≡ store
+  pub opened : has_open_head code ≡ true
+  -- the device was called once, and hasn't failed
+  pub calls : g.calls (store_of code) ≡ g.calls store + 1
+  pub failures : g.failures (store_of code) ≡ g.failures store
+  pub blocks : LeavesBlocks g store (store_of code)
 
 -- the buffer at this place is a new one over the store at this place
 pub record HasNewOver {S : Type 0} {g : Ghosts S} (codes : List (Buffer S g)) (b : ℕ) (store : S)
@@ -49,6 +58,36 @@ pub record AreNewOver {S : Type 0} {g : Ghosts S} (stores : List S) (codes : Lis
     : Type 0 where
   pub count : length codes ≡ length stores
   pub each : (b : ℕ) (store : S) → slice_get stores b ≡ Some store → HasNewOver codes b store
+
+-- the store is the one at a place of a list, and its device has failed since
+pub record HasFailedAt {S : Type 0} (g : Ghosts S) (stores : List S) (number : ℕ) (store : S) : Type 0
+  where
+    pub before : S
+    pub there : slice_get stores number ≡ Some before
+    pub failed : g.failures before < g.failures store
+
+-- a buffer of this number isn't made over a store where memory was refused, or its device failed
+abbrev pub IsRefusalOver : {S : Type 0} (g : Ghosts S) (store : S) (number : ℕ) → ShelfError S
+    → Type 0
+IsRefusalOver g store number errors.Memory = Unit {0}
+IsRefusalOver g store number (errors.Device of left) =
+    (of ≡ number) × (g.failures store < g.failures left)
+
+-- a shelf over stores isn't made where memory was refused, or where a device of theirs failed
+abbrev pub IsShelfRefusal : {S : Type 0} (g : Ghosts S) (stores : List S) → ShelfError S → Type 0
+IsShelfRefusal g stores errors.Memory = Unit {0}
+IsShelfRefusal g stores (errors.Device number store) = HasFailedAt g stores number store
+
+-- a relay doesn't begin since its host had no seed or no memory for it
+abbrev pub IsHost : {S : Type 0} → BeginError S → Type 0
+IsHost (begins.Host why) = Unit {0}
+IsHost (begins.Device number store) = ⊥
+
+-- a relay over stores doesn't begin where its host had no seed or no memory for it, or where a device
+-- of theirs has failed
+abbrev pub IsBeginRefusal : {S : Type 0} (g : Ghosts S) (stores : List S) → BeginError S → Type 0
+IsBeginRefusal g stores (begins.Host why) = Unit {0}
+IsBeginRefusal g stores (begins.Device number store) = HasFailedAt g stores number store
 
 -- the racks are those of these groups, before anything is begun
 abbrev pub AreNewRacks : List places.Group → List Rack → Type 0

@@ -1,6 +1,9 @@
 //! A shelf over stores, before anything is begun.
-ghost use Rattle.std.specs.Prelude.{◌≡◌, ◌≤◌, [], length, map, IfOk};
-ghost use Rattle.block_shelf.specs.Filling.{KeepsNothing, AreNewOver, AreNewRacks};
+ghost use Rattle.std.specs.Prelude.{◌≡◌, ◌≤◌, [], length, map, IfOk, IfErr};
+ghost use Rattle.cyc_buffer.specs.Head.{IsFormatRefusal};
+ghost use Rattle.block_shelf.specs.Filling.{KeepsNothing, IsNewOver, AreNewOver, AreNewRacks};
+ghost use Rattle.block_shelf.specs.Filling.{IsRefusalOver, IsShelfRefusal};
+ghost use Rattle.block_shelf.specs.declared.filling.ShelfError.TheVariants as errors;
 ghost use Rattle.block_shelf.specs.Keeping.{KeepsRack};
 ghost use Rattle.relay_conf.specs.Places.{group_view, group_over, numbered_buffers};
 ghost use Rattle.relay_conf.specs.Settings.{places_of_groups};
@@ -8,19 +11,45 @@ ghost use Rattle.relay_conf.specs.Settings.{places_of_groups};
 use crate::shelf::{Rack, Shelf};
 use buffer_group::Group;
 use cyc_block::BlockStore;
-use cyc_buffer::Buffer;
+use cyc_buffer::{Buffer, FormatError, Unformatted};
 use relay_conf::{BufferConf, Buffers, GroupConf};
-use std::alloc::{AllocError, Global};
+use std::alloc::{AllocError, AllocFailed, Global};
+
+/// Why a shelf isn't made, in the order of trial at each buffer.
+#[derive(Debug, Drop)]
+pub enum ShelfError<S: BlockStore> {
+    /// Memory was refused.
+    Memory,
+    /// The device of the buffer of this number failed; its store.
+    Device(u8, S),
+}
+
+impl<S: BlockStore> From<AllocError> for ShelfError<S> {
+    ghost from_gives = { λ _ made. made ≡ errors.Memory };
+
+    fn from(_error: AllocError) -> ShelfError<S> {
+        ShelfError::Memory
+    }
+}
+
+impl<S: BlockStore, T: Drop> From<AllocFailed<T>> for ShelfError<S> {
+    ghost from_gives = { λ _ made. made ≡ errors.Memory };
+
+    fn from(_error: AllocFailed<T>) -> ShelfError<S> {
+        ShelfError::Memory
+    }
+}
 
 impl<S: BlockStore> Shelf<S> {
-    /// A shelf over these stores, the i-th for buffer i, before anything is begun.
-    /// All memory is taken here.
-    pub fn new(alloc: Global, settings: &Buffers, stores: Vec<S>) -> Result<Shelf<S>, AllocError>
+    /// A shelf over these stores, the i-th for buffer i, before anything is begun, whose head
+    /// blocks say so. All memory is taken here.
+    pub fn new(alloc: Global, settings: &Buffers, stores: Vec<S>) -> Result<Shelf<S>, ShelfError<S>>
     where
         S: Drop,
         requires { map (λ store. length (S.blocks store)) stores.items
             ≡ map (λ buffer. buffer.blocks) settings.now.buffers.items }
-        ensures { IfOk result (KeepsNothing settings.now stores.items) }
+        ensures nothing { IfOk result (KeepsNothing settings.now stores.items) }
+        ensures refusal { IfErr result (IsShelfRefusal ⟦<S as BlockStore>⟧ stores.items) }
     {
         let buffers = new_buffers(alloc, stores)?;
         let racks = new_racks(alloc, settings)?;
@@ -32,16 +61,45 @@ impl<S: BlockStore> Shelf<S> {
 fn new_buffers<S: BlockStore + Drop>(
     alloc: Global,
     stores: Vec<S>,
-) -> Result<Vec<Buffer<S>>, AllocError>
+) -> Result<Vec<Buffer<S>>, ShelfError<S>>
     requires { length stores.items ≤ 256 }
-    ensures { IfOk result (λ buffers. AreNewOver stores.items buffers.items) }
+    ensures over { IfOk result (λ buffers. AreNewOver stores.items buffers.items) }
+    ensures refusal { IfErr result (IsShelfRefusal ⟦<S as BlockStore>⟧ stores.items) }
 {
     let mut buffers = Vec::with_capacity(alloc, stores.len())?;
     for store in stores {
         let number = buffers.len() as u8;
-        buffers.push(Buffer::format(alloc, store, number, 0)?)?;
+        let buffer = new_buffer(alloc, store, number)?;
+        buffers.push(buffer)?;
     }
     Ok(buffers)
+}
+
+/// A buffer over a store, whose number is this.
+fn new_buffer<S: BlockStore + Drop>(
+    alloc: Global,
+    store: S,
+    number: u8,
+) -> Result<Buffer<S>, ShelfError<S>>
+    ensures is_new { IfOk result (IsNewOver number store) }
+    ensures refusal { IfErr result (IsRefusalOver ⟦<S as BlockStore>⟧ store number) }
+{
+    match Buffer::format(alloc, store, number, 0) {
+        Ok(buffer) => Ok(buffer),
+        Err(refused) => Err(unformatted(refused, number)),
+    }
+}
+
+/// Why a shelf isn't made where the buffer of this number isn't.
+pub fn unformatted<S: BlockStore + Drop>(refused: Unformatted<S>, number: u8) -> ShelfError<S>
+    ensures { (store : S) → IsFormatRefusal ⟦<S as BlockStore>⟧ store refused.error refused.store
+        → IsRefusalOver ⟦<S as BlockStore>⟧ store number result }
+{
+    let Unformatted { store, error } = refused;
+    match error {
+        FormatError::Memory => ShelfError::Memory,
+        FormatError::Device => ShelfError::Device(number, store),
+    }
 }
 
 /// The racks of all groups, before anything is begun.

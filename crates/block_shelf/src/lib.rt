@@ -4,12 +4,14 @@
 #![tactic(auto)]
 
 mod arming;
+mod beginning;
 mod figures;
 mod filling;
 mod picking;
 mod shelf;
 
+pub use beginning::{BeginError, unbegun};
 pub use figures::BufferFigures;
-pub use filling::new_racks;
+pub use filling::{ShelfError, new_racks, unformatted};
 pub use picking::Place;
 pub use shelf::{Begun, Rack, Shelf};

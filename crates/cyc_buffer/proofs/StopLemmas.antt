@@ -12,7 +12,7 @@ use Rattle.news_terms.proofs.Bitmaps.{told_at}
 use Rattle.cyc_block.specs.Store.{block_at, ChangesOnly}
 use Rattle.cyc_block.specs.declared.store.BlockStore.{Ghosts}
 use Rattle.cyc_buffer.specs.Agreement.{Follows, Holds}
-use Rattle.cyc_buffer.specs.Head.{LeavesBuffer}
+use Rattle.cyc_buffer.specs.Head.{LeavesBuffer, LeavesBlocks}
 use Rattle.cyc_buffer.specs.History.{Writing, History, cycle_of}
 use Rattle.cyc_buffer.specs.Marks.{is_marked, is_told}
 use Rattle.cyc_buffer.specs.Register.{Keeps, Writes, numbers_in}
@@ -170,13 +170,22 @@ holds_stopped r heads blocks stop h keeps holds idle count fit numbers bitmap = 
   idle = idle_of h r.progress h.writing idle keeps.writing;
 }
 
+-- what leaves the blocks twice leaves them
+pub leaves_twice : {S : Type 0} (g : Ghosts S) (old mid new : S) → LeavesBlocks g old mid
+    → LeavesBlocks g mid new → LeavesBlocks g old new
+leaves_twice g old mid new first second = record {
+  honest = λ is. second.honest (first.honest is);
+  blocks = λ is. second.blocks (first.honest is) ∙ first.blocks is;
+  count = second.count ∙ first.count;
+}
+
 -- what leaves the buffer keeps its agreement with each history
 pub still_agrees : {S : Type 0} {g : Ghosts S} (old new : buffers.Buffer S g)
     → LeavesBuffer old new → Follows (λ h. h) old new
 still_agrees {g = g} old new left trusted h agrees = record {
   keeps = subst (λ (r : Register). Keeps r h) (sym left.register) agrees.keeps;
-  honest = λ is. left.honest (agrees.honest is);
+  honest = λ is. left.store.honest (agrees.honest is);
   holds = λ is. subst (λ (r : Register). Holds (g.blocks new.store) r h) (sym left.register)
       (subst (λ (blocks : List (List ℕ)). Holds blocks old.register h)
-      (sym (left.blocks (agrees.honest is))) (agrees.holds is));
+      (sym (left.store.blocks (agrees.honest is))) (agrees.holds is));
 }

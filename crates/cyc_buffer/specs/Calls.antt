@@ -8,6 +8,7 @@ use Rattle.cyc_buffer.specs.Agreement.{Agrees, Follows, Owns, Continues, store_o
 use Rattle.cyc_buffer.specs.Agreement.{blocks_written, is_broken, length_of}
 use Rattle.cyc_buffer.specs.Answers.{Shows, answer, by_numbers, HasRoom, IsDeviceFault, IsOther}
 use Rattle.cyc_buffer.specs.Answers.{IsRead, IsUnread}
+use Rattle.cyc_buffer.specs.Head.{has_open_head}
 use Rattle.cyc_buffer.specs.History.{History, front_of, with_block, with_failure}
 use Rattle.cyc_buffer.specs.declared.answers.BufError.{BufError}
 use Rattle.cyc_buffer.specs.declared.answers.FaultKind.TheVariants as kinds
@@ -86,8 +87,9 @@ pub record ReadsBlock {S : Type 0} {g : Ghosts S} (old : Buffer S g) (token : To
   pub rest : LeavesRest result before after
   -- The buffer after. It agrees with the same histories.
   pub same : Follows (λ h. h) old new
-  -- What it keeps in memory is the same.
+  -- What it keeps in memory is the same, and what its head says.
   pub register : register_of new ≡ register_of old
+  pub opened : has_open_head new ≡ has_open_head old
   -- The device. It is called once, whether it fails or not, or not at all.
   pub calls : (store_of new ≡ store_of old)
       ⊎ (g.calls (store_of new) ≡ g.calls (store_of old) + 1)

@@ -1,5 +1,5 @@
 -- What a buffer's head blocks have to do with it, and what a stop and an opening of its head leave.
-use Rattle.std.specs.Prelude.{◌≡◌, ◌<◌, ◌⊎◌, ℕ, Bool, true, false, is_some, length}
+use Rattle.std.specs.Prelude.{◌≡◌, ◌<◌, ◌+◌, ◌⊎◌, ℕ, Bool, true, false, is_some, length}
 use Rattle.cyc_block.specs.Store.{block_at}
 use Rattle.cyc_block.specs.declared.store.BlockStore.{Ghosts}
 use Rattle.cyc_buffer.specs.Agreement.{Agrees, store_of, register_of}
@@ -10,11 +10,18 @@ use Rattle.cyc_buffer.specs.Stopped.{TellsStarts}
 use Rattle.cyc_buffer.specs.declared.answers.BufError.{BufError}
 use Rattle.cyc_buffer.specs.declared.answers.BufError.TheVariants as errors
 use Rattle.cyc_buffer.specs.declared.answers.FaultKind.TheVariants as kinds
+use Rattle.cyc_buffer.specs.declared.answers.FormatError.{FormatError}
+use Rattle.cyc_buffer.specs.declared.answers.FormatError.TheVariants as formats
 use Rattle.cyc_buffer.specs.declared.buffer.Buffer.{Buffer}
+use Rattle.cyc_buffer.specs.declared.unopened.Unopened.{Unopened}
 
 -- head block 0 says that the buffer may change
 abbrev pub has_open_head : {S : Type 0} {g : Ghosts S} → Buffer S g → Bool
 has_open_head buffer = buffer.has_open_head
+
+-- the buffer that is started, before its head is open
+abbrev pub inside : {S : Type 0} {g : Ghosts S} → Unopened S g → Buffer S g
+inside unopened = unopened.buffer
 
 -- the number of the stop that the buffer was started from; 0 where it was made anew
 abbrev pub stop_of : {S : Type 0} {g : Ghosts S} → Buffer S g → ℕ
@@ -24,7 +31,7 @@ stop_of buffer = buffer.stop
 abbrev pub is_busy : {S : Type 0} {g : Ghosts S} → Buffer S g → Bool
 is_busy buffer = is_some (register_of buffer).progress
 
--- the error is the device's at a write that spoke of no article
+-- the error is the device's at a write of a head block, which speaks of no article
 abbrev pub IsHeadFault : {S : Type 0} {g : Ghosts S} → Buffer S g → BufError → Type 0
 IsHeadFault buffer e =
     e ≡ errors.Device (fault_of (buffer_of (register_of buffer).line) kinds.Write 0)
@@ -38,15 +45,26 @@ IsStopRefusal {g = g} old (errors.Device fault) new =
     (is_busy old ≡ false) × IsHeadFault old (errors.Device fault)
     × (g.failures (store_of old) < g.failures (store_of new))
 
--- Of a buffer and its device's blocks nothing is another than before but what the head blocks hold:
--- an honest device stays honest, and so do its blocks stay.
+-- what is called stays honest and keeps its blocks, whatever its head blocks hold
+pub record LeavesBlocks {S : Type 0} (g : Ghosts S) (old new : S) : Type 0 where
+  pub honest : g.honest old → g.honest new
+  pub blocks : g.honest old → g.blocks new ≡ g.blocks old
+  pub count : length (g.blocks new) ≡ length (g.blocks old)
+
+-- of a buffer nothing is another than before but what the head blocks of its device hold
 pub record LeavesBuffer {S : Type 0} {g : Ghosts S} (old new : Buffer S g) : Type 0 where
   pub register : register_of new ≡ register_of old
   pub opened : has_open_head new ≡ has_open_head old
   pub stop : stop_of new ≡ stop_of old
-  pub honest : g.honest (store_of old) → g.honest (store_of new)
-  pub blocks : g.honest (store_of old) → g.blocks (store_of new) ≡ g.blocks (store_of old)
-  pub count : length (g.blocks (store_of new)) ≡ length (g.blocks (store_of old))
+  pub store : LeavesBlocks g (store_of old) (store_of new)
+
+-- A buffer isn't made where memory was refused, and then the store is as it was, or where the device
+-- failed at the one call that was made of it.
+abbrev pub IsFormatRefusal : {S : Type 0} (g : Ghosts S) → (old : S) → FormatError → (new : S)
+    → Type 0
+IsFormatRefusal g old formats.Memory new = new ≡ old
+IsFormatRefusal g old formats.Device new =
+    (g.failures old < g.failures new) × (g.calls new ≡ g.calls old + 1) × LeavesBlocks g old new
 
 -- head block 0 holds what it held, or the bitmap is there
 abbrev pub IsInOrder : {S : Type 0} {g : Ghosts S} → Buffer S g → Buffer S g → Type 0

@@ -70,7 +70,7 @@ impl Fault {
         self.buffer
     }
 
-    /// The octets of the article that the call spoke of.
+    /// The octets of the article that the call spoke of; 0 where it spoke of none.
     pub fn length(&self) -> u32
         ensures { result ≡ self.now.length }
     {
@@ -112,6 +112,15 @@ impl From<AllocError> for StartError {
     fn from(_error: AllocError) -> StartError {
         StartError::Memory
     }
+}
+
+/// Why a buffer isn't made, in the order of trial.
+#[derive(Clone, Copy, Debug, PartialEq, Eq)]
+pub enum FormatError {
+    /// Memory was refused.
+    Memory,
+    /// The device failed while head block 0 was written.
+    Device,
 }
 
 /// What a read found.

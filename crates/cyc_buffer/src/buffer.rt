@@ -5,11 +5,13 @@ ghost use Rattle.news_terms.specs.BlockImage.{block_image as image_of};
 ghost use Rattle.cyc_block.specs.Image.{stamped};
 ghost use Rattle.cyc_buffer.specs.Progress.{stamp_of};
 
-use crate::answers::{BufError, FaultKind, Found, Front};
+use crate::answers::{BufError, FaultKind, FormatError, Found, Front};
 use crate::register::{Look, Open, Register};
-use cyc_block::{BLOCK_OCTETS, BlockStore, CHUNK_OCTETS, Stamp, block_image, read_image};
+use cyc_block::{
+    BLOCK_OCTETS, BlockStore, CHUNK_OCTETS, HeadState, Stamp, block_image, read_image,
+};
 use cyc_token::Token;
-use std::alloc::{AllocError, Global};
+use std::alloc::Global;
 
 /// A cyclic buffer over a store of blocks.
 #[derive(Debug, Drop)]
@@ -23,9 +25,18 @@ pub struct Buffer<S: BlockStore> {
     ghost counted: { register.line.blocks ≡ length (S.blocks store) },
 }
 
+/// A store over which no buffer is made, and why.
+#[derive(Debug, Drop)]
+pub struct Unformatted<S: BlockStore> {
+    /// The store, as it was where memory was refused.
+    pub store: S,
+    /// Memory was refused, or the device failed.
+    pub error: FormatError,
+}
+
 impl<S: BlockStore> Buffer<S> {
-    ghost use Rattle.std.specs.Prelude.{◌≡◌, ◌≤◌, length, Bool, true, false, Some, Ok, IfOk, OnOk};
-    ghost use Rattle.std.specs.Prelude.{OnErr};
+    ghost use Rattle.std.specs.Prelude.{◌≡◌, ◌≤◌, ◌+◌, length, Bool, true, false, Some, Ok, IfOk};
+    ghost use Rattle.std.specs.Prelude.{IfErr, OnOk, OnErr};
     ghost use Rattle.cyc_token.specs.Token.{token_view};
     ghost use Rattle.cyc_buffer.specs.Agreement.{Agrees, Follows, Owns, store_of, register_of};
     ghost use Rattle.cyc_buffer.specs.Agreement.{blocks_written, is_broken, length_of, token_of};
@@ -35,34 +46,66 @@ impl<S: BlockStore> Buffer<S> {
     ghost use Rattle.cyc_buffer.specs.History.{History, new_history, with_begin, with_finish};
     ghost use Rattle.cyc_buffer.specs.History.{without_write, open_token, front_of, cycle_of};
     ghost use Rattle.cyc_buffer.specs.History.{stored_count};
+    ghost use Rattle.cyc_buffer.specs.Head.{has_open_head, LeavesBlocks, IsFormatRefusal};
+    ghost use Rattle.cyc_buffer.specs.Stopped.{numbers_of};
+    ghost use Rattle.cyc_block.specs.Store.{block_at, ChangesOnly};
+    ghost use Rattle.news_terms.specs.HeadBlocks.{Open as OpenState, head_image as head_of};
 
-    /// A buffer over all blocks of a store, in which nothing was begun yet.
-    /// All memory is taken here.
+    /// A buffer over all blocks of a store, in which nothing was begun yet, and head block 0 says
+    /// so. All memory is taken here.
     pub fn format(
         alloc: Global,
         store: S,
         number: u8,
         first_cycle: u32,
-    ) -> Result<Buffer<S>, AllocError>
-    where
-        S: Drop,
+    ) -> Result<Buffer<S>, Unformatted<S>>
         ensures new { IfOk result (λ buffer. (trusted : Bool) → (trusted ≡ true → S.honest store)
             → Agrees trusted buffer (new_history (record {
               number = number;
               blocks = length (S.blocks store);
               first_cycle = first_cycle;
             }))) }
-        // The device isn't called.
-        ensures store { IfOk result (λ buffer. store_of buffer ≡ store) }
+        ensures opened { IfOk result (λ buffer. has_open_head buffer ≡ true) }
+        ensures written { IfOk result (λ buffer. S.honest store
+            → block_at (S.heads (store_of buffer)) 0 ≡ head_of (numbers_of OpenState 0
+            (new_history (record {
+              number = number;
+              blocks = length (S.blocks store);
+              first_cycle = first_cycle;
+            })))) }
+        // The device is called once, for this block alone.
+        ensures others { IfOk result (λ buffer. S.honest store
+            → ChangesOnly 0 (S.heads store) (S.heads (store_of buffer))) }
+        ensures blocks { IfOk result (λ buffer.
+            LeavesBlocks ⟦<S as BlockStore>⟧ store (store_of buffer)) }
+        ensures calls { IfOk result (λ buffer. S.calls (store_of buffer) ≡ S.calls store + 1) }
+        ensures failures { IfOk result (λ buffer.
+            S.failures (store_of buffer) ≡ S.failures store) }
+        // Else the store is handed back.
+        ensures refusal { IfErr result (λ refused.
+            IsFormatRefusal ⟦<S as BlockStore>⟧ store refused.error refused.store) }
     {
         let blocks = store.count();
-        let register = Register::new(alloc, number, blocks, first_cycle)?;
-        Ok(Buffer {
+        let register = match Register::new(alloc, number, blocks, first_cycle) {
+            Ok(register) => register,
+            Err(_refused) => {
+                let error = FormatError::Memory;
+                return Err(Unformatted { store, error });
+            }
+        };
+        let mut buffer = Buffer {
             store,
             register,
             stop: 0,
             has_open_head: false,
-        })
+        };
+        if buffer.write_head(HeadState::Open, 0).is_err() {
+            let error = FormatError::Device;
+            let store = buffer.into_store();
+            return Err(Unformatted { store, error });
+        }
+        buffer.has_open_head = true;
+        Ok(buffer)
     }
 
     /// Begins an article of a class and of so many octets, at least 1; `fresh` at the front of a
@@ -82,6 +125,7 @@ impl<S: BlockStore> Buffer<S> {
         ensures length { IfOk result (λ write. length_of write ≡ length) }
         ensures none_written { OnOk result (blocks_written self.new ≡ 0) }
         ensures whole { OnOk result (is_broken self.new ≡ false) }
+        ensures head { has_open_head self.new ≡ has_open_head self.old }
         // The device isn't called.
         ensures store { store_of self.new ≡ store_of self.old }
     {
@@ -99,6 +143,7 @@ impl<S: BlockStore> Buffer<S> {
         // Whether it can be written or not, an error says that it can, and that the device failed.
         ensures error { OnErr result (CanWrite self.old write.now text.now) }
         ensures device { LeavesDevice self.old result self.new }
+        ensures head { has_open_head self.new ≡ has_open_head self.old }
     {
         if !self.register.can_write(write, text) {
             return Ok(true);
@@ -122,6 +167,7 @@ impl<S: BlockStore> Buffer<S> {
             → Agrees trusted self.old h → Some (token_view result) ≡ open_token h }
         ensures finished { CanFinish self.old write → Follows with_finish self.old self.new }
         ensures refused { (CanFinish self.old write → ⊥) → self.new ≡ self.old }
+        ensures head { has_open_head self.new ≡ has_open_head self.old }
         // The device isn't called.
         ensures store { store_of self.new ≡ store_of self.old }
     {
@@ -136,6 +182,7 @@ impl<S: BlockStore> Buffer<S> {
     pub fn abandon(&mut self, write: Open)
         ensures abandoned { Owns self.old write → Follows without_write self.old self.new }
         ensures refused { (Owns self.old write → ⊥) → self.new ≡ self.old }
+        ensures head { has_open_head self.new ≡ has_open_head self.old }
         // The device isn't called.
         ensures store { store_of self.new ≡ store_of self.old }
     {

@@ -18,11 +18,13 @@ mod restarting;
 mod starting;
 mod stopped;
 mod stopping;
+mod unopened;
 
-pub use answers::{BufError, Fault, FaultKind, Found, Front, StartError};
-pub use buffer::Buffer;
+pub use answers::{BufError, Fault, FaultKind, FormatError, Found, Front, StartError};
+pub use buffer::{Buffer, Unformatted};
 pub use line::size_of;
 pub use register::Open;
 pub use restarting::RestartError;
 pub use starting::{Refused, Started};
 pub use stopping::Unstopped;
+pub use unopened::Unopened;

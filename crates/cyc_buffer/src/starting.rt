@@ -2,7 +2,7 @@
 ghost use Rattle.std.specs.Prelude.{◌≡◌, ◌+◌, ◌<◌, ℕ, true, false, length, IfErr, IfOk, OnOk};
 ghost use Rattle.news_terms.specs.HeadBlocks.{head_blocks};
 ghost use Rattle.cyc_buffer.specs.Agreement.{Agrees, store_of};
-ghost use Rattle.cyc_buffer.specs.Head.{has_open_head, is_busy, stop_of};
+ghost use Rattle.cyc_buffer.specs.Head.{has_open_head, inside, is_busy, stop_of};
 ghost use Rattle.cyc_buffer.specs.History.{History};
 ghost use Rattle.cyc_buffer.specs.Reads.{IsBlamed, StaysHeld};
 ghost use Rattle.cyc_buffer.specs.Starting.{IsOutside, IsReason, ListsLive, Starts, blocks_in};
@@ -11,6 +11,7 @@ ghost use Rattle.cyc_buffer.specs.Stopped.{HoldsStopped};
 use crate::answers::StartError;
 use crate::buffer::Buffer;
 use crate::stopped::read_stopped;
+use crate::unopened::Unopened;
 use cyc_block::BlockStore;
 use cyc_token::Token;
 use std::alloc::Global;
@@ -19,7 +20,7 @@ use std::alloc::Global;
 #[derive(Debug, Drop)]
 pub struct Started<S: BlockStore> {
     /// The buffer, whose head block says closed yet.
-    pub buffer: Buffer<S>,
+    pub buffer: Unopened<S>,
     /// The number of the stop that it was started from.
     pub stop: u64,
     /// The tokens of its live finished articles, rising by place.
@@ -52,7 +53,7 @@ impl<S: BlockStore> Buffer<S> {
               number = number;
               blocks = length (S.blocks store);
               first_cycle = first_cycle;
-            } → Agrees true started.buffer h) }
+            } → Agrees true (inside started.buffer) h) }
         ensures stop { S.honest store → IfOk result (λ started. (stop : ℕ) (h : History)
             → HoldsStopped (S.heads store) (S.blocks store) stop h → started.stop ≡ stop) }
         ensures tokens { S.honest store → IfOk result (λ started. (stop : ℕ) (h : History)
@@ -80,12 +81,12 @@ impl<S: BlockStore> Buffer<S> {
               first_cycle = first_cycle;
             }) refused.error) }
         // The buffer is idle, its head block isn't open, and it remembers the stop.
-        ensures unopened { IfOk result (λ started. has_open_head started.buffer ≡ false) }
-        ensures idle { IfOk result (λ started. is_busy started.buffer ≡ false) }
-        ensures under { IfOk result (λ started. stop_of started.buffer ≡ started.stop) }
+        ensures unopened { IfOk result (λ started. has_open_head (inside started.buffer) ≡ false) }
+        ensures idle { IfOk result (λ started. is_busy (inside started.buffer) ≡ false) }
+        ensures under { IfOk result (λ started. stop_of (inside started.buffer) ≡ started.stop) }
         // Nothing is written, and Device says that the device failed, and no other answer does.
         ensures same { IfOk result (λ started.
-            StaysHeld S.BlockStore store (store_of started.buffer)) }
+            StaysHeld S.BlockStore store (store_of (inside started.buffer))) }
         ensures honest { IfErr result (λ refused. S.honest store → S.honest refused.store) }
         ensures blocks { IfErr result (λ refused. S.honest store
             → S.blocks refused.store ≡ S.blocks store) }
@@ -94,22 +95,24 @@ impl<S: BlockStore> Buffer<S> {
         ensures count { IfErr result (λ refused.
             length (S.blocks refused.store) ≡ length (S.blocks store)) }
         // Each head block and each block of a listed article is read once.
-        ensures calls { IfOk result (λ started. S.calls (store_of started.buffer)
+        ensures calls { IfOk result (λ started. S.calls (store_of (inside started.buffer))
             ≡ S.calls store + head_blocks (length (S.blocks store))
             + blocks_in started.tokens.items) }
         ensures failed { IfErr result (λ refused.
             IsBlamed S.BlockStore store refused.store refused.error) }
         ensures no_failure { IfOk result (λ started.
-            S.failures (store_of started.buffer) ≡ S.failures store) }
+            S.failures (store_of (inside started.buffer)) ≡ S.failures store) }
     {
         let mut store = store;
         match read_stopped(alloc, &mut store, number, first_cycle) {
             Ok(stopped) => Ok(Started {
-                buffer: Buffer {
-                    store,
-                    register: stopped.register,
-                    stop: stopped.stop,
-                    has_open_head: false,
+                buffer: Unopened {
+                    buffer: Buffer {
+                        store,
+                        register: stopped.register,
+                        stop: stopped.stop,
+                        has_open_head: false,
+                    },
                 },
                 stop: stopped.stop,
                 tokens: stopped.tokens,

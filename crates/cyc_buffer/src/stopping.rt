@@ -9,7 +9,7 @@ ghost use Rattle.cyc_block.specs.Store.{block_at, ChangesOnly};
 ghost use Rattle.cyc_buffer.specs.Agreement.{Agrees, Follows, store_of, register_of};
 ghost use Rattle.cyc_buffer.specs.History.{History};
 ghost use Rattle.cyc_buffer.specs.Head.{has_open_head, stop_of, is_busy, IsHeadFault, IsInOrder};
-ghost use Rattle.cyc_buffer.specs.Head.{IsStopRefusal, LeavesBuffer};
+ghost use Rattle.cyc_buffer.specs.Head.{IsStopRefusal, LeavesBuffer, LeavesBlocks};
 ghost use Rattle.cyc_buffer.specs.Marks.{is_told};
 ghost use Rattle.cyc_buffer.specs.Register.{numbers_in};
 ghost use Rattle.cyc_buffer.specs.Stopped.{HoldsStopped, numbers_of};
@@ -110,6 +110,7 @@ impl<S: BlockStore> Buffer<S> {
         ensures no_failure { OnOk result (S.failures (store_of self.new)
             ≡ S.failures (store_of self.old)) }
     {
+        // Of a store that has been counted it is known how many head blocks it has.
         let _blocks = self.store.count();
         let image = head_image(&self.register.numbers(state, stop));
         if self.store.write_head(0, &image).is_err() {
@@ -159,9 +160,7 @@ fn write_bitmap<S: BlockStore>(store: &mut S, register: &Register) -> Result<(),
         ≡ bitmap_of (is_told register.now.starts.words.items (length (S.blocks store.old))) i) }
     ensures first { S.honest store.old
         → block_at (S.heads store.new) 0 ≡ block_at (S.heads store.old) 0 }
-    ensures blocks { S.honest store.old → S.blocks store.new ≡ S.blocks store.old }
-    ensures honest { S.honest store.old → S.honest store.new }
-    ensures count { length (S.blocks store.new) ≡ length (S.blocks store.old) }
+    ensures rest { LeavesBlocks ⟦<S as BlockStore>⟧ store.old store.new }
     // It is one call for each block of it, and the device failed where an error is answered.
     ensures calls { OnOk result (S.calls store.new
         ≡ S.calls store.old + bitmap_blocks (length (S.blocks store.old))) }

@@ -4,14 +4,15 @@ ghost use Rattle.std.specs.Prelude.{◌≡◌, IfOk, None, replicate};
 use crate::numbered::NumberedBuffer;
 use crate::record::{Archive, Shown};
 use cyc_block::BlockStore;
-use cyc_buffer::{Buffer, Front};
+use cyc_buffer::{Buffer, FormatError, Front, Unformatted};
 use std::alloc::{AllocError, Global};
 use std::marker::PhantomData;
 
 impl<S: BlockStore, J: Archive> NumberedBuffer<S, J> {
-    ghost use Rattle.std.specs.Prelude.{◌≡◌, Bool, true, length};
+    ghost use Rattle.std.specs.Prelude.{◌≡◌, ◌+◌, Bool, true, length, IfErr};
     ghost use Rattle.cyc_buffer.specs.Agreement.{Agrees, store_of};
     ghost use Rattle.cyc_buffer.specs.Answers.{front_view};
+    ghost use Rattle.cyc_buffer.specs.Head.{LeavesBlocks, IsFormatRefusal};
     ghost use Rattle.cyc_buffer.specs.History.{History, new_history, front_of, cycle_of};
     ghost use Rattle.cyc_buffer.specs.History.{stored_count};
     ghost use Rattle.live_store.specs.Steps.{buffer_of, beside_of, numbers_of};
@@ -23,9 +24,7 @@ impl<S: BlockStore, J: Archive> NumberedBuffer<S, J> {
         store: S,
         number: u8,
         first_cycle: u32,
-    ) -> Result<NumberedBuffer<S, J>, AllocError>
-    where
-        S: Drop,
+    ) -> Result<NumberedBuffer<S, J>, Unformatted<S>>
         requires { J.trusted ≡ true → S.honest store }
         ensures new { IfOk result (λ numbered. (trusted : Bool) → (trusted ≡ true → S.honest store)
             → Agrees trusted (buffer_of numbered) (new_history (record {
@@ -36,11 +35,28 @@ impl<S: BlockStore, J: Archive> NumberedBuffer<S, J> {
         ensures free { IfOk result (λ numbered. beside_of numbered ≡ None) }
         ensures numbers { IfOk result (λ numbered. numbers_of numbered
             ≡ replicate (length (S.blocks store)) None) }
-        // The device isn't called.
-        ensures store { IfOk result (λ numbered. store_of (buffer_of numbered) ≡ store) }
+        // The device is called once, for head block 0.
+        ensures blocks { IfOk result (λ numbered.
+            LeavesBlocks ⟦<S as BlockStore>⟧ store (store_of (buffer_of numbered))) }
+        ensures calls { IfOk result (λ numbered.
+            S.calls (store_of (buffer_of numbered)) ≡ S.calls store + 1) }
+        ensures failures { IfOk result (λ numbered.
+            S.failures (store_of (buffer_of numbered)) ≡ S.failures store) }
+        // Else the store is handed back.
+        ensures refusal { IfErr result (λ refused.
+            IsFormatRefusal ⟦<S as BlockStore>⟧ store refused.error refused.store) }
     {
-        let numbers = no_numbers(alloc, store.count())?;
-        let buffer = Buffer::format(alloc, store, number, first_cycle)?;
+        let numbers = match no_numbers(alloc, store.count()) {
+            Ok(numbers) => numbers,
+            Err(_refused) => {
+                let error = FormatError::Memory;
+                return Err(Unformatted { store, error });
+            }
+        };
+        let buffer = match Buffer::format(alloc, store, number, first_cycle) {
+            Ok(buffer) => buffer,
+            Err(refused) => return Err(refused),
+        };
         Ok(NumberedBuffer {
             buffer,
             beside: None,

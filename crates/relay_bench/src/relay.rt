@@ -3,6 +3,7 @@ ghost use Rattle.std.specs.Prelude.{◌≡◌, length, map, IfOk};
 
 use crate::events::{add, body, openings, piece};
 use crate::loads::{Ids, Load};
+use block_shelf::BeginError;
 use cyc_block::{BlockStore, MemoryBlocks};
 use line_words::Octets;
 use relay_conf::{Buffers, Config, read_cycbuff};
@@ -132,7 +133,11 @@ fn relay(rt: &HostRuntime, alloc: Global) -> io::Result<System<MemoryBlocks>> {
         return Err(io::Error::from(ErrorKind::InvalidData));
     };
     let stores = stores_of(alloc, &config.buffers)?;
-    System::new(rt, alloc, config, stores)
+    match System::new(rt, alloc, config, stores) {
+        Ok(system) => Ok(system),
+        Err(BeginError::Host(error)) => Err(error),
+        Err(BeginError::Device(_number, _store)) => Err(io::Error::from(ErrorKind::Other)),
+    }
 }
 
 /// A store in memory for each buffer, of as many blocks.

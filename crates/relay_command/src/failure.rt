@@ -84,6 +84,7 @@ impl Failure {
             Failure::Unwritten => 4,
             Failure::Check(CheckError::Unwritten) => 4,
             Failure::Drill(DrillError::Unwritten | DrillError::Unseeded) => 4,
+            Failure::Drill(DrillError::Device) => 4,
             Failure::Serve(ServeError::File(_) | ServeError::Port(_)) => 4,
             Failure::Serve(ServeError::Control) => 4,
             Failure::Serve(ServeError::Unseeded | ServeError::Unwritten) => 4,

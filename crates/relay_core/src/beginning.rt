@@ -1,11 +1,12 @@
 //! How the relay begins.
-ghost use Rattle.std.specs.Prelude.{◌≡◌, IfOk, length, map};
+ghost use Rattle.std.specs.Prelude.{◌≡◌, IfErr, IfOk, length, map};
+ghost use Rattle.block_shelf.specs.Filling.{IsBeginRefusal};
 ghost use Rattle.relay_core.specs.Beginning.{AreIdle, BeginsOver};
 
 use crate::expiring::Expirer;
 use crate::queue::Queue;
 use crate::system::{Lane, System};
-use block_shelf::Shelf;
+use block_shelf::{BeginError, Shelf, unbegun};
 use buffer_group::Writer;
 use cyc_block::BlockStore;
 use feed_queue::FeedDesk;
@@ -14,31 +15,34 @@ use relay_conf::Config;
 use relay_peers::Peers;
 use std::alloc::{AllocError, Global};
 use std::hash::RandomState;
-use std::io;
 use std::random::RandomSource;
 
 impl<S: BlockStore> System<S> {
     /// The relay over these stores, the i-th for buffer i, before anything has come. What it needs
-    /// for its rings, queues and buffers is taken here. The error is that no seed for its tables
-    /// was to be had, or memory.
+    /// for its rings, queues and buffers is taken here. Each buffer's head block says that it may
+    /// change.
     pub fn new(
         rt: &impl RandomSource,
         alloc: Global,
         config: Config,
         stores: Vec<S>,
-    ) -> io::Result<System<S>>
+    ) -> Result<System<S>, BeginError<S>>
     where
         S: Drop,
         requires { map (λ store. length (S.blocks store)) stores.items
             ≡ map (λ buffer. buffer.blocks) config.buffers.buffers.items }
-        ensures { IfOk result (BeginsOver config stores.items) }
+        ensures begins { IfOk result (BeginsOver config stores.items) }
+        ensures refusal { IfErr result (IsBeginRefusal ⟦<S as BlockStore>⟧ stores.items) }
     {
         let hasher = RandomState::new(rt)?;
         let shards = Shards::new(rt, alloc)?;
         let desk = FeedDesk::new(alloc, &config.relay.feeds)?;
         let expirer = Expirer::new(alloc)?;
         let lanes = new_lanes(alloc, config.buffers.groups.len())?;
-        let shelf = Shelf::new(alloc, &config.buffers, stores)?;
+        let shelf = match Shelf::new(alloc, &config.buffers, stores) {
+            Ok(shelf) => shelf,
+            Err(error) => return Err(unbegun(error)),
+        };
         Ok(System {
             alloc,
             config,

@@ -38,6 +38,7 @@ fail_map faults.Unwritten halts breaks gives = breaks gives
 fail_map (faults.Line number) halts breaks gives = gives
 fail_map faults.Unreadable halts breaks gives = gives
 fail_map faults.Unseeded halts breaks gives = gives
+fail_map faults.Device halts breaks gives = gives
 
 -- What an answer says holds where what it says of each case does.
 pub gives_map : (result : Result (Unit {0}) DrillError)

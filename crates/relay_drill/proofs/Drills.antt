@@ -25,7 +25,7 @@ use Rattle.relay_drill.specs.Stores.{AreStoresOf}
 use Rattle.relay_drill.specs.Todo.{Todo, Done}
 use Rattle.relay_drill.specs.declared.fault.DrillError.{DrillError}
 use Rattle.relay_drill.specs.declared.fault.DrillError.TheVariants.{Memory, Unreadable, Unwritten}
-use Rattle.relay_drill.specs.declared.fault.DrillError.TheVariants.{Unseeded}
+use Rattle.relay_drill.specs.declared.fault.DrillError.TheVariants.{Unseeded, Device}
 use Rattle.relay_drill.specs.declared.fault.DrillError.TheVariants as faults
 use Rattle.relay_drill.specs.declared.line.Line as code
 use Rattle.relay_drill.proofs.Courses.{gives_map}
@@ -80,6 +80,7 @@ unread items config Unreadable result script held is e read =
 unread items config (faults.Line number) result script held is e read = absurd read
 unread items config Unwritten result script held is e read = absurd read
 unread items config Unseeded result script held is e read = absurd read
+unread items config Device result script held is e read = absurd read
 
 -- A bad line ends the drill with nothing written.
 pub bad_line : {L : Type 0} (items : L → List code.Line) (config : Config) (error : DrillError)
@@ -98,11 +99,19 @@ bad_line items config (faults.Line number) result (Some all) text held is e read
 bad_line items config Unreadable result script text held is e read gives = absurd gives
 bad_line items config Unwritten result script text held is e read gives = absurd gives
 bad_line items config Unseeded result script text held is e read gives = absurd gives
+bad_line items config Device result script text held is e read gives = absurd gives
 
 -- a relay that can't begin wants memory, or numbers to seed it with
 unbegun_or : (kind : ErrorKind) → (unbegun_as kind ≡ Memory) ⊎ (unbegun_as kind ≡ Unseeded)
 unbegun_or OutOfMemory = inl refl
 unbegun_or kind = inr refl
+
+-- a script whose lines were read has no bad one
+good_script : (config : Config) (script : Option (List ℕ)) (text : List ℕ) (lines : List Line)
+    → IfSome script (λ all. text ≡ all) → lines_of_script config text ≡ Ok lines
+    → IfSome script (λ all. IsOk (lines_of_script config all))
+good_script config None text lines read says = tt
+good_script config (Some all) text lines read says = rw (← read, says) refl
 
 -- A relay that can't begin ends the drill of a script without a bad line, with nothing written.
 pub unbegun : (config : Config) (kind : ErrorKind) (error : DrillError)
@@ -113,13 +122,16 @@ unbegun config kind error script held text lines is read says =
     let P : DrillError → Type 0 = λ it. DrillGives config (Err it) script held held in
     elim (unbegun_or kind) [
       | inl memory ↦ subst P (sym (is ∙ memory)) (memory_at_once config script held)
-      | inr seed ↦ subst P (sym (is ∙ seed)) (good script read, keeps_same held)
+      | inr seed ↦ subst P (sym (is ∙ seed))
+          (good_script config script text lines read says, keeps_same held)
     ]
-  where
-    good : (known : Option (List ℕ)) → IfSome known (λ all. text ≡ all)
-        → IfSome known (λ all. IsOk (lines_of_script config all))
-    good None read = tt
-    good (Some all) read = rw (← read, says) refl
+
+-- So does one of which a device fails.
+pub device_failed : (config : Config) (script held : Option (List ℕ)) (text : List ℕ)
+    (lines : List Line) → IfSome script (λ all. text ≡ all) → lines_of_script config text ≡ Ok lines
+    → DrillGives config (Err Device) script held held
+device_failed config script held text lines read says =
+    (good_script config script text lines read says, keeps_same held)
 
 -- Where no device of these has failed, none has.
 none_failed : {S : Type 0} (failures : S → ℕ) (stores : List S)
@@ -187,4 +199,6 @@ module _ {S : Type 0} {g : Ghosts S} where
   drill_gives config new (Err Unreadable) script text lines before after is says went =
       absurd went
   drill_gives config new (Err Unseeded) script text lines before after is says went =
+      absurd went
+  drill_gives config new (Err Device) script text lines before after is says went =
       absurd went

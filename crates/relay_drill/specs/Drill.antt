@@ -12,7 +12,7 @@ use Rattle.relay_drill.specs.Script.{Line, Names, script_of}
 use Rattle.relay_drill.specs.Todo.{Todo, Done, first_stand, lines_ask}
 use Rattle.relay_drill.specs.declared.fault.DrillError.{DrillError}
 use Rattle.relay_drill.specs.declared.fault.DrillError.TheVariants.{Memory, Unreadable, Unwritten}
-use Rattle.relay_drill.specs.declared.fault.DrillError.TheVariants.{Unseeded}
+use Rattle.relay_drill.specs.declared.fault.DrillError.TheVariants.{Unseeded, Device}
 use Rattle.relay_drill.specs.declared.fault.DrillError.TheVariants as faults
 
 -- the names that a script may use
@@ -59,7 +59,8 @@ ScriptBreaks config script before after =
     × Broke config (asked_by config lines) first_world before after
 
 -- what the answer says of the script and of what the writer held before and holds after; that the
--- relay wasn't seeded is said of a script without a bad line alone, and nothing was written
+-- relay wasn't seeded, or a device of its failed before, is said of a script without a bad line alone,
+-- and nothing was written
 abbrev pub DrillGives : Config → Result (Unit {0}) DrillError → Option (List ℕ)
     → Option (List ℕ) → Option (List ℕ) → Type 0
 DrillGives config (Ok done) script before after =
@@ -72,4 +73,6 @@ DrillGives config (Err Unreadable) script before after = Keeps before after
 DrillGives config (Err Unwritten) script before after =
     IfSome script (λ text. ScriptBreaks config text before after)
 DrillGives config (Err Unseeded) script before after =
+    IfSome script (λ text. IsOk (lines_of_script config text)) × Keeps before after
+DrillGives config (Err Device) script before after =
     IfSome script (λ text. IsOk (lines_of_script config text)) × Keeps before after

@@ -55,6 +55,7 @@ ScriptGives items (Err (faults.Line number)) says = says ≡ Err number
 ScriptGives items (Err faults.Unreadable) says = ⊥
 ScriptGives items (Err faults.Unwritten) says = ⊥
 ScriptGives items (Err faults.Unseeded) says = ⊥
+ScriptGives items (Err faults.Device) says = ⊥
 
 -- the error says that it was halted for want of memory, or that it was broken off since the writer
 -- failed
@@ -64,6 +65,7 @@ FailGives faults.Unwritten halted broken = broken
 FailGives (faults.Line number) halted broken = ⊥
 FailGives faults.Unreadable halted broken = ⊥
 FailGives faults.Unseeded halted broken = ⊥
+FailGives faults.Device halted broken = ⊥
 
 -- the answer says that all is done, or why it isn't
 abbrev pub PlayGives : Result (Unit {0}) DrillError → (done halted broken : Type 0) → Type 0
@@ -79,6 +81,7 @@ ReadGives items (Err faults.Unreadable) left = Unit {0}
 ReadGives items (Err (faults.Line number)) left = ⊥
 ReadGives items (Err faults.Unwritten) left = ⊥
 ReadGives items (Err faults.Unseeded) left = ⊥
+ReadGives items (Err faults.Device) left = ⊥
 
 -- why a relay can't begin: memory ran out, or the system has no random numbers
 abbrev pub unbegun_as : ErrorKind → DrillError

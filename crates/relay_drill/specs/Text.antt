@@ -2,7 +2,7 @@
 use Rattle.std.specs.Prelude.{ℕ, List, ◌++◌, codes, decimal}
 use Rattle.relay_drill.specs.declared.fault.DrillError.{DrillError}
 use Rattle.relay_drill.specs.declared.fault.DrillError.TheVariants.{Memory, Line, Unreadable}
-use Rattle.relay_drill.specs.declared.fault.DrillError.TheVariants.{Unwritten, Unseeded}
+use Rattle.relay_drill.specs.declared.fault.DrillError.TheVariants.{Unwritten, Unseeded, Device}
 
 -- the text of a fault, without the line's end
 abbrev pub text_of : DrillError → List ℕ
@@ -11,3 +11,4 @@ text_of (Line number) = codes "script:" ++ decimal number ++ codes ": fault"
 text_of Unreadable = codes "script: unreadable"
 text_of Unwritten = codes "stdout: unwritten"
 text_of Unseeded = codes "relay: no random numbers to be had"
+text_of Device = codes "relay: a device failed"

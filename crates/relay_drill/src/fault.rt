@@ -23,6 +23,8 @@ pub enum DrillError {
     Unwritten,
     /// The system had no random numbers to seed the relay's tables with. Nothing ran.
     Unseeded,
+    /// A device failed while the head block of its buffer was written. Nothing ran.
+    Device,
 }
 
 impl Display for DrillError {
@@ -35,6 +37,7 @@ impl Display for DrillError {
             DrillError::Unreadable => formatter.write_str("script: unreadable"),
             DrillError::Unwritten => formatter.write_str("stdout: unwritten"),
             DrillError::Unseeded => formatter.write_str("relay: no random numbers to be had"),
+            DrillError::Device => formatter.write_str("relay: a device failed"),
         }
     }
 }

@@ -9,6 +9,7 @@ ghost use Rattle.relay_drill.specs.declared.whole.Unread.TheVariants as reasons;
 use crate::fault::DrillError;
 use crate::play::play;
 use crate::script::read_script;
+use block_shelf::BeginError;
 use cyc_block::{BlockStore, FailAt, MemoryBlocks};
 use relay_conf::{BufferConf, Config};
 use relay_core::System;
@@ -41,7 +42,8 @@ pub fn drill<R: Read, W: Write>(
     let groups = config.buffers.groups.len();
     match System::new(rt, alloc, config, stores) {
         Ok(mut relay) => play(alloc, &mut relay, groups, &lines, writer),
-        Err(error) => Err(unbegun(error.kind())),
+        Err(BeginError::Host(error)) => Err(unbegun(error.kind())),
+        Err(BeginError::Device(_number, _store)) => Err(DrillError::Device),
     }
 }
 

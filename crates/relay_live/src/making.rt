@@ -1,12 +1,13 @@
 //! The parts of what is shared are made.
-ghost use Rattle.std.specs.Prelude.{◌≡◌, ◌≤◌, true, All, length, IfOk};
+ghost use Rattle.std.specs.Prelude.{◌≡◌, ◌≤◌, true, All, length, IfErr, IfOk};
+ghost use Rattle.block_shelf.specs.Filling.{IsShelfRefusal};
 ghost use Rattle.feed_queue.specs.Feeds.{ring_count};
 ghost use Rattle.live_settle.specs.Desks.{desk_of};
 ghost use Rattle.relay_model.specs.Terms.{shard_count};
 
 use crate::claims::Claims;
 use crate::slot::Slot;
-use block_shelf::Rack;
+use block_shelf::{Rack, ShelfError, unformatted};
 use cyc_block::BlockStore;
 use id_history::SHARD_COUNT;
 use live_settle::CountedDesk;
@@ -35,15 +36,19 @@ pub(crate) fn new_shards(rt: &impl RandomSource, alloc: Global) -> io::Result<Ve
 pub(crate) fn new_buffers<S: BlockStore + Drop, J: Archive>(
     alloc: Global,
     stores: Vec<S>,
-) -> Result<Vec<Mutex<NumberedBuffer<S, J>>>, AllocError>
+) -> Result<Vec<Mutex<NumberedBuffer<S, J>>>, ShelfError<S>>
     requires few { length stores.items ≤ 256 }
     requires honest { J.trusted ≡ true → All S.honest stores.items }
-    ensures { IfOk result (λ buffers. length buffers.items ≡ length stores.items) }
+    ensures count { IfOk result (λ buffers. length buffers.items ≡ length stores.items) }
+    ensures refusal { IfErr result (IsShelfRefusal ⟦<S as BlockStore>⟧ stores.items) }
 {
     let mut buffers = Vec::with_capacity(alloc, stores.len())?;
     for store in stores {
         let number = buffers.len() as u8;
-        let buffer = NumberedBuffer::format(alloc, store, number, 0)?;
+        let buffer = match NumberedBuffer::format(alloc, store, number, 0) {
+            Ok(buffer) => buffer,
+            Err(refused) => return Err(unformatted(refused, number)),
+        };
         buffers.push_reserved(Mutex::new(buffer));
     }
     Ok(buffers)

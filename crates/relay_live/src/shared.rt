@@ -7,7 +7,7 @@ use crate::drawing::{Number, Numbers};
 use crate::forgetting::Rounds;
 use crate::making::{locked, new_buffers, new_desk, new_shards, new_slots};
 use crate::slot::Slot;
-use block_shelf::{Rack, new_racks};
+use block_shelf::{BeginError, Rack, new_racks, unbegun};
 use cyc_block::BlockStore;
 use live_fates::Told;
 use live_settle::CountedDesk;
@@ -15,7 +15,6 @@ use live_store::{Archive, NumberedBuffer};
 use nntp_text::MsgId;
 use relay_conf::Config;
 use std::alloc::Global;
-use std::io;
 use std::random::RandomSource;
 use std::sync::ledger::{Book, Ledger};
 use std::sync::{Mutex, Wait};
@@ -42,13 +41,15 @@ pub struct Shared<S: BlockStore + Drop, J: Archive, L: Ledger> {
 }
 
 impl<S: BlockStore + Drop, J: Archive, L: Ledger> Shared<S, J, L> {
-    ghost use Rattle.std.specs.Prelude.{◌≡◌, true, map, length, All, IfOk};
+    ghost use Rattle.std.specs.Prelude.{◌≡◌, true, map, length, All, IfErr, IfOk};
+    ghost use Rattle.block_shelf.specs.Filling.{IsBeginRefusal};
     ghost use Rattle.relay_live.specs.Making.{buffers_in, groups_in, feeds_in, ends_in};
     ghost use Rattle.relay_live.specs.Making.{remember_in};
 
     /// What so many ends share over these stores, the i-th for buffer i, before anything has come.
-    /// All memory that no message-id takes is taken here. The error is that no seed for the shards
-    /// was to be had, or memory.
+    /// All memory that no message-id takes is taken here. Each buffer's head block says that it may
+    /// change.
+    #[tactic(auto, using(block_shelf::proofs::HostFaults::host_refuses))]
     pub fn new(
         rt: &impl RandomSource,
         alloc: Global,
@@ -56,7 +57,7 @@ impl<S: BlockStore + Drop, J: Archive, L: Ledger> Shared<S, J, L> {
         stores: Vec<S>,
         book: Book<L>,
         ends: usize,
-    ) -> io::Result<Shared<S, J, L>>
+    ) -> Result<Shared<S, J, L>, BeginError<S>>
         requires stores { map (λ store. length (S.blocks store)) stores.items
             ≡ map (λ buffer. buffer.blocks) config.now.buffers.buffers.items }
         requires honest { J.trusted ≡ true → All S.honest stores.items }
@@ -70,13 +71,17 @@ impl<S: BlockStore + Drop, J: Archive, L: Ledger> Shared<S, J, L> {
         ensures ends { IfOk result (λ shared. ends_in shared ≡ ends) }
         ensures remember { IfOk result (λ shared.
             remember_in shared ≡ config.now.relay.remember) }
+        ensures refusal { IfErr result (IsBeginRefusal ⟦<S as BlockStore>⟧ stores.items) }
     {
         let numbers = Numbers::new(&book);
         let shards = new_shards(rt, alloc)?;
         let desk = new_desk(alloc, config, book)?;
         let racks = locked(alloc, new_racks(alloc, &config.buffers)?)?;
         let slots = new_slots(alloc, ends)?;
-        let buffers = new_buffers(alloc, stores)?;
+        let buffers = match new_buffers(alloc, stores) {
+            Ok(buffers) => buffers,
+            Err(error) => return Err(unbegun(error)),
+        };
         let rounds = Rounds::new(alloc)?;
         Ok(Shared {
             shards,

@@ -1,4 +1,5 @@
 mod Doors
 mod Kept
 mod Printed
+mod ServeFaults
 mod Sizes

@@ -1,5 +1,6 @@
 -- What a run of a relay in threads comes to (docs/PROTOCOL.md, Threads).
 use Rattle.std.specs.Prelude.{◌≡◌, ◌⊎◌, ◌==◌, ℕ, List, length, slice_get, Some, if◌then◌else◌}
+use Rattle.std.specs.Prelude.{string_bytes}
 use Rattle.std.specs.declared.io.ErrorKind.{ErrorKind}
 use Rattle.std.specs.declared.io.ErrorKind.TheVariants.{OutOfMemory}
 use Rattle.article_verdict.specs.Config.{terms_of}
@@ -20,6 +21,7 @@ use Rattle.relay_live.specs.declared.running.Counted.{Counted}
 use Rattle.relay_live.specs.declared.running.LiveError.{LiveError}
 use Rattle.relay_live.specs.declared.running.LiveError.TheVariants as errors
 use Rattle.relay_report.specs.declared.totals.Totals.{Totals}
+use Rattle.serve_terms.specs.Serve.{NamesFile}
 use Rattle.serve_terms.specs.declared.fault.ServeError.{ServeError}
 use Rattle.serve_terms.specs.declared.fault.ServeError.TheVariants as faults
 
@@ -37,6 +39,16 @@ ended_as errors.NoThread = faults.NoThread
 abbrev pub IsRunFault : ServeError → Type 0
 IsRunFault error =
     (error ≡ faults.Memory) ⊎ ((error ≡ faults.Unseeded) ⊎ (error ≡ faults.NoThread))
+
+-- so, or the file of a buffer can't be had, by its name
+abbrev pub IsServeFault : Config → ServeError → Type 0
+IsServeFault config (faults.File name) = NamesFile config (string_bytes name)
+IsServeFault config (faults.Port number) = ⊥
+IsServeFault config faults.Control = ⊥
+IsServeFault config faults.Unseeded = Unit {0}
+IsServeFault config faults.Memory = Unit {0}
+IsServeFault config faults.NoThread = Unit {0}
+IsServeFault config faults.Unwritten = ⊥
 
 -- how many writers a relay of a configuration has: one for each group, and one where there is none
 abbrev pub lane_count : Config → ℕ

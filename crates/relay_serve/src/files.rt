@@ -101,6 +101,16 @@ pub fn fit_files(
     Ok(stores)
 }
 
+/// The fault of the file of the buffer of this number, whose head block couldn't be written.
+pub(crate) fn unformatted(alloc: Global, settings: &Buffers, number: u8) -> ServeError
+    ensures { IsFileFault settings.now result }
+{
+    match settings.buffers.get(usize::from(number)) {
+        Some(buffer) => unusable(alloc, buffer),
+        None => ServeError::Memory,
+    }
+}
+
 /// The fault of a buffer's file: its name as cycbuff.conf has it, with a mark in the place of what
 /// is no UTF-8, or want of memory for it.
 fn unusable(alloc: Global, buffer: &BufferConf) -> ServeError

@@ -4,12 +4,14 @@ ghost use Rattle.live_settle.specs.Desks.{posts_in};
 ghost use Rattle.relay_live.specs.Counts.{accepted_in, posted_in};
 ghost use Rattle.relay_live.specs.Holding.{has_buffer};
 ghost use Rattle.relay_live.specs.Making.{buffers_in, ends_in, slots_of};
-ghost use Rattle.relay_serve.specs.Running.{CountsOf, IsRunFault, Ran, ended_as, lane_count};
+ghost use Rattle.relay_serve.specs.Running.{CountsOf, IsRunFault, IsServeFault, Ran, ended_as, lane_count};
 ghost use Rattle.relay_serve.specs.Running.{unbegun_as};
 ghost use Rattle.serve_terms.specs.Serve.{AreOf};
 
 use crate::beside::{Beside, Figured, Served, start_beside};
 use crate::figures::totals_of;
+use crate::files::unformatted;
+use block_shelf::BeginError;
 use cyc_block::BlockStore;
 use live_session::{Clock, Gate};
 use live_store::{Archive, Register};
@@ -33,6 +35,7 @@ use std::thread::Threads;
 /// back is what the run itself counted, and the totals, with the same
 /// numbers. The error is want of memory, of random numbers, or of a thread; what was served
 /// before stands, and nothing is counted.
+#[tactic(auto, using(crate::proofs::ServeFaults::passed_run, crate::proofs::ServeFaults::passed_on))]
 pub fn run_relay<
     X: Connections<R> + Drop + Send,
     S: BlockStore + Drop + Send,
@@ -69,7 +72,7 @@ where
     ensures counted { IfOk result (λ run. CountsOf run.0 run.1) }
     ensures ran { IfOk result (λ run. Ran ⟦<J as Archive>⟧ config.now
         (map (λ door. door.peer) doors.items) run.1) }
-    ensures fault { IfErr result IsRunFault }
+    ensures fault { IfErr result (IsServeFault config.now) }
 {
     let (book, all) = blank.open::<L>();
     let shared = shared_by::<S, J, L, R>(rt, alloc, config, stores, book, doors.len())?;
@@ -84,6 +87,7 @@ where
 }
 
 /// What so many ends share over these stores, before anything has come.
+#[tactic(auto, using(crate::proofs::ServeFaults::run_serves, crate::proofs::ServeFaults::file_serves))]
 fn shared_by<S: BlockStore + Drop, J: Archive, L: Ledger, R: RandomSource>(
     rt: &R,
     alloc: Global,
@@ -99,11 +103,14 @@ fn shared_by<S: BlockStore + Drop, J: Archive, L: Ledger, R: RandomSource>(
     ensures buffers { IfOk result (λ shared.
         buffers_in shared ≡ length config.now.buffers.buffers.items) }
     ensures ends { IfOk result (λ shared. ends_in shared ≡ ends) }
-    ensures fault { IfErr result IsRunFault }
+    ensures fault { IfErr result (IsServeFault config.now) }
 {
     match Shared::new(rt, alloc, config, stores, book, ends) {
         Ok(shared) => Ok(shared),
-        Err(error) => Err(unbegun(error.kind())),
+        Err(BeginError::Host(error)) => Err(unbegun(error.kind())),
+        Err(BeginError::Device(number, _store)) => {
+            Err(unformatted(alloc, &config.buffers, number))
+        }
     }
 }
 

@@ -1,7 +1,7 @@
 //! A relay is served on the ports of the machine, over its files.
 ghost use Rattle.std.specs.Prelude.{◌≡◌, ◌<◌, ◌^◌, IfErr, IfOk, length, map};
 ghost use Rattle.file_blocks.specs.Store.{count_of};
-ghost use Rattle.relay_serve.specs.Running.{IsRunFault};
+ghost use Rattle.relay_serve.specs.Running.{IsServeFault};
 ghost use Rattle.serve_terms.specs.Serve.{AreOf, ServeGives};
 
 use crate::clock::MachineClock;
@@ -114,7 +114,7 @@ where
         ≡ map (λ buffer. buffer.blocks) config.now.buffers.buffers.items }
     requires few { length doors.items < 2 ^ 62 }
     ensures totals { IfOk result (AreOf config.now) }
-    ensures fault { IfErr result IsRunFault }
+    ensures fault { IfErr result (IsServeFault config.now) }
 {
     let register = Register::new(alloc)?;
     let clock = MachineClock::new(rt);

@@ -1,10 +1,10 @@
 //! The articles of a buffer. The text of an article is computed from its class and its octets.
 ghost use Rattle.std.specs.Prelude.{◌≤◌};
 
-use crate::bench::{InMemory, number, octet};
+use crate::bench::{Device, InMemory, number, octet};
 use crate::calls::Article;
 use cyc_block::CHUNK_OCTETS;
-use cyc_buffer::{BufError, Found, Open};
+use cyc_buffer::{BufError, Found, Open, Unopened};
 use cyc_token::Token;
 use row_text::Sheet;
 use std::alloc::{AllocError, Global};
@@ -18,6 +18,48 @@ enum End {
     Abandoned,
     /// Its write stays open.
     Unfinished,
+}
+
+/// What gives the blocks of articles.
+trait Blocks {
+    /// Block k of the article under a token.
+    fn block(
+        &mut self,
+        token: &Token,
+        k: u32,
+        chunk: &mut [u8; CHUNK_OCTETS],
+    ) -> Result<Found, BufError>;
+}
+
+impl Blocks for InMemory {
+    fn block(
+        &mut self,
+        token: &Token,
+        k: u32,
+        chunk: &mut [u8; CHUNK_OCTETS],
+    ) -> Result<Found, BufError> {
+        self.read_block(token, k, chunk)
+    }
+}
+
+impl Blocks for Unopened<Device> {
+    fn block(
+        &mut self,
+        token: &Token,
+        k: u32,
+        chunk: &mut [u8; CHUNK_OCTETS],
+    ) -> Result<Found, BufError> {
+        self.read_block(token, k, chunk)
+    }
+}
+
+/// Writes the answer of a call of a buffer whose head isn't open.
+pub fn looked(buffer: &mut Unopened<Device>, call: Article, cells: &[Vec<u8>], sheet: &mut Sheet) {
+    match (call, cells) {
+        (Article::Read, [token]) => read(buffer, token, sheet),
+        (Article::Numbers, []) => put_numbers(buffer.buffer(), sheet),
+        _ => sheet.refuse(),
+    }
 }
 
 /// Writes the answer of a call.
@@ -81,7 +123,7 @@ fn put_article(
     }
 }
 
-/// Begins an article, once the head is open; where it isn't begun, it is written why.
+/// Begins an article; where it isn't begun, it is written why.
 fn begun(
     buffer: &mut InMemory,
     class: u8,
@@ -91,10 +133,6 @@ fn begun(
 ) -> Option<Open>
     requires { 1 ≤ octets }
 {
-    if let Err(error) = buffer.open_head() {
-        sheet.debug(&error);
-        return None;
-    }
     match buffer.begin(class, octets, fresh) {
         Ok(open) => Some(open),
         Err(error) => {
@@ -150,7 +188,7 @@ fn text_of(alloc: Global, class: u8, octets: usize) -> Result<Vec<u8>, AllocErro
 }
 
 /// Writes what is read of the article under a token.
-fn read(buffer: &mut InMemory, token: &[u8], sheet: &mut Sheet) {
+fn read<B: Blocks>(buffer: &mut B, token: &[u8], sheet: &mut Sheet) {
     let Ok(token) = Token::parse(token) else {
         return sheet.refuse();
     };
@@ -161,11 +199,11 @@ fn read(buffer: &mut InMemory, token: &[u8], sheet: &mut Sheet) {
 }
 
 /// Reads the article under a token, block by block, and writes how it is beside its text.
-fn compare(buffer: &mut InMemory, token: &Token, text: &[u8], sheet: &mut Sheet) {
+fn compare<B: Blocks>(buffer: &mut B, token: &Token, text: &[u8], sheet: &mut Sheet) {
     let mut chunk = [0; CHUNK_OCTETS];
     let mut block = 0u32;
     for expected in text.chunks(CHUNK_OCTETS) {
-        let found = buffer.read_block(token, block, &mut chunk);
+        let found = buffer.block(token, block, &mut chunk);
         if !is_part(&found, &chunk, expected, sheet) {
             return;
         }

@@ -4,7 +4,7 @@ use crate::calls::{Call, Make};
 use crate::steps::{put_each, put_step};
 use crate::{articles, octets};
 use cyc_block::{FailAt, MemoryBlocks};
-use cyc_buffer::Buffer;
+use cyc_buffer::{Buffer, Unopened};
 use row_text::Sheet;
 use std::mem;
 
@@ -19,6 +19,8 @@ pub type InMemory = Buffer<Device>;
 pub enum Bench {
     /// There is no device yet.
     Nothing,
+    /// A buffer was started on the device, and its head isn't open.
+    Unopened(Unopened<Device>),
     /// A buffer runs over the device.
     Running(InMemory),
     /// No buffer runs over the device.
@@ -32,6 +34,7 @@ impl Bench {
             Call::Make(call) => self.make(call, cells, sheet),
             Call::Article(call) => match self {
                 Bench::Running(buffer) => articles::answer(buffer, call, cells, sheet),
+                Bench::Unopened(buffer) => articles::looked(buffer, call, cells, sheet),
                 _ => sheet.refuse(),
             },
             Call::Fail => self.fail(cells, sheet),
@@ -71,10 +74,10 @@ impl Bench {
         }
     }
 
-    /// From here the call of the device of this number fails.
+    /// From here the call of the device of this number fails; but for a buffer whose head isn't open.
     pub fn arm(&mut self, number: u64) {
         match self {
-            Bench::Nothing => {}
+            Bench::Nothing | Bench::Unopened(_) => {}
             Bench::Running(buffer) => buffer.arm(number),
             Bench::Stopped(device) => device.arm(number),
         }
@@ -108,15 +111,16 @@ fn formatted(bench: Bench, number: u8, cycle: u32, sheet: &mut Sheet) -> Bench {
         sheet.refuse();
         return Bench::Nothing;
     };
-    let Ok(mut buffer) = Buffer::format(sheet.alloc, device, number, cycle) else {
-        sheet.lack();
-        return Bench::Nothing;
-    };
-    match buffer.open_head() {
-        Ok(()) => sheet.put(b"formatted"),
-        Err(error) => sheet.debug(&error),
+    match Buffer::format(sheet.alloc, device, number, cycle) {
+        Ok(buffer) => {
+            sheet.put(b"formatted");
+            Bench::Running(buffer)
+        }
+        Err(_refused) => {
+            sheet.lack();
+            Bench::Nothing
+        }
     }
-    Bench::Running(buffer)
 }
 
 /// What a call leaves that takes the device or the buffer.

@@ -2,7 +2,7 @@
 
 use crate::bench::{Bench, Device, InMemory, number, octet};
 use crate::runs::Runs;
-use cyc_buffer::{Buffer, RestartError, StartError};
+use cyc_buffer::{Buffer, RestartError, StartError, Unopened};
 use cyc_token::Token;
 use row_text::{Sheet, place_of};
 use std::str;
@@ -91,6 +91,7 @@ fn walked(bench: Bench, step: Step, sheet: &mut Sheet) -> Bench {
 fn taken(bench: Bench, step: Step, sheet: &mut Sheet) -> (Bench, bool) {
     match bench {
         Bench::Running(buffer) => stopped(buffer, step, sheet),
+        Bench::Unopened(buffer) => opened(buffer, step, sheet),
         Bench::Stopped(device) => started(device, step, sheet),
         Bench::Nothing => {
             sheet.refuse();
@@ -107,9 +108,8 @@ fn stopped(buffer: InMemory, step: Step, sheet: &mut Sheet) -> (Bench, bool) {
             sheet.put(b"left");
             (Bench::Stopped(buffer.into_store()), true)
         }
-        Step::Open => opened(buffer, sheet),
         Step::Restart(stop) => restarted(buffer, stop, sheet),
-        Step::Start(_, _) => {
+        Step::Start(_, _) | Step::Open => {
             sheet.refuse();
             (Bench::Running(buffer), true)
         }
@@ -130,17 +130,28 @@ fn shut(buffer: InMemory, stop: u64, sheet: &mut Sheet) -> (Bench, bool) {
     }
 }
 
-/// Opens the head of a buffer.
-fn opened(buffer: InMemory, sheet: &mut Sheet) -> (Bench, bool) {
-    let mut buffer = buffer;
-    match buffer.open_head() {
-        Ok(()) => {
-            sheet.put(b"opened");
-            (Bench::Running(buffer), true)
+/// Takes a step of a buffer whose head isn't open.
+fn opened(buffer: Unopened<Device>, step: Step, sheet: &mut Sheet) -> (Bench, bool) {
+    match step {
+        Step::Leave => {
+            sheet.put(b"left");
+            let mut device = buffer.into_store();
+            device.arm(0);
+            (Bench::Stopped(device), true)
         }
-        Err(error) => {
-            sheet.debug(&error);
-            (Bench::Running(buffer), false)
+        Step::Open => match buffer.open() {
+            Ok(buffer) => {
+                sheet.put(b"opened");
+                (Bench::Running(buffer), true)
+            }
+            Err(buffer) => {
+                sheet.put(b"Device");
+                (Bench::Unopened(buffer), false)
+            }
+        },
+        _ => {
+            sheet.refuse();
+            (Bench::Unopened(buffer), true)
         }
     }
 }
@@ -174,7 +185,7 @@ fn started(device: Device, step: Step, sheet: &mut Sheet) -> (Bench, bool) {
     match Buffer::start(sheet.alloc, device, number, cycle) {
         Ok(started) => {
             put_started(started.stop, &started.tokens, sheet);
-            (Bench::Running(started.buffer), true)
+            (Bench::Unopened(started.buffer), true)
         }
         Err(refused) => {
             put_refusal(refused.error, sheet);

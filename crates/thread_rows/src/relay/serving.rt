@@ -12,6 +12,7 @@ use crate::relay::gate::{Manner, Turns};
 use crate::relay::rooms::Visit;
 use crate::relay::row::Row;
 use crate::relay::waiting::{Waiting, waiting_stores};
+use block_shelf::BeginError;
 use live_store::{Archive, Register};
 use relay_conf::Config;
 use relay_live::{Counted, Door, Keeper, Shared, serve_all};
@@ -130,7 +131,13 @@ where
     let board = Board::new(alloc, row.sessions.len(), row.moment)?;
     let stores = waiting_stores(rt, alloc, &board, &config.buffers, failing, row.waits)?;
     let ends = row.sessions.len();
-    let shared: Shared<Waiting<'_, R>, J, L> = Shared::new(rt, alloc, config, stores, book, ends)?;
+    let shared: Shared<Waiting<'_, R>, J, L> = match Shared::new(
+        rt, alloc, config, stores, book, ends,
+    ) {
+        Ok(shared) => shared,
+        Err(BeginError::Host(error)) => return Err(error),
+        Err(BeginError::Device(_number, _store)) => return Err(failed()),
+    };
     let counted = run(
         rt, alloc, config, register, &shared, all, groups, &board, row,
     )?;

@@ -74,6 +74,15 @@ fn waits_of(number: usize, waits: Waits) -> Waits {
     if number == 0 { waits } else { NO_WAITS }
 }
 
+/// The call of a store that is this one behind that which writes its head block, where there is one.
+fn behind_format(failing: u64) -> u64 {
+    if failing == 0 {
+        0
+    } else {
+        failing.saturating_add(1)
+    }
+}
+
 /// A store in memory for each buffer, of as many blocks, of which this call fails, and of which
 /// that of buffer 0 waits. A store that fails and waits is honest all the same.
 pub(crate) fn waiting_stores<'a, R: Wait + Clock + Sync>(
@@ -94,7 +103,7 @@ pub(crate) fn waiting_stores<'a, R: Wait + Clock + Sync>(
         alloc,
         settings,
         |number, store| Waiting {
-            store: FailAt::new(store, failing),
+            store: FailAt::new(store, behind_format(failing)),
             rt,
             board,
             waits: waits_of(number, waits),

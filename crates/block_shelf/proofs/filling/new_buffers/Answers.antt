@@ -32,19 +32,19 @@ loop-store-preserved g c = record {
   over = subst (AreNewOver (c.loop-store.yielded ++ c.in-Some.store ∷ []))
       (sym c.in_ok-push.ensures.items)
       (one_more_over c.loop-store.yielded c.loop-store.buffers.items c.in-Some.store
-      c.in_ok-format.field-0 c.loop-store.invariant.over
-      (subst (λ n. IsNewOver n c.in-Some.store c.in_ok-format.field-0)
+      c.in_ok-buffer.buffer c.loop-store.invariant.over
+      (subst (λ n. IsNewOver n c.in-Some.store c.in_ok-buffer.buffer)
       (omega (
         arith,
         c.len-number.ensures,
         c.loop-store.buffers.ok,
         c.loop-store.invariant.over.count,
       ))
-      (record { agrees = c.in_ok-format.ensures.new; over = c.in_ok-format.ensures.store })));
+      c.in_ok-buffer.ensures.is_new));
 }
 
-pub returns : goal.returns
-returns g c =
+pub returns-clause-over : goal.returns-clause-over
+returns-clause-over g c =
     let rest = nil_from_length c.loop-store.store-iterator.rest.items
     (omega (arith, c.in-None.ensures.steps.0, c.loop-store.store-iterator.rest.ok)) in
     subst (λ stores. AreNewOver stores c.loop-store.buffers.items)

@@ -10,7 +10,7 @@ new_buffers-requires g c =
       same_count g.S.BlockStore c.args.settings.now c.args.stores.items c.requires,
     )
 
-pub returns : goal.returns
-returns g c = λ trusted honest w all groups.
+pub returns-clause-nothing : goal.returns-clause-nothing
+returns-clause-nothing g c = λ trusted honest w all groups.
     nothing_kept c.args.settings.now c.args.stores.items _ trusted honest w all groups c.requires
-    c.in_ok-buffers.ensures c.args.settings.now.sound c.in_ok-racks.ensures.racks
+    c.in_ok-buffers.ensures.over c.args.settings.now.sound c.in_ok-racks.ensures.racks

@@ -7,11 +7,11 @@ use Rattle.cyc_buffer.proofs.buffer.Buffer.restart.Goals as goal
 pub returns-in-Err-read_back-clause-cause : goal.returns-in-Err-read_back-clause-cause
 returns-in-Err-read_back-clause-cause g c h agrees =
     let left = c.in_default.ensures.rest in
-    c.in-Err-read_back.ensures.cause (left.honest (agrees.honest refl)) c.args.stop h
+    c.in-Err-read_back.ensures.cause (left.store.honest (agrees.honest refl)) c.args.stop h
     (c.in_default.ensures.held h agrees)
     (subst (λ (r : Register). Keeps r h) (sym left.register) agrees.keeps)
 
 pub returns-clause-tokens : goal.returns-clause-tokens
 returns-clause-tokens g c h agrees =
-    c.in-Ok.ensures.tokens (c.in_default.ensures.rest.honest (agrees.honest refl)) c.args.stop h
+    c.in-Ok.ensures.tokens (c.in_default.ensures.rest.store.honest (agrees.honest refl)) c.args.stop h
     (c.in_default.ensures.held h agrees)

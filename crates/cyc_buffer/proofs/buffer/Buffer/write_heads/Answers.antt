@@ -3,7 +3,7 @@ use Rattle.std.proofs.Common.{◌∙◌, inr, List, ℕ, refl, sym, subst}
 use Rattle.std.proofs.lemmas.Result.{on_ok_weaker}
 use Rattle.cyc_buffer.specs.Agreement.{Holds}
 use Rattle.cyc_buffer.proofs.StopLemmas.{holds_stopped, tells_starts, still_agrees, written_bitmap}
-use Rattle.cyc_buffer.proofs.StopLemmas.{under, none_of}
+use Rattle.cyc_buffer.proofs.StopLemmas.{under, none_of, leaves_twice}
 use Rattle.cyc_buffer.proofs.buffer.Buffer.write_heads.Goals as goal
 
 pub returns-then-is_err-clause-rest : goal.returns-then-is_err-clause-rest
@@ -11,22 +11,17 @@ returns-then-is_err-clause-rest g c = record {
   register = refl;
   opened = refl;
   stop = refl;
-  honest = c.write_bitmap.ensures.honest;
-  blocks = c.write_bitmap.ensures.blocks;
-  count = c.write_bitmap.ensures.count;
+  store = c.write_bitmap.ensures.rest;
 }
 
 pub returns-clause-rest : goal.returns-clause-rest
 returns-clause-rest g c =
-    let was = c.write_bitmap.ensures in
     let left = c.write_head.ensures.rest in
     record {
       register = left.register;
       opened = left.opened;
       stop = left.stop;
-      honest = λ is. left.honest (was.honest is);
-      blocks = λ is. left.blocks (was.honest is) ∙ was.blocks is;
-      count = left.count ∙ was.count;
+      store = leaves_twice _ _ _ _ c.write_bitmap.ensures.rest left.store;
     }
 
 pub returns-clause-same : goal.returns-clause-same
@@ -41,7 +36,7 @@ returns-clause-order g c is = inr (λ h agrees.
     (g.S.BlockStore.heads c.write_head.new.self.store) c.args.self.now.register.starts.words.items
     _ _ c.args.self.now.counted (sym c.is_err.ensures.value ∙ c.if-is_err.false)
     (c.write_bitmap.ensures.bitmap is)
-    (c.write_head.ensures.others (c.write_bitmap.ensures.honest is))))
+    (c.write_head.ensures.others (c.write_bitmap.ensures.rest.honest is))))
 
 pub returns-clause-held : goal.returns-clause-held
 returns-clause-held g c = on_ok_weaker c.write_head.result (λ numbers h agrees.
@@ -51,13 +46,13 @@ returns-clause-held g c = on_ok_weaker c.write_head.result (λ numbers h agrees.
     let is = agrees.honest refl in
     holds_stopped r (g.S.BlockStore.heads c.write_head.new.self.store)
     (g.S.BlockStore.blocks c.write_head.new.self.store) c.args.stop h agrees.keeps
-    (subst (λ (blocks : List (List ℕ)). Holds blocks r h) (sym (left.blocks is))
+    (subst (λ (blocks : List (List ℕ)). Holds blocks r h) (sym (left.store.blocks is))
     (agrees.holds refl))
     (none_of r.progress (sym c.is_some.ensures ∙ c.if-is_some.false))
-    (left.count ∙ sym c.args.self.now.counted) c.write_head.ensures.fit
-    (numbers (was.honest is))
+    (left.store.count ∙ sym c.args.self.now.counted) c.write_head.ensures.fit
+    (numbers (was.rest.honest is))
     (written_bitmap c.write_bitmap.result (g.S.BlockStore.heads c.write_bitmap.new.store)
     (g.S.BlockStore.heads c.write_head.new.self.store) r.starts.words.items
     _ _ c.args.self.now.counted (sym c.is_err.ensures.value ∙ c.if-is_err.false)
-    (was.bitmap is) (c.write_head.ensures.others (was.honest is))))
+    (was.bitmap is) (c.write_head.ensures.others (was.rest.honest is))))
     (under _ c.write_head.result c.write_head.ensures.head)

@@ -5,7 +5,7 @@ use Rattle.live_store.proofs.numbered.NumberedBuffer.format.Goals as goal
 pub invariant_of-result : goal.invariant_of-result
 invariant_of-result g c = record {
   tied = ∣ tied_new g.J.Archive.register g.J.Archive.trusted c.args.number c.args.first_cycle
-      c.args.store c.in_ok-buffer.buffer c.in_ok-numbers.numbers.items c.requires
-      c.in_ok-buffer.ensures.new
-      (c.in_ok-numbers.ensures ∙ ap (λ n. replicate n None) c.count.ensures.blocks) ∣₁;
+      c.args.store c.in-Ok-format.buffer c.in-Ok.numbers.items c.requires
+      c.in-Ok-format.ensures.new
+      (c.in-Ok.ensures ∙ ap (λ n. replicate n None) c.count.ensures.blocks) ∣₁;
 }

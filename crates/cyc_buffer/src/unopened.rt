@@ -1,0 +1,81 @@
+//! A started buffer before its head is open: it begins nothing.
+ghost use Rattle.std.specs.Prelude.{◌≡◌, ◌<◌, ◌+◌, true, length, IfErr, IfOk};
+ghost use Rattle.news_terms.specs.HeadBlocks.{Open, head_image as image_of};
+ghost use Rattle.cyc_block.specs.Store.{block_at, ChangesOnly};
+ghost use Rattle.cyc_buffer.specs.Agreement.{Agrees, Follows, store_of, register_of};
+ghost use Rattle.cyc_buffer.specs.Calls.{ReadsBlock};
+ghost use Rattle.cyc_buffer.specs.Head.{has_open_head, inside, stop_of};
+ghost use Rattle.cyc_buffer.specs.History.{History};
+ghost use Rattle.cyc_buffer.specs.Stopped.{numbers_of};
+
+use crate::answers::{BufError, Found};
+use crate::buffer::Buffer;
+use cyc_block::{BlockStore, CHUNK_OCTETS};
+use cyc_token::Token;
+
+/// A started buffer whose head block says closed yet.
+#[derive(Debug, Drop)]
+pub struct Unopened<S: BlockStore> {
+    pub(crate) buffer: Buffer<S>,
+}
+
+impl<S: BlockStore> Unopened<S> {
+    /// The buffer, to be looked at.
+    pub fn buffer(&self) -> &Buffer<S>
+        ensures { result.now ≡ inside self.now }
+    {
+        &self.buffer
+    }
+
+    /// The buffer's store.
+    pub fn into_store(self) -> S
+        ensures { result ≡ store_of (inside self) }
+    {
+        let Unopened { buffer } = self;
+        buffer.into_store()
+    }
+
+    /// Reads block k of the article under a token, as the buffer does.
+    pub fn read_block(
+        &mut self,
+        token: &Token,
+        k: u32,
+        chunk: &mut [u8; CHUNK_OCTETS],
+    ) -> Result<Found, BufError>
+        ensures { ReadsBlock (inside self.old) token.now k chunk.old result chunk.new
+            (inside self.new) }
+    {
+        self.buffer.read_block(token, k, chunk)
+    }
+
+    /// Says on the device that the buffer may change from here, and from which stop it was started.
+    /// Where the device fails, its head block may say anything.
+    pub fn open(self) -> Result<Buffer<S>, Unopened<S>>
+        ensures opened { IfOk result (λ buffer. has_open_head buffer ≡ true) }
+        ensures written { IfOk result (λ buffer. (h : History) → Agrees true (inside self) h
+            → block_at (S.heads (store_of buffer)) 0
+            ≡ image_of (numbers_of Open (stop_of (inside self)) h)) }
+        ensures others { IfOk result (λ buffer. S.honest (store_of (inside self))
+            → ChangesOnly 0 (S.heads (store_of (inside self))) (S.heads (store_of buffer))) }
+        ensures same { IfOk result (Follows (λ h. h) (inside self)) }
+        ensures register { IfOk result (λ buffer.
+            register_of buffer ≡ register_of (inside self)) }
+        ensures calls { IfOk result (λ buffer.
+            S.calls (store_of buffer) ≡ S.calls (store_of (inside self)) + 1) }
+        ensures no_failure { IfOk result (λ buffer.
+            S.failures (store_of buffer) ≡ S.failures (store_of (inside self))) }
+        ensures failed { IfErr result (λ unopened. S.failures (store_of (inside self))
+            < S.failures (store_of (inside unopened))) }
+        ensures refused { IfErr result (λ unopened.
+            Follows (λ h. h) (inside self) (inside unopened)) }
+        ensures count { IfOk result (λ buffer. length (S.blocks (store_of buffer))
+            ≡ length (S.blocks (store_of (inside self)))) }
+    {
+        let Unopened { buffer } = self;
+        let mut buffer = buffer;
+        if buffer.open_head().is_err() {
+            return Err(Unopened { buffer });
+        }
+        Ok(buffer)
+    }
+}
