@@ -29,6 +29,13 @@ pub struct Unstopped<S: BlockStore> {
 }
 
 impl<S: BlockStore> Buffer<S> {
+    /// Whether a write is open, as long as which it can't be stopped.
+    pub fn is_busy(&self) -> bool
+        ensures { result ≡ is_busy self.now }
+    {
+        self.register.progress.is_some()
+    }
+
     /// The buffer's store.
     pub fn into_store(self) -> S
         ensures { result ≡ store_of self }
