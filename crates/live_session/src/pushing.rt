@@ -62,7 +62,8 @@ pub(crate) fn look_in_slot<S: Shares<J, R>, C, G, J: Archive, R: Wait>(
     if talk.kept.reserve(1).is_err() {
         return Answer::Memory;
     }
-    let JobTold { number, told } = hall.shares.outcome(rt, talk.seat.end(), handed - 1);
+    let end = talk.seat.end();
+    let JobTold { number, told } = hall.shares.outcome(rt, end, handed - 1, &talk.kept);
     match told {
         Told::Kept(receipt) => {
             talk.kept.push_reserved(KeptJob::new(number, &receipt));

@@ -1,5 +1,6 @@
 //! What sessions share, the clock, and what lets commands in.
-ghost use Rattle.std.specs.Prelude.{◌≡◌, ◌≢◌, ◌≤◌, true, length, IfOk, IfErr, IfSome, Some};
+ghost use Rattle.std.specs.Prelude.{◌≡◌, ◌≢◌, ◌≤◌, ◌<◌, true, length, IfOk, IfErr, IfSome, Some};
+ghost use Rattle.std.specs.Prelude.{vec_capacity, vec_len};
 ghost use Rattle.cyc_buffer.specs.Answers.{HasRoom};
 ghost use Rattle.cyc_token.specs.Token.{token_view};
 ghost use Rattle.id_history.specs.declared.claims.Take.TheVariants as takes;
@@ -13,7 +14,7 @@ use cyc_buffer::{Fault, Found};
 use cyc_token::Token;
 use feed_queue::Taken;
 use id_history::{Offer, Take};
-use live_fates::Told;
+use live_fates::{KeptJob, Told};
 use live_store::{Archive, OneRecord, Register};
 use live_wire::Tally;
 use nntp_text::MsgId;
@@ -68,8 +69,9 @@ pub trait Shares<J: Archive, R> {
         ensures fault { IfErr result (IsReadFault (token_view token.now)) };
 
     /// Waits until the writer has told what became of this end's job of this number, and takes that
-    /// out of the end's slot.
-    fn outcome(&self, rt: &R, end: u64, number: u64) -> JobTold<J>
+    /// out of the end's slot, once the end's list of kept jobs has room for one more.
+    fn outcome(&self, rt: &R, end: u64, number: u64, kept: &Vec<KeptJob<J>>) -> JobTold<J>
+        requires room { vec_len kept.now < vec_capacity kept.now }
         ensures { result.number ≡ number };
 }
 

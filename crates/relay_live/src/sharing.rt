@@ -6,7 +6,7 @@ use cyc_buffer::{Fault, Found};
 use cyc_token::Token;
 use feed_queue::Taken;
 use id_history::{Offer, Take};
-use live_fates::Told;
+use live_fates::{KeptJob, Told};
 use live_session::{JobTold, Shares};
 use live_store::{Archive, OneRecord, Register};
 use nntp_text::MsgId;
@@ -71,7 +71,7 @@ impl<S: BlockStore + Drop, J: Archive, L: Ledger, R: Wait> Shares<J, R> for Shar
         }
     }
 
-    fn outcome(&self, rt: &R, end: u64, number: u64) -> JobTold<J> {
+    fn outcome(&self, rt: &R, end: u64, number: u64, _kept: &Vec<KeptJob<J>>) -> JobTold<J> {
         let told = match self.slot(end) {
             Some(slot) => slot.wait(rt, number),
             None => Told::Failed,
