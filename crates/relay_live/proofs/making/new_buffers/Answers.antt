@@ -2,6 +2,7 @@ use Rattle.std.proofs.Common.{◌∙◌, ◌++◌, ◌∷◌, [], ap, append_ass
 use Rattle.std.proofs.lemmas.List.{length-append}
 use Rattle.std.proofs.lemmas.List.Elements.{All-rest}
 use Rattle.std.specs.Vec.Iter.{into_iter_items}
+use Rattle.relay_live.proofs.Blamed.{blamed_at}
 use Rattle.relay_live.proofs.making.new_buffers.Goals as goal
 
 pub loop-store-preserved : goal.loop-store-preserved
@@ -23,3 +24,13 @@ loop-store-preserved g c = record {
       (into_iter_items c.next.new.self) (into_iter_items c.loop-store.store-iterator)
       c.in-Some.ensures.steps.0 (c.loop-store.invariant.honest trusted);
 }
+
+-- the store that is blamed stands behind those so far
+pub returns-in-Err-clause-refusal : goal.returns-in-Err-clause-refusal
+returns-in-Err-clause-refusal g c =
+    blamed_at g.S.BlockStore c.loop-store.yielded c.in-Some.store
+    (into_iter_items c.next.new.self) c.args.stores.items c.len-number.result c.unformatted.result
+    (ap (λ rest. c.loop-store.yielded ++ rest) (sym c.in-Some.ensures.steps.0)
+    ∙ c.loop-store.invariant.all)
+    (omega (arith, c.len-number.ensures, c.loop-store.buffers.ok, c.loop-store.invariant.so_far))
+    (c.unformatted.ensures c.in-Some.store c.in-Err.ensures.refusal)

@@ -1,0 +1,26 @@
+-- Whose store it is over which no buffer is made.
+use Rattle.std.proofs.Common.{◌≡◌, ◌∙◌, ℕ, List, [], ◌∷◌, ◌++◌, length, Some, refl, sym, subst}
+use Rattle.std.specs.Prelude.{slice_get}
+use Rattle.cyc_block.specs.declared.store.BlockStore.{Ghosts}
+use Rattle.block_shelf.specs.Filling.{IsRefusalOver, IsShelfRefusal}
+use Rattle.block_shelf.specs.declared.filling.ShelfError.{ShelfError}
+use Rattle.block_shelf.specs.declared.filling.ShelfError.TheVariants as errors
+
+-- behind the front of a list stands the next item
+next_behind : {X : Type 0} (front : List X) (x : X) (rest : List X)
+    → slice_get (front ++ x ∷ rest) (length front) ≡ Some x
+next_behind [] x rest = refl
+next_behind (y ∷ front) x rest = next_behind front x rest
+
+-- the number of a store is how many stand before it
+pub blamed_at : {S : Type 0} (g : Ghosts S) (front : List S) (store : S) (rest stores : List S)
+    (number : ℕ) (error : ShelfError S) → front ++ store ∷ rest ≡ stores → number ≡ length front
+    → IsRefusalOver g store number error → IsShelfRefusal g stores error
+blamed_at g front store rest stores number errors.Memory all at refusal = tt
+blamed_at g front store rest stores number (errors.Device of left) all at refusal = record {
+  before = store;
+  there = subst (λ list. slice_get list of ≡ Some store) all
+      (subst (λ n. slice_get (front ++ store ∷ rest) n ≡ Some store) (sym (refusal.0 ∙ at))
+      (next_behind front store rest));
+  failed = refusal.1;
+}
