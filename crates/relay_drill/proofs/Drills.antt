@@ -14,7 +14,10 @@ use Rattle.relay_core.specs.declared.system.System.{System}
 use Rattle.relay_model.specs.World.{World, empty_world}
 use Rattle.relay_drill.specs.Drill.{DrillGives, ScriptHalts, asked_by, first_world}
 use Rattle.relay_drill.specs.Drill.{lines_of_script}
-use Rattle.relay_drill.specs.Fault.{PlayGives, ReadGives, ScriptGives, unbegun_as}
+use Rattle.relay_drill.specs.Fault.{PlayGives, ReadGives, ScriptGives, told_as, unbegun_as}
+use Rattle.block_shelf.specs.declared.beginning.BeginError.{BeginError}
+use Rattle.block_shelf.specs.declared.beginning.BeginError.TheVariants as begins
+use Rattle.std.specs.IoError.{error_kind}
 use Rattle.std.specs.declared.io.ErrorKind.{ErrorKind}
 use Rattle.std.specs.declared.io.ErrorKind.TheVariants.{OutOfMemory}
 use Rattle.std.proofs.Common.{◌⊎◌, inl, inr, ◌∙◌}
@@ -113,25 +116,36 @@ good_script : (config : Config) (script : Option (List ℕ)) (text : List ℕ) (
 good_script config None text lines read says = tt
 good_script config (Some all) text lines read says = rw (← read, says) refl
 
--- A relay that can't begin ends the drill of a script without a bad line, with nothing written.
-pub unbegun : (config : Config) (kind : ErrorKind) (error : DrillError)
-    (script held : Option (List ℕ)) (text : List ℕ) (lines : List Line) → error ≡ unbegun_as kind
-    → IfSome script (λ all. text ≡ all) → lines_of_script config text ≡ Ok lines
-    → DrillGives config (Err error) script held held
-unbegun config kind error script held text lines is read says =
+-- A host that can't let a relay begin ends the drill of a script without a bad line, with nothing
+-- written.
+host_failed : (config : Config) (kind : ErrorKind) (script held : Option (List ℕ)) (text : List ℕ)
+    (lines : List Line) → IfSome script (λ all. text ≡ all) → lines_of_script config text ≡ Ok lines
+    → DrillGives config (Err (unbegun_as kind)) script held held
+host_failed config kind script held text lines read says =
     let P : DrillError → Type 0 = λ it. DrillGives config (Err it) script held held in
     elim (unbegun_or kind) [
-      | inl memory ↦ subst P (sym (is ∙ memory)) (memory_at_once config script held)
-      | inr seed ↦ subst P (sym (is ∙ seed))
+      | inl memory ↦ subst P (sym memory) (memory_at_once config script held)
+      | inr seed ↦ subst P (sym seed)
           (good_script config script text lines read says, keeps_same held)
     ]
 
--- So does one of which a device fails.
-pub device_failed : (config : Config) (script held : Option (List ℕ)) (text : List ℕ)
-    (lines : List Line) → IfSome script (λ all. text ≡ all) → lines_of_script config text ≡ Ok lines
-    → DrillGives config (Err Device) script held held
-device_failed config script held text lines read says =
+-- So does a relay that doesn't begin, whether by its host or by a device.
+begun_not : {S : Type 0} (config : Config) (why : BeginError S) (script held : Option (List ℕ))
+    (text : List ℕ) (lines : List Line) → IfSome script (λ all. text ≡ all)
+    → lines_of_script config text ≡ Ok lines
+    → DrillGives config (Err (told_as why)) script held held
+begun_not config (begins.Host why) script held text lines read says =
+    host_failed config (error_kind why) script held text lines read says
+begun_not config (begins.Device number store) script held text lines read says =
     (good_script config script text lines read says, keeps_same held)
+
+pub unbegun : {S : Type 0} (config : Config) (why : BeginError S) (error : DrillError)
+    (script held : Option (List ℕ)) (text : List ℕ) (lines : List Line) → error ≡ told_as why
+    → IfSome script (λ all. text ≡ all) → lines_of_script config text ≡ Ok lines
+    → DrillGives config (Err error) script held held
+unbegun config why error script held text lines is read says =
+    let P : DrillError → Type 0 = λ it. DrillGives config (Err it) script held held in
+    subst P (sym is) (begun_not config why script held text lines read says)
 
 -- Where no device of these has failed, none has.
 none_failed : {S : Type 0} (failures : S → ℕ) (stores : List S)

@@ -3,6 +3,9 @@ use Rattle.std.specs.Prelude.{◌≡◌, ℕ, List, map, Option, None, Some, IfS
 use Rattle.std.specs.declared.alloc.AllocError.{AllocError}
 use Rattle.std.specs.declared.io.ErrorKind.{ErrorKind}
 use Rattle.std.specs.declared.io.ErrorKind.TheVariants.{OutOfMemory}
+use Rattle.std.specs.IoError.{error_kind}
+use Rattle.block_shelf.specs.declared.beginning.BeginError.{BeginError}
+use Rattle.block_shelf.specs.declared.beginning.BeginError.TheVariants as begins
 use Rattle.relay_drill.specs.declared.fault.DrillError.{DrillError}
 use Rattle.relay_drill.specs.declared.fault.DrillError.TheVariants as faults
 use Rattle.relay_drill.specs.declared.script.Keyword.{Keyword}
@@ -83,7 +86,13 @@ ReadGives items (Err faults.Unwritten) left = ⊥
 ReadGives items (Err faults.Unseeded) left = ⊥
 ReadGives items (Err faults.Device) left = ⊥
 
--- why a relay can't begin: memory ran out, or the system has no random numbers
+-- why the host can't let a relay begin: memory ran out, or it has no random numbers
 abbrev pub unbegun_as : ErrorKind → DrillError
 unbegun_as OutOfMemory = faults.Memory
 unbegun_as kind = faults.Unseeded
+
+-- what a drill is told by whose relay doesn't begin: why the host couldn't let it, or that a device
+-- failed
+abbrev pub told_as : {S : Type 0} → BeginError S → DrillError
+told_as (begins.Host why) = unbegun_as (error_kind why)
+told_as (begins.Device number store) = faults.Device

@@ -16,5 +16,5 @@ mod words;
 mod written;
 
 pub use fault::DrillError;
-pub use whole::{drill, read_all};
+pub use whole::{drill, drill_failing, read_all};
 pub use written::{Unwritten, put, put_all};

@@ -2,7 +2,7 @@
 ghost use Rattle.std.specs.Prelude.{◌≡◌, ◌≢◌, vec_items, IfErr, IfOk, IfSome};
 ghost use Rattle.std.specs.declared.io.ErrorKind.TheVariants as kinds;
 ghost use Rattle.relay_drill.specs.Drill.{DrillGives};
-ghost use Rattle.relay_drill.specs.Fault.{ReadGives, unbegun_as};
+ghost use Rattle.relay_drill.specs.Fault.{ReadGives, told_as, unbegun_as};
 ghost use Rattle.relay_drill.specs.Stores.{AreStoresOf};
 ghost use Rattle.relay_drill.specs.declared.whole.Unread.TheVariants as reasons;
 
@@ -36,18 +36,43 @@ pub fn drill<R: Read, W: Write>(
     ensures { DrillGives config result (R.remaining reader.old)
         (W.contents writer.old) (W.contents writer.new) }
 {
+    drill_failing(rt, alloc, config, 0, reader, writer)
+}
+
+/// The same over devices of which each fails this call, counted from 1; none by 0. The first call
+/// writes the head block, before any line of the script.
+pub fn drill_failing<R: Read, W: Write>(
+    rt: &impl RandomSource,
+    alloc: Global,
+    config: Config,
+    failing: u64,
+    reader: &mut R,
+    writer: &mut W,
+) -> Result<(), DrillError>
+    ensures { DrillGives config result (R.remaining reader.old)
+        (W.contents writer.old) (W.contents writer.new) }
+{
     let script = read_all(alloc, reader)?;
     let lines = read_script(alloc, &config, &script)?;
-    let stores = new_stores(alloc, &config.buffers.buffers)?;
+    let stores = new_stores(alloc, &config.buffers.buffers, failing)?;
     let groups = config.buffers.groups.len();
     match System::new(rt, alloc, config, stores) {
         Ok(mut relay) => play(alloc, &mut relay, groups, &lines, writer),
-        Err(BeginError::Host(error)) => Err(unbegun(error.kind())),
-        Err(BeginError::Device(_number, _store)) => Err(DrillError::Device),
+        Err(error) => Err(refused(error)),
     }
 }
 
-/// Why a relay could not begin.
+/// Why a drill ends whose relay doesn't begin.
+fn refused<S: BlockStore + Drop>(error: BeginError<S>) -> DrillError
+    ensures { result ≡ told_as error }
+{
+    match error {
+        BeginError::Host(error) => unbegun(error.kind()),
+        BeginError::Device(_number, _store) => DrillError::Device,
+    }
+}
+
+/// Why the host could not let a relay begin.
 fn unbegun(kind: ErrorKind) -> DrillError
     ensures { result ≡ unbegun_as kind }
 {
@@ -57,17 +82,18 @@ fn unbegun(kind: ErrorKind) -> DrillError
     }
 }
 
-/// A store in memory for each of the buffers, of its blocks, of which no call fails as yet.
+/// A store in memory for each of the buffers, of its blocks, of which this call is to fail.
 fn new_stores(
     alloc: Global,
     buffers: &[BufferConf],
+    failing: u64,
 ) -> Result<Vec<FailAt<MemoryBlocks>>, AllocError>
     ensures { IfOk result (λ stores.
         AreStoresOf ⟦<FailAt<MemoryBlocks> as BlockStore>⟧ buffers.now stores.items) }
 {
     let mut stores = Vec::with_capacity(alloc, buffers.len())?;
     for buffer in buffers {
-        stores.push(FailAt::new(MemoryBlocks::new(alloc, buffer.blocks)?, 0))?;
+        stores.push(FailAt::new(MemoryBlocks::new(alloc, buffer.blocks)?, failing))?;
     }
     Ok(stores)
 }

@@ -5,9 +5,9 @@ use Rattle.relay_drill.specs.Progress.{Performs}
 use Rattle.relay_drill.specs.Todo.{Done, first_stand, lines_ask}
 use Rattle.relay_drill.specs.declared.fault.DrillError.TheVariants.{Memory}
 use Rattle.relay_drill.specs.declared.line.Line.{Line}
-use Rattle.relay_drill.proofs.Drills.{bad_line, begun, device_failed, drill_gives, memory_at_once, passed, unbegun}
+use Rattle.relay_drill.proofs.Drills.{bad_line, begun, drill_gives, memory_at_once, passed, unbegun}
 use Rattle.relay_drill.proofs.Drills.{performs_at, unread}
-use Rattle.relay_drill.proofs.whole.drill.Goals as goal
+use Rattle.relay_drill.proofs.whole.drill_failing.Goals as goal
 
 pub returns-in_err-script : goal.returns-in_err-script
 returns-in_err-script g c =
@@ -31,18 +31,11 @@ returns-in_err-stores g c =
     c.from_residual-in_err-stores.ensures.1
     (memory_at_once c.args.config (g.R.Read.remaining c.args.reader.now) held)
 
-pub returns-in-Err-Host : goal.returns-in-Err-Host
-returns-in-Err-Host g c =
-    unbegun c.args.config c.kind.result c.unbegun.result (g.R.Read.remaining c.args.reader.now)
+pub returns-in-Err : goal.returns-in-Err
+returns-in-Err g c =
+    unbegun c.args.config c.in-Err.error c.refused.result (g.R.Read.remaining c.args.reader.now)
     (g.W.Write.contents c.args.writer.now) c.in_ok-script.script.items
-    (map line_view c.in_ok-lines.lines.items) c.unbegun.ensures c.in_ok-script.ensures
-    (rw (← c.deref.ensures.value) c.in_ok-lines.ensures)
-
-pub returns-in-Err-Device : goal.returns-in-Err-Device
-returns-in-Err-Device g c =
-    device_failed c.args.config (g.R.Read.remaining c.args.reader.now)
-    (g.W.Write.contents c.args.writer.now) c.in_ok-script.script.items
-    (map line_view c.in_ok-lines.lines.items) c.in_ok-script.ensures
+    (map line_view c.in_ok-lines.lines.items) c.refused.ensures c.in_ok-script.ensures
     (rw (← c.deref.ensures.value) c.in_ok-lines.ensures)
 
 pub returns-in-Ok : goal.returns-in-Ok
