@@ -1,5 +1,5 @@
 -- The files of the buffers (docs/FORMATS.md, cycbuff.conf).
-use Rattle.std.specs.Prelude.{◌≡◌, Any, string_bytes}
+use Rattle.std.specs.Prelude.{◌≡◌, ℕ, Any, Some, slice_get, string_bytes}
 use Rattle.std.specs.Str.Lossy.{utf8_lossy}
 use Rattle.file_blocks.specs.Host.{held_identity}
 use Rattle.file_blocks.specs.declared.host.HeldFile.{HeldFile}
@@ -18,6 +18,13 @@ abbrev pub IsFileFault : Buffers → ServeError → Type 0
 IsFileFault settings (faults.File name) =
     Any (λ buffer. string_bytes name ≡ utf8_lossy buffer.file) settings.buffers.items
 IsFileFault settings error = error ≡ faults.Memory
+
+-- memory was refused, or the file of the buffer of this number can't be had, by its name
+abbrev pub IsFaultAt : Buffers → ℕ → ServeError → Type 0
+IsFaultAt settings number (faults.File name) =
+    (buffer : BufferConf) × (slice_get settings.buffers.items number ≡ Some buffer)
+    × (string_bytes name ≡ utf8_lossy buffer.file)
+IsFaultAt settings number error = error ≡ faults.Memory
 
 -- both are one file, whatever its names: the same inode of the same device
 abbrev pub SharesFile : (file other : HeldFile) → Type 0

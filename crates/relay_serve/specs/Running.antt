@@ -1,9 +1,12 @@
 -- What a run of a relay in threads comes to (docs/PROTOCOL.md, Threads).
 use Rattle.std.specs.Prelude.{◌≡◌, ◌⊎◌, ◌==◌, ℕ, List, length, slice_get, Some, if◌then◌else◌}
 use Rattle.std.specs.Prelude.{string_bytes}
+use Rattle.std.specs.Str.Lossy.{utf8_lossy}
 use Rattle.std.specs.declared.io.ErrorKind.{ErrorKind}
 use Rattle.std.specs.declared.io.ErrorKind.TheVariants.{OutOfMemory}
 use Rattle.article_verdict.specs.Config.{terms_of}
+use Rattle.block_shelf.specs.Filling.{HasFailedAt}
+use Rattle.cyc_block.specs.declared.store.BlockStore as blocks
 use Rattle.job_queue.specs.declared.parcel.Handed.{Handed}
 use Rattle.live_fates.specs.Doubles.{doubles_in}
 use Rattle.live_fates.specs.Fates.{FitsJob, is_kept}
@@ -13,6 +16,7 @@ use Rattle.live_fates.specs.declared.fate.KeptJob.{KeptJob}
 use Rattle.live_seats.specs.Gathered.{AllTold, NoneElse, kept_by_all}
 use Rattle.live_seats.specs.declared.outcome.Done.{Done}
 use Rattle.live_store.specs.declared.record.Archive.{Ghosts}
+use Rattle.relay_conf.specs.declared.cycbuff.BufferConf.{BufferConf}
 use Rattle.relay_conf.specs.declared.settings.Config.{Config}
 use Rattle.live_settle.specs.Desks.{posts_in}
 use Rattle.relay_live.specs.Counts.{accepted_in, posted_in, strays_of, doubles_of}
@@ -40,7 +44,30 @@ abbrev pub IsRunFault : ServeError → Type 0
 IsRunFault error =
     (error ≡ faults.Memory) ⊎ ((error ≡ faults.Unseeded) ⊎ (error ≡ faults.NoThread))
 
--- so, or the file of a buffer can't be had, by its name
+-- the device of a store has failed, and this is the name of its buffer's file, with a mark in the
+-- place of what is no UTF-8
+pub record NamesFailed {S : Type 0} (g : blocks.Ghosts S) (config : Config) (stores : List S)
+    (name : List ℕ) : Type 0 where
+  pub number : ℕ
+  pub store : S
+  pub buffer : BufferConf
+  pub failed : HasFailedAt g stores number store
+  pub there : slice_get config.buffers.buffers.items number ≡ Some buffer
+  pub named : name ≡ utf8_lossy buffer.file
+
+-- a relay over stores isn't run where memory was refused, where the system had no random numbers or
+-- no thread, or where a device of theirs failed, whose file is named
+abbrev pub IsRelayFault : {S : Type 0} (g : blocks.Ghosts S) → Config → (stores : List S)
+    → ServeError → Type 0
+IsRelayFault g config stores (faults.File name) = NamesFailed g config stores (string_bytes name)
+IsRelayFault g config stores (faults.Port number) = ⊥
+IsRelayFault g config stores faults.Control = ⊥
+IsRelayFault g config stores faults.Unseeded = Unit {0}
+IsRelayFault g config stores faults.Memory = Unit {0}
+IsRelayFault g config stores faults.NoThread = Unit {0}
+IsRelayFault g config stores faults.Unwritten = ⊥
+
+-- so, over the files of a configuration: the file of one of its buffers is named
 abbrev pub IsServeFault : Config → ServeError → Type 0
 IsServeFault config (faults.File name) = NamesFile config (string_bytes name)
 IsServeFault config (faults.Port number) = ⊥

@@ -1,7 +1,7 @@
 //! The files of the buffers (docs/FORMATS.md, cycbuff.conf).
 ghost use Rattle.std.specs.Prelude.{◌≡◌, length, map, All, Any, IfErr, IfNone, IfOk, IfSome};
 ghost use Rattle.file_blocks.specs.Store.{count_of};
-ghost use Rattle.relay_serve.specs.Files.{IsFaultOf, IsFileFault, SharesFile};
+ghost use Rattle.relay_serve.specs.Files.{IsFaultAt, IsFaultOf, IsFileFault, SharesFile};
 ghost use Rattle.serve_terms.specs.declared.fault.ServeError.TheVariants as faults;
 
 use file_blocks::{FileBlocks, HeldFile, Unusable};
@@ -103,7 +103,7 @@ pub fn fit_files(
 
 /// The fault of the file of the buffer of this number, whose head block couldn't be written.
 pub(crate) fn unformatted(alloc: Global, settings: &Buffers, number: u8) -> ServeError
-    ensures { IsFileFault settings.now result }
+    ensures { IsFaultAt settings.now number result }
 {
     match settings.buffers.get(usize::from(number)) {
         Some(buffer) => unusable(alloc, buffer),

@@ -1,11 +1,12 @@
 //! A relay runs in threads, over stores and doors that are given.
-ghost use Rattle.std.specs.Prelude.{◌≡◌, ◌<◌, ◌^◌, true, All, IfErr, IfOk, length, map};
+ghost use Rattle.std.specs.Prelude.{◌≡◌, ◌<◌, ◌^◌, true, All, List, IfErr, IfOk, length, map};
+ghost use Rattle.block_shelf.specs.Filling.{IsBeginRefusal};
 ghost use Rattle.live_settle.specs.Desks.{posts_in};
 ghost use Rattle.relay_live.specs.Counts.{accepted_in, posted_in};
 ghost use Rattle.relay_live.specs.Holding.{has_buffer};
 ghost use Rattle.relay_live.specs.Making.{buffers_in, ends_in, slots_of};
-ghost use Rattle.relay_serve.specs.Running.{CountsOf, IsRunFault, IsServeFault, Ran, ended_as, lane_count};
-ghost use Rattle.relay_serve.specs.Running.{unbegun_as};
+ghost use Rattle.relay_serve.specs.Running.{CountsOf, IsRelayFault, IsRunFault, Ran, ended_as};
+ghost use Rattle.relay_serve.specs.Running.{lane_count, unbegun_as};
 ghost use Rattle.serve_terms.specs.Serve.{AreOf};
 
 use crate::beside::{Beside, Figured, Served, start_beside};
@@ -33,9 +34,9 @@ use std::thread::Threads;
 /// door, each end and each group's writer in a thread of its own, until all have ended, and beside
 /// them what goes on, whose thread is had before any other. Each buffer is formatted anew. What comes
 /// back is what the run itself counted, and the totals, with the same
-/// numbers. The error is want of memory, of random numbers, or of a thread; what was served
-/// before stands, and nothing is counted.
-#[tactic(auto, using(crate::proofs::ServeFaults::passed_run, crate::proofs::ServeFaults::passed_on))]
+/// numbers. The error is want of memory, of random numbers, or of a thread, or the file of a buffer
+/// whose device failed when it was formatted; what was served before stands, and nothing is counted.
+#[tactic(auto, using(crate::proofs::ServeFaults::run_serves))]
 pub fn run_relay<
     X: Connections<R> + Drop + Send,
     S: BlockStore + Drop + Send,
@@ -72,7 +73,7 @@ where
     ensures counted { IfOk result (λ run. CountsOf run.0 run.1) }
     ensures ran { IfOk result (λ run. Ran ⟦<J as Archive>⟧ config.now
         (map (λ door. door.peer) doors.items) run.1) }
-    ensures fault { IfErr result (IsServeFault config.now) }
+    ensures fault { IfErr result (IsRelayFault ⟦<S as BlockStore>⟧ config.now stores.items) }
 {
     let (book, all) = blank.open::<L>();
     let shared = shared_by::<S, J, L, R>(rt, alloc, config, stores, book, doors.len())?;
@@ -87,7 +88,6 @@ where
 }
 
 /// What so many ends share over these stores, before anything has come.
-#[tactic(auto, using(crate::proofs::ServeFaults::run_serves, crate::proofs::ServeFaults::file_serves))]
 fn shared_by<S: BlockStore + Drop, J: Archive, L: Ledger, R: RandomSource>(
     rt: &R,
     alloc: Global,
@@ -103,14 +103,27 @@ fn shared_by<S: BlockStore + Drop, J: Archive, L: Ledger, R: RandomSource>(
     ensures buffers { IfOk result (λ shared.
         buffers_in shared ≡ length config.now.buffers.buffers.items) }
     ensures ends { IfOk result (λ shared. ends_in shared ≡ ends) }
-    ensures fault { IfErr result (IsServeFault config.now) }
+    ensures fault { IfErr result (IsRelayFault ⟦<S as BlockStore>⟧ config.now stores.items) }
 {
     match Shared::new(rt, alloc, config, stores, book, ends) {
         Ok(shared) => Ok(shared),
-        Err(BeginError::Host(error)) => Err(unbegun(error.kind())),
-        Err(BeginError::Device(number, _store)) => {
-            Err(unformatted(alloc, &config.buffers, number))
-        }
+        Err(error) => Err(unshared(alloc, config, error)),
+    }
+}
+
+/// Why nothing is shared over the stores of a configuration.
+#[tactic(auto, using(crate::proofs::ServeFaults::run_serves))]
+fn unshared<S: BlockStore + Drop>(
+    alloc: Global,
+    config: &Config,
+    error: BeginError<S>,
+) -> ServeError
+    ensures { (stores : List S) → IsBeginRefusal ⟦<S as BlockStore>⟧ stores error
+        → IsRelayFault ⟦<S as BlockStore>⟧ config.now stores result }
+{
+    match error {
+        BeginError::Host(error) => unbegun(error.kind()),
+        BeginError::Device(number, _store) => unformatted(alloc, &config.buffers, number),
     }
 }
 

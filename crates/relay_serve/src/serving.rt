@@ -99,6 +99,7 @@ where
 
 /// Runs the relay over these stores and ports, by the machine's clock. Nothing says that a file of
 /// the machine is honest, so nothing is promised of what the stores give.
+#[tactic(auto, using(crate::proofs::ServeFaults::relay_serves))]
 fn run_on<'a, R>(
     rt: &R,
     alloc: Global,
