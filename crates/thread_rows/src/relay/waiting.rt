@@ -58,13 +58,11 @@ impl<R: Wait + Clock + Sync> BlockStore for Waiting<'_, R> {
     }
 
     fn read_head(&mut self, k: u32, octets: &mut [u8; BLOCK_OCTETS]) -> Result<(), DeviceFailed> {
-        self.board.wait(self.rt, self.waits.reads);
         self.store.read_head(k, octets)
     }
 
+    // A head block is written before any session is there to be waited for.
     fn write_head(&mut self, k: u32, octets: &[u8; BLOCK_OCTETS]) -> Result<(), DeviceFailed> {
-        self.board.writing(self.rt);
-        self.board.wait(self.rt, self.waits.writes);
         self.store.write_head(k, octets)
     }
 }
