@@ -9,6 +9,7 @@
 #![tactic(auto)]
 
 mod asker;
+mod devices;
 mod expand;
 mod machine;
 mod manner;

@@ -1,6 +1,7 @@
 //! A row: what it shows, the program's words, how its streams, its machine and what serves or asks
 //! behave, and its standard input.
 use crate::asker::ask;
+use crate::devices::{drill_k1, failing_call};
 use crate::expand::expanded;
 use crate::machine::Machine;
 use crate::manner::{Manner, add_cut, counted, joined};
@@ -145,6 +146,9 @@ impl<'a> Row<'a> {
         let mut input = Input::new(script, self.input);
         let machine = Machine::new(rt, self.machine);
         let alloc = rt.alloc();
+        if let Some(failing) = failing_call(self.machine) {
+            return drill_k1(&machine, alloc, failing, &mut input, output);
+        }
         let manner = self.server;
         let ending = ending_of(manner);
         run(

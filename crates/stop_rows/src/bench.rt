@@ -4,7 +4,7 @@ use crate::calls::{Call, Make};
 use crate::steps::{put_each, put_step};
 use crate::{articles, octets};
 use cyc_block::{FailAt, MemoryBlocks};
-use cyc_buffer::{Buffer, Unopened};
+use cyc_buffer::{Buffer, FormatError, Unopened};
 use row_text::Sheet;
 use std::mem;
 
@@ -52,10 +52,13 @@ impl Bench {
                 *self = zeros(number(blocks, sheet), sheet);
                 sheet.put(b"made");
             }
-            (Make::Format, [blocks, buffer, cycle]) => {
+            (Make::Format, [blocks, buffer, cycle, failing @ ..]) if failing.len() < 2 => {
                 let blocks = number(blocks, sheet);
                 let buffer = octet(buffer, sheet);
-                let bench = zeros(blocks, sheet);
+                let mut bench = zeros(blocks, sheet);
+                if let [call] = failing {
+                    bench.arm(sheet.read(call));
+                }
                 *self = formatted(bench, buffer, number(cycle, sheet), sheet);
             }
             _ => sheet.refuse(),
@@ -116,9 +119,12 @@ fn formatted(bench: Bench, number: u8, cycle: u32, sheet: &mut Sheet) -> Bench {
             sheet.put(b"formatted");
             Bench::Running(buffer)
         }
-        Err(_refused) => {
-            sheet.lack();
-            Bench::Nothing
+        Err(refused) => {
+            match refused.error {
+                FormatError::Memory => sheet.lack(),
+                FormatError::Device => sheet.put(b"Device"),
+            }
+            Bench::Stopped(refused.store)
         }
     }
 }

@@ -1,0 +1,36 @@
+//! A drill over devices that fail.
+use relay_command::Failure;
+use relay_conf::Config;
+use relay_drill::{DrillError, drill_failing};
+use std::alloc::Global;
+use std::io::{Read, Write};
+use std::random::RandomSource;
+
+/// The call of each device that fails by the line of a row about its machine. `None` where that says
+/// nothing of devices.
+pub fn failing_call(machine: &[u8]) -> Option<u64> {
+    if machine == b"first call".as_slice() {
+        return Some(1);
+    }
+    if machine == b"second call".as_slice() {
+        return Some(2);
+    }
+    None
+}
+
+/// Runs a script with the built-in configuration over devices of which each fails this call.
+pub fn drill_k1<R: Read, W: Write>(
+    rt: &impl RandomSource,
+    alloc: Global,
+    failing: u64,
+    reader: &mut R,
+    writer: &mut W,
+) -> Result<(), Failure> {
+    let Ok(config) = Config::k1(alloc) else {
+        return Err(Failure::Drill(DrillError::Memory));
+    };
+    match drill_failing(rt, alloc, config, failing, reader, writer) {
+        Ok(()) => Ok(()),
+        Err(error) => Err(Failure::Drill(error)),
+    }
+}
