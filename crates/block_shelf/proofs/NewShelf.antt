@@ -28,7 +28,7 @@ use Rattle.relay_conf.specs.declared.cycbuff.GroupConf.{GroupConf}
 use Rattle.relay_conf.specs.declared.settings.Buffers.{Buffers}
 use Rattle.relay_model.specs.Terms.{Terms}
 use Rattle.block_shelf.specs.Filling.{IsNewOver, HasNewOver, AreNewOver, AreNewRacks}
-use Rattle.block_shelf.specs.Filling.{failures_in}
+use Rattle.block_shelf.specs.Filling.{failures_in, members, IsNamed}
 use Rattle.block_shelf.specs.Histories.{IsHistoryOf, IsFree}
 use Rattle.block_shelf.specs.Keeping.{KeepsTexts, HasBuffer, HasRack, KeepsRack}
 use Rattle.block_shelf.specs.declared.shelf.Rack.{Rack}
@@ -96,15 +96,6 @@ numbered_view all n =
         ≡ option_map (λ (conf : BufferConf). numbered_buffer (n, conf)) one
     by None = refl
     by (Some conf) = ap (λ k. Some (numbered_buffer (k, conf))) (omega arith)
-
--- the buffers that these numbers stand for
-abbrev pub members : List BufferConf → List ℕ → List places.Buffer
-members all numbers = filter_map (slice_get (numbered_buffers all)) numbers
-
--- these are the numbers and the blocks of the buffers that a list stands for
-pub record IsNamed (all : List BufferConf) (list own_numbers own_blocks : List ℕ) : Type 0 where
-  pub numbers : own_numbers ≡ map (λ (buffer : places.Buffer). buffer.number) (members all list)
-  pub blocks : own_blocks ≡ blocks_in (members all list)
 
 -- a number more stands for what is there
 pub one_more_member : (all : List BufferConf) (numbers : List ℕ) (n : ℕ)
