@@ -133,6 +133,7 @@ impl Rack {
 }
 
 /// The numbers of a group's buffers, and how many blocks each has.
+#[derive(Drop)]
 pub(crate) struct Members {
     pub(crate) numbers: Vec<usize>,
     pub(crate) blocks: Vec<u32>,

@@ -35,6 +35,7 @@ pub struct UnopenedShelf<S: BlockStore> {
 }
 
 /// How far the opening of heads is.
+#[derive(Drop)]
 enum Opening<S: BlockStore> {
     /// The buffers so far are open; room for their stores.
     Opened {
@@ -70,7 +71,10 @@ impl<S: BlockStore + Drop> UnopenedShelf<S> {
             opening = opening.next(unopened);
         }
         match opening {
-            Opening::Opened { buffers, .. } => Ok(Shelf { buffers, racks }),
+            Opening::Opened {
+                buffers,
+                room: _room,
+            } => Ok(Shelf { buffers, racks }),
             Opening::Failed { stores, place } => Err(Unstarted {
                 stores,
                 buffer: Some(number_of(place)),
@@ -108,7 +112,7 @@ impl<S: BlockStore + Drop> UnopenedShelf<S> {
     }
 }
 
-impl<S: BlockStore> Opening<S> {
+impl<S: BlockStore + Drop> Opening<S> {
     /// Opens the head of the next buffer, where none before it has failed.
     fn next(self, unopened: Unopened<S>) -> Opening<S>
         requires { opening_count self < opening_room self }
@@ -138,7 +142,7 @@ impl<S: BlockStore> Opening<S> {
 }
 
 /// The stores of buffers, put where there is room for them.
-fn give_up<S: BlockStore>(buffers: Vec<Buffer<S>>, room: Vec<S>) -> Vec<S>
+fn give_up<S: BlockStore + Drop>(buffers: Vec<Buffer<S>>, room: Vec<S>) -> Vec<S>
     requires { vec_len buffers + vec_len room ≤ vec_capacity room }
     ensures items { result.items ≡ room.items ++ map (λ one. store_of one) buffers.items }
     ensures capacity { vec_capacity result ≡ vec_capacity room }

@@ -47,6 +47,7 @@ pub struct Unstarted<S> {
 }
 
 /// How far a start is.
+#[derive(Drop)]
 enum Starting<S: BlockStore> {
     /// The buffers so far are started; room for their stores, and the number of the first that was
     /// stopped at another stop.
@@ -64,6 +65,7 @@ enum Starting<S: BlockStore> {
 }
 
 /// The room that a start needs, and an opening after it.
+#[derive(Drop)]
 struct Room<S: BlockStore> {
     unopened: Vec<Unopened<S>>,
     opened: Vec<Buffer<S>>,
@@ -195,7 +197,7 @@ impl<S: BlockStore + Drop> Room<S> {
     }
 }
 
-impl<S: BlockStore> Starting<S> {
+impl<S: BlockStore + Drop> Starting<S> {
     /// Starts the buffer of the next store, where none before it was refused.
     fn next(self, alloc: Global, store: S, stop: u64) -> Starting<S>
         requires few { tried_count self < 256 }
@@ -227,7 +229,7 @@ impl<S: BlockStore> Starting<S> {
 }
 
 /// Starts the buffer of the next store behind those that are started.
-fn next_started<S: BlockStore>(
+fn next_started<S: BlockStore + Drop>(
     alloc: Global,
     store: S,
     stop: u64,
@@ -302,7 +304,7 @@ fn fault_of(error: StartError) -> StopFault
 }
 
 /// The stores of started buffers, put where there is room for them.
-pub(crate) fn give_back<S: BlockStore>(buffers: Vec<Unopened<S>>, room: Vec<S>) -> Vec<S>
+pub(crate) fn give_back<S: BlockStore + Drop>(buffers: Vec<Unopened<S>>, room: Vec<S>) -> Vec<S>
     requires { vec_len buffers + vec_len room ≤ vec_capacity room }
     ensures items { result.items ≡ room.items ++ map (λ one. store_of (inside one)) buffers.items }
     ensures capacity { vec_capacity result ≡ vec_capacity room }

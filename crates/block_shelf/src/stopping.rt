@@ -48,6 +48,8 @@ impl<S: BlockStore> Shelf<S> {
     /// Stops each buffer under this number, and gives their stores, in their order. The memory for
     /// their list is taken before a device is called.
     pub fn shut(self, alloc: Global, stop: u64) -> Result<Vec<S>, Unshut<S>>
+    where
+        S: Drop,
         // What was kept over honest stores is held by them, where no write was open.
         ensures held { IfOk result (λ stores. HoldsKept stop self stores.items) }
         ensures shut { IfOk result (λ stores. AreShut stop self stores.items) }
