@@ -317,9 +317,10 @@ module _ {S : Type 0} {g : Ghosts S} (settings : Buffers) (stores : List S) (she
 
   -- so the shelf keeps that nothing was begun
   pub nothing_kept : AreSound (places_of_buffers settings) (places_of_groups settings)
+      → length shelf.racks.items ≡ length settings.groups.items
       → AreNewRacks (places_of_groups settings) shelf.racks.items
       → KeepsTexts trusted shelf w (λ h. []) [] (λ h. None) (failures_in g stores)
-  nothing_kept sound racks = record {
+  nothing_kept sound racks_made racks = record {
     sound = subst (λ bs. AreSound bs w.groups) (sym all)
         (subst (AreSound (places_of_buffers settings)) (sym groups) sound);
     numbered = λ b buffer at.
@@ -330,5 +331,10 @@ module _ {S : Type 0} {g : Ghosts S} (settings : Buffers) (stores : List S) (she
         ∙ sym (ap length all ∙ length-map (enumerate_from 0 settings.buffers.items) numbered_buffer
         ∙ length-enumerate_from 0 settings.buffers.items);
     buffers = new_buffer;
+    rack_count = racks_made
+        ∙ sym (ap length groups
+        ∙ length-map (map group_view settings.groups.items)
+        (group_over (numbered_buffers settings.buffers.items))
+        ∙ length-map settings.groups.items group_view);
     racks = λ h group at. racks h group (ap (λ gs. slice_get gs h) (sym groups) ∙ at);
   }

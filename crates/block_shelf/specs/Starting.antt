@@ -62,9 +62,10 @@ HoldsStarted shelf w begun kept failures =
     BuffersKeep (buffers_inside shelf.buffers.items) w begun kept failures
 
 -- the racks are where these sizes have brought the groups
-abbrev pub RacksKeep : List Rack → Terms → (ℕ → List ℕ) → Type 0
-RacksKeep racks w begun =
-    (h : ℕ) (group : Group) → slice_get w.groups h ≡ Some group → HasRack racks (begun h) h group
+pub record RacksKeep (racks : List Rack) (w : Terms) (begun : ℕ → List ℕ) : Type 0 where
+  pub count : length racks ≡ length w.groups
+  pub each : (h : ℕ) (group : Group) → slice_get w.groups h ≡ Some group
+      → HasRack racks (begun h) h group
 
 -- the started shelf keeps, over honest stores, what it will keep once its heads are open
 pub record WillKeep {S : Type 0} {g : Ghosts S} (shelf : UnopenedShelf S g) (w : Terms)

@@ -1,6 +1,6 @@
 -- What a stop leaves of a shelf on its stores, and the positions of its groups
 -- (docs/PROTOCOL.md, Clean stop and start).
-use Rattle.std.specs.Prelude.{◌≡◌, ◌≢◌, ℕ, ◌+◌, ◌^◌, ◌<◌, Bool, true, false, List, [], ◌∷◌, ◌++◌}
+use Rattle.std.specs.Prelude.{◌≡◌, ◌≢◌, ℕ, ◌+◌, ◌^◌, ◌<◌, ◌≤◌, Bool, true, false, List, [], ◌∷◌, ◌++◌}
 use Rattle.std.specs.Prelude.{length, All, Option, None, Some, slice_get, Result, Ok, Err}
 use Rattle.std.specs.Global.{Vec}
 use Rattle.cyc_block.specs.declared.store.BlockStore.{Ghosts}
@@ -19,8 +19,9 @@ use Rattle.relay_model.specs.State.{Kept}
 use Rattle.relay_model.specs.Terms.{Terms}
 use Rattle.block_shelf.specs.Each.{AreEach}
 use Rattle.block_shelf.specs.Histories.{IsHistoryOf}
-use Rattle.block_shelf.specs.Keeping.{KeepsTexts}
+use Rattle.block_shelf.specs.Keeping.{KeepsRack, KeepsTexts}
 use Rattle.block_shelf.specs.Openings.{Opening}
+use Rattle.block_shelf.specs.declared.shelf.Rack.{Rack}
 use Rattle.block_shelf.specs.declared.shelf.Shelf.{Shelf}
 use Rattle.block_shelf.specs.declared.stopping.Unshut.{Unshut}
 use Rattle.block_shelf.specs.declared.stopping.Unshut.TheVariants as answers
@@ -33,6 +34,12 @@ pub record ArePositions (groups : List Group) (begun : ℕ → List ℕ) (positi
     pub count : length positions ≡ length groups
     pub each : (h : ℕ) (group : Group) → slice_get groups h ≡ Some group
         → slice_get positions h ≡ Some (position_of group (begun h)).index
+
+-- the position is that of the rack's group, which has no more buffers than there are numbers
+abbrev pub TellsPosition : ℕ → Rack → (position : ℕ) → Type 0
+TellsPosition b rack position =
+    (group : Group) (begun : List ℕ) → KeepsRack rack group begun
+    → length group.buffers ≤ 2 ^ 8 → position ≡ (position_of group begun).index
 
 -- these are the positions of the shelf's groups
 abbrev pub TellsPositions : {S : Type 0} {g : Ghosts S} → Shelf S g → List ℕ → Type 0

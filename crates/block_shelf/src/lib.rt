@@ -7,6 +7,7 @@ mod arming;
 mod beginning;
 mod figures;
 mod filling;
+mod giving;
 mod opening;
 mod picking;
 mod restarting;

@@ -1,18 +1,10 @@
 //! A started shelf before its heads are open, and their opening.
-ghost use Rattle.std.specs.Prelude.{◌≡◌, ◌≤◌, ◌<◌, ◌+◌, ◌++◌, ℕ, List, map, min, option_map, slice_get};
-ghost use Rattle.std.specs.Prelude.{IfErr, IfOk, vec_len, vec_capacity};
-ghost use Rattle.cyc_buffer.specs.Agreement.{store_of};
-ghost use Rattle.relay_model.specs.Figures.{buffer_figures};
-ghost use Rattle.relay_model.specs.State.{State};
-ghost use Rattle.relay_model.specs.Terms.{Terms};
-ghost use Rattle.block_shelf.specs.Figures.{figures_view};
-ghost use Rattle.block_shelf.specs.Heads.{IsOpened, IsUnopened, OpensNext, opening_count};
-ghost use Rattle.block_shelf.specs.Heads.{KeepsOpened, opening_room};
-ghost use Rattle.block_shelf.specs.Starting.{HoldsStarted, stores_inside};
+ghost use Rattle.std.specs.Prelude.{◌≡◌, ◌≤◌, [], vec_len, vec_capacity};
 
 use crate::figures::BufferFigures;
+use crate::giving::{give_back, give_up};
 use crate::shelf::{Rack, Shelf};
-use crate::starting::{StopFault, Unstarted, give_back};
+use crate::starting::{StopFault, Unstarted};
 use crate::stopping::number_of;
 use cyc_block::BlockStore;
 use cyc_buffer::{Buffer, Unopened};
@@ -50,6 +42,14 @@ enum Opening<S: BlockStore> {
 }
 
 impl<S: BlockStore + Drop> UnopenedShelf<S> {
+    ghost use Rattle.std.specs.Prelude.{◌≡◌, ℕ, IfErr, IfOk, option_map, slice_get};
+    ghost use Rattle.block_shelf.specs.Figures.{figures_view};
+    ghost use Rattle.block_shelf.specs.Heads.{IsOpened, IsUnopened, KeepsOpened};
+    ghost use Rattle.block_shelf.specs.Starting.{HoldsStarted, stores_inside};
+    ghost use Rattle.relay_model.specs.Figures.{buffer_figures};
+    ghost use Rattle.relay_model.specs.State.{State};
+    ghost use Rattle.relay_model.specs.Terms.{Terms};
+
     /// Says on each device, in the order of the buffers, that its buffer may change from here.
     /// Takes no memory.
     pub fn open(self) -> Result<Shelf<S>, Unstarted<S>>
@@ -113,6 +113,9 @@ impl<S: BlockStore + Drop> UnopenedShelf<S> {
 }
 
 impl<S: BlockStore + Drop> Opening<S> {
+    ghost use Rattle.std.specs.Prelude.{◌≡◌, ◌≤◌, ◌<◌, ◌+◌};
+    ghost use Rattle.block_shelf.specs.Heads.{OpensNext, opening_count, opening_room};
+
     /// Opens the head of the next buffer, where none before it has failed.
     fn next(self, unopened: Unopened<S>) -> Opening<S>
         requires { opening_count self < opening_room self }
@@ -139,17 +142,4 @@ impl<S: BlockStore + Drop> Opening<S> {
             },
         }
     }
-}
-
-/// The stores of buffers, put where there is room for them.
-fn give_up<S: BlockStore + Drop>(buffers: Vec<Buffer<S>>, room: Vec<S>) -> Vec<S>
-    requires { vec_len buffers + vec_len room ≤ vec_capacity room }
-    ensures items { result.items ≡ room.items ++ map (λ one. store_of one) buffers.items }
-    ensures capacity { vec_capacity result ≡ vec_capacity room }
-{
-    let mut stores = room;
-    for buffer in buffers {
-        stores.push_reserved(buffer.into_store());
-    }
-    stores
 }

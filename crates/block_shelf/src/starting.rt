@@ -9,6 +9,7 @@ ghost use Rattle.block_shelf.specs.Starting.{buffers_inside, fault_of_start, num
 ghost use Rattle.block_shelf.specs.Starting.{other_after, tried_count, tried_room};
 ghost use Rattle.block_shelf.specs.declared.starting.StopFault.TheVariants as faults;
 
+use crate::giving::give_back;
 use crate::opening::UnopenedShelf;
 use crate::resuming::resume_racks;
 use cyc_block::BlockStore;
@@ -127,17 +128,15 @@ pub fn start<S: BlockStore + Drop>(
         Starting::Started {
             buffers,
             room,
-            mixed: Some(number),
-        } => Err(Unstarted {
-            stores: give_back(buffers, room),
-            buffer: Some(number),
-            error: StopFault::Mixed,
-        }),
-        Starting::Started {
-            buffers,
-            room,
-            mixed: None,
-        } => shelve(alloc, settings, positions, buffers, opened, room),
+            mixed,
+        } => match mixed {
+            Some(number) => Err(Unstarted {
+                stores: give_back(buffers, room),
+                buffer: Some(number),
+                error: StopFault::Mixed,
+            }),
+            None => shelve(alloc, settings, positions, buffers, opened, room),
+        },
     }
 }
 
@@ -301,17 +300,4 @@ fn fault_of(error: StartError) -> StopFault
         StartError::Unclosed => StopFault::Unclosed,
         StartError::Damaged => StopFault::Damaged,
     }
-}
-
-/// The stores of started buffers, put where there is room for them.
-pub(crate) fn give_back<S: BlockStore + Drop>(buffers: Vec<Unopened<S>>, room: Vec<S>) -> Vec<S>
-    requires { vec_len buffers + vec_len room ≤ vec_capacity room }
-    ensures items { result.items ≡ room.items ++ map (λ one. store_of (inside one)) buffers.items }
-    ensures capacity { vec_capacity result ≡ vec_capacity room }
-{
-    let mut stores = room;
-    for unopened in buffers {
-        stores.push_reserved(unopened.into_store());
-    }
-    stores
 }

@@ -2,9 +2,10 @@
 ghost use Rattle.std.specs.Prelude.{◌≡◌, ◌<◌, ◌+◌, ◌^◌, true, false, IfErr, IfOk};
 ghost use Rattle.std.specs.Prelude.{vec_len, vec_capacity};
 ghost use Rattle.block_shelf.specs.Stopping.{AreIdle, AreShut, HoldsKept, IsBusyAnswer};
-ghost use Rattle.block_shelf.specs.Stopping.{IsBusyShelf, IsUnshut, StopsNext, TellsPositions};
+ghost use Rattle.block_shelf.specs.Stopping.{TellsPositions};
+ghost use Rattle.block_shelf.specs.Stopping.{IsBusyShelf, IsUnshut, StopsNext, TellsPosition};
 
-use crate::shelf::Shelf;
+use crate::shelf::{Rack, Shelf};
 use cyc_block::BlockStore;
 use cyc_buffer::Buffer;
 use std::alloc::{AllocError, Global};
@@ -20,6 +21,15 @@ pub enum Unshut<S: BlockStore> {
     Device(u8, Vec<S>),
 }
 
+impl Rack {
+    /// The place of the group's current buffer in it, counted from 0.
+    fn position(&self) -> u32
+        ensures { TellsPosition 0 self.now result }
+    {
+        u32::try_from(self.group.position()).unwrap_or(u32::MAX)
+    }
+}
+
 impl<S: BlockStore> Shelf<S> {
     /// The place of the current buffer of each group in it, counted from 0.
     pub fn positions(&self, alloc: Global) -> Result<Vec<u32>, AllocError>
@@ -27,7 +37,7 @@ impl<S: BlockStore> Shelf<S> {
     {
         let mut positions = Vec::with_capacity(alloc, self.racks.len())?;
         for rack in &self.racks {
-            positions.push_reserved(u32::try_from(rack.group.position()).unwrap_or(u32::MAX));
+            positions.push_reserved(rack.position());
         }
         Ok(positions)
     }
