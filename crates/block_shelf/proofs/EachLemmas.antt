@@ -1,7 +1,8 @@
 -- Lists whose items belong together, one item after the other.
 use Rattle.std.proofs.Common.{◌≡◌, ◌∙◌, ℕ, ◌+◌, ◌<◌, ◌⊎◌, inl, inr, arith, refl, sym, ap, subst}
 use Rattle.std.proofs.Common.{List, [], ◌∷◌, ◌++◌, length, map, Some, slice_get, option_map}
-use Rattle.std.proofs.lemmas.List.{length-append, length-map}
+use Rattle.std.proofs.Common.{append_assoc, append-nil}
+use Rattle.std.proofs.lemmas.List.{length-append, length-map, map-append}
 use Rattle.std.proofs.lemmas.Option.{none-some, same_Some, slice_get-map, slice_get_within}
 use Rattle.relay_conf.proofs.ListPlaces.{at_pushed}
 use Rattle.block_shelf.proofs.NewShelf.{pushed_before, pushed_last}
@@ -82,3 +83,49 @@ comes_from P xs ys are b y is =
       there = one.1;
       belongs = subst (λ each. P b one.0 each) (same_Some at.item y (sym at.there ∙ is)) at.belongs;
     }
+
+-- what is made of each item, once one more is put behind the others
+pub made_more : {X Y : Type 0} (f : X → Y) (room : List Y) (xs : List X) (x : X) (old new : List Y)
+    (y : Y) → old ≡ room ++ map f xs → new ≡ old ++ y ∷ [] → y ≡ f x
+    → new ≡ room ++ map f (xs ++ x ∷ [])
+made_more f room xs x old new y was is made =
+    is ∙ ap (λ items. items ++ y ∷ []) was
+    ∙ append_assoc room (map f xs) (y ∷ [])
+    ∙ ap (λ one. room ++ (map f xs ++ one ∷ [])) made
+    ∙ ap (λ items. room ++ items) (sym (map-append f xs (x ∷ [])))
+
+-- all were gone through where nothing is left
+pub all_through : {X : Type 0} (through left all : List X) → through ++ left ≡ all → left ≡ []
+    → through ≡ all
+all_through through left all is none =
+    sym (append-nil through) ∙ ap (λ rest. through ++ rest) (sym none) ∙ is
+
+-- one more is gone through
+pub one_through : {X : Type 0} (through left all : List X) (x : X) (more : List X)
+    → through ++ left ≡ all → left ≡ x ∷ more → (through ++ x ∷ []) ++ more ≡ all
+one_through through left all x more is next =
+    append_assoc through (x ∷ []) more ∙ ap (λ rest. through ++ rest) (sym next) ∙ is
+
+-- it stands behind those before it
+here_among : {X : Type 0} (xs : List X) (x : X) (more : List X)
+    → slice_get (xs ++ x ∷ more) (length xs) ≡ Some x
+here_among [] x more = refl
+here_among (y ∷ xs) x more = here_among xs x more
+
+pub here_through : {X : Type 0} (through left all : List X) (x : X) (more : List X)
+    → through ++ left ≡ all → left ≡ x ∷ more → slice_get all (length through) ≡ Some x
+here_through through left all x more is next =
+    ap (λ items. slice_get items (length through))
+    (sym is ∙ ap (λ rest. through ++ rest) next)
+    ∙ here_among through x more
+
+-- as many were gone through as there are, with one more
+pub count_through : {X : Type 0} (through left all : List X) (x : X) (more : List X)
+    → through ++ left ≡ all → left ≡ x ∷ more → length through + 1 + length more ≡ length all
+count_through through left all x more is next =
+    omega (
+      arith,
+      ap length is,
+      ap length next,
+      length-append through left,
+    )

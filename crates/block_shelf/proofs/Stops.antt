@@ -1,8 +1,8 @@
 -- What the stop of a shelf leaves, buffer after buffer.
 use Rattle.std.proofs.Common.{◌≡◌, ◌≢◌, ◌∙◌, ℕ, ◌+◌, ◌<◌, Bool, true, false, arith, refl, sym, ap}
 use Rattle.std.proofs.Common.{List, [], ◌∷◌, ◌++◌, length, Option, None, Some, is_some, slice_get}
-use Rattle.std.proofs.Common.{subst}
-use Rattle.std.proofs.lemmas.Bool.{true≢false}
+use Rattle.std.proofs.Common.{subst, ◌==◌}
+use Rattle.std.proofs.lemmas.Bool.{eqb-false, eqb-true, true≢false}
 use Rattle.std.proofs.lemmas.List.{length-append}
 use Rattle.std.proofs.lemmas.Option.{none-some, same_Some, slice_get_within}
 use Rattle.cyc_block.specs.declared.store.BlockStore.{Ghosts}
@@ -23,6 +23,7 @@ use Rattle.block_shelf.specs.Each.{AreEach}
 use Rattle.block_shelf.specs.Histories.{HasWriting, IsFree, IsBusy}
 use Rattle.block_shelf.specs.Keeping.{KeepsBuffer, KeepsTexts}
 use Rattle.block_shelf.specs.Openings.{Opening}
+use Rattle.block_shelf.specs.Stopping.{AreIdleTo}
 use Rattle.block_shelf.specs.Stopping.{AreIdle, AreShut, HoldsKept, IsBusyShelf, IsLeftOver}
 use Rattle.block_shelf.specs.Stopping.{IsShutOver, IsStopped}
 use Rattle.block_shelf.specs.declared.shelf.Shelf.{Shelf}
@@ -89,6 +90,20 @@ busy_shelf shelf b code is busy = record {
   writing = λ trusted w begun kept failures keeps.
       true≢false (sym busy ∙ idle_kept trusted shelf w begun kept failures keeps b code is);
 }
+
+-- one buffer more in which no write is open
+pub idle_more : {S : Type 0} {g : Ghosts S} (shelf : Shelf S g) (place : ℕ) (code : Buffer S g)
+    → slice_get shelf.buffers.items place ≡ Some code → is_busy code ≡ false
+    → AreIdleTo shelf place → AreIdleTo shelf (place + 1)
+idle_more {S} {g} shelf place code is idle before b one less there = by (b == place) refl
+  where
+    by : (same : Bool) → (b == place) ≡ same → is_busy one ≡ false
+    by true e =
+        let same : code ≡ one =
+        same_Some code one
+        (sym is ∙ ap (slice_get shelf.buffers.items) (sym (eqb-true b place e)) ∙ there) in
+        subst (λ (each : Buffer S g). is_busy each ≡ false) same idle
+    by false e = before b one (omega (arith, less, eqb-false b place e)) there
 
 -- an idle shelf isn't busy
 pub idle_or_busy : {S : Type 0} {g : Ghosts S} (shelf : Shelf S g) → AreIdle shelf
@@ -168,3 +183,34 @@ module _ {S : Type 0} {g : Ghosts S} (stop : ℕ) (code : Buffer S g) (before : 
       fails (errors.Worn fault) refusal = absurd refusal
       fails errors.Busy refusal = absurd (true≢false (sym refusal.0 ∙ idle))
       fails (errors.Device fault) refusal = refusal.2
+
+  -- the next buffer, where one has failed
+  pub stays_failed : (failed : Option ℕ) (store : S) (new : List S) → is_some failed ≡ true
+      → store ≡ store_of code → new ≡ old ++ store ∷ [] → IsStopped stop before failed old
+      → IsStopped stop (before ++ code ∷ []) failed new
+  stays_failed None store new some is made had = absurd (true≢false (sym some))
+  stays_failed (Some place) store new some is made had =
+      subst (IsStopped stop (before ++ code ∷ []) (Some place))
+      (sym (made ∙ ap (λ one. old ++ one ∷ []) is)) (left_behind place had)
+
+  -- where none has, and it is stopped
+  pub stops_next : (failed : Option ℕ) (store : S) (new : List S) → is_some failed ≡ false
+      → new ≡ old ++ store ∷ [] → IsShutOver stop (length before) code store
+      → IsStopped stop before failed old → IsStopped stop (before ++ code ∷ []) None new
+  stops_next (Some place) store new none made shut had = absurd (true≢false none)
+  stops_next None store new none made shut had =
+      subst (IsStopped stop (before ++ code ∷ []) None) (sym made)
+      (one_more_each (IsShutOver stop) before old code store had shut)
+
+  -- where none has, and it fails
+  pub fails_next : (failed : Option ℕ) (error : BufError) (code' : Buffer S g) (store : S)
+      (new : List S) (place : ℕ) → is_some failed ≡ false → is_busy code ≡ false
+      → IsStopRefusal code error code' → LeavesBuffer code code' → place ≡ length old
+      → store ≡ store_of code' → new ≡ old ++ store ∷ [] → IsStopped stop before failed old
+      → IsStopped stop (before ++ code ∷ []) (Some place) new
+  fails_next (Some at) error code' store new place none idle refusal leaves is made_of made had =
+      absurd (true≢false none)
+  fails_next None error code' store new place none idle refusal leaves is made_of made had =
+      subst (IsStopped stop (before ++ code ∷ []) (Some place))
+      (sym (made ∙ ap (λ one. old ++ one ∷ []) made_of))
+      (left_failed error code' idle refusal leaves place is had)

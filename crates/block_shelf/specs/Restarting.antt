@@ -79,6 +79,12 @@ IsBusyRestart old (faults.Failed number) new = IsBusyShelf old → ⊥
 
 -- STEP BY STEP
 
+-- the fault isn't Busy
+abbrev pub IsOtherFault : RestartFault → Type 0
+IsOtherFault faults.Busy = ⊥
+IsOtherFault faults.Memory = Unit {0}
+IsOtherFault (faults.Failed number) = Unit {0}
+
 -- the fault where it isn't started from what was written
 abbrev pub start_fault : StartError → ℕ → RestartFault
 start_fault starts.Memory number = faults.Memory

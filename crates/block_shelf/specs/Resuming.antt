@@ -1,5 +1,5 @@
 -- The groups of a shelf that is started (docs/PROTOCOL.md, Groups and writers, Clean stop and start).
-use Rattle.std.specs.Prelude.{◌≡◌, ℕ, true, List, Option, Some, slice_get}
+use Rattle.std.specs.Prelude.{◌≡◌, ℕ, true, List, Option, Some, slice_get, unwrap_or}
 use Rattle.cyc_block.specs.declared.store.BlockStore.{Ghosts}
 use Rattle.cyc_buffer.specs.Agreement.{Agrees}
 use Rattle.cyc_buffer.specs.History.{History}
@@ -8,6 +8,9 @@ use Rattle.cyc_buffer.specs.declared.buffer.Buffer.{Buffer}
 use Rattle.news_terms.specs.Places as places
 use Rattle.news_terms.specs.Places.{Group, Sequential}
 use Rattle.news_terms.specs.Positions.{position_of}
+use Rattle.relay_conf.specs.Places.{group_over, group_view, numbered_buffers}
+use Rattle.relay_conf.specs.declared.cycbuff.BufferConf.{BufferConf}
+use Rattle.relay_conf.specs.declared.cycbuff.GroupConf.{GroupConf}
 use Rattle.block_shelf.specs.Keeping.{KeepsRack}
 use Rattle.block_shelf.specs.declared.shelf.Rack.{Rack}
 
@@ -37,3 +40,11 @@ abbrev pub IsUsedAt : {S : Type 0} {g : Ghosts S} → List (Buffer S g) → Opti
 IsUsedAt {S} {g} codes number used =
     (n : ℕ) (code : Buffer S g) (h : History) → number ≡ Some n → slice_get codes n ≡ Some code
     → Agrees true code h → used ≡ used_of h
+
+-- the rack is that of the group at this place of the settings, at its position; at its first buffer
+-- where it has none
+abbrev pub IsResumedAt : {S : Type 0} {g : Ghosts S} → List BufferConf → (positions : List ℕ)
+    → List (Buffer S g) → (place : ℕ) → GroupConf → Rack → Type 0
+IsResumedAt all positions codes place group rack =
+    ResumesRack (group_over (numbered_buffers all) (group_view group))
+    (unwrap_or (slice_get positions place) 0) codes rack

@@ -112,7 +112,7 @@ buffer_over g number store =
 -- the store is that of the buffer of this number, stopped under a number, and nothing is wrong
 abbrev pub CanStart : {S : Type 0} → Ghosts S → (number : ℕ) → S → (stop : ℕ) → Type 0
 CanStart g number store stop =
-    (tokens : List tokens.Token)
+    (tokens : List code.Token)
     × Starts (g.heads store) (g.blocks store) (buffer_over g number store) stop tokens
 
 -- the buffer of this number was started from a store

@@ -152,6 +152,12 @@ IsBusyAnswer (Err (answers.Device number stores)) = ⊥
 
 -- STEP BY STEP
 
+-- no write is open in the buffers before this place
+abbrev pub AreIdleTo : {S : Type 0} {g : Ghosts S} → Shelf S g → (place : ℕ) → Type 0
+AreIdleTo {S} {g} shelf place =
+    (b : ℕ) (code : Buffer S g) → b < place → slice_get shelf.buffers.items b ≡ Some code
+    → is_busy code ≡ false
+
 -- the stores are those of the buffers so far: each is stopped, or the one at a place has failed
 abbrev pub IsStopped : {S : Type 0} {g : Ghosts S} → (stop : ℕ) → (before : List (Buffer S g))
     → (failed : Option ℕ) → List S → Type 0

@@ -1,7 +1,7 @@
 //! How a shelf is stopped and started again in place.
 ghost use Rattle.std.specs.Prelude.{◌≡◌, ◌^◌, ◌<◌, IfErr, OnOk};
 ghost use Rattle.block_shelf.specs.Restarting.{AreRestarted, IsBusyRestart, KeepsOn};
-ghost use Rattle.block_shelf.specs.Restarting.{RestartsNext, restart_fault};
+ghost use Rattle.block_shelf.specs.Restarting.{IsOtherFault, RestartsNext, restart_fault};
 
 use crate::shelf::Shelf;
 use crate::stopping::number_of;
@@ -43,6 +43,7 @@ impl<S: BlockStore> Shelf<S> {
     fn restart_buffer(&mut self, alloc: Global, place: usize, stop: u64) -> Result<(), RestartFault>
         ensures keeps { KeepsOn self.old result self.new }
         ensures restarted { OnOk result (RestartsNext stop place self.old self.new) }
+        ensures other { IfErr result IsOtherFault }
     {
         let Some(buffer) = self.buffers.get_mut(place) else {
             return Ok(());
@@ -56,7 +57,8 @@ impl<S: BlockStore> Shelf<S> {
 
 /// The fault of the shelf where the buffer at this place isn't restarted.
 fn fault_of(place: usize, error: &RestartError) -> RestartFault
-    ensures { place < 2 ^ 8 → result ≡ restart_fault error.now place }
+    ensures fault { place < 2 ^ 8 → result ≡ restart_fault error.now place }
+    ensures other { IsOtherFault result }
 {
     match error {
         RestartError::Start(StartError::Memory) => RestartFault::Memory,

@@ -61,7 +61,7 @@ impl Rack {
     {
         let Members { numbers, blocks } = members_of(alloc, all, group)?;
         let position = within(position, blocks.len());
-        let used = used_by(group.mode, buffers, numbers.get(position).copied());
+        let used = used_by(group.mode, buffers, number_at(&numbers, position));
         Ok(Rack {
             group: Group::resume(group.mode, blocks, position, used),
             numbers,
@@ -76,6 +76,16 @@ fn within(position: usize, count: usize) -> usize
     ensures same { position < count → result ≡ position }
 {
     if position < count { position } else { 0 }
+}
+
+/// The number at this place of a list, where it has one.
+fn number_at(numbers: &[usize], place: usize) -> Option<usize>
+    ensures { result ≡ slice_get numbers.now place }
+{
+    match numbers.get(place) {
+        Some(number) => Some(*number),
+        None => None,
+    }
 }
 
 /// The blocks used of the run of a group whose current buffer has this number: where buffers take
@@ -108,6 +118,7 @@ fn used_at<S: BlockStore>(buffers: &[Unopened<S>], number: Option<usize>) -> u32
 fn used_in<S: BlockStore>(buffer: &Buffer<S>) -> u32
     ensures { (trusted : Bool) (h : History) → Agrees trusted buffer.now h → result ≡ used_of h }
 {
-    let begins = u64::from(buffer.cycle()) * u64::from(buffer.blocks());
-    u32::try_from(buffer.front().saturating_sub(begins)).unwrap_or(0)
+    let blocks = u64::from(buffer.blocks());
+    let begins = u64::from(buffer.cycle()) * blocks;
+    buffer.front().saturating_sub(begins).min(blocks) as u32
 }

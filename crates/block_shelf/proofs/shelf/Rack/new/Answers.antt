@@ -8,8 +8,8 @@ new-requires c =
     omega (
       arith,
       c.requires,
-      named_count c.args.all.now c.args.group.now.buffers.items c.in_ok-numbers.numbers.items
-          c.in_ok-numbers.blocks.items c.in_ok-numbers.ensures,
+      named_count c.args.all.now c.args.group.now.buffers.items c.in_ok-numbers.field-0.numbers.items
+          c.in_ok-numbers.field-0.blocks.items c.in_ok-numbers.ensures,
     )
 
 pub returns : goal.returns
