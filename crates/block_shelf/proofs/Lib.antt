@@ -14,9 +14,12 @@ pub mod Opens
 pub mod Placed
 pub mod Refusals
 pub mod Reported
+pub mod Restarts
+pub mod Resumes
 pub mod ShelfCalls
 pub mod ShelfReads
 pub mod Shelving
+pub mod Starts
 pub mod Stops
 pub mod Tallies
 pub mod Writings

@@ -8,7 +8,7 @@ use Rattle.cyc_buffer.specs.Agreement.{Agrees, store_of}
 use Rattle.cyc_buffer.specs.Head.{has_open_head, inside, is_busy, stop_of}
 use Rattle.cyc_buffer.specs.History.{History}
 use Rattle.cyc_buffer.specs.Reads.{StaysHeld}
-use Rattle.cyc_buffer.specs.Starting.{IsReason, Starts, blocks_in}
+use Rattle.cyc_buffer.specs.Starting.{IsOutside, IsReason, Starts, blocks_in}
 use Rattle.cyc_buffer.specs.Stopped.{HoldsStopped}
 use Rattle.cyc_buffer.specs.declared.answers.StartError.{StartError}
 use Rattle.cyc_buffer.specs.declared.answers.StartError.TheVariants as errors
@@ -220,6 +220,10 @@ pub record IsRefusedAt {S : Type 0} (g : Ghosts S) (stores : List S) (error : St
   pub there : slice_get stores place ≡ Some store
   pub reason : g.honest store
       → IsReason (g.heads store) (g.blocks store) (buffer_over g place store) error
+  -- what it holds as stopped is no reason
+  pub outside : g.honest store → (stop : ℕ) (h : History)
+      → HoldsStopped (g.heads store) (g.blocks store) stop h
+      → h.buffer ≡ buffer_over g place store → IsOutside error
   pub earlier : EarlierStart g stores place
   pub back_each : AreEach (IsUnwritten g (failed_at error place)) stores back
 
@@ -291,6 +295,13 @@ IsFirstOther {S} {g} stop buffers (Some place) =
     × ((b : ℕ) (one : Unopened S g) → b < place → slice_get buffers b ≡ Some one
     → stop_of (inside one) ≡ stop)
 
+-- the start of a buffer over these stores is refused for this fault, which is told with its number
+abbrev pub IsTriedRefusal : {S : Type 0} → Ghosts S → (before : List S) → StopFault → Option ℕ
+    → (back : List S) → Type 0
+IsTriedRefusal g before fault number back =
+    (start : StartError) × (fault ≡ fault_of_start start)
+    × ((why : IsRefusedAt g before start back) × (number ≡ number_told start why.place))
+
 -- how a start stands after these stores: all their buffers were started, or it was refused
 abbrev pub HasTried : {S : Type 0} {g : Ghosts S} → (stop : ℕ) → (before : List S) → Starting S g
     → Type 0
@@ -298,8 +309,7 @@ HasTried {g = g} stop before (states.Started buffers stores mixed) =
     AreEach IsStartedOver before buffers.items × (stores.items ≡ [])
     × IsFirstOther stop buffers.items mixed
 HasTried {g = g} stop before (states.Refused stores number error) =
-    (start : StartError) × (error ≡ fault_of_start start)
-    × ((why : IsRefusedAt g before start stores.items) × (number ≡ number_told start why.place))
+    IsTriedRefusal g before error number stores.items
 
 -- the next buffer is started behind those that are, or not
 abbrev pub StartsNext : {S : Type 0} {g : Ghosts S} → (stop : ℕ) → S → List (Unopened S g)

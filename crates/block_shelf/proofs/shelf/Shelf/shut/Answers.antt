@@ -17,8 +17,8 @@ loop-buffer-init g c = record {
   room = omega (arith, c.in-Ok.ensures.capacity, c.len.ensures, c.args.self.buffers.ok);
 }
 
-pub shut_next-requires : goal.shut_next-requires
-shut_next-requires g c =
+pub shut_next-failed-requires : goal.shut_next-failed-requires
+shut_next-failed-requires g c =
     omega (
       arith,
       c.loop-buffer.invariant.count,
@@ -33,13 +33,13 @@ loop-buffer-preserved g c = record {
   all = one_through c.loop-buffer.yielded c.loop-buffer.buffer-iterator.rest.items
       c.args.self.buffers.items c.in-Some.buffer c.next.new.self.rest.items
       c.loop-buffer.invariant.all c.in-Some.ensures.steps.0;
-  stopped = c.shut_next.ensures.stops c.loop-buffer.yielded
+  stopped = c.shut_next-failed.ensures.stops c.loop-buffer.yielded
       (c.is_busy.ensures.idle c.if-is_busy.false (length c.loop-buffer.yielded) c.in-Some.buffer
       (here_through c.loop-buffer.yielded c.loop-buffer.buffer-iterator.rest.items
       c.args.self.buffers.items c.in-Some.buffer c.next.new.self.rest.items
       c.loop-buffer.invariant.all c.in-Some.ensures.steps.0))
       c.loop-buffer.invariant.stopped;
-  count = c.shut_next.ensures.count ∙ ap (λ n. n + 1) c.loop-buffer.invariant.count
+  count = c.shut_next-failed.ensures.count ∙ ap (λ n. n + 1) c.loop-buffer.invariant.count
       ∙ sym (length-append c.loop-buffer.yielded (c.in-Some.buffer ∷ []));
-  room = omega (arith, c.shut_next.ensures.room, c.loop-buffer.invariant.room);
+  room = omega (arith, c.shut_next-failed.ensures.room, c.loop-buffer.invariant.room);
 }
