@@ -1,5 +1,5 @@
 //! Files of the machine.
-ghost use Rattle.std.specs.Prelude.{◌≡◌, [], length, IfOk};
+ghost use Rattle.std.specs.Prelude.{◌≡◌, ◌+◌, ◌++◌, ◌∷◌, [], length, is_err, IfOk, OnErr, OnOk};
 ghost use Rattle.file_blocks.specs.Host.{asked_of as calls_of, failed_in};
 ghost use Rattle.file_blocks.specs.Host.{held_identity, identity_of};
 
@@ -21,11 +21,25 @@ impl RunFile for HostFile {
 
     ghost failures = { λ file. failed_in (calls_of file) };
 
-    fn read(&mut self, place: u64, octets: &mut [u8]) -> Result<(), DeviceFailed> {
+    fn read(&mut self, place: u64, octets: &mut [u8]) -> Result<(), DeviceFailed>
+        // It is one call, at this place.
+        ensures asked { calls_of self.new ≡ calls_of self.old ++ (place, is_err result) ∷ [] }
+        ensures failed { OnErr result (failed_in (calls_of self.new)
+            ≡ failed_in (calls_of self.old) + 1) }
+        ensures no_failure { OnOk result (failed_in (calls_of self.new)
+            ≡ failed_in (calls_of self.old)) }
+    {
         self.read_octets(place, octets)
     }
 
-    fn write(&mut self, place: u64, octets: &[u8]) -> Result<(), DeviceFailed> {
+    fn write(&mut self, place: u64, octets: &[u8]) -> Result<(), DeviceFailed>
+        // It is one call, at this place.
+        ensures asked { calls_of self.new ≡ calls_of self.old ++ (place, is_err result) ∷ [] }
+        ensures failed { OnErr result (failed_in (calls_of self.new)
+            ≡ failed_in (calls_of self.old) + 1) }
+        ensures no_failure { OnOk result (failed_in (calls_of self.new)
+            ≡ failed_in (calls_of self.old)) }
+    {
         self.write_octets(place, octets)
     }
 }

@@ -69,6 +69,17 @@ impl<F: RunFile> RunBlocks<F> {
     pub fn flush(&mut self) -> Result<(), DeviceFailed>
         ensures seen { KeepsBlocks F.RunFile self.old self.new }
         ensures written { OnOk result (gathered_of self.new ≡ []) }
+        ensures kept { OnErr result (gathered_of self.new ≡ gathered_of self.old) }
+        ensures asked { asked_of self.new ≡ asked_of self.old }
+        ensures file { AsksFile F.RunFile 1 self.old self.new result }
+    {
+        self.write_run()
+    }
+
+    /// Writes what is gathered, in one call of the file.
+    fn write_run(&mut self) -> Result<(), DeviceFailed>
+        ensures seen { KeepsBlocks F.RunFile self.old self.new }
+        ensures written { OnOk result (gathered_of self.new ≡ []) }
         ensures none { OnOk result (self.new.gathered.count ≡ 0) }
         ensures kept { OnErr result (self.new.gathered ≡ self.old.gathered) }
         ensures asked { asked_of self.new ≡ asked_of self.old }
@@ -96,7 +107,7 @@ impl<F: RunFile> RunBlocks<F> {
         if self.gathered.takes(k) {
             return Ok(());
         }
-        self.flush()
+        self.write_run()
     }
 
     /// Takes block k behind what is gathered.
@@ -137,7 +148,7 @@ impl<F: RunFile> RunBlocks<F> {
         if self.gathered.count < RUN_BLOCKS && octets_left(octets) != 0 {
             return Ok(());
         }
-        match self.flush() {
+        match self.write_run() {
             Ok(()) => Ok(()),
             Err(failed) => {
                 self.gathered.give_back();
@@ -231,7 +242,7 @@ impl<F: RunFile> BlockStore for RunBlocks<F> {
             ≡ length (blocks_seen F.RunFile self.old) }
         ensures calls { asked_of self.new ≡ asked_of self.old + 1 }
         // What is gathered stays so.
-        ensures gathered { self.new.gathered ≡ self.old.gathered }
+        ensures gathered { gathered_of self.new ≡ gathered_of self.old }
         ensures file { AsksFile F.RunFile 1 self.old self.new result }
     {
         self.asked = self.asked.and(&k, &());
@@ -287,7 +298,7 @@ impl<F: RunFile> BlockStore for RunBlocks<F> {
             ≡ length (blocks_seen F.RunFile self.old) }
         ensures calls { asked_of self.new ≡ asked_of self.old + 1 }
         // What is gathered stays so.
-        ensures gathered { self.new.gathered ≡ self.old.gathered }
+        ensures gathered { gathered_of self.new ≡ gathered_of self.old }
         ensures file { AsksFile F.RunFile 1 self.old self.new result }
     {
         self.asked = self.asked.and(&k, &());

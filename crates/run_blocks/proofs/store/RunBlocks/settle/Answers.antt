@@ -11,7 +11,7 @@ use Rattle.run_blocks.proofs.store.RunBlocks.settle.Goals as goal
 
 pub returns-in-Err-clause-others : goal.returns-in-Err-clause-others
 returns-in-Err-clause-others g c honest k at =
-    let mid = c.flush.new.self in
+    let mid = c.write_run.new.self in
     let held = g.F.RunFile.held mid.file in
     let left = c.give_back.new.self in
     let seen = blocks_seen g.F.RunFile c.args.self.now in
@@ -22,4 +22,4 @@ returns-in-Err-clause-others g c honest k at =
     mid.gathered.octets.items (blocks_in left) seen mid.gathered_within
     (sym c.give_back.ensures.count)
     (at ∙ sym (ap (λ (run : Run). run.first + run.count) c.in-Err.ensures.kept))
-    c.give_back.ensures.fewer (c.flush.ensures.seen.blocks honest))
+    c.give_back.ensures.fewer (c.write_run.ensures.seen.blocks honest))

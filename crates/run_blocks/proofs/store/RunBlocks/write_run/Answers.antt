@@ -5,7 +5,7 @@ use Rattle.run_blocks.proofs.CopyLemmas.{copy_left}
 use Rattle.run_blocks.proofs.RunLemmas.{no_blocks}
 use Rattle.run_blocks.proofs.SeenLemmas.{none_gathered}
 use Rattle.run_blocks.proofs.StoreLemmas.{IsRun, run_heads, run_kept, run_written}
-use Rattle.run_blocks.proofs.store.RunBlocks.flush.Goals as goal
+use Rattle.run_blocks.proofs.store.RunBlocks.write_run.Goals as goal
 
 pub returns-then-self-eq0-clause-written : goal.returns-then-self-eq0-clause-written
 returns-then-self-eq0-clause-written g c =
