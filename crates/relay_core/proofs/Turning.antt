@@ -156,6 +156,8 @@ by_memory (outputs.Refused faults.NoGroup) memory other = other (λ e. cc)
 by_memory (outputs.Refused faults.NoPeer) memory other = other (λ e. cc)
 by_memory (outputs.Refused faults.BadMoment) memory other = other (λ e. cc)
 by_memory (outputs.Refused faults.NoShard) memory other = other (λ e. cc)
+by_memory (outputs.Refused faults.NotIdle) memory other = other (λ e. cc)
+by_memory (outputs.Refused faults.NotRestarted) memory other = other (λ e. cc)
 
 module _ {S : Type 0} {g : Ghosts S} where
   -- an event is refused, and nothing changes

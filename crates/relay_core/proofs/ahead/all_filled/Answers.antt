@@ -1,0 +1,39 @@
+use Rattle.std.proofs.Common.{◌≡◌, ◌∙◌, ◌<◌, ◌≤◌, arith, get_or, length, refl, rules}
+use Rattle.relay_core.proofs.Fillings.{filled_all, filled_joins, filled_there}
+use Rattle.relay_core.proofs.ahead.all_filled.Goals as goal
+use Rattle.relay_core.proofs.ahead.all_filled.Goals.{in-Some, in_default}
+
+-- one buffer more
+pub loop-number-preserved : goal.loop-number-preserved
+loop-number-preserved g c =
+    let all = c.args.settings.now.buffers.items in
+    let n = c.loop-number.number in
+    let conf = c.buffer-item.result in
+    let within : n < length all = search rules in
+    elim c.match-figures.branch [
+      | in-Some w ↦
+          record {
+            count = search rules;
+            room = search rules;
+            said = λ x σ failures same held.
+                filled_joins c.args.settings.now x σ same n conf w.in-Some.figures within
+                (search rules) (w.in-Some.ensures x σ failures held) c.loop-number.filled.items
+                c.match-figures.filled.items _ refl
+                (cc (w.push_reserved.ensures.items, w.filled-is))
+                (c.loop-number.invariant.said x σ failures same held);
+          }
+      | in_default w ↦
+          record {
+            count = search rules;
+            room = search rules;
+            said = λ x σ failures same held.
+                absurd (filled_there c.args.settings.now x σ same n conf within
+                (w.in_default.ensures x σ failures held));
+          }
+    ]
+
+-- that was the last
+pub returns : goal.returns
+returns g c = λ x σ failures same held.
+    c.loop-number.invariant.said x σ failures same held
+    ∙ filled_all c.args.settings.now x σ same c.loop-number.number (search rules)

@@ -1,0 +1,28 @@
+use Rattle.std.proofs.Common.{◌∙◌, ◌<◌, ◌≤◌, arith, ap, length, get_or, subst, rules}
+use Rattle.relay_core.proofs.Fillings.{member_more, member_none}
+use Rattle.relay_core.proofs.desks.members.Goals as goal
+use Rattle.relay_core.proofs.desks.members.Goals.{then-number-len, else-number-len}
+
+-- one number more
+pub loop-number-preserved : goal.loop-number-preserved
+loop-number-preserved c =
+    let all = c.args.settings.now.buffers.items in
+    let list = c.args.group.now.buffers.items in
+    let k = c.loop-number.number-index in
+    let within : k < length list = search rules in
+    elim c.if-number-len.branch [
+      | then-number-len w ↦
+          let less : get_or list k 0 < length all = search rules in
+          record {
+            few = search rules;
+            said = w.count-is ∙ member_more all list k c.loop-number.count within less
+                c.loop-number.invariant.said;
+          }
+      | else-number-len w ↦
+          let past : length all ≤ get_or list k 0 = search rules in
+          record {
+            few = search rules;
+            said = w.count-is ∙ member_none all list k c.loop-number.count within past
+                c.loop-number.invariant.said;
+          }
+    ]

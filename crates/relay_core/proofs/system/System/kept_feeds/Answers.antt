@@ -1,0 +1,60 @@
+use Rattle.std.proofs.Common.{◌≡◌, ◌∙◌, ◌<◌, ◌≤◌, ap, arith, length, map, rules}
+use Rattle.std.specs.Prelude.{Ok}
+use Rattle.article_verdict.proofs.FewFeeds.{few_feeds}
+use Rattle.article_verdict.specs.Config.{terms_of}
+use Rattle.history_text.specs.Views.{feed_view}
+use Rattle.relay_core.proofs.Stops.{all_left, feed_missing, kept_joins, some_of, waits_join}
+use Rattle.relay_core.specs.Agreement.{ring_sizes}
+use Rattle.relay_core.proofs.system.System.kept_feeds.Goals as goal
+use Rattle.relay_core.proofs.system.System.kept_feeds.Goals.{in-Some, in_default}
+
+-- there are fewer feeds than numbers
+pub overflow_cast-number : goal.overflow_cast-number
+overflow_cast-number g c =
+    let within : c.loop-number.number < length c.args.self.now.config.relay.feeds.items =
+    search rules in
+    omega (arith, few_feeds c.args.self.now.config, within)
+
+-- one feed more
+pub loop-number-preserved : goal.loop-number-preserved
+loop-number-preserved g c =
+    let config = c.args.self.now.config in
+    let n = c.loop-number.number in
+    let sizes = ring_sizes (terms_of config) in
+    let within : n < length config.relay.feeds.items = search rules in
+    elim c.match-branch-3.branch [
+      | in-Some w ↦
+          record {
+            count = search rules;
+            room = search rules;
+            waits = waits_join c.loop-number.kept.items c.match-branch-3.kept.items w.in-Some.one
+                (cc (w.push_reserved.ensures.items, w.kept-is)) c.loop-number.invariant.waits
+                (some_of _ _ w.in-Some.one w.in-Some.is c.in_ok-one.ensures.fits);
+            left = λ feed keeps. kept_joins n c.loop-number.kept.items
+                c.match-branch-3.kept.items w.in-Some.one sizes feed
+                (cc (w.push_reserved.ensures.items, w.kept-is))
+                (c.loop-number.invariant.left feed keeps) (some_of _ _ w.in-Some.one w.in-Some.is c.in_ok-one.ensures.left sizes feed keeps);
+          }
+      | in_default w ↦
+          record {
+            count = search rules;
+            room = search rules;
+            waits = search rules;
+            left = λ feed keeps. absurd (feed_missing config c.args.self.now.desk feed n keeps within
+                (c.kept.ensures.missing.0 (c.in_ok-one.was ∙ ap Ok w.in_default.is)));
+          }
+    ]
+
+-- that was the last
+pub returns-clause-left : goal.returns-clause-left
+returns-clause-left g c = λ feed keeps.
+    all_left c.args.self.now.config c.loop-number.number
+    (map feed_view c.loop-number.kept.items) feed (search rules)
+    (c.loop-number.invariant.left feed keeps)
+
+pub returns-clause-room : goal.returns-clause-room
+returns-clause-room g c =
+    let all : c.loop-number.number ≡ length c.args.self.now.config.relay.feeds.items =
+    search rules in
+    let few : length c.loop-number.kept.items ≤ c.loop-number.number = search rules in
+    (omega (arith, few, all, few_feeds c.args.self.now.config), c.loop-number.invariant.waits)
