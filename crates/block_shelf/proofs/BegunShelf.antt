@@ -3,7 +3,7 @@ use Rattle.std.proofs.Common.{◌≡◌, ◌∙◌, ℕ, ◌<◌, ◌≤◌, nat
 use Rattle.std.proofs.Common.{subst}
 use Rattle.std.proofs.Common.{arith, length, List, [], ◌∷◌, ◌++◌, Option, None, Some, All}
 use Rattle.std.proofs.Common.{slice_get}
-use Rattle.std.proofs.Common.{slice_index_or, slice_set, is_some, ◌==◌, if◌then◌else◌}
+use Rattle.std.proofs.Common.{length-set, slice_index_or, slice_set, is_some, ◌==◌, if◌then◌else◌}
 use Rattle.std.proofs.lemmas.Bool.{cond-true, cond-false, ltb-true, ltb-false, lt-ltb, true≢false}
 use Rattle.std.proofs.lemmas.Bool.{eqb-true, eqb-false}
 use Rattle.std.proofs.lemmas.List.Elements.{All-append, All-cons, All-nil}
@@ -313,7 +313,8 @@ module _ {S : Type 0} {g : Ghosts S} (trusted : Bool) (old : Shelf S g) (w : Ter
         }) w begun kept openings failures
     unchanged code' rack i is_place read_rack agrees same_store =
         replaced trusted old w begun kept openings failures keeps number code'
-        (with_item old.racks i rack) begun kept openings failures keeps.fit keeps.opened
+        (with_item old.racks i rack) (length-set old.racks.items i rack ∙ keeps.rack_count) begun
+        kept openings failures keeps.fit keeps.opened
         (λ k each there. racks_after i rack is_place (rack_keeps i rack is_place read_rack)
         begun (λ j apart. refl) refl k each there)
         (λ buffer there.
@@ -372,7 +373,8 @@ module _ {S : Type 0} {g : Ghosts S} (trusted : Bool) (old : Shelf S g) (w : Ter
       has_begun text long =
           let next : Opening = IsOpen token text 0 in
           replaced trusted old w begun kept openings failures keeps number code'
-          (with_item old.racks i rack') (begun_more begun h size) kept
+          (with_item old.racks i rack') (length-set old.racks.items i rack' ∙ keeps.rack_count)
+          (begun_more begun h size) kept
           (put_at openings h (Some next)) failures
           fit_after (opened_after text long)
           (λ k each there. racks_after i rack' is_place moved (begun_more begun h size)

@@ -173,7 +173,7 @@ module _ {S : Type 0} {g : Ghosts S} (trusted : Bool) (old : Shelf S g) (w : Ter
     abandoned follows same_store =
         let f = found i code number read in
         let follows_here = follows (handle_is_open f).owned in
-        replaced trusted old w begun kept openings failures keeps i code' old.racks begun kept
+        replaced trusted old w begun kept openings failures keeps i code' old.racks keeps.rack_count begun kept
         (put_at openings h None) failures keeps.fit ended_opened keeps.racks
         (λ buffer there.
         let same : f.place.buffer ≡ buffer =

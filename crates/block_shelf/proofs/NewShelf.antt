@@ -28,7 +28,7 @@ use Rattle.relay_conf.specs.declared.cycbuff.GroupConf.{GroupConf}
 use Rattle.relay_conf.specs.declared.settings.Buffers.{Buffers}
 use Rattle.relay_model.specs.Terms.{Terms}
 use Rattle.block_shelf.specs.Filling.{IsNewOver, HasNewOver, AreNewOver, AreNewRacks}
-use Rattle.block_shelf.specs.Filling.{failures_in}
+use Rattle.block_shelf.specs.Filling.{failures_in, members, IsNamed}
 use Rattle.block_shelf.specs.Histories.{IsHistoryOf, IsFree}
 use Rattle.block_shelf.specs.Keeping.{KeepsTexts, HasBuffer, HasRack, KeepsRack}
 use Rattle.block_shelf.specs.declared.shelf.Rack.{Rack}
@@ -96,15 +96,6 @@ numbered_view all n =
         ≡ option_map (λ (conf : BufferConf). numbered_buffer (n, conf)) one
     by None = refl
     by (Some conf) = ap (λ k. Some (numbered_buffer (k, conf))) (omega arith)
-
--- the buffers that these numbers stand for
-abbrev pub members : List BufferConf → List ℕ → List places.Buffer
-members all numbers = filter_map (slice_get (numbered_buffers all)) numbers
-
--- these are the numbers and the blocks of the buffers that a list stands for
-pub record IsNamed (all : List BufferConf) (list own_numbers own_blocks : List ℕ) : Type 0 where
-  pub numbers : own_numbers ≡ map (λ (buffer : places.Buffer). buffer.number) (members all list)
-  pub blocks : own_blocks ≡ blocks_in (members all list)
 
 -- a number more stands for what is there
 pub one_more_member : (all : List BufferConf) (numbers : List ℕ) (n : ℕ)
@@ -326,9 +317,10 @@ module _ {S : Type 0} {g : Ghosts S} (settings : Buffers) (stores : List S) (she
 
   -- so the shelf keeps that nothing was begun
   pub nothing_kept : AreSound (places_of_buffers settings) (places_of_groups settings)
+      → length shelf.racks.items ≡ length settings.groups.items
       → AreNewRacks (places_of_groups settings) shelf.racks.items
       → KeepsTexts trusted shelf w (λ h. []) [] (λ h. None) (failures_in g stores)
-  nothing_kept sound racks = record {
+  nothing_kept sound racks_made racks = record {
     sound = subst (λ bs. AreSound bs w.groups) (sym all)
         (subst (AreSound (places_of_buffers settings)) (sym groups) sound);
     numbered = λ b buffer at.
@@ -339,5 +331,10 @@ module _ {S : Type 0} {g : Ghosts S} (settings : Buffers) (stores : List S) (she
         ∙ sym (ap length all ∙ length-map (enumerate_from 0 settings.buffers.items) numbered_buffer
         ∙ length-enumerate_from 0 settings.buffers.items);
     buffers = new_buffer;
+    rack_count = racks_made
+        ∙ sym (ap length groups
+        ∙ length-map (map group_view settings.groups.items)
+        (group_over (numbered_buffers settings.buffers.items))
+        ∙ length-map settings.groups.items group_view);
     racks = λ h group at. racks h group (ap (λ gs. slice_get gs h) (sym groups) ∙ at);
   }

@@ -238,7 +238,7 @@ module _ {S : Type 0} {g : Ghosts S} (trusted : Bool) (old : Shelf S g) (w : Ter
   wrote (Ok last) does device =
       let next : Opening = IsOpen token text (written + 1) in (
         last_is last does,
-        replaced trusted old w begun kept openings failures keeps i code' old.racks begun kept
+        replaced trusted old w begun kept openings failures keeps i code' old.racks keeps.rack_count begun kept
             (put_at openings h (Some next)) failures keeps.fit
             (still_opened next (record {
               index = at.place.index;
@@ -308,7 +308,7 @@ module _ {S : Type 0} {g : Ghosts S} (trusted : Bool) (old : Shelf S g) (w : Ter
           (record { buffers = with_item old.buffers i code'; racks = old.racks })
           w begun kept (put_at openings h (Some (IsBroken token))) later
       keeps_after does =
-          replaced trusted old w begun kept openings failures keeps i code' old.racks begun kept
+          replaced trusted old w begun kept openings failures keeps i code' old.racks keeps.rack_count begun kept
           (put_at openings h (Some (IsBroken token))) later keeps.fit
           (still_opened (IsBroken token) (record {
             index = at.place.index;
@@ -335,7 +335,7 @@ module _ {S : Type 0} {g : Ghosts S} (trusted : Bool) (old : Shelf S g) (w : Ter
       begun (kept ++ record { token = token; id = id; text = text } ∷ [])
       (put_at openings h None) failures
   finished id all follows same_store =
-      replaced trusted old w begun kept openings failures keeps i code' old.racks begun kept'
+      replaced trusted old w begun kept openings failures keeps i code' old.racks keeps.rack_count begun kept'
       (put_at openings h None) failures keeps.fit
       (ended_opened trusted old w begun kept openings failures keeps h one is)
       keeps.racks

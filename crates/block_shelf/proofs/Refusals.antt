@@ -1,7 +1,7 @@
 -- A begin that begins nothing leaves all that the shelf keeps; an error of a write comes of a call.
 use Rattle.std.proofs.Common.{◌≡◌, ◌∙◌, ℕ, zero, suc, refl, sym, ap, subst}
 use Rattle.std.proofs.Common.{List, [], ◌∷◌, Option, None, Some, IfNone, Result, Ok, Err, OnErr}
-use Rattle.std.proofs.Common.{slice_set, slice_index_or}
+use Rattle.std.proofs.Common.{slice_set, slice_index_or, length-set}
 use Rattle.std.specs.Global.{Vec}
 use Rattle.std.specs.Vec.{with_item}
 use Rattle.cyc_block.specs.declared.store.BlockStore.{Ghosts}
@@ -40,7 +40,8 @@ module _ {S : Type 0} {g : Ghosts S} (old : Shelf S g) (number : ℕ) (code code
       → KeepsAll old (record { buffers = old.buffers; racks = racks })
       → KeepsAll old (record { buffers = with_item old.buffers number code'; racks = racks })
   keeps_on follows same_failures keeps_racks trusted w begun kept openings failures keeps =
-      replaced trusted old w begun kept openings failures keeps number code' racks begun kept
+      replaced trusted old w begun kept openings failures keeps number code' racks
+      (keeps_racks trusted w begun kept openings failures keeps).rack_count begun kept
       openings failures keeps.fit keeps.opened
       (keeps_racks trusted w begun kept openings failures keeps).racks
       (λ buffer there.
@@ -70,6 +71,7 @@ module _ {S : Type 0} {g : Ghosts S} (old : Shelf S g) (i : ℕ) (rack : Rack)
     opened = keeps.opened;
     count = keeps.count;
     buffers = keeps.buffers;
+    rack_count = length-set old.racks.items i rack ∙ keeps.rack_count;
     racks = λ h group there.
         subst (λ items. HasRack items (begun h) h group)
         (sym (set_same old.racks.items i rack read_rack)) (keeps.racks h group there);

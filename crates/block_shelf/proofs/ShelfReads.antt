@@ -284,7 +284,7 @@ module _ {S : Type 0} {g : Ghosts S} (trusted : Bool) (old : Shelf S g) (w : Ter
         → KeepsTexts trusted (record { buffers = with_item old.buffers i code'; racks = old.racks })
         w σ.begun σ.kept openings failures'
     kept_after failures' agrees here others =
-        replaced trusted old w σ.begun σ.kept openings failures keeps i code' old.racks σ.begun
+        replaced trusted old w σ.begun σ.kept openings failures keeps i code' old.racks keeps.rack_count σ.begun
         σ.kept openings failures' keeps.fit keeps.opened keeps.racks
         (λ buffer is_there.
         let same : now.buffer ≡ buffer = same_Some now.buffer buffer (sym there ∙ is_there) in

@@ -1,6 +1,6 @@
 -- What the shelf keeps once one of its buffers, or one of its groups, is another.
 use Rattle.std.proofs.Common.{◌≡◌, ◌∙◌, ℕ, zero, suc, Bool, true, false, refl, sym, ap}
-use Rattle.std.proofs.Common.{List, [], ◌∷◌, Option, Some, All, slice_get}
+use Rattle.std.proofs.Common.{List, [], ◌∷◌, length, Option, Some, All, slice_get}
 use Rattle.std.proofs.Common.{◌==◌}
 use Rattle.std.proofs.Common.{slice_set, slice_index_or, length-set}
 use Rattle.std.proofs.lemmas.Bool.{eqb-true, eqb-false}
@@ -76,8 +76,9 @@ module _ {S : Type 0} {g : Ghosts S} (trusted : Bool) (old : Shelf S g) (w : Ter
       (keeps.sound.once k h there.index i there.buffer buffer there.is_at at (there.named ∙ here)).0
 
   -- with another buffer, which keeps what is said from now on, while every other keeps it as it is
-  pub replaced : (b : ℕ) (code : Buffer S g) (racks : Vec Rack) (begun' : ℕ → List ℕ)
-      (kept' : List Kept) (openings' : ℕ → Option Opening) (failures' : ℕ → ℕ)
+  pub replaced : (b : ℕ) (code : Buffer S g) (racks : Vec Rack)
+      → length racks.items ≡ length w.groups → (begun' : ℕ → List ℕ) (kept' : List Kept)
+      (openings' : ℕ → Option Opening) (failures' : ℕ → ℕ)
       → ((h : ℕ) (group : Group) → slice_get w.groups h ≡ Some group
       → All (FitsGroup group) (begun' h))
       → ((h : ℕ) (one : Opening) → openings' h ≡ Some one → IsOpenIn w.groups h one)
@@ -91,13 +92,14 @@ module _ {S : Type 0} {g : Ghosts S} (trusted : Bool) (old : Shelf S g) (w : Ter
       → KeepsBuffer trusted each w.groups begun' kept' openings' failures' buffer)
       → KeepsTexts trusted (record { buffers = with_item old.buffers b code; racks = racks }) w
       begun' kept' openings' failures'
-  replaced b code racks begun' kept' openings' failures' fit opened has_racks here others = record {
+  replaced b code racks rack_count begun' kept' openings' failures' fit opened has_racks here others = record {
     sound = keeps.sound;
     numbered = keeps.numbered;
     fit = fit;
     opened = opened;
     count = length-set old.buffers.items b code ∙ keeps.count;
     buffers = λ j buffer there. by j buffer there (j == b) refl;
+    rack_count = rack_count;
     racks = has_racks;
   }
     where

@@ -1,13 +1,16 @@
 -- A shelf before anything is begun, over stores of which the i-th is that of buffer i
 -- (docs/PROTOCOL.md, Store).
 use Rattle.std.specs.Prelude.{◌≡◌, ◌<◌, ◌+◌, ℕ, Bool, true, List, [], length, None, Some, slice_get, All}
-use Rattle.std.specs.Prelude.{option_map, unwrap_or}
+use Rattle.std.specs.Prelude.{option_map, unwrap_or, map, filter_map}
+use Rattle.buffer_group.specs.Groups.{blocks_in}
 use Rattle.cyc_block.specs.declared.store.BlockStore.{Ghosts}
 use Rattle.cyc_buffer.specs.Agreement.{Agrees, store_of}
 use Rattle.cyc_buffer.specs.Head.{has_open_head, LeavesBlocks}
 use Rattle.cyc_buffer.specs.History.{new_history}
 use Rattle.cyc_buffer.specs.declared.buffer.Buffer.{Buffer}
 use Rattle.news_terms.specs.Places as places
+use Rattle.relay_conf.specs.Places.{numbered_buffers}
+use Rattle.relay_conf.specs.declared.cycbuff.BufferConf.{BufferConf}
 use Rattle.relay_conf.specs.Settings.{places_of_buffers, places_of_groups}
 use Rattle.relay_conf.specs.declared.settings.Buffers.{Buffers}
 use Rattle.relay_model.specs.Terms.{Terms}
@@ -93,3 +96,12 @@ IsBeginRefusal g stores (begins.Device number store) = HasFailedAt g stores numb
 abbrev pub AreNewRacks : List places.Group → List Rack → Type 0
 AreNewRacks groups racks =
     (h : ℕ) (group : places.Group) → slice_get groups h ≡ Some group → HasRack racks [] h group
+
+-- the buffers that these numbers stand for
+abbrev pub members : List BufferConf → List ℕ → List places.Buffer
+members all numbers = filter_map (slice_get (numbered_buffers all)) numbers
+
+-- these are the numbers and the blocks of the buffers that a list stands for
+pub record IsNamed (all : List BufferConf) (list own_numbers own_blocks : List ℕ) : Type 0 where
+  pub numbers : own_numbers ≡ map (λ (buffer : places.Buffer). buffer.number) (members all list)
+  pub blocks : own_blocks ≡ blocks_in (members all list)

@@ -80,5 +80,6 @@ pub record KeepsTexts {S : Type 0} {g : Ghosts S} (trusted : Bool) (shelf : Shel
   pub count : length shelf.buffers.items ≡ length w.buffers
   pub buffers : (b : ℕ) (buffer : places.Buffer) → slice_get w.buffers b ≡ Some buffer
       → HasBuffer trusted shelf.buffers.items w.groups begun kept openings failures b buffer
+  pub rack_count : length shelf.racks.items ≡ length w.groups
   pub racks : (h : ℕ) (group : Group) → slice_get w.groups h ≡ Some group
       → HasRack shelf.racks.items (begun h) h group

@@ -1,10 +1,16 @@
 pub mod Arming
 pub mod Calls
 pub mod Devices
+pub mod Each
 pub mod Figures
 pub mod Filling
+pub mod Heads
 pub mod Histories
 pub mod Keeping
 pub mod Openings
 pub mod Picking
 pub mod Reading
+pub mod Restarting
+pub mod Resuming
+pub mod Starting
+pub mod Stopping

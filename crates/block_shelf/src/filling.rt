@@ -2,7 +2,7 @@
 ghost use Rattle.std.specs.Prelude.{◌≡◌, ◌≤◌, [], length, map, IfOk, IfErr};
 ghost use Rattle.cyc_buffer.specs.Head.{IsFormatRefusal};
 ghost use Rattle.block_shelf.specs.Filling.{KeepsNothing, IsNewOver, AreNewOver, AreNewRacks};
-ghost use Rattle.block_shelf.specs.Filling.{IsRefusalOver, IsShelfRefusal};
+ghost use Rattle.block_shelf.specs.Filling.{IsNamed, IsRefusalOver, IsShelfRefusal};
 ghost use Rattle.block_shelf.specs.declared.filling.ShelfError.TheVariants as errors;
 ghost use Rattle.block_shelf.specs.Keeping.{KeepsRack};
 ghost use Rattle.relay_conf.specs.Places.{group_view, group_over, numbered_buffers};
@@ -124,18 +124,38 @@ impl Rack {
         ensures { IfOk result (λ rack. KeepsRack rack
             (group_over (numbered_buffers all.now) (group_view group.now)) []) }
     {
-        let mut numbers = Vec::with_capacity(alloc, group.buffers.len())?;
-        let mut blocks = Vec::with_capacity(alloc, group.buffers.len())?;
-        for number in &group.buffers {
-            let Some(buffer) = all.get(*number) else {
-                continue;
-            };
-            numbers.push(*number)?;
-            blocks.push(buffer.blocks)?;
-        }
+        let Members { numbers, blocks } = members_of(alloc, all, group)?;
         Ok(Rack {
             group: Group::new(group.mode, blocks),
             numbers,
         })
     }
+}
+
+/// The numbers of a group's buffers, and how many blocks each has.
+#[derive(Drop)]
+pub(crate) struct Members {
+    pub(crate) numbers: Vec<usize>,
+    pub(crate) blocks: Vec<u32>,
+}
+
+/// Numbers and blocks of the buffers that a group names.
+pub(crate) fn members_of(
+    alloc: Global,
+    all: &[BufferConf],
+    group: &GroupConf,
+) -> Result<Members, AllocError>
+    ensures { IfOk result (λ members.
+        IsNamed all.now group.now.buffers.items members.numbers.items members.blocks.items) }
+{
+    let mut numbers = Vec::with_capacity(alloc, group.buffers.len())?;
+    let mut blocks = Vec::with_capacity(alloc, group.buffers.len())?;
+    for number in &group.buffers {
+        let Some(buffer) = all.get(*number) else {
+            continue;
+        };
+        numbers.push(*number)?;
+        blocks.push(buffer.blocks)?;
+    }
+    Ok(Members { numbers, blocks })
 }

@@ -13,4 +13,5 @@ new_buffers-requires g c =
 pub returns-clause-nothing : goal.returns-clause-nothing
 returns-clause-nothing g c = λ trusted honest w all groups.
     nothing_kept c.args.settings.now c.args.stores.items _ trusted honest w all groups c.requires
-    c.in_ok-buffers.ensures.over c.args.settings.now.sound c.in_ok-racks.ensures.racks
+    c.in_ok-buffers.ensures.over c.args.settings.now.sound c.in_ok-racks.ensures.count
+    c.in_ok-racks.ensures.racks

@@ -1,6 +1,6 @@
 use Rattle.std.proofs.Common.{take}
-use Rattle.block_shelf.proofs.NewShelf.{IsNamed}
-use Rattle.block_shelf.proofs.shelf.Rack.new.Given as goal
+use Rattle.block_shelf.specs.Filling.{IsNamed}
+use Rattle.block_shelf.proofs.filling.members_of.Given as goal
 
 -- numbers and blocks so far are those of the buffers that are named so far
 abbrev pub invariant-loop-number : goal.invariant-loop-number

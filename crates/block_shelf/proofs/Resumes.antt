@@ -1,0 +1,180 @@
+-- The groups of a started shelf are where they were.
+use Rattle.std.proofs.Common.{◌≡◌, ◌∙◌, ℕ, ◌+◌, ◌*◌, ◌<◌, ◌≤◌, Bool, true, arith, refl, sym, ap, subst}
+use Rattle.std.proofs.Common.{List, length, map, Option, Some, slice_get, slice_index_or, unwrap_or}
+use Rattle.std.proofs.Common.{option_map}
+use Rattle.std.proofs.Math.Nat.{mod-lt}
+use Rattle.std.proofs.lemmas.List.{length-map}
+use Rattle.std.proofs.lemmas.Option.{same_Some, slice_get-map, slice_get_within}
+use Rattle.cyc_block.specs.declared.store.BlockStore.{Ghosts}
+use Rattle.cyc_buffer.specs.Agreement.{Agrees}
+use Rattle.cyc_buffer.specs.Head.{inside}
+use Rattle.cyc_buffer.specs.History.{History, asked, cycle_of, front_of}
+use Rattle.cyc_buffer.specs.Stopped.{used_of}
+use Rattle.cyc_buffer.specs.declared.buffer.Buffer.{Buffer}
+use Rattle.cyc_buffer.specs.declared.unopened.Unopened.{Unopened}
+use Rattle.news_terms.proofs.PickedPlaces.{used_of_position}
+use Rattle.news_terms.specs.Picks.{begins_in, room_of}
+use Rattle.news_terms.specs.Picks as picks
+use Rattle.news_terms.specs.Places as places
+use Rattle.news_terms.specs.Places.{Group, Mode, Interleave, Sequential, head_after}
+use Rattle.news_terms.specs.Positions.{Position, position_by, position_of}
+use Rattle.relay_conf.proofs.ListPlaces.{holds_at, mapped_at}
+use Rattle.relay_conf.specs.Places.{group_over, group_view, mode_view, numbered_buffers}
+use Rattle.relay_conf.specs.declared.cycbuff.GroupConf.{GroupConf}
+use Rattle.relay_conf.specs.declared.cycbuff.Mode as confs
+use Rattle.relay_conf.specs.declared.cycbuff.Mode.TheVariants as modes
+use Rattle.relay_conf.specs.declared.settings.Buffers.{Buffers}
+use Rattle.relay_model.specs.State.{Kept}
+use Rattle.relay_model.specs.Terms.{Terms}
+use Rattle.block_shelf.proofs.ShelfCalls.{read_there}
+use Rattle.block_shelf.proofs.ShelfReads.{some_there}
+use Rattle.block_shelf.specs.Each.{AreEach}
+use Rattle.block_shelf.specs.Keeping.{KeepsRack}
+use Rattle.block_shelf.specs.Resuming.{HasCurrent, IsResumedAt, IsUsedAt, ResumesRack}
+use Rattle.block_shelf.specs.Starting.{BuffersKeep, ResumeRacks}
+use Rattle.block_shelf.specs.declared.shelf.Rack.{Rack}
+
+-- what a buffer says of its cycle, its blocks and its front says how much of the cycle is used
+pub used_is : {S : Type 0} {g : Ghosts S} (trusted : Bool) (code : Buffer S g) (h : History)
+    → Agrees trusted code h → (cycle blocks front : ℕ) → cycle ≡ cycle_of h
+    → blocks ≡ h.buffer.blocks → front ≡ front_of h
+    → (front ≡ cycle * blocks + used_of h) × (used_of h ≤ blocks)
+used_is trusted code h agrees cycle blocks front is_cycle is_blocks is_front = (
+  is_front ∙ ap (λ n. n * h.buffer.blocks + used_of h) (sym is_cycle)
+      ∙ ap (λ n. cycle * n + used_of h) (sym is_blocks),
+  omega (
+    arith,
+    code.register.line.within,
+    agrees.keeps.used,
+    ap (λ (b : places.Buffer). b.blocks) agrees.keeps.buffer,
+    is_blocks,
+  ),
+)
+
+-- the started buffer that was read at a place is the one that stands there
+pub code_at : {S : Type 0} {g : Ghosts S} (unopened : List (Unopened S g)) (n i : ℕ)
+    (one : Unopened S g) (code : Buffer S g) → n ≡ i → i < length unopened
+    → one ≡ slice_index_or unopened i one → slice_get (map inside unopened) n ≡ Some code
+    → code ≡ inside one
+code_at unopened n i one code is within read there =
+    same_Some code (inside one)
+    (sym there ∙ slice_get-map inside unopened n
+    ∙ ap (option_map inside) (ap (slice_get unopened) is ∙ read_there unopened i one within read))
+
+-- a position is its two parts
+position_parts : (p : Position) (index used : ℕ) → p.index ≡ index → p.used ≡ used
+    → p ≡ record { index = index; used = used }
+position_parts p index used is_index is_used =
+    ap (λ i. record { index = i; used = p.used }) is_index
+    ∙ ap (λ u. record { index = index; used = u }) is_used
+
+-- what is used, by the mode
+used_by_mode : (m : confs.Mode) (buffers : List places.Buffer) (begun : List ℕ) (used : ℕ)
+    → (m ≡ modes.Interleave → used ≡ 0)
+    → (m ≡ modes.Sequential → used ≡ (position_by Sequential buffers begun).used)
+    → (position_by (mode_view m) buffers begun).used ≡ used
+used_by_mode modes.Interleave buffers begun used turns filled = sym (turns refl)
+used_by_mode modes.Sequential buffers begun used turns filled = sym (filled refl)
+
+module _ {S : Type 0} {g : Ghosts S} (codes : List (Buffer S g)) (m : confs.Mode)
+    (buffers : List places.Buffer) (begun : List ℕ) where
+  -- the group
+  abbrev pub group_of : Group
+  group_of = record { mode = mode_view m; buffers = buffers }
+
+  -- the group is where it was, at this position
+  pub resumed : HasCurrent codes group_of begun → (position used : ℕ) (numbers : List ℕ)
+      (number : Option ℕ) → (position_of group_of begun).index ≡ position
+      → numbers ≡ map (λ (b : places.Buffer). b.number) buffers
+      → number ≡ slice_get numbers position → (m ≡ modes.Interleave → used ≡ 0)
+      → (m ≡ modes.Sequential → IsUsedAt codes number used)
+      → position_of group_of begun ≡ record { index = position; used = used }
+  resumed has position used numbers number at named read turns filled =
+      position_parts (position_of group_of begun) position used at
+      (used_by_mode m buffers begun used turns (λ is.
+      filled is has.buffer.number has.code has.history
+      (read ∙ ap (λ ns. slice_get ns position) named
+      ∙ slice_get-map (λ (b : places.Buffer). b.number) buffers position
+      ∙ ap (λ i. option_map (λ (b : places.Buffer). b.number) (slice_get buffers i)) (sym at)
+      ∙ ap (option_map (λ (b : places.Buffer). b.number)) has.there)
+      has.code_there has.agrees
+      ∙ has.used (ap mode_view is)
+      ∙ ap (λ each. (position_by (mode_view each) buffers begun).used) is))
+
+  -- its position is one of its buffers
+  pub position_inside : HasCurrent codes group_of begun
+      → (position_of group_of begun).index < length buffers
+  position_inside has = slice_get_within buffers (position_of group_of begun).index has.buffer has.there
+
+-- a group with a buffer is at one of its buffers
+position_within : (group : Group) (begun : List ℕ) → 0 < length group.buffers
+    → (position_of group begun).index < length group.buffers
+position_within group begun some = by group.mode
+  where
+    by : (mode : Mode) → (position_by mode group.buffers begun).index < length group.buffers
+    by Interleave = mod-lt (length begun) some
+    by Sequential = mod-lt (head_after (room_of group.buffers) begun).run some
+
+module _ {S : Type 0} {g : Ghosts S} (codes : List (Buffer S g)) (w : Terms)
+    (begun : ℕ → List ℕ) (kept : List Kept) (failures : ℕ → ℕ)
+    (keeps : BuffersKeep codes w begun kept failures) where
+  -- the current buffer of a group is among the buffers that keep what is said
+  pub current : (h : ℕ) (group : Group) → slice_get w.groups h ≡ Some group
+      → HasCurrent codes group (begun h)
+  current h group at =
+      let index : ℕ = (position_of group (begun h)).index in
+      let one = some_there group.buffers index
+      (position_within group (begun h)
+      (holds_at (λ (each : Group). 1 ≤ length each.buffers) w.groups keeps.sound.filled h group at))
+      in
+      let k = keeps.sound.named h index one.0
+      (record { group = group; is_group = at; is_buffer = one.1 }) in
+      let had = keeps.buffers k.0 one.0 k.1 in
+      let number : one.0.number ≡ k.0 = keeps.numbered k.0 one.0 k.1 in
+      let history : History = had.keeps.history in
+      record {
+        buffer = one.0;
+        there = one.1;
+        code = had.code;
+        code_there = ap (slice_get codes) number ∙ had.there;
+        history = history;
+        agrees = had.keeps.agrees;
+        used = λ mode.
+            ap (λ begins. (picks.head_of history.buffer.blocks begins).used)
+            (had.keeps.is_said.begins.picked h index group at
+            (one.1 ∙ ap Some (sym had.keeps.is_of_buffer)))
+            ∙ ap (λ (b : places.Buffer).
+            (picks.head_of b.blocks (begins_in group index (begun h))).used)
+            had.keeps.is_of_buffer
+            ∙ used_of_position group (begun h) mode (keeps.fit h group at) one.0 one.1;
+      }
+
+-- the racks are those of the settings' groups
+pub racks_resumed : {S : Type 0} {g : Ghosts S} (settings : Buffers) (positions : List ℕ)
+    (codes : List (Buffer S g)) (racks : List Rack)
+    → AreEach (IsResumedAt settings.buffers.items positions codes) settings.groups.items racks
+    → ResumeRacks settings positions codes racks
+racks_resumed settings positions codes racks are w begun kept failures groups keeps are_at = record {
+  count = are.count
+      ∙ sym (ap length groups
+      ∙ length-map (map group_view settings.groups.items)
+      (group_over (numbered_buffers settings.buffers.items))
+      ∙ length-map settings.groups.items group_view);
+  each = λ h group at.
+      let a = mapped_at (group_over (numbered_buffers settings.buffers.items))
+      (map group_view settings.groups.items) h group
+      (ap (λ all. slice_get all h) (sym groups) ∙ at) in
+      let b = mapped_at group_view settings.groups.items h a.0 a.1 in
+      let same : group_over (numbered_buffers settings.buffers.items) (group_view b.0) ≡ group =
+      ap (group_over (numbered_buffers settings.buffers.items)) b.2 ∙ a.2 in
+      let rack = are.each h b.0 b.1 in
+      let resumes : ResumesRack group (unwrap_or (slice_get positions h) 0) codes rack.item =
+      subst (λ each. ResumesRack each (unwrap_or (slice_get positions h) 0) codes rack.item) same
+      rack.belongs in
+      record {
+        code = rack.item;
+        there = rack.there;
+        keeps = resumes (begun h) (sym (ap (λ o. unwrap_or o 0) (are_at.each h group at)))
+            (current codes w begun kept failures keeps h group at);
+      };
+}

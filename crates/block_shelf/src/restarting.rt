@@ -1,0 +1,67 @@
+//! How a shelf is stopped and started again in place.
+ghost use Rattle.std.specs.Prelude.{◌≡◌, ◌^◌, ◌<◌, IfErr, OnOk};
+ghost use Rattle.block_shelf.specs.Restarting.{AreRestarted, IsBusyRestart, KeepsOn};
+ghost use Rattle.block_shelf.specs.Restarting.{IsOtherFault, RestartsNext, restart_fault};
+
+use crate::shelf::Shelf;
+use crate::stopping::number_of;
+use cyc_block::BlockStore;
+use cyc_buffer::{RestartError, StartError};
+use std::alloc::Global;
+
+/// Why a shelf isn't stopped and started again, in the order of trial.
+#[derive(Clone, Copy, Debug, PartialEq, Eq)]
+pub enum RestartFault {
+    /// A write is open in one of its buffers.
+    Busy,
+    /// Memory was refused.
+    Memory,
+    /// The buffer of this number isn't started again: its device failed, or doesn't give back what
+    /// was written.
+    Failed(u8),
+}
+
+impl<S: BlockStore> Shelf<S> {
+    /// Stops each buffer under this number and starts it again, in their order. Refused as Busy
+    /// before a device is called. Memory is taken of one buffer after the other, and given back.
+    pub fn restart(&mut self, alloc: Global, stop: u64) -> Result<(), RestartFault>
+        // Done or refused, what was kept still is.
+        ensures keeps { KeepsOn self.old result self.new }
+        ensures restarted { OnOk result (AreRestarted stop self.old self.new) }
+        ensures busy { IfErr result (λ fault. IsBusyRestart self.old fault self.new) }
+    {
+        if self.is_busy() {
+            return Err(RestartFault::Busy);
+        }
+        for place in 0..self.buffers.len() {
+            self.restart_buffer(alloc, place, stop)?;
+        }
+        Ok(())
+    }
+
+    /// Stops the buffer at this place and starts it again; where there is none nothing is done.
+    fn restart_buffer(&mut self, alloc: Global, place: usize, stop: u64) -> Result<(), RestartFault>
+        ensures keeps { KeepsOn self.old result self.new }
+        ensures restarted { OnOk result (RestartsNext stop place self.old self.new) }
+        ensures other { IfErr result IsOtherFault }
+    {
+        let Some(buffer) = self.buffers.get_mut(place) else {
+            return Ok(());
+        };
+        match buffer.restart(alloc, stop) {
+            Ok(_tokens) => Ok(()),
+            Err(error) => Err(fault_of(place, &error)),
+        }
+    }
+}
+
+/// The fault of the shelf where the buffer at this place isn't restarted.
+fn fault_of(place: usize, error: &RestartError) -> RestartFault
+    ensures fault { place < 2 ^ 8 → result ≡ restart_fault error.now place }
+    ensures other { IsOtherFault result }
+{
+    match error {
+        RestartError::Start(StartError::Memory) => RestartFault::Memory,
+        _ => RestartFault::Failed(number_of(place)),
+    }
+}

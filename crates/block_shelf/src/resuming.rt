@@ -1,0 +1,124 @@
+//! The groups of a shelf that is started, as they were.
+ghost use Rattle.std.specs.Prelude.{◌≡◌, ◌≤◌, ◌<◌, Bool, ℕ, IfOk, length, slice_get, unwrap_or};
+ghost use Rattle.block_shelf.specs.Resuming.{IsUsedAt, ResumesRack};
+ghost use Rattle.block_shelf.specs.Starting.{ResumeRacks, buffers_inside};
+ghost use Rattle.cyc_buffer.specs.Agreement.{Agrees};
+ghost use Rattle.cyc_buffer.specs.History.{History};
+ghost use Rattle.cyc_buffer.specs.Stopped.{used_of};
+ghost use Rattle.relay_conf.specs.Places.{group_view, group_over, numbered_buffers};
+ghost use Rattle.relay_conf.specs.declared.cycbuff.Mode.TheVariants as modes;
+
+use crate::filling::{Members, members_of};
+use crate::shelf::Rack;
+use buffer_group::Group;
+use cyc_block::BlockStore;
+use cyc_buffer::{Buffer, Unopened};
+use relay_conf::{BufferConf, Buffers, GroupConf, Mode};
+use std::alloc::{AllocError, Global};
+
+/// The racks of all groups, at these positions, over started buffers.
+pub(crate) fn resume_racks<S: BlockStore>(
+    alloc: Global,
+    settings: &Buffers,
+    buffers: &[Unopened<S>],
+    positions: &[u32],
+) -> Result<Vec<Rack>, AllocError>
+    ensures { IfOk result (λ racks. ResumeRacks settings.now positions.now
+        (buffers_inside buffers.now) racks.items) }
+{
+    let mut racks = Vec::with_capacity(alloc, settings.groups.len())?;
+    for (place, group) in settings.groups.iter().enumerate() {
+        let position = position_in(positions, place);
+        racks.push_reserved(Rack::resume(alloc, &settings.buffers, group, position, buffers)?);
+    }
+    Ok(racks)
+}
+
+/// The position of the group at this place; 0 where there is none.
+fn position_in(positions: &[u32], place: usize) -> usize
+    ensures { result ≡ unwrap_or (slice_get positions.now place) 0 }
+{
+    match positions.get(place) {
+        Some(position) => *position as usize,
+        None => 0,
+    }
+}
+
+impl Rack {
+    /// The rack of a group over started buffers, at this position of it.
+    fn resume<S: BlockStore>(
+        alloc: Global,
+        all: &[BufferConf],
+        group: &GroupConf,
+        position: usize,
+        buffers: &[Unopened<S>],
+    ) -> Result<Rack, AllocError>
+        requires { 1 ≤ length
+            (group_over (numbered_buffers all.now) (group_view group.now)).buffers }
+        ensures { IfOk result (ResumesRack
+            (group_over (numbered_buffers all.now) (group_view group.now)) position
+            (buffers_inside buffers.now)) }
+    {
+        let Members { numbers, blocks } = members_of(alloc, all, group)?;
+        let position = within(position, blocks.len());
+        let used = used_by(group.mode, buffers, number_at(&numbers, position));
+        Ok(Rack {
+            group: Group::resume(group.mode, blocks, position, used),
+            numbers,
+        })
+    }
+}
+
+/// The position, or the first one where a group of so many buffers hasn't it.
+fn within(position: usize, count: usize) -> usize
+    requires { 0 < count }
+    ensures within { result < count }
+    ensures same { position < count → result ≡ position }
+{
+    if position < count { position } else { 0 }
+}
+
+/// The number at this place of a list, where it has one.
+fn number_at(numbers: &[usize], place: usize) -> Option<usize>
+    ensures { result ≡ slice_get numbers.now place }
+{
+    match numbers.get(place) {
+        Some(number) => Some(*number),
+        None => None,
+    }
+}
+
+/// The blocks used of the run of a group whose current buffer has this number: where buffers take
+/// turns these are none.
+fn used_by<S: BlockStore>(mode: Mode, buffers: &[Unopened<S>], number: Option<usize>) -> u32
+    ensures turns { mode ≡ modes.Interleave → result ≡ 0 }
+    ensures filled { mode ≡ modes.Sequential
+        → IsUsedAt (buffers_inside buffers.now) number result }
+{
+    match mode {
+        Mode::Interleave => 0,
+        Mode::Sequential => used_at(buffers, number),
+    }
+}
+
+/// The blocks used in the cycle of the buffer of this number; 0 where there is none.
+fn used_at<S: BlockStore>(buffers: &[Unopened<S>], number: Option<usize>) -> u32
+    ensures { IsUsedAt (buffers_inside buffers.now) number result }
+{
+    let Some(number) = number else {
+        return 0;
+    };
+    match buffers.get(number) {
+        Some(unopened) => used_in(unopened.buffer()),
+        None => 0,
+    }
+}
+
+/// The blocks used in the cycle of a buffer: its front less the place at which the cycle begins.
+fn used_in<S: BlockStore>(buffer: &Buffer<S>) -> u32
+    ensures { (trusted : Bool) (h : History) → Agrees trusted buffer.now h → result ≡ used_of h }
+{
+    let blocks = u64::from(buffer.blocks());
+    let begins = u64::from(buffer.cycle()) * blocks;
+    buffer.front().saturating_sub(begins).min(blocks) as u32
+}
