@@ -120,6 +120,32 @@ impl HostFile {
         self.identity
     }
 
+    /// Reads the octets at a place, as many as the slice has.
+    pub fn read_octets(&mut self, place: u64, octets: &mut [u8]) -> Result<(), DeviceFailed>
+        // It is one call, at this place.
+        ensures asked { asked_of self.new ≡ asked_of self.old ++ (place, is_err result) ∷ [] }
+        ensures failed { OnErr result (failed_in (asked_of self.new)
+            ≡ failed_in (asked_of self.old) + 1) }
+        ensures no_failure { OnOk result (failed_in (asked_of self.new)
+            ≡ failed_in (asked_of self.old)) }
+    {
+        let answer = self.file.read_exact_at(octets, place);
+        self.answer(place, answer)
+    }
+
+    /// Writes these octets at a place.
+    pub fn write_octets(&mut self, place: u64, octets: &[u8]) -> Result<(), DeviceFailed>
+        // It is one call, at this place.
+        ensures asked { asked_of self.new ≡ asked_of self.old ++ (place, is_err result) ∷ [] }
+        ensures failed { OnErr result (failed_in (asked_of self.new)
+            ≡ failed_in (asked_of self.old) + 1) }
+        ensures no_failure { OnOk result (failed_in (asked_of self.new)
+            ≡ failed_in (asked_of self.old)) }
+    {
+        let answer = self.file.write_all_at(octets, place);
+        self.answer(place, answer)
+    }
+
     /// Notes the answer of a call at a place, and says whether it failed.
     fn answer(&mut self, place: u64, answer: io::Result<()>) -> Result<(), DeviceFailed>
         ensures answer { is_err result ≡ is_err answer }
@@ -156,8 +182,7 @@ impl OctetFile for HostFile {
         ensures no_failure { OnOk result (failed_in (asked_of self.new)
             ≡ failed_in (asked_of self.old)) }
     {
-        let answer = self.file.read_exact_at(octets, place);
-        self.answer(place, answer)
+        self.read_octets(place, octets)
     }
 
     fn write(&mut self, place: u64, octets: &[u8; BLOCK_OCTETS]) -> Result<(), DeviceFailed>
@@ -168,8 +193,7 @@ impl OctetFile for HostFile {
         ensures no_failure { OnOk result (failed_in (asked_of self.new)
             ≡ failed_in (asked_of self.old)) }
     {
-        let answer = self.file.write_all_at(octets, place);
-        self.answer(place, answer)
+        self.write_octets(place, octets)
     }
 }
 

@@ -1,0 +1,74 @@
+-- A run that was written is in the file; one that wasn't is gathered still.
+use Rattle.std.proofs.Common.{◌∙◌, length, refl}
+use Rattle.file_blocks.specs.Blocks.{blocks_of}
+use Rattle.run_blocks.proofs.CopyLemmas.{copy_left}
+use Rattle.run_blocks.proofs.RunLemmas.{no_blocks}
+use Rattle.run_blocks.proofs.SeenLemmas.{none_gathered}
+use Rattle.run_blocks.proofs.StoreLemmas.{IsRun, run_heads, run_kept, run_written}
+use Rattle.run_blocks.proofs.store.RunBlocks.flush.Goals as goal
+
+pub returns-then-self-eq0-clause-written : goal.returns-then-self-eq0-clause-written
+returns-then-self-eq0-clause-written g c =
+    let run = c.args.self.now.gathered in
+    no_blocks run.count run.octets.items c.if-self-eq0.true
+
+pub returns-in_err-write-clause-seen : goal.returns-in_err-write-clause-seen
+returns-in_err-write-clause-seen g c =
+    let store = c.args.self.now in
+    let run = store.gathered in
+    let old = g.F.RunFile.held store.file in
+    let new = g.F.RunFile.held c.write.new.self in
+    let place = c.place_of-place.result in
+    let size = length c.octets.result.now in
+    let is : IsRun store.count run.first run.count place size = record {
+      within = store.gathered_within;
+      begins = c.place_of-place.ensures;
+      long = c.octets.ensures.length;
+    } in
+    record {
+      blocks = λ honest. run_kept store.count run.first run.count place size old new
+          run.octets.items is (c.write.ensures.others honest.file);
+      heads = λ honest. run_heads store.count run.first run.count place size old new is
+          (c.write.ensures.others honest.file);
+      honest = λ honest. record {
+        file = c.write.ensures.honest honest.file;
+        ahead = copy_left store.ahead c.give_way.new.self store.count run.first run.count place
+            size old new is (c.write.ensures.others honest.file) c.give_way.ensures.stays
+            c.give_way.ensures.apart honest.ahead;
+      };
+      count = refl;
+    }
+
+pub returns-clause-seen : goal.returns-clause-seen
+returns-clause-seen g c =
+    let store = c.args.self.now in
+    let run = store.gathered in
+    let old = g.F.RunFile.held store.file in
+    let new = g.F.RunFile.held c.write.new.self in
+    let place = c.place_of-place.result in
+    let size = length c.octets.result.now in
+    let is : IsRun store.count run.first run.count place size = record {
+      within = store.gathered_within;
+      begins = c.place_of-place.ensures;
+      long = c.octets.ensures.length;
+    } in
+    record {
+      blocks = λ honest. none_gathered c.clear.new.self.first c.clear.new.self.count
+          c.clear.new.self.octets.items (blocks_of store.count new) c.clear.ensures.none
+          ∙ run_written store.count run.first run.count place size old new c.octets.result.now
+          run.octets.items is c.octets.ensures.blocks (c.write.ensures.others honest.file)
+          (c.in_ok-write.ensures.written honest.file);
+      heads = λ honest. run_heads store.count run.first run.count place size old new is
+          (c.write.ensures.others honest.file);
+      honest = λ honest. record {
+        file = c.write.ensures.honest honest.file;
+        ahead = copy_left store.ahead c.give_way.new.self store.count run.first run.count place
+            size old new is (c.write.ensures.others honest.file) c.give_way.ensures.stays
+            c.give_way.ensures.apart honest.ahead;
+      };
+      count = refl;
+    }
+
+pub returns-clause-written : goal.returns-clause-written
+returns-clause-written g c =
+    no_blocks c.clear.new.self.count c.clear.new.self.octets.items c.clear.ensures.none

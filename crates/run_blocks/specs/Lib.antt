@@ -1,0 +1,5 @@
+pub mod Asked
+pub mod File
+pub mod Overlay
+pub mod Run
+pub mod Store

@@ -1,0 +1,69 @@
+-- What a store of runs holds.
+use Rattle.std.specs.Prelude.{◌≡◌, ◌+◌, ◌<◌, ◌≤◌, ℕ, List, length, Result, OnErr, OnOk}
+use Rattle.cyc_block.specs.Store.{block_at}
+use Rattle.file_blocks.specs.Blocks.{blocks_of, heads_of}
+use Rattle.run_blocks.specs.declared.run.Run.{Run}
+use Rattle.run_blocks.specs.declared.run.TheConstants.{RUN_BLOCKS}
+use Rattle.run_blocks.specs.declared.file.RunFile.{Ghosts}
+use Rattle.run_blocks.specs.declared.store.RunBlocks.{RunBlocks}
+use Rattle.run_blocks.specs.Overlay.{overlaid}
+use Rattle.run_blocks.specs.Run.{blocks_in}
+
+-- the file
+abbrev pub file_of : {F : Type 0} → RunBlocks F → F
+file_of store = store.file
+
+-- how many blocks it has
+abbrev pub count_of : {F : Type 0} → RunBlocks F → ℕ
+count_of store = store.count
+
+-- how often the store was asked
+abbrev pub asked_of : {F : Type 0} → RunBlocks F → ℕ
+asked_of store = length store.asked.items
+
+-- the blocks that were taken and aren't written yet
+abbrev pub gathered_of : {F : Type 0} → RunBlocks F → List (List ℕ)
+gathered_of store = blocks_in store.gathered
+
+-- the blocks in the file
+abbrev pub blocks_there : {F : Type 0} → Ghosts F → RunBlocks F → List (List ℕ)
+blocks_there g store = blocks_of store.count (g.held store.file)
+
+-- what the blocks hold: those in the file, with what is gathered in place of theirs
+abbrev pub blocks_seen : {F : Type 0} → Ghosts F → RunBlocks F → List (List ℕ)
+blocks_seen g store =
+    overlaid store.gathered.first (gathered_of store) (blocks_there g store)
+
+-- what the head blocks hold, which are never gathered
+abbrev pub heads_seen : {F : Type 0} → Ghosts F → RunBlocks F → List (List ℕ)
+heads_seen g store = heads_of store.count (g.held store.file)
+
+-- the blocks of a run are those that stand at its place
+abbrev pub IsCopy : Run → List (List ℕ) → Type 0
+IsCopy run blocks =
+    (j : ℕ) → j < run.count → block_at (blocks_in run) j ≡ block_at blocks (run.first + j)
+
+-- the file is honest, and what was read ahead is as it is in the file
+pub record IsHonest {F : Type 0} (g : Ghosts F) (store : RunBlocks F) : Type 0 where
+  pub file : g.honest store.file
+  pub ahead : IsCopy store.ahead (blocks_there g store)
+
+-- block k can be put behind what is gathered: it follows that, or nothing is gathered
+pub record CanTake {F : Type 0} (store : RunBlocks F) (k : ℕ) : Type 0 where
+  pub room : store.gathered.count < RUN_BLOCKS
+  pub follows : 0 < store.gathered.count → k ≡ store.gathered.first + store.gathered.count
+
+-- no block and no head block of an honest store holds other octets than before, and it stays honest
+pub record KeepsBlocks {F : Type 0} (g : Ghosts F) (old new : RunBlocks F) : Type 0 where
+  pub blocks : IsHonest g old → blocks_seen g new ≡ blocks_seen g old
+  pub heads : IsHonest g old → heads_seen g new ≡ heads_seen g old
+  pub honest : IsHonest g old → IsHonest g new
+  pub count : new.count ≡ old.count
+
+-- The file is called so often at most; one of the calls failed where an error is answered, and none
+-- where not.
+pub record AsksFile {F A E : Type 0} (g : Ghosts F) (most : ℕ) (old new : RunBlocks F)
+    (result : Result A E) : Type 0 where
+  pub calls : g.calls new.file ≤ g.calls old.file + most
+  pub failed : OnErr result (g.failures new.file ≡ g.failures old.file + 1)
+  pub no_failure : OnOk result (g.failures new.file ≡ g.failures old.file)

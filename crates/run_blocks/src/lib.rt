@@ -1,0 +1,17 @@
+//! Stores of blocks in files that are read and written in runs of blocks that follow each other
+//! (docs/FORMATS.md, Blocks on the device).
+//!
+//! What is written is gathered first: blocks that follow each other go to the file in one call.
+//! What is gathered is read out of memory. A store keeps what a store promises as far as its file
+//! is honest, and the write of an article's last block leaves nothing gathered.
+#![tactic(auto)]
+
+mod file;
+mod host;
+mod last;
+mod run;
+mod store;
+
+pub use file::RunFile;
+pub use run::RUN_BLOCKS;
+pub use store::RunBlocks;
