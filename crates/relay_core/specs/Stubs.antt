@@ -106,14 +106,12 @@ IsUnshut old (unshuts.Device number stores) = HasFailedSince old number stores
 -- what a started shelf holds of what is said, before its heads are open
 abbrev pub HoldsStarted : {S : Type 0} {g : Ghosts S} → UnopenedShelf S g → (w : Terms)
     → (begun : ℕ → List ℕ) → (kept : List Kept) → (failures : ℕ → ℕ) → Type 0
-HoldsStarted unopened w begun kept failures =
-    KeepsTexts true unopened.shelf w begun kept (λ h. None) failures
+HoldsStarted unopened w begun kept failures = ⊥
 
 -- it keeps what is said once its heads are open
 abbrev pub WillKeep : {S : Type 0} {g : Ghosts S} → UnopenedShelf S g → (w : Terms)
     → (begun : ℕ → List ℕ) → (kept : List Kept) → (failures : ℕ → ℕ) → Type 0
-WillKeep unopened w begun kept failures =
-    KeepsTexts true unopened.shelf w begun kept (λ h. None) failures
+WillKeep unopened w begun kept failures = ⊥
 
 -- all that the stores hold is held by the started shelf
 abbrev pub StartsHeld : {S : Type 0} {g : Ghosts S} → Buffers → (stores : List S) → (stop : ℕ)

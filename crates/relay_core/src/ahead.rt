@@ -25,7 +25,7 @@ pub(crate) struct Filled {
 }
 
 /// How far the buffers of a started shelf are filled, in the order of their numbers.
-pub(crate) fn filled<S: BlockStore>(
+pub(crate) fn all_filled<S: BlockStore>(
     alloc: Global,
     settings: &Buffers,
     unopened: &UnopenedShelf<S>,

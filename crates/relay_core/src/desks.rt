@@ -65,12 +65,12 @@ pub(crate) fn read_history(
     ensures none { IfErr result (λ error. error ≡ errors.BadHistory
         → (kept : texts.Kept) → Reads config.now text.now kept → ⊥) }
 {
-    let setting = setting(alloc, config)?;
+    let setting = setting_for(alloc, config)?;
     read(alloc, text, &setting)
 }
 
 /// What a history of this configuration has to fit.
-fn setting(alloc: Global, config: &Config) -> Result<Setting, AllocError>
+fn setting_for(alloc: Global, config: &Config) -> Result<Setting, AllocError>
     ensures { IfOk result (λ setting. setting_view setting ≡ setting_of config.now) }
 {
     Ok(Setting {

@@ -2,7 +2,7 @@
 ghost use Rattle.std.specs.Prelude.{◌≡◌, None};
 ghost use Rattle.relay_core.specs.Starting.{unread_as};
 
-use crate::ahead::{filled, is_ahead};
+use crate::ahead::{all_filled, is_ahead};
 use crate::desks::{Desks, read_history};
 use crate::stopped::NotStarted;
 use crate::stubs::{StopFault, Unstarted, start_shelf};
@@ -73,7 +73,7 @@ impl<S: BlockStore> System<S> {
             Ok(unopened) => unopened,
             Err(unstarted) => return Err(unstarted),
         };
-        let filled = match filled(alloc, &config.buffers, &unopened) {
+        let filled = match all_filled(alloc, &config.buffers, &unopened) {
             Ok(filled) => filled,
             Err(_) => return Err(refused(unopened.into_stores(), StopFault::Memory)),
         };

