@@ -18,7 +18,7 @@ use Rattle.relay_model.specs.State.{State, Feed}
 use Rattle.relay_model.specs.Terms.{Terms}
 use Rattle.relay_model.specs.World.{World}
 use Rattle.relay_core.specs.Agreement.{Agrees, ring_sizes}
-use Rattle.relay_core.specs.Stubs.{ArePositions, HasFailedSince, HoldsTexts, IsBusy}
+use Rattle.relay_core.specs.Stubs.{ArePositions, HoldsTexts, IsBusyShelf, IsShutPartly}
 use Rattle.relay_core.specs.declared.stopped.Unstopped.{Unstopped}
 use Rattle.relay_core.specs.declared.stopped.Unstopped.TheVariants as unstoppeds
 use Rattle.relay_core.specs.declared.system.System.{System}
@@ -102,13 +102,13 @@ abbrev pub ComesBack : {S : Type 0} {g : Ghosts S} → System S g → Unstopped 
 ComesBack old (unstoppeds.NotIdle back) = (back ≡ old) × IsStoring old
 ComesBack old (unstoppeds.Memory back) = (back ≡ old) × IsAtRest old
 ComesBack old (unstoppeds.Device number stores) =
-    IsAtRest old × HasFailedSince old.shelf number stores.items
+    IsAtRest old × IsShutPartly old.shelf number stores.items
 
 -- the same by the shelf alone
 abbrev pub IsFromShelf : {S : Type 0} {g : Ghosts S} → System S g → Unstopped S g → Type 0
-IsFromShelf old (unstoppeds.NotIdle back) = (back ≡ old) × IsBusy old.shelf
+IsFromShelf old (unstoppeds.NotIdle back) = (back ≡ old) × IsBusyShelf old.shelf
 IsFromShelf old (unstoppeds.Memory back) = back ≡ old
-IsFromShelf old (unstoppeds.Device number stores) = HasFailedSince old.shelf number stores.items
+IsFromShelf old (unstoppeds.Device number stores) = IsShutPartly old.shelf number stores.items
 
 -- this is left of the feeds that the relay's desk keeps
 abbrev pub AreKeptFeeds : {S : Type 0} {g : Ghosts S} → System S g → List KeptFeed → Type 0

@@ -3,7 +3,7 @@
 use crate::desks::{Desks, read_history};
 use crate::event::{CoreError, Output};
 use crate::idle::is_idle;
-use crate::stubs::{RestartFault, restart_shelf};
+use crate::stubs::{RestartFault, restart};
 use crate::system::System;
 use cyc_block::BlockStore;
 use history_text::HistoryError;
@@ -34,7 +34,7 @@ impl<S: BlockStore> System<S> {
             Err(HistoryError::Memory) => return Output::Refused(CoreError::Memory),
             Err(HistoryError::BadHistory) => return Output::Refused(CoreError::NotRestarted),
         };
-        match restart_shelf(&mut self.shelf, self.alloc, stop) {
+        match restart(&mut self.shelf, self.alloc, stop) {
             Ok(()) => {
                 self.begin_again(desks, stop);
                 Output::Quiet

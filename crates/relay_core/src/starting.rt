@@ -5,7 +5,7 @@ ghost use Rattle.relay_core.specs.Starting.{unread_as};
 use crate::ahead::{all_filled, is_ahead};
 use crate::desks::{Desks, read_history};
 use crate::stopped::NotStarted;
-use crate::stubs::{StopFault, Unstarted, start_shelf};
+use crate::stubs::{StopFault, Unstarted, start};
 use crate::system::System;
 use cyc_block::BlockStore;
 use history_text::HistoryError;
@@ -15,9 +15,9 @@ use std::alloc::Global;
 use std::hash::RandomState;
 use std::random::RandomSource;
 
-impl<S: BlockStore> System<S> {
+impl<S: BlockStore + Drop> System<S> {
     ghost use Rattle.std.specs.Prelude.{◌≡◌, IfErr, IfOk, length, map};
-    ghost use Rattle.relay_core.specs.Starting.{IsNotStarted, IsUnstarted, StartsOver};
+    ghost use Rattle.relay_core.specs.Starting.{IsNotStarted, IsRefusedRightly, StartsOver};
 
     /// The relay over the stores of one that was closed, the i-th for buffer i, from the text of its
     /// history. It is refused in the order of StopFault; want of memory may come in place of each.
@@ -56,14 +56,14 @@ impl<S: BlockStore> System<S> {
         requires { map (λ store. length (S.blocks store)) stores.items
             ≡ map (λ buffer. buffer.blocks) config.buffers.buffers.items }
         ensures started { IfOk result (StartsOver config stores.items text.now) }
-        ensures refused { IfErr result (IsUnstarted S.BlockStore config stores.items text.now) }
+        ensures refused { IfErr result (IsRefusedRightly S.BlockStore config stores.items text.now) }
     {
         // A text that can't be read refuses before a store is called.
         let history = match read_history(alloc, &config, text) {
             Ok(history) => history,
             Err(error) => return Err(refused(stores, unread(error))),
         };
-        let unopened = match start_shelf(
+        let unopened = match start(
             alloc,
             &config.buffers,
             stores,

@@ -1,7 +1,7 @@
 //! How the relay is closed (docs/PROTOCOL.md, Clean stop and start).
 use crate::idle::is_idle;
 use crate::stopped::{Stopped, Unstopped};
-use crate::stubs::{Unshut, positions, shut_shelf};
+use crate::stubs::{Unshut, positions, shut};
 use crate::system::System;
 use cyc_block::BlockStore;
 use history_text::{History, KeptFeed, write};
@@ -54,7 +54,7 @@ impl<S: BlockStore> System<S> {
             expirer,
             stop: last,
         } = self;
-        match shut_shelf(shelf, alloc, stop) {
+        match shut(shelf, alloc, stop) {
             Ok(stores) => Ok(Stopped { stores, history }),
             Err(Unshut::Device(number, stores)) => Err(Unstopped::Device(number, stores)),
             Err(Unshut::Busy(shelf)) => Err(Unstopped::NotIdle(System {
@@ -100,7 +100,7 @@ impl<S: BlockStore> System<S> {
     pub(crate) fn text(&self, stop: u64) -> Result<Vec<u8>, AllocError>
         ensures { IfOk result (λ text. TellsHistory self.now stop text.items) }
     {
-        let positions = positions(self.alloc, &self.shelf)?;
+        let positions = positions(&self.shelf, self.alloc)?;
         // There are no more groups.
         if positions.len() > GROUP_LIMIT {
             return Err(AllocError);
