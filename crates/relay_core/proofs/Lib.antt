@@ -3,6 +3,7 @@ mod Beginnings
 mod Chunks
 mod Dues
 mod Feeds
+mod Fillings
 mod Forgetting
 mod Found
 mod Hearing

@@ -1,28 +1,33 @@
 -- A relay that is closed: nothing is open in it, and its history is that of each world.
-use Rattle.std.proofs.Common.{◌≡◌, ◌∙◌, ◌<◌, ◌+◌, ◌++◌, ℕ, Bool, true, false, List, [], ◌∷◌}
+use Rattle.std.proofs.Common.{◌≡◌, ◌∙◌, ◌<◌, ◌≤◌, ◌+◌, ◌++◌, ℕ, Bool, true, false, List, [], ◌∷◌}
 use Rattle.std.proofs.Common.{Option, None, Some, refl, sym, ap, subst, true≢false, length, map, arith}
 use Rattle.std.proofs.Common.{◌⊎◌, inl, inr, slice_get}
-use Rattle.std.proofs.lemmas.List.{length-append}
+use Rattle.std.proofs.lemmas.List.{length-append, length-map, map_push}
 use Rattle.std.proofs.lemmas.Option.{none-some}
 use Rattle.std.specs.Prelude.{option_map, slice_index}
 use Rattle.article_verdict.specs.Config.{terms_of}
 use Rattle.block_shelf.specs.Keeping.{KeepsTexts}
 use Rattle.block_shelf.specs.Openings.{Opening}
 use Rattle.cyc_block.specs.declared.store.BlockStore.{Ghosts}
-use Rattle.feed_queue.specs.Feeds.{KeepsFeeds}
+use Rattle.feed_queue.specs.Feeds.{KeepsFeeds, ring_count}
+use Rattle.feed_queue.specs.Permission.{feed_view as conf_view}
+use Rattle.feed_queue.specs.declared.desk.FeedDesk.{FeedDesk}
 use Rattle.feed_queue.specs.Left.{AreLeft, IsLeft}
 use Rattle.history_text.specs.History.{Fits, KeptFeed, history_octets}
 use Rattle.history_text.specs.History as texts
+use Rattle.history_text.specs.Views.{feed_view}
+use Rattle.history_text.specs.declared.kept.KeptFeed as code
 use Rattle.id_history.specs.Lasting.{AreLasting, lasting}
 use Rattle.id_history.specs.Shards.{KeepsAll}
 use Rattle.relay_conf.proofs.ListPlaces.{at_pushed}
+use Rattle.relay_conf.specs.declared.settings.Config.{Config}
 use Rattle.relay_facts.specs.Started.{newest_kept}
 use Rattle.relay_model.specs.Claims as claims
 use Rattle.relay_model.specs.Claims.{Claim, after_restart, is_storing}
 use Rattle.relay_model.specs.Invariants.{IsAt, IsWell}
 use Rattle.relay_model.specs.State as model
 use Rattle.relay_model.specs.State.{in_phase}
-use Rattle.relay_model.specs.Terms.{Terms}
+use Rattle.relay_model.specs.Terms.{FeedTerms, Terms}
 use Rattle.relay_model.specs.World as world
 use Rattle.relay_model.specs.World.{World}
 use Rattle.relay_core.specs.Agreement.{Agrees, IsGone, ring_sizes}
@@ -101,6 +106,39 @@ left_joins n kept one sizes feed before is =
     by_place f other (inr last) =
         subst (λ (k : ℕ). IsLeft other (slice_index sizes k) (feed k)) (sym (last.0 ∙ before.count))
         (subst (λ (k : KeptFeed). IsLeft k (slice_index sizes n) (feed n)) last.1 is)
+
+-- the same of what the desk gave
+pub kept_joins : (n : ℕ) (kept more : List code.KeptFeed) (one : code.KeptFeed) (sizes : List ℕ)
+    (feed : ℕ → model.Feed) → more ≡ kept ++ one ∷ []
+    → AreLeftSoFar n (map feed_view kept) sizes feed
+    → IsLeft (feed_view one) (slice_index sizes n) (feed n)
+    → AreLeftSoFar (n + 1) (map feed_view more) sizes feed
+kept_joins n kept more one sizes feed joined before is =
+    subst (λ all. AreLeftSoFar (n + 1) all sizes feed)
+    (sym (ap (map feed_view) joined ∙ map_push feed_view kept one))
+    (left_joins n (map feed_view kept) (feed_view one) sizes feed before is)
+
+module _ (config : Config) where
+  -- there are as many rings as feeds
+  sizes_count : length (ring_sizes (terms_of config)) ≡ length config.relay.feeds.items
+  sizes_count =
+      length-map (terms_of config).feeds (λ (feed : FeedTerms). feed.ring)
+      ∙ length-map config.relay.feeds.items conf_view
+
+  -- no feed of the configuration is missing
+  pub feed_missing : (desk : FeedDesk) (feed : ℕ → model.Feed) (n : ℕ)
+      → KeepsFeeds desk (ring_sizes (terms_of config)) feed
+      → n < length config.relay.feeds.items → ring_count desk ≤ n → ⊥
+  feed_missing desk feed n keeps within past =
+      absurd (omega (arith, keeps.count, sizes_count, within, past))
+
+  -- this is left of all feeds
+  pub all_left : (n : ℕ) (kept : List KeptFeed) (feed : ℕ → model.Feed)
+      → n ≡ length config.relay.feeds.items
+      → AreLeftSoFar n kept (ring_sizes (terms_of config)) feed
+      → AreLeft kept (ring_sizes (terms_of config)) feed
+  all_left n kept feed all so_far =
+      record { count = so_far.count ∙ all ∙ sym sizes_count; each = so_far.each }
 
 -- WHAT CLOSING GIVES
 

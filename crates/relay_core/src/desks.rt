@@ -75,19 +75,20 @@ fn setting_for(alloc: Global, config: &Config) -> Result<Setting, AllocError>
 {
     Ok(Setting {
         buffers: config.buffers.buffers.len() as u32,
-        groups: group_sizes(alloc, &config.buffers)?,
+        groups: group_sizes(alloc, config)?,
         rings: rings(alloc, &config.relay.feeds)?,
     })
 }
 
 /// Of each group how many buffers it has.
-fn group_sizes(alloc: Global, settings: &Buffers) -> Result<Vec<u32>, AllocError>
+fn group_sizes(alloc: Global, config: &Config) -> Result<Vec<u32>, AllocError>
     ensures { IfOk result (λ sizes.
-        sizes.items ≡ map members_of (places_of_groups settings.now)) }
+        sizes.items ≡ map members_of (places_of_groups config.now.buffers)) }
 {
-    let mut sizes = Vec::with_capacity(alloc, settings.groups.len())?;
-    for group in &settings.groups {
-        sizes.push_reserved(members(settings, group) as u32);
+    let groups = &config.buffers.groups;
+    let mut sizes = Vec::with_capacity(alloc, groups.len())?;
+    for group in groups {
+        sizes.push_reserved(members(&config.buffers, group) as u32);
     }
     Ok(sizes)
 }

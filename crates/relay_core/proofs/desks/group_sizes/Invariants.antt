@@ -7,6 +7,6 @@ use Rattle.relay_core.proofs.desks.group_sizes.Given as goal
 abbrev pub invariant-loop-group : goal.invariant-loop-group
 invariant-loop-group l = record {
   count : vec_len l.sizes ≡ l.group-index;
-  room : length l.settings.groups.items ≤ vec_capacity l.sizes;
-  said : l.sizes.items ≡ map members_of (take l.group-index (places_of_groups l.settings));
+  room : length l.config.buffers.groups.items ≤ vec_capacity l.sizes;
+  said : l.sizes.items ≡ map members_of (take l.group-index (places_of_groups l.config.buffers));
 }
