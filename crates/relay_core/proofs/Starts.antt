@@ -1,6 +1,7 @@
 -- A relay that is started from what a stop left.
 use Rattle.std.proofs.Common.{◌≡◌, ◌∙◌, ◌≢◌, ℕ, Bool, true, false, List, [], ◌∷◌, Option, None, Some}
-use Rattle.std.proofs.Common.{refl, sym, ap, subst, length, map, slice_get}
+use Rattle.std.proofs.Common.{refl, sym, ap, subst, length, map, slice_get, true≢false}
+use Rattle.std.proofs.lemmas.Option.{none-some}
 use Rattle.std.specs.Prelude.{option_map}
 use Rattle.std.specs.Global.{Vec}
 use Rattle.std.specs.List.{AllZip}
@@ -32,14 +33,20 @@ use Rattle.relay_core.proofs.Beginnings.{groups_count, idle_lanes, rings_are}
 use Rattle.relay_core.proofs.Records.{lasts_again, record_behind, record_holds, weaker}
 use Rattle.relay_core.proofs.Stops.{IsIdle, ended_gone, lasting_is}
 use Rattle.relay_core.specs.Agreement.{Agrees, AgreesBy, LaneIs, PeerIs, ring_sizes}
-use Rattle.relay_core.specs.Ahead.{filled_of, is_ahead}
+use Rattle.relay_core.specs.Ahead.{TellsFilled, filled_of, filled_view, is_ahead}
 use Rattle.relay_core.specs.Desks.{AreOf, Reads, setting_of}
 use Rattle.relay_core.specs.Expiring.{expirer_view}
-use Rattle.relay_core.specs.Starting.{IsAheadAs, StartsOver}
+use Rattle.relay_core.specs.Starting.{IsAheadAs, IsRefusedRightly, IsStartRefusal, StartsOver}
+use Rattle.relay_core.specs.Starting as reasons
 use Rattle.relay_core.specs.Stopping.{IsHistory, IsShut, Tells, stop_of}
-use Rattle.relay_core.specs.Stubs.{ArePositions, HoldsTexts, IsFromOutside, IsHeldBy, IsOpened}
+use Rattle.relay_core.specs.Stubs.{AreEach, ArePositions, HasCause, HoldsTexts, IsFromOutside}
+use Rattle.relay_core.specs.Stubs.{IsHeldBy, IsOpened, IsUnwritten, KeepsHeld}
+use Rattle.relay_core.specs.Stubs as shelves
 use Rattle.relay_core.specs.Stubs.{IsStartedShelf, KeepsOpened, WillKeepHeld}
+use Rattle.relay_core.specs.declared.ahead.Filled as code
 use Rattle.relay_core.specs.declared.desks.Desks.{Desks}
+use Rattle.relay_core.specs.declared.stubs.StopFault.TheVariants as faults
+use Rattle.relay_core.specs.declared.stubs.Unstarted.{Unstarted}
 use Rattle.relay_core.specs.declared.stubs.UnopenedShelf.{UnopenedShelf}
 use Rattle.relay_core.specs.declared.system.Lane.{Lane}
 use Rattle.relay_core.specs.declared.system.System.{System}
@@ -216,3 +223,114 @@ module _ {S : Type 0} {g : Ghosts S} (config : Config) (stores : List S) where
               well = started_is_well text w at x store shut;
             });
       }
+
+  -- WHY A START IS REFUSED
+
+  module _ (text : List ℕ) (refused : Unstarted S) where
+    -- memory was refused
+    pub no_room : refused.error ≡ faults.Memory → refused.buffer ≡ None
+        → AreEach (IsUnwritten g None) stores refused.stores.items
+        → IsRefusedRightly g config stores text refused
+    no_room is of_none unwritten =
+        record {
+          reason = reasons.HasNoRoom is of_none unwritten;
+          cause = λ w stop x store shut. subst IsFromOutside (sym is) tt;
+        }
+
+    -- the text is of no history
+    pub unread : refused.error ≡ faults.BadHistory → refused.buffer ≡ None
+        → refused.stores.items ≡ stores → ((kept : texts.Kept) → Reads config text kept → ⊥)
+        → IsRefusedRightly g config stores text refused
+    unread is of_none same none =
+        record {
+          reason = reasons.IsUnread is of_none same none;
+          cause = λ w stop x store shut.
+              absurd (none shut.tells.kept (shut_reads text w stop x store shut));
+        }
+
+    module _ (kept : texts.Kept) (reads : Reads config text kept)
+        (one_text : (one : texts.Kept) → Reads config text one → kept ≡ one) where
+      -- the history of what was shut is the one that was read
+      same_text : (w : Terms) (stop : ℕ) (x : World) (store : HasSameStore w v)
+          (shut : IsShut g w stop stores text x) → kept ≡ shut.tells.kept
+      same_text w stop x store shut =
+          one_text shut.tells.kept (shut_reads text w stop x store shut)
+
+      -- and so is its stop
+      shut_at : (w : Terms) (stop : ℕ) (x : World) (store : HasSameStore w v)
+          (shut : IsShut g w stop stores text x)
+          → IsHeldBy g config.buffers stores kept.stop v x.state.begun x.state.kept x.work.failures
+      shut_at w stop x store shut =
+          let at : kept.stop ≡ stop =
+          ap (λ (one : texts.Kept). one.stop) (same_text w stop x store shut)
+          ∙ shut.tells.history.stop_is in
+          subst (λ n. IsHeldBy g config.buffers stores n v x.state.begun x.state.kept
+          x.work.failures) (sym at) (held_by w store stop x shut.shelf)
+
+      -- a buffer isn't started
+      pub not_started : shelves.IsUnstarted g stores kept.stop refused
+          → HasCause g config.buffers stores kept.stop refused
+          → IsRefusedRightly g config stores text refused
+      not_started refusal cause =
+          record {
+            reason = reasons.IsUnstarted kept reads refusal;
+            cause = λ w stop x store shut.
+                cause v x.state.begun x.state.kept x.work.failures (shut_at w stop x store shut);
+          }
+
+      module _ (shelf : UnopenedShelf S g) (is_started : IsStartedShelf stores kept.stop shelf)
+        where
+          -- the history is ahead
+          pub ahead : IsAheadAs g config stores kept true → refused.error ≡ faults.Ahead
+              → refused.buffer ≡ None → AreEach (IsUnwritten g None) stores refused.stores.items
+              → IsRefusedRightly g config stores text refused
+          ahead is error of_none unwritten =
+              record {
+                reason = reasons.IsAhead kept reads shelf is_started is error of_none unwritten;
+                cause = λ w stop x store shut.
+                    absurd (true≢false (sym (is v x.state x.work.failures
+                    (shut_at w stop x store shut))
+                    ∙ ap (is_ahead (filled_of v x.state)) (same_text w stop x store shut)
+                    ∙ shut_behind text w stop x store shut));
+              }
+
+          -- a head isn't opened
+          pub not_opened : IsAheadAs g config stores kept false → shelves.IsUnopened shelf refused
+              → IsRefusedRightly g config stores text refused
+          not_opened behind is =
+              record {
+                reason = reasons.IsUnopened kept reads shelf is_started behind is;
+                cause = λ w stop x store shut. subst IsFromOutside (sym is.device) tt;
+              }
+
+  -- whether a history is ahead is told of how far the buffers are filled
+  pub ahead_as : (kept : texts.Kept) (shelf : UnopenedShelf S g) (filled : List code.Filled)
+      (answer : Bool) → TellsFilled config.buffers shelf filled
+      → KeepsHeld config.buffers stores kept.stop shelf
+      → answer ≡ is_ahead (map filled_view filled) kept → IsAheadAs g config stores kept answer
+  ahead_as kept shelf filled answer tells keeps is = λ w σ failures held.
+      ap (λ fs. is_ahead fs kept)
+      (sym (tells w σ failures held.0 (keeps w σ.begun σ.kept failures held)))
+      ∙ sym is
+
+-- what is handed back as it was is unwritten
+pub unwritten_self : {S : Type 0} (g : Ghosts S) (stores : List S)
+    → AreEach (IsUnwritten g None) stores stores
+unwritten_self g stores =
+    record {
+      count = refl;
+      each = λ b one there. record {
+        item = one;
+        there = there;
+        belongs = record {
+          held = record {
+            honest = λ is. is;
+            blocks = λ is. refl;
+            heads = λ is. refl;
+            count = refl;
+          };
+          failed_here = λ e. absurd (none-some b e);
+          no_failure = λ other. refl;
+        };
+      };
+    }

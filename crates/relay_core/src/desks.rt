@@ -62,6 +62,8 @@ pub(crate) fn read_history(
     text: &[u8],
 ) -> Result<History, HistoryError>
     ensures reads { IfOk result (λ history. Reads config.now text.now (history_view history)) }
+    ensures only { IfOk result (λ history. (kept : texts.Kept)
+        → Reads config.now text.now kept → history_view history ≡ kept) }
     ensures none { IfErr result (λ error. error ≡ errors.BadHistory
         → (kept : texts.Kept) → Reads config.now text.now kept → ⊥) }
 {
