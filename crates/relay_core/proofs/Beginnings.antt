@@ -26,11 +26,12 @@ use Rattle.relay_peers.specs.declared.peers.Peer.{Peer}
 use Rattle.relay_core.specs.Agreement.{AgreesBy, LaneIs, PeerIs}
 use Rattle.relay_core.specs.Beginning.{AreIdle, BeginsOver, IsIdle}
 use Rattle.relay_core.specs.Expiring.{expirer_view}
+use Rattle.relay_core.specs.Stopping.{stop_of}
 use Rattle.relay_core.specs.declared.system.Lane.{Lane}
 use Rattle.relay_core.specs.declared.system.System.{System}
 
 -- idle lanes have no jobs, and neither have groups that aren't there
-idle_lanes : (lanes : List Lane) → All IsIdle lanes → (h : ℕ)
+pub idle_lanes : (lanes : List Lane) → All IsIdle lanes → (h : ℕ)
     → LaneIs (slice_get lanes h) [] world.Idle
 idle_lanes [] idle h = (refl, refl)
 idle_lanes (lane ∷ lanes) idle zero =
@@ -40,7 +41,7 @@ idle_lanes (lane ∷ lanes) idle (suc h) =
     idle_lanes lanes (λ k d within. idle (suc k) d (omega (arith, within))) h
 
 -- there are as many groups as the configuration has
-groups_count : (config : Config)
+pub groups_count : (config : Config)
     → length (terms_of config).groups ≡ length config.buffers.groups.items
 groups_count config =
     length-map (map group_view config.buffers.groups.items)
@@ -48,7 +49,7 @@ groups_count config =
     ∙ length-map config.buffers.groups.items group_view
 
 -- the rings are those of the terms
-rings_are : (feeds : List Feed)
+pub rings_are : (feeds : List Feed)
     → map ring_size feeds ≡ map (λ (feed : FeedTerms). feed.ring) (map feed_view feeds)
 rings_are [] = refl
 rings_are (feed ∷ feeds) = ap (λ (rest : List ℕ). feed.ring ∷ rest) (rings_are feeds)
@@ -62,13 +63,14 @@ nobody trusted w at none =
 module _ {S : Type 0} {g : Ghosts S} (system : System S g) (config : Config) (stores : List S)
   where
     -- the parts begin, and the whole with them
-    pub begins : system.config ≡ config → system.newest ≡ None → NoPeers system.peers
+    pub begins : system.config ≡ config → system.newest ≡ None → stop_of system ≡ 0
+        → NoPeers system.peers
         → KeepsAll system.shards (λ id. Unknown)
         → KeepsFeeds system.desk (map ring_size config.relay.feeds.items) (λ f. no_feed)
         → AreIdle (length config.buffers.groups.items) system.lanes.items
         → KeepsNothing config.buffers stores system.shelf
         → expirer_view system.expirer ≡ world.Reading [] → BeginsOver config stores system
-    begins same newest peers claims feeds lanes texts expirer =
+    begins same newest stop peers claims feeds lanes texts expirer =
         let w : Terms = terms_of config in
         record {
           config_is = same;
@@ -92,4 +94,5 @@ module _ {S : Type 0} {g : Ghosts S} (system : System S g) (config : Config) (st
               });
           laned = lanes.count_is ∙ sym (groups_count config)
               ∙ ap (λ (c : Config). length (terms_of c).groups) (sym same);
+          stop_is = stop;
         }

@@ -8,6 +8,7 @@ use Rattle.relay_model.specs.World.{empty_world}
 use Rattle.relay_core.specs.Agreement.{Agrees}
 use Rattle.relay_core.specs.Queues.{jobs_of}
 use Rattle.relay_core.specs.Refusals.{IsLaned}
+use Rattle.relay_core.specs.Stopping.{stop_of}
 use Rattle.relay_core.specs.declared.system.Lane.{Lane}
 use Rattle.relay_core.specs.declared.system.System.{System}
 
@@ -30,3 +31,5 @@ pub record BeginsOver {S : Type 0} {g : Ghosts S} (config : Config) (stores : Li
   pub agrees : (trusted : Bool) → (trusted ≡ true → All g.honest stores)
       → Agrees trusted system (empty_world (failures_in g stores))
   pub laned : IsLaned system
+  -- there was no stop yet
+  pub stop_is : stop_of system ≡ 0

@@ -17,6 +17,7 @@ event_view (events.Turn session now) = run.Turn session now
 event_view (events.Write group now) = run.Write group now
 event_view (events.Break session) = run.Break session
 event_view (events.Expire shard now) = run.Expire shard now
+event_view events.Restart = run.Restart
 
 -- why an event is refused
 abbrev pub fault_view : CoreError → world.Fault
@@ -27,6 +28,8 @@ fault_view faults.NoGroup = world.NoGroup
 fault_view faults.NoPeer = world.NoPeer
 fault_view faults.BadMoment = world.BadMoment
 fault_view faults.NoShard = world.NoShard
+fault_view faults.NotIdle = world.NotIdle
+fault_view faults.NotRestarted = world.NotRestarted
 
 -- what an event is answered
 abbrev pub output_view : Output → world.Output

@@ -54,12 +54,13 @@ impl<S: BlockStore> System<S> {
             shelf,
             lanes,
             expirer,
+            stop: 0,
         })
     }
 }
 
 /// So many lanes, without jobs.
-fn new_lanes(alloc: Global, count: usize) -> Result<Vec<Lane>, AllocError>
+pub(crate) fn new_lanes(alloc: Global, count: usize) -> Result<Vec<Lane>, AllocError>
     ensures { IfOk result (λ lanes. AreIdle count lanes.items) }
 {
     let mut lanes = Vec::with_capacity(alloc, count)?;

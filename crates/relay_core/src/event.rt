@@ -17,6 +17,8 @@ pub enum Event {
     Break { session: u64 },
     /// The next bit of forgetting.
     Expire { shard: usize, now: u64 },
+    /// The relay is closed and started again.
+    Restart,
 }
 
 /// What an event is answered.
@@ -28,7 +30,7 @@ pub enum Output {
     Sent(u64, Octets),
     /// These octets go to the session, which leaves.
     Ended(u64, Octets),
-    /// The event is refused, and nothing changed.
+    /// The event is refused, and nothing that is kept changed.
     Refused(CoreError),
 }
 
@@ -49,4 +51,8 @@ pub enum CoreError {
     BadMoment,
     /// There is no such shard.
     NoShard,
+    /// A message-id is being stored.
+    NotIdle,
+    /// A buffer wasn't stopped, or not started again.
+    NotRestarted,
 }

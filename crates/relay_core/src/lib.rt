@@ -7,15 +7,23 @@
 //! is shared, and takes its memory before it.
 #![tactic(auto)]
 
+mod ahead;
 mod arming;
 mod beginning;
+mod desks;
 mod event;
 mod expiring;
 mod figures;
+mod idle;
 mod queue;
 mod reading;
+mod restarting;
 mod sharing;
+mod starting;
 mod steps;
+mod stopped;
+mod stopping;
+mod stubs;
 mod system;
 mod turns;
 mod watching;
@@ -23,4 +31,6 @@ mod writing;
 
 pub use event::{CoreError, Event, Output};
 pub use figures::{FeedFigures, Figures, NamedBuffer, NamedFeed};
+pub use stopped::{NotStarted, Stopped, Unstopped};
+pub use stubs::{StopFault, Unstarted};
 pub use system::System;

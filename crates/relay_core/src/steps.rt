@@ -10,6 +10,7 @@ impl<S: BlockStore> System<S> {
     ghost use Rattle.std.specs.Prelude.{◌≡◌, IfErr, IfOk, map};
     ghost use Rattle.relay_model.specs.Run as run;
     ghost use Rattle.relay_core.specs.Refusals.{RefusesRightly};
+    ghost use Rattle.relay_core.specs.Restarting.{RefusedAs};
     ghost use Rattle.relay_core.specs.Sharing.{KeepsFrame};
     ghost use Rattle.relay_core.specs.Steps.{RunsTo, Steps};
     ghost use Rattle.relay_core.specs.Views.{event_view, output_view};
@@ -18,7 +19,7 @@ impl<S: BlockStore> System<S> {
     /// Does what an event asks. A refused event changes nothing.
     pub fn step(&mut self, event: &Event) -> Output
         ensures steps { Steps (event_view event.now) self.old result self.new }
-        ensures refused { RefusesRightly (event_view event.now) self.old result self.new }
+        ensures refused { RefusedAs (event_view event.now) self.old result self.new }
         ensures frame { KeepsFrame self.old self.new }
     {
         match event {
@@ -28,6 +29,7 @@ impl<S: BlockStore> System<S> {
             Event::Write { group, now } => self.write(*group, *now),
             Event::Break { session } => self.break_off(*session),
             Event::Expire { shard, now } => self.expire(*shard, *now),
+            Event::Restart => self.restart(),
         }
     }
 

@@ -62,4 +62,6 @@ pub struct System<S: BlockStore> {
     pub(crate) shelf: Shelf<S>,
     pub(crate) lanes: Vec<Lane>,
     pub(crate) expirer: Expirer,
+    /// The number of the last stop; before the first it is 0.
+    pub(crate) stop: u64,
 }

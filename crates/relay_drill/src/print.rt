@@ -39,6 +39,8 @@ fn fault_text(error: CoreError) -> &'static [u8]
         CoreError::NoPeer => b"4 NoPeer",
         CoreError::BadMoment => b"5 BadMoment",
         CoreError::NoShard => b"6 NoShard",
+        CoreError::NotIdle => b"7 NotIdle",
+        CoreError::NotRestarted => b"8 NotRestarted",
     }
 }
 

@@ -13,7 +13,7 @@ returns-clause-begins g c =
     let F : List Feed → Type 0 = λ feeds. KeepsFeeds c.in_ok-desk.desk (map ring_size feeds)
     (λ f. no_feed) in
     let L : ℕ → Type 0 = λ count. AreIdle count c.in_ok-lanes.lanes.items in
-    begins _ c.args.config c.args.stores.items refl refl c.new-6.ensures.none
+    begins _ c.args.config c.args.stores.items refl refl refl c.new-6.ensures.none
     c.in_ok-shards.ensures (subst F c.deref.ensures.value c.in_ok-desk.ensures)
     (subst L (c.len.ensures ∙ c.args.config.buffers.groups.ok.0) c.in_ok-lanes.ensures)
     c.in-Ok.ensures.nothing c.in_ok-expirer.ensures

@@ -1,0 +1,125 @@
+-- How far buffers are filled, one after the other, and what a configuration asks of a history.
+use Rattle.std.proofs.Common.{◌≡◌, ◌∙◌, ◌<◌, ◌≤◌, ◌+◌, ◌++◌, ℕ, List, [], ◌∷◌, Option, None, Some}
+use Rattle.std.proofs.Common.{refl, sym, ap, arith, length, map, take, get_or, slice_get}
+use Rattle.std.proofs.lemmas.List.{length-map, map_push, take_all, take_more}
+use Rattle.std.proofs.lemmas.List.FromFn.{length-enumerate_from}
+use Rattle.std.proofs.lemmas.Simd.{map-map}
+use Rattle.std.proofs.lemmas.Option.{get_or_from_slice_get, none-some, same_Some, slice_get-get_or}
+use Rattle.std.proofs.lemmas.Option.{slice_get_within}
+use Rattle.std.specs.List.{enumerate_from}
+use Rattle.std.specs.Prelude.{option_map}
+use Rattle.block_shelf.proofs.NewShelf.{numbered_view}
+use Rattle.block_shelf.specs.Figures.{figures_view}
+use Rattle.block_shelf.specs.declared.figures.BufferFigures.{BufferFigures}
+use Rattle.news_terms.specs.Places.{Buffer, Group}
+use Rattle.relay_conf.specs.Places.{numbered_buffer}
+use Rattle.relay_conf.specs.Settings.{places_of_buffers}
+use Rattle.relay_conf.specs.declared.cycbuff.BufferConf.{BufferConf}
+use Rattle.relay_conf.specs.declared.settings.Buffers.{Buffers}
+use Rattle.relay_facts.proofs.BufferCount.{buffers_in, few_buffers}
+use Rattle.relay_facts.proofs.Sums.{term_within}
+use Rattle.relay_facts.specs.Sound.{IsSound}
+use Rattle.relay_model.specs.Figures.{buffer_figures}
+use Rattle.relay_model.specs.Figures as model
+use Rattle.relay_model.specs.State.{State}
+use Rattle.relay_model.specs.Terms.{Terms}
+use Rattle.relay_core.proofs.Reporting.{numbered_more}
+use Rattle.relay_core.specs.Ahead.{Filled, filled_at, filled_of, filled_view}
+use Rattle.relay_core.specs.Desks.{members_of}
+use Rattle.relay_core.specs.declared.ahead.Filled as code
+
+-- a group has few buffers
+pub few_members : (w : Terms) → IsSound w → (h : ℕ) (group : Group)
+    → slice_get w.groups h ≡ Some group → length group.buffers ≤ 256
+few_members w sound h group there =
+    omega (
+      arith,
+      term_within (λ g. buffers_in (slice_get w.groups g)) h (length w.groups)
+          (slice_get_within w.groups h group there),
+      ap buffers_in there,
+      few_buffers w sound,
+    )
+
+-- the size of one more group
+pub sizes_join : (groups : List Group) (k : ℕ) (group : Group) (sizes more : List ℕ) (size : ℕ)
+    → slice_get groups k ≡ Some group → size ≡ members_of group → more ≡ sizes ++ size ∷ []
+    → sizes ≡ map members_of (take k groups) → more ≡ map members_of (take (k + 1) groups)
+sizes_join groups k group sizes more size there is joined so_far =
+    joined ∙ ap (λ xs. xs ++ size ∷ []) so_far
+    ∙ ap (λ n. map members_of (take k groups) ++ n ∷ []) is
+    ∙ sym (map_push members_of (take k groups) group)
+    ∙ sym (ap (map members_of) (take_more groups k group (slice_get_within groups k group there)
+    ∙ ap (λ one. take k groups ++ one ∷ [])
+    (get_or_from_slice_get groups k group group there)))
+
+module _ (settings : Buffers) (w : Terms) (σ : State)
+    (same : w.buffers ≡ places_of_buffers settings) where
+  abbrev all : List BufferConf
+  all = settings.buffers.items
+
+  -- how far the buffer of a number is filled
+  abbrev filled_by : ℕ × BufferConf → Filled
+  filled_by one = filled_at w σ (numbered_buffer one)
+
+  by_number : filled_of w σ ≡ map filled_by (enumerate_from 0 all)
+  by_number =
+      ap (map (filled_at w σ)) same
+      ∙ map-map (filled_at w σ) numbered_buffer (enumerate_from 0 all)
+
+  -- what is told of a buffer is of that of the settings
+  told_there : (n : ℕ) (conf : BufferConf) (told : Option BufferFigures) → n < length all
+      → option_map figures_view told ≡ option_map (buffer_figures w σ) (slice_get w.buffers n)
+      → option_map figures_view told
+      ≡ Some (buffer_figures w σ (numbered_buffer (n, get_or all n conf)))
+  told_there n conf told within tells =
+      tells
+      ∙ ap (option_map (buffer_figures w σ))
+      (ap (λ (bs : List Buffer). slice_get bs n) same ∙ numbered_view all n
+      ∙ ap (option_map (λ (one : BufferConf). numbered_buffer (n, one)))
+      (slice_get-get_or all n conf within))
+
+  -- the next buffer joins those before it
+  pub filled_joins : (n : ℕ) (conf : BufferConf) (figures : BufferFigures) → n < length all
+      → conf ≡ get_or all n conf
+      → option_map figures_view (Some figures)
+      ≡ option_map (buffer_figures w σ) (slice_get w.buffers n)
+      → (filled more : List code.Filled) (one : code.Filled)
+      → one ≡ record { blocks = conf.blocks; front = figures.front; stored = figures.stored }
+      → more ≡ filled ++ one ∷ [] → map filled_view filled ≡ take n (filled_of w σ)
+      → map filled_view more ≡ take (n + 1) (filled_of w σ)
+  filled_joins n conf figures within is tells filled more one made joined so_far =
+      let told : figures_view figures
+      ≡ buffer_figures w σ (numbered_buffer (n, get_or all n conf)) =
+      same_Some _ _ (told_there n conf (Some figures) within tells) in
+      let named_one : filled_view one ≡ filled_by (n, get_or all n conf) = λ i. record {
+        blocks = (ap (λ (o : code.Filled). o.blocks) made
+            ∙ ap (λ (c : BufferConf). c.blocks) is) i;
+        front = (ap (λ (o : code.Filled). o.front) made
+            ∙ ap (λ (f : model.BufferFigures). f.front) told) i;
+        stored = (ap (λ (o : code.Filled). o.stored) made
+            ∙ ap (λ (f : model.BufferFigures). f.stored) told) i;
+      } in
+      ap (map filled_view) joined ∙ map_push filled_view filled one
+      ∙ ap (λ xs. xs ++ filled_view one ∷ []) so_far
+      ∙ ap (λ y. take n (filled_of w σ) ++ y ∷ []) named_one
+      ∙ ap (λ ys. take n ys ++ filled_by (n, get_or all n conf) ∷ []) by_number
+      ∙ sym (numbered_more filled_by all n conf within)
+      ∙ sym (ap (take (n + 1)) by_number)
+
+  -- no buffer is missing
+  pub filled_there : (n : ℕ) (conf : BufferConf) → n < length all
+      → option_map figures_view None ≡ option_map (buffer_figures w σ) (slice_get w.buffers n)
+      → ⊥
+  filled_there n conf within tells = none-some _ (told_there n conf None within tells)
+
+  -- past the last that are all
+  pub filled_all : (n : ℕ) → length all ≤ n → take n (filled_of w σ) ≡ filled_of w σ
+  filled_all n past =
+      take_all n (filled_of w σ)
+      (omega (
+        arith,
+        past,
+        ap length by_number,
+        length-map (enumerate_from 0 all) filled_by,
+        length-enumerate_from 0 all,
+      ))

@@ -1,0 +1,317 @@
+-- A Restart: what it is answered, and what that leaves.
+use Rattle.std.proofs.Common.{◌≡◌, ◌∙◌, ℕ, Bool, true, false, List, [], Option, None, Some, refl}
+use Rattle.std.proofs.Common.{sym, ap, subst, le_refl, true≢false, length, map}
+use Rattle.std.specs.Prelude.{Result, Ok, Err}
+use Rattle.article_verdict.proofs.SoundTerms.{are_sound}
+use Rattle.article_verdict.specs.Config.{terms_of}
+use Rattle.block_shelf.specs.Keeping.{KeepsTexts}
+use Rattle.block_shelf.specs.Openings.{Opening}
+use Rattle.block_shelf.specs.declared.shelf.Shelf.{Shelf}
+use Rattle.cyc_block.specs.declared.store.BlockStore.{Ghosts}
+use Rattle.feed_queue.specs.Feeds.{KeepsFeeds, ring_size}
+use Rattle.feed_queue.specs.Left.{AreLeft}
+use Rattle.history_text.specs.History as texts
+use Rattle.id_history.specs.Lasting.{AreLasting}
+use Rattle.id_history.specs.Mark.{mark_of}
+use Rattle.id_history.specs.Shards.{KeepsAll}
+use Rattle.relay_facts.proofs.Runs.{step_well}
+use Rattle.relay_model.specs.Claims.{Claim, is_storing}
+use Rattle.relay_model.specs.Run as run
+use Rattle.relay_model.specs.Run.{restarted}
+use Rattle.relay_model.specs.Terms.{Terms}
+use Rattle.relay_model.specs.World as world
+use Rattle.relay_model.specs.World.{World, with_failures}
+use Rattle.relay_peers.specs.Peers.{NoPeers, peer_at}
+use Rattle.relay_peers.specs.declared.peers.Peers.{Peers}
+use Rattle.relay_core.proofs.Beginnings.{idle_lanes, rings_are}
+use Rattle.relay_core.proofs.Records.{record_holds}
+use Rattle.relay_core.proofs.Starts.{nobody}
+use Rattle.relay_core.proofs.Stops.{closed_texts, lasting_is, nothing_open}
+use Rattle.relay_core.specs.Agreement.{Agrees, ring_sizes}
+use Rattle.relay_core.specs.Beginning.{AreIdle}
+use Rattle.relay_core.specs.Desks.{AreOf, Reads}
+use Rattle.relay_core.specs.Idle.{TellsIdle}
+use Rattle.relay_core.specs.Restarting.{AgreesLater, BeginsAgain, IsOfRestart, IsReread, IsUnread}
+use Rattle.relay_core.specs.Restarting.{RestartsRightly}
+use Rattle.relay_core.specs.Steps.{Steps}
+use Rattle.relay_core.specs.Stopping.{Tells, TellsHistory, next_stop, stop_of}
+use Rattle.relay_core.specs.Stubs.{KeepsOn, StaysKept}
+use Rattle.relay_core.specs.Views.{fault_view, output_view}
+use Rattle.relay_core.specs.declared.desks.Desks.{Desks}
+use Rattle.relay_core.specs.declared.event.CoreError.{CoreError}
+use Rattle.relay_core.specs.declared.event.CoreError.TheVariants as faults
+use Rattle.relay_core.specs.declared.event.Output.TheVariants as outputs
+use Rattle.relay_core.specs.declared.stubs.RestartFault.{RestartFault}
+use Rattle.relay_core.specs.declared.stubs.RestartFault.TheVariants as restarts
+use Rattle.relay_core.specs.declared.system.System.{System}
+
+module _ {S : Type 0} {g : Ghosts S} (s : System S g) where
+  abbrev w : Terms
+  w = terms_of s.config
+
+  -- WHAT IS READ BACK
+
+  -- the text of a relay is that of a history of its configuration
+  tells_reads : (stop : ℕ) (text : List ℕ) (trusted : Bool) (x : World) → Agrees trusted s x
+      → (told : Tells w stop x.state text) → Reads s.config text told.kept
+  tells_reads stop text trusted x agrees told =
+      record {
+        fits = told.fits;
+        holds = record_holds s.config x agrees.well told.kept
+            (subst (λ ns. AreLeft told.kept.feeds ns x.state.feed)
+            (sym (rings_are s.config.relay.feeds.items)) told.history.feeds)
+            told.history.ids told.history.positions;
+        text_is = told.written;
+      }
+
+  -- so it can be read
+  pub is_read : (stop : ℕ) (text : List ℕ) → TellsHistory s stop text
+      → ((kept : texts.Kept) → Reads s.config text kept → ⊥)
+      → (trusted : Bool) (x : World) → Agrees trusted s x → ⊥
+  is_read stop text tells none trusted x agrees =
+      none (tells trusted x agrees).kept
+      (tells_reads stop text trusted x agrees (tells trusted x agrees))
+
+  -- what is read back of the own history is what a Restart leaves
+  pub rereads : (stop : ℕ) (text : List ℕ) (kept : texts.Kept) (desks : Desks)
+      → TellsHistory s stop text
+      → ((one : texts.Kept) → Reads s.config text one → kept ≡ one)
+      → AreOf s.config kept (length s.lanes.items) desks → IsReread s desks
+  rereads stop text kept desks tells one_text of =
+      record {
+        claims = λ trusted x agrees idle.
+            let told = tells trusted x agrees in
+            let is : kept ≡ told.kept = one_text told.kept
+            (tells_reads stop text trusted x agrees told) in
+            let lasts = of.claims x.state.claim
+            (subst (λ (k : texts.Kept). AreLasting k.ids x.state.claim) (sym is) told.history.ids)
+            in
+            record {
+              agrees = λ id none.
+                  lasts.agrees id none ∙ ap mark_of (lasting_is (x.state.claim id) (idle id));
+            };
+        desk = λ trusted x agrees.
+            let told = tells trusted x agrees in
+            let is : kept ≡ told.kept = one_text told.kept
+            (tells_reads stop text trusted x agrees told) in
+            subst (λ ns. KeepsFeeds desks.desk ns x.state.feed)
+            (rings_are s.config.relay.feeds.items)
+            (of.desk x.state.feed
+            (subst (λ ns. AreLeft kept.feeds ns x.state.feed)
+            (sym (rings_are s.config.relay.feeds.items))
+            (subst (λ (k : texts.Kept). AreLeft k.feeds (ring_sizes w) x.state.feed) (sym is)
+            told.history.feeds)));
+        lanes = of.lanes;
+        expirer = of.expirer;
+      }
+
+  -- WHAT IT IS ANSWERED
+
+  -- an id is being stored
+  pub busy : TellsIdle s.shards false
+      → Steps run.Restart s (outputs.Refused faults.NotIdle) s
+  busy tells = λ x agrees.
+      let one = tells x.state.claim agrees.core.claims in
+      record {
+        after = x;
+        agrees = agrees;
+        is_step = run.IsDone refl (run.IsBusy one.0 one.1 refl refl);
+      }
+
+  -- memory was refused before a device was called
+  pub no_room : Steps run.Restart s (outputs.Refused faults.Memory) s
+  no_room = λ x agrees.
+      record {
+        after = x;
+        agrees = agrees;
+        is_step = run.IsDone refl (run.HasNoRoom x.work.failures (λ b. le_refl _) refl refl);
+      }
+
+  -- what is refused in no world that the relay agrees with
+  pub never : ((trusted : Bool) (x : World) → Agrees trusted s x → ⊥)
+      → Steps run.Restart s (outputs.Refused faults.NotRestarted) s
+  never none = λ x agrees. absurd (none true x agrees)
+
+  -- what a restart of the shelf leaves, done or not
+  leaves : (trusted : Bool) (x : World) (result : Result (Unit {0}) RestartFault)
+      (shelf : Shelf S g) → Agrees trusted s x → TellsIdle s.shards true
+      → KeepsOn s.shelf result shelf
+      → StaysKept trusted w x.state.begun x.state.kept x.work.failures result shelf
+  leaves trusted x result shelf agrees idle keeps =
+      keeps trusted w x.state.begun x.state.kept x.work.failures
+      (closed_texts s trusted x agrees (idle x.state.claim agrees.core.claims))
+
+  -- the relay agrees with the world with these failures
+  agrees_later : (trusted : Bool) (x : World) (result : Result (Unit {0}) RestartFault)
+      (shelf : Shelf S g) → Agrees trusted s x → TellsIdle s.shards true
+      → (stays : StaysKept trusted w x.state.begun x.state.kept x.work.failures result shelf)
+      → Agrees trusted (record s { shelf = shelf }) (with_failures x stays.later)
+  agrees_later trusted x result shelf agrees idle stays =
+      let T : (ℕ → Option Opening) → Type 0 = λ all. KeepsTexts trusted shelf w x.state.begun
+      x.state.kept all stays.later in
+      record {
+        core = record {
+          newest = agrees.core.newest;
+          claims = agrees.core.claims;
+          count = agrees.core.count;
+          lanes = agrees.core.lanes;
+          desk = agrees.core.desk;
+          shelf = subst T (sym (nothing_open w x (idle x.state.claim agrees.core.claims)
+              agrees.well)) stays.keeps;
+          expirer = agrees.core.expirer;
+        };
+        peers = agrees.peers;
+        well = step_well w x (with_failures x stays.later) run.Restart
+            (world.Refuses world.Memory) (are_sound s.config) agrees.well
+            (run.IsDone refl (run.HasNoRoom stays.later stays.rises refl refl));
+      }
+
+  -- memory was refused by a buffer
+  pub no_room_there : (result : Result (Unit {0}) RestartFault) (shelf : Shelf S g)
+      → TellsIdle s.shards true → KeepsOn s.shelf result shelf
+      → Steps run.Restart s (outputs.Refused faults.Memory) (record s { shelf = shelf })
+  no_room_there result shelf idle keeps = λ x agrees.
+      let stays = leaves true x result shelf agrees idle keeps in
+      record {
+        after = with_failures x stays.later;
+        agrees = agrees_later true x result shelf agrees idle stays;
+        is_step = run.IsDone refl (run.HasNoRoom stays.later stays.rises refl refl);
+      }
+
+  -- a buffer isn't restarted
+  pub not_restarted : (result : Result (Unit {0}) RestartFault) (fault : RestartFault)
+      (shelf : Shelf S g) → TellsIdle s.shards true → KeepsOn s.shelf result shelf
+      → result ≡ Err fault → (fault ≡ restarts.Memory → ⊥)
+      → Steps run.Restart s (outputs.Refused faults.NotRestarted) (record s { shelf = shelf })
+  not_restarted result restarts.Memory shelf idle keeps is other = absurd (other refl)
+  not_restarted result restarts.Busy shelf idle keeps is other = λ x agrees.
+      absurd ((leaves true x result shelf agrees idle keeps).free is)
+  not_restarted result (restarts.Failed number) shelf idle keeps is other = λ x agrees.
+      let stays = leaves true x result shelf agrees idle keeps in
+      let at = stays.failed number is refl in
+      record {
+        after = with_failures x stays.later;
+        agrees = agrees_later true x result shelf agrees idle stays;
+        is_step = run.IsDone refl (run.HasNot number at.buffer stays.later at.there
+            (idle x.state.claim agrees.core.claims) at.failed refl refl);
+      }
+
+  -- it is done
+  pub done : (result : Result (Unit {0}) RestartFault) (shelf : Shelf S g) (desks : Desks)
+      (stop : ℕ) (new : System S g) → TellsIdle s.shards true → KeepsOn s.shelf result shelf
+      → IsReread s desks → BeginsAgain desks stop (record s { shelf = shelf }) new
+      → Steps run.Restart s outputs.Quiet new
+  done result shelf desks stop new idle keeps is again =
+      subst (λ (t : System S g). Steps run.Restart s outputs.Quiet t) (sym again.rest)
+      (goes new.peers again.nobody)
+    where
+      goes : (peers : Peers) → NoPeers peers
+          → Steps run.Restart s outputs.Quiet (record s {
+            shelf = shelf;
+            peers = peers;
+            shards = desks.shards;
+            desk = desks.desk;
+            lanes = desks.lanes;
+            expirer = desks.expirer;
+            stop = stop;
+          })
+      goes peers none = λ x agrees.
+          let stays = leaves true x result shelf agrees idle keeps in
+          let idles = idle x.state.claim agrees.core.claims in
+          let step : run.Step w x run.Restart world.Quiet (restarted x stays.later) =
+          run.IsDone refl (run.IsDone stays.later idles stays.rises refl refl) in
+          record {
+            after = restarted x stays.later;
+            agrees = record {
+              core = record {
+                newest = agrees.core.newest;
+                claims = is.claims true x agrees idles;
+                count = is.lanes.count_is ∙ agrees.core.count;
+                lanes = idle_lanes desks.lanes.items is.lanes.each;
+                desk = is.desk true x agrees;
+                shelf = stays.keeps;
+                expirer = sym is.expirer;
+              };
+              peers = λ n. nobody true w x.state.kept (peer_at peers n) (x.state.session n) (none n);
+              well = step_well w x (restarted x stays.later) run.Restart world.Quiet
+                  (are_sound s.config) agrees.well step;
+            };
+            is_step = step;
+          }
+
+  -- WHAT IT IS REFUSED FOR
+
+  -- a Restart while an id is being stored
+  pub rightly_busy : TellsIdle s.shards false
+      → RestartsRightly s (outputs.Refused faults.NotIdle) s
+  rightly_busy tells =
+      record {
+        busy = λ claims keeps id storing. refl;
+        idle = λ claims keeps is. tells claims keeps;
+        same = λ is. refl;
+        only = λ fault is.
+            subst IsOfRestart (let e : world.NotIdle ≡ fault = cc in e) tt;
+        kept = λ fault is trusted x agrees.
+            record {
+              later = x.work.failures;
+              rises = λ b. le_refl (x.work.failures b);
+              agrees = agrees;
+            };
+        stays = λ fault is. refl;
+        stop = λ is. absurd (cc);
+      }
+
+  -- one that is refused otherwise
+  pub rightly_refused : (error : CoreError) (new : System S g) → TellsIdle s.shards true
+      → IsOfRestart (fault_view error) → (error ≡ faults.NotIdle → ⊥)
+      → stop_of new ≡ stop_of s
+      → ((trusted : Bool) (x : World) → Agrees trusted s x → AgreesLater trusted new x)
+      → RestartsRightly s (outputs.Refused error) new
+  rightly_refused error new idle of other same later =
+      record {
+        busy = λ claims keeps id storing.
+            absurd (true≢false (sym storing ∙ idle claims keeps id));
+        idle = λ claims keeps is. absurd (other (let e : error ≡ faults.NotIdle = cc in e));
+        same = λ is. absurd (other (let e : error ≡ faults.NotIdle = cc in e));
+        only = λ fault is.
+            subst IsOfRestart (let e : fault_view error ≡ fault = cc in e) of;
+        kept = λ fault is. later;
+        stays = λ fault is. same;
+        stop = λ is. absurd (cc);
+      }
+
+  -- the shelf that is left keeps all
+  pub later_of : (result : Result (Unit {0}) RestartFault) (shelf : Shelf S g)
+      → TellsIdle s.shards true → KeepsOn s.shelf result shelf → (trusted : Bool) (x : World)
+      → Agrees trusted s x → AgreesLater trusted (record s { shelf = shelf }) x
+  later_of result shelf idle keeps trusted x agrees =
+      let stays = leaves trusted x result shelf agrees idle keeps in
+      record {
+        later = stays.later;
+        rises = stays.rises;
+        agrees = agrees_later trusted x result shelf agrees idle stays;
+      }
+
+  -- nothing has failed
+  pub later_none : (trusted : Bool) (x : World) → Agrees trusted s x → AgreesLater trusted s x
+  later_none trusted x agrees =
+      record {
+        later = x.work.failures;
+        rises = λ b. le_refl (x.work.failures b);
+        agrees = agrees;
+      }
+
+  -- one that is done
+  pub rightly_done : (new : System S g) → TellsIdle s.shards true
+      → stop_of new ≡ next_stop (stop_of s) → RestartsRightly s outputs.Quiet new
+  rightly_done new idle raised =
+      record {
+        busy = λ claims keeps id storing.
+            absurd (true≢false (sym storing ∙ idle claims keeps id));
+        idle = λ claims keeps is. absurd (cc);
+        same = λ is. absurd (cc);
+        only = λ fault is. absurd (cc);
+        kept = λ fault is. absurd (cc);
+        stays = λ fault is. absurd (cc);
+        stop = λ is. raised;
+      }

@@ -1,0 +1,336 @@
+-- A relay that is started from what a stop left.
+use Rattle.std.proofs.Common.{◌≡◌, ◌∙◌, ◌≢◌, ℕ, Bool, true, false, List, [], ◌∷◌, Option, None, Some}
+use Rattle.std.proofs.Common.{refl, sym, ap, subst, length, map, slice_get, true≢false}
+use Rattle.std.proofs.lemmas.Option.{none-some}
+use Rattle.std.specs.Prelude.{option_map}
+use Rattle.std.specs.Global.{Vec}
+use Rattle.std.specs.List.{AllZip}
+use Rattle.article_verdict.specs.Config.{terms_of}
+use Rattle.cyc_block.specs.declared.store.BlockStore.{Ghosts}
+use Rattle.feed_queue.specs.Feeds.{KeepsFeeds, ring_size}
+use Rattle.feed_queue.specs.Left.{AreLeft}
+use Rattle.feed_queue.specs.declared.desk.FeedDesk.{FeedDesk}
+use Rattle.history_text.specs.History.{Holds, KeptFeed, RingHolds}
+use Rattle.history_text.specs.History as texts
+use Rattle.id_history.specs.Lasting.{AreLasting, claim_of_kept, lasting}
+use Rattle.id_history.specs.Mark.{mark_of}
+use Rattle.id_history.specs.Shards.{KeepsAll}
+use Rattle.id_history.specs.declared.shards.Shards.{Shards}
+use Rattle.news_terms.specs.Places.{Buffer, Group}
+use Rattle.relay_conf.specs.declared.settings.Config.{Config}
+use Rattle.relay_facts.proofs.StartedWell.{started_well}
+use Rattle.relay_facts.specs.Started.{HasSameStore, newest_kept, started}
+use Rattle.relay_model.specs.Claims.{after_restart, is_storing}
+use Rattle.relay_model.specs.Invariants.{IsWell}
+use Rattle.relay_model.specs.State as model
+use Rattle.relay_model.specs.State.{in_phase}
+use Rattle.relay_model.specs.Terms.{FeedTerms, Terms}
+use Rattle.relay_model.specs.World as world
+use Rattle.relay_model.specs.World.{World}
+use Rattle.relay_peers.specs.Peers.{NoPeers, peer_at}
+use Rattle.relay_peers.specs.declared.peers.Peer.{Peer}
+use Rattle.relay_core.proofs.Beginnings.{groups_count, idle_lanes, rings_are}
+use Rattle.relay_core.proofs.Records.{lasts_again, record_behind, record_holds, weaker}
+use Rattle.relay_core.proofs.Stops.{IsIdle, ended_gone, lasting_is}
+use Rattle.relay_core.specs.Agreement.{Agrees, AgreesBy, LaneIs, PeerIs, ring_sizes}
+use Rattle.relay_core.specs.Ahead.{TellsFilled, filled_of, filled_view, is_ahead}
+use Rattle.relay_core.specs.Desks.{AreOf, Reads, setting_of}
+use Rattle.relay_core.specs.Expiring.{expirer_view}
+use Rattle.relay_core.specs.Starting.{IsAheadAs, IsRefusedRightly, IsStartRefusal, StartsOver}
+use Rattle.relay_core.specs.Starting as reasons
+use Rattle.relay_core.specs.Stopping.{IsHistory, IsShut, Tells, stop_of}
+use Rattle.relay_core.specs.Stubs.{AreEach, ArePositions, HasCause, HoldsTexts, IsFromOutside}
+use Rattle.relay_core.specs.Stubs.{IsHeldBy, IsOpened, IsUnwritten, KeepsHeld}
+use Rattle.relay_core.specs.Stubs as shelves
+use Rattle.relay_core.specs.Stubs.{IsStartedShelf, KeepsOpened, WillKeepHeld}
+use Rattle.relay_core.specs.declared.ahead.Filled as code
+use Rattle.relay_core.specs.declared.desks.Desks.{Desks}
+use Rattle.relay_core.specs.declared.stubs.StopFault.TheVariants as faults
+use Rattle.relay_core.specs.declared.stubs.Unstarted.{Unstarted}
+use Rattle.relay_core.specs.declared.stubs.UnopenedShelf.{UnopenedShelf}
+use Rattle.relay_core.specs.declared.system.Lane.{Lane}
+use Rattle.relay_core.specs.declared.system.System.{System}
+
+-- the sizes of the rings are those of the configuration, also by the terms of another
+sizes_are : (config : Config) (w : Terms) → HasSameStore w (terms_of config)
+    → ring_sizes w ≡ map ring_size config.relay.feeds.items
+sizes_are config w store =
+    ap (λ (fs : List FeedTerms). map (λ (feed : FeedTerms). feed.ring) fs) (sym store.feeds)
+    ∙ sym (rings_are config.relay.feeds.items)
+
+-- every session ended, and nobody is here
+pub nobody : (trusted : Bool) (v : Terms) (kept : List model.Kept) (at : Option Peer)
+    (o : Option model.Session) → at ≡ None
+    → PeerIs trusted v kept at (option_map (λ (one : model.Session). in_phase one model.Ended) o)
+    None
+nobody trusted v kept at o none =
+    let after = option_map (λ (one : model.Session). in_phase one model.Ended) o in
+    subst (λ (p : Option Peer). PeerIs trusted v kept p after None) (sym none) (ended_gone o)
+
+-- the history of a world is that of the world after a start too
+again : (config : Config) (w : Terms) → HasSameStore w (terms_of config) → (stop : ℕ) (x : World)
+    (failures : ℕ → ℕ) (kept : texts.Kept) → IsHistory w stop x.state kept
+    → ArePositions (terms_of config).groups x.state.begun kept.positions
+    × AreLeft kept.feeds (map ring_size config.relay.feeds.items) x.state.feed
+    × AreLasting kept.ids (started x failures).state.claim
+again config w store stop x failures kept is = (
+  subst (λ (gs : List Group). ArePositions gs x.state.begun kept.positions) (sym store.groups)
+      is.positions,
+  (
+    subst (λ (ns : List ℕ). AreLeft kept.feeds ns x.state.feed) (sizes_are config w store)
+        is.feeds,
+    record {
+      rises = is.ids.rises;
+      each = weaker (λ one. claim_of_kept one ≡ lasting (x.state.claim one.id))
+          (λ one. claim_of_kept one ≡ lasting (after_restart (x.state.claim one.id)))
+          (λ one same. same ∙ sym (lasts_again (x.state.claim one.id))) kept.ids is.ids.each;
+      whole = λ id left. is.ids.whole id (λ none. left (lasts_again (x.state.claim id) ∙ none));
+    },
+  ),
+)
+
+-- A ring of a history that fits the configuration holds what it has to.
+pub rings_hold : (config : Config) (kept : texts.Kept) → Holds (setting_of config) kept
+    → AllZip RingHolds kept.feeds (map ring_size config.relay.feeds.items)
+rings_hold config kept holds =
+    by kept.feeds (map ring_size config.relay.feeds.items) holds.feeds
+  where
+    by : {buffers : ℕ} (feeds : List KeptFeed) (sizes : List ℕ)
+        → AllZip (texts.FeedHolds buffers) feeds sizes → AllZip RingHolds feeds sizes
+    by [] [] all = tt
+    by [] (size ∷ sizes) all = all
+    by (feed ∷ feeds) [] all = all
+    by (feed ∷ feeds) (size ∷ sizes) all = (all.0.counts, by feeds sizes all.1)
+
+module _ {S : Type 0} {g : Ghosts S} (config : Config) (stores : List S) where
+  abbrev v : Terms
+  v = terms_of config
+
+  -- the stores hold the same by the terms of the configuration
+  pub held_by : (w : Terms) → HasSameStore w v → (stop : ℕ) (x : World)
+      → HoldsTexts g stores stop w x.state.begun x.state.kept x.work.failures
+      → IsHeldBy g config.buffers stores stop v x.state.begun x.state.kept x.work.failures
+  held_by w store stop x holds =
+      let P : List Buffer → List Group → Type 0 = λ bs gs. HoldsTexts g stores stop
+      (record v { buffers = bs; groups = gs }) x.state.begun x.state.kept x.work.failures in (
+        refl,
+        (
+          refl,
+          subst (λ bs. P bs v.groups) (sym store.buffers)
+              (subst (λ gs. P w.buffers gs) (sym store.groups) (record {
+                sound = holds.sound;
+                numbered = holds.numbered;
+                fit = holds.fit;
+                count = holds.count;
+                buffers = holds.buffers;
+              })),
+        ),
+      )
+
+  module _ (text : List ℕ) (w : Terms) (stop : ℕ) (x : World) (store : HasSameStore w v)
+      (shut : IsShut g w stop stores text x) where
+    abbrev told : Tells w stop x.state text
+    told = shut.tells
+
+    -- the world after the start is well
+    started_is_well : IsWell v (started x x.work.failures)
+    started_is_well = started_well w v x x.work.failures store shut.idle shut.well
+
+    -- the text is of a history that the configuration allows
+    pub shut_reads : Reads config text told.kept
+    shut_reads =
+        let is = again config w store stop x x.work.failures told.kept told.history in
+        record {
+          fits = told.fits;
+          holds = record_holds config (started x x.work.failures) started_is_well told.kept is.1.0
+              is.1.1 is.0;
+          text_is = told.written;
+        }
+
+    -- it isn't ahead
+    pub shut_behind : is_ahead (filled_of v x.state) told.kept ≡ false
+    shut_behind =
+        let is = again config w store stop x x.work.failures told.kept told.history in
+        record_behind config (started x x.work.failures) started_is_well told.kept is.1.0 is.1.1
+
+  -- the parts start, and the whole with them
+  pub starts : (system : System S g) (text : List ℕ) (kept : texts.Kept)
+      (unopened : UnopenedShelf S g) (desks : Desks) → system.config ≡ config
+      → Reads config text kept
+      → ((one : texts.Kept) → Reads config text one → kept ≡ one)
+      → IsAheadAs g config stores kept false → IsStartedShelf stores kept.stop unopened
+      → IsOpened unopened system.shelf → stop_of system ≡ kept.stop
+      → system.newest ≡ Some kept.newest → NoPeers system.peers
+      → AreOf config kept (length config.buffers.groups.items) desks
+      → system.shards ≡ desks.shards → system.desk ≡ desks.desk → system.lanes ≡ desks.lanes
+      → system.expirer ≡ desks.expirer
+      → WillKeepHeld config.buffers stores kept.stop kept.positions unopened
+      → KeepsOpened unopened system.shelf → StartsOver {g = g} config stores text system
+  starts system text kept unopened desks same reads one_text behind is_started opened stop newest
+      peers of shards_are desk_is lanes_are expirer_is held opens =
+      record {
+        config_is = same;
+        laned = ap length (ap (λ (lanes : Vec Lane). lanes.items) lanes_are) ∙ of.lanes.count_is
+            ∙ sym (groups_count config)
+            ∙ ap (λ (c : Config). length (terms_of c).groups) (sym same);
+        history = kept;
+        reads = reads;
+        behind = behind;
+        unopened = unopened;
+        started = is_started;
+        opened = opened;
+        stop_is = stop;
+        newest_is = newest;
+        agrees = λ w at x store shut.
+            let is : kept ≡ shut.tells.kept = one_text shut.tells.kept (shut_reads text w at x store
+            shut) in
+            let H : texts.Kept → Type 0 = λ k. IsHistory w at x.state k in
+            let history = subst H (sym is) shut.tells.history in
+            let parts = again config w store at x x.work.failures kept history in
+            let lasts = of.claims (started x x.work.failures).state.claim parts.1.1 in
+            let C : Config → Type 0 = λ c. AgreesBy true (terms_of c) system
+            (started x x.work.failures) in
+            let N : ℕ → Type 0 = λ n. HoldsTexts g stores n w x.state.begun x.state.kept
+            x.work.failures in
+            subst C (sym same) (record {
+              core = record {
+                newest = ap Some (sym history.newest) ∙ sym newest;
+                claims = subst (λ (all : Shards). KeepsAll all (started x x.work.failures).state.claim)
+                    (sym shards_are)
+                    (record {
+                      agrees = λ id none.
+                          lasts.agrees id none
+                          ∙ ap mark_of (lasts_again (x.state.claim id)
+                          ∙ lasting_is (x.state.claim id) (shut.idle id));
+                    });
+                count = ap length (ap (λ (lanes : Vec Lane). lanes.items) lanes_are)
+                    ∙ of.lanes.count_is ∙ sym (groups_count config);
+                lanes = subst (λ (lanes : Vec Lane). (h : ℕ)
+                    → LaneIs (slice_get lanes.items h) [] world.Idle) (sym lanes_are)
+                    (idle_lanes desks.lanes.items of.lanes.each);
+                desk = subst (λ (desk : FeedDesk). KeepsFeeds desk (ring_sizes v) x.state.feed)
+                    (sym desk_is)
+                    (subst (λ ns. KeepsFeeds desks.desk ns x.state.feed)
+                    (rings_are config.relay.feeds.items) (of.desk x.state.feed parts.1.0));
+                shelf = opens v x.state.begun x.state.kept x.work.failures
+                    (held v x.state.begun x.state.kept x.work.failures
+                    (held_by w store kept.stop x (subst N (sym history.stop_is) shut.shelf))
+                    parts.0);
+                expirer = sym (ap expirer_view expirer_is ∙ of.expirer);
+              };
+              peers = λ s. nobody true v x.state.kept (peer_at system.peers s) (x.state.session s)
+                  (peers s);
+              well = started_is_well text w at x store shut;
+            });
+      }
+
+  -- WHY A START IS REFUSED
+
+  module _ (text : List ℕ) (refused : Unstarted S) where
+    -- memory was refused
+    pub no_room : refused.error ≡ faults.Memory → refused.buffer ≡ None
+        → AreEach (IsUnwritten g None) stores refused.stores.items
+        → IsRefusedRightly g config stores text refused
+    no_room is of_none unwritten =
+        record {
+          reason = reasons.HasNoRoom is of_none unwritten;
+          cause = λ w stop x store shut. subst IsFromOutside (sym is) tt;
+        }
+
+    -- the text is of no history
+    pub unread : refused.error ≡ faults.BadHistory → refused.buffer ≡ None
+        → refused.stores.items ≡ stores → ((kept : texts.Kept) → Reads config text kept → ⊥)
+        → IsRefusedRightly g config stores text refused
+    unread is of_none same none =
+        record {
+          reason = reasons.IsUnread is of_none same none;
+          cause = λ w stop x store shut.
+              absurd (none shut.tells.kept (shut_reads text w stop x store shut));
+        }
+
+    module _ (kept : texts.Kept) (reads : Reads config text kept)
+        (one_text : (one : texts.Kept) → Reads config text one → kept ≡ one) where
+      -- the history of what was shut is the one that was read
+      same_text : (w : Terms) (stop : ℕ) (x : World) (store : HasSameStore w v)
+          (shut : IsShut g w stop stores text x) → kept ≡ shut.tells.kept
+      same_text w stop x store shut =
+          one_text shut.tells.kept (shut_reads text w stop x store shut)
+
+      -- and so is its stop
+      shut_at : (w : Terms) (stop : ℕ) (x : World) (store : HasSameStore w v)
+          (shut : IsShut g w stop stores text x)
+          → IsHeldBy g config.buffers stores kept.stop v x.state.begun x.state.kept x.work.failures
+      shut_at w stop x store shut =
+          let at : kept.stop ≡ stop =
+          ap (λ (one : texts.Kept). one.stop) (same_text w stop x store shut)
+          ∙ shut.tells.history.stop_is in
+          subst (λ n. IsHeldBy g config.buffers stores n v x.state.begun x.state.kept
+          x.work.failures) (sym at) (held_by w store stop x shut.shelf)
+
+      -- a buffer isn't started
+      pub not_started : shelves.IsUnstarted g stores kept.stop refused
+          → HasCause g config.buffers stores kept.stop refused
+          → IsRefusedRightly g config stores text refused
+      not_started refusal cause =
+          record {
+            reason = reasons.IsUnstarted kept reads refusal;
+            cause = λ w stop x store shut.
+                cause v x.state.begun x.state.kept x.work.failures (shut_at w stop x store shut);
+          }
+
+      module _ (shelf : UnopenedShelf S g) (is_started : IsStartedShelf stores kept.stop shelf)
+        where
+          -- the history is ahead
+          pub ahead : IsAheadAs g config stores kept true → refused.error ≡ faults.Ahead
+              → refused.buffer ≡ None → AreEach (IsUnwritten g None) stores refused.stores.items
+              → IsRefusedRightly g config stores text refused
+          ahead is error of_none unwritten =
+              record {
+                reason = reasons.IsAhead kept reads shelf is_started is error of_none unwritten;
+                cause = λ w stop x store shut.
+                    absurd (true≢false (sym (is v x.state x.work.failures
+                    (shut_at w stop x store shut))
+                    ∙ ap (is_ahead (filled_of v x.state)) (same_text w stop x store shut)
+                    ∙ shut_behind text w stop x store shut));
+              }
+
+          -- a head isn't opened
+          pub not_opened : IsAheadAs g config stores kept false → shelves.IsUnopened shelf refused
+              → IsRefusedRightly g config stores text refused
+          not_opened behind is =
+              record {
+                reason = reasons.IsUnopened kept reads shelf is_started behind is;
+                cause = λ w stop x store shut. subst IsFromOutside (sym is.device) tt;
+              }
+
+  -- whether a history is ahead is told of how far the buffers are filled
+  pub ahead_as : (kept : texts.Kept) (shelf : UnopenedShelf S g) (filled : List code.Filled)
+      (answer : Bool) → TellsFilled config.buffers shelf filled
+      → KeepsHeld config.buffers stores kept.stop shelf
+      → answer ≡ is_ahead (map filled_view filled) kept → IsAheadAs g config stores kept answer
+  ahead_as kept shelf filled answer tells keeps is = λ w σ failures held.
+      ap (λ fs. is_ahead fs kept)
+      (sym (tells w σ failures held.0 (keeps w σ.begun σ.kept failures held)))
+      ∙ sym is
+
+-- what is handed back as it was is unwritten
+pub unwritten_self : {S : Type 0} (g : Ghosts S) (stores : List S)
+    → AreEach (IsUnwritten g None) stores stores
+unwritten_self g stores =
+    record {
+      count = refl;
+      each = λ b one there. record {
+        item = one;
+        there = there;
+        belongs = record {
+          held = record {
+            honest = λ is. is;
+            blocks = λ is. refl;
+            heads = λ is. refl;
+            count = refl;
+          };
+          failed_here = λ e. absurd (none-some b e);
+          no_failure = λ other. refl;
+        };
+      };
+    }

@@ -1,0 +1,211 @@
+-- A relay that is closed: nothing is open in it, and its history is that of each world.
+use Rattle.std.proofs.Common.{◌≡◌, ◌∙◌, ◌<◌, ◌≤◌, ◌+◌, ◌++◌, ℕ, Bool, true, false, List, [], ◌∷◌}
+use Rattle.std.proofs.Common.{Option, None, Some, refl, sym, ap, subst, true≢false, length, map, arith}
+use Rattle.std.proofs.Common.{◌⊎◌, inl, inr, slice_get}
+use Rattle.std.proofs.lemmas.List.{length-append, length-map, map_push}
+use Rattle.std.proofs.lemmas.Option.{none-some}
+use Rattle.std.specs.Prelude.{option_map, slice_index}
+use Rattle.article_verdict.specs.Config.{terms_of}
+use Rattle.block_shelf.specs.Keeping.{KeepsTexts}
+use Rattle.block_shelf.specs.Openings.{Opening}
+use Rattle.cyc_block.specs.declared.store.BlockStore.{Ghosts}
+use Rattle.feed_queue.specs.Feeds.{KeepsFeeds, ring_count}
+use Rattle.feed_queue.specs.Permission.{feed_view as conf_view}
+use Rattle.feed_queue.specs.declared.desk.FeedDesk.{FeedDesk}
+use Rattle.feed_queue.specs.Left.{AreLeft, IsLeft}
+use Rattle.history_text.specs.History.{Fits, KeptFeed, history_octets}
+use Rattle.history_text.specs.History as texts
+use Rattle.history_text.specs.Views.{feed_view}
+use Rattle.history_text.specs.declared.kept.KeptFeed as code
+use Rattle.id_history.specs.Lasting.{AreLasting, lasting}
+use Rattle.id_history.specs.Shards.{KeepsAll}
+use Rattle.relay_conf.proofs.ListPlaces.{at_pushed}
+use Rattle.relay_conf.specs.declared.settings.Config.{Config}
+use Rattle.relay_facts.specs.Started.{newest_kept}
+use Rattle.relay_model.specs.Claims as claims
+use Rattle.relay_model.specs.Claims.{Claim, after_restart, is_storing}
+use Rattle.relay_model.specs.Invariants.{IsAt, IsWell}
+use Rattle.relay_model.specs.State as model
+use Rattle.relay_model.specs.State.{in_phase}
+use Rattle.relay_model.specs.Terms.{FeedTerms, Terms}
+use Rattle.relay_model.specs.World as world
+use Rattle.relay_model.specs.World.{World}
+use Rattle.relay_core.specs.Agreement.{Agrees, IsGone, ring_sizes}
+use Rattle.relay_core.specs.Idle.{TellsIdle}
+use Rattle.relay_core.specs.Openings.{opening_of, openings}
+use Rattle.relay_core.specs.Stopping.{AreKeptFeeds, IsShut, Shuts, TellsHistory, next_stop, stop_of}
+use Rattle.relay_core.specs.Stubs.{HoldsKept, IsBusyShelf, TellsPositions}
+use Rattle.relay_core.specs.declared.system.System.{System}
+
+-- no id is being stored
+abbrev pub IsIdle : World → Type 0
+IsIdle x = (id : List ℕ) → is_storing (x.state.claim id) ≡ false
+
+-- then no writer has an open write
+none_open : (w : Terms) (x : World) → IsIdle x → (h : ℕ) (v : world.Writer) → IsAt w x.state h v
+    → opening_of v ≡ None
+none_open w x idle h world.Idle at = refl
+none_open w x idle h (world.Popped job) at = refl
+none_open w x idle h (world.Writing job token written) at =
+    absurd (true≢false (sym (ap is_storing at.2.1) ∙ idle job.id))
+none_open w x idle h (world.Finished job token) at = refl
+none_open w x idle h (world.Failed job None) at = refl
+none_open w x idle h (world.Failed job (Some token)) at =
+    absurd (true≢false (sym (ap is_storing at.2) ∙ idle job.id))
+none_open w x idle h (world.Settled session) at = refl
+none_open w x idle h (world.Forgotten session) at = refl
+
+pub nothing_open : (w : Terms) (x : World) → IsIdle x → IsWell w x
+    → openings x.work.writer ≡ (λ (h : ℕ). None)
+nothing_open w x idle well =
+    λ i h. none_open w x idle h (x.work.writer h) (well.placed.writer h) i
+
+-- what lasts of a claim of what isn't being stored is what a Restart leaves
+pub lasting_is : (claim : Claim) → is_storing claim ≡ false → lasting claim ≡ after_restart claim
+lasting_is claims.Unknown e = refl
+lasting_is (claims.Offered session) e = refl
+lasting_is (claims.Storing session article stage) e = absurd (true≢false e)
+lasting_is (claims.Stored token moment) e = refl
+lasting_is (claims.Refused moment) e = refl
+
+-- every session ended
+pub ended_gone : (o : Option model.Session)
+    → IsGone (option_map (λ (one : model.Session). in_phase one model.Ended) o)
+ended_gone None = tt
+ended_gone (Some session) = refl
+
+-- WHAT IS LEFT OF THE FEEDS
+
+-- this is left of the first feeds
+pub record AreLeftSoFar (n : ℕ) (kept : List KeptFeed) (sizes : List ℕ) (feed : ℕ → model.Feed)
+    : Type 0 where
+  pub count : length kept ≡ n
+  pub each : (f : ℕ) (one : KeptFeed) → slice_get kept f ≡ Some one
+      → IsLeft one (slice_index sizes f) (feed f)
+
+-- of none
+pub none_left : (sizes : List ℕ) (feed : ℕ → model.Feed) → AreLeftSoFar 0 [] sizes feed
+none_left sizes feed =
+    record { count = refl; each = λ f one there. absurd (none-some one there) }
+
+-- and of one more
+pub left_joins : (n : ℕ) (kept : List KeptFeed) (one : KeptFeed) (sizes : List ℕ)
+    (feed : ℕ → model.Feed) → AreLeftSoFar n kept sizes feed
+    → IsLeft one (slice_index sizes n) (feed n)
+    → AreLeftSoFar (n + 1) (kept ++ one ∷ []) sizes feed
+left_joins n kept one sizes feed before is =
+    record {
+      count = length-append kept (one ∷ []) ∙ ap (λ k. k + 1) before.count;
+      each = λ f other there. by_place f other (at_pushed kept one f other there);
+    }
+  where
+    by_place : (f : ℕ) (other : KeptFeed)
+        → (slice_get kept f ≡ Some other) ⊎ ((f ≡ length kept) × (one ≡ other))
+        → IsLeft other (slice_index sizes f) (feed f)
+    by_place f other (inl there) = before.each f other there
+    by_place f other (inr last) =
+        subst (λ (k : ℕ). IsLeft other (slice_index sizes k) (feed k)) (sym (last.0 ∙ before.count))
+        (subst (λ (k : KeptFeed). IsLeft k (slice_index sizes n) (feed n)) last.1 is)
+
+-- the same of what the desk gave
+pub kept_joins : (n : ℕ) (kept more : List code.KeptFeed) (one : code.KeptFeed) (sizes : List ℕ)
+    (feed : ℕ → model.Feed) → more ≡ kept ++ one ∷ []
+    → AreLeftSoFar n (map feed_view kept) sizes feed
+    → IsLeft (feed_view one) (slice_index sizes n) (feed n)
+    → AreLeftSoFar (n + 1) (map feed_view more) sizes feed
+kept_joins n kept more one sizes feed joined before is =
+    subst (λ all. AreLeftSoFar (n + 1) all sizes feed)
+    (sym (ap (map feed_view) joined ∙ map_push feed_view kept one))
+    (left_joins n (map feed_view kept) (feed_view one) sizes feed before is)
+
+module _ (config : Config) where
+  -- there are as many rings as feeds
+  sizes_count : length (ring_sizes (terms_of config)) ≡ length config.relay.feeds.items
+  sizes_count =
+      length-map (terms_of config).feeds (λ (feed : FeedTerms). feed.ring)
+      ∙ length-map config.relay.feeds.items conf_view
+
+  -- no feed of the configuration is missing
+  pub feed_missing : (desk : FeedDesk) (feed : ℕ → model.Feed) (n : ℕ)
+      → KeepsFeeds desk (ring_sizes (terms_of config)) feed
+      → n < length config.relay.feeds.items → ring_count desk ≤ n → ⊥
+  feed_missing desk feed n keeps within past =
+      absurd (omega (arith, keeps.count, sizes_count, within, past))
+
+  -- this is left of all feeds
+  pub all_left : (n : ℕ) (kept : List KeptFeed) (feed : ℕ → model.Feed)
+      → n ≡ length config.relay.feeds.items
+      → AreLeftSoFar n kept (ring_sizes (terms_of config)) feed
+      → AreLeft kept (ring_sizes (terms_of config)) feed
+  all_left n kept feed all so_far =
+      record { count = so_far.count ∙ all ∙ sym sizes_count; each = so_far.each }
+
+-- WHAT CLOSING GIVES
+
+module _ {S : Type 0} {g : Ghosts S} (old : System S g) where
+  abbrev w : Terms
+  w = terms_of old.config
+
+  -- where the shards have no id that is being stored, no world has
+  pub at_rest : TellsIdle old.shards true → (trusted : Bool) (x : World) → Agrees trusted old x
+      → IsIdle x
+  at_rest idle trusted x agrees = idle x.state.claim agrees.core.claims
+
+  -- and the shelf keeps all without an open write
+  pub closed_texts : (trusted : Bool) (x : World) → Agrees trusted old x → IsIdle x
+      → KeepsTexts trusted old.shelf w x.state.begun x.state.kept (λ h. None) x.work.failures
+  closed_texts trusted x agrees none =
+      let T : (ℕ → Option Opening) → Type 0 = λ all. KeepsTexts trusted old.shelf w x.state.begun
+      x.state.kept all x.work.failures in
+      subst T (nothing_open w x none agrees.well) agrees.core.shelf
+
+  -- a relay that is closed holds each world with which it agreed
+  pub shuts : (stop : ℕ) (stores : List S) (text : List ℕ) → stop ≡ next_stop (stop_of old)
+      → TellsIdle old.shards true → TellsHistory old stop text → HoldsKept stop old.shelf stores
+      → Shuts old stores text
+  shuts stop stores text is idle tells holds =
+      let none = at_rest idle in
+      let T : ℕ → Type 0 = λ n. TellsHistory old n text in
+      let H : ℕ → Type 0 = λ n. HoldsKept n old.shelf stores in
+      let told = subst T is tells in
+      record {
+        rest = none;
+        text = told;
+        holds = λ x agrees. record {
+          tells = told true x agrees;
+          shelf = subst H is holds w x.state.begun x.state.kept x.work.failures
+              (closed_texts true x agrees (none true x agrees));
+          idle = none true x agrees;
+          well = agrees.well;
+        };
+      }
+
+  -- where nothing is being stored no write is open
+  pub not_busy : TellsIdle old.shards true → IsBusyShelf old.shelf → (trusted : Bool) (x : World)
+      → Agrees trusted old x → ⊥
+  not_busy idle busy trusted x agrees =
+      busy.writing trusted w x.state.begun x.state.kept x.work.failures
+      (closed_texts trusted x agrees (at_rest idle trusted x agrees))
+
+  -- the history that is made of the parts is that of each world
+  pub tells_of : (stop : ℕ) (text : List ℕ) (kept : texts.Kept) → Fits kept
+      → text ≡ history_octets kept → kept.stop ≡ stop → kept.newest ≡ newest_kept old.newest
+      → TellsPositions old.shelf kept.positions
+      → ((feed : ℕ → model.Feed) → KeepsFeeds old.desk (ring_sizes w) feed
+      → AreLeft kept.feeds (ring_sizes w) feed)
+      → ((claim : List ℕ → Claim) → KeepsAll old.shards claim → AreLasting kept.ids claim)
+      → TellsHistory old stop text
+  tells_of stop text kept fits written stops newest positions feeds ids = λ trusted x agrees.
+      record {
+        kept = kept;
+        fits = fits;
+        written = written;
+        history = record {
+          stop_is = stops;
+          newest = newest ∙ ap newest_kept (sym agrees.core.newest);
+          positions = positions trusted w x.state.begun x.state.kept (openings x.work.writer)
+              x.work.failures agrees.core.shelf;
+          feeds = feeds x.state.feed agrees.core.desk;
+          ids = ids x.state.claim agrees.core.claims;
+        };
+      }

@@ -1,0 +1,134 @@
+//! Whether a history knows of more than the buffers hold.
+ghost use Rattle.std.specs.Prelude.{◌≡◌, IfOk, map, nat_lt};
+ghost use Rattle.std.specs.List.{list_any};
+ghost use Rattle.cyc_token.specs.Token.{token_view};
+ghost use Rattle.history_text.specs.Views.{feed_view, history_view, id_view};
+ghost use Rattle.relay_core.specs.Ahead.{TellsFilled, all_stored, filled_view, is_ahead};
+ghost use Rattle.relay_core.specs.Ahead.{is_feed_ahead, is_id_ahead, is_unbegun};
+
+use crate::stubs::UnopenedShelf;
+use cyc_block::BlockStore;
+use cyc_token::Token;
+use history_text::{History, KeptFeed, KeptId};
+use relay_conf::Buffers;
+use std::alloc::{AllocError, Global};
+
+/// How far a buffer is filled.
+#[derive(Clone, Copy, Debug, PartialEq, Eq)]
+pub(crate) struct Filled {
+    /// How many blocks it has.
+    pub(crate) blocks: u32,
+    /// Its front's place on the endless line of its blocks.
+    pub(crate) front: u64,
+    /// How many articles are stored in it.
+    pub(crate) stored: u64,
+}
+
+/// How far the buffers of a started shelf are filled, in the order of their numbers.
+pub(crate) fn all_filled<S: BlockStore>(
+    alloc: Global,
+    settings: &Buffers,
+    unopened: &UnopenedShelf<S>,
+) -> Result<Vec<Filled>, AllocError>
+    ensures { IfOk result (λ filled. TellsFilled settings.now unopened.now filled.items) }
+{
+    let mut filled = Vec::with_capacity(alloc, settings.buffers.len())?;
+    for (number, buffer) in settings.buffers.iter().enumerate() {
+        if let Some(figures) = unopened.figures(number as u8) {
+            filled.push_reserved(Filled {
+                blocks: buffer.blocks,
+                front: figures.front,
+                stored: figures.stored,
+            });
+        }
+    }
+    Ok(filled)
+}
+
+/// Whether the history knows of more than the buffers hold.
+pub(crate) fn is_ahead(filled: &[Filled], history: &History) -> bool
+    ensures { result ≡ is_ahead (map filled_view filled.now) (history_view history.now) }
+{
+    is_any_id_ahead(filled, &history.ids) || is_any_feed_ahead(filled, &history.feeds)
+}
+
+/// Whether an id is stored under a token of no article that was begun.
+fn is_any_id_ahead(filled: &[Filled], ids: &[KeptId]) -> bool
+    ensures { result
+        ≡ list_any (is_id_ahead (map filled_view filled.now)) (map id_view ids.now) }
+{
+    let mut left = ids;
+    while let Some((one, others)) = left.split_first() {
+        if is_id_ahead(filled, one) {
+            return true;
+        }
+        left = others;
+    }
+    false
+}
+
+/// Whether the id is stored under a token of no article that was begun.
+fn is_id_ahead(filled: &[Filled], one: &KeptId) -> bool
+    ensures { result ≡ is_id_ahead (map filled_view filled.now) (id_view one.now) }
+{
+    match one.token {
+        None => false,
+        Some(token) => is_unbegun(filled, &token),
+    }
+}
+
+/// Whether a feed gained more than is stored, or what waits for it was not begun.
+fn is_any_feed_ahead(filled: &[Filled], feeds: &[KeptFeed]) -> bool
+    ensures { result
+        ≡ list_any (is_feed_ahead (map filled_view filled.now)) (map feed_view feeds.now) }
+{
+    let mut left = feeds;
+    while let Some((feed, others)) = left.split_first() {
+        if is_more(filled, feed.gained) || is_any_unbegun(filled, &feed.waiting) {
+            return true;
+        }
+        left = others;
+    }
+    false
+}
+
+/// Whether it is more than is stored in all buffers together.
+fn is_more(filled: &[Filled], gained: u64) -> bool
+    ensures { result ≡ nat_lt (all_stored (map filled_view filled.now)) gained }
+{
+    let mut above = gained;
+    let mut left = filled;
+    while let Some((one, others)) = left.split_first() {
+        above = above.saturating_sub(one.stored);
+        left = others;
+    }
+    above > 0
+}
+
+/// Whether one of the tokens is of no article that was begun.
+fn is_any_unbegun(filled: &[Filled], tokens: &[Token]) -> bool
+    ensures { result
+        ≡ list_any (is_unbegun (map filled_view filled.now)) (map token_view tokens.now) }
+{
+    let mut left = tokens;
+    while let Some((token, others)) = left.split_first() {
+        if is_unbegun(filled, token) {
+            return true;
+        }
+        left = others;
+    }
+    false
+}
+
+/// Whether no article was begun under the token: its place isn't below the front of its buffer.
+fn is_unbegun(filled: &[Filled], token: &Token) -> bool
+    ensures { result ≡ is_unbegun (map filled_view filled.now) (token_view token.now) }
+{
+    match filled.get(usize::from(token.buffer)) {
+        None => true,
+        Some(one) => {
+            let passed = u64::from(one.blocks) * u64::from(token.cycle);
+            passed + u64::from(token.first) >= one.front
+        }
+    }
+}

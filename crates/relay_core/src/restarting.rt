@@ -1,0 +1,82 @@
+//! A Restart: the relay is closed and started again in place (docs/PROTOCOL.md, Clean stop and
+//! start).
+use crate::desks::{Desks, read_history};
+use crate::event::{CoreError, Output};
+use crate::idle::is_idle;
+use crate::stubs::{RestartFault, restart};
+use crate::system::System;
+use cyc_block::BlockStore;
+use history_text::HistoryError;
+use relay_peers::Peers;
+
+impl<S: BlockStore> System<S> {
+    ghost use Rattle.std.specs.Prelude.{IfErr, IfOk};
+    ghost use Rattle.relay_model.specs.Run as run;
+    ghost use Rattle.relay_core.specs.Restarting.{BeginsAgain, IsReread, IsUnread};
+    ghost use Rattle.relay_core.specs.Restarting.{RestartsRightly};
+    ghost use Rattle.relay_core.specs.Sharing.{KeepsFrame};
+    ghost use Rattle.relay_core.specs.Steps.{Steps};
+
+    /// Closes the relay and starts it again, in place: the buffers from what they write, all else
+    /// from the text of its history. Where a message-id is being stored nothing is done.
+    pub(crate) fn restart(&mut self) -> Output
+        ensures steps { Steps run.Restart self.old result self.new }
+        ensures refused { RestartsRightly self.old result self.new }
+        ensures frame { KeepsFrame self.old self.new }
+    {
+        if !is_idle(&self.shards) {
+            return Output::Refused(CoreError::NotIdle);
+        }
+        // All memory but that of the buffers is taken before a device is called.
+        let stop = self.next_stop();
+        let desks = match self.reread(stop) {
+            Ok(desks) => desks,
+            Err(HistoryError::Memory) => return Output::Refused(CoreError::Memory),
+            Err(HistoryError::BadHistory) => return Output::Refused(CoreError::NotRestarted),
+        };
+        match restart(&mut self.shelf, self.alloc, stop) {
+            Ok(()) => {
+                self.begin_again(desks, stop);
+                Output::Quiet
+            }
+            Err(RestartFault::Memory) => Output::Refused(CoreError::Memory),
+            Err(_) => Output::Refused(CoreError::NotRestarted),
+        }
+    }
+
+    /// What is kept beside the shelf, written as the text of its history at this stop, and read
+    /// back.
+    fn reread(&self, stop: u64) -> Result<Desks, HistoryError>
+        ensures reread { IfOk result (IsReread self.now) }
+        ensures unread { IfErr result (IsUnread self.now) }
+    {
+        let text = self.text(stop)?;
+        let history = read_history(self.alloc, &self.config, &text)?;
+        let desks = Desks::resume(
+            self.alloc,
+            self.hasher,
+            &self.config,
+            history,
+            self.lanes.len(),
+        )?;
+        Ok(desks)
+    }
+
+    /// Nobody is here, and the relay goes on with these.
+    fn begin_again(&mut self, desks: Desks, stop: u64)
+        ensures { BeginsAgain desks stop self.old self.new }
+    {
+        let Desks {
+            shards,
+            desk,
+            lanes,
+            expirer,
+        } = desks;
+        self.peers = Peers::new(self.alloc, self.hasher);
+        self.shards = shards;
+        self.desk = desk;
+        self.lanes = lanes;
+        self.expirer = expirer;
+        self.stop = stop;
+    }
+}

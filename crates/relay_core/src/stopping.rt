@@ -1,0 +1,134 @@
+//! How the relay is closed (docs/PROTOCOL.md, Clean stop and start).
+use crate::idle::is_idle;
+use crate::stopped::{Stopped, Unstopped};
+use crate::stubs::{Unshut, positions, shut};
+use crate::system::System;
+use cyc_block::BlockStore;
+use history_text::{History, KeptFeed, write};
+use std::alloc::AllocError;
+
+/// The groups that there can be.
+const GROUP_LIMIT: usize = 256;
+
+impl<S: BlockStore> System<S> {
+    ghost use Rattle.std.specs.Prelude.{◌≡◌, IfErr, IfOk};
+    ghost use Rattle.relay_core.specs.Stopping.{AreKeptFeeds, ComesBack, HaveRoom, IsFromShelf};
+    ghost use Rattle.relay_core.specs.Stopping.{Shuts, TellsHistory, next_stop, stop_of};
+    ghost use Rattle.relay_core.specs.Stubs.{HoldsKept};
+
+    /// Closes the relay: gives the stores of its buffers, and the text of its history. Where a
+    /// message-id is being stored it isn't.
+    pub fn shut(self) -> Result<Stopped<S>, Unstopped<S>>
+        ensures shut { IfOk result (λ shut. Shuts self shut.stores.items shut.history.items) }
+        ensures back { IfErr result (ComesBack self) }
+    {
+        if !is_idle(&self.shards) {
+            return Err(Unstopped::NotIdle(self));
+        }
+        // The text has its memory before a device is called: a head that says closed without it
+        // could not be started again.
+        let stop = self.next_stop();
+        let history = match self.text(stop) {
+            Ok(history) => history,
+            Err(_) => return Err(Unstopped::Memory(self)),
+        };
+        self.shut_with(stop, history)
+    }
+
+    /// Closes the buffers of an idle relay, whose history has this text.
+    fn shut_with(self, stop: u64, history: Vec<u8>) -> Result<Stopped<S>, Unstopped<S>>
+        ensures shut { IfOk result (λ shut. HoldsKept stop self.shelf shut.stores.items) }
+        ensures history { IfOk result (λ shut. shut.history.items ≡ history.items) }
+        ensures back { IfErr result (IsFromShelf self) }
+    {
+        let System {
+            alloc,
+            config,
+            hasher,
+            newest,
+            peers,
+            shards,
+            desk,
+            shelf,
+            lanes,
+            expirer,
+            stop: last,
+        } = self;
+        match shut(shelf, alloc, stop) {
+            Ok(stores) => Ok(Stopped { stores, history }),
+            Err(Unshut::Device(number, stores)) => Err(Unstopped::Device(number, stores)),
+            Err(Unshut::Busy(shelf)) => Err(Unstopped::NotIdle(System {
+                alloc,
+                config,
+                hasher,
+                newest,
+                peers,
+                shards,
+                desk,
+                shelf,
+                lanes,
+                expirer,
+                stop: last,
+            })),
+            Err(Unshut::Memory(shelf)) => Err(Unstopped::Memory(System {
+                alloc,
+                config,
+                hasher,
+                newest,
+                peers,
+                shards,
+                desk,
+                shelf,
+                lanes,
+                expirer,
+                stop: last,
+            })),
+        }
+    }
+
+    /// The number of the next stop: after the greatest it is 1 again.
+    pub(crate) fn next_stop(&self) -> u64
+        ensures { result ≡ next_stop (stop_of self.now) }
+    {
+        match self.stop.checked_add(1) {
+            Some(next) => next,
+            None => 1,
+        }
+    }
+
+    /// The text of its history at this stop.
+    pub(crate) fn text(&self, stop: u64) -> Result<Vec<u8>, AllocError>
+        ensures { IfOk result (λ text. TellsHistory self.now stop text.items) }
+    {
+        let positions = positions(&self.shelf, self.alloc)?;
+        // There are no more groups.
+        if positions.len() > GROUP_LIMIT {
+            return Err(AllocError);
+        }
+        let feeds = self.kept_feeds()?;
+        let ids = self.shards.entries(self.alloc)?;
+        let history = History {
+            stop,
+            newest: self.newest.unwrap_or(0),
+            positions,
+            feeds,
+            ids,
+        };
+        write(self.alloc, &history)
+    }
+
+    /// What is left of all feeds.
+    fn kept_feeds(&self) -> Result<Vec<KeptFeed>, AllocError>
+        ensures left { IfOk result (λ kept. AreKeptFeeds self.now kept.items) }
+        ensures room { IfOk result (λ kept. HaveRoom kept.items) }
+    {
+        let feeds = &self.config.relay.feeds;
+        let mut kept = Vec::with_capacity(self.alloc, feeds.len())?;
+        for (number, _feed) in feeds.iter().enumerate() {
+            if let Some(one) = self.desk.kept(self.alloc, number as u16)? {
+                kept.push_reserved(one);
+            }
+        }
+        Ok(kept)
+    }
+}
