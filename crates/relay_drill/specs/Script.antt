@@ -118,15 +118,10 @@ expire_line two = both Expires (number two.0) (number two.1)
 abbrev pub fail_line : List (List ℕ) → List ℕ × List ℕ → Option Line
 fail_line buffers two = both Fails (place_of buffers two.0) (number_within 1 1000000 two.1)
 
--- `restart`
-abbrev pub restart_line : List (List ℕ) → Option Line
-restart_line [] = Some Restarts
-restart_line (word ∷ more) = None
-
--- `report`
-abbrev pub report_line : List (List ℕ) → Option Line
-report_line [] = Some Reports
-report_line (word ∷ more) = None
+-- `restart` and `report`: the line of a keyword that no word follows
+abbrev pub line_alone : Line → List (List ℕ) → Option Line
+line_alone line [] = Some line
+line_alone line (word ∷ more) = None
 
 -- a keyword with the words that follow it; None is a bad line
 abbrev pub line_with : Names → List (List ℕ) → Keyword → Option Line
@@ -140,8 +135,8 @@ line_with names after ROUNDS = option_and_then rounds_line (two_of after)
 line_with names after BREAK = option_and_then break_line (one_of after)
 line_with names after EXPIRE = option_and_then expire_line (two_of after)
 line_with names after FAIL = option_and_then (fail_line names.buffers) (two_of after)
-line_with names after RESTART = restart_line after
-line_with names after REPORT = report_line after
+line_with names after RESTART = line_alone Restarts after
+line_with names after REPORT = line_alone Reports after
 
 -- what these words say; None is a bad line
 abbrev pub line_of_words : Names → List (List ℕ) → Option Line
