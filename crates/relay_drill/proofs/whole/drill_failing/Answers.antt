@@ -31,8 +31,8 @@ returns-in_err-stores g c =
     c.from_residual-in_err-stores.ensures.1
     (memory_at_once c.args.config (g.R.Read.remaining c.args.reader.now) held)
 
-pub returns-in-Err : goal.returns-in-Err
-returns-in-Err g c =
+pub returns : goal.returns
+returns g c =
     unbegun c.args.config c.in-Err.error c.refused.result (g.R.Read.remaining c.args.reader.now)
     (g.W.Write.contents c.args.writer.now) c.in_ok-script.script.items
     (map line_view c.in_ok-lines.lines.items) c.refused.ensures c.in_ok-script.ensures
