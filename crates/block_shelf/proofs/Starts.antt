@@ -1,7 +1,9 @@
 -- A shelf is started, buffer after buffer.
 use Rattle.std.proofs.Common.{◌≡◌, ◌≢◌, ◌∙◌, ℕ, ◌+◌, ◌<◌, ◌≤◌, ◌==◌, ◌⊎◌, inl, inr, Bool, true}
 use Rattle.std.proofs.Common.{false, arith, refl, sym, ap, subst, List, [], ◌∷◌, ◌++◌, length, map}
-use Rattle.std.proofs.Common.{Option, None, Some, slice_get, option_map}
+use Rattle.std.proofs.Common.{Option, None, Some, slice_get, option_map, Result, Ok, Err}
+use Rattle.std.proofs.Common.{IfErr, IfOk}
+use Rattle.std.specs.Global.{Vec}
 use Rattle.std.proofs.lemmas.Bool.{cond-true, cond-false, eqb-false, eqb-true}
 use Rattle.std.proofs.lemmas.List.{length-map}
 use Rattle.std.proofs.lemmas.Option.{none-some, same_Some, slice_get-map, slice_get_within}
@@ -32,16 +34,19 @@ use Rattle.block_shelf.specs.Starting.{IsFirstOther, IsFromOutside, IsHeldBy, Is
 use Rattle.block_shelf.specs.Starting.{IsStartedOver, IsUnstartedBy, IsUnwritten, buffer_over}
 use Rattle.block_shelf.specs.Starting.{buffers_inside, failed_at, fault_of_start, number_told}
 use Rattle.block_shelf.specs.Starting.{IsTriedRefusal, other_after}
+use Rattle.block_shelf.specs.Starting.{IsStartedShelf, KeepsHeld, ResumeRacks, WillKeepHeld}
+use Rattle.block_shelf.specs.declared.opening.UnopenedShelf.{UnopenedShelf}
 use Rattle.block_shelf.specs.declared.starting.StopFault.{StopFault}
+use Rattle.block_shelf.specs.declared.starting.StopFault.TheVariants as faults
 
 -- a store that wasn't called is unwritten
 pub untouched_store : {S : Type 0} (g : Ghosts S) (failed : Option ℕ) (b : ℕ) (store : S)
     → (failed ≡ Some b → ⊥) → IsUnwritten g failed b store store
 untouched_store g failed b store apart = record {
   held = record {
-    honest = λ yes. yes;
-    blocks = λ yes. refl;
-    heads = λ yes. refl;
+    honest = λ sure. sure;
+    blocks = λ sure. refl;
+    heads = λ sure. refl;
     count = refl;
   };
   failed_here = λ same. absurd (apart same);
@@ -81,7 +86,7 @@ started_stores {S} {g} stores buffers are =
     (λ b store one there is. started_store None b store one (λ e. none-some b e) is)
 
 -- the device failed at no buffer but the one of the fault
-failed_there : (error : StartError) (place b : ℕ) → failed_at error place ≡ Some b → place ≡ b
+pub failed_there : (error : StartError) (place b : ℕ) → failed_at error place ≡ Some b → place ≡ b
 failed_there errors.Memory place b e = absurd (none-some b e)
 failed_there errors.Device place b e = same_Some place b e
 failed_there errors.NoHead place b e = absurd (none-some b e)
@@ -89,7 +94,7 @@ failed_there errors.Unclosed place b e = absurd (none-some b e)
 failed_there errors.Damaged place b e = absurd (none-some b e)
 
 -- whether it has failed follows of the fault
-blamed_here : {S : Type 0} (g : Ghosts S) (old new : S) (error : StartError) (place : ℕ)
+pub blamed_here : {S : Type 0} (g : Ghosts S) (old new : S) (error : StartError) (place : ℕ)
     → IsBlamed g old new error → failed_at error place ≡ Some place
     → g.failures old < g.failures new
 blamed_here g old new errors.Memory place is e = absurd (none-some place e)
@@ -98,7 +103,7 @@ blamed_here g old new errors.NoHead place is e = absurd (none-some place e)
 blamed_here g old new errors.Unclosed place is e = absurd (none-some place e)
 blamed_here g old new errors.Damaged place is e = absurd (none-some place e)
 
-blamed_nowhere : {S : Type 0} (g : Ghosts S) (old new : S) (error : StartError) (place : ℕ)
+pub blamed_nowhere : {S : Type 0} (g : Ghosts S) (old new : S) (error : StartError) (place : ℕ)
     → IsBlamed g old new error → failed_at error place ≢ Some place
     → g.failures new ≡ g.failures old
 blamed_nowhere g old new errors.Memory place is apart = is
@@ -110,23 +115,23 @@ blamed_nowhere g old new errors.Damaged place is apart = is
 -- an honest store of each buffer that was started can be
 pub earlier_start : {S : Type 0} {g : Ghosts S} (stores : List S) (buffers : List (Unopened S g))
     → AreEach IsStartedOver stores buffers → EarlierStart g stores (length stores)
-earlier_start stores buffers are b one less there yes =
+earlier_start stores buffers are b one less there sure =
     let was = are.each b one there in
-    (stop_of (inside was.item), (was.belongs.tokens, was.belongs.starts yes))
+    (stop_of (inside was.item), (was.belongs.tokens, was.belongs.starts sure))
 
-module _ {S : Type 0} {g : Ghosts S} (before : List S) (store : S) where
+module _ {S : Type 0} (g : Ghosts S) (before : List S) (store : S) where
   -- what is said of the stores before stays where one is put behind them
-  still_earlier : (place : ℕ) → place ≤ length before → EarlierStart g before place
+  pub still_earlier : (place : ℕ) → place ≤ length before → EarlierStart g before place
       → EarlierStart g (before ++ store ∷ []) place
-  still_earlier place within had b one less there yes = by (at_pushed before store b one there)
+  still_earlier place within had b one less there sure = by (at_pushed before store b one there)
     where
       by : (slice_get before b ≡ Some one) ⊎ ((b ≡ length before) × (store ≡ one))
           → (stop : ℕ) × CanStart g b one stop
-      by (inl was) = had b one less was yes
+      by (inl was) = had b one less was sure
       by (inr last) = absurd (omega (arith, less, within, last.0))
 
   -- a store behind one whose buffer was refused
-  pub refused_before : (error : StartError) (back : List S)
+  abbrev pub refused_before : (error : StartError) (back : List S)
       → IsRefusedAt g before error back
       → IsRefusedAt g (before ++ store ∷ []) error (back ++ store ∷ [])
   refused_before error back had =
@@ -145,7 +150,7 @@ module _ {S : Type 0} {g : Ghosts S} (before : List S) (store : S) where
       }
 
   -- the first whose buffer is refused
-  pub first_refused : (buffers : List (Unopened S g)) (error : StartError) (refused : S)
+  abbrev pub first_refused : (buffers : List (Unopened S g)) (error : StartError) (refused : S)
       → AreEach IsStartedOver before buffers → StaysHeld g store refused
       → IsBlamed g store refused error
       → (g.honest store → IsReason (g.heads store) (g.blocks store)
@@ -362,19 +367,117 @@ mixed_at {S} {g} stores stop buffers are place had =
     record {
       store = from.item;
       there = from.there;
-      other = λ yes. (
+      other = λ sure. (
         stop_of (inside had.0.0),
         had.0.2,
-        (from.belongs.tokens, from.belongs.starts yes),
+        (from.belongs.tokens, from.belongs.starts sure),
       );
-      same = λ b one less there yes.
+      same = λ b one less there sure.
           let was = are.each b one there in (
             was.belongs.tokens,
             subst
                 (λ n. Starts (g.heads one) (g.blocks one) (buffer_over g b one) n
                 was.belongs.tokens)
-                (had.1 b was.item less was.there) (was.belongs.starts yes),
+                (had.1 b was.item less was.there) (was.belongs.starts sure),
           );
       all = earlier_start stores buffers are;
       back_each = started_stores stores buffers are;
     }
+
+-- a start that was refused, as the shelf's
+pub refused_shelf : {S : Type 0} (g : Ghosts S) (stores : List S) (stop : ℕ) (fault : StopFault)
+    (number : Option ℕ) (back : List S) → IsTriedRefusal g stores fault number back
+    → IsUnstartedBy g stores stop fault number back
+refused_shelf g stores stop fault number back had =
+    subst (λ f. IsUnstartedBy g stores stop f number back) (sym had.1)
+    (subst (λ n. IsUnstartedBy g stores stop (fault_of_start had.0) n back) (sym had.2.1)
+    (refused_by g stores stop had.0 back had.2.0))
+
+-- and its cause
+pub refused_cause : {S : Type 0} (g : Ghosts S) (settings : Buffers) (stores : List S)
+    → map (λ store. length (g.blocks store)) stores
+    ≡ map (λ (conf : BufferConf). conf.blocks) settings.buffers.items
+    → (stop : ℕ) (fault : StopFault) (number : Option ℕ) (back : List S)
+    → IsTriedRefusal g stores fault number back → (w : Terms) (begun : ℕ → List ℕ)
+    (kept : List Kept) (failures : ℕ → ℕ)
+    → IsHeldBy g settings stores stop w begun kept failures → IsFromOutside fault
+refused_cause g settings stores sized stop fault number back had w begun kept failures held =
+    subst IsFromOutside (sym had.1)
+    (refused_outside g settings stores sized stop w begun kept failures held had.0 back had.2.0)
+
+-- a start that was mixed
+pub mixed_shelf : {S : Type 0} {g : Ghosts S} (stores : List S) (stop : ℕ)
+    (buffers : List (Unopened S g)) (room back : List S) (number : ℕ)
+    → AreEach IsStartedOver stores buffers → room ≡ []
+    → IsFirstOther stop buffers (Some number)
+    → back ≡ room ++ map (λ (one : Unopened S g). store_of (inside one)) buffers
+    → IsUnstartedBy g stores stop faults.Mixed (Some number) back
+mixed_shelf {S} {g} stores stop buffers room back number are none first made = (
+  number,
+  refl,
+  subst (IsMixedAt g stores stop number)
+      (sym (made
+      ∙ ap (λ items. items ++ map (λ (one : Unopened S g). store_of (inside one)) buffers) none))
+      (mixed_at stores stop buffers are number first),
+)
+
+-- a start that was refused memory for its groups
+pub memory_shelf : {S : Type 0} {g : Ghosts S} (stores : List S) (stop : ℕ)
+    (buffers : List (Unopened S g)) (fault : StopFault) (number : Option ℕ) (back : List S)
+    → AreEach IsStartedOver stores buffers → (number ≡ None) × (fault ≡ faults.Memory)
+    → back ≡ map (λ (one : Unopened S g). store_of (inside one)) buffers
+    → IsUnstartedBy g stores stop fault number back
+memory_shelf {S} {g} stores stop buffers fault number back are is made =
+    subst (λ f. IsUnstartedBy g stores stop f number back) (sym is.1)
+    (is.0, subst (AreEach (IsUnwritten g None) stores) (sym made) (started_stores stores buffers are))
+
+module _ {S : Type 0} {g : Ghosts S} (settings : Buffers) (stores : List S)
+    (sized : map (λ store. length (g.blocks store)) stores
+    ≡ map (λ (conf : BufferConf). conf.blocks) settings.buffers.items) (stop : ℕ)
+    (buffers : Vec (Unopened S g)) (are : AreEach IsStartedOver stores buffers.items)
+    (shelf : UnopenedShelf S g) (same : shelf.buffers ≡ buffers) where
+  -- the shelf's buffers are those that were started
+  over : AreEach IsStartedOver stores shelf.buffers.items
+  over = subst (λ (bs : Vec (Unopened S g)). AreEach IsStartedOver stores bs.items) (sym same) are
+
+  pub started_shelf : IsFirstOther stop buffers.items None → IsStartedShelf stores stop shelf
+  started_shelf first = record {
+    started = record {
+      over = over;
+      under = subst
+          (λ (bs : Vec (Unopened S g)). (b : ℕ) (one : Unopened S g)
+          → slice_get bs.items b ≡ Some one → stop_of (inside one) ≡ stop)
+          (sym same) first;
+    };
+    unwritten = started_stores stores shelf.buffers.items over;
+  }
+
+  pub shelf_held : KeepsHeld settings stores stop shelf
+  shelf_held w begun kept failures held =
+      buffers_keep g settings stores sized stop w begun kept failures held shelf.buffers.items over
+
+  pub shelf_keeps : (positions : List ℕ)
+      → ResumeRacks settings positions (buffers_inside buffers.items) shelf.racks.items
+      → WillKeepHeld settings stores stop positions shelf
+  shelf_keeps positions resume w begun kept failures held are_at =
+      let texts = shelf_held w begun kept failures held in
+      record {
+        texts = texts;
+        racks = resume w begun kept failures held.1
+            (subst
+            (λ (bs : Vec (Unopened S g)). BuffersKeep (buffers_inside bs.items) w begun kept failures)
+            same texts)
+            are_at;
+      }
+
+-- what follows of a value, where there is one
+pub ok_so : {X E : Type 0} {P Q R : X → Type 0} (result : Result X E) → IfOk result P
+    → IfOk result Q → ((x : X) → P x → Q x → R x) → IfOk result R
+ok_so (Ok x) one other so = so x one other
+ok_so (Err e) one other so = tt
+
+-- and of an error
+pub err_so : {X E : Type 0} {P Q R : E → Type 0} (result : Result X E) → IfErr result P
+    → IfErr result Q → ((e : E) → P e → Q e → R e) → IfErr result R
+err_so (Ok x) one other so = tt
+err_so (Err e) one other so = so e one other

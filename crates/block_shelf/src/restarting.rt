@@ -34,7 +34,9 @@ impl<S: BlockStore> Shelf<S> {
             return Err(RestartFault::Busy);
         }
         for place in 0..self.buffers.len() {
-            self.restart_buffer(alloc, place, stop)?;
+            if let Err(fault) = self.restart_buffer(alloc, place, stop) {
+                return Err(fault);
+            }
         }
         Ok(())
     }

@@ -12,10 +12,9 @@ pub returns-in-Ok-clause-tries : goal.returns-in-Ok-clause-tries
 returns-in-Ok-clause-tries g c = λ before are none first.
     let number : c.len-number.result ≡ length before =
     omega (arith, c.len-number.ensures, c.args.buffers.ok, are.count) in
-    let one = c.in-Ok.started.buffer in
-    (
+    let one = c.in-Ok.started.buffer in (
       subst (AreEach IsStartedOver (before ++ c.args.store ∷ []))
-          (sym c.push_reserved-in-Ok.ensures.items)
+          (sym c.push_reserved.ensures.items)
           (one_more_each IsStartedOver before c.args.buffers.items c.args.store one are
           (subst (λ n. IsStartedOver n c.args.store one) number
           (record {
@@ -36,7 +35,7 @@ returns-in-Ok-clause-tries g c = λ before are none first.
           }))),
       none,
       subst (λ us. IsFirstOther c.args.stop us c.first_other-mixed.result)
-          (sym c.push_reserved-in-Ok.ensures.items)
+          (sym c.push_reserved.ensures.items)
           (subst (IsFirstOther c.args.stop (c.args.buffers.items ++ one ∷ []))
           (sym c.first_other-mixed.ensures)
           (other_more c.args.stop c.args.buffers.items one c.args.mixed c.in-Ok.started.stop
@@ -54,7 +53,7 @@ returns-in-Err-clause-tries g c = λ before are none first.
     (map (λ one. store_of (inside one)) c.args.buffers.items ++ c.in-Err.refused.store ∷ [])
     c.push_reserved-in-Err.new.self.items c.blamed.result c.fault_of.result error
     c.fault_of.ensures
-    (first_refused before store c.args.buffers.items error c.in-Err.refused.store are
+    (first_refused g.S.BlockStore before store c.args.buffers.items error c.in-Err.refused.store are
     (record {
       honest = c.in-Err.ensures.honest;
       blocks = c.in-Err.ensures.blocks;

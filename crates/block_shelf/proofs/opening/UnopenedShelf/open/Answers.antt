@@ -49,3 +49,43 @@ loop-unopened-preserved g c = record {
       ∙ sym (length-append c.loop-unopened.yielded (c.in-Some.unopened ∷ []));
   room = omega (arith, c.next-opening.ensures.room, c.loop-unopened.invariant.room);
 }
+
+pub returns-in-Opened-clause-opened : goal.returns-in-Opened-clause-opened
+returns-in-Opened-clause-opened g c =
+    subst (λ us. AreEach IsOpenedFrom us c.in-Opened.buffers.items)
+    (all_through c.loop-unopened.yielded c.loop-unopened.unopened-iterator.rest.items
+    c.args.self.buffers.items c.loop-unopened.invariant.all
+    (nil_from_length c.loop-unopened.unopened-iterator.rest.items
+    (omega (arith, c.in-None.ensures.steps.0, c.loop-unopened.unopened-iterator.rest.ok))))
+    (subst (HasOpened c.loop-unopened.yielded) c.in-Opened.is c.loop-unopened.invariant.opened).0
+
+pub returns-in-Opened-clause-keeps : goal.returns-in-Opened-clause-keeps
+returns-in-Opened-clause-keeps g c =
+    keeps_opened c.args.self
+    (record { buffers = c.in-Opened.buffers; racks = c.args.self.racks })
+    (subst (λ us. AreEach IsOpenedFrom us c.in-Opened.buffers.items)
+    (all_through c.loop-unopened.yielded c.loop-unopened.unopened-iterator.rest.items
+    c.args.self.buffers.items c.loop-unopened.invariant.all
+    (nil_from_length c.loop-unopened.unopened-iterator.rest.items
+    (omega (arith, c.in-None.ensures.steps.0, c.loop-unopened.unopened-iterator.rest.ok))))
+    (subst (HasOpened c.loop-unopened.yielded) c.in-Opened.is c.loop-unopened.invariant.opened).0)
+    refl
+
+pub returns-in-Failed-clause-refusal : goal.returns-in-Failed-clause-refusal
+returns-in-Failed-clause-refusal g c =
+    let through = all_through c.loop-unopened.yielded c.loop-unopened.unopened-iterator.rest.items
+    c.args.self.buffers.items c.loop-unopened.invariant.all
+    (nil_from_length c.loop-unopened.unopened-iterator.rest.items
+    (omega (arith, c.in-None.ensures.steps.0, c.loop-unopened.unopened-iterator.rest.ok))) in
+    let was =
+    subst (HasOpened c.loop-unopened.yielded) c.in-Failed.is c.loop-unopened.invariant.opened in
+    record {
+      device = refl;
+      place = c.in-Failed.place;
+      within = omega (arith, was.0, ap length through);
+      told = ap Some
+          (c.number_of.ensures
+          (omega (arith, was.0, ap length through, c.args.self.few, c.args.self.buffers.ok)));
+      left = subst (λ us. AreEach (IsLeftUnopened c.in-Failed.place) us c.in-Failed.stores.items)
+          through was.1;
+    }

@@ -6,8 +6,8 @@ use Rattle.block_shelf.specs.Filling.{members}
 use Rattle.block_shelf.specs.Starting.{buffers_inside}
 use Rattle.block_shelf.proofs.shelf.Rack.resume.Goals as goal
 
-pub within-requires : goal.within-requires
-within-requires g c =
+pub within-position-requires : goal.within-position-requires
+within-position-requires g c =
     omega (
       arith,
       c.requires,

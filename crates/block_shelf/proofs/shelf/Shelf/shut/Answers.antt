@@ -43,3 +43,15 @@ loop-buffer-preserved g c = record {
       ∙ sym (length-append c.loop-buffer.yielded (c.in-Some.buffer ∷ []));
   room = omega (arith, c.shut_next-failed.ensures.room, c.loop-buffer.invariant.room);
 }
+
+pub returns-clause-held : goal.returns-clause-held
+returns-clause-held g c =
+    holds_kept c.args.stop c.args.self c.loop-buffer.stores.items
+    (subst (λ codes. AreEach (IsShutOver c.args.stop) codes c.loop-buffer.stores.items)
+    (all_through c.loop-buffer.yielded c.loop-buffer.buffer-iterator.rest.items
+    c.args.self.buffers.items c.loop-buffer.invariant.all
+    (nil_from_length c.loop-buffer.buffer-iterator.rest.items
+    (omega (arith, c.in-None.ensures.steps.0, c.loop-buffer.buffer-iterator.rest.ok))))
+    (subst
+    (λ failed. IsStopped c.args.stop c.loop-buffer.yielded failed c.loop-buffer.stores.items)
+    c.in-None-failed.is c.loop-buffer.invariant.stopped))
