@@ -1,5 +1,5 @@
 -- Lists whose items belong together, one item after the other.
-use Rattle.std.proofs.Common.{◌≡◌, ◌∙◌, ℕ, ◌+◌, ◌<◌, ◌⊎◌, inl, inr, arith, refl, sym, ap, subst}
+use Rattle.std.proofs.Common.{◌≡◌, ◌∙◌, ℕ, ◌+◌, ◌⊎◌, inl, inr, arith, refl, sym, ap, subst}
 use Rattle.std.proofs.Common.{List, [], ◌∷◌, ◌++◌, length, map, Some, slice_get, option_map}
 use Rattle.std.proofs.Common.{append_assoc, append-nil}
 use Rattle.std.proofs.lemmas.List.{length-append, length-map, map-append}

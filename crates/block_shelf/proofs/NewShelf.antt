@@ -4,7 +4,7 @@ use Rattle.std.proofs.Common.{List, [], ◌∷◌, ◌++◌, length, map, All, O
 use Rattle.std.proofs.Common.{take, get_or, append-nil}
 use Rattle.std.proofs.Common.{zero, suc, refl, sym, ap, subst, arith, if◌then◌else◌}
 use Rattle.std.specs.List.{cons_option, enumerate_from}
-use Rattle.std.specs.Prelude.{filter_map, option_map, unwrap_or}
+use Rattle.std.specs.Prelude.{option_map, unwrap_or}
 use Rattle.std.proofs.lemmas.List.{length-append, length-map, map-append, take_all}
 use Rattle.std.proofs.lemmas.List.{take_more}
 use Rattle.std.proofs.lemmas.List.Elements.{All-nil, filter_map-append}

@@ -1,5 +1,5 @@
 -- The heads of a started shelf's buffers are opened, buffer after buffer; and what its figures are.
-use Rattle.std.proofs.Common.{◌≡◌, ◌∙◌, ℕ, ◌+◌, ◌<◌, ◌≤◌, Bool, true, arith, refl, sym, ap, subst}
+use Rattle.std.proofs.Common.{◌≡◌, ◌∙◌, ℕ, ◌<◌, ◌≤◌, Bool, true, arith, refl, sym, ap, subst}
 use Rattle.std.proofs.Common.{List, [], ◌∷◌, ◌++◌, length, map, None, Some, slice_get, option_map}
 use Rattle.std.proofs.Common.{slice_index_or}
 use Rattle.std.proofs.lemmas.List.{length-append, length-map}
@@ -14,7 +14,7 @@ use Rattle.cyc_buffer.specs.declared.buffer.Buffer.{Buffer}
 use Rattle.cyc_buffer.specs.declared.unopened.Unopened.{Unopened}
 use Rattle.relay_conf.proofs.ListPlaces.{mapped_at}
 use Rattle.relay_model.specs.Figures.{buffer_figures}
-use Rattle.relay_model.specs.State.{Kept, State}
+use Rattle.relay_model.specs.State.{State}
 use Rattle.relay_model.specs.Terms.{Terms}
 use Rattle.block_shelf.proofs.EachLemmas.{each_mapped, one_more_each}
 use Rattle.block_shelf.proofs.Reported.{figures, figures_agree, same_figures}

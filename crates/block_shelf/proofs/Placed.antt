@@ -1,20 +1,17 @@
 -- The positions of a shelf's groups, which have no more buffers than a token has numbers for.
-use Rattle.std.proofs.Common.{◌≡◌, ◌∙◌, ℕ, zero, suc, ◌^◌, ◌<◌, ◌≤◌, ◌==◌, ◌||◌, Bool, true, false}
+use Rattle.std.proofs.Common.{◌≡◌, ◌∙◌, ℕ, suc, ◌^◌, ◌<◌, ◌≤◌, ◌==◌, ◌||◌, Bool, true, false}
 use Rattle.std.proofs.Common.{arith, refl, sym, ap, List, [], ◌∷◌, length, map, Some, slice_get}
 use Rattle.std.specs.List.{AllByRecursion, IsDistinct, list_any}
 use Rattle.std.proofs.lemmas.Bool.{eqb-true, false≢true}
 use Rattle.std.proofs.lemmas.List.{length-map}
 use Rattle.std.proofs.lemmas.Map.Steps.{length-le_from_distinct_below}
-use Rattle.std.proofs.lemmas.Option.{none-some}
 use Rattle.news_terms.specs.Places as places
 use Rattle.news_terms.specs.Places.{Group}
-use Rattle.news_terms.specs.Positions.{position_of}
 use Rattle.news_terms.specs.Settings.{AreSound, IsSoundBuffer}
 use Rattle.relay_conf.proofs.ListPlaces.{holds_at, mapped_at}
 use Rattle.cyc_block.specs.declared.store.BlockStore.{Ghosts}
 use Rattle.block_shelf.specs.Each.{AreEach}
-use Rattle.block_shelf.specs.Keeping.{KeepsRack}
-use Rattle.block_shelf.specs.Stopping.{ArePositions, TellsPosition, TellsPositions}
+use Rattle.block_shelf.specs.Stopping.{TellsPosition, TellsPositions}
 use Rattle.block_shelf.specs.declared.shelf.Shelf.{Shelf}
 
 -- a number that a list has stands at a place of it

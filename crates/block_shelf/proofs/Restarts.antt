@@ -1,13 +1,13 @@
 -- A restart of a shelf, buffer after buffer.
-use Rattle.std.proofs.Common.{◌≡◌, ◌≢◌, ◌∙◌, ℕ, ◌+◌, ◌^◌, ◌<◌, ◌≤◌, ◌==◌, Bool, true, false, arith}
-use Rattle.std.proofs.Common.{refl, sym, ap, subst, length, None, Some, slice_get, slice_index_or}
+use Rattle.std.proofs.Common.{◌≡◌, ◌∙◌, ℕ, ◌+◌, ◌^◌, ◌<◌, ◌≤◌, ◌==◌, Bool, true, false, arith}
+use Rattle.std.proofs.Common.{refl, sym, ap, subst, length, None, Some, slice_get}
 use Rattle.std.proofs.Common.{List, Result, Ok, Err, length-set, slice_set}
 use Rattle.std.specs.Vec.{with_item}
 use Rattle.std.proofs.lemmas.Bool.{eqb-false, eqb-true, true≢false}
 use Rattle.std.proofs.lemmas.Option.{same_Some, slice_get_within}
 use Rattle.cyc_block.specs.declared.store.BlockStore.{Ghosts}
 use Rattle.cyc_buffer.specs.Agreement.{Agrees, Follows, store_of}
-use Rattle.cyc_buffer.specs.Head.{IsStopRefusal, is_busy}
+use Rattle.cyc_buffer.specs.Head.{is_busy}
 use Rattle.cyc_buffer.specs.History.{History}
 use Rattle.cyc_buffer.specs.Restart.{IsFromWithout, IsRestartRefusal}
 use Rattle.cyc_buffer.specs.declared.answers.BufError.TheVariants as stops
@@ -25,7 +25,7 @@ use Rattle.block_shelf.proofs.Shelving.{put_here, put_there, replaced}
 use Rattle.block_shelf.proofs.Stops.{KeptAt, idle_agrees, kept_at, nothing_written}
 use Rattle.block_shelf.specs.Each.{HasAt}
 use Rattle.block_shelf.specs.Keeping.{KeepsTexts}
-use Rattle.block_shelf.specs.Restarting.{AreRestarted, FailedAt, HaveRestarted, IsBusyRestart}
+use Rattle.block_shelf.specs.Restarting.{AreRestarted, HaveRestarted, IsBusyRestart}
 use Rattle.block_shelf.specs.Restarting.{IsOtherFault, IsRestartedFrom, IsRestartedTo, KeepsOn}
 use Rattle.block_shelf.specs.Restarting.{RestartsNext, StaysKept, restart_fault}
 use Rattle.block_shelf.specs.Stopping.{IsBusyShelf}

@@ -1,5 +1,5 @@
 -- The groups of a started shelf are where they were.
-use Rattle.std.proofs.Common.{◌≡◌, ◌∙◌, ℕ, ◌+◌, ◌*◌, ◌<◌, ◌≤◌, Bool, true, arith, refl, sym, ap, subst}
+use Rattle.std.proofs.Common.{◌≡◌, ◌∙◌, ℕ, ◌+◌, ◌*◌, ◌<◌, ◌≤◌, Bool, arith, refl, sym, ap, subst}
 use Rattle.std.proofs.Common.{List, length, map, Option, Some, slice_get, slice_index_or, unwrap_or}
 use Rattle.std.proofs.Common.{option_map}
 use Rattle.std.proofs.Math.Nat.{mod-lt}
@@ -8,7 +8,7 @@ use Rattle.std.proofs.lemmas.Option.{same_Some, slice_get-map, slice_get_within}
 use Rattle.cyc_block.specs.declared.store.BlockStore.{Ghosts}
 use Rattle.cyc_buffer.specs.Agreement.{Agrees}
 use Rattle.cyc_buffer.specs.Head.{inside}
-use Rattle.cyc_buffer.specs.History.{History, asked, cycle_of, front_of}
+use Rattle.cyc_buffer.specs.History.{History, cycle_of, front_of}
 use Rattle.cyc_buffer.specs.Stopped.{used_of}
 use Rattle.cyc_buffer.specs.declared.buffer.Buffer.{Buffer}
 use Rattle.cyc_buffer.specs.declared.unopened.Unopened.{Unopened}
@@ -20,7 +20,6 @@ use Rattle.news_terms.specs.Places.{Group, Mode, Interleave, Sequential, head_af
 use Rattle.news_terms.specs.Positions.{Position, position_by, position_of}
 use Rattle.relay_conf.proofs.ListPlaces.{holds_at, mapped_at}
 use Rattle.relay_conf.specs.Places.{group_over, group_view, mode_view, numbered_buffers}
-use Rattle.relay_conf.specs.declared.cycbuff.GroupConf.{GroupConf}
 use Rattle.relay_conf.specs.declared.cycbuff.Mode as confs
 use Rattle.relay_conf.specs.declared.cycbuff.Mode.TheVariants as modes
 use Rattle.relay_conf.specs.declared.settings.Buffers.{Buffers}
@@ -29,7 +28,6 @@ use Rattle.relay_model.specs.Terms.{Terms}
 use Rattle.block_shelf.proofs.ShelfCalls.{read_there}
 use Rattle.block_shelf.proofs.ShelfReads.{some_there}
 use Rattle.block_shelf.specs.Each.{AreEach}
-use Rattle.block_shelf.specs.Keeping.{KeepsRack}
 use Rattle.block_shelf.specs.Resuming.{HasCurrent, IsResumedAt, IsUsedAt, ResumesRack}
 use Rattle.block_shelf.specs.Starting.{BuffersKeep, ResumeRacks}
 use Rattle.block_shelf.specs.declared.shelf.Rack.{Rack}

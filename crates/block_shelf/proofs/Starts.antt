@@ -1,5 +1,5 @@
 -- A shelf is started, buffer after buffer.
-use Rattle.std.proofs.Common.{◌≡◌, ◌≢◌, ◌∙◌, ℕ, ◌+◌, ◌<◌, ◌≤◌, ◌==◌, ◌⊎◌, inl, inr, Bool, true}
+use Rattle.std.proofs.Common.{◌≡◌, ◌≢◌, ◌∙◌, ℕ, ◌<◌, ◌≤◌, ◌==◌, ◌⊎◌, inl, inr, Bool, true}
 use Rattle.std.proofs.Common.{false, arith, refl, sym, ap, subst, List, [], ◌∷◌, ◌++◌, length, map}
 use Rattle.std.proofs.Common.{Option, None, Some, slice_get, option_map, Result, Ok, Err}
 use Rattle.std.proofs.Common.{IfErr, IfOk}

@@ -1,5 +1,5 @@
 -- What the stop of a shelf leaves, buffer after buffer.
-use Rattle.std.proofs.Common.{◌≡◌, ◌≢◌, ◌∙◌, ℕ, ◌+◌, ◌<◌, Bool, true, false, arith, refl, sym, ap}
+use Rattle.std.proofs.Common.{◌≡◌, ◌∙◌, ℕ, ◌+◌, ◌<◌, Bool, true, false, arith, refl, sym, ap}
 use Rattle.std.proofs.Common.{List, [], ◌∷◌, ◌++◌, length, Option, None, Some, is_some, slice_get}
 use Rattle.std.proofs.Common.{subst, ◌==◌}
 use Rattle.std.proofs.lemmas.Bool.{eqb-false, eqb-true, true≢false}
@@ -19,7 +19,6 @@ use Rattle.relay_model.specs.State.{Kept}
 use Rattle.relay_model.specs.Terms.{Terms}
 use Rattle.block_shelf.proofs.EachLemmas.{each_so, one_more_each}
 use Rattle.block_shelf.proofs.ShelfReads.{some_there}
-use Rattle.block_shelf.specs.Each.{AreEach}
 use Rattle.block_shelf.specs.Histories.{HasWriting, IsFree, IsBusy}
 use Rattle.block_shelf.specs.Keeping.{KeepsBuffer, KeepsTexts}
 use Rattle.block_shelf.specs.Openings.{Opening}

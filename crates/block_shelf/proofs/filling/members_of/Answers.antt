@@ -9,7 +9,7 @@ use Rattle.block_shelf.proofs.filling.members_of.Goals as goal
 pub returns : goal.returns
 returns c =
     all_named c.args.all.now c.args.group.now.buffers.items c.loop-number.number-index
-    c.loop-number.numbers.items c.loop-number.blocks.items
+    c.loop-number.numbers.items _
     (omega (arith, c.loop-number-test.false, ap length c.deref-number-items.ensures.value))
     c.loop-number.invariant
 

@@ -1,7 +1,7 @@
 use Rattle.std.proofs.Common.{◌≡◌, ◌∙◌, ◌++◌, ◌∷◌, [], ap, arith, length, map, subst, sym}
 use Rattle.cyc_buffer.specs.Agreement.{store_of}
 use Rattle.cyc_buffer.specs.Head.{inside}
-use Rattle.cyc_buffer.specs.Starting.{IsOutside, IsReason, Starts}
+use Rattle.cyc_buffer.specs.Starting.{IsReason, Starts}
 use Rattle.block_shelf.proofs.EachLemmas.{one_more_each}
 use Rattle.block_shelf.proofs.Starts.{first_refused, other_more, told_refused}
 use Rattle.block_shelf.specs.Each.{AreEach}

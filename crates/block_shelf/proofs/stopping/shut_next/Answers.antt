@@ -1,4 +1,4 @@
-use Rattle.std.proofs.Common.{◌∙◌, arith, length, sym}
+use Rattle.std.proofs.Common.{◌∙◌, arith, sym}
 use Rattle.block_shelf.proofs.Stops.{fails_next, stays_failed, stops_next}
 use Rattle.block_shelf.proofs.stopping.shut_next.Goals as goal
 

@@ -1,8 +1,7 @@
 use Rattle.std.proofs.Common.{◌≡◌, ◌<◌, Some, length, option_map, slice_get, slice_index_or, subst}
-use Rattle.std.proofs.Common.{◌∙◌, Bool, ap, sym}
+use Rattle.std.proofs.Common.{sym}
 use Rattle.block_shelf.proofs.Opens.{started_figures}
 use Rattle.cyc_buffer.specs.Agreement.{Agrees}
-use Rattle.cyc_buffer.specs.History.{History, cycle_of, front_of, stored_count}
 use Rattle.relay_model.specs.Figures.{BufferFigures, buffer_figures}
 use Rattle.block_shelf.proofs.opening.UnopenedShelf.figures.Goals as goal
 

@@ -1,4 +1,4 @@
-use Rattle.std.proofs.Common.{◌≡◌, ◌∙◌, ◌+◌, ◌++◌, ◌∷◌, [], Some, ap, arith, length, refl, subst, sym}
+use Rattle.std.proofs.Common.{◌∙◌, ◌+◌, ◌∷◌, [], Some, ap, arith, length, refl, subst, sym}
 use Rattle.std.proofs.lemmas.List.{length-append, nil_from_length}
 use Rattle.block_shelf.proofs.EachLemmas.{all_through, count_through, none_each, one_through}
 use Rattle.block_shelf.proofs.Opens.{keeps_opened}

@@ -1,4 +1,4 @@
-use Rattle.std.proofs.Common.{◌∙◌, ap, arith, length, refl, slice_get, sym}
+use Rattle.std.proofs.Common.{◌∙◌, ap, arith, refl, slice_get, sym}
 use Rattle.relay_conf.specs.Places.{group_view, group_over, numbered_buffers}
 use Rattle.block_shelf.proofs.NewShelf.{named_count}
 use Rattle.block_shelf.proofs.Resumes.{position_inside, resumed}

@@ -1,4 +1,4 @@
-use Rattle.std.proofs.Common.{◌∙◌, arith, length, refl, sym}
+use Rattle.std.proofs.Common.{sym}
 use Rattle.std.proofs.lemmas.Bool.{ltb-false}
 use Rattle.block_shelf.proofs.Restarts.{keeps_done, keeps_refused, none_restarted, one_restarted}
 use Rattle.block_shelf.proofs.Restarts.{stays_same}

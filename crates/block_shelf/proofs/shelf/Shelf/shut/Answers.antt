@@ -1,10 +1,10 @@
-use Rattle.std.proofs.Common.{◌≡◌, ◌∙◌, ◌+◌, ◌++◌, ◌∷◌, [], Some, None, ap, arith, length, refl, subst}
+use Rattle.std.proofs.Common.{◌∙◌, ◌+◌, ◌∷◌, [], ap, arith, length, subst}
 use Rattle.std.proofs.Common.{sym}
 use Rattle.std.proofs.lemmas.List.{length-append, nil_from_length}
 use Rattle.block_shelf.proofs.EachLemmas.{all_through, count_through, here_through, none_each}
 use Rattle.block_shelf.proofs.EachLemmas.{one_through}
-use Rattle.block_shelf.proofs.Stops.{holds_kept, idle_or_busy}
-use Rattle.block_shelf.specs.Stopping.{AreShut, IsShutOver, IsStopped}
+use Rattle.block_shelf.proofs.Stops.{holds_kept}
+use Rattle.block_shelf.specs.Stopping.{IsShutOver, IsStopped}
 use Rattle.block_shelf.specs.Each.{AreEach}
 use Rattle.block_shelf.proofs.shelf.Shelf.shut.Goals as goal
 
