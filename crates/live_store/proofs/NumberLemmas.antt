@@ -49,11 +49,11 @@ shown_set register numbers i shown within shows all = λ block other is.
     shown_at register numbers i shown block other within shows all (cases_order block i) is
 
 -- after a begin each live finished article has its number
-pub numbered_begin : (register : Shelves) (r : Register) (h : History) (class octets : ℕ)
-    (fresh : Bool) (numbers : List (Option (Where Record)))
-    → Keeps r h → AreNumbered register h numbers
-    → AreNumbered register (with_begin class octets fresh h) numbers
-numbered_begin register r h class octets fresh numbers keeps numbered =
+pub numbered_begin : (trusted : Bool) (register : Shelves) (r : Register) (h : History)
+    (class octets : ℕ) (fresh : Bool) (numbers : List (Option (Where Record)))
+    → Keeps r h → AreNumbered trusted register h numbers
+    → AreNumbered trusted register (with_begin class octets fresh h) numbers
+numbered_begin trusted register r h class octets fresh numbers keeps numbered =
     λ cycle first article finished live.
     let next : Begin = record { size = size_of octets; fresh = fresh; finished = None } in
     let before = was_finished h.buffer h.begins next cycle first article refl finished in
@@ -71,10 +71,10 @@ all_written h p w write shown writes the_open all long continues =
     let whole = whole_text w writes.text (sym writes.written ∙ all ∙ ap size_of octets) in
     sym (take_all (length w.text) (text_in shown) (omega (arith, long, octets, whole))) ∙ continues
 
-module _ (register : Shelves) (h : History) (write : Open) (shown : Where Record)
+module _ (trusted : Bool) (register : Shelves) (h : History) (write : Open) (shown : Where Record)
     (numbers : List (Option (Where Record)))
     (is : IsWrittenAs register h write shown)
-    (numbered : AreNumbered register h numbers) (room : length numbers ≡ h.buffer.blocks) where
+    (numbered : AreNumbered trusted register h numbers) (room : length numbers ≡ h.buffer.blocks) where
   -- as many octets as the write has
   long : length (text_in shown) ≡ length_of write
   long = is.octets ∙ sym (ap (λ (t : Token). t.length) is.named)
@@ -86,7 +86,7 @@ module _ (register : Shelves) (h : History) (write : Open) (shown : Where Record
       → r.progress ≡ p → Keeps r h
       → Writes h p o → IsTheOpen write p → written_of p ≡ size_of (length_of write)
       → ContinuesIn (text_in shown) o
-      → AreNumbered register (with_finish h) after
+      → AreNumbered trusted register (with_finish h) after
   numbered_by r None o is_o is_p keeps writes the_open all continues = absurd the_open
   numbered_by r (Some p) None is_o is_p keeps writes the_open all continues = absurd writes
   numbered_by r (Some p) (Some w) is_o is_p keeps writes the_open all continues =
@@ -106,20 +106,20 @@ module _ (register : Shelves) (h : History) (write : Open) (shown : Where Record
       ) in
       let starts : (token_of write).first ≡ at.used =
       ap (λ (t : Token). t.first) (is.named ∙ token) in
-      subst (λ (k : History). AreNumbered register (with_finish k) after) (sym h_is)
+      subst (λ (k : History). AreNumbered trusted register (with_finish k) after) (sym h_is)
       (λ cycle first article finished live.
       elim (finished_now h.buffer writes.earlier writes.fresh w cycle first article finished) [
         | inl q ↦
             let parts = at_parts h.buffer at cycle first q.0 in
             let whole : length w.text ≡ w.octets =
             sym (ap length text) ∙ long ∙ ap (λ (t : Token). t.length) (is.named ∙ token) in
-            subst (λ n. HasRecord register h.buffer cycle first article (number_at after n))
+            subst (λ n. HasRecord trusted register h.buffer cycle first article (number_at after n))
             (starts ∙ parts.1)
-            (subst (HasRecord register h.buffer cycle first article)
+            (subst (HasRecord trusted register h.buffer cycle first article)
             (sym (get_or-set_same numbers (token_of write).first (Some shown) None within))
             (record {
               shows = is.shows;
-              text = text ∙ ap (λ (a : Article). a.text) q.1;
+              text = λ honest. text ∙ ap (λ (a : Article). a.text) q.1;
               token = token ∙ (λ i. record {
                 class = (q.1 i).class;
                 buffer = h.buffer.number;
@@ -135,10 +135,10 @@ module _ (register : Shelves) (h : History) (write : Open) (shown : Where Record
               (subst (AllByRecursion (IsSized h.buffer.blocks)) writes.newest keeps.sizes).1
               (was_finished h.buffer writes.earlier begun cycle first article refl q))
               (sym starts ∙ sym e) live.here)
-          | inr o ↦ subst (HasRecord register h.buffer cycle first article)
+          | inr o ↦ subst (HasRecord trusted register h.buffer cycle first article)
               (sym (get_or-set_other numbers (token_of write).first first (Some shown) None
               (λ e. apart e o)))
-              (subst (λ (k : History). AreNumbered register k numbers) h_is numbered cycle first
+              (subst (λ (k : History). AreNumbered trusted register k numbers) h_is numbered cycle first
               article q live)
         ]
       ])
@@ -146,6 +146,6 @@ module _ (register : Shelves) (h : History) (write : Open) (shown : Where Record
   -- after a finish each live finished article has its number
   pub numbered_finish : (r : Register) → Keeps r h → IsTheOpen write r.progress
       → written_of r.progress ≡ size_of (length_of write)
-      → AreNumbered register (with_finish h) after
+      → AreNumbered trusted register (with_finish h) after
   numbered_finish r keeps the_open all =
       numbered_by r r.progress h.writing refl refl keeps keeps.writing the_open all is.begun

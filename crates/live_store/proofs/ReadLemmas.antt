@@ -159,7 +159,7 @@ module _ {S : Type 0} {g : Ghosts S} (register : Shelves) (trusted : Bool)
       refl refl shows in
       let u = under h (token_view token) c.text c.under in
       let d = undecided h.buffer (front_of h) (token_view token) k c.undecided in
-      let has = subst (HasRecord register h.buffer token.cycle token.first u.article) at
+      let has = subst (HasRecord true register h.buffer token.cycle token.first u.article) at
       (t.numbered token.cycle token.first u.article u.finished
       (record { begun = d.begun; here = d.live })) in
       record {
@@ -171,9 +171,9 @@ module _ {S : Type 0} {g : Ghosts S} (register : Shelves) (trusted : Bool)
           first = token.first;
           length = u.octets i;
         });
-        length = ap length has.text ∙ u.octets;
+        length = ap length (has.text refl) ∙ u.octets;
         inside = d.inside;
-        chunk = c.same ∙ ap (chunk k) (sym (has.text ∙ u.same));
+        chunk = c.same ∙ ap (chunk k) (sym (has.text refl ∙ u.same));
       }
 
   abbrev ChunkParts : (n : ℕ) (w : Where Record) → Type 0
@@ -209,7 +209,7 @@ module _ {S : Type 0} {g : Ghosts S} (register : Shelves) (trusted : Bool)
       refl refl shows in
       let u = under h (token_view token) c.text c.under in
       let d = undecided h.buffer (front_of h) (token_view token) k c.undecided in
-      subst (HasRecord register h.buffer token.cycle token.first u.article) none
+      subst (HasRecord trusted register h.buffer token.cycle token.first u.article) none
       (t.numbered token.cycle token.first u.article u.finished
       (record { begun = d.begun; here = d.live }))
 
@@ -226,7 +226,7 @@ module _ {S : Type 0} {g : Ghosts S} (register : Shelves) (trusted : Bool)
   unnumbered_by n t None (Some article) is_o is shows none =
       let h = t.history in
       let d = undecided h.buffer (front_of h) (token_view token) k is_o in
-      subst (HasRecord register h.buffer token.cycle token.first article) none
+      subst (HasRecord trusted register h.buffer token.cycle token.first article) none
       (t.numbered token.cycle token.first article is
       (record { begun = d.begun; here = d.live }))
 

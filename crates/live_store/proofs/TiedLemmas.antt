@@ -153,7 +153,7 @@ module _ {S : Type 0} {g : Ghosts S} (register : Shelves) (trusted : Bool) where
         shown = tt;
         whole = λ _. record { unbroken = whole; written = sym none; number = refl };
       };
-      numbered = numbered_begin register old.register t.history class octets fresh numbers
+      numbered = numbered_begin trusted register old.register t.history class octets fresh numbers
           t.agrees.keeps t.numbered;
       shown = t.shown;
       places = t.places;
@@ -244,8 +244,8 @@ module _ {S : Type 0} {g : Ghosts S} (register : Shelves) (trusted : Bool) where
     history = with_finish t.history;
     agrees = follows trusted t.history t.agrees;
     open_write = refl;
-    numbered = numbered_finish register t.history b.write shown numbers number t.numbered t.places
-        old.register t.agrees.keeps t.open_write.owns all;
+    numbered = numbered_finish trusted register t.history b.write shown numbers number t.numbered
+        t.places old.register t.agrees.keeps t.open_write.owns all;
     shown = shown_set register numbers (token_of b.write).first shown
         (place_of_write old b numbers t) number.shows t.shown;
     places = length-set numbers (token_of b.write).first (Some shown) ∙ t.places;

@@ -1,6 +1,6 @@
 -- The numbers of the register that stand beside a buffer: what the type of a buffer under a lock
 -- says (docs/PROTOCOL.md, Store).
-use Rattle.std.specs.Prelude.{◌≡◌, ℕ, Bool, false, List, length, slice_index_or, Option}
+use Rattle.std.specs.Prelude.{◌≡◌, ℕ, Bool, true, false, List, length, slice_index_or, Option}
 use Rattle.std.specs.Prelude.{None, Some, IfSome}
 use Rattle.boxcar.specs.Table.{Shelves, Where, Shows}
 use Rattle.cyc_block.specs.declared.store.BlockStore.{Ghosts}
@@ -46,31 +46,32 @@ article_token buffer cycle first article = record {
   length = length article.text;
 }
 
--- the number is one of the register, whose record is that of an article that a buffer finished
-pub record IsRecordOf (register : Shelves) (buffer : places.Buffer) (cycle first : ℕ)
-    (article : Article) (shown : Where Record)
+-- the number is one of the register, whose record has the token of an article that a buffer
+-- finished and, where the stores are trusted, its text
+pub record IsRecordOf (trusted : Bool) (register : Shelves) (buffer : places.Buffer)
+    (cycle first : ℕ) (article : Article) (shown : Where Record)
     : Type 0 where
   pub shows : Shows register shown
-  pub text : text_in shown ≡ article.text
+  pub text : trusted ≡ true → text_in shown ≡ article.text
   pub token : token_in shown ≡ article_token buffer cycle first article
 
 -- there is such a number
-abbrev pub HasRecord : Shelves → places.Buffer → (cycle first : ℕ) → Article
+abbrev pub HasRecord : Bool → Shelves → places.Buffer → (cycle first : ℕ) → Article
     → Option (Where Record) → Type 0
-HasRecord register buffer cycle first article None = ⊥
-HasRecord register buffer cycle first article (Some shown) =
-    IsRecordOf register buffer cycle first article shown
+HasRecord trusted register buffer cycle first article None = ⊥
+HasRecord trusted register buffer cycle first article (Some shown) =
+    IsRecordOf trusted register buffer cycle first article shown
 
 -- the number at a block
 abbrev pub number_at : List (Option (Where Record)) → (block : ℕ) → Option (Where Record)
 number_at numbers block = slice_index_or numbers block None
 
 -- each live finished article has its record's number at its first block
-abbrev pub AreNumbered : Shelves → History → List (Option (Where Record)) → Type 0
-AreNumbered register h numbers = (cycle first : ℕ) (article : Article)
+abbrev pub AreNumbered : Bool → Shelves → History → List (Option (Where Record)) → Type 0
+AreNumbered trusted register h numbers = (cycle first : ℕ) (article : Article)
     → finished_at h.buffer h.begins cycle first ≡ Some article
     → IsLive h.buffer.blocks (front_of h) (on_line h.buffer.blocks cycle first)
-    → HasRecord register h.buffer cycle first article (number_at numbers first)
+    → HasRecord trusted register h.buffer cycle first article (number_at numbers first)
 
 -- each number that stands at a block is one of the register
 abbrev pub AreShown : Shelves → List (Option (Where Record)) → Type 0
@@ -128,6 +129,6 @@ pub record Tied {S : Type 0} {g : Ghosts S} (trusted : Bool) (register : Shelves
   pub history : History
   pub agrees : Agrees trusted buffer history
   pub open_write : IsBeside register buffer history beside
-  pub numbered : AreNumbered register history numbers
+  pub numbered : AreNumbered trusted register history numbers
   pub shown : AreShown register numbers
   pub places : length numbers ≡ history.buffer.blocks

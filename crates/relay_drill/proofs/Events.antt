@@ -16,10 +16,10 @@ use Rattle.relay_model.specs.Run.{Step, is_running, is_there}
 use Rattle.relay_model.specs.World.{World, Output}
 use Rattle.relay_report.specs.Report.{Reports, ReportsOn}
 use Rattle.relay_drill.specs.Play.{Plays, Rests, HasDone, HasTurned, IsClosed, HasOpened}
-use Rattle.relay_drill.specs.Play.{HasNotOpened, HasReported, is_refused}
-use Rattle.relay_drill.specs.Print.{Told, Answered, Reported, printed_all, told_text}
+use Rattle.relay_drill.specs.Play.{HasNotOpened, HasRestarted, HasReported, is_refused}
+use Rattle.relay_drill.specs.Print.{Told, Answered, Restarted, Reported, printed_all, told_text}
 use Rattle.relay_drill.specs.Progress.{Breaks, Goes, Under}
-use Rattle.relay_drill.specs.Todo.{Todo, Next, TurnOf, Report, Opening}
+use Rattle.relay_drill.specs.Todo.{Todo, Next, TurnOf, Restarting, Report, Opening}
 use Rattle.relay_drill.specs.Written.{GainsFront}
 use Rattle.relay_drill.proofs.Courses.{goes_past}
 use Rattle.relay_drill.proofs.Prints.{appends_none}
@@ -30,21 +30,22 @@ one_gained : (one : Told) (before after : Option (List ℕ)) → Appends before 
 one_gained one before after gained =
     subst (λ (text : List ℕ). Appends before after text) (sym (append-nil (told_text one))) gained
 
--- the event, where it is answered so, is what stands between this and that
-abbrev pub Does : run.Event → Output → (a b : Todo) → Type 0
-Does event output a b =
+-- the event, where it is answered so, is what stands between this and that, and one thing is told
+-- of it
+abbrev pub Does : run.Event → Output → Told → (a b : Todo) → Type 0
+Does event output one a b =
     (config : Config) (x mid : World) → Step (terms_of config) x event output mid
-    → Plays config a x (event ∷ []) (Answered output ∷ []) mid b
+    → Plays config a x (event ∷ []) (one ∷ []) mid b
 
 -- The next event is done.
 pub does_next : (event : run.Event) (more : Todo) (output : Output)
-    → Does event output (Next event more) more
+    → Does event output (Answered output) (Next event more) more
 does_next event more output config x mid step =
     HasDone event more x mid output [] [] mid more step (Rests more mid)
 
 -- A session is opened, or refused to open.
 pub does_open : (session peer : ℕ) (opened refused : Todo) (output : Output) (b : Bool)
-    → is_refused output ≡ b → Does (run.Open session peer) output
+    → is_refused output ≡ b → Does (run.Open session peer) output (Answered output)
     (Opening session peer opened refused) (if b then refused else opened)
 does_open session peer opened refused output false told config x mid step =
     HasOpened session peer opened refused x _ output [] _ _ told
@@ -52,6 +53,12 @@ does_open session peer opened refused output false told config x mid step =
 does_open session peer opened refused output true told config x mid step =
     HasNotOpened session peer opened refused x _ output [] _ _ told
     (does_next (run.Open session peer) refused output config x mid step)
+
+-- The relay is closed and started again, or that is refused.
+pub does_restart : (more : Todo) (output : Output)
+    → Does run.Restart output (Restarted output) (Restarting more) more
+does_restart more output config x mid step =
+    HasRestarted more x mid output [] [] mid more step (Rests more mid)
 
 module _ {S : Type 0} {g : Ghosts S} where
   -- From this world what stands between this and that was done, and one thing is told of it.
@@ -70,9 +77,9 @@ module _ {S : Type 0} {g : Ghosts S} where
 
   -- An event was done.
   pub tells_event : (event : run.Event) (a b : Todo) (old : System S g) (output : code.Output)
-      (new : System S g) → Does event (output_view output) a b → Steps event old output new
-      → KeepsFrame old new → Telling a b old (Answered (output_view output)) new
-  tells_event event a b old output new does steps frame config x under =
+      (one : Told) (new : System S g) → Does event (output_view output) one a b
+      → Steps event old output new → KeepsFrame old new → Telling a b old one new
+  tells_event event a b old output one new does steps frame config x under =
       let from = steps x under.agrees in
       let P : Config → Type 0 = λ it. Step (terms_of it) x event (output_view output) from.after in
       record {

@@ -7,7 +7,7 @@ use Rattle.article_verdict.specs.Config.{terms_of}
 use Rattle.relay_conf.specs.declared.settings.Config.{Config}
 use Rattle.relay_drill.specs.Print.{Told, answers_of}
 use Rattle.relay_drill.specs.Play.{Plays, Rests, HasDone, HasTurned, IsClosed, HasOpened}
-use Rattle.relay_drill.specs.Play.{HasNotOpened, HasReported}
+use Rattle.relay_drill.specs.Play.{HasNotOpened, HasRestarted, HasReported}
 use Rattle.relay_drill.specs.Todo.{Todo}
 
 -- Where one part was done, and then another of what it left, both were.
@@ -25,6 +25,10 @@ plays_on {c = c} {z = z} {events' = events'} {told' = told'}
 plays_on {c = c} {z = z} {events' = events'} {told' = told'}
     (IsClosed s m more x events told x' left closed rest) next =
     IsClosed s m more x (events ++ events') (told ++ told') z c closed (plays_on rest next)
+plays_on {c = c} {z = z} {events' = events'} {told' = told'}
+    (HasRestarted more x mid output events told x' left step rest) next =
+    HasRestarted more x mid output (events ++ events') (told ++ told') z c step
+    (plays_on rest next)
 plays_on {c = c} {z = z} {events' = events'} {told' = told'}
     (HasReported more x text events told x' left reports rest) next =
     HasReported more x text (events ++ events') (told ++ told') z c reports (plays_on rest next)
@@ -46,6 +50,8 @@ plays_run (HasDone event more x mid output events told x' left step rest) =
     (mid, step, plays_run rest)
 plays_run (HasTurned s m more x events told x' left runs rest) = plays_run rest
 plays_run (IsClosed s m more x events told x' left closed rest) = plays_run rest
+plays_run (HasRestarted more x mid output events told x' left step rest) =
+    (mid, step, plays_run rest)
 plays_run (HasReported more x text events told x' left reports rest) = plays_run rest
 plays_run (HasOpened s p opened refused x events output told x' left said rest) =
     plays_run rest

@@ -1,10 +1,12 @@
 -- Reading a script line by line: what was read so far stands before what is left.
 use Rattle.std.proofs.Common.{◌≡◌, ℕ, ◌+◌, true, false, List, [], ◌∷◌, ◌++◌, Some, Result, Ok, Err}
-use Rattle.std.proofs.Common.{None, Option, refl, sym, ap, append_assoc}
+use Rattle.std.proofs.Common.{None, Option, refl, sym, ap, append_assoc, ◌∙◌}
 use Rattle.std.specs.Option.{option_map}
 use Rattle.relay_drill.specs.Fault.{LineGives, line_view}
 use Rattle.relay_drill.specs.declared.line.Line as code
-use Rattle.relay_drill.specs.Script.{Line, Names, line_before, line_of, script_from}
+use Rattle.relay_drill.specs.Script.{Keyword, Line, Names, keyword_of, line_before, line_of, line_with}
+use Rattle.relay_drill.specs.Script.{script_from}
+use Rattle.line_words.specs.Parts.{parts}
 use Rattle.line_words.specs.Comments.{is_skipped}
 
 -- what is read of a script whose first lines are these
@@ -41,3 +43,11 @@ pub line_gives : (result : Option code.Line) (says : Option Line)
     → option_map line_view result ≡ says → LineGives (Ok result) says
 line_gives None says e = sym e
 line_gives (Some line) says e = sym e
+
+-- What a keyword with the words behind it says is what the line gives that they are.
+pub keyword_gives : (names : Names) (line word : List ℕ) (after : List (List ℕ)) (keyword : Keyword)
+    (result : Option code.Line) → parts 32 line ≡ word ∷ after → keyword_of word ≡ Some keyword
+    → option_map line_view result ≡ line_with names after keyword
+    → LineGives (Ok result) (line_of names line)
+keyword_gives names line word after keyword result words is says =
+    line_gives result _ (says ∙ rw (words, is) refl)

@@ -12,7 +12,8 @@ use Rattle.relay_drill.specs.declared.script.Keyword.{Keyword}
 use Rattle.relay_drill.specs.declared.script.Keyword.TheVariants as keywords
 use Rattle.relay_drill.specs.declared.line.Line.{Line}
 use Rattle.relay_drill.specs.declared.line.Line.TheVariants.{Open, Bring, Split, Turn, Write}
-use Rattle.relay_drill.specs.declared.line.Line.TheVariants.{Rounds, Break, Expire, Fail, Report}
+use Rattle.relay_drill.specs.declared.line.Line.TheVariants.{Rounds, Break, Expire, Fail, Restart}
+use Rattle.relay_drill.specs.declared.line.Line.TheVariants.{Report}
 use Rattle.relay_drill.specs.Script as script
 
 -- a keyword as the format has it
@@ -27,6 +28,7 @@ keyword_view keywords.Rounds = script.ROUNDS
 keyword_view keywords.Break = script.BREAK
 keyword_view keywords.Expire = script.EXPIRE
 keyword_view keywords.Fail = script.FAIL
+keyword_view keywords.Restart = script.RESTART
 keyword_view keywords.Report = script.REPORT
 
 -- a line as the format has it
@@ -40,6 +42,7 @@ line_view (Rounds count moment) = script.Rounds count moment
 line_view (Break session) = script.Breaks session
 line_view (Expire shard moment) = script.Expires shard moment
 line_view (Fail buffer call) = script.Fails buffer call
+line_view Restart = script.Restarts
 line_view Report = script.Reports
 
 -- the answer is the line that the words say, or None where they are bad, unless memory ran out

@@ -7,8 +7,8 @@ use Rattle.relay_model.specs.Run.{Step, is_running, is_there}
 use Rattle.relay_model.specs.World as world
 use Rattle.relay_model.specs.World.{World, Output}
 use Rattle.relay_report.specs.Report.{ReportsOn}
-use Rattle.relay_drill.specs.Print.{Told, Answered, Reported}
-use Rattle.relay_drill.specs.Todo.{Todo, Next, TurnOf, Report, Opening}
+use Rattle.relay_drill.specs.Print.{Told, Answered, Restarted, Reported}
+use Rattle.relay_drill.specs.Todo.{Todo, Next, TurnOf, Restarting, Report, Opening}
 
 -- the event was refused
 abbrev pub is_refused : Output → Bool
@@ -40,6 +40,12 @@ pub data Plays (config : Config)
       → is_there is_running (x.state.session session) ≡ false
       → Plays config more x events told x' left
       → Plays config (TurnOf session moment more) x events told x' left
+  -- the relay is closed and started again, or that is refused
+  HasRestarted : (more : Todo) (x mid : World) (output : Output) (events : List run.Event)
+      (told : List Told) (x' : World) (left : Todo)
+      → Step (terms_of config) x run.Restart output mid
+      → Plays config more mid events told x' left → Plays config (Restarting more) x
+      (run.Restart ∷ events) (Restarted output ∷ told) x' left
   -- what the relay reports is told, and the world stays as it is
   HasReported : (more : Todo) (x : World) (text : List ℕ) (events : List run.Event)
       (told : List Told) (x' : World) (left : Todo) → ReportsOn config x.state text

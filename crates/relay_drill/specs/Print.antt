@@ -1,4 +1,4 @@
--- What an output prints (docs/FORMATS.md, Drill scripts: What is printed).
+-- What is told, and what that prints (docs/FORMATS.md, Drill scripts: What is printed).
 use Rattle.std.specs.Prelude.{ℕ, ◌==◌, ◌&&◌, List, [], ◌∷◌, ◌++◌, flat_map, codes, decimal}
 use Rattle.std.specs.Prelude.{if◌then◌else◌}
 use Rattle.std.specs.List.{onto_first}
@@ -45,14 +45,24 @@ printed (Ended session octets) =
     session_lines session octets ++ session_line session (codes "closed")
 printed (Refuses fault) = printed_line (codes "refused " ++ fault_text fault)
 
--- what a drill tells: what an event is answered, or the report of the relay as it is
+-- what the answer to a Restart prints: where nothing is said, that it was done
+abbrev pub restart_text : Output → List ℕ
+restart_text Quiet = printed_line (codes "restarted")
+restart_text (Sent session octets) = printed (Sent session octets)
+restart_text (Ended session octets) = printed (Ended session octets)
+restart_text (Refuses fault) = printed (Refuses fault)
+
+-- what a drill tells: what an event is answered, what a Restart is, or the report of the relay as it
+-- is
 pub data Told : Type 0 where
   Answered : (output : Output) → Told
+  Restarted : (output : Output) → Told
   Reported : (text : List ℕ) → Told
 
 -- what is printed of it; a report as it stands
 abbrev pub told_text : Told → List ℕ
 told_text (Answered output) = printed output
+told_text (Restarted output) = restart_text output
 told_text (Reported text) = text
 
 -- what is printed, one after the other
@@ -63,4 +73,5 @@ printed_all told = flat_map told_text told
 abbrev pub answers_of : List Told → List Output
 answers_of [] = []
 answers_of (Answered output ∷ told) = output ∷ answers_of told
+answers_of (Restarted output ∷ told) = output ∷ answers_of told
 answers_of (Reported text ∷ told) = answers_of told

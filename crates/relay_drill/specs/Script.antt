@@ -28,6 +28,8 @@ pub data Line : Type 0 where
   Expires : (shard moment : ℕ) → Line
   -- this call of a buffer's device fails, counted from here
   Fails : (buffer call : ℕ) → Line
+  -- the relay is closed and started again
+  Restarts : Line
   -- the report is printed
   Reports : Line
 
@@ -48,6 +50,7 @@ pub data Keyword : Type 0 where
   BREAK : Keyword
   EXPIRE : Keyword
   FAIL : Keyword
+  RESTART : Keyword
   REPORT : Keyword
 
 -- the keyword that the word is
@@ -63,6 +66,7 @@ keyword_of word =
     else if bytes_eq word (codes "break") then Some BREAK
     else if bytes_eq word (codes "expire") then Some EXPIRE
     else if bytes_eq word (codes "fail") then Some FAIL
+    else if bytes_eq word (codes "restart") then Some RESTART
     else if bytes_eq word (codes "report") then Some REPORT
     else None
 
@@ -114,10 +118,10 @@ expire_line two = both Expires (number two.0) (number two.1)
 abbrev pub fail_line : List (List ℕ) → List ℕ × List ℕ → Option Line
 fail_line buffers two = both Fails (place_of buffers two.0) (number_within 1 1000000 two.1)
 
--- `report`
-abbrev pub report_line : List (List ℕ) → Option Line
-report_line [] = Some Reports
-report_line (word ∷ more) = None
+-- `restart` and `report`: the line of a keyword that no word follows
+abbrev pub line_alone : Line → List (List ℕ) → Option Line
+line_alone line [] = Some line
+line_alone line (word ∷ more) = None
 
 -- a keyword with the words that follow it; None is a bad line
 abbrev pub line_with : Names → List (List ℕ) → Keyword → Option Line
@@ -131,7 +135,8 @@ line_with names after ROUNDS = option_and_then rounds_line (two_of after)
 line_with names after BREAK = option_and_then break_line (one_of after)
 line_with names after EXPIRE = option_and_then expire_line (two_of after)
 line_with names after FAIL = option_and_then (fail_line names.buffers) (two_of after)
-line_with names after REPORT = report_line after
+line_with names after RESTART = line_alone Restarts after
+line_with names after REPORT = line_alone Reports after
 
 -- what these words say; None is a bad line
 abbrev pub line_of_words : Names → List (List ℕ) → Option Line

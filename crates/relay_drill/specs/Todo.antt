@@ -4,7 +4,7 @@ use Rattle.std.specs.Prelude.{ℕ, zero, suc, ◌+◌, ◌++◌, List, [], ◌�
 use Rattle.std.specs.Prelude.{None, Some}
 use Rattle.relay_model.specs.Run.{Event, Bytes, Turn, Write, Break, Expire}
 use Rattle.relay_drill.specs.Script.{Line, Opens, Brings, Splits, Turns, Writes, Rounds, Breaks}
-use Rattle.relay_drill.specs.Script.{Expires, Fails, Reports}
+use Rattle.relay_drill.specs.Script.{Expires, Fails, Restarts, Reports}
 
 -- what is still to be done
 pub data Todo : Type 0 where
@@ -14,6 +14,8 @@ pub data Todo : Type 0 where
   Next : (event : Event) (more : Todo) → Todo
   -- a session's Turn where it isn't closed, and then more
   TurnOf : (session moment : ℕ) (more : Todo) → Todo
+  -- the relay is closed and started again, and then more
+  Restarting : (more : Todo) → Todo
   -- the report of the relay as it is, and then more
   Report : (more : Todo) → Todo
   -- a session opens; what follows hangs on whether that is refused
@@ -86,6 +88,7 @@ line_asks groups (Rounds count moment) stand next =
 line_asks groups (Breaks session) stand next = Next (Break session) (next stand)
 line_asks groups (Expires shard moment) stand next = Next (Expire shard moment) (next stand)
 line_asks groups (Fails buffer call) stand next = next stand
+line_asks groups Restarts stand next = Restarting (next stand)
 line_asks groups Reports stand next = Report (next stand)
 
 -- what the lines of a script ask for, one after the other

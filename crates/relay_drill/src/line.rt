@@ -30,6 +30,8 @@ pub enum Line {
     Expire(usize, u64),
     /// `fail`: this call of this buffer's device fails, counted from here.
     Fail(usize, u64),
+    /// `restart`: the relay is closed and started again.
+    Restart,
     /// `report`: the report is printed.
     Report,
 }

@@ -12,7 +12,7 @@ ghost use Rattle.relay_drill.specs.Todo.{write_each};
 
 use crate::fault::DrillError;
 use crate::line::{Line, PieceSize};
-use crate::print::print;
+use crate::print::{print, print_restart};
 use crate::written::put;
 use cyc_block::{FailAt, MemoryBlocks};
 use line_words::Octets;
@@ -88,6 +88,7 @@ fn play_line<W: Write>(
             relay.arm(*buffer, *call);
             Ok(())
         }
+        Line::Restart => restart(relay, writer),
         Line::Report => print_report(alloc, relay, writer),
     }
 }
@@ -283,6 +284,16 @@ fn expire<W: Write>(
         relay.old relay.new (W.contents writer.old) (W.contents writer.new) }
 {
     perform(relay, &Event::Expire { shard, now }, writer)
+}
+
+/// The relay is closed and started again, and it is printed whether it was.
+fn restart<W: Write>(relay: &mut Relay, writer: &mut W) -> Result<(), DrillError>
+    ensures { (more : Todo) → Performs result (todo.Restarting more) more
+        relay.old relay.new (W.contents writer.old) (W.contents writer.new) }
+{
+    let output = relay.step(&Event::Restart);
+    print_restart(writer, &output)?;
+    Ok(())
 }
 
 /// Does one event, and prints what it is answered.

@@ -1,11 +1,12 @@
-//! What an output prints (docs/FORMATS.md, Drill scripts: What is printed).
+//! What the answer to an event prints (docs/FORMATS.md, Drill scripts: What is printed).
 ghost use Rattle.std.specs.Prelude.{◌≡◌, ◌<◌, ◌∷◌, length};
 ghost use Rattle.relay_core.specs.Views.{fault_view, output_view};
 ghost use Rattle.relay_drill.specs.Print as terms;
-ghost use Rattle.relay_drill.specs.Print.{lines_of, printed, session_line, session_lines};
+ghost use Rattle.relay_drill.specs.Print.{lines_of, printed, restart_text, session_line};
+ghost use Rattle.relay_drill.specs.Print.{session_lines};
 ghost use Rattle.relay_drill.specs.Written.{Writes};
 
-use crate::written::{Unwritten, put_all};
+use crate::written::{Unwritten, put, put_all};
 use itoa::Buffer;
 use memchr::memmem;
 use relay_core::{CoreError, Output};
@@ -24,6 +25,17 @@ pub fn print<W: Write>(writer: &mut W, output: &Output) -> Result<(), Unwritten>
             print_line(writer, *session, b"closed")
         }
         Output::Refused(error) => put_all(writer, &[b"refused ", fault_text(*error), b"\n"]),
+    }
+}
+
+/// Prints the answer to a Restart. One that was done says nothing, so it is told by a word.
+pub fn print_restart<W: Write>(writer: &mut W, output: &Output) -> Result<(), Unwritten>
+    ensures { Writes result (restart_text (output_view output.now))
+        (W.contents writer.old) (W.contents writer.new) }
+{
+    match output {
+        Output::Quiet => put(writer, b"restarted\n"),
+        Output::Sent(_, _) | Output::Ended(_, _) | Output::Refused(_) => print(writer, output),
     }
 }
 

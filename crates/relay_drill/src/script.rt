@@ -5,8 +5,8 @@ ghost use Rattle.std.specs.Option.{option_and_then};
 ghost use Rattle.news_terms.specs.Lines.{crlf};
 ghost use Rattle.line_words.specs.Parts.{one_of, parts_after, two_of};
 ghost use Rattle.relay_drill.specs.Drill.{names_of};
-ghost use Rattle.relay_drill.specs.Script.{break_line, expire_line, fail_line, line_of, open_line};
-ghost use Rattle.relay_drill.specs.Script.{raw_line, report_line};
+ghost use Rattle.relay_drill.specs.Script.{break_line, expire_line, fail_line, line_alone, line_of};
+ghost use Rattle.relay_drill.specs.Script.{open_line, raw_line};
 ghost use Rattle.relay_drill.specs.Script.{rounds_line, script_of, send_line, split_line};
 ghost use Rattle.relay_drill.specs.Script.{turn_line, write_line};
 ghost use Rattle.relay_drill.specs.Script as terms;
@@ -52,6 +52,7 @@ enum Keyword {
     Break,
     Expire,
     Fail,
+    Restart,
     Report,
 }
 
@@ -71,7 +72,8 @@ fn read_line(alloc: Global, config: &Config, line: &[u8]) -> Result<Option<Line>
         Some(Keyword::Break) => Ok(break_off(rest)),
         Some(Keyword::Expire) => Ok(expire(rest)),
         Some(Keyword::Fail) => Ok(fail(&config.buffers.buffers, rest)),
-        Some(Keyword::Report) => Ok(report(rest)),
+        Some(Keyword::Restart) => Ok(alone(Line::Restart, rest)),
+        Some(Keyword::Report) => Ok(alone(Line::Report, rest)),
         None => Ok(None),
     }
 }
@@ -100,6 +102,8 @@ fn keyword_of(word: &[u8]) -> Option<Keyword>
         Some(Keyword::Expire)
     } else if word == b"fail".as_slice() {
         Some(Keyword::Fail)
+    } else if word == b"restart".as_slice() {
+        Some(Keyword::Restart)
     } else if word == b"report".as_slice() {
         Some(Keyword::Report)
     } else {
@@ -232,12 +236,13 @@ fn fail(buffers: &[BufferConf], rest: Option<&[u8]>) -> Option<Line>
     ))
 }
 
-/// `report`, by what follows the keyword: nothing.
-fn report(rest: Option<&[u8]>) -> Option<Line>
-    ensures { option_map line_view result ≡ report_line (parts_after 32 rest.entry) }
+/// `restart` and `report`, by what follows the keyword: nothing.
+fn alone(line: Line, rest: Option<&[u8]>) -> Option<Line>
+    ensures { option_map line_view result
+        ≡ line_alone (line_view line) (parts_after 32 rest.entry) }
 {
     match rest {
-        None => Some(Line::Report),
+        None => Some(line),
         Some(_) => None,
     }
 }

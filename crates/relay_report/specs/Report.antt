@@ -26,6 +26,11 @@ pub record ReportsOn (config : Config) (σ : State) (text : List ℕ) : Type 0 w
   pub counted : CountsOf σ.claim ids
   pub told : text ≡ report_text (named_buffers config σ) (named_feeds config σ) ids
 
+-- the report of a state in which so many message-ids are known, but that none is offered
+abbrev pub text_after_restart : Config → State → Counts → List ℕ
+text_after_restart config σ ids =
+    report_text (named_buffers config σ) (named_feeds config σ) (record ids { offered = 0 })
+
 -- the text reports each state that the relay agrees with
 abbrev pub Reports : {S : Type 0} {g : Ghosts S} → System S g → List ℕ → Type 0
 Reports system text =

@@ -7,6 +7,7 @@
 
 mod columns;
 pub mod examples;
+pub mod laws;
 mod text;
 mod totals;
 mod whole;

@@ -10,7 +10,7 @@ use Rattle.relay_drill.proofs.play.open.Goals as goal
 pub returns-then-is_refused : goal.returns-then-is_refused
 returns-then-is_refused g c = λ next.
     let stand = stand_view c.args.stand.now in
-    goes_told _ _ _ _ _ _ _ (tells_event _ _ _ _ _ _ (does_open c.args.session c.args.peer
+    goes_told _ _ _ _ _ _ _ (tells_event _ _ _ _ _ _ _ (does_open c.args.session c.args.peer
     (next (with_session stand c.args.session)) (next stand)
     (output_view c.step-output.result) true (sym c.if-is_refused.ensures))
     c.step-output.ensures.steps c.step-output.ensures.frame) c.in_ok-print.ensures
@@ -18,7 +18,7 @@ returns-then-is_refused g c = λ next.
 pub returns : goal.returns
 returns g c = λ next.
     let stand = stand_view c.args.stand.now in
-    rw c.in_ok-push.ensures.items (goes_told _ _ _ _ _ _ _ (tells_event _ _ _ _ _ _ (does_open c.args.session c.args.peer
+    rw c.in_ok-push.ensures.items (goes_told _ _ _ _ _ _ _ (tells_event _ _ _ _ _ _ _ (does_open c.args.session c.args.peer
     (next (with_session stand c.args.session)) (next stand)
     (output_view c.step-output.result) false (sym c.if-is_refused.ensures))
     c.step-output.ensures.steps c.step-output.ensures.frame) c.in_ok-print.ensures)
@@ -28,7 +28,7 @@ returns-in_err-print g c = λ next.
     let stand = stand_view c.args.stand.now in
     fails_unwritten c.from_residual.result _ _ _ _ _ _
     c.from_residual.ensures.0 c.from_residual.ensures.1
-    (breaks_told _ _ _ _ _ _ _ (tells_event _ _ _ _ _ _ (does_open c.args.session c.args.peer
+    (breaks_told _ _ _ _ _ _ _ (tells_event _ _ _ _ _ _ _ (does_open c.args.session c.args.peer
     (next (with_session stand c.args.session)) (next stand)
     (output_view c.step-output.result) (is_refused (output_view c.step-output.result)) refl)
     c.step-output.ensures.steps c.step-output.ensures.frame) c.in_err-print.ensures)
@@ -38,7 +38,7 @@ returns-in_err-push g c = λ next.
     let stand = stand_view c.args.stand.now in
     wants_memory c.from_residual-in_err-push.result _ _ _ _ _ _ _ _
     c.from_residual-in_err-push.ensures.0 c.from_residual-in_err-push.ensures.1
-    (goes_told _ _ _ _ _ _ _ (tells_event _ _ _ _ _ _ (does_open c.args.session c.args.peer
+    (goes_told _ _ _ _ _ _ _ (tells_event _ _ _ _ _ _ _ (does_open c.args.session c.args.peer
     (next (with_session stand c.args.session)) (next stand)
     (output_view c.step-output.result) false (sym c.if-is_refused.ensures))
     c.step-output.ensures.steps c.step-output.ensures.frame) c.in_ok-print.ensures)

@@ -6,7 +6,7 @@ use Rattle.relay_drill.proofs.play.perform.Goals as goal
 pub returns : goal.returns
 returns g c = λ more.
     goes_told _ _ _ _ _ _ _ (tells_event (event_view c.args.event.now) _ more c.args.relay.now
-    c.step-output.result c.step-output.new.self
+    c.step-output.result _ c.step-output.new.self
     (does_next (event_view c.args.event.now) more (output_view c.step-output.result))
     c.step-output.ensures.steps c.step-output.ensures.frame)
     c.in_ok-print.ensures
@@ -16,7 +16,7 @@ returns-in_err-print g c = λ more.
     fails_unwritten c.from_residual.result _ more _ _ _ _
     c.from_residual.ensures.0 c.from_residual.ensures.1
     (breaks_told _ _ _ _ _ _ _ (tells_event (event_view c.args.event.now) _ more c.args.relay.now
-    c.step-output.result c.step-output.new.self
+    c.step-output.result _ c.step-output.new.self
     (does_next (event_view c.args.event.now) more (output_view c.step-output.result))
     c.step-output.ensures.steps c.step-output.ensures.frame)
     c.in_err-print.ensures)

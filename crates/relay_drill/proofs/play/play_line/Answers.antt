@@ -48,6 +48,10 @@ returns-in-Fail g c = λ next.
     rw c.in-Fail.is (goes_still (next (stand_view c.args.stand.now)) c.args.relay.now
     c.arm.new.self _ c.arm.ensures.agrees c.arm.ensures.frame)
 
+pub returns-in-Restart : goal.returns-in-Restart
+returns-in-Restart g c = λ next.
+    rw c.in-Restart.is (c.restart.ensures (next (stand_view c.args.stand.now)))
+
 pub returns-in-Report : goal.returns-in-Report
 returns-in-Report g c = λ next.
     rw c.in-Report.is (c.print_report.ensures (next (stand_view c.args.stand.now)))

@@ -1,0 +1,23 @@
+use Rattle.relay_core.specs.Views.{output_view}
+use Rattle.relay_model.specs.Run.{Restart}
+use Rattle.relay_drill.proofs.Courses.{fails_unwritten}
+use Rattle.relay_drill.proofs.Events.{breaks_told, does_restart, goes_told, tells_event}
+use Rattle.relay_drill.proofs.play.restart.Goals as goal
+
+pub returns : goal.returns
+returns g c = λ more.
+    goes_told _ _ _ _ _ _ _ (tells_event Restart _ more c.args.relay.now
+    c.step-output.result _ c.step-output.new.self
+    (does_restart more (output_view c.step-output.result))
+    c.step-output.ensures.steps c.step-output.ensures.frame)
+    c.in_ok-print_restart.ensures
+
+pub returns-in_err-print_restart : goal.returns-in_err-print_restart
+returns-in_err-print_restart g c = λ more.
+    fails_unwritten c.from_residual.result _ more _ _ _ _
+    c.from_residual.ensures.0 c.from_residual.ensures.1
+    (breaks_told _ _ _ _ _ _ _ (tells_event Restart _ more c.args.relay.now
+    c.step-output.result _ c.step-output.new.self
+    (does_restart more (output_view c.step-output.result))
+    c.step-output.ensures.steps c.step-output.ensures.frame)
+    c.in_err-print_restart.ensures)
