@@ -3,4 +3,8 @@ pub mod FrontLemmas
 pub mod NumberLemmas
 pub mod TiedLemmas
 pub mod OpenLemmas
+pub mod ReadBackLemmas
 pub mod ReadLemmas
+pub mod StartLemmas
+pub mod StartedLemmas
+pub mod StopLemmas

@@ -1,5 +1,6 @@
 pub mod Fetches
 pub mod Handles
+pub mod Started
 pub mod Steps
 pub mod Stores
 pub mod Tied

@@ -115,7 +115,7 @@ impl<S: BlockStore, J: Archive> NumberedBuffer<S, J> {
 }
 
 /// No number for each block.
-fn no_numbers(alloc: Global, blocks: u32) -> Result<Vec<Option<Shown>>, AllocError>
+pub(crate) fn no_numbers(alloc: Global, blocks: u32) -> Result<Vec<Option<Shown>>, AllocError>
     ensures { IfOk result (λ numbers. numbers.items ≡ replicate blocks None) }
 {
     let mut numbers = Vec::with_capacity(alloc, blocks as usize)?;

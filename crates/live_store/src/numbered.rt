@@ -17,6 +17,25 @@ pub struct NumberedBuffer<S: BlockStore, J: Archive> {
     ghost tied: { ∥ Tied J.trusted J.register buffer beside numbers.items ∥₁ },
 }
 
+impl<S: BlockStore, J: Archive> NumberedBuffer<S, J> {
+    ghost use Rattle.std.specs.Prelude.{◌≡◌};
+
+    /// The buffer, what stands beside it, and the numbers at its blocks.
+    pub(crate) fn into_parts(self) -> (Buffer<S>, Option<Beside>, Vec<Option<Shown>>)
+        ensures buffer { result.0 ≡ self.buffer }
+        ensures beside { result.1 ≡ self.beside }
+        ensures numbers { result.2 ≡ self.numbers }
+    {
+        let NumberedBuffer {
+            buffer,
+            beside,
+            numbers,
+            of: _,
+        } = self;
+        (buffer, beside, numbers)
+    }
+}
+
 impl<S: BlockStore + Drop, J: Archive> Drop for NumberedBuffer<S, J> {
     fn drop(self) {
         let NumberedBuffer {

@@ -16,8 +16,10 @@ use cyc_block::{BlockStore, CHUNK_OCTETS};
 use std::sync::{Mutex, Wait};
 
 mod entering;
+mod reading_back;
 
 pub use entering::{Begun, Record};
+pub(crate) use reading_back::enter_articles;
 
 /// Stores an article in any thread: the buffer begins it, the register gets its record, each block
 /// is written, and the buffer finishes it. Each step of the buffer takes the lock anew. Where

@@ -1,10 +1,11 @@
-//! What is entered in the register, by a writer alone.
+//! What is entered in the register, by a writer and by a start alone.
 ghost use Rattle.news_terms.specs.ArticleTexts.{IsArticle};
 
-use crate::record::Register;
+use crate::record::{Register, Shown};
 use crate::steps::Entered;
 use cyc_token::Token;
 use live_register::Place;
+use std::alloc::AllocError;
 use std::mem::size_of;
 use std::snapshot::Snapshot;
 use std::sync::Wait;
@@ -36,15 +37,15 @@ impl Begun {
 }
 
 /// An article that was begun, for contracts alone: its token, whether it was begun at the front of
-/// a cycle, and the octets of its text. Only `store` makes one, and enters it. It takes no memory:
-/// what it is of is known by its number.
+/// a cycle, and the octets of its text. Only `store` and a start make one, and enter it. It takes
+/// no memory: what it is of is known by its number.
 #[derive(Drop)]
 pub struct Record {
     /// The token that the article is finished under, if it is.
     token: Snapshot<Token>,
-    /// The flag that its begin was called with.
+    /// The flag that its begin was called with; false of an article that a start read.
     fresh: Snapshot<bool>,
-    /// The text.
+    /// The text that was handed in, or that a start read.
     text: Snapshot<Vec<u8>>,
     // So each number of the register is that of an article.
     ghost is_article: { ∥ IsArticle text.value.items ∥₁ },
@@ -56,7 +57,7 @@ const _: () = prove!(size_of::<Record>() == 0);
 const _: () = prove!(size_of::<Place<Record>>() == 16);
 
 impl Record {
-    ghost use Rattle.std.specs.Prelude.{◌≡◌};
+    ghost use Rattle.std.specs.Prelude.{◌≡◌, IfOk};
     ghost use Rattle.boxcar.specs.Table.{Shows};
     ghost use Rattle.live_store.specs.Handles.{begun_token, begun_fresh, shown_of};
     ghost use Rattle.live_store.specs.Tied.{text_in, named_in, fresh_in};
@@ -88,5 +89,29 @@ impl Record {
             }
         }
         unreachable!()
+    }
+
+    /// Enters an article that a start read under its token. Where memory is refused it isn't
+    /// entered.
+    pub(super) fn enter_again<R: Wait>(
+        rt: &R,
+        register: &Register,
+        token: &Token,
+        text: &Vec<u8>,
+    ) -> Result<Shown, AllocError>
+        requires article { ∥ IsArticle text.now.items ∥₁ }
+        ensures shown { IfOk result (Shows register.now) }
+        ensures token { IfOk result (λ shown. named_in shown ≡ token.now) }
+        ensures text { IfOk result (λ shown. text_in shown ≡ text.now.items) }
+    {
+        let record = Record {
+            token: Snapshot::of(token),
+            text: Snapshot::of(text),
+            fresh: Snapshot::of(&false),
+        };
+        match register.enter(rt, record) {
+            Ok(shown) => Ok(shown),
+            Err(_) => Err(AllocError),
+        }
     }
 }

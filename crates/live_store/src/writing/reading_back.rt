@@ -1,0 +1,148 @@
+//! What a start reads of the articles that are live, and enters in the register.
+ghost use Rattle.std.specs.Prelude.{◌≡◌, ◌<◌, ℕ, Bool, true, length, All, IfErr, IfOk, OnOk};
+ghost use Rattle.boxcar.specs.Table.{Shows};
+ghost use Rattle.cyc_buffer.specs.Agreement.{Agrees, store_of};
+ghost use Rattle.cyc_buffer.specs.Head.{inside};
+ghost use Rattle.cyc_buffer.specs.History.{History};
+ghost use Rattle.cyc_buffer.specs.Reads.{IsBlamed};
+ghost use Rattle.cyc_buffer.specs.Starting.{ListsLive};
+ghost use Rattle.cyc_buffer.specs.Stopped.{IsLiveToken};
+ghost use Rattle.cyc_token.specs.Token.{token_view};
+ghost use Rattle.cyc_token.specs.declared.Token.{Token as CodeToken};
+ghost use Rattle.live_store.specs.Started.{AreArticles, AreNumberedTo, IsMerelyRead, IsNoArticle};
+ghost use Rattle.live_store.specs.Started.{IsTextOfLive, IsToldAs, IsUnentered};
+ghost use Rattle.live_store.specs.Tied.{AreShown, named_in, text_in};
+ghost use Rattle.news_terms.specs.ArticleTexts.{IsArticle};
+
+use super::entering::Record;
+use crate::record::{Register, Shown};
+use article_parse::{ArtError, Article};
+use cyc_block::{BlockStore, CHUNK_OCTETS};
+use cyc_buffer::{Found, StartError, Unopened, size_of};
+use cyc_token::Token;
+use std::alloc::Global;
+use std::sync::Wait;
+
+/// Enters a record for the article of each token, in their order, and puts its number at the
+/// article's first block.
+pub(crate) fn enter_articles<S: BlockStore, R: Wait>(
+    rt: &R,
+    alloc: Global,
+    register: &Register,
+    buffer: &mut Unopened<S>,
+    tokens: &Vec<Token>,
+    numbers: &mut Vec<Option<Shown>>,
+) -> Result<(), StartError>
+    requires within { All (λ (token : CodeToken). token.first < length numbers.old.items)
+        tokens.now.items }
+    ensures numbered { OnOk result ((trusted : Bool) (h : History)
+        → Agrees trusted (inside buffer.old) h → ListsLive tokens.now.items h
+        → AreNumberedTo trusted register.now h tokens.now.items (length tokens.now.items)
+        numbers.new.items) }
+    ensures shown { OnOk result (AreShown register.now numbers.old.items
+        → AreShown register.now numbers.new.items) }
+    ensures length { OnOk result (length numbers.new.items ≡ length numbers.old.items) }
+    ensures read { IsMerelyRead (inside buffer.old) (inside buffer.new) }
+    // Only what holds no article under a token, or not all of it, is damaged.
+    ensures refused { (h : History) → Agrees true (inside buffer.old) h
+        → ListsLive tokens.now.items h → IfErr result (IsUnentered (AreArticles h)) }
+    ensures failed { IfErr result (IsBlamed S.BlockStore (store_of (inside buffer.old))
+        (store_of (inside buffer.new))) }
+    ensures no_failure { OnOk result (S.failures (store_of (inside buffer.new))
+        ≡ S.failures (store_of (inside buffer.old))) }
+{
+    for token in tokens {
+        let shown = enter_article(rt, alloc, register, buffer, token)?;
+        numbers[token.first as usize] = Some(shown);
+    }
+    Ok(())
+}
+
+/// Enters a record for the article under a token, whose text is read and judged an article.
+fn enter_article<S: BlockStore, R: Wait>(
+    rt: &R,
+    alloc: Global,
+    register: &Register,
+    buffer: &mut Unopened<S>,
+    token: &Token,
+) -> Result<Shown, StartError>
+    ensures shown { IfOk result (Shows register.now) }
+    ensures named { IfOk result (λ shown. named_in shown ≡ token.now) }
+    ensures text { IfOk result (λ shown. (h : History) → Agrees true (inside buffer.old) h
+        → IsTextOfLive h (token_view token.now) (text_in shown)) }
+    ensures read { IsMerelyRead (inside buffer.old) (inside buffer.new) }
+    ensures refused { (h : History) → Agrees true (inside buffer.old) h
+        → (live : IsLiveToken h (token_view token.now))
+        → IfErr result (IsUnentered ∥ IsArticle live.article.text ∥₁) }
+    ensures failed { IfErr result (IsBlamed S.BlockStore (store_of (inside buffer.old))
+        (store_of (inside buffer.new))) }
+    ensures no_failure { OnOk result (S.failures (store_of (inside buffer.new))
+        ≡ S.failures (store_of (inside buffer.old))) }
+{
+    let text = read_text(alloc, buffer, token)?;
+    judge(alloc, &text)?;
+    match Record::enter_again(rt, register, token, &text) {
+        Ok(shown) => Ok(shown),
+        Err(_refused) => Err(StartError::Memory),
+    }
+}
+
+/// The text of the article under a token, each block of which is read once.
+fn read_text<S: BlockStore>(
+    alloc: Global,
+    buffer: &mut Unopened<S>,
+    token: &Token,
+) -> Result<Vec<u8>, StartError>
+    ensures text { IfOk result (λ text. (h : History) → Agrees true (inside buffer.old) h
+        → IsTextOfLive h (token_view token.now) text.items) }
+    ensures read { IsMerelyRead (inside buffer.old) (inside buffer.new) }
+    // A live article is refused for want of memory alone, or where a read of the device failed.
+    ensures refused { (h : History) → Agrees true (inside buffer.old) h
+        → IsLiveToken h (token_view token.now) → IfErr result (IsUnentered (Unit {0})) }
+    ensures failed { IfErr result (IsBlamed S.BlockStore (store_of (inside buffer.old))
+        (store_of (inside buffer.new))) }
+    ensures no_failure { OnOk result (S.failures (store_of (inside buffer.new))
+        ≡ S.failures (store_of (inside buffer.old))) }
+{
+    let mut text = Vec::with_capacity(alloc, token.length as usize)?;
+    let mut chunk = [0; CHUNK_OCTETS];
+    for k in 0..size_of(token.length) {
+        match buffer.read_block(token, k, &mut chunk) {
+            Ok(Found::Chunk(octets)) => text.extend_from_slice(&chunk[..octets])?,
+            Ok(Found::Gone(_)) => return Err(StartError::Damaged),
+            Ok(Found::Unknown) => return Err(StartError::Damaged),
+            Err(_) => return Err(StartError::Device),
+        }
+    }
+    Ok(text)
+}
+
+/// Judges a text an article.
+fn judge(alloc: Global, text: &Vec<u8>) -> Result<(), StartError>
+    ensures article { OnOk result ∥ IsArticle text.now.items ∥₁ }
+    ensures refused { IfErr result (IsNoArticle text.now.items) }
+{
+    let _article = match Article::parse(alloc, text.as_slice()) {
+        Ok(article) => article,
+        Err(error) => return Err(told(error)),
+    };
+    Ok(())
+}
+
+/// Want of memory, or that a text is no article.
+fn told(error: ArtError) -> StartError
+    ensures { IsToldAs error result }
+{
+    match error {
+        ArtError::Memory => StartError::Memory,
+        ArtError::NoBlankLine
+        | ArtError::BadHeader
+        | ArtError::BareCrLf
+        | ArtError::Nul
+        | ArtError::Missing(_)
+        | ArtError::Twice(_)
+        | ArtError::EmptyField(_)
+        | ArtError::BadId
+        | ArtError::BadGroups => StartError::Damaged,
+    }
+}
