@@ -1,24 +1,29 @@
 -- What posts and takes keep of a desk whose posts are counted.
 use Rattle.std.proofs.Common.{◌≡◌, ℕ, ◌+◌, ◌≤◌, ◌<◌, ◌^◌, ◌==◌, Bool, true, false, sym, subst, ap}
 use Rattle.std.proofs.Common.{List, [], ◌∷◌, ◌++◌, length, Option, None, Some, Result, Ok, Err}
-use Rattle.std.proofs.Common.{if◌then◌else◌, refl, nat_eq, arith, take, drop}
+use Rattle.std.proofs.Common.{if◌then◌else◌, refl, nat_eq, arith, take, drop, max, suc, zero}
 use Rattle.std.proofs.Math.Logic.{∥∥₁_map, ∥∥₁_elim}
 use Rattle.std.proofs.Props.{props}
 use Rattle.std.proofs.lemmas.List.{length-append, length-map, length-take}
 use Rattle.std.proofs.lemmas.List.FromFn.{length-enumerate_from}
 use Rattle.std.specs.Coded.{le_prop}
-use Rattle.std.specs.List.{list_any}
-use Rattle.std.specs.Prelude.{IfOk, IfSome, OnErr, slice_index}
-use Rattle.feed_queue.specs.Feeds.{KeepsFeeds, HasRoomToCount, ring_count}
+use Rattle.std.specs.List.{AllZip, list_any}
+use Rattle.std.specs.Prelude.{IfOk, IfSome, OnErr, slice_get, slice_index}
+use Rattle.feed_queue.specs.Feeds.{KeepsFeeds, HasRoomToCount, no_feed, ring_count}
+use Rattle.feed_queue.specs.Left.{AreLeft, IsLeft}
 use Rattle.feed_queue.specs.Taking.{IsTaken, item_view}
 use Rattle.feed_queue.specs.declared.desk.FeedDesk.{FeedDesk}
 use Rattle.feed_queue.specs.declared.desk.Taken.{Taken}
+use Rattle.history_text.specs.History.{KeptFeed, RingHolds}
 use Rattle.news_terms.specs.Ring.{passed_now}
 use Rattle.news_terms.specs.Token.{Token}
 use Rattle.relay_model.specs.Shares.{after_take_of, as_ring}
 use Rattle.relay_model.specs.State.{Feed, put_at}
 use Rattle.relay_model.specs.Writers.{gaining}
-use Rattle.live_settle.specs.Posting.{KeepsAtMost}
+use Rattle.live_settle.specs.Posting.{KeepsAtMost, most_gained}
+
+same_some : {X : Type 0} → {x y : X} → Some x ≡ Some y → x ≡ y
+same_some e = cc
 
 -- each feed has gained one more at most
 few_gained : (feeds : ℕ → Feed) (permitted : List ℕ) (token : Token) (most : ℕ)
@@ -120,3 +125,71 @@ few_of_any desk posts feed most (Ok (Some taken)) is kept =
     (is one.sizes one.feeds one.keeps))
 few_of_any desk posts feed most (Ok None) is kept = tt
 few_of_any desk posts feed most (Err e) is kept = tt
+
+-- a feed at the front of others
+abbrev in_front : Feed → (ℕ → Feed) → ℕ → Feed
+in_front one rest zero = one
+in_front one rest (suc f) = rest f
+
+-- feeds of which this was left, none of which gained more than the most of them
+pub record SomeLeft (kept : List KeptFeed) (sizes : List ℕ) : Type 0 where
+  pub feeds : ℕ → Feed
+  pub count : length kept ≡ length sizes
+  pub each : (f : ℕ) (one : KeptFeed) → slice_get kept f ≡ Some one
+      → IsLeft one (slice_index sizes f) (feeds f)
+  pub few : (f : ℕ) → length (feeds f).gained ≤ most_gained kept
+
+-- each of them was left of some feed, so all of them were
+pub some_left : ((kept : KeptFeed) (ring : ℕ) → RingHolds kept ring
+    → (feed : Feed) × IsLeft kept ring feed)
+    → (kept : List KeptFeed) (sizes : List ℕ) → AllZip RingHolds kept sizes
+    → SomeLeft kept sizes
+some_left law [] [] holds = record {
+  feeds = λ f. no_feed;
+  count = refl;
+  each = λ f one is. absurd (none_left f one is);
+  few = λ f. omega arith;
+}
+  where
+    none_left : (f : ℕ) (one : KeptFeed) → slice_get [] f ≡ Some one → ⊥
+    none_left f one is = cc
+some_left law [] (s ∷ ss) holds = absurd holds
+some_left law (k ∷ ks) [] holds = absurd holds
+some_left law (k ∷ ks) (s ∷ ss) holds =
+    let one = law k s holds.0 in
+    let rest = some_left law ks ss holds.1 in
+    record {
+      feeds = in_front one.0 rest.feeds;
+      count = ap suc rest.count;
+      each = each_of one.0 rest one.1;
+      few = few_of_all one.0 rest (omega (arith, one.1.gained));
+    }
+  where
+    each_of : (feed : Feed) → (rest : SomeLeft ks ss) → IsLeft k s feed → (f : ℕ) (one : KeptFeed)
+        → slice_get (k ∷ ks) f ≡ Some one
+        → IsLeft one (slice_index (s ∷ ss) f) (in_front feed rest.feeds f)
+    each_of feed rest left zero one is =
+        subst (λ (x : KeptFeed). IsLeft x s feed) (same_some is) left
+    each_of feed rest left (suc f) one is = rest.each f one is
+
+    few_of_all : (feed : Feed) → (rest : SomeLeft ks ss) → length feed.gained ≤ k.gained
+        → (f : ℕ)
+        → length (in_front feed rest.feeds f).gained ≤ max k.gained (most_gained ks)
+    few_of_all feed rest little zero = omega (arith, little)
+    few_of_all feed rest little (suc f) = omega (arith, rest.few f)
+
+-- a desk that was resumed keeps feeds that gained no more than the most of them
+pub kept_resumed : (desk : FeedDesk) (kept : List KeptFeed) (sizes : List ℕ)
+    → ((kept : KeptFeed) (ring : ℕ) → RingHolds kept ring
+    → (feed : Feed) × IsLeft kept ring feed)
+    → AllZip RingHolds kept sizes
+    → ((feed : ℕ → Feed) → AreLeft kept sizes feed → KeepsFeeds desk sizes feed)
+    → ∥ KeepsAtMost desk (most_gained kept) ∥₁
+kept_resumed desk kept sizes law holds keeps =
+    let some = some_left law kept sizes holds in
+    ∣ record {
+      sizes = sizes;
+      feeds = some.feeds;
+      keeps = keeps some.feeds (record { count = some.count; each = some.each });
+      few = some.few;
+    } ∣₁

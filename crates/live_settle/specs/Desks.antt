@@ -12,6 +12,10 @@ desk_of counted = counted.desk
 abbrev pub posts_of : {L : Type 0} → CountedDesk L → ℕ
 posts_of counted = counted.posts
 
+-- the most tokens that one of its feeds had gained when it was made
+abbrev pub before_of : {L : Type 0} → CountedDesk L → ℕ
+before_of counted = counted.before
+
 -- the number that a desk said
 abbrev pub posts_in : Posts → ℕ
 posts_in posts = posts.count

@@ -1,5 +1,6 @@
 -- What a desk of rings keeps where its posts are counted (docs/PROTOCOL.md, Rings).
-use Rattle.std.specs.Prelude.{ℕ, ◌≤◌, List, length}
+use Rattle.std.specs.Prelude.{ℕ, ◌≤◌, List, [], ◌∷◌, length, max}
+use Rattle.history_text.specs.History.{KeptFeed}
 use Rattle.feed_queue.specs.Feeds.{KeepsFeeds}
 use Rattle.feed_queue.specs.declared.desk.FeedDesk.{FeedDesk}
 use Rattle.relay_model.specs.State.{Feed}
@@ -10,3 +11,8 @@ pub record KeepsAtMost (desk : FeedDesk) (most : ℕ) : Type 0 where
   pub feeds : ℕ → Feed
   pub keeps : KeepsFeeds desk sizes feeds
   pub few : (f : ℕ) → length (feeds f).gained ≤ most
+
+-- the most tokens that one of these feeds had gained
+abbrev pub most_gained : List KeptFeed → ℕ
+most_gained [] = 0
+most_gained (feed ∷ feeds) = max feed.gained (most_gained feeds)

@@ -5,13 +5,13 @@ ghost use Rattle.cyc_token.specs.Token.{token_view};
 ghost use Rattle.feed_queue.specs.Feeds.{KeepsFeeds};
 ghost use Rattle.id_history.specs.Changes.{OfClaim, ChangesClaim, KeepsClaims};
 ghost use Rattle.id_history.specs.Shard.{Keeps};
-ghost use Rattle.live_settle.specs.Desks.{desk_of, posts_of};
+ghost use Rattle.live_settle.specs.Desks.{before_of, desk_of, posts_of};
 ghost use Rattle.live_settle.specs.Posted.{IsPostOf};
 ghost use Rattle.relay_model.specs.Claims.{is_storing_for, after_settle};
 ghost use Rattle.relay_model.specs.State.{Feed};
 ghost use Rattle.relay_model.specs.Writers.{gaining};
 
-use crate::desk::{CountedDesk, MOST_POSTS};
+use crate::desk::CountedDesk;
 use cyc_token::Token;
 use id_history::Shard;
 use nntp_text::MsgId;
@@ -50,7 +50,8 @@ impl Posted {
 /// The article that is stored under a token is the history's and the feeds' from now on: its
 /// message-id, which is being stored for the session, is Stored at this moment, and each permitted
 /// feed gains the token. The caller holds both values. `None`, with nothing changed, exactly where
-/// the id isn't being stored for the session, or the desk has made 2^62 posts. Takes no memory.
+/// the id isn't being stored for the session, or the desk's posts, with what a feed had gained
+/// before, are 2^62. Takes no memory.
 pub fn settle_both<L: Ledger>(
     shard: &mut Shard,
     desk: &mut CountedDesk<L>,
@@ -73,13 +74,14 @@ pub fn settle_both<L: Ledger>(
     ensures posted { IfSome result (IsPostOf id.now session token permitted.now.items) }
     ensures counted { IfSome result (λ posted. (share.new.amount ≡ share.old.amount + 1)
         × (posts_of desk.new ≡ posts_of desk.old + 1)) }
-    ensures why { result ≡ None → (2 ^ 62 ≤ posts_of desk.old)
+    ensures before { before_of desk.new ≡ before_of desk.old }
+    ensures why { result ≡ None → (2 ^ 62 ≤ before_of desk.old + posts_of desk.old)
         ⊎ OfClaim (Keeps shard.old) id.now (λ claim. is_storing_for session claim ≡ false) }
     ensures same { result ≡ None → KeepsClaims (Keeps shard.old) (Keeps shard.new)
         × (desk.new ≡ desk.old) × (share.new.amount ≡ share.old.amount) }
     ensures parts { share.new.parts ≡ share.old.parts }
 {
-    if desk.posts >= MOST_POSTS {
+    if desk.is_full() {
         return None;
     }
     match shard.settle(id, session, token, now) {
