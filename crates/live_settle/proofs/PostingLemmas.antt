@@ -15,6 +15,8 @@ use Rattle.feed_queue.specs.Taking.{IsTaken, item_view}
 use Rattle.feed_queue.specs.declared.desk.FeedDesk.{FeedDesk}
 use Rattle.feed_queue.specs.declared.desk.Taken.{Taken}
 use Rattle.history_text.specs.History.{KeptFeed, RingHolds}
+use Rattle.history_text.specs.Views.{feed_view}
+use Rattle.history_text.specs.declared.kept.KeptFeed as left
 use Rattle.news_terms.specs.Ring.{passed_now}
 use Rattle.news_terms.specs.Token.{Token}
 use Rattle.relay_model.specs.Shares.{after_take_of, as_ring}
@@ -193,3 +195,18 @@ kept_resumed desk kept sizes law holds keeps =
       keeps = keeps some.feeds (record { count = some.count; each = some.each });
       few = some.few;
     } ∣₁
+
+-- what is left of a feed gained no more than any
+pub few_kept : {E : Type 0} (desk : FeedDesk) (most feed : ℕ)
+    (result : Result (Option left.KeptFeed) E)
+    → IfOk result (λ (answer : Option left.KeptFeed). IfSome answer (λ (one : left.KeptFeed).
+    (sizes : List ℕ) (feeds : ℕ → Feed) → KeepsFeeds desk sizes feeds
+    → IsLeft (feed_view one) (slice_index sizes feed) (feeds feed)))
+    → ∥ KeepsAtMost desk most ∥₁
+    → IfOk result (λ (answer : Option left.KeptFeed). IfSome answer (λ (one : left.KeptFeed).
+    one.gained ≤ most))
+few_kept desk most feed (Ok (Some kept)) is all =
+    ∥∥₁_elim all (hlevel (props, le_prop))
+    (λ one. omega (arith, (is one.sizes one.feeds one.keeps).gained, one.few feed))
+few_kept desk most feed (Ok None) is all = tt
+few_kept desk most feed (Err e) is all = tt

@@ -6,4 +6,5 @@ pub mod OpenLemmas
 pub mod ReadBackLemmas
 pub mod ReadLemmas
 pub mod StartLemmas
+pub mod StartedLemmas
 pub mod StopLemmas

@@ -3,7 +3,15 @@ use Rattle.std.proofs.Common.{◌≡◌, ◌∙◌, ℕ, ◌+◌, ◌*◌, ◌<�
 use Rattle.std.proofs.Common.{Bool, true, false, true≢false, not, nat_lt, nat_le, ◌==◌, ◌||◌}
 use Rattle.std.proofs.Common.{List, length, take, None, Some, Ok, Err, Result}
 use Rattle.std.proofs.lemmas.Bool.{cond-false, eq-eqb, ne_eqb, le-ltb, lt-leb}
-use Rattle.news_terms.specs.BlockImage.{chunk}
+use Rattle.std.proofs.Math.Logic.{∥∥₁_elim}
+use Rattle.article_parse.specs.Faults.{IsFaultOf}
+use Rattle.article_parse.specs.declared.faults.ArtError.{ArtError}
+use Rattle.article_parse.specs.declared.faults.ArtError.TheVariants as faults
+use Rattle.news_terms.proofs.ArticleFaults.{article_without_fault}
+use Rattle.news_terms.specs.Article as terms
+use Rattle.news_terms.specs.Article.{IsFirstFault}
+use Rattle.news_terms.specs.ArticleTexts.{IsArticle}
+use Rattle.news_terms.specs.BlockImage.{chunk, chunk_size}
 use Rattle.news_terms.specs.Places.{size_of, on_line}
 use Rattle.news_terms.specs.Token.{Token}
 use Rattle.cyc_block.specs.declared.store.BlockStore.{Ghosts}
@@ -13,7 +21,6 @@ use Rattle.cyc_buffer.specs.Answers.{is_beyond, or_by_text}
 use Rattle.cyc_buffer.specs.Answers as answers
 use Rattle.cyc_buffer.specs.Calls.{ReadsBlock}
 use Rattle.cyc_buffer.specs.History.{History, front_of, text_under}
-use Rattle.cyc_buffer.specs.Reads.{IsBlamed}
 use Rattle.cyc_buffer.specs.Register.{Keeps}
 use Rattle.cyc_buffer.specs.Stopped.{IsLiveToken}
 use Rattle.cyc_buffer.specs.declared.answers.BufError.{BufError}
@@ -28,7 +35,8 @@ use Rattle.cyc_buffer.proofs.Finished.{lies}
 use Rattle.cyc_buffer.proofs.Reading.{is_under}
 use Rattle.cyc_token.specs.Token.{token_view}
 use Rattle.cyc_token.specs.declared.Token as codes
-use Rattle.live_store.specs.Started.{IsMerelyRead, IsUnentered}
+use Rattle.live_store.specs.Started.{IsMerelyRead, IsNoArticle, IsToldAs, IsUnentered}
+use Rattle.live_store.proofs.OpenLemmas.{no_prop}
 
 neither : (a b : Bool) → a ≡ false → b ≡ false → a || b ≡ false
 neither false b one other = other
@@ -94,6 +102,11 @@ module _ {S : Type 0} {g : Ghosts S} (old new : Buffer S g) (token : codes.Token
   pub not_unknown : ReadsBlock old token k before (Ok found.Unknown) after new → ⊥
   not_unknown reads = shown found.Unknown reads
 
+by_fault : (text : List ℕ) (fault : terms.Fault) (r : StartError) → IsFirstFault text fault
+    → r ≡ errors.Damaged → IsNoArticle text r
+by_fault text fault r first told = subst (IsNoArticle text) (sym told)
+    (λ article. article_without_fault text article.0 fault article.1 first)
+
 module _ {S : Type 0} {g : Ghosts S} where
   -- where nothing was read nothing is another
   pub merely_none : (b : Buffer S g) → IsMerelyRead b b
@@ -127,14 +140,39 @@ module _ {S : Type 0} {g : Ghosts S} where
     count = reads.device.blocks;
   }
 
-  -- a refusal after steps without a failure
-  pub blamed_later : (a b c : S) (e : StartError) → g.failures b ≡ g.failures a
-      → IsBlamed g b c e → IsBlamed g a c e
-  blamed_later a b c errors.Memory none blamed = blamed ∙ none
-  blamed_later a b c errors.Device none blamed = omega (arith, blamed, none)
-  blamed_later a b c errors.NoHead none blamed = blamed ∙ none
-  blamed_later a b c errors.Unclosed none blamed = blamed ∙ none
-  blamed_later a b c errors.Damaged none blamed = blamed ∙ none
+  -- it went without a failure
+  pub unfailed : (a b : Buffer S g) (token : codes.Token) (k : ℕ) (before after : List ℕ)
+      (f : Found) → ReadsBlock a token k before (Ok f) after b
+      → g.failures (store_of b) ≡ g.failures (store_of a)
+  unfailed a b token k before after f reads = reads.device.no_failure
+
+-- what is told of a text that has a fault
+pub no_article : (text : List ℕ) (e : ArtError) (r : StartError) → IsFaultOf text e → IsToldAs e r
+    → IsNoArticle text r
+no_article text faults.Memory r fault told = subst (IsNoArticle text) (sym told) tt
+no_article text faults.NoBlankLine r fault told = by_fault text _ r fault told
+no_article text faults.BadHeader r fault told = by_fault text _ r fault told
+no_article text faults.BareCrLf r fault told = by_fault text _ r fault told
+no_article text faults.Nul r fault told = by_fault text _ r fault told
+no_article text (faults.Missing name) r fault told = by_fault text _ r fault told
+no_article text (faults.Twice name) r fault told = by_fault text _ r fault told
+no_article text (faults.EmptyField name) r fault told = by_fault text _ r fault told
+no_article text faults.BadId r fault told = by_fault text _ r fault told
+no_article text faults.BadGroups r fault told = by_fault text _ r fault told
+
+-- so an article isn't refused for its text
+pub article_unentered : (text other : List ℕ) (e : StartError) → text ≡ other
+    → IsNoArticle text e → IsUnentered ∥ IsArticle other ∥₁ e
+article_unentered text other errors.Memory same none = tt
+article_unentered text other errors.Device same none = tt
+article_unentered text other errors.NoHead same none = none
+article_unentered text other errors.Unclosed same none = none
+article_unentered text other errors.Damaged same none = λ article.
+    ∥∥₁_elim article no_prop (λ a. none (subst IsArticle (sym same) a))
+
+-- a text ends with its last block
+pub covers : (n k : ℕ) → (k < size_of n → ⊥) → n ≤ chunk_size * k
+covers n k past = omega (arith, past)
 
 -- what is refused for a reason is refused for a weaker one
 pub unentered_by : (A B : Type 0) (e : StartError) → (B → A) → IsUnentered A e → IsUnentered B e

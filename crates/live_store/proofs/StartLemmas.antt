@@ -4,8 +4,8 @@ use Rattle.std.proofs.Common.{subst, arith, Bool, true, List, length, set, Optio
 use Rattle.std.proofs.Common.{slice_index_or}
 use Rattle.std.proofs.Math.Nat.{mul-le-mul_right}
 use Rattle.std.proofs.lemmas.Bool.{cases_order}
-use Rattle.std.proofs.lemmas.List.{get_or-set_same, get_or-set_other}
-use Rattle.std.proofs.lemmas.List.Elements.{at_from_Contains}
+use Rattle.std.proofs.lemmas.List.{get_or-set_same, get_or-set_other, get_or_default}
+use Rattle.std.proofs.lemmas.List.Elements.{Contains-get_or}
 use Rattle.std.specs.Prelude.{None}
 use Rattle.boxcar.specs.Table.{Shelves, Where, Shows}
 use Rattle.cyc_buffer.proofs.Finished.{lies, same_some}
@@ -16,10 +16,14 @@ use Rattle.cyc_buffer.specs.Stopped.{IsLiveToken}
 use Rattle.cyc_buffer.specs.declared.register.Register.{Register}
 use Rattle.cyc_token.specs.Token.{token_view}
 use Rattle.cyc_token.specs.declared.Token as codes
-use Rattle.live_store.specs.Started.{AreNumberedTo, IsThere, code_token}
+use Rattle.live_store.specs.Started.{AreNumberedTo, IsTextOfLive, IsThere, code_token}
 use Rattle.live_store.specs.Tied.{AreNumbered, HasRecord, number_at, named_in, text_in}
 use Rattle.live_store.specs.declared.writing.entering.Record.{Record}
 use Rattle.news_terms.specs.Places.{IsLive, on_line, size_of}
+
+-- a token of zeros
+abbrev pub none_token : codes.Token
+none_token = record { class = 0; buffer = 0; cycle = 0; first = 0; length = 0 }
 
 apart : {a b : ℕ} → a ≡ b → (a < b) ⊎ (b < a) → ⊥
 apart e (inl l) = omega (arith, e, l)
@@ -116,14 +120,16 @@ module _ (trusted : Bool) (register : Shelves) (h : History) (token : codes.Toke
       ∙ (λ i. code_token h.buffer (same i) (sym at i) (one i))
 
   -- with the number of the next token's record one article more is numbered
-  pub numbered_next : (tokens : List codes.Token) (n : ℕ)
+  pub numbered_next : (tokens : List codes.Token) (n : ℕ) → n < length tokens
       → token ≡ slice_index_or tokens n token
       → AreNumberedTo trusted register h tokens n numbers
       → AreNumberedTo trusted register h tokens (n + 1) after
-  numbered_next tokens n next numbered cycle first article there j less is =
+  numbered_next tokens n inside next numbered cycle first article there j less is =
       elim (cases_order j n) [
         | inl e ↦ has_now cycle first article there
-            (next ∙ ap (λ m. slice_index_or tokens m token) (sym e) ∙ is token)
+            (next ∙ ap (λ m. slice_index_or tokens m token) (sym e)
+            ∙ get_or_default tokens j token (code_token h.buffer cycle first article)
+            (omega (arith, e, inside)) ∙ is)
         | inr o ↦ elim o [
           | inl l ↦
               let has = numbered cycle first article there j l is in
@@ -138,6 +144,36 @@ module _ (trusted : Bool) (register : Shelves) (h : History) (token : codes.Toke
         ]
       ]
 
+-- a listed token is a live one
+pub live_at : (h : History) (tokens items : List codes.Token) (n : ℕ) (d : codes.Token)
+    → items ≡ tokens → n < length items → ListsLive tokens h
+    → IsLiveToken h (token_view (slice_index_or items n d))
+live_at h tokens items n d same inside lists =
+    subst (λ (xs : List codes.Token). IsLiveToken h (token_view (slice_index_or xs n d))) (sym same)
+    ((lists.all (slice_index_or tokens n d)).0
+    (Contains-get_or tokens n d (omega (arith, inside, ap length same))))
+
+-- with the record of one token more
+pub numbered_item : (trusted : Bool) (register : Shelves) (h : History)
+    (tokens items : List codes.Token) (n : ℕ) (d : codes.Token) (shown : Where Record)
+    (numbers : List (Option (Where Record)))
+    → items ≡ tokens → n < length items → ListsLive tokens h
+    → Shows register shown → named_in shown ≡ slice_index_or items n d
+    → (trusted ≡ true
+    → IsTextOfLive h (token_view (slice_index_or items n d)) (text_in shown))
+    → (slice_index_or items n d).first < length numbers
+    → AreNumberedTo trusted register h tokens n numbers
+    → AreNumberedTo trusted register h tokens (n + 1)
+    (set numbers (slice_index_or items n d).first (Some shown))
+numbered_item trusted register h tokens items n d shown numbers same inside lists shows named text
+    within numbered =
+    let live = live_at h tokens items n d same inside lists in
+    numbered_next trusted register h (slice_index_or items n d) shown numbers live shows named
+    (λ honest. text honest live) within tokens n (omega (arith, inside, ap length same))
+    (get_or_default items n d (slice_index_or items n d) inside
+    ∙ ap (λ (xs : List codes.Token). slice_index_or xs n (slice_index_or items n d)) same)
+    numbered
+
 -- with no token gone over nothing is said
 pub numbered_none : (trusted : Bool) (register : Shelves) (h : History) (tokens : List codes.Token)
     (numbers : List (Option (Where Record)))
@@ -151,8 +187,7 @@ pub all_numbered : (trusted : Bool) (register : Shelves) (h : History) (tokens :
     → AreNumberedTo trusted register h tokens (length tokens) numbers
     → AreNumbered trusted register h numbers
 all_numbered trusted register h tokens numbers lists numbered cycle first article finished live =
-    let there = record { finished = finished; live = live } in
+    let there : IsThere h cycle first article = record { finished = finished; live = live } in
     let code = code_token h.buffer cycle first article in
-    let at = at_from_Contains tokens code
-    ((lists.all code).1 (live_of h cycle first article there)) in
+    let at = (lists.all code).1 (live_of h cycle first article there) in
     numbered cycle first article there at.0 at.1 at.2

@@ -25,6 +25,18 @@ busy_by : (write : Open) (p : Option Progress) → IsTheOpen write p → is_some
 busy_by write None owns = absurd owns
 busy_by write (Some p) owns = refl
 
+-- what is tied is so after it was taken apart
+pub parts_tied : {S : Type 0} {g : Ghosts S} (register : Shelves) (trusted : Bool)
+    (buffer one : Buffer S g) (beside other : Option Beside)
+    (numbers others : List (Option (Where Record)))
+    → one ≡ buffer → other ≡ beside → others ≡ numbers
+    → ∥ Tied trusted register buffer beside numbers ∥₁
+    → ∥ Tied trusted register one other others ∥₁
+parts_tied register trusted buffer one beside other numbers others a b c tied =
+    subst (λ x. ∥ Tied trusted register x other others ∥₁) (sym a)
+    (subst (λ x. ∥ Tied trusted register buffer x others ∥₁) (sym b)
+    (subst (λ x. ∥ Tied trusted register buffer beside x ∥₁) (sym c) tied))
+
 module _ {S : Type 0} {g : Ghosts S} (register : Shelves) (trusted : Bool) (buffer : Buffer S g)
     (numbers : List (Option (Where Record))) where
   -- what has an open write beside it isn't stopped

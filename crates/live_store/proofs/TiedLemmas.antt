@@ -68,7 +68,7 @@ abbrev pub beside_of : Open → (shown : Where Record) → (written : ℕ) → B
 beside_of write shown written broken =
     record { write = write; shown = Some shown; written = written; broken = broken }
 
-no_number : (n block : ℕ) (shown : Where Record) → number_at (replicate n None) block ≡ Some shown
+pub no_number : (n block : ℕ) (shown : Where Record) → number_at (replicate n None) block ≡ Some shown
     → ⊥
 no_number zero block shown e = none_is_none e
 no_number (suc n) zero shown e = none_is_none e

@@ -1,6 +1,8 @@
 -- What a stop and a start have to do with the register (docs/PROTOCOL.md, Clean stop and start).
 use Rattle.std.specs.Prelude.{◌≡◌, ℕ, ◌<◌, Bool, true, List, length, slice_index_or, Option, None}
 use Rattle.std.specs.Prelude.{Some}
+use Rattle.article_parse.specs.declared.faults.ArtError.{ArtError}
+use Rattle.article_parse.specs.declared.faults.ArtError.TheVariants as faults
 use Rattle.boxcar.specs.Table.{Shelves, Where, Shows}
 use Rattle.cyc_block.specs.declared.store.BlockStore.{Ghosts}
 use Rattle.cyc_buffer.specs.Agreement.{Agrees, Follows, register_of, store_of}
@@ -14,7 +16,7 @@ use Rattle.cyc_buffer.specs.declared.buffer.Buffer.{Buffer}
 use Rattle.cyc_buffer.specs.declared.unopened.Unopened.{Unopened}
 use Rattle.cyc_token.specs.declared.Token as codes
 use Rattle.live_store.specs.declared.record.Archive as archives
-use Rattle.live_store.specs.declared.starting.UnopenedNumbered.{UnopenedNumbered}
+use Rattle.live_store.specs.declared.unopened.UnopenedNumbered.{UnopenedNumbered}
 use Rattle.live_store.specs.declared.writing.entering.Record.{Record}
 use Rattle.live_store.specs.Tied.{AreNumbered, HasRecord, number_at, text_in, token_in}
 use Rattle.news_terms.specs.ArticleTexts.{IsArticle}
@@ -85,6 +87,19 @@ IsNoArticle text errors.Device = ⊥
 IsNoArticle text errors.NoHead = ⊥
 IsNoArticle text errors.Unclosed = ⊥
 IsNoArticle text errors.Damaged = IsArticle text → ⊥
+
+-- a fault of a text is told as damage, and want of memory as itself
+abbrev pub IsToldAs : ArtError → StartError → Type 0
+IsToldAs faults.Memory told = told ≡ errors.Memory
+IsToldAs faults.NoBlankLine told = told ≡ errors.Damaged
+IsToldAs faults.BadHeader told = told ≡ errors.Damaged
+IsToldAs faults.BareCrLf told = told ≡ errors.Damaged
+IsToldAs faults.Nul told = told ≡ errors.Damaged
+IsToldAs (faults.Missing name) told = told ≡ errors.Damaged
+IsToldAs (faults.Twice name) told = told ≡ errors.Damaged
+IsToldAs (faults.EmptyField name) told = told ≡ errors.Damaged
+IsToldAs faults.BadId told = told ≡ errors.Damaged
+IsToldAs faults.BadGroups told = told ≡ errors.Damaged
 
 -- the text of each live finished article is an article
 abbrev pub AreArticles : History → Type 0

@@ -19,6 +19,7 @@ mod starting;
 mod steps;
 mod stopping;
 mod stored;
+mod unopened;
 mod writing;
 
 pub use answers::{Reading, WriteFault};
@@ -28,8 +29,8 @@ pub use following::OneRecord;
 pub use numbered::NumberedBuffer;
 pub use reading::read_block;
 pub use record::{Archive, Register, Shown};
-pub use starting::UnopenedNumbered;
 pub use steps::{Entered, Mixed};
 pub use stopping::Unshut;
 pub use stored::{Finished, Receipt, Stored};
+pub use unopened::UnopenedNumbered;
 pub use writing::{Begun, Record, store};

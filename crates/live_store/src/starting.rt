@@ -1,6 +1,6 @@
 //! How a buffer is started from what it left on its device, with the register's record for each
 //! live article.
-ghost use Rattle.std.specs.Prelude.{◌≡◌, ◌<◌, Bool, true, None, All, length, IfErr, IfOk, OnOk};
+ghost use Rattle.std.specs.Prelude.{◌≡◌, ◌<◌, Bool, true, All, length, IfErr, IfOk, OnOk};
 ghost use Rattle.cyc_buffer.specs.Agreement.{Agrees, store_of};
 ghost use Rattle.cyc_buffer.specs.Head.{inside};
 ghost use Rattle.cyc_buffer.specs.History.{History};
@@ -8,11 +8,12 @@ ghost use Rattle.cyc_buffer.specs.Reads.{IsBlamed};
 ghost use Rattle.cyc_buffer.specs.Starting.{ListsLive};
 ghost use Rattle.cyc_token.specs.declared.Token.{Token as CodeToken};
 ghost use Rattle.live_store.specs.Started.{AreArticles, IsMerelyRead, IsUnentered};
-ghost use Rattle.live_store.specs.Tied.{AreNumbered, AreShown, Tied};
+ghost use Rattle.live_store.specs.Tied.{AreNumbered, AreShown};
 
 use crate::figures::no_numbers;
 use crate::numbered::NumberedBuffer;
 use crate::record::{Archive, Register, Shown};
+use crate::unopened::UnopenedNumbered;
 use crate::writing::enter_articles;
 use cyc_block::BlockStore;
 use cyc_buffer::{Buffer, Refused, StartError, Started, Unopened};
@@ -20,16 +21,6 @@ use cyc_token::Token;
 use std::alloc::Global;
 use std::marker::PhantomData;
 use std::sync::Wait;
-
-/// A started buffer whose head block says closed yet, and for each block the number of the article
-/// that begins there. It begins nothing before its head is open.
-#[derive(Drop)]
-pub struct UnopenedNumbered<S: BlockStore, J: Archive> {
-    pub(crate) buffer: Unopened<S>,
-    pub(crate) numbers: Vec<Option<Shown>>,
-    pub(crate) of: PhantomData<J>,
-    ghost tied: { ∥ Tied J.trusted J.register (inside buffer) None numbers.items ∥₁ },
-}
 
 impl<S: BlockStore, J: Archive> UnopenedNumbered<S, J> {
     ghost use Rattle.std.specs.Prelude.{◌≡◌, ◌<◌, ◌+◌, true, None, length, IfErr, IfOk};
@@ -109,8 +100,8 @@ impl<S: BlockStore, J: Archive> UnopenedNumbered<S, J> {
 }
 
 impl<S: BlockStore, J: Archive> NumberedBuffer<S, J> {
-    ghost use Rattle.std.specs.Prelude.{◌≡◌, ◌<◌, ◌+◌, ℕ, Bool, true, length, IfErr, IfOk};
-    ghost use Rattle.cyc_buffer.specs.Agreement.{Agrees, Follows, store_of, register_of};
+    ghost use Rattle.std.specs.Prelude.{◌≡◌, ℕ, Bool, true, false, length, IfErr, IfOk};
+    ghost use Rattle.cyc_buffer.specs.Agreement.{Agrees, store_of};
     ghost use Rattle.cyc_buffer.specs.Head.{has_open_head, inside};
     ghost use Rattle.cyc_buffer.specs.History.{History};
     ghost use Rattle.cyc_buffer.specs.Reads.{IsBlamed};

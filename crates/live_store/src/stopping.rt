@@ -1,4 +1,5 @@
 //! How a buffer is stopped.
+use crate::beside::Beside;
 use crate::numbered::NumberedBuffer;
 use crate::record::Archive;
 use cyc_block::BlockStore;
@@ -14,7 +15,7 @@ pub struct Unshut<S: BlockStore, J: Archive> {
 }
 
 impl<S: BlockStore, J: Archive> NumberedBuffer<S, J> {
-    ghost use Rattle.std.specs.Prelude.{◌≡◌, ◌+◌, true, None, length, IfErr, IfOk, OnOk};
+    ghost use Rattle.std.specs.Prelude.{◌≡◌, ◌+◌, true, None, is_some, length, IfErr, IfOk, OnOk};
     ghost use Rattle.news_terms.specs.HeadBlocks.{head_blocks};
     ghost use Rattle.cyc_buffer.specs.Agreement.{Agrees, Follows, store_of};
     ghost use Rattle.cyc_buffer.specs.Head.{IsInOrder, IsStopRefusal, LeavesBuffer};
@@ -22,6 +23,32 @@ impl<S: BlockStore, J: Archive> NumberedBuffer<S, J> {
     ghost use Rattle.cyc_buffer.specs.Stopped.{HoldsStopped};
     ghost use Rattle.live_store.specs.Started.{ShutWith};
     ghost use Rattle.live_store.specs.Steps.{buffer_of, beside_of, numbers_of};
+
+    /// Whether a write is open, as long as which it can't be stopped.
+    pub fn is_busy(&self) -> bool
+        ensures { result ≡ is_some (beside_of self.now) }
+    {
+        self.beside.is_some()
+    }
+
+    /// The buffer's store.
+    pub fn into_store(self) -> S
+        ensures { result ≡ store_of (buffer_of self) }
+    {
+        let (buffer, beside, _numbers) = self.into_parts();
+        if let Some(
+            Beside {
+                write,
+                shown: _,
+                written: _,
+                broken: _,
+            },
+        ) = beside
+        {
+            let _token = write.into_token();
+        }
+        buffer.into_store()
+    }
 
     /// Says on the device what the buffer is, and gives the store.
     pub fn shut(self, stop: u64) -> Result<S, Unshut<S, J>>

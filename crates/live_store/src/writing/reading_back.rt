@@ -10,7 +10,7 @@ ghost use Rattle.cyc_buffer.specs.Stopped.{IsLiveToken};
 ghost use Rattle.cyc_token.specs.Token.{token_view};
 ghost use Rattle.cyc_token.specs.declared.Token.{Token as CodeToken};
 ghost use Rattle.live_store.specs.Started.{AreArticles, AreNumberedTo, IsMerelyRead, IsNoArticle};
-ghost use Rattle.live_store.specs.Started.{IsTextOfLive, IsUnentered};
+ghost use Rattle.live_store.specs.Started.{IsTextOfLive, IsToldAs, IsUnentered};
 ghost use Rattle.live_store.specs.Tied.{AreShown, named_in, text_in};
 ghost use Rattle.news_terms.specs.ArticleTexts.{IsArticle};
 
@@ -122,9 +122,27 @@ fn judge(alloc: Global, text: &Vec<u8>) -> Result<(), StartError>
     ensures article { OnOk result ∥ IsArticle text.now.items ∥₁ }
     ensures refused { IfErr result (IsNoArticle text.now.items) }
 {
-    match Article::parse(alloc, text.as_slice()) {
-        Ok(_) => Ok(()),
-        Err(ArtError::Memory) => Err(StartError::Memory),
-        Err(_) => Err(StartError::Damaged),
+    let _article = match Article::parse(alloc, text.as_slice()) {
+        Ok(article) => article,
+        Err(error) => return Err(told(error)),
+    };
+    Ok(())
+}
+
+/// Want of memory, or that a text is no article.
+fn told(error: ArtError) -> StartError
+    ensures { IsToldAs error result }
+{
+    match error {
+        ArtError::Memory => StartError::Memory,
+        ArtError::NoBlankLine
+        | ArtError::BadHeader
+        | ArtError::BareCrLf
+        | ArtError::Nul
+        | ArtError::Missing(_)
+        | ArtError::Twice(_)
+        | ArtError::EmptyField(_)
+        | ArtError::BadId
+        | ArtError::BadGroups => StartError::Damaged,
     }
 }

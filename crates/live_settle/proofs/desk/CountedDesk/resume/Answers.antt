@@ -9,9 +9,9 @@ use Rattle.live_settle.proofs.desk.CountedDesk.resume.Goals as goal
 pub invariant_of-result : goal.invariant_of-result
 invariant_of-result g c = record {
   counted = sym c.requires.book;
-  room = omega (arith, c.most_of.ensures, c.requires.few);
+  room = omega (arith, c.most_of-before.ensures, c.requires.few);
   kept = subst (λ n. ∥ KeepsAtMost c.in_ok-desk.desk n ∥₁)
-      (omega (arith, c.most_of.ensures))
+      (omega (arith, c.most_of-before.ensures))
       (kept_resumed c.in_ok-desk.desk (map feed_view c.args.kept.now)
       (map ring_size c.args.feeds.now) c.each_was_left.ensures c.requires.holds
       c.in_ok-desk.ensures);
