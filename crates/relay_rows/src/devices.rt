@@ -29,7 +29,12 @@ pub fn drill_k1<R: Read, W: Write>(
     let Ok(config) = Config::k1(alloc) else {
         return Err(Failure::Drill(DrillError::Memory));
     };
-    match drill_failing(rt, alloc, config, failing, reader, writer) {
+    let drilled = drill_failing(rt, alloc, config, failing, reader, writer);
+    // What is gathered is handed on before a failure is told, as `run` does.
+    if writer.flush().is_err() {
+        return Err(Failure::Drill(DrillError::Unwritten));
+    }
+    match drilled {
         Ok(()) => Ok(()),
         Err(error) => Err(Failure::Drill(error)),
     }
