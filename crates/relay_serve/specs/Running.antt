@@ -42,7 +42,7 @@ IsRunFault error =
 
 -- so, or the file of a buffer can't be had, by its name
 abbrev pub IsServeFault : Config → ServeError → Type 0
-IsServeFault config (faults.File name) = NamesFile config (string_bytes name)
+IsServeFault config (faults.File lost) = NamesFile config (string_bytes lost.name)
 IsServeFault config (faults.Port number) = ⊥
 IsServeFault config faults.Control = ⊥
 IsServeFault config faults.Unseeded = Unit {0}

@@ -13,6 +13,7 @@ mod figures;
 mod files;
 mod gate;
 mod ports;
+mod reasons;
 mod running;
 mod serving;
 mod streams;

@@ -1,2 +1,3 @@
+pub mod Reasons
 pub mod Serve
 pub mod Text

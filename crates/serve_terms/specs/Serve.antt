@@ -41,8 +41,8 @@ PrintGives totals (Err error) before after = ⊥
 
 -- the failure names what can't be had, where it is a file or a port
 abbrev pub NamesFault : Config → ServeError → Type 0
-NamesFault config (faults.File name) = NamesFile config (string_bytes name)
-NamesFault config (faults.Port number) = NamesPort config number
+NamesFault config (faults.File lost) = NamesFile config (string_bytes lost.name)
+NamesFault config (faults.Port lost) = NamesPort config lost.number
 NamesFault config error = Unit {0}
 
 -- a relay of the configuration was served, and the report of its totals was written; or it wasn't,

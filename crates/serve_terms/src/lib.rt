@@ -7,6 +7,8 @@
 
 mod fault;
 mod printing;
+mod reason;
 
-pub use fault::ServeError;
+pub use fault::{LostFile, LostPort, ServeError};
 pub use printing::print_totals;
+pub use reason::Reason;
