@@ -1,11 +1,12 @@
 //! The files of the buffers (docs/FORMATS.md, cycbuff.conf).
 ghost use Rattle.std.specs.Prelude.{◌≡◌, length, map, All, Any, IfErr, IfNone, IfOk, IfSome};
-ghost use Rattle.file_blocks.specs.Store.{count_of};
+ghost use Rattle.run_blocks.specs.Store.{count_of};
 ghost use Rattle.relay_serve.specs.Files.{IsFaultOf, IsFileFault, SharesFile};
 ghost use Rattle.serve_terms.specs.declared.fault.ServeError.TheVariants as faults;
 
-use file_blocks::{FileBlocks, HeldFile, Unusable};
+use file_blocks::{HeldFile, Unusable};
 use relay_conf::{BufferConf, Buffers};
+use run_blocks::RunBlocks;
 use serve_terms::ServeError;
 use std::alloc::Global;
 use std::fs::{File, Files};
@@ -74,14 +75,14 @@ fn taken_by_none(file: HeldFile, others: &[HeldFile]) -> Option<HeldFile>
     Some(file)
 }
 
-/// A store in the file of each buffer, of its blocks, in the order of the buffers: each file is made
-/// as long as that takes, and its last block is tried. The error is want of memory, or the first file
+/// A store in the file of each buffer, of its blocks, in the order of the buffers, that reads and
+/// writes runs of blocks: each file is made as long as that takes, and its last block is tried. The error is want of memory, or the first file
 /// with which that can't be done.
 pub fn fit_files(
     alloc: Global,
     settings: &Buffers,
     files: Vec<HeldFile>,
-) -> Result<Vec<FileBlocks>, ServeError>
+) -> Result<Vec<RunBlocks>, ServeError>
     requires count { length files.items ≡ length settings.now.buffers.items }
     ensures blocks { IfOk result (λ stores. map count_of stores.items
         ≡ map (λ buffer. buffer.blocks) settings.now.buffers.items) }
@@ -93,8 +94,11 @@ pub fn fit_files(
         let Some(file) = rest.next() else {
             unreachable!()
         };
-        match FileBlocks::of_held(file, buffer.blocks) {
+        match RunBlocks::of_held(alloc, file, buffer.blocks) {
             Ok(store) => stores.push_reserved(store),
+            Err(Unusable::Refused(error)) if error.kind() == ErrorKind::OutOfMemory => {
+                return Err(ServeError::Memory);
+            }
             Err(_) => return Err(unusable(alloc, buffer)),
         }
     }

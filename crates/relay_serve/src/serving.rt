@@ -1,6 +1,6 @@
 //! A relay is served on the ports of the machine, over its files.
 ghost use Rattle.std.specs.Prelude.{◌≡◌, ◌<◌, ◌^◌, IfErr, IfOk, length, map};
-ghost use Rattle.file_blocks.specs.Store.{count_of};
+ghost use Rattle.run_blocks.specs.Store.{count_of};
 ghost use Rattle.relay_serve.specs.Running.{IsServeFault};
 ghost use Rattle.serve_terms.specs.Serve.{AreOf, ServeGives};
 
@@ -12,13 +12,13 @@ use crate::ports::open_ports;
 use crate::running::{lanes_of, run_relay};
 use crate::streams::fill_streams;
 use crate::watched::{Watched, watch_all};
-use file_blocks::FileBlocks;
 use live_store::Register;
 use peer_ports::{Port, Stop};
 use relay_conf::Config;
 use relay_control::Control;
 use relay_live::Door;
 use relay_report::Totals;
+use run_blocks::RunBlocks;
 use serve_terms::{ServeError, print_totals};
 use std::alloc::Global;
 use std::fs::{File, Files};
@@ -80,7 +80,7 @@ fn run_and_print<'a, R, W: Write>(
     rt: &R,
     alloc: Global,
     config: &Config,
-    stores: Vec<FileBlocks>,
+    stores: Vec<RunBlocks>,
     doors: Vec<Door<Port<'a>>>,
     gate: &CountingGate<'_>,
     desk: &Desk<'_>,
@@ -103,7 +103,7 @@ fn run_on<'a, R>(
     rt: &R,
     alloc: Global,
     config: &Config,
-    stores: Vec<FileBlocks>,
+    stores: Vec<RunBlocks>,
     doors: Vec<Door<Port<'a>>>,
     gate: &CountingGate<'_>,
     desk: &Desk<'_>,
@@ -122,7 +122,7 @@ where
     let stores = watch_all(rt, &config.buffers, stores)?;
     match run_relay::<
         Port<'a>,
-        Watched<'_, FileBlocks, R>,
+        Watched<'_, RunBlocks, R>,
         Brand,
         Brand,
         MachineClock<'_, R>,
