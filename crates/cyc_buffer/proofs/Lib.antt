@@ -21,3 +21,4 @@ pub mod BitLemmas
 mod Restored
 pub mod Answered
 pub mod SameRegister
+pub mod RememberedLemmas

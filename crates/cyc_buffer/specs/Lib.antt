@@ -9,6 +9,7 @@ pub mod Marks
 pub mod Progress
 pub mod Reads
 pub mod Register
+pub mod Remembered
 pub mod Restart
 pub mod Starting
 pub mod Stopped

@@ -1,13 +1,16 @@
 //! What a start reads of a buffer's articles.
 ghost use Rattle.std.specs.Prelude.{◌≡◌, ◌↔◌, ◌+◌, ◌*◌, ◌^◌, ◌<◌, ◌≤◌, ℕ, length, true, false};
 ghost use Rattle.std.specs.Prelude.{IsTrue, IfErr, IfOk, IfSome, IfNone, OnOk};
+ghost use Rattle.std.specs.List.{Contains};
 ghost use Rattle.news_terms.specs.BlockImage.{Block, IsBlock, block_image as image_of};
 ghost use Rattle.news_terms.specs.Places.{size_of};
 ghost use Rattle.cyc_block.specs.Store.{block_at};
 ghost use Rattle.cyc_token.specs.Token.{token_view};
+ghost use Rattle.cyc_token.specs.declared.Token.{Token as CodeToken};
 ghost use Rattle.cyc_buffer.specs.Marks.{is_marked};
 ghost use Rattle.cyc_buffer.specs.Reads.{StaysHeld, IsBlamed, IsDamageBy, IsOfToken, IsRead};
 ghost use Rattle.cyc_buffer.specs.Reads.{IsFound, IsNone, IsMissing, HasRead};
+ghost use Rattle.cyc_buffer.specs.Remembered.{AreWithin, ListsStarts};
 ghost use Rattle.cyc_buffer.specs.Starting.{blocks_in};
 ghost use Rattle.cyc_buffer.specs.Stopped.{IsImageUnder};
 
@@ -197,6 +200,13 @@ pub(crate) fn read_articles<S: BlockStore>(
     ensures refused { S.honest store.old → IfErr result (IsDamageBy (
         IsMissing (is_marked starts.now.words.items) (S.blocks store.old) stretch.now.number
         stretch.now.cycle stretch.now.end from)) }
+    // Over any store each block from there where an article begins is a listed one's first.
+    ensures listed { OnOk result (ListsStarts from stretch.now.end
+        (is_marked starts.now.words.items) tokens.new.items) }
+    ensures stay_listed { OnOk result ((t : CodeToken)
+        → Contains tokens.old.items t → Contains tokens.new.items t) }
+    ensures within { OnOk result ((blocks : ℕ) → stretch.now.end ≤ blocks
+        → AreWithin blocks tokens.old.items → AreWithin blocks tokens.new.items) }
     ensures kept { length kept.new.words.items ≡ length kept.old.words.items }
     ensures calls { OnOk result (S.calls store.new + blocks_in tokens.old.items
         ≡ S.calls store.old + blocks_in tokens.new.items) }

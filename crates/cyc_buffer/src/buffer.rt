@@ -41,12 +41,15 @@ impl<S: BlockStore> Buffer<S> {
     ghost use Rattle.cyc_buffer.specs.Agreement.{Agrees, Follows, Owns, store_of, register_of};
     ghost use Rattle.cyc_buffer.specs.Agreement.{blocks_written, is_broken, length_of, token_of};
     ghost use Rattle.cyc_buffer.specs.Agreement.{CanWrite, CanFinish};
-    ghost use Rattle.cyc_buffer.specs.Answers.{refusal, error_of, front_view};
+    ghost use Rattle.cyc_buffer.specs.Answers.{refusal, error_of, front_view, IsDeviceFault};
     ghost use Rattle.cyc_buffer.specs.Calls.{LeavesDevice, WritesNext, ReadsBlock};
     ghost use Rattle.cyc_buffer.specs.History.{History, new_history, with_begin, with_finish};
     ghost use Rattle.cyc_buffer.specs.History.{without_write, open_token, front_of, cycle_of};
     ghost use Rattle.cyc_buffer.specs.History.{stored_count};
-    ghost use Rattle.cyc_buffer.specs.Head.{has_open_head, LeavesBlocks, IsFormatRefusal};
+    ghost use Rattle.cyc_buffer.specs.Head.{has_open_head, is_busy, LeavesBlocks, IsFormatRefusal};
+    ghost use Rattle.cyc_buffer.specs.Remembered.{AddsNoStart, AddsStart, IsFoundBy, IsUnbegun};
+    ghost use Rattle.cyc_buffer.specs.Remembered.{is_start, place_of};
+    ghost use Rattle.cyc_buffer.specs.declared.answers.FaultKind.TheVariants as kinds;
     ghost use Rattle.cyc_buffer.specs.Stopped.{numbers_of};
     ghost use Rattle.cyc_block.specs.Store.{block_at, ChangesOnly};
     ghost use Rattle.news_terms.specs.HeadBlocks.{Open as OpenState, head_image as head_of};
@@ -66,6 +69,9 @@ impl<S: BlockStore> Buffer<S> {
               first_cycle = first_cycle;
             }))) }
         ensures opened { IfOk result (λ buffer. has_open_head buffer ≡ true) }
+        ensures unmarked { IfOk result (λ buffer. (block : ℕ)
+            → is_start buffer block ≡ false) }
+        ensures idle { IfOk result (λ buffer. is_busy buffer ≡ false) }
         ensures written { IfOk result (λ buffer. S.honest store
             → block_at (S.heads (store_of buffer)) 0 ≡ head_of (numbers_of OpenState 0
             (new_history (record {
@@ -123,8 +129,13 @@ impl<S: BlockStore> Buffer<S> {
             ≡ open_token (with_begin class length fresh h)) }
         ensures open { IfOk result (λ write. Owns self.new write) }
         ensures length { IfOk result (λ write. length_of write ≡ length) }
+        ensures class { IfOk result (λ write. (token_of write).class ≡ class) }
         ensures none_written { OnOk result (blocks_written self.new ≡ 0) }
         ensures whole { OnOk result (is_broken self.new ≡ false) }
+        // Whatever is known of its history, none was open, and no article begins anew.
+        ensures idle { OnOk result (is_busy self.old ≡ false) }
+        ensures fault { IfErr result (IsUnbegun (place_of self.old) (is_busy self.old) length) }
+        ensures starts { AddsNoStart self.old self.new }
         ensures head { has_open_head self.new ≡ has_open_head self.old }
         // The device isn't called.
         ensures store { store_of self.new ≡ store_of self.old }
@@ -142,6 +153,9 @@ impl<S: BlockStore> Buffer<S> {
             → (result ≡ Ok true) × (self.new ≡ self.old) }
         // Whether it can be written or not, an error says that it can, and that the device failed.
         ensures error { OnErr result (CanWrite self.old write.now text.now) }
+        ensures fault { IfErr result (IsDeviceFault (place_of self.old) kinds.Write
+            (length_of write.now)) }
+        ensures starts { AddsNoStart self.old self.new }
         ensures device { LeavesDevice self.old result self.new }
         ensures head { has_open_head self.new ≡ has_open_head self.old }
     {
@@ -166,6 +180,8 @@ impl<S: BlockStore> Buffer<S> {
         ensures token { Owns self.old write → (trusted : Bool) (h : History)
             → Agrees trusted self.old h → Some (token_view result) ≡ open_token h }
         ensures finished { CanFinish self.old write → Follows with_finish self.old self.new }
+        ensures idle { CanFinish self.old write → is_busy self.new ≡ false }
+        ensures starts { AddsStart (token_of write).first self.old self.new }
         ensures refused { (CanFinish self.old write → ⊥) → self.new ≡ self.old }
         ensures head { has_open_head self.new ≡ has_open_head self.old }
         // The device isn't called.
@@ -181,6 +197,8 @@ impl<S: BlockStore> Buffer<S> {
     /// Abandons the open write. Its space stays lost. Nothing is done to another buffer's.
     pub fn abandon(&mut self, write: Open)
         ensures abandoned { Owns self.old write → Follows without_write self.old self.new }
+        ensures idle { Owns self.old write → is_busy self.new ≡ false }
+        ensures starts { AddsNoStart self.old self.new }
         ensures refused { (Owns self.old write → ⊥) → self.new ≡ self.old }
         ensures head { has_open_head self.new ≡ has_open_head self.old }
         // The device isn't called.
@@ -200,7 +218,8 @@ impl<S: BlockStore> Buffer<S> {
         k: u32,
         chunk: &mut [u8; CHUNK_OCTETS],
     ) -> Result<Found, BufError>
-        ensures { ReadsBlock self.old token.now k chunk.old result chunk.new self.new }
+        ensures reads { ReadsBlock self.old token.now k chunk.old result chunk.new self.new }
+        ensures remembered { IsFoundBy self.old token.now k result }
     {
         let block = match self.register.look(token, k) {
             Look::Block(block) => block,

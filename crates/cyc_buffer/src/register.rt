@@ -96,7 +96,7 @@ pub(crate) enum Look {
 
 impl Register {
     ghost use Rattle.std.specs.Prelude.{◌≡◌, ◌≤◌, ◌<◌, ◌+◌, ◌^◌, ◌==◌, ◌↔◌, ℕ, IsTrue, false, None};
-    ghost use Rattle.std.specs.Prelude.{IfOk, OnOk, OnErr};
+    ghost use Rattle.std.specs.Prelude.{true, is_some, IfErr, IfOk, OnOk, OnErr};
     ghost use Rattle.news_terms.specs.Places.{size_of, on_line};
     ghost use Rattle.cyc_token.specs.Token.{token_view};
     ghost use Rattle.cyc_buffer.specs.Answers.{refusal, error_of, fault_of, front_view};
@@ -108,6 +108,7 @@ impl Register {
     ghost use Rattle.cyc_buffer.specs.Progress.{CanWriteOn, CanFinishOn, counted, failed, stamp_of};
     ghost use Rattle.cyc_buffer.specs.Register.{Keeps, buffer_of, mark_passed, line_head};
     ghost use Rattle.cyc_buffer.specs.Register.{place_view, Stays, numbers_in};
+    ghost use Rattle.cyc_buffer.specs.Remembered.{IsUnbegun};
     ghost use Rattle.cyc_block.specs.Heads.{head_view, state_view};
 
     /// The register of a buffer in which nothing was begun.
@@ -120,6 +121,8 @@ impl Register {
         ensures keeps { IfOk result (λ register. Keeps register
             (new_history
             (record { number = number; blocks = blocks; first_cycle = first_cycle }))) }
+        ensures unmarked { IfOk result (λ register. (j : ℕ)
+            → is_marked register.starts.words.items j ≡ false) }
         ensures blocks { IfOk result (λ register. register.line.blocks ≡ blocks) }
         ensures progress { IfOk result (λ register. register.progress ≡ None) }
     {
@@ -191,7 +194,14 @@ impl Register {
             → Keeps self.new (with_begin class length fresh h)) }
         ensures open { IfOk result (λ write. self.new.progress ≡ started write.token) }
         ensures length { IfOk result (λ write. write.token.length ≡ length) }
+        ensures class { IfOk result (λ write. write.token.class ≡ class) }
         ensures blocks { self.new.line.blocks ≡ self.old.line.blocks }
+        // Whatever is known of its history.
+        ensures fault { IfErr result (IsUnbegun (buffer_of self.old.line)
+            (is_some self.old.progress) length) }
+        ensures idle { OnOk result (self.old.progress ≡ None) }
+        ensures starts { (j : ℕ) → is_marked self.new.starts.words.items j ≡ true
+            → is_marked self.old.starts.words.items j ≡ true }
     {
         let size = size_of(length);
         if size > self.line.blocks {
@@ -377,6 +387,9 @@ impl Register {
         requires written { written_of self.old.progress ≡ size_of write.token.length }
         ensures token { result ≡ write.token }
         ensures finished { (h : History) → Keeps self.old h → Keeps self.new (with_finish h) }
+        ensures starts { (j : ℕ) → is_marked self.new.starts.words.items j
+            ≡ marked_after write.token.first (write.token.first + 1) true j
+            (is_marked self.old.starts.words.items j) }
         ensures line { self.new.line ≡ self.old.line }
         ensures progress { self.new.progress ≡ None }
     {

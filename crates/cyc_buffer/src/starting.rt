@@ -5,6 +5,7 @@ ghost use Rattle.cyc_buffer.specs.Agreement.{Agrees, store_of};
 ghost use Rattle.cyc_buffer.specs.Head.{has_open_head, inside, is_busy, stop_of};
 ghost use Rattle.cyc_buffer.specs.History.{History};
 ghost use Rattle.cyc_buffer.specs.Reads.{IsBlamed, StaysHeld};
+ghost use Rattle.cyc_buffer.specs.Remembered.{AreWithin, ListsStarts, is_start};
 ghost use Rattle.cyc_buffer.specs.Starting.{IsOutside, IsReason, ListsLive, Starts, blocks_in};
 ghost use Rattle.cyc_buffer.specs.Stopped.{HoldsStopped};
 
@@ -84,6 +85,11 @@ impl<S: BlockStore> Buffer<S> {
         ensures unopened { IfOk result (λ started. has_open_head (inside started.buffer) ≡ false) }
         ensures idle { IfOk result (λ started. is_busy (inside started.buffer) ≡ false) }
         ensures under { IfOk result (λ started. stop_of (inside started.buffer) ≡ started.stop) }
+        // Each block where an article begins is a listed one's first, whatever the store holds.
+        ensures listed { IfOk result (λ started. ListsStarts 0 (length (S.blocks store))
+            (is_start (inside started.buffer)) started.tokens.items) }
+        ensures within { IfOk result (λ started.
+            AreWithin (length (S.blocks store)) started.tokens.items) }
         // Nothing is written, and Device says that the device failed, and no other answer does.
         ensures same { IfOk result (λ started.
             StaysHeld S.BlockStore store (store_of (inside started.buffer))) }

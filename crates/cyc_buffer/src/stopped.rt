@@ -7,6 +7,7 @@ ghost use Rattle.cyc_buffer.specs.Marks.{is_marked};
 ghost use Rattle.cyc_buffer.specs.Reads.{StaysHeld, IsBlamed, IsDamageBy, IsRefusedBy, SaysOnly};
 ghost use Rattle.cyc_buffer.specs.Reads.{AreSound, AreBits, HasReadBehind, HasReadAll, HasStarted};
 ghost use Rattle.cyc_buffer.specs.Register.{numbers_in};
+ghost use Rattle.cyc_buffer.specs.Remembered.{AreWithin, ListsStarts};
 ghost use Rattle.cyc_buffer.specs.Starting.{blocks_in};
 ghost use Rattle.cyc_buffer.specs.Stopped.{IsDamaged};
 
@@ -51,6 +52,10 @@ pub(crate) fn read_stopped<S: BlockStore>(
     ensures count { IfOk result (λ stopped.
         stopped.register.line.blocks ≡ length (S.blocks store.old)) }
     ensures idle { IfOk result (λ stopped. stopped.register.progress ≡ None) }
+    ensures listed { IfOk result (λ stopped. ListsStarts 0 (length (S.blocks store.old))
+        (is_marked stopped.register.starts.words.items) stopped.tokens.items) }
+    ensures within { IfOk result (λ stopped.
+        AreWithin (length (S.blocks store.old)) stopped.tokens.items) }
     ensures calls { IfOk result (λ stopped. S.calls store.new ≡ S.calls store.old
         + head_blocks (length (S.blocks store.old)) + blocks_in stopped.tokens.items) }
     ensures held { StaysHeld S.BlockStore store.old store.new }
@@ -176,6 +181,9 @@ fn read_all<S: BlockStore>(
     ensures refused { S.honest store.old → (heads : List (List ℕ))
         → AreBits heads numbers.now.blocks starts.now.words.items → IfErr result (IsDamageBy (
         IsDamaged heads (S.blocks store.old) (head_view numbers.now))) }
+    ensures listed { IfOk result (λ tokens. ListsStarts 0 numbers.now.blocks
+        (is_marked starts.now.words.items) tokens.items) }
+    ensures within { IfOk result (λ tokens. AreWithin numbers.now.blocks tokens.items) }
     ensures kept { length kept.new.words.items ≡ length kept.old.words.items }
     ensures calls { IfOk result (λ tokens.
         S.calls store.new ≡ S.calls store.old + blocks_in tokens.items) }
@@ -213,6 +221,9 @@ fn read_behind<S: BlockStore>(
     ensures refused { S.honest store.old → (heads : List (List ℕ))
         → AreBits heads numbers.now.blocks starts.now.words.items → IfErr result (IsDamageBy (
         IsDamaged heads (S.blocks store.old) (head_view numbers.now))) }
+    ensures listed { IfOk result (λ tokens. ListsStarts numbers.now.head numbers.now.blocks
+        (is_marked starts.now.words.items) tokens.items) }
+    ensures within { IfOk result (λ tokens. AreWithin numbers.now.blocks tokens.items) }
     ensures kept { length kept.new.words.items ≡ length kept.old.words.items }
     ensures calls { IfOk result (λ tokens.
         S.calls store.new ≡ S.calls store.old + blocks_in tokens.items) }

@@ -1,5 +1,6 @@
 -- One block more of the stretch.
-use Rattle.std.proofs.Common.{◌≡◌, ◌∙◌, ◌+◌, ◌++◌, ◌∷◌, [], true, length, sym, ap}
+use Rattle.std.proofs.Common.{◌≡◌, ◌∙◌, ◌+◌, ◌++◌, ◌∷◌, [], true, length, sym, ap, List}
+use Rattle.std.specs.List.{Contains}
 use Rattle.std.proofs.Common.{subst, arith}
 use Rattle.std.specs.Global.{Vec}
 use Rattle.std.proofs.lemmas.List.Sums.{sum_by_push}
@@ -8,9 +9,11 @@ use Rattle.news_terms.specs.Places.{size_of}
 use Rattle.cyc_token.specs.Token.{token_view}
 use Rattle.cyc_buffer.specs.Marks.{is_marked, marked_after}
 use Rattle.cyc_buffer.specs.Reads.{IsDamageBy, IsMissing, IsNone, IsFound, HasRead, StaysHeld}
+use Rattle.cyc_buffer.specs.Remembered.{AreWithin, ListsStarts}
 use Rattle.cyc_buffer.specs.Starting.{blocks_in}
 use Rattle.cyc_buffer.specs.declared.marks.Marks.{Marks}
 use Rattle.cyc_buffer.proofs.Refusals.{damage_by, held_on, passed_on, pushed_on}
+use Rattle.cyc_buffer.proofs.RememberedLemmas.{lists_more, lists_skip, stays_listed, within_more}
 use Rattle.cyc_buffer.proofs.Stretches.{read_skip, read_more}
 use Rattle.cyc_buffer.proofs.articles.read_articles.Goals as goal
 use Rattle.cyc_buffer.proofs.articles.read_articles.Goals.{then-has+in_ok-token+else-is_err, else-has}
@@ -66,6 +69,14 @@ loop-first-preserved g c =
             );
             room = ap (λ (m : Marks). length m.words.items) w.kept-is ∙ w.change.ensures.room
                 ∙ was.room;
+            listed = lists_more starts c.args.from first c.loop-first.tokens.items was.listed
+                c.if-has.tokens.items w.in_ok-token.token found.place.0 pushed;
+            stay_listed = λ t listed. stays_listed c.loop-first.tokens.items c.if-has.tokens.items
+                w.in_ok-token.token pushed t (was.stay_listed t listed);
+            within = λ blocks inside all. within_more blocks c.loop-first.tokens.items
+                c.if-has.tokens.items w.in_ok-token.token pushed
+                (omega (arith, found.place.0, c.loop-first-test.true, inside))
+                (was.within blocks inside all);
             read = λ honest.
                 read_more starts (g.S.BlockStore.blocks store) stretch.number stretch.cycle
                 stretch.end c.args.from first c.args.tokens.now.items c.loop-first.tokens.items
@@ -94,6 +105,14 @@ loop-first-preserved g c =
           ap (λ (v : Vec Token). blocks_in v.items) w.tokens-is,
         );
         room = ap (λ (m : Marks). length m.words.items) w.kept-is ∙ was.room;
+        listed = lists_skip starts c.args.from first c.if-has.tokens.items
+            (subst (λ ts. ListsStarts c.args.from first starts ts)
+            (sym (ap (λ (v : Vec Token). v.items) w.tokens-is)) was.listed)
+            (sym c.has.ensures ∙ w.if-has.false);
+        stay_listed = λ t listed. subst (λ (ts : List Token). Contains ts t)
+            (sym (ap (λ (v : Vec Token). v.items) w.tokens-is)) (was.stay_listed t listed);
+        within = λ blocks inside all. subst (λ (ts : List Token). AreWithin blocks ts)
+            (sym (ap (λ (v : Vec Token). v.items) w.tokens-is)) (was.within blocks inside all);
         read = λ honest.
             let tokens = ap (λ (v : Vec Token). v.items) w.tokens-is in
             let kept = ap (λ (m : Marks). m.words.items) w.kept-is in
@@ -119,3 +138,10 @@ returns-clause-read g c honest =
     c.args.kept.now.words.items c.loop-first.kept.words.items)
     (omega (arith, c.requires.order, c.loop-first-test.false, c.loop-first.auto.first))
     (c.loop-first.invariant.read honest)
+
+pub returns-clause-listed : goal.returns-clause-listed
+returns-clause-listed g c =
+    subst (λ n. ListsStarts c.args.from n (is_marked c.args.starts.now.words.items)
+    c.loop-first.tokens.items)
+    (omega (arith, c.requires.order, c.loop-first-test.false, c.loop-first.auto.first))
+    c.loop-first.invariant.listed

@@ -1,18 +1,20 @@
 -- What a read finds is what the history says.
-use Rattle.std.proofs.Common.{◌≡◌, ◌∙◌, sym, ap, subst, refl, rules}
+use Rattle.std.proofs.Common.{◌≡◌, ◌∙◌, sym, ap, subst, refl, rules, Some}
 use Rattle.news_terms.specs.BlockImage.{block_image}
 use Rattle.cyc_block.specs.Store.{block_at}
-use Rattle.cyc_buffer.specs.Answers.{Shows}
+use Rattle.cyc_buffer.specs.Answers.{Shows, Gone}
 use Rattle.cyc_buffer.specs.Look.{has_marks, numbers_of}
 use Rattle.cyc_buffer.specs.declared.answers.Found.TheVariants as found
+use Rattle.cyc_buffer.specs.declared.answers.Front.{Front}
 use Rattle.cyc_buffer.proofs.Reading.{unknown_answer, there, there_under, answer_none, look_block}
 use Rattle.cyc_buffer.proofs.Reading.{not_unread, looked_up, block_is_gone, block_is_unknown}
 use Rattle.cyc_buffer.proofs.Reading.{shows_chunk, gone_answer}
+use Rattle.cyc_buffer.proofs.RememberedLemmas.{gone_numbers, read_within}
 use Rattle.cyc_buffer.proofs.Writes.{without_error}
 use Rattle.cyc_buffer.proofs.buffer.Buffer.read_block.Goals as goal
 
-pub returns-in-Unknown : goal.returns-in-Unknown
-returns-in-Unknown g c =
+pub returns-in-Unknown-clause-reads : goal.returns-in-Unknown-clause-reads
+returns-in-Unknown-clause-reads g c =
     let r = c.args.self.now.register in
     let token = c.args.token.now in
     let k = c.args.k in
@@ -36,8 +38,8 @@ returns-in-Unknown g c =
       device = search rules;
     }
 
-pub returns-in-Gone : goal.returns-in-Gone
-returns-in-Gone g c =
+pub returns-in-Gone-clause-reads : goal.returns-in-Gone-clause-reads
+returns-in-Gone-clause-reads g c =
     let r = c.args.self.now.register in
     let token = c.args.token.now in
     let k = c.args.k in
@@ -61,8 +63,8 @@ returns-in-Gone g c =
       device = search rules;
     }
 
-pub returns-then-is_err : goal.returns-then-is_err
-returns-then-is_err g c =
+pub returns-then-is_err-clause-reads : goal.returns-then-is_err-clause-reads
+returns-then-is_err-clause-reads g c =
     let r = c.args.self.now.register in
     let token = c.args.token.now in
     let k = c.args.k in
@@ -86,8 +88,8 @@ returns-then-is_err g c =
       device = search rules;
     }
 
-pub returns-in-Some : goal.returns-in-Some
-returns-in-Some g c =
+pub returns-in-Some-clause-reads : goal.returns-in-Some-clause-reads
+returns-in-Some-clause-reads g c =
     let r = c.args.self.now.register in
     let token = c.args.token.now in
     let k = c.args.k in
@@ -121,8 +123,8 @@ returns-in-Some g c =
       device = search rules;
     }
 
-pub returns-in-None : goal.returns-in-None
-returns-in-None g c =
+pub returns-in-None-clause-reads : goal.returns-in-None-clause-reads
+returns-in-None-clause-reads g c =
     let r = c.args.self.now.register in
     let token = c.args.token.now in
     let k = c.args.k in
@@ -155,3 +157,22 @@ returns-in-None g c =
       read = search rules;
       device = search rules;
     }
+
+pub returns-in-Gone-clause-remembered : goal.returns-in-Gone-clause-remembered
+returns-in-Gone-clause-remembered g c =
+    gone_numbers c.args.self.now.register c.args.token.now c.args.k
+    (sym c.look.ensures.look ∙ c.in-Gone.is)
+    ∙ ap (λ (front : Front). Some (Gone front)) (sym c.front.ensures)
+
+pub returns-then-is_err-clause-remembered : goal.returns-then-is_err-clause-remembered
+returns-then-is_err-clause-remembered g c = record {
+  fault = search rules;
+  number = (read_within c.args.self.now.register c.args.token.now c.args.k c.in-Block.block
+      (sym c.in-Block.is ∙ c.look.ensures.look)).0;
+}
+
+pub returns-in-Some-clause-remembered : goal.returns-in-Some-clause-remembered
+returns-in-Some-clause-remembered g c =
+    let known = read_within c.args.self.now.register c.args.token.now c.args.k c.in-Block.block
+    (sym c.in-Block.is ∙ c.look.ensures.look) in
+    record { marked = known.1; within = known.2 }
