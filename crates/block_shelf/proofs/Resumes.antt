@@ -1,17 +1,16 @@
 -- The groups of a started shelf are where they were.
-use Rattle.std.proofs.Common.{◌≡◌, ◌∙◌, ℕ, ◌+◌, ◌*◌, ◌<◌, ◌≤◌, Bool, arith, refl, sym, ap, subst}
-use Rattle.std.proofs.Common.{List, length, map, Option, Some, slice_get, slice_index_or, unwrap_or}
+use Rattle.std.proofs.Common.{◌≡◌, ◌∙◌, ℕ, ◌+◌, ◌*◌, ◌<◌, ◌≤◌, Bool, true, arith, refl, sym, ap}
+use Rattle.std.proofs.Common.{subst}
+use Rattle.std.proofs.Common.{List, length, map, Option, Some, slice_get, unwrap_or}
 use Rattle.std.proofs.Common.{option_map}
 use Rattle.std.proofs.Math.Nat.{mod-lt}
 use Rattle.std.proofs.lemmas.List.{length-map}
 use Rattle.std.proofs.lemmas.Option.{same_Some, slice_get-map, slice_get_within}
 use Rattle.cyc_block.specs.declared.store.BlockStore.{Ghosts}
 use Rattle.cyc_buffer.specs.Agreement.{Agrees}
-use Rattle.cyc_buffer.specs.Head.{inside}
 use Rattle.cyc_buffer.specs.History.{History, cycle_of, front_of}
 use Rattle.cyc_buffer.specs.Stopped.{used_of}
 use Rattle.cyc_buffer.specs.declared.buffer.Buffer.{Buffer}
-use Rattle.cyc_buffer.specs.declared.unopened.Unopened.{Unopened}
 use Rattle.news_terms.proofs.PickedPlaces.{used_of_position}
 use Rattle.news_terms.specs.Picks.{begins_in, room_of}
 use Rattle.news_terms.specs.Picks as picks
@@ -25,10 +24,10 @@ use Rattle.relay_conf.specs.declared.cycbuff.Mode.TheVariants as modes
 use Rattle.relay_conf.specs.declared.settings.Buffers.{Buffers}
 use Rattle.relay_model.specs.State.{Kept}
 use Rattle.relay_model.specs.Terms.{Terms}
-use Rattle.block_shelf.proofs.ShelfCalls.{read_there}
 use Rattle.block_shelf.proofs.ShelfReads.{some_there}
 use Rattle.block_shelf.specs.Each.{AreEach}
-use Rattle.block_shelf.specs.Resuming.{HasCurrent, IsResumedAt, IsUsedAt, ResumesRack}
+use Rattle.block_shelf.specs.Resuming.{AreUsed, HasCurrent, IsResumedAt, ResumesByUse}
+use Rattle.block_shelf.specs.Resuming.{ResumesRack}
 use Rattle.block_shelf.specs.Starting.{BuffersKeep, ResumeRacks}
 use Rattle.block_shelf.specs.declared.shelf.Rack.{Rack}
 
@@ -49,16 +48,6 @@ used_is trusted code h agrees cycle blocks front is_cycle is_blocks is_front = (
   ),
 )
 
--- the started buffer that was read at a place is the one that stands there
-pub code_at : {S : Type 0} {g : Ghosts S} (unopened : List (Unopened S g)) (n i : ℕ)
-    (one : Unopened S g) (code : Buffer S g) → n ≡ i → i < length unopened
-    → one ≡ slice_index_or unopened i one → slice_get (map inside unopened) n ≡ Some code
-    → code ≡ inside one
-code_at unopened n i one code is within read there =
-    same_Some code (inside one)
-    (sym there ∙ slice_get-map inside unopened n
-    ∙ ap (option_map inside) (ap (slice_get unopened) is ∙ read_there unopened i one within read))
-
 -- a position is its two parts
 position_parts : (p : Position) (index used : ℕ) → p.index ≡ index → p.used ≡ used
     → p ≡ record { index = index; used = used }
@@ -74,33 +63,34 @@ used_by_mode : (m : confs.Mode) (buffers : List places.Buffer) (begun : List ℕ
 used_by_mode modes.Interleave buffers begun used turns filled = sym (turns refl)
 used_by_mode modes.Sequential buffers begun used turns filled = sym (filled refl)
 
-module _ {S : Type 0} {g : Ghosts S} (codes : List (Buffer S g)) (m : confs.Mode)
-    (buffers : List places.Buffer) (begun : List ℕ) where
+module _ (all_used : List ℕ) (m : confs.Mode) (buffers : List places.Buffer) (begun : List ℕ)
+  where
   -- the group
   abbrev pub group_of : Group
   group_of = record { mode = mode_view m; buffers = buffers }
 
   -- the group is where it was, at this position
-  pub resumed : HasCurrent codes group_of begun → (position used : ℕ) (numbers : List ℕ)
-      (number : Option ℕ) → (position_of group_of begun).index ≡ position
+  pub resumed : HasCurrent all_used group_of begun → (position used : ℕ) (numbers : List ℕ)
+      (number : ℕ) → (position_of group_of begun).index ≡ position
       → numbers ≡ map (λ (b : places.Buffer). b.number) buffers
-      → number ≡ slice_get numbers position → (m ≡ modes.Interleave → used ≡ 0)
-      → (m ≡ modes.Sequential → IsUsedAt codes number used)
+      → number ≡ unwrap_or (slice_get numbers position) 0 → (m ≡ modes.Interleave → used ≡ 0)
+      → (m ≡ modes.Sequential → used ≡ unwrap_or (slice_get all_used number) 0)
       → position_of group_of begun ≡ record { index = position; used = used }
   resumed has position used numbers number at named read turns filled =
       position_parts (position_of group_of begun) position used at
       (used_by_mode m buffers begun used turns (λ is.
-      filled is has.buffer.number has.code has.history
-      (read ∙ ap (λ ns. slice_get ns position) named
-      ∙ slice_get-map (λ (b : places.Buffer). b.number) buffers position
+      filled is
+      ∙ ap (λ n. unwrap_or (slice_get all_used n) 0)
+      (read ∙ ap (λ ns. unwrap_or (slice_get ns position) 0) named
+      ∙ ap (λ o. unwrap_or o 0)
+      (slice_get-map (λ (b : places.Buffer). b.number) buffers position
       ∙ ap (λ i. option_map (λ (b : places.Buffer). b.number) (slice_get buffers i)) (sym at)
-      ∙ ap (option_map (λ (b : places.Buffer). b.number)) has.there)
-      has.code_there has.agrees
-      ∙ has.used (ap mode_view is)
+      ∙ ap (option_map (λ (b : places.Buffer). b.number)) has.there))
+      ∙ ap (λ o. unwrap_or o 0) (has.used_there (ap mode_view is))
       ∙ ap (λ each. (position_by (mode_view each) buffers begun).used) is))
 
   -- its position is one of its buffers
-  pub position_inside : HasCurrent codes group_of begun
+  pub position_inside : HasCurrent all_used group_of begun
       → (position_of group_of begun).index < length buffers
   position_inside has = slice_get_within buffers (position_of group_of begun).index has.buffer has.there
 
@@ -113,12 +103,12 @@ position_within group begun some = by group.mode
     by Interleave = mod-lt (length begun) some
     by Sequential = mod-lt (head_after (room_of group.buffers) begun).run some
 
-module _ {S : Type 0} {g : Ghosts S} (codes : List (Buffer S g)) (w : Terms)
-    (begun : ℕ → List ℕ) (kept : List Kept) (failures : ℕ → ℕ)
+module _ {S : Type 0} {g : Ghosts S} (codes : List (Buffer S g)) (used : List ℕ) (w : Terms)
+    (begun : ℕ → List ℕ) (kept : List Kept) (failures : ℕ → ℕ) (are : AreUsed codes used)
     (keeps : BuffersKeep codes w begun kept failures) where
-  -- the current buffer of a group is among the buffers that keep what is said
+  -- the current buffer of a group is among the buffers that keep what is said, and as much is used
   pub current : (h : ℕ) (group : Group) → slice_get w.groups h ≡ Some group
-      → HasCurrent codes group (begun h)
+      → HasCurrent used group (begun h)
   current h group at =
       let index : ℕ = (position_of group (begun h)).index in
       let one = some_there group.buffers index
@@ -130,29 +120,27 @@ module _ {S : Type 0} {g : Ghosts S} (codes : List (Buffer S g)) (w : Terms)
       let had = keeps.buffers k.0 one.0 k.1 in
       let number : one.0.number ≡ k.0 = keeps.numbered k.0 one.0 k.1 in
       let history : History = had.keeps.history in
+      let said = are.each k.0 had.code had.there in
       record {
         buffer = one.0;
         there = one.1;
-        code = had.code;
-        code_there = ap (slice_get codes) number ∙ had.there;
-        history = history;
-        agrees = had.keeps.agrees;
-        used = λ mode.
-            ap (λ begins. (picks.head_of history.buffer.blocks begins).used)
+        used_there = λ mode.
+            ap (slice_get used) number ∙ said.there
+            ∙ ap Some (said.belongs true history had.keeps.agrees
+            ∙ (ap (λ begins. (picks.head_of history.buffer.blocks begins).used)
             (had.keeps.is_said.begins.picked h index group at
             (one.1 ∙ ap Some (sym had.keeps.is_of_buffer)))
             ∙ ap (λ (b : places.Buffer).
             (picks.head_of b.blocks (begins_in group index (begun h))).used)
             had.keeps.is_of_buffer
-            ∙ used_of_position group (begun h) mode (keeps.fit h group at) one.0 one.1;
+            ∙ used_of_position group (begun h) mode (keeps.fit h group at) one.0 one.1));
       }
 
 -- the racks are those of the settings' groups
-pub racks_resumed : {S : Type 0} {g : Ghosts S} (settings : Buffers) (positions : List ℕ)
-    (codes : List (Buffer S g)) (racks : List Rack)
-    → AreEach (IsResumedAt settings.buffers.items positions codes) settings.groups.items racks
-    → ResumeRacks settings positions codes racks
-racks_resumed settings positions codes racks are w begun kept failures groups keeps are_at = record {
+pub racks_resumed : (settings : Buffers) (positions used : List ℕ) (racks : List Rack)
+    → AreEach (IsResumedAt settings.buffers.items positions used) settings.groups.items racks
+    → ResumesByUse settings positions used racks
+racks_resumed settings positions used racks are w begun groups current_of are_at = record {
   count = are.count
       ∙ sym (ap length groups
       ∙ length-map (map group_view settings.groups.items)
@@ -166,13 +154,20 @@ racks_resumed settings positions codes racks are w begun kept failures groups ke
       let same : group_over (numbered_buffers settings.buffers.items) (group_view b.0) ≡ group =
       ap (group_over (numbered_buffers settings.buffers.items)) b.2 ∙ a.2 in
       let rack = are.each h b.0 b.1 in
-      let resumes : ResumesRack group (unwrap_or (slice_get positions h) 0) codes rack.item =
-      subst (λ each. ResumesRack each (unwrap_or (slice_get positions h) 0) codes rack.item) same
+      let resumes : ResumesRack group (unwrap_or (slice_get positions h) 0) used rack.item =
+      subst (λ each. ResumesRack each (unwrap_or (slice_get positions h) 0) used rack.item) same
       rack.belongs in
       record {
         code = rack.item;
         there = rack.there;
         keeps = resumes (begun h) (sym (ap (λ o. unwrap_or o 0) (are_at.each h group at)))
-            (current codes w begun kept failures keeps h group at);
+            (current_of h group at);
       };
 }
+
+-- over buffers of which so much is used, they are those that keep what the buffers do
+pub resumed_over : {S : Type 0} {g : Ghosts S} (settings : Buffers) (positions : List ℕ)
+    (codes : List (Buffer S g)) (used : List ℕ) (racks : List Rack) → AreUsed codes used
+    → ResumesByUse settings positions used racks → ResumeRacks settings positions codes racks
+resumed_over settings positions codes used racks are resumes w begun kept failures groups keeps at =
+    resumes w begun groups (current codes used w begun kept failures are keeps) at

@@ -1,5 +1,5 @@
 -- The groups of a shelf that is started (docs/PROTOCOL.md, Groups and writers, Clean stop and start).
-use Rattle.std.specs.Prelude.{◌≡◌, ℕ, true, List, Option, Some, slice_get, unwrap_or}
+use Rattle.std.specs.Prelude.{◌≡◌, ℕ, Bool, List, Some, slice_get, unwrap_or}
 use Rattle.cyc_block.specs.declared.store.BlockStore.{Ghosts}
 use Rattle.cyc_buffer.specs.Agreement.{Agrees}
 use Rattle.cyc_buffer.specs.History.{History}
@@ -9,42 +9,53 @@ use Rattle.news_terms.specs.Places as places
 use Rattle.news_terms.specs.Places.{Group, Sequential}
 use Rattle.news_terms.specs.Positions.{position_of}
 use Rattle.relay_conf.specs.Places.{group_over, group_view, numbered_buffers}
+use Rattle.relay_conf.specs.Settings.{places_of_groups}
 use Rattle.relay_conf.specs.declared.cycbuff.BufferConf.{BufferConf}
 use Rattle.relay_conf.specs.declared.cycbuff.GroupConf.{GroupConf}
+use Rattle.relay_conf.specs.declared.settings.Buffers.{Buffers}
+use Rattle.relay_model.specs.Terms.{Terms}
+use Rattle.block_shelf.specs.Each.{AreEach}
 use Rattle.block_shelf.specs.Keeping.{KeepsRack}
+use Rattle.block_shelf.specs.Starting.{RacksKeep}
+use Rattle.block_shelf.specs.Stopping.{ArePositions}
 use Rattle.block_shelf.specs.declared.shelf.Rack.{Rack}
 
--- the current buffer of a group after these sizes is among these, at its number; where one buffer is
--- filled after the other, what is used of its cycle is used of the group's run
-pub record HasCurrent {S : Type 0} {g : Ghosts S} (codes : List (Buffer S g)) (group : Group)
-    (begun : List ℕ)
-    : Type 0 where
+-- so many blocks are used in the cycle of a buffer
+abbrev pub IsUsed : {S : Type 0} {g : Ghosts S} → ℕ → Buffer S g → (used : ℕ) → Type 0
+IsUsed b code used = (trusted : Bool) (h : History) → Agrees trusted code h → used ≡ used_of h
+
+-- so many blocks are used in the cycle of each of these buffers
+abbrev pub AreUsed : {S : Type 0} {g : Ghosts S} → List (Buffer S g) → (used : List ℕ) → Type 0
+AreUsed codes used = AreEach IsUsed codes used
+
+-- The current buffer of a group after these sizes is there. Where one buffer is filled after the
+-- other, as much is used of the group's run as is said to be used in the cycle of this one.
+pub record HasCurrent (used : List ℕ) (group : Group) (begun : List ℕ) : Type 0 where
   pub buffer : places.Buffer
   pub there : slice_get group.buffers (position_of group begun).index ≡ Some buffer
-  pub code : Buffer S g
-  pub code_there : slice_get codes buffer.number ≡ Some code
-  pub history : History
-  pub agrees : Agrees true code history
-  pub used : group.mode ≡ Sequential → used_of history ≡ (position_of group begun).used
+  pub used_there : group.mode ≡ Sequential
+      → slice_get used buffer.number ≡ Some (position_of group begun).used
 
--- the rack is that of a group at this position of it, over these buffers
-abbrev pub ResumesRack : {S : Type 0} {g : Ghosts S} → Group → (position : ℕ)
-    → List (Buffer S g) → Rack → Type 0
-ResumesRack group position codes rack =
-    (begun : List ℕ) → (position_of group begun).index ≡ position → HasCurrent codes group begun
+-- the rack is that of a group at this position of it, over buffers with so many blocks used
+abbrev pub ResumesRack : Group → (position : ℕ) → (used : List ℕ) → Rack → Type 0
+ResumesRack group position used rack =
+    (begun : List ℕ) → (position_of group begun).index ≡ position → HasCurrent used group begun
     → KeepsRack rack group begun
-
--- what is said to be used of the buffer of this number, if one is named, is used of its cycle
-abbrev pub IsUsedAt : {S : Type 0} {g : Ghosts S} → List (Buffer S g) → Option ℕ → (used : ℕ)
-    → Type 0
-IsUsedAt {S} {g} codes number used =
-    (n : ℕ) (code : Buffer S g) (h : History) → number ≡ Some n → slice_get codes n ≡ Some code
-    → Agrees true code h → used ≡ used_of h
 
 -- the rack is that of the group at this place of the settings, at its position; at its first buffer
 -- where it has none
-abbrev pub IsResumedAt : {S : Type 0} {g : Ghosts S} → List BufferConf → (positions : List ℕ)
-    → List (Buffer S g) → (place : ℕ) → GroupConf → Rack → Type 0
-IsResumedAt all positions codes place group rack =
+abbrev pub IsResumedAt : List BufferConf → (positions used : List ℕ) → (place : ℕ) → GroupConf
+    → Rack → Type 0
+IsResumedAt all positions used place group rack =
     ResumesRack (group_over (numbered_buffers all) (group_view group))
-    (unwrap_or (slice_get positions place) 0) codes rack
+    (unwrap_or (slice_get positions place) 0) used rack
+
+-- The racks are those of the settings' groups: where each group's current buffer is there and as much
+-- of it is used as is said, and the positions are those of the groups, the racks are where that has
+-- brought the groups.
+abbrev pub ResumesByUse : Buffers → (positions used : List ℕ) → List Rack → Type 0
+ResumesByUse settings positions used racks =
+    (w : Terms) (begun : ℕ → List ℕ) → w.groups ≡ places_of_groups settings
+    → ((h : ℕ) (group : Group) → slice_get w.groups h ≡ Some group
+    → HasCurrent used group (begun h))
+    → ArePositions w.groups begun positions → RacksKeep racks w begun

@@ -1,6 +1,6 @@
 //! The groups of a shelf that is started, as they were.
 ghost use Rattle.std.specs.Prelude.{◌≡◌, ◌≤◌, ◌<◌, Bool, ℕ, IfOk, length, slice_get, unwrap_or};
-ghost use Rattle.block_shelf.specs.Resuming.{IsUsedAt, ResumesRack};
+ghost use Rattle.block_shelf.specs.Resuming.{AreUsed, ResumesByUse, ResumesRack};
 ghost use Rattle.block_shelf.specs.Starting.{ResumeRacks, buffers_inside};
 ghost use Rattle.cyc_buffer.specs.Agreement.{Agrees};
 ghost use Rattle.cyc_buffer.specs.History.{History};
@@ -17,7 +17,7 @@ use relay_conf::{BufferConf, Buffers, GroupConf, Mode};
 use std::alloc::{AllocError, Global};
 
 /// The racks of all groups, at these positions, over started buffers.
-pub(crate) fn resume_racks<S: BlockStore>(
+pub(crate) fn racks_over<S: BlockStore>(
     alloc: Global,
     settings: &Buffers,
     buffers: &[Unopened<S>],
@@ -26,10 +26,38 @@ pub(crate) fn resume_racks<S: BlockStore>(
     ensures { IfOk result (λ racks. ResumeRacks settings.now positions.now
         (buffers_inside buffers.now) racks.items) }
 {
+    let used = all_used(alloc, buffers)?;
+    let racks = resume_racks(alloc, settings, &used, positions)?;
+    Ok(racks)
+}
+
+/// Of each started buffer the blocks used in its cycle.
+fn all_used<S: BlockStore>(alloc: Global, buffers: &[Unopened<S>]) -> Result<Vec<u32>, AllocError>
+    ensures { IfOk result (λ used. AreUsed (buffers_inside buffers.now) used.items) }
+{
+    let mut used = Vec::with_capacity(alloc, buffers.len())?;
+    for unopened in buffers {
+        used.push_reserved(used_in(unopened.buffer()));
+    }
+    Ok(used)
+}
+
+/// The racks of all groups, at these positions, over buffers in whose cycles so many blocks are
+/// used, for who has the buffers elsewhere. A position past the buffers of its group stands for the
+/// first one.
+pub fn resume_racks(
+    alloc: Global,
+    settings: &Buffers,
+    used: &[u32],
+    positions: &[u32],
+) -> Result<Vec<Rack>, AllocError>
+    ensures { IfOk result (λ racks.
+        ResumesByUse settings.now positions.now used.now racks.items) }
+{
     let mut racks = Vec::with_capacity(alloc, settings.groups.len())?;
     for (place, group) in settings.groups.iter().enumerate() {
         let position = position_in(positions, place);
-        racks.push_reserved(Rack::resume(alloc, &settings.buffers, group, position, buffers)?);
+        racks.push_reserved(Rack::resume(alloc, &settings.buffers, group, position, used)?);
     }
     Ok(racks)
 }
@@ -45,23 +73,22 @@ fn position_in(positions: &[u32], place: usize) -> usize
 }
 
 impl Rack {
-    /// The rack of a group over started buffers, at this position of it.
-    fn resume<S: BlockStore>(
+    /// The rack of a group, at this position of it, over buffers with so many blocks used.
+    fn resume(
         alloc: Global,
         all: &[BufferConf],
         group: &GroupConf,
         position: usize,
-        buffers: &[Unopened<S>],
+        used: &[u32],
     ) -> Result<Rack, AllocError>
         requires { 1 ≤ length
             (group_over (numbered_buffers all.now) (group_view group.now)).buffers }
         ensures { IfOk result (ResumesRack
-            (group_over (numbered_buffers all.now) (group_view group.now)) position
-            (buffers_inside buffers.now)) }
+            (group_over (numbered_buffers all.now) (group_view group.now)) position used.now) }
     {
         let Members { numbers, blocks } = members_of(alloc, all, group)?;
         let position = within(position, blocks.len());
-        let used = used_by(group.mode, buffers, number_at(&numbers, position));
+        let used = used_by(group.mode, used, number_at(&numbers, position));
         Ok(Rack {
             group: Group::resume(group.mode, blocks, position, used),
             numbers,
@@ -78,44 +105,41 @@ fn within(position: usize, count: usize) -> usize
     if position < count { position } else { 0 }
 }
 
-/// The number at this place of a list, where it has one.
-fn number_at(numbers: &[usize], place: usize) -> Option<usize>
-    ensures { result ≡ slice_get numbers.now place }
+/// The number at this place of a list; 0 where there is none.
+fn number_at(numbers: &[usize], place: usize) -> usize
+    ensures { result ≡ unwrap_or (slice_get numbers.now place) 0 }
 {
     match numbers.get(place) {
-        Some(number) => Some(*number),
-        None => None,
+        Some(number) => *number,
+        None => 0,
     }
 }
 
 /// The blocks used of the run of a group whose current buffer has this number: where buffers take
 /// turns these are none.
-fn used_by<S: BlockStore>(mode: Mode, buffers: &[Unopened<S>], number: Option<usize>) -> u32
+fn used_by(mode: Mode, used: &[u32], number: usize) -> u32
     ensures turns { mode ≡ modes.Interleave → result ≡ 0 }
     ensures filled { mode ≡ modes.Sequential
-        → IsUsedAt (buffers_inside buffers.now) number result }
+        → result ≡ unwrap_or (slice_get used.now number) 0 }
 {
     match mode {
         Mode::Interleave => 0,
-        Mode::Sequential => used_at(buffers, number),
+        Mode::Sequential => used_at(used, number),
     }
 }
 
 /// The blocks used in the cycle of the buffer of this number; 0 where there is none.
-fn used_at<S: BlockStore>(buffers: &[Unopened<S>], number: Option<usize>) -> u32
-    ensures { IsUsedAt (buffers_inside buffers.now) number result }
+fn used_at(used: &[u32], number: usize) -> u32
+    ensures { result ≡ unwrap_or (slice_get used.now number) 0 }
 {
-    let Some(number) = number else {
-        return 0;
-    };
-    match buffers.get(number) {
-        Some(unopened) => used_in(unopened.buffer()),
+    match used.get(number) {
+        Some(blocks) => *blocks,
         None => 0,
     }
 }
 
 /// The blocks used in the cycle of a buffer: its front less the place at which the cycle begins.
-fn used_in<S: BlockStore>(buffer: &Buffer<S>) -> u32
+pub fn used_in<S: BlockStore>(buffer: &Buffer<S>) -> u32
     ensures { (trusted : Bool) (h : History) → Agrees trusted buffer.now h → result ≡ used_of h }
 {
     let blocks = u64::from(buffer.blocks());

@@ -11,7 +11,7 @@ ghost use Rattle.block_shelf.specs.declared.starting.StopFault.TheVariants as fa
 
 use crate::giving::give_back;
 use crate::opening::UnopenedShelf;
-use crate::resuming::resume_racks;
+use crate::resuming::racks_over;
 use cyc_block::BlockStore;
 use cyc_buffer::{Buffer, StartError, Unopened};
 use relay_conf::Buffers;
@@ -162,7 +162,7 @@ fn shelve<S: BlockStore + Drop>(
     ensures memory { IfErr result (λ refused.
         (refused.buffer ≡ None) × (refused.error ≡ faults.Memory)) }
 {
-    let Ok(racks) = resume_racks(alloc, settings, &buffers, positions) else {
+    let Ok(racks) = racks_over(alloc, settings, &buffers, positions) else {
         return Err(Unstarted {
             stores: give_back(buffers, room),
             buffer: None,
@@ -269,7 +269,7 @@ fn next_started<S: BlockStore + Drop>(
 
 /// The number of the first buffer that was stopped at another stop, with one more that was stopped
 /// at this one.
-fn first_other(mixed: Option<u8>, found: u64, stop: u64, number: u8) -> Option<u8>
+pub fn first_other(mixed: Option<u8>, found: u64, stop: u64, number: u8) -> Option<u8>
     ensures { result ≡ other_after mixed found stop number }
 {
     match mixed {
@@ -280,7 +280,7 @@ fn first_other(mixed: Option<u8>, found: u64, stop: u64, number: u8) -> Option<u
 }
 
 /// The number of the buffer whose fault it is: none where memory was refused.
-fn blamed(error: StartError, number: u8) -> Option<u8>
+pub fn blamed(error: StartError, number: u8) -> Option<u8>
     ensures { result ≡ number_told error number }
 {
     match error {
@@ -290,7 +290,7 @@ fn blamed(error: StartError, number: u8) -> Option<u8>
 }
 
 /// The fault of a buffer's start, as the relay's.
-fn fault_of(error: StartError) -> StopFault
+pub fn fault_of(error: StartError) -> StopFault
     ensures { result ≡ fault_of_start error }
 {
     match error {

@@ -23,7 +23,7 @@ pub enum Unshut<S: BlockStore> {
 
 impl Rack {
     /// The place of the group's current buffer in it, counted from 0.
-    fn position(&self) -> u32
+    pub fn position(&self) -> u32
         ensures { TellsPosition 0 self.now result }
     {
         u32::try_from(self.group.position()).unwrap_or(u32::MAX)
@@ -116,7 +116,7 @@ fn shut_next<S: BlockStore>(
 }
 
 /// The number of the buffer at this place of a shelf.
-pub(crate) fn number_of(place: usize) -> u8
+pub fn number_of(place: usize) -> u8
     ensures { place < 2 ^ 8 → result ≡ place }
 {
     u8::try_from(place).unwrap_or(u8::MAX)

@@ -3,7 +3,7 @@ mod Beginnings
 mod Chunks
 mod Dues
 mod Feeds
-mod Fillings
+pub mod Fillings
 mod Forgetting
 mod Found
 mod Hearing
@@ -20,8 +20,8 @@ mod Restarts
 mod RunLemmas
 mod Serving
 mod SessionSteps
-mod Starts
-mod Stops
+pub mod Starts
+pub mod Stops
 mod Turning
 mod Writers
 mod Writings

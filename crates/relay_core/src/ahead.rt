@@ -16,13 +16,13 @@ use std::alloc::{AllocError, Global};
 
 /// How far a buffer is filled.
 #[derive(Clone, Copy, Debug, PartialEq, Eq)]
-pub(crate) struct Filled {
+pub struct Filled {
     /// How many blocks it has.
-    pub(crate) blocks: u32,
+    pub blocks: u32,
     /// Its front's place on the endless line of its blocks.
-    pub(crate) front: u64,
+    pub front: u64,
     /// How many articles are stored in it.
-    pub(crate) stored: u64,
+    pub stored: u64,
 }
 
 /// How far the buffers of a started shelf are filled, in the order of their numbers.
@@ -47,7 +47,7 @@ pub(crate) fn all_filled<S: BlockStore + Drop>(
 }
 
 /// Whether the history knows of more than the buffers hold.
-pub(crate) fn is_ahead(filled: &[Filled], history: &History) -> bool
+pub fn is_ahead(filled: &[Filled], history: &History) -> bool
     ensures { result ≡ is_ahead (map filled_view filled.now) (history_view history.now) }
 {
     is_any_id_ahead(filled, &history.ids) || is_any_feed_ahead(filled, &history.feeds)

@@ -57,7 +57,7 @@ impl Desks {
 }
 
 /// The history of a text that is one of this configuration.
-pub(crate) fn read_history(
+pub fn read_history(
     alloc: Global,
     config: &Config,
     text: &[u8],

@@ -28,7 +28,11 @@ mod turns;
 mod watching;
 mod writing;
 
+pub use ahead::{Filled, is_ahead};
+pub use desks::read_history;
 pub use event::{CoreError, Event, Output};
 pub use figures::{FeedFigures, Figures, NamedBuffer, NamedFeed};
+pub use starting::{refused, unread};
 pub use stopped::{NotStarted, Stopped, Unstopped};
+pub use stopping::next_stop;
 pub use system::System;

@@ -115,7 +115,7 @@ impl<S: BlockStore + Drop> System<S> {
 }
 
 /// Why a start is refused whose text isn't read.
-fn unread(error: HistoryError) -> StopFault
+pub fn unread(error: HistoryError) -> StopFault
     ensures { result ≡ unread_as error }
 {
     match error {
@@ -125,7 +125,7 @@ fn unread(error: HistoryError) -> StopFault
 }
 
 /// These stores, refused for this reason, which is of no buffer.
-fn refused<S>(stores: Vec<S>, error: StopFault) -> Unstarted<S>
+pub fn refused<S>(stores: Vec<S>, error: StopFault) -> Unstarted<S>
     ensures { result ≡ record { stores = stores; buffer = None; error = error } }
 {
     Unstarted {

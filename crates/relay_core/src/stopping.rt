@@ -1,4 +1,7 @@
 //! How the relay is closed (docs/PROTOCOL.md, Clean stop and start).
+ghost use Rattle.std.specs.Prelude.{◌≡◌};
+ghost use Rattle.relay_core.specs.Stopping.{next_stop};
+
 use crate::idle::is_idle;
 use crate::stopped::{Stopped, Unstopped};
 use crate::system::System;
@@ -90,14 +93,11 @@ impl<S: BlockStore> System<S> {
         }
     }
 
-    /// The number of the next stop: after the greatest it is 1 again.
+    /// The number of its next stop.
     pub(crate) fn next_stop(&self) -> u64
         ensures { result ≡ next_stop (stop_of self.now) }
     {
-        match self.stop.checked_add(1) {
-            Some(next) => next,
-            None => 1,
-        }
+        next_stop(self.stop)
     }
 
     /// The text of its history at this stop.
@@ -135,5 +135,15 @@ impl<S: BlockStore> System<S> {
             }
         }
         Ok(kept)
+    }
+}
+
+/// The number of the stop after this one: after the greatest it is 1 again.
+pub fn next_stop(last: u64) -> u64
+    ensures { result ≡ next_stop last }
+{
+    match last.checked_add(1) {
+        Some(next) => next,
+        None => 1,
     }
 }

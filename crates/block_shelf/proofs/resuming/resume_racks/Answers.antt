@@ -8,11 +8,10 @@ use Rattle.block_shelf.proofs.NewShelf.{group_filled}
 use Rattle.block_shelf.proofs.Resumes.{racks_resumed}
 use Rattle.block_shelf.specs.Each.{AreEach}
 use Rattle.block_shelf.specs.Resuming.{IsResumedAt, ResumesRack}
-use Rattle.block_shelf.specs.Starting.{buffers_inside}
 use Rattle.block_shelf.proofs.resuming.resume_racks.Goals as goal
 
 pub resume-requires : goal.resume-requires
-resume-requires g c =
+resume-requires c =
     subst
     (λ all. 1 ≤ length (group_over (numbered_buffers all) (group_view c.group-item.result)).buffers)
     (sym c.deref.ensures.value)
@@ -24,11 +23,11 @@ resume-requires g c =
     c.deref-group-items.ensures.value)))
 
 pub loop-place-preserved : goal.loop-place-preserved
-loop-place-preserved g c =
+loop-place-preserved c =
     let settings = c.args.settings.now in
     let groups = settings.groups.items in
     let k = c.loop-place.place in
-    let codes = buffers_inside c.args.buffers.now in
+    let codes = c.args.used.now in
     let one = c.group-item.result in
     let rack = c.in_ok-resume.field-0 in
     let within : k + 1 ≤ length groups =
@@ -65,13 +64,13 @@ loop-place-preserved g c =
     }
 
 pub returns : goal.returns
-returns g c =
-    racks_resumed c.args.settings.now c.args.positions.now (buffers_inside c.args.buffers.now)
+returns c =
+    racks_resumed c.args.settings.now c.args.positions.now c.args.used.now
     c.loop-place.racks.items
     (subst
     (λ groups. AreEach
     (IsResumedAt c.args.settings.now.buffers.items c.args.positions.now
-    (buffers_inside c.args.buffers.now)) groups c.loop-place.racks.items)
+    c.args.used.now) groups c.loop-place.racks.items)
     (take_all c.loop-place.place c.args.settings.now.groups.items
     (omega (arith, c.loop-place-test.false, ap length c.deref-group-items.ensures.value)))
     c.loop-place.invariant.are)

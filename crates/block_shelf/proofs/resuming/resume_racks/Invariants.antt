@@ -1,15 +1,14 @@
 use Rattle.std.proofs.Common.{◌≡◌, ◌≤◌, length, take, vec_capacity, vec_len}
 use Rattle.block_shelf.specs.Each.{AreEach}
 use Rattle.block_shelf.specs.Resuming.{IsResumedAt}
-use Rattle.block_shelf.specs.Starting.{buffers_inside}
 use Rattle.block_shelf.proofs.resuming.resume_racks.Given as goal
 
 -- the racks so far are those of the groups so far, at their positions
 abbrev pub invariant-loop-place : goal.invariant-loop-place
-invariant-loop-place g l = record {
+invariant-loop-place l = record {
   count : vec_len l.racks ≡ l.place;
   room : length l.settings.groups.items ≤ vec_capacity l.racks;
   are : AreEach
-      (IsResumedAt l.settings.buffers.items l.positions (buffers_inside l.buffers))
+      (IsResumedAt l.settings.buffers.items l.positions l.used)
       (take l.place l.settings.groups.items) l.racks.items;
 }

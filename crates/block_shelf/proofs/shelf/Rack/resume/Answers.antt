@@ -1,13 +1,12 @@
-use Rattle.std.proofs.Common.{◌∙◌, ap, arith, refl, slice_get, sym}
+use Rattle.std.proofs.Common.{◌∙◌, ap, arith, refl, slice_get, sym, unwrap_or}
 use Rattle.relay_conf.specs.Places.{group_view, group_over, numbered_buffers}
 use Rattle.block_shelf.proofs.NewShelf.{named_count}
 use Rattle.block_shelf.proofs.Resumes.{position_inside, resumed}
 use Rattle.block_shelf.specs.Filling.{members}
-use Rattle.block_shelf.specs.Starting.{buffers_inside}
 use Rattle.block_shelf.proofs.shelf.Rack.resume.Goals as goal
 
 pub within-position-requires : goal.within-position-requires
-within-position-requires g c =
+within-position-requires c =
     omega (
       arith,
       c.requires,
@@ -19,8 +18,8 @@ within-position-requires g c =
     )
 
 pub returns : goal.returns
-returns g c = λ begun at has.
-    let codes = buffers_inside c.args.buffers.now in
+returns c = λ begun at has.
+    let codes = c.args.used.now in
     let buffers = members c.args.all.now c.args.group.now.buffers.items in
     let mode = c.args.group.now.mode in
     let inside_it = position_inside codes mode buffers begun has in
@@ -43,7 +42,8 @@ returns g c = λ begun at has.
           c.in_ok-numbers.field-0.numbers.items c.number_at.result (at ∙ sym same)
           c.in_ok-numbers.ensures.numbers
           (c.number_at.ensures
-          ∙ ap (λ items. slice_get items c.within-position.result) c.deref.ensures.value)
+          ∙ ap (λ items. unwrap_or (slice_get items c.within-position.result) 0)
+          c.deref.ensures.value)
           c.used_by-used.ensures.turns c.used_by-used.ensures.filled);
       numbers = c.in_ok-numbers.ensures.numbers;
     }

@@ -1,0 +1,12 @@
+use Rattle.std.proofs.Common.{◌≡◌, ◌≤◌, length, take, vec_capacity, vec_len}
+use Rattle.block_shelf.specs.Resuming.{AreUsed}
+use Rattle.block_shelf.specs.Starting.{buffers_inside}
+use Rattle.block_shelf.proofs.resuming.all_used.Given as goal
+
+-- what is said so far is so of the buffers so far, and there is room for all
+abbrev pub invariant-loop-unopened : goal.invariant-loop-unopened
+invariant-loop-unopened g l = record {
+  count : vec_len l.used ≡ l.unopened-index;
+  room : length l.buffers ≤ vec_capacity l.used;
+  are : AreUsed (buffers_inside (take l.unopened-index l.buffers)) l.used.items;
+}
