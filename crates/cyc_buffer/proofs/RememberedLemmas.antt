@@ -7,7 +7,7 @@ use Rattle.std.proofs.lemmas.Bool.{and_parts, false≢true, cases_order}
 use Rattle.std.proofs.lemmas.List.Elements.{All-push, Contains-push, Contains-append_left}
 use Rattle.cyc_token.specs.Token.{token_view}
 use Rattle.cyc_token.specs.declared.Token.{Token}
-use Rattle.cyc_buffer.specs.Answers.{Answer, Chunk, Gone, Unknown, by_numbers, front_view}
+use Rattle.cyc_buffer.specs.Answers.{Answer, Chunk, Gone, Unknown, front_view}
 use Rattle.cyc_buffer.specs.Answers.{is_beyond}
 use Rattle.cyc_buffer.specs.Look.{look_by, look_of, has_marks, numbers_of}
 use Rattle.cyc_buffer.specs.Marks.{is_marked}

@@ -1,7 +1,7 @@
 -- What a buffer's memory says of its calls, whatever its store holds: where no history is known that
 -- the buffer agrees with, as after a start over a store that nobody vouches for
 -- (docs/PROTOCOL.md, Clean stop and start).
-use Rattle.std.specs.Prelude.{◌≡◌, ◌<◌, ◌≤◌, ◌⊎◌, ℕ, Bool, true, List, Option, Some, Result, Ok}
+use Rattle.std.specs.Prelude.{◌≡◌, ◌<◌, ◌≤◌, ◌⊎◌, ℕ, Bool, true, List, Some, Result, Ok}
 use Rattle.std.specs.Prelude.{All, Err}
 use Rattle.std.specs.List.{Contains}
 use Rattle.cyc_block.specs.declared.store.BlockStore.{Ghosts}

@@ -47,6 +47,7 @@ impl<S: BlockStore> Buffer<S> {
     ghost use Rattle.cyc_buffer.specs.History.{without_write, open_token, front_of, cycle_of};
     ghost use Rattle.cyc_buffer.specs.History.{stored_count};
     ghost use Rattle.cyc_buffer.specs.Head.{has_open_head, is_busy, LeavesBlocks, IsFormatRefusal};
+    ghost use Rattle.cyc_buffer.specs.Reads.{StaysHeld};
     ghost use Rattle.cyc_buffer.specs.Remembered.{AddsNoStart, AddsStart, IsFoundBy, IsUnbegun};
     ghost use Rattle.cyc_buffer.specs.Remembered.{is_start, place_of};
     ghost use Rattle.cyc_buffer.specs.declared.answers.FaultKind.TheVariants as kinds;
@@ -220,6 +221,8 @@ impl<S: BlockStore> Buffer<S> {
     ) -> Result<Found, BufError>
         ensures reads { ReadsBlock self.old token.now k chunk.old result chunk.new self.new }
         ensures remembered { IsFoundBy self.old token.now k result }
+        // Nothing is written.
+        ensures held { StaysHeld S.BlockStore (store_of self.old) (store_of self.new) }
     {
         let block = match self.register.look(token, k) {
             Look::Block(block) => block,

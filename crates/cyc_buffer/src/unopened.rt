@@ -6,6 +6,7 @@ ghost use Rattle.cyc_buffer.specs.Agreement.{Agrees, Follows, store_of, register
 ghost use Rattle.cyc_buffer.specs.Calls.{ReadsBlock};
 ghost use Rattle.cyc_buffer.specs.Head.{has_open_head, inside, stop_of};
 ghost use Rattle.cyc_buffer.specs.History.{History};
+ghost use Rattle.cyc_buffer.specs.Reads.{StaysHeld};
 ghost use Rattle.cyc_buffer.specs.Stopped.{numbers_of};
 
 use crate::answers::{BufError, Found};
@@ -42,8 +43,10 @@ impl<S: BlockStore> Unopened<S> {
         k: u32,
         chunk: &mut [u8; CHUNK_OCTETS],
     ) -> Result<Found, BufError>
-        ensures { ReadsBlock (inside self.old) token.now k chunk.old result chunk.new
+        ensures reads { ReadsBlock (inside self.old) token.now k chunk.old result chunk.new
             (inside self.new) }
+        ensures held { StaysHeld S.BlockStore (store_of (inside self.old))
+            (store_of (inside self.new)) }
     {
         self.buffer.read_block(token, k, chunk)
     }
