@@ -46,7 +46,8 @@ impl<S: BlockStore> Buffer<S> {
     ghost use Rattle.cyc_buffer.specs.History.{History, new_history, with_begin, with_finish};
     ghost use Rattle.cyc_buffer.specs.History.{without_write, open_token, front_of, cycle_of};
     ghost use Rattle.cyc_buffer.specs.History.{stored_count};
-    ghost use Rattle.cyc_buffer.specs.Head.{has_open_head, is_busy, LeavesBlocks, IsFormatRefusal};
+    ghost use Rattle.cyc_buffer.specs.Head.{has_open_head, is_busy, stop_of, LeavesBlocks};
+    ghost use Rattle.cyc_buffer.specs.Head.{IsFormatRefusal};
     ghost use Rattle.cyc_buffer.specs.Reads.{StaysHeld};
     ghost use Rattle.cyc_buffer.specs.Remembered.{AddsNoStart, AddsStart, IsFoundBy, IsUnbegun};
     ghost use Rattle.cyc_buffer.specs.Remembered.{is_start, place_of};
@@ -223,6 +224,7 @@ impl<S: BlockStore> Buffer<S> {
         ensures remembered { IsFoundBy self.old token.now k result }
         // Nothing is written.
         ensures held { StaysHeld S.BlockStore (store_of self.old) (store_of self.new) }
+        ensures stop { stop_of self.new ≡ stop_of self.old }
     {
         let block = match self.register.look(token, k) {
             Look::Block(block) => block,

@@ -47,6 +47,7 @@ impl<S: BlockStore> Unopened<S> {
             (inside self.new) }
         ensures held { StaysHeld S.BlockStore (store_of (inside self.old))
             (store_of (inside self.new)) }
+        ensures stop { stop_of (inside self.new) ≡ stop_of (inside self.old) }
     {
         self.buffer.read_block(token, k, chunk)
     }
