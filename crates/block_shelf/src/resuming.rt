@@ -51,8 +51,10 @@ pub fn resume_racks(
     used: &[u32],
     positions: &[u32],
 ) -> Result<Vec<Rack>, AllocError>
-    ensures { IfOk result (λ racks.
+    ensures racks { IfOk result (λ racks.
         ResumesByUse settings.now positions.now used.now racks.items) }
+    ensures count { IfOk result (λ racks.
+        length racks.items ≡ length settings.now.groups.items) }
 {
     let mut racks = Vec::with_capacity(alloc, settings.groups.len())?;
     for (place, group) in settings.groups.iter().enumerate() {

@@ -10,4 +10,4 @@ returns g c =
     resumed_over c.args.settings.now c.args.positions.now (buffers_inside c.args.buffers.now)
     c.in_ok-used.used.items c.in_ok-racks.racks.items c.in_ok-used.ensures
     (subst (λ us. ResumesByUse c.args.settings.now c.args.positions.now us
-    c.in_ok-racks.racks.items) c.deref.ensures.value c.in_ok-racks.ensures)
+    c.in_ok-racks.racks.items) c.deref.ensures.value c.in_ok-racks.ensures.racks)

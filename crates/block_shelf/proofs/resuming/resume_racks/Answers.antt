@@ -63,8 +63,8 @@ loop-place-preserved c =
           (sym (length-take-le k groups (omega (arith, within)))) belongs)));
     }
 
-pub returns : goal.returns
-returns c =
+pub returns-clause-racks : goal.returns-clause-racks
+returns-clause-racks c =
     racks_resumed c.args.settings.now c.args.positions.now c.args.used.now
     c.loop-place.racks.items
     (subst
@@ -74,3 +74,10 @@ returns c =
     (take_all c.loop-place.place c.args.settings.now.groups.items
     (omega (arith, c.loop-place-test.false, ap length c.deref-group-items.ensures.value)))
     c.loop-place.invariant.are)
+
+-- as many as there are groups
+pub returns-clause-count : goal.returns-clause-count
+returns-clause-count c =
+    c.loop-place.invariant.are.count
+    ∙ ap length (take_all c.loop-place.place c.args.settings.now.groups.items
+    (omega (arith, c.loop-place-test.false, ap length c.deref-group-items.ensures.value)))
