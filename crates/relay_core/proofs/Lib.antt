@@ -1,5 +1,5 @@
 mod Arms
-mod Beginnings
+pub mod Beginnings
 mod Chunks
 mod Dues
 mod Feeds
@@ -7,13 +7,13 @@ pub mod Fillings
 mod Forgetting
 mod Found
 mod Hearing
-mod Idleness
+pub mod Idleness
 mod Lanes
 mod Marks
 mod Pushing
 mod Queues
 mod ReadArm
-mod Records
+pub mod Records
 mod Refusing
 mod Reporting
 mod Restarts
