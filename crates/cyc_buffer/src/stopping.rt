@@ -145,6 +145,7 @@ impl<S: BlockStore> Buffer<S> {
         ensures same { Follows (λ h. h) self.old self.new }
         ensures register { register_of self.new ≡ register_of self.old }
         ensures stop { stop_of self.new ≡ stop_of self.old }
+        ensures store { LeavesBlocks ⟦<S as BlockStore>⟧ (store_of self.old) (store_of self.new) }
         ensures count { length (S.blocks (store_of self.new))
             ≡ length (S.blocks (store_of self.old)) }
         ensures calls { S.calls (store_of self.new) ≡ S.calls (store_of self.old) + 1 }

@@ -4,7 +4,7 @@ ghost use Rattle.news_terms.specs.HeadBlocks.{Open, head_image as image_of};
 ghost use Rattle.cyc_block.specs.Store.{block_at, ChangesOnly};
 ghost use Rattle.cyc_buffer.specs.Agreement.{Agrees, Follows, store_of, register_of};
 ghost use Rattle.cyc_buffer.specs.Calls.{ReadsBlock};
-ghost use Rattle.cyc_buffer.specs.Head.{has_open_head, inside, stop_of};
+ghost use Rattle.cyc_buffer.specs.Head.{has_open_head, inside, stop_of, LeavesBlocks, LeavesBuffer};
 ghost use Rattle.cyc_buffer.specs.History.{History};
 ghost use Rattle.cyc_buffer.specs.Reads.{StaysHeld};
 ghost use Rattle.cyc_buffer.specs.Stopped.{numbers_of};
@@ -72,6 +72,9 @@ impl<S: BlockStore> Unopened<S> {
             < S.failures (store_of (inside unopened))) }
         ensures refused { IfErr result (λ unopened.
             Follows (λ h. h) (inside self) (inside unopened)) }
+        ensures rest { IfErr result (λ unopened. LeavesBuffer (inside self) (inside unopened)) }
+        ensures blocks { IfOk result (λ buffer.
+            LeavesBlocks ⟦<S as BlockStore>⟧ (store_of (inside self)) (store_of buffer)) }
         ensures count { IfOk result (λ buffer. length (S.blocks (store_of buffer))
             ≡ length (S.blocks (store_of (inside self)))) }
     {
