@@ -75,7 +75,7 @@ nobody trusted v kept at o none =
     subst (λ (p : Option Peer). PeerIs trusted v kept p after None) (sym none) (ended_gone o)
 
 -- the history of a world is that of the world after a start too
-again : (config : Config) (w : Terms) → HasSameStore w (terms_of config) → (stop : ℕ) (x : World)
+pub again : (config : Config) (w : Terms) → HasSameStore w (terms_of config) → (stop : ℕ) (x : World)
     (failures : ℕ → ℕ) (kept : texts.Kept) → IsHistory w stop x.state kept
     → ArePositions (terms_of config).groups x.state.begun kept.positions
     × AreLeft kept.feeds (map ring_size config.relay.feeds.items) x.state.feed
