@@ -9,7 +9,7 @@ use Rattle.news_terms.specs.Places as places
 use Rattle.news_terms.specs.Places.{IsLive, size_of, on_line}
 use Rattle.news_terms.specs.Token.{Token}
 use Rattle.cyc_token.specs.Token.{token_view}
-use Rattle.cyc_buffer.specs.Agreement.{ContinuesIn, length_of, token_of}
+use Rattle.cyc_buffer.specs.Agreement.{Continues, ContinuesIn, length_of, token_of}
 use Rattle.cyc_buffer.specs.History.{Article, Begin, History, Writing, token_at}
 use Rattle.cyc_buffer.specs.History.{with_begin, with_finish}
 use Rattle.cyc_buffer.specs.Progress.{IsTheOpen, written_of}
@@ -25,7 +25,7 @@ use Rattle.live_store.specs.Tied.{AreNumbered, AreShown, HasRecord, IsWrittenAs,
 use Rattle.live_store.specs.Tied.{token_in, text_in}
 use Rattle.live_store.proofs.FrontLemmas.{lived, overwrites, first_within}
 
-apart : {a b : ℕ} → a ≡ b → (a < b) ⊎ (b < a) → ⊥
+pub apart : {a b : ℕ} → a ≡ b → (a < b) ⊎ (b < a) → ⊥
 apart e (inl h) = omega (arith, e, h)
 apart e (inr h) = omega (arith, e, h)
 
@@ -73,7 +73,7 @@ all_written h p w write shown writes the_open all long continues =
 
 module _ (trusted : Bool) (register : Shelves) (h : History) (write : Open) (shown : Where Record)
     (numbers : List (Option (Where Record)))
-    (is : IsWrittenAs register h write shown)
+    (is : IsWrittenAs register write shown) (begun : Continues (text_in shown) h)
     (numbered : AreNumbered trusted register h numbers) (room : length numbers ≡ h.buffer.blocks) where
   -- as many octets as the write has
   long : length (text_in shown) ≡ length_of write
@@ -148,4 +148,4 @@ module _ (trusted : Bool) (register : Shelves) (h : History) (write : Open) (sho
       → written_of r.progress ≡ size_of (length_of write)
       → AreNumbered trusted register (with_finish h) after
   numbered_finish r keeps the_open all =
-      numbered_by r r.progress h.writing refl refl keeps keeps.writing the_open all is.begun
+      numbered_by r r.progress h.writing refl refl keeps keeps.writing the_open all begun

@@ -1,7 +1,7 @@
 -- What is known of an open write, and of the faults that it and a begin come to, without the
 -- history.
 use Rattle.std.proofs.Common.{◌≡◌, ◌∙◌, ℕ, ◌+◌, ◌<◌, refl, sym, ap, subst, arith, Bool, true, false}
-use Rattle.std.proofs.Common.{cond, set, List, length, Option, None, Some}
+use Rattle.std.proofs.Common.{set, List, length, Option, None, Some}
 use Rattle.std.proofs.Common.{Result, Ok, Err}
 use Rattle.std.proofs.Math.Logic.{∥∥₁_map, ∥∥₁_elim}
 use Rattle.std.proofs.Props.{props}
@@ -10,25 +10,25 @@ use Rattle.std.specs.Prelude.{IfSome}
 use Rattle.boxcar.specs.Table.{Shelves, Where, Shows}
 use Rattle.news_terms.specs.Places as places
 use Rattle.news_terms.specs.Places.{size_of}
-use Rattle.news_terms.specs.Token.{Token}
 use Rattle.cyc_token.specs.Token.{token_view}
 use Rattle.cyc_token.specs.declared.Token as codes
 use Rattle.cyc_block.specs.declared.store.BlockStore.{Ghosts}
-use Rattle.cyc_buffer.specs.Agreement.{Agrees, Owns, CanWrite, CanFinish, blocks_written}
+use Rattle.cyc_buffer.specs.Agreement.{Owns, CanWrite, CanFinish, blocks_written, store_of}
 use Rattle.cyc_buffer.specs.Agreement.{is_broken, token_of, Follows}
 use Rattle.cyc_buffer.specs.Calls.{WritesNext, LeavesDevice}
-use Rattle.cyc_buffer.specs.Answers.{IsDeviceFault, refusal, fault_of}
-use Rattle.cyc_buffer.specs.History.{History, open_token, with_begin, with_finish}
+use Rattle.cyc_buffer.specs.Answers.{IsDeviceFault, fault_of}
+use Rattle.cyc_buffer.specs.Head.{is_busy}
+use Rattle.cyc_buffer.specs.History.{with_finish}
 use Rattle.cyc_buffer.specs.Progress.{IsTheOpen}
+use Rattle.cyc_buffer.specs.Remembered.{AddsNoStart, AddsStart, IsUnbegun}
 use Rattle.cyc_buffer.specs.declared.answers.BufError.{BufError}
 use Rattle.cyc_buffer.specs.declared.answers.BufError.TheVariants as errors
 use Rattle.cyc_buffer.specs.declared.answers.Fault.{Fault}
 use Rattle.cyc_buffer.specs.declared.answers.FaultKind.{FaultKind}
-use Rattle.cyc_buffer.specs.declared.answers.FaultKind.TheVariants as kinds
 use Rattle.cyc_buffer.specs.declared.buffer.Buffer.{Buffer}
 use Rattle.cyc_buffer.specs.declared.register.Open.{Open}
 use Rattle.cyc_buffer.specs.declared.register.Progress.{Progress}
-use Rattle.cyc_buffer.proofs.Finished.{none_is_none, same_some}
+use Rattle.cyc_buffer.proofs.Finished.{same_some}
 use Rattle.live_store.specs.declared.beside.Beside.{Beside}
 use Rattle.live_store.specs.declared.writing.entering.Record.{Record}
 use Rattle.live_store.specs.Tied.{Tied, HasNumber, IsNamed, token_in, text_in}
@@ -37,7 +37,7 @@ use Rattle.live_store.specs.Steps.{WritesRecord, after_write}
 use Rattle.live_store.specs.declared.numbered.NumberedBuffer.{NumberedBuffer}
 use Rattle.live_store.specs.declared.record.Archive as archives
 use Rattle.live_store.proofs.TiedLemmas.{place_of_write, beside_of, named, named_again, tied_next}
-use Rattle.live_store.proofs.TiedLemmas.{tied_failed, tied_finish}
+use Rattle.live_store.proofs.TiedLemmas.{tied_failed, tied_finish, continues_as}
 
 -- two values that one is found to be are the same
 pub the_same : {X : Type 0} (o r : Option X) (x y : X) → o ≡ Some x → r ≡ o → r ≡ Some y → x ≡ y
@@ -60,11 +60,11 @@ owns_prop write (Some p) = hlevel props
 pub no_prop : IsProp ⊥
 no_prop x y = absurd x
 
-token_by : (register : Shelves) (h : History) (b : Beside) (shown : Where Record)
-    (o : Option (Where Record)) → HasNumber register h b o
+token_by : (register : Shelves) (b : Beside) (shown : Where Record)
+    (o : Option (Where Record)) → HasNumber register b o
     → IsNamed b.write o shown → token_view (token_of b.write) ≡ token_in shown
-token_by register h b shown None number same = ap token_view (sym same)
-token_by register h b shown (Some own) number same =
+token_by register b shown None number same = ap token_view (sym same)
+token_by register b shown (Some own) number same =
     number.named ∙ ap (λ (r : Record). token_view r.token.value) same.1
 
 module _ {S : Type 0} {g : Ghosts S} (register : Shelves) (trusted : Bool) (buffer : Buffer S g)
@@ -105,7 +105,7 @@ module _ {S : Type 0} {g : Ghosts S} (register : Shelves) (trusted : Bool) (buff
   named_token shown unbroken same =
       let one : IsProp (token_view (token_of b.write) ≡ token_in shown) = hlevel props in
       ∥∥₁_elim tied one
-      (λ t. token_by register t.history b shown b.shown (t.open_write.whole unbroken).number same)
+      (λ t. token_by register b shown b.shown (t.open_write.whole unbroken).number same)
 
   -- what can be written for a record can be written
   pub can_write : (shown : Where Record) → CanWriteFor b shown
@@ -133,31 +133,37 @@ module _ {S : Type 0} {g : Ghosts S} (register : Shelves) (trusted : Bool) (buff
     -- after one more block
     pub tied_written : (last : Bool) → CanWriteFor b shown → Shows register shown
         → WritesNext buffer b.write (text_in shown) (Ok last) new
+        → LeavesDevice buffer (Ok last) new → AddsNoStart buffer new
         → ∥ Tied trusted register new (Some (beside_of b.write shown (b.written + 1) false))
         numbers ∥₁
-    tied_written last can shows w = ∥∥₁_map tied (λ t.
+    tied_written last can shows w device adds = ∥∥₁_map tied (λ t.
         let whole = t.open_write.whole can.unbroken in
         tied_next register trusted buffer new numbers b shown (b.written + 1) t
-        (named register trusted buffer t.history b shown t.agrees.keeps whole can.named shows
-        can.octets)
-        w.written w.owned w.whole (omega (arith, whole.written, w.count)))
+        (named register buffer b shown whole can.named shows can.octets)
+        (continues_as register buffer b shown numbers can.unbroken whole can.named)
+        w.written w.owned w.whole (omega (arith, whole.written, w.count)) adds device.blocks)
 
     -- after the device failed
     pub tied_broken : (e : BufError) → Shows register shown
         → WritesNext buffer b.write (text_in shown) (Err e) new
+        → LeavesDevice {X = Bool} buffer (Err e) new → AddsNoStart buffer new
         → ∥ Tied trusted register new (Some (beside_of b.write shown b.written true)) numbers ∥₁
-    tied_broken e shows w = ∥∥₁_map tied (λ t.
-        tied_failed register trusted buffer new numbers b shown shows t w.broken w.owned)
+    tied_broken e shows w device adds = ∥∥₁_map tied (λ t.
+        tied_failed register trusted buffer new numbers b shown shows t w.broken w.owned adds
+        device.blocks)
 
     -- after a finish
     pub tied_finished : CanFinishFor b shown → Shows register shown → Follows with_finish buffer new
+        → is_busy new ≡ false → AddsStart (token_of b.write).first buffer new
+        → store_of new ≡ store_of buffer
         → ∥ Tied trusted register new None
         (set numbers (token_of b.write).first (Some shown)) ∥₁
-    tied_finished can shows follows = ∥∥₁_map tied (λ t.
+    tied_finished can shows follows idle adds store = ∥∥₁_map tied (λ t.
         let whole = t.open_write.whole can.unbroken in
         tied_finish register trusted buffer new b numbers shown t
-        (named_again register t.history b shown b.shown can.begun whole.number can.named shows)
-        (sym whole.written ∙ can.written) follows)
+        (named_again register b shown b.shown can.begun whole.number can.named shows)
+        (continues_as register buffer b shown numbers can.unbroken whole can.named)
+        (sym whole.written ∙ can.written) follows idle adds store)
 
 module _ {S : Type 0} {s : Ghosts S} {J : Type 0} {j : archives.Ghosts J}
     (old new : NumberedBuffer S J s j) (b : Beside) (stood : old.beside ≡ Some b)
@@ -200,114 +206,22 @@ module _ {S : Type 0} {s : Ghosts S} {J : Type 0} {j : archives.Ghosts J}
 pub same_device : {f h : Fault} → errors.Device f ≡ errors.Device h → f ≡ h
 same_device e = cc
 
-too_big : {f : Fault} → errors.TooBig ≡ errors.Device f → ⊥
-too_big e = cc
+-- what fails by the device fails so
+pub device_fails : (buffer : places.Buffer) (kind : FaultKind) (octets : ℕ) (e : BufError)
+    → IsDeviceFault buffer kind octets e → IsDevice e
+device_fails buffer kind octets e fault = subst IsDevice (sym fault) tt
 
-busy : {f : Fault} → errors.Busy ≡ errors.Device f → ⊥
-busy e = cc
-
-worn : {f h : Fault} → errors.Worn f ≡ errors.Device h → ⊥
-worn e = cc
-
-pub kind_prop : (k l : FaultKind) → IsProp (k ≡ l)
-kind_prop k l = hlevel props
-
-device_merely : (e : BufError) → ∥ ((f : Fault) × (e ≡ errors.Device f)) ∥₁ → IsDevice e
-device_merely errors.TooBig e = absurd (∥∥₁_elim e no_prop (λ q. too_big q.1))
-device_merely errors.Busy e = absurd (∥∥₁_elim e no_prop (λ q. busy q.1))
-device_merely (errors.Worn f) e = absurd (∥∥₁_elim e no_prop (λ q. worn q.1))
-device_merely (errors.Device f) e = tt
-
-module _ {S : Type 0} {g : Ghosts S} (register : Shelves) (trusted : Bool) (buffer : Buffer S g)
-    (b : Option Beside) (numbers : List (Option (Where Record)))
-    (tied : ∥ Tied trusted register buffer b numbers ∥₁) where
-  -- what fails by the device in each history fails by the device
-  pub device_fails : (kind : FaultKind) (octets : ℕ) (e : BufError)
-      → ((trusted : Bool) (h : History) → Agrees trusted buffer h
-      → IsDeviceFault h.buffer kind octets e) → IsDevice e
-  device_fails kind octets e fault =
-      device_merely e (∥∥₁_map tied (λ t. (_, fault trusted t.history t.agrees)))
-
-  -- and its fault is the one that is the same in all of them
-  pub device_fault_is : (kind : FaultKind) (octets : ℕ) (e : BufError) (f : Fault)
-      → ((trusted : Bool) (h : History) → Agrees trusted buffer h
-      → IsDeviceFault h.buffer kind octets e) → e ≡ errors.Device f
-      → (f.kind ≡ kind) × (f.length ≡ octets)
-  device_fault_is kind octets e f fault is =
-      let one : IsProp (f.length ≡ octets) = hlevel (props, le_prop) in (
-        ∥∥₁_elim tied (kind_prop f.kind kind) (λ t. ap (λ (x : Fault). x.kind)
-            (same_device (sym is ∙ fault trusted t.history t.agrees))),
-        ∥∥₁_elim tied one (λ t. ap (λ (x : Fault). x.length)
-            (same_device (sym is ∙ fault trusted t.history t.agrees))),
-      )
-
-worn_parts : (buffer : places.Buffer) (octets : ℕ) (big worn busy : Bool) (f : Fault)
-    → Some (errors.Worn f) ≡ cond big (Some errors.TooBig)
-    (cond worn (Some (errors.Worn (fault_of buffer kinds.Worn octets)))
-    (cond busy (Some errors.Busy) None))
-    → f ≡ fault_of buffer kinds.Worn octets
-worn_parts buffer octets true worn busy f e = absurd (no_big e)
-  where
-    no_big : {f : Fault} → Some (errors.Worn f) ≡ Some errors.TooBig → ⊥
-    no_big e = cc
-worn_parts buffer octets false true busy f e = same_worn e
-  where
-    same_worn : {f h : Fault} → Some (errors.Worn f) ≡ Some (errors.Worn h) → f ≡ h
-    same_worn e = cc
-worn_parts buffer octets false false true f e = absurd (no_busy e)
-  where
-    no_busy : {f : Fault} → Some (errors.Worn f) ≡ Some errors.Busy → ⊥
-    no_busy e = cc
-worn_parts buffer octets false false false f e = absurd (none_is_none (sym e))
-
-no_device : (buffer : places.Buffer) (octets : ℕ) (big worn busy : Bool) (f : Fault)
-    → Some (errors.Device f) ≡ cond big (Some errors.TooBig)
-    (cond worn (Some (errors.Worn (fault_of buffer kinds.Worn octets)))
-    (cond busy (Some errors.Busy) None)) → ⊥
-no_device buffer octets true worn busy f e = no_big e
-  where
-    no_big : {f : Fault} → Some (errors.Device f) ≡ Some errors.TooBig → ⊥
-    no_big e = cc
-no_device buffer octets false true busy f e = no_worn e
-  where
-    no_worn : {f h : Fault} → Some (errors.Device f) ≡ Some (errors.Worn h) → ⊥
-    no_worn e = cc
-no_device buffer octets false false true f e = no_busy e
-  where
-    no_busy : {f : Fault} → Some (errors.Device f) ≡ Some errors.Busy → ⊥
-    no_busy e = cc
-no_device buffer octets false false false f e = none_is_none (sym e)
+-- and its fault is the one that is told
+pub device_fault_is : (buffer : places.Buffer) (kind : FaultKind) (octets : ℕ) (e : BufError)
+    (f : Fault) → IsDeviceFault buffer kind octets e → e ≡ errors.Device f
+    → f ≡ fault_of buffer kind octets
+device_fault_is buffer kind octets e f fault is = same_device (sym is ∙ fault)
 
 -- the fault of a begin that is refused is a worn buffer's
-pub begin_fault : {S : Type 0} {g : Ghosts S} (register : Shelves) (trusted : Bool)
-    (buffer : Buffer S g) (b : Option Beside) (numbers : List (Option (Where Record)))
-    (octets : ℕ) (fresh : Bool) (e : BufError)
-    → ∥ Tied trusted register buffer b numbers ∥₁
-    → ((trusted : Bool) (h : History) → Agrees trusted buffer h
-    → Some e ≡ refusal h octets fresh)
-    → IsBeginFault octets e
-begin_fault register trusted buffer b numbers octets fresh errors.TooBig tied refused = tt
-begin_fault register trusted buffer b numbers octets fresh errors.Busy tied refused = tt
-begin_fault register trusted buffer b numbers octets fresh (errors.Worn f) tied refused =
-    let one : IsProp (f.length ≡ octets) = hlevel (props, le_prop) in (
-      ∥∥₁_elim tied (kind_prop f.kind kinds.Worn) (λ t. ap (λ (x : Fault). x.kind)
-          (worn_parts t.history.buffer octets _ _ _ f (refused trusted t.history t.agrees))),
-      ∥∥₁_elim tied one (λ t. ap (λ (x : Fault). x.length)
-          (worn_parts t.history.buffer octets _ _ _ f (refused trusted t.history t.agrees))),
-    )
-begin_fault register trusted buffer b numbers octets fresh (errors.Device f) tied refused =
-    ∥∥₁_elim tied no_prop (λ t.
-    no_device t.history.buffer octets _ _ _ f (refused trusted t.history t.agrees))
-
--- the token of a begin has its class
-pub begin_class : {S : Type 0} {g : Ghosts S} (register : Shelves) (trusted : Bool)
-    (buffer : Buffer S g) (b : Option Beside) (numbers : List (Option (Where Record)))
-    (class octets : ℕ) (fresh : Bool) (token : Token)
-    → ∥ Tied trusted register buffer b numbers ∥₁
-    → ((trusted : Bool) (h : History) → Agrees trusted buffer h
-    → Some token ≡ open_token (with_begin class octets fresh h))
-    → token.class ≡ class
-begin_class register trusted buffer b numbers class octets fresh token tied is =
-    let one : IsProp (token.class ≡ class) = hlevel (props, le_prop) in
-    ∥∥₁_elim tied one
-    (λ t. ap (λ (x : Token). x.class) (same_some (is trusted t.history t.agrees)))
+pub begin_fault : (buffer : places.Buffer) (busy : Bool) (octets : ℕ) (e : BufError)
+    → IsUnbegun buffer busy octets e → IsBeginFault octets e
+begin_fault buffer busy octets errors.TooBig refused = tt
+begin_fault buffer busy octets errors.Busy refused = tt
+begin_fault buffer busy octets (errors.Worn f) refused =
+    (ap (λ (x : Fault). x.kind) refused, ap (λ (x : Fault). x.length) refused)
+begin_fault buffer busy octets (errors.Device f) refused = refused

@@ -1,7 +1,7 @@
 -- What a start reads of a live article.
 use Rattle.std.proofs.Common.{◌≡◌, ◌∙◌, ℕ, ◌+◌, ◌*◌, ◌<◌, ◌≤◌, refl, sym, ap, subst, arith}
 use Rattle.std.proofs.Common.{Bool, true, false, true≢false, not, nat_lt, nat_le, ◌==◌, ◌||◌}
-use Rattle.std.proofs.Common.{List, length, take, None, Some, Ok, Err, Result}
+use Rattle.std.proofs.Common.{List, take, None, Some, Ok, Result}
 use Rattle.std.proofs.lemmas.Bool.{cond-false, eq-eqb, ne_eqb, le-ltb, lt-leb}
 use Rattle.std.proofs.Math.Logic.{∥∥₁_elim}
 use Rattle.article_parse.specs.Faults.{IsFaultOf}
@@ -21,6 +21,8 @@ use Rattle.cyc_buffer.specs.Answers.{is_beyond, or_by_text}
 use Rattle.cyc_buffer.specs.Answers as answers
 use Rattle.cyc_buffer.specs.Calls.{ReadsBlock}
 use Rattle.cyc_buffer.specs.History.{History, front_of, text_under}
+use Rattle.cyc_buffer.specs.Head.{stop_of}
+use Rattle.cyc_buffer.specs.Reads.{StaysHeld}
 use Rattle.cyc_buffer.specs.Register.{Keeps}
 use Rattle.cyc_buffer.specs.Stopped.{IsLiveToken}
 use Rattle.cyc_buffer.specs.declared.answers.BufError.{BufError}
@@ -33,6 +35,7 @@ use Rattle.cyc_buffer.specs.declared.buffer.Buffer.{Buffer}
 use Rattle.cyc_buffer.specs.declared.register.Register.{Register}
 use Rattle.cyc_buffer.proofs.Finished.{lies}
 use Rattle.cyc_buffer.proofs.Reading.{is_under}
+use Rattle.cyc_buffer.proofs.Refusals.{held_on}
 use Rattle.cyc_token.specs.Token.{token_view}
 use Rattle.cyc_token.specs.declared.Token as codes
 use Rattle.live_store.specs.Started.{IsMerelyRead, IsNoArticle, IsToldAs, IsUnentered}
@@ -114,8 +117,13 @@ module _ {S : Type 0} {g : Ghosts S} where
     same = λ trusted h agrees. agrees;
     register = refl;
     opened = refl;
-    honest = λ honest. honest;
-    count = refl;
+    stop = refl;
+    held = record {
+      honest = λ honest. honest;
+      blocks = λ honest. refl;
+      heads = λ honest. refl;
+      count = refl;
+    };
   }
 
   -- one read after others
@@ -124,20 +132,21 @@ module _ {S : Type 0} {g : Ghosts S} where
     same = λ trusted h agrees. other.same trusted h (one.same trusted h agrees);
     register = other.register ∙ one.register;
     opened = other.opened ∙ one.opened;
-    honest = λ honest. other.honest (one.honest honest);
-    count = other.count ∙ one.count;
+    stop = other.stop ∙ one.stop;
+    held = held_on g (store_of a) (store_of b) (store_of c) one.held other.held;
   }
 
   -- a read of a block
   pub merely_read : (a b : Buffer S g) (token : codes.Token) (k : ℕ) (before after : List ℕ)
       (result : Result Found BufError) → ReadsBlock a token k before result after b
+      → StaysHeld g (store_of a) (store_of b) → stop_of b ≡ stop_of a
       → IsMerelyRead a b
-  merely_read a b token k before after result reads = record {
+  merely_read a b token k before after result reads held stop = record {
     same = reads.same;
     register = reads.register;
     opened = reads.opened;
-    honest = reads.device.honest;
-    count = reads.device.blocks;
+    stop = stop;
+    held = held;
   }
 
   -- it went without a failure

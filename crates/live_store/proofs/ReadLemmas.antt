@@ -1,8 +1,9 @@
 -- What a read under the lock finds.
 use Rattle.std.proofs.Common.{◌≡◌, ◌∙◌, ℕ, ◌+◌, ◌<◌, ◌≤◌, inl, inr, refl, sym, ap, subst, arith}
+use Rattle.std.specs.Prelude.{IsSomeAnd}
 use Rattle.std.proofs.Common.{Bool, true, false, not, cond, nat_lt, nat_le, ◌==◌, ◌||◌, List}
 use Rattle.std.proofs.Common.{length, take}
-use Rattle.std.proofs.Common.{Option, None, Some, is_some, Ok, Err}
+use Rattle.std.proofs.Common.{Option, None, Some, Ok}
 use Rattle.std.proofs.Math.Logic.{∥∥₁_elim}
 use Rattle.std.proofs.Props.{props}
 use Rattle.std.specs.Coded.{le_prop}
@@ -16,11 +17,11 @@ use Rattle.cyc_token.specs.Token.{token_view}
 use Rattle.cyc_token.specs.declared.Token as codes
 use Rattle.cyc_block.specs.declared.store.BlockStore.{Ghosts}
 use Rattle.cyc_buffer.specs.Answers.{Answer, Chunk, Gone, Unknown, is_beyond, by_numbers, by_text}
-use Rattle.cyc_buffer.specs.Answers.{or_by_text, answer, front_view, IsOther, IsUnread}
-use Rattle.cyc_buffer.specs.Answers.{IsDeviceFault}
+use Rattle.cyc_buffer.specs.Answers.{or_by_text, answer, front_view}
 use Rattle.cyc_buffer.specs.Answers as answers
 use Rattle.cyc_buffer.specs.Calls.{ReadsBlock}
-use Rattle.cyc_buffer.specs.History.{History, Article, front_of, finished_at, text_under}
+use Rattle.cyc_buffer.specs.Remembered.{IsAtStart, IsUnreadBy, front_in, place_of}
+use Rattle.cyc_buffer.specs.History.{History, front_of, text_under}
 use Rattle.cyc_buffer.specs.declared.answers.BufError.{BufError}
 use Rattle.cyc_buffer.specs.declared.answers.BufError.TheVariants as errors
 use Rattle.cyc_buffer.specs.declared.answers.Fault.{Fault}
@@ -33,9 +34,9 @@ use Rattle.cyc_buffer.proofs.Places.{chosen}
 use Rattle.cyc_buffer.proofs.Reading.{under}
 use Rattle.live_store.specs.declared.beside.Beside.{Beside}
 use Rattle.live_store.specs.declared.writing.entering.Record.{Record}
-use Rattle.live_store.specs.Tied.{Tied, HasRecord, number_at, token_in, text_in}
+use Rattle.live_store.specs.Tied.{Tied, IsKnown, HasRecord, IsFirstAt, number_at, token_in, text_in}
 use Rattle.live_store.specs.Steps.{IsChunkOf, IsGoneBy, IsReadFault}
-use Rattle.live_store.proofs.OpenLemmas.{same_device, kind_prop, no_prop}
+use Rattle.live_store.proofs.OpenLemmas.{device_fault_is, no_prop}
 
 -- what is known where a chunk is shown
 record IsShownChunk (h : History) (token : Token) (k n : ℕ) (slice : List ℕ) : Type 0 where
@@ -117,38 +118,27 @@ numbers_gone buffer front token k passed e =
           ]
     ]
 
-gone_by : (h : History) (token : Token) (k : ℕ) (front : Front) (slice : List ℕ)
-    (o : Option Answer)
-    → by_numbers h.buffer (front_of h) token k ≡ o → IsOther (found.Gone front) o
-    → (is_some o ≡ true
-    → answers.Shows (found.Gone front) slice (or_by_text o (by_text k (text_under h token))))
-    → Passed front token
-gone_by h token k front slice None is other shows = absurd other
-gone_by h token k front slice (Some (Chunk octets)) is other shows = absurd (shows refl)
-gone_by h token k front slice (Some Unknown) is other shows = absurd (shows refl)
-gone_by h token k front slice (Some (Gone passed)) is other shows =
-    subst (λ (f : Front). Passed f token) (sym (shows refl))
-    (numbers_gone h.buffer (front_of h) token k passed is)
+module _ {S : Type 0} {g : Ghosts S} (register : Shelves) (trusted : Bool)
+    (old : Buffer S g) (b : Option Beside) (numbers : List (Option (Where Record)))
+    (tied : ∥ Tied trusted register old b numbers ∥₁) (token : codes.Token) where
+  -- where a chunk is read, over any store, a number stands at the article's first block
+  pub read_numbered : IsAtStart old token → number_at numbers token.first ≡ None → ⊥
+  read_numbered at none = ∥∥₁_elim tied no_prop (λ t.
+      subst (λ (o : Option (Where Record)). IsSomeAnd o (IsFirstAt token.first)) none
+      (t.started token.first (omega (arith, at.within, t.places, old.counted)) at.marked))
 
-undecided_err : (o : Option Answer) → (is_some o ≡ true → ⊥) → o ≡ None
-undecided_err None no_answer = refl
-undecided_err (Some a) no_answer = absurd (no_answer refl)
-
--- the fault of a failed read of the token's article
-abbrev read_fault : Token → Fault
-read_fault token = record { kind = kinds.Read; buffer = token.buffer; length = token.length }
-
-fault_from : (token : Token) (f : Fault) → f.kind ≡ kinds.Read → f.buffer ≡ token.buffer
-    → f.length ≡ token.length → f ≡ read_fault token
-fault_from token f kind buffer octets =
-    λ i. record { kind = kind i; buffer = buffer i; length = octets i }
+  -- its number is the register's
+  pub read_shown : (w : Where Record) → number_at numbers token.first ≡ Some w → Shows register w
+  read_shown w at =
+      let one : IsProp (Shows register w) = hlevel props in
+      ∥∥₁_elim tied one (λ t. t.shown token.first w at)
 
 module _ {S : Type 0} {g : Ghosts S} (register : Shelves) (trusted : Bool)
-    (old new : Buffer S g) (b : Option Beside) (numbers : List (Option (Where Record)))
-    (tied : ∥ Tied trusted register old b numbers ∥₁)
-    (token : codes.Token) (k : ℕ) (before after : List ℕ) where
+    (old : Buffer S g) (b : Option Beside) (numbers : List (Option (Where Record)))
+    (tied : ∥ Tied trusted register old b numbers ∥₁) (token : codes.Token)
+    (new : Buffer S g) (k : ℕ) (before after : List ℕ) where
   -- a chunk that is read is that of the record at the article's first block
-  chunk_of : (n : ℕ) (w : Where Record) → (t : Tied true register old b numbers)
+  chunk_of : (n : ℕ) (w : Where Record) → (t : IsKnown register old b numbers)
       → answers.Shows (found.Chunk n) after (answer t.history (token_view token) k)
       → number_at numbers token.first ≡ Some w
       → IsChunkOf register (token_view token) k (take n after) w
@@ -187,8 +177,9 @@ module _ {S : Type 0} {g : Ghosts S} (register : Shelves) (trusted : Bool)
       → IsChunkOf register (token_view token) k (take n after) w
   read_chunk n w reads at is_true =
       let all : IsProp (ChunkParts n w) = hlevel (props, le_prop) in
-      let parts = ∥∥₁_elim (subst (λ x. ∥ Tied x register old b numbers ∥₁) is_true tied) all (λ t.
-      let c = chunk_of n w t (reads.found t.history t.agrees) at in
+      let parts = ∥∥₁_elim tied all (λ t.
+      let k = t.known is_true in
+      let c = chunk_of n w k (reads.found k.history k.agrees) at in
       (c.shows, c.named, c.length, c.inside, c.chunk)) in
       record {
         shows = parts.0;
@@ -198,75 +189,18 @@ module _ {S : Type 0} {g : Ghosts S} (register : Shelves) (trusted : Bool)
         chunk = parts.4;
       }
 
-  -- no chunk is shown where no number stands at the article's first block
-  unnumbered : (n : ℕ) → (t : Tied trusted register old b numbers)
-      → answers.Shows (found.Chunk n) after (answer t.history (token_view token) k)
-      → number_at numbers token.first ≡ None → ⊥
-  unnumbered n t shows none =
-      let h = t.history in
-      let c = chunk_by h (token_view token) k n after
-      (by_numbers h.buffer (front_of h) (token_view token) k) (text_under h (token_view token))
-      refl refl shows in
-      let u = under h (token_view token) c.text c.under in
-      let d = undecided h.buffer (front_of h) (token_view token) k c.undecided in
-      subst (HasRecord trusted register h.buffer token.cycle token.first u.article) none
-      (t.numbered token.cycle token.first u.article u.finished
-      (record { begun = d.begun; here = d.live }))
+-- what is said to be gone is so by the front
+pub read_gone : {S : Type 0} {g : Ghosts S} (old : Buffer S g) (token : codes.Token) (k : ℕ)
+    (front : Front)
+    → by_numbers (place_of old) (front_in old) (token_view token) k ≡ Some (Gone front)
+    → IsGoneBy front (token_view token)
+read_gone old token k front is = passed_gone front (token_view token)
+    (numbers_gone (place_of old) (front_in old) (token_view token) k front is)
 
-  unnumbered_by : (n : ℕ) → (t : Tied trusted register old b numbers) → (o : Option Answer)
-      (finished : Option Article)
-      → by_numbers t.history.buffer (front_of t.history) (token_view token) k ≡ o
-      → finished_at t.history.buffer t.history.begins token.cycle token.first ≡ finished
-      → (IsUnread t.history (token_view token) k
-      → answers.Shows (found.Chunk n) after (answer t.history (token_view token) k))
-      → number_at numbers token.first ≡ None → ⊥
-  unnumbered_by n t (Some a) finished is_o is shows none =
-      unnumbered n t (shows (inl (ap is_some is_o))) none
-  unnumbered_by n t None None is_o is shows none = unnumbered n t (shows (inr (inl is))) none
-  unnumbered_by n t None (Some article) is_o is shows none =
-      let h = t.history in
-      let d = undecided h.buffer (front_of h) (token_view token) k is_o in
-      subst (HasRecord trusted register h.buffer token.cycle token.first article) none
-      (t.numbered token.cycle token.first article is
-      (record { begun = d.begun; here = d.live }))
-
-  -- where a chunk is read, over any store, a number stands at the article's first block
-  pub read_numbered : (n : ℕ) → ReadsBlock old token k before (Ok (found.Chunk n)) after new
-      → number_at numbers token.first ≡ None → ⊥
-  read_numbered n reads none = ∥∥₁_elim tied no_prop (λ t. unnumbered_by n t
-      (by_numbers t.history.buffer (front_of t.history) (token_view token) k)
-      (finished_at t.history.buffer t.history.begins token.cycle token.first) refl refl
-      (λ p. reads.unread trusted t.history t.agrees p) none)
-
-  -- its number is the register's
-  pub read_shown : (w : Where Record) → number_at numbers token.first ≡ Some w → Shows register w
-  read_shown w at =
-      let one : IsProp (Shows register w) = hlevel props in
-      ∥∥₁_elim tied one (λ t. t.shown token.first w at)
-
-  -- what is said to be gone is so by the front
-  pub read_gone : (front : Front) → ReadsBlock old token k before (Ok (found.Gone front)) after new
-      → IsGoneBy front (token_view token)
-  read_gone front reads =
-      let all : IsProp (Passed front (token_view token)) = hlevel (props, le_prop) in
-      passed_gone front (token_view token) (∥∥₁_elim tied all (λ t.
-      gone_by t.history (token_view token) k front after
-      (by_numbers t.history.buffer (front_of t.history) (token_view token) k) refl
-      (reads.other trusted t.history t.agrees)
-      (λ p. reads.unread trusted t.history t.agrees (inl p))))
-
-  -- a fault is that of a read of the token's article
-  pub read_fails : (e : BufError) (f : Fault) → ReadsBlock old token k before (Err e) after new
-      → e ≡ errors.Device f → IsReadFault (token_view token) f
-  read_fails e f reads is =
-      let one : IsProp (f.buffer ≡ token.buffer) = hlevel (props, le_prop) in
-      let two : IsProp (f.length ≡ token.length) = hlevel (props, le_prop) in
-      let fault = λ (t : Tied trusted register old b numbers). same_device
-      (sym is ∙ reads.fault trusted t.history t.agrees) in
-      fault_from (token_view token) f
-      (∥∥₁_elim tied (kind_prop f.kind kinds.Read) (λ t. ap (λ (x : Fault). x.kind) (fault t)))
-      (∥∥₁_elim tied one (λ t. ap (λ (x : Fault). x.buffer) (fault t)
-      ∙ sym (undecided t.history.buffer (front_of t.history) (token_view token) k
-      (undecided_err (by_numbers t.history.buffer (front_of t.history) (token_view token) k)
-      (λ p. reads.unread trusted t.history t.agrees (inl p)))).number))
-      (∥∥₁_elim tied two (λ t. ap (λ (x : Fault). x.length) (fault t)))
+-- a fault is that of a read of the token's article
+pub read_fails : {S : Type 0} {g : Ghosts S} (old : Buffer S g) (token : codes.Token)
+    (e : BufError) (f : Fault) → IsUnreadBy old token e → e ≡ errors.Device f
+    → IsReadFault (token_view token) f
+read_fails old token e f unread is =
+    device_fault_is (place_of old) kinds.Read token.length e f unread.fault is
+    ∙ ap (λ n. record { kind = kinds.Read; buffer = n; length = token.length }) (sym unread.number)

@@ -1,9 +1,9 @@
 -- The numbers of the articles of a buffer that was started.
-use Rattle.std.proofs.Common.{◌≡◌, ◌∙◌, ℕ, suc, ◌+◌, ◌*◌, ◌<◌, ◌≤◌, ◌⊎◌, inl, inr, refl, sym, ap}
+use Rattle.std.proofs.Common.{◌≡◌, ◌∙◌, ℕ, suc, ◌+◌, ◌<◌, ◌⊎◌, inl, inr, refl, sym, ap}
 use Rattle.std.proofs.Common.{subst, arith, Bool, true, List, length, set, Option, Some}
-use Rattle.std.proofs.Common.{slice_index_or}
+use Rattle.std.proofs.Common.{slice_index_or, nat_lt}
 use Rattle.std.proofs.Math.Nat.{mul-le-mul_right}
-use Rattle.std.proofs.lemmas.Bool.{cases_order}
+use Rattle.std.proofs.lemmas.Bool.{cases_order, lt-ltb, ltb-true}
 use Rattle.std.proofs.lemmas.List.{get_or-set_same, get_or-set_other, get_or_default}
 use Rattle.std.proofs.lemmas.List.Elements.{Contains-get_or}
 use Rattle.std.specs.Prelude.{None}
@@ -16,10 +16,11 @@ use Rattle.cyc_buffer.specs.Stopped.{IsLiveToken}
 use Rattle.cyc_buffer.specs.declared.register.Register.{Register}
 use Rattle.cyc_token.specs.Token.{token_view}
 use Rattle.cyc_token.specs.declared.Token as codes
-use Rattle.live_store.specs.Started.{AreNumberedTo, IsTextOfLive, IsThere, code_token}
+use Rattle.live_store.specs.Started.{AreNumberedTo, HaveFirsts, IsTextOfLive, IsThere, code_token}
 use Rattle.live_store.specs.Tied.{AreNumbered, HasRecord, number_at, named_in, text_in}
 use Rattle.live_store.specs.declared.writing.entering.Record.{Record}
-use Rattle.news_terms.specs.Places.{IsLive, on_line, size_of}
+use Rattle.live_store.proofs.TiedLemmas.{number_set}
+use Rattle.news_terms.specs.Places.{IsLive, on_line}
 
 -- a token of zeros
 abbrev pub none_token : codes.Token
@@ -173,6 +174,29 @@ numbered_item trusted register h tokens items n d shown numbers same inside list
     (get_or_default items n d (slice_index_or items n d) inside
     ∙ ap (λ (xs : List codes.Token). slice_index_or xs n (slice_index_or items n d)) same)
     numbered
+
+-- with the number of one token's record more, each token so far has one at its article's first block
+pub firsts_item : (tokens items : List codes.Token) (n : ℕ) (d : codes.Token)
+    (shown : Where Record) (numbers : List (Option (Where Record)))
+    → items ≡ tokens → n < length items
+    → (named_in shown).first ≡ (slice_index_or items n d).first
+    → (slice_index_or items n d).first < length numbers
+    → HaveFirsts tokens n numbers
+    → HaveFirsts tokens (n + 1) (set numbers (slice_index_or items n d).first (Some shown))
+firsts_item tokens items n d shown numbers same inside named within firsts j other less in_tokens =
+    number_set numbers (slice_index_or items n d).first shown within named
+    (slice_index_or tokens j other).first (nat_lt j n)
+    (elim (cases_order j n) [
+      | inl e ↦ inl (ap (λ (t : codes.Token). t.first)
+          (ap (λ (xs : List codes.Token). slice_index_or xs j other) (sym same)
+          ∙ get_or_default items j other d (omega (arith, e, inside))
+          ∙ ap (λ m. slice_index_or items m d) e))
+      | inr o ↦ elim o [
+        | inl l ↦ inr (lt-ltb j n l)
+        | inr g ↦ absurd (omega (arith, less, g))
+      ]
+    ])
+    (λ before. firsts j other (ltb-true j n before) in_tokens)
 
 -- with no token gone over nothing is said
 pub numbered_none : (trusted : Bool) (register : Shelves) (h : History) (tokens : List codes.Token)

@@ -2,28 +2,22 @@
 use Rattle.std.proofs.Common.{◌≡◌, ◌∙◌, ℕ, refl, sym, subst, Bool, true, List, Option, None, Some}
 use Rattle.std.proofs.Common.{is_some}
 use Rattle.std.proofs.Math.Logic.{∥∥₁_elim, ∥∥₁_map}
+use Rattle.std.proofs.Props.{props}
 use Rattle.boxcar.specs.Table.{Shelves, Where}
 use Rattle.news_terms.specs.ArticleTexts.{IsArticle}
 use Rattle.news_terms.specs.Places as places
 use Rattle.cyc_block.specs.declared.store.BlockStore.{Ghosts}
-use Rattle.cyc_buffer.specs.Agreement.{Agrees, register_of}
+use Rattle.cyc_buffer.specs.Agreement.{Agrees}
 use Rattle.cyc_buffer.specs.Head.{is_busy}
 use Rattle.cyc_buffer.specs.History.{Article, History}
-use Rattle.cyc_buffer.specs.Progress.{IsTheOpen}
 use Rattle.cyc_buffer.specs.Stopped.{HoldsStopped}
 use Rattle.cyc_buffer.specs.declared.buffer.Buffer.{Buffer}
-use Rattle.cyc_buffer.specs.declared.register.Open.{Open}
-use Rattle.cyc_buffer.specs.declared.register.Progress.{Progress}
-use Rattle.live_store.specs.Started.{AreArticles, AreSaidAgain, ShutWith}
-use Rattle.live_store.specs.Tied.{HasRecord, Tied, article_token, number_at}
+use Rattle.live_store.specs.Started.{AreSaidAgain, ShutWith}
+use Rattle.live_store.specs.Tied.{HasRecord, Tied, article_token}
 use Rattle.live_store.specs.declared.beside.Beside.{Beside}
 use Rattle.live_store.specs.declared.writing.entering.Record.{Record}
 use Rattle.live_store.proofs.OpenLemmas.{no_prop}
-
--- a register with an open write is busy
-busy_by : (write : Open) (p : Option Progress) → IsTheOpen write p → is_some p ≡ true
-busy_by write None owns = absurd owns
-busy_by write (Some p) owns = refl
+use Rattle.live_store.proofs.TiedLemmas.{busy_beside}
 
 -- what is tied is so after it was taken apart
 pub parts_tied : {S : Type 0} {g : Ghosts S} (register : Shelves) (trusted : Bool)
@@ -39,11 +33,18 @@ parts_tied register trusted buffer one beside other numbers others a b c tied =
 
 module _ {S : Type 0} {g : Ghosts S} (register : Shelves) (trusted : Bool) (buffer : Buffer S g)
     (numbers : List (Option (Where Record))) where
+  -- it is busy just where something stands beside it
+  pub busy_is : (b : Option Beside) → ∥ Tied trusted register buffer b numbers ∥₁
+      → is_some b ≡ is_busy buffer
+  busy_is None tied = ∥∥₁_elim tied (hlevel props) (λ t. sym t.open_write)
+  busy_is (Some b) tied = ∥∥₁_elim tied (hlevel props)
+      (λ t. sym (busy_beside register trusted buffer b numbers t))
+
   -- what has an open write beside it isn't stopped
   pub never_shut : (b : Beside) → ∥ Tied trusted register buffer (Some b) numbers ∥₁
       → (is_busy buffer ≡ true → ⊥) → ⊥
   never_shut b tied refused = ∥∥₁_elim tied no_prop
-      (λ t. refused (busy_by b.write (register_of buffer).progress t.open_write.owns))
+      (λ t. refused (busy_beside register trusted buffer b numbers t))
 
   -- what is stopped holds the texts of records
   pub shut_with : (b : Option Beside) (stop : ℕ) (store : S)
@@ -52,11 +53,11 @@ module _ {S : Type 0} {g : Ghosts S} (register : Shelves) (trusted : Bool) (buff
       → HoldsStopped (g.heads store) (g.blocks store) stop h)
       → trusted ≡ true → ∥ ShutWith register stop (g.heads store) (g.blocks store) ∥₁
   shut_with b stop store tied held is_true =
-      ∥∥₁_map (subst (λ x. ∥ Tied x register buffer b numbers ∥₁) is_true tied) (λ t. record {
-        history = t.history;
-        shut = held t.history t.agrees;
+      ∥∥₁_map tied (λ t. let k = t.known is_true in record {
+        history = k.history;
+        shut = held k.history k.agrees;
         numbers = numbers;
-        numbered = t.numbered;
+        numbered = k.numbered;
       })
 
 -- two records of one article have one text

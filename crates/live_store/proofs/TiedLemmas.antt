@@ -1,9 +1,11 @@
 -- What each step keeps of a buffer and of what stands beside it.
-use Rattle.std.proofs.Common.{◌≡◌, ◌∙◌, ℕ, zero, suc, ◌+◌, ◌*◌, ◌<◌, refl, sym, ap, subst, arith}
-use Rattle.std.proofs.Common.{Bool, true, false, true≢false, cond, nat_lt, List, [], ◌∷◌, length}
+use Rattle.std.proofs.Common.{◌≡◌, ◌∙◌, ℕ, zero, suc, ◌+◌, ◌*◌, ◌<◌, ◌⊎◌, inl, inr, refl, sym, ap}
+use Rattle.std.proofs.Common.{subst, arith, Bool, true, false, true≢false, List, [], ◌∷◌, length}
 use Rattle.std.proofs.Common.{take, set, replicate, Option, None, Some, is_some}
-use Rattle.std.specs.Prelude.{is_none}
+use Rattle.std.specs.Prelude.{is_none, IfSome, IsSomeAnd}
+use Rattle.std.proofs.lemmas.Bool.{cases_order}
 use Rattle.std.proofs.lemmas.List.{take_min, length-take, length-set, length-replicate}
+use Rattle.std.proofs.lemmas.List.{get_or-set_same, get_or-set_other}
 use Rattle.boxcar.specs.Table.{Shelves, Where, Shows}
 use Rattle.news_terms.specs.BlockImage.{chunk_size}
 use Rattle.news_terms.specs.Places as places
@@ -14,14 +16,14 @@ use Rattle.cyc_block.specs.declared.store.BlockStore.{Ghosts}
 use Rattle.cyc_buffer.specs.Agreement.{Agrees, Holds, Follows, Owns, Continues, ContinuesIn}
 use Rattle.cyc_buffer.specs.Agreement.{blocks_written, is_broken, token_of, length_of, store_of}
 use Rattle.cyc_buffer.specs.Agreement.{register_of}
-use Rattle.cyc_buffer.specs.Answers.{refusal}
-use Rattle.cyc_buffer.specs.History.{History, Writing, new_history, next_cycle, with_begin}
+use Rattle.cyc_buffer.specs.Head.{is_busy}
+use Rattle.cyc_buffer.specs.History.{History, Writing, new_history, with_begin}
 use Rattle.cyc_buffer.specs.History.{with_block, with_failure, with_finish, without_write, changed}
 use Rattle.cyc_buffer.specs.History.{with_next_block}
 use Rattle.cyc_buffer.specs.Progress.{IsTheOpen, has_failed, written_of}
+use Rattle.cyc_buffer.specs.Marks.{is_marked}
 use Rattle.cyc_buffer.specs.Register.{Keeps, Writes}
-use Rattle.cyc_buffer.specs.declared.answers.BufError.{BufError}
-use Rattle.cyc_buffer.specs.declared.answers.BufError.TheVariants as errors
+use Rattle.cyc_buffer.specs.Remembered.{AddsNoStart, AddsStart, is_start}
 use Rattle.cyc_buffer.specs.declared.buffer.Buffer.{Buffer}
 use Rattle.cyc_buffer.specs.declared.register.Open.{Open}
 use Rattle.cyc_buffer.specs.declared.register.Progress.{Progress}
@@ -30,17 +32,10 @@ use Rattle.cyc_buffer.proofs.Finished.{none_is_none}
 use Rattle.live_store.specs.declared.beside.Beside.{Beside}
 use Rattle.live_store.specs.declared.writing.entering.Record.{Record}
 use Rattle.live_store.specs.Tied.{Tied, IsWhole, IsBeside, IsNamed, IsWrittenAs, HasNumber}
-use Rattle.live_store.specs.Tied.{number_at, text_in}
+use Rattle.live_store.specs.Tied.{IsKnown, IsFirstAt, HaveNumbers, AreShown, number_at, text_in}
 use Rattle.live_store.proofs.FrontLemmas.{first_within}
-use Rattle.live_store.proofs.NumberLemmas.{numbered_begin, numbered_finish, shown_set}
-
-no_refusal : (big worn busy : Bool) (e : BufError)
-    → None ≡ cond big (Some errors.TooBig) (cond worn (Some e) (cond busy (Some errors.Busy) None))
-    → busy ≡ true → ⊥
-no_refusal true worn busy e none is = none_is_none none
-no_refusal false true busy e none is = none_is_none none
-no_refusal false false true e none is = none_is_none none
-no_refusal false false false e none is = true≢false (sym is)
+use Rattle.live_store.proofs.NumberLemmas.{apart, numbered_begin, numbered_finish, shown_set}
+use Rattle.news_terms.specs.Token.{Token}
 
 -- with nothing written a write goes on as any text
 none_continues : (h : History) (text : List ℕ) (p : Option Progress) (o : Option Writing)
@@ -74,6 +69,44 @@ no_number zero block shown e = none_is_none e
 no_number (suc n) zero shown e = none_is_none e
 no_number (suc n) (suc block) shown e = no_number n block shown e
 
+-- a register with an open write is busy
+busy_by : (write : Open) (p : Option Progress) → IsTheOpen write p → is_some p ≡ true
+busy_by write None owns = absurd owns
+busy_by write (Some p) owns = refl
+
+-- no number is the register's
+pub none_shown : (register : Shelves) (n : ℕ) (numbers : List (Option (Where Record)))
+    → numbers ≡ replicate n None → AreShown register numbers
+none_shown register n numbers none block shown is =
+    absurd (no_number n block shown (ap (λ l. number_at l block) (sym none) ∙ is))
+
+-- one number of a list that is set, and the others as they were
+module _ (numbers : List (Option (Where Record))) (i : ℕ) (shown : Where Record)
+    (within : i < length numbers) (first : IsFirstAt i shown) where
+  abbrev after : List (Option (Where Record))
+  after = set numbers i (Some shown)
+
+  number_here : (block : ℕ) → block ≡ i → IsSomeAnd (number_at after block) (IsFirstAt block)
+  number_here block e = subst (λ n. IsSomeAnd (number_at after n) (IsFirstAt n)) (sym e)
+      (subst (λ (o : Option (Where Record)). IsSomeAnd o (IsFirstAt i))
+      (sym (get_or-set_same numbers i (Some shown) None within)) first)
+
+  number_there : (block : ℕ) → (block < i) ⊎ (i < block)
+      → IsSomeAnd (number_at numbers block) (IsFirstAt block)
+      → IsSomeAnd (number_at after block) (IsFirstAt block)
+  number_there block o has = subst (λ (n : Option (Where Record)). IsSomeAnd n (IsFirstAt block))
+      (sym (get_or-set_other numbers i block (Some shown) None (λ e. apart e o))) has
+
+  -- a number stands where one stood, and at the block that it is set at
+  pub number_set : (block : ℕ) (old : Bool) → (block ≡ i) ⊎ (old ≡ true)
+      → (old ≡ true → IsSomeAnd (number_at numbers block) (IsFirstAt block))
+      → IsSomeAnd (number_at after block) (IsFirstAt block)
+  number_set block old (inl e) has = number_here block e
+  number_set block old (inr was) has = elim (cases_order block i) [
+    | inl e ↦ number_here block e
+    | inr o ↦ number_there block o (has was)
+  ]
+
 module _ {S : Type 0} {g : Ghosts S} (register : Shelves) (trusted : Bool) where
   -- a new buffer has no article and no number
   pub tied_new : (number first_cycle : ℕ) (store : S) (buffer : Buffer S g)
@@ -84,28 +117,33 @@ module _ {S : Type 0} {g : Ghosts S} (register : Shelves) (trusted : Bool) where
         blocks = length (g.blocks store);
         first_cycle = first_cycle;
       })))
+      → ((block : ℕ) → is_start buffer block ≡ false) → is_busy buffer ≡ false
+      → length (g.blocks (store_of buffer)) ≡ length (g.blocks store)
       → numbers ≡ replicate (length (g.blocks store)) None
       → Tied trusted register buffer None numbers
-  tied_new number first_cycle store buffer numbers honest agrees none = record {
-    history = new_history (record {
-      number = number;
-      blocks = length (g.blocks store);
-      first_cycle = first_cycle;
-    });
-    agrees = agrees trusted honest;
-    open_write = refl;
-    numbered = λ cycle first article finished live. absurd (none_is_none finished);
-    shown = λ block shown is. absurd (no_number (length (g.blocks store)) block shown
-        (ap (λ l. number_at l block) (sym none) ∙ is));
-    places = ap length none ∙ length-replicate (length (g.blocks store)) None;
+  tied_new number first_cycle store buffer numbers honest agrees unmarked idle count none = record {
+    open_write = idle;
+    started = λ block inside marked. absurd (true≢false (sym marked ∙ unmarked block));
+    shown = none_shown register (length (g.blocks store)) numbers none;
+    places = ap length none ∙ length-replicate (length (g.blocks store)) None ∙ sym count;
+    known = λ is. record {
+      history = new_history (record {
+        number = number;
+        blocks = length (g.blocks store);
+        first_cycle = first_cycle;
+      });
+      agrees = agrees true (λ _. honest is);
+      begun = tt;
+      numbered = λ cycle first article finished live. absurd (none_is_none finished);
+    };
   }
 
   module _ (old new : Buffer S g) (numbers : List (Option (Where Record))) where
     -- where memory is the same, so is what stands beside it
-    beside_same : (h : History) → register_of new ≡ register_of old → (b : Option Beside)
-        → IsBeside register old h b → IsBeside register new h b
-    beside_same h same None is = is
-    beside_same h same (Some b) is = record {
+    beside_same : register_of new ≡ register_of old → (b : Option Beside)
+        → IsBeside register old b → IsBeside register new b
+    beside_same same None is = ap (λ (r : Register). is_some r.progress) same ∙ is
+    beside_same same (Some b) is = record {
       owns = subst (λ (r : Register). IsTheOpen b.write r.progress) (sym same) is.owns;
       shown = is.shown;
       whole = λ e. let w = is.whole e in record {
@@ -115,17 +153,30 @@ module _ {S : Type 0} {g : Ghosts S} (register : Shelves) (trusted : Bool) where
       };
     }
 
+    -- where no article begins anew, each that begins has its number
+    still_started : AddsNoStart old new → HaveNumbers old numbers → HaveNumbers new numbers
+    still_started adds has block inside marked = has block inside (adds block marked)
+
+    same_starts : register_of new ≡ register_of old → AddsNoStart old new
+    same_starts same block marked =
+        sym (ap (λ (r : Register). is_marked r.starts.words.items block) same) ∙ marked
+
     -- after a read
     pub tied_same : (b : Option Beside) → Tied trusted register old b numbers
         → Follows (λ h. h) old new → register_of new ≡ register_of old
+        → length (g.blocks (store_of new)) ≡ length (g.blocks (store_of old))
         → Tied trusted register new b numbers
-    tied_same b t follows same = record {
-      history = t.history;
-      agrees = follows trusted t.history t.agrees;
-      open_write = beside_same t.history same b t.open_write;
-      numbered = t.numbered;
+    tied_same b t follows same count = record {
+      open_write = beside_same same b t.open_write;
+      started = still_started (same_starts same) t.started;
       shown = t.shown;
-      places = t.places;
+      places = t.places ∙ sym count;
+      known = λ is. let k = t.known is in record {
+        history = k.history;
+        agrees = follows true k.history k.agrees;
+        begun = k.begun;
+        numbered = k.numbered;
+      };
     }
 
     -- after a begin that was refused
@@ -137,171 +188,198 @@ module _ {S : Type 0} {g : Ghosts S} (register : Shelves) (trusted : Bool) where
       honest = λ e. subst g.honest (sym store) (a.honest e);
       holds = λ e. subst (λ (r : Register). Holds (g.blocks (store_of new)) r h) (sym same)
           (subst (λ (x : S). Holds (g.blocks x) (register_of old) h) (sym store) (a.holds e));
-    }) same
+    }) same (ap (λ (x : S). length (g.blocks x)) store)
 
     -- after a begin
     pub tied_begin : (b : Option Beside) (class octets : ℕ) (fresh : Bool) (write : Open)
         → Tied trusted register old b numbers → Follows (with_begin class octets fresh) old new
         → Owns new write → blocks_written new ≡ 0 → is_broken new ≡ false
+        → AddsNoStart old new → store_of new ≡ store_of old
         → Tied trusted register new
         (Some (record { write = write; shown = None; written = 0; broken = false })) numbers
-    tied_begin b class octets fresh write t follows owns none whole = record {
-      history = with_begin class octets fresh t.history;
-      agrees = follows trusted t.history t.agrees;
+    tied_begin b class octets fresh write t follows owns none whole adds store = record {
       open_write = record {
         owns = owns;
         shown = tt;
         whole = λ _. record { unbroken = whole; written = sym none; number = refl };
       };
-      numbered = numbered_begin trusted register old.register t.history class octets fresh numbers
-          t.agrees.keeps t.numbered;
+      started = still_started adds t.started;
       shown = t.shown;
-      places = t.places;
+      places = t.places ∙ sym (ap (λ (x : S). length (g.blocks x)) store);
+      known = λ is. let k = t.known is in record {
+        history = with_begin class octets fresh k.history;
+        agrees = follows true k.history k.agrees;
+        begun = λ _. tt;
+        numbered = numbered_begin true register old.register k.history class octets fresh numbers
+            k.agrees.keeps k.numbered;
+      };
     }
 
     -- after one more block
     pub tied_next : (b : Beside) (shown : Where Record) (written : ℕ)
         → (t : Tied trusted register old (Some b) numbers)
-        → IsWrittenAs register t.history b.write shown
+        → IsWrittenAs register b.write shown
+        → ((k : IsKnown register old (Some b) numbers) → Continues (text_in shown) k.history)
         → ((trusted : Bool) (h : History) → Continues (text_in shown) h → Agrees trusted old h
         → Agrees trusted new (with_block (text_in shown) h))
         → Owns new b.write → is_broken new ≡ false → written ≡ blocks_written new
+        → AddsNoStart old new
+        → length (g.blocks (store_of new)) ≡ length (g.blocks (store_of old))
         → Tied trusted register new (Some (beside_of b.write shown written false)) numbers
-    tied_next b shown written t number follows owns whole counted = record {
-      history = with_block (text_in shown) t.history;
-      agrees = follows trusted t.history number.begun t.agrees;
+    tied_next b shown written t number continues follows owns whole counted adds count = record {
       open_write = record {
         owns = owns;
         shown = number.shows;
-        whole = λ _. record {
-          unbroken = whole;
-          written = counted;
-          number = record {
-            shows = number.shows;
-            named = number.named;
-            octets = number.octets;
-            begun = continues_next (text_in shown) t.history.writing;
-          };
-        };
+        whole = λ _. record { unbroken = whole; written = counted; number = number };
       };
-      numbered = t.numbered;
+      started = still_started adds t.started;
       shown = t.shown;
-      places = t.places;
+      places = t.places ∙ sym count;
+      known = λ is. let k = t.known is in record {
+        history = with_block (text_in shown) k.history;
+        agrees = follows true k.history (continues k) k.agrees;
+        begun = λ _. continues_next (text_in shown) k.history.writing;
+        numbered = k.numbered;
+      };
     }
 
     -- after the device failed
     pub tied_failed : (b : Beside) (shown : Where Record) → Shows register shown
         → Tied trusted register old (Some b) numbers
-        → Follows with_failure old new → Owns new b.write
+        → Follows with_failure old new → Owns new b.write → AddsNoStart old new
+        → length (g.blocks (store_of new)) ≡ length (g.blocks (store_of old))
         → Tied trusted register new (Some (beside_of b.write shown b.written true)) numbers
-    tied_failed b shown shows t follows owns = record {
-      history = with_failure t.history;
-      agrees = follows trusted t.history t.agrees;
+    tied_failed b shown shows t follows owns adds count = record {
       open_write = record { owns = owns; shown = shows; whole = λ e. absurd (true≢false e) };
-      numbered = t.numbered;
+      started = still_started adds t.started;
       shown = t.shown;
-      places = t.places;
+      places = t.places ∙ sym count;
+      known = λ is. let k = t.known is in record {
+        history = with_failure k.history;
+        agrees = follows true k.history k.agrees;
+        begun = λ e. absurd (true≢false e);
+        numbered = k.numbered;
+      };
     }
 
     -- after the write was abandoned
     pub tied_abandon : (b : Beside) → Tied trusted register old (Some b) numbers
-        → Follows without_write old new → Tied trusted register new None numbers
-    tied_abandon b t follows = record {
-      history = without_write t.history;
-      agrees = follows trusted t.history t.agrees;
-      open_write = refl;
-      numbered = t.numbered;
+        → Follows without_write old new → is_busy new ≡ false → AddsNoStart old new
+        → store_of new ≡ store_of old → Tied trusted register new None numbers
+    tied_abandon b t follows idle adds store = record {
+      open_write = idle;
+      started = still_started adds t.started;
       shown = t.shown;
-      places = t.places;
+      places = t.places ∙ sym (ap (λ (x : S). length (g.blocks x)) store);
+      known = λ is. let k = t.known is in record {
+        history = without_write k.history;
+        agrees = follows true k.history k.agrees;
+        begun = tt;
+        numbered = k.numbered;
+      };
     }
 
   -- the open write's first block has a place for a number
   pub place_of_write : (buffer : Buffer S g) (b : Beside) (numbers : List (Option (Where Record)))
       → Tied trusted register buffer (Some b) numbers → (token_of b.write).first < length numbers
-  place_of_write buffer b numbers t =
-      by_progress t.history t.agrees.keeps t.places buffer.register.progress refl t.open_write.owns
+  place_of_write buffer b numbers t = by_progress buffer.register.progress refl t.open_write.owns
     where
-      by_progress : (h : History) → Keeps buffer.register h → length numbers ≡ h.buffer.blocks
-          → (o : Option Progress)
-          → buffer.register.progress ≡ o → IsTheOpen b.write o
+      by_progress : (o : Option Progress) → buffer.register.progress ≡ o → IsTheOpen b.write o
           → (token_of b.write).first < length numbers
-      by_progress h keeps room None is owns = absurd owns
-      by_progress h keeps room (Some p) is owns = omega (
+      by_progress None is owns = absurd owns
+      by_progress (Some p) is owns = omega (
         arith,
         first_within buffer.register p b.write is owns,
-        room,
-        ap (λ (k : places.Buffer). k.blocks) keeps.buffer,
+        t.places,
+        buffer.counted,
       )
 
   -- after a finish
   pub tied_finish : (old new : Buffer S g) (b : Beside) (numbers : List (Option (Where Record)))
       (shown : Where Record)
       → (t : Tied trusted register old (Some b) numbers)
-      → IsWrittenAs register t.history b.write shown
+      → IsWrittenAs register b.write shown
+      → ((k : IsKnown register old (Some b) numbers) → Continues (text_in shown) k.history)
       → blocks_written old ≡ size_of (length_of b.write) → Follows with_finish old new
+      → is_busy new ≡ false → AddsStart (token_of b.write).first old new
+      → store_of new ≡ store_of old
       → Tied trusted register new None (set numbers (token_of b.write).first (Some shown))
-  tied_finish old new b numbers shown t number all follows = record {
-    history = with_finish t.history;
-    agrees = follows trusted t.history t.agrees;
-    open_write = refl;
-    numbered = numbered_finish trusted register t.history b.write shown numbers number t.numbered
-        t.places old.register t.agrees.keeps t.open_write.owns all;
-    shown = shown_set register numbers (token_of b.write).first shown
-        (place_of_write old b numbers t) number.shows t.shown;
-    places = length-set numbers (token_of b.write).first (Some shown) ∙ t.places;
-  }
-
-  -- a begin that went well found no open write
-  pub none_beside : (old : Buffer S g) (b : Beside) (numbers : List (Option (Where Record)))
-      (octets : ℕ) (fresh : Bool) → Tied trusted register old (Some b) numbers
-      → ((h : History) → Agrees trusted old h → None ≡ refusal h octets fresh) → ⊥
-  none_beside old b numbers octets fresh t refused =
-      is_writing t.history old.register.progress t.history.writing refl t.agrees.keeps.writing
-      t.open_write.owns (refused t.history t.agrees)
-    where
-      is_writing : (h : History) (p : Option Progress) (o : Option Writing) → h.writing ≡ o
-          → Writes h p o
-          → IsTheOpen b.write p → None ≡ refusal h octets fresh → ⊥
-      is_writing h None o is writes owns none = owns
-      is_writing h (Some p) None is writes owns none = writes
-      is_writing h (Some p) (Some w) is writes owns none =
-          no_refusal (nat_lt h.buffer.blocks (size_of octets))
-          (nat_lt places.last_cycle (next_cycle h fresh (size_of octets)))
-          (is_some h.writing) _ none (ap is_some is)
-
-  -- the record that an open write is named by is the one that is written
-  pub named : (buffer : Buffer S g) (h : History) (b : Beside) (shown : Where Record)
-      → Keeps buffer.register h → IsWhole register buffer h b → IsNamed b.write b.shown shown
-      → Shows register shown → length (text_in shown) ≡ length_of b.write
-      → IsWrittenAs register h b.write shown
-  named buffer h b shown keeps whole same shows long = named_by b.shown whole.number same
-    where
-      named_by : (o : Option (Where Record)) → HasNumber register h b o → IsNamed b.write o shown
-          → IsWrittenAs register h b.write shown
-      named_by None none same = record {
-        shows = shows;
-        named = ap token_view (sym same);
-        octets = long ∙ sym (ap (λ (t : codes.Token). t.length) same);
-        begun = none_continues h (text_in shown) buffer.register.progress h.writing keeps.writing
-            (sym whole.written ∙ none);
+  tied_finish old new b numbers shown t number continues all follows idle adds store =
+      let within = place_of_write old b numbers t in
+      let first = (token_of b.write).first in
+      let named : IsFirstAt first shown = sym (ap (λ (x : Token). x.first) number.named) in
+      record {
+        open_write = idle;
+        started = λ block inside marked. number_set numbers first shown within named block
+            (is_start old block) (adds block marked)
+            (λ was. t.started block
+            (omega (arith, inside, length-set numbers first (Some shown))) was);
+        shown = shown_set register numbers first shown within number.shows t.shown;
+        places = length-set numbers first (Some shown) ∙ t.places
+            ∙ sym (ap (λ (x : S). length (g.blocks x)) store);
+        known = λ is. let k = t.known is in record {
+          history = with_finish k.history;
+          agrees = follows true k.history k.agrees;
+          begun = tt;
+          numbered = numbered_finish true register k.history b.write shown numbers number
+              (continues k) k.numbered
+              (t.places ∙ sym old.counted
+              ∙ sym (ap (λ (x : places.Buffer). x.blocks) k.agrees.keeps.buffer))
+              old.register k.agrees.keeps t.open_write.owns all;
+        };
       }
-      named_by (Some own) number same = record {
-        shows = shows;
-        named = number.named ∙ ap (λ (r : Record). token_view r.token.value) same.1;
-        octets = subst (λ (r : Record). length r.text.value.items ≡ r.token.value.length) same.1
-            number.octets;
-        begun = subst (λ (r : Record). Continues r.text.value.items h) same.1 number.begun;
-      }
+
+  -- what has an open write beside it is busy
+  pub busy_beside : (buffer : Buffer S g) (b : Beside) (numbers : List (Option (Where Record)))
+      → Tied trusted register buffer (Some b) numbers → is_busy buffer ≡ true
+  busy_beside buffer b numbers t = busy_by b.write buffer.register.progress t.open_write.owns
+
+-- the record that an open write is named by is the one that is written
+pub named : {S : Type 0} {g : Ghosts S} (register : Shelves) (buffer : Buffer S g) (b : Beside)
+    (shown : Where Record)
+    → IsWhole register buffer b → IsNamed b.write b.shown shown
+    → Shows register shown → length (text_in shown) ≡ length_of b.write
+    → IsWrittenAs register b.write shown
+named register buffer b shown whole same shows long = named_by b.shown whole.number same
+  where
+    named_by : (o : Option (Where Record)) → HasNumber register b o → IsNamed b.write o shown
+        → IsWrittenAs register b.write shown
+    named_by None none same = record {
+      shows = shows;
+      named = ap token_view (sym same);
+      octets = long ∙ sym (ap (λ (t : codes.Token). t.length) same);
+    }
+    named_by (Some own) number same = record {
+      shows = shows;
+      named = number.named ∙ ap (λ (r : Record). token_view r.token.value) same.1;
+      octets = subst (λ (r : Record). length r.text.value.items ≡ r.token.value.length) same.1
+          number.octets;
+    }
 
 -- the record that an open write has the number of is the one that is written
-pub named_again : (register : Shelves) (h : History) (b : Beside) (shown : Where Record)
+pub named_again : (register : Shelves) (b : Beside) (shown : Where Record)
     (o : Option (Where Record)) → is_none o ≡ false
-    → HasNumber register h b o → IsNamed b.write o shown → Shows register shown
-    → IsWrittenAs register h b.write shown
-named_again register h b shown None some number same shows = absurd (true≢false some)
-named_again register h b shown (Some own) some number same shows = record {
+    → HasNumber register b o → IsNamed b.write o shown → Shows register shown
+    → IsWrittenAs register b.write shown
+named_again register b shown None some number same shows = absurd (true≢false some)
+named_again register b shown (Some own) some number same shows = record {
   shows = shows;
   named = number.named ∙ ap (λ (r : Record). token_view r.token.value) same.1;
   octets = subst (λ (r : Record). length r.text.value.items ≡ r.token.value.length) same.1 number.octets;
-  begun = subst (λ (r : Record). Continues r.text.value.items h) same.1 number.begun;
 }
+
+-- what is written is what the text of the record that an open write is named by begins with
+pub continues_as : {S : Type 0} {g : Ghosts S} (register : Shelves) (buffer : Buffer S g)
+    (b : Beside) (shown : Where Record) (numbers : List (Option (Where Record)))
+    → b.broken ≡ false → IsWhole register buffer b → IsNamed b.write b.shown shown
+    → (k : IsKnown register buffer (Some b) numbers) → Continues (text_in shown) k.history
+continues_as register buffer b shown numbers unbroken whole same k =
+    by_number b.shown whole.number same (k.begun unbroken)
+  where
+    by_number : (o : Option (Where Record)) → HasNumber register b o → IsNamed b.write o shown
+        → IfSome o (λ w. Continues (text_in w) k.history) → Continues (text_in shown) k.history
+    by_number None none same begun = none_continues k.history (text_in shown)
+        buffer.register.progress k.history.writing k.agrees.keeps.writing
+        (sym whole.written ∙ none)
+    by_number (Some own) number same begun =
+        subst (λ (r : Record). Continues r.text.value.items k.history) same.1 begun

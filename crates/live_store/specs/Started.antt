@@ -1,14 +1,15 @@
 -- What a stop and a start have to do with the register (docs/PROTOCOL.md, Clean stop and start).
 use Rattle.std.specs.Prelude.{◌≡◌, ℕ, ◌<◌, Bool, true, List, length, slice_index_or, Option, None}
-use Rattle.std.specs.Prelude.{Some}
+use Rattle.std.specs.Prelude.{◌⊎◌, Some, IsSomeAnd}
 use Rattle.article_parse.specs.declared.faults.ArtError.{ArtError}
 use Rattle.article_parse.specs.declared.faults.ArtError.TheVariants as faults
 use Rattle.boxcar.specs.Table.{Shelves, Where, Shows}
 use Rattle.cyc_block.specs.declared.store.BlockStore.{Ghosts}
 use Rattle.cyc_buffer.specs.Agreement.{Agrees, Follows, register_of, store_of}
-use Rattle.cyc_buffer.specs.Head.{has_open_head}
+use Rattle.cyc_buffer.specs.Head.{has_open_head, stop_of}
 use Rattle.cyc_buffer.specs.History.{History, Article, finished_at, front_of}
-use Rattle.cyc_buffer.specs.Starting.{ListsLive}
+use Rattle.cyc_buffer.specs.Reads.{StaysHeld}
+use Rattle.cyc_buffer.specs.Starting.{IsReason, ListsLive, Starts}
 use Rattle.cyc_buffer.specs.Stopped.{HoldsStopped, IsLiveToken}
 use Rattle.cyc_buffer.specs.declared.answers.StartError.{StartError}
 use Rattle.cyc_buffer.specs.declared.answers.StartError.TheVariants as errors
@@ -18,7 +19,7 @@ use Rattle.cyc_token.specs.declared.Token as codes
 use Rattle.live_store.specs.declared.record.Archive as archives
 use Rattle.live_store.specs.declared.unopened.UnopenedNumbered.{UnopenedNumbered}
 use Rattle.live_store.specs.declared.writing.entering.Record.{Record}
-use Rattle.live_store.specs.Tied.{AreNumbered, HasRecord, number_at, text_in, token_in}
+use Rattle.live_store.specs.Tied.{AreNumbered, HasRecord, IsFirstAt, number_at, text_in, token_in}
 use Rattle.news_terms.specs.ArticleTexts.{IsArticle}
 use Rattle.news_terms.specs.Places as places
 use Rattle.news_terms.specs.Places.{IsLive, on_line}
@@ -39,13 +40,12 @@ code_token buffer cycle first article = record {
   length = length article.text;
 }
 
--- A buffer that was started agrees with a history in which no write is open, and these are the
--- tokens of its live finished articles.
-pub record IsStarted {S : Type 0} {g : Ghosts S} (trusted : Bool) (buffer : Buffer S g)
+-- A buffer that was started agrees with a history, and these are the tokens of its live finished
+-- articles.
+pub record IsStarted {S : Type 0} {g : Ghosts S} (buffer : Buffer S g)
     (tokens : List codes.Token) : Type 0 where
   pub history : History
-  pub agrees : Agrees trusted buffer history
-  pub closed : history.writing ≡ None
+  pub agrees : Agrees true buffer history
   pub lists : ListsLive tokens history
 
 -- the octets are the text of the live finished article of a token
@@ -62,14 +62,21 @@ AreNumberedTo trusted register h tokens count numbers = (cycle first : ℕ) (art
     ≡ code_token h.buffer cycle first article
     → HasRecord trusted register h.buffer cycle first article (number_at numbers first)
 
+-- at the first block of the article of each of the first so many tokens there stands a number, of a
+-- record whose article begins there
+abbrev pub HaveFirsts : List codes.Token → (count : ℕ) → List (Option (Where Record)) → Type 0
+HaveFirsts tokens count numbers = (j : ℕ) (d : codes.Token) → j < count → j < length tokens
+    → IsSomeAnd (number_at numbers (slice_index_or tokens j d).first)
+    (IsFirstAt (slice_index_or tokens j d).first)
+
 -- A buffer was read and nothing else: it agrees with the same histories, and nothing is another in
--- memory. An honest device stays honest, and any keeps its number of blocks.
+-- memory or on its device.
 pub record IsMerelyRead {S : Type 0} {g : Ghosts S} (old new : Buffer S g) : Type 0 where
   pub same : Follows (λ h. h) old new
   pub register : register_of new ≡ register_of old
   pub opened : has_open_head new ≡ has_open_head old
-  pub honest : g.honest (store_of old) → g.honest (store_of new)
-  pub count : length (g.blocks (store_of new)) ≡ length (g.blocks (store_of old))
+  pub stop : stop_of new ≡ stop_of old
+  pub held : StaysHeld g (store_of old) (store_of new)
 
 -- why an article isn't entered: memory was refused, a read of the device failed, or what it holds
 -- under the token is damaged, and then this isn't so of it
@@ -100,6 +107,24 @@ IsToldAs (faults.Twice name) told = told ≡ errors.Damaged
 IsToldAs (faults.EmptyField name) told = told ≡ errors.Damaged
 IsToldAs faults.BadId told = told ≡ errors.Damaged
 IsToldAs faults.BadGroups told = told ≡ errors.Damaged
+
+-- nothing is wrong with the buffer that was stopped under this number
+pub record IsStartable (heads blocks : List (List ℕ)) (buffer : places.Buffer) (stop : ℕ)
+    : Type 0 where
+  pub tokens : List codes.Token
+  pub starts : Starts heads blocks buffer stop tokens
+
+-- nothing is wrong with the buffer, and it is said to be damaged: a text of it is no article
+pub record IsTextFault (heads blocks : List (List ℕ)) (buffer : places.Buffer) (e : StartError)
+    : Type 0 where
+  pub damaged : e ≡ errors.Damaged
+  pub stop : ℕ
+  pub startable : IsStartable heads blocks buffer stop
+
+-- why a start is refused: for what is wrong with the buffer, from without, or for a text
+abbrev pub IsRefusedFor : (heads blocks : List (List ℕ)) → places.Buffer → StartError → Type 0
+IsRefusedFor heads blocks buffer e =
+    IsReason heads blocks buffer e ⊎ IsTextFault heads blocks buffer e
 
 -- the text of each live finished article is an article
 abbrev pub AreArticles : History → Type 0

@@ -1,11 +1,14 @@
 -- The numbers of the register that stand beside a buffer: what the type of a buffer under a lock
 -- says (docs/PROTOCOL.md, Store).
-use Rattle.std.specs.Prelude.{◌≡◌, ℕ, Bool, true, false, List, length, slice_index_or, Option}
-use Rattle.std.specs.Prelude.{None, Some, IfSome}
+use Rattle.std.specs.Prelude.{◌≡◌, ◌<◌, ℕ, Bool, true, false, List, length, slice_index_or, Option}
+use Rattle.std.specs.Prelude.{None, Some, IfSome, IsSomeAnd}
 use Rattle.boxcar.specs.Table.{Shelves, Where, Shows}
 use Rattle.cyc_block.specs.declared.store.BlockStore.{Ghosts}
 use Rattle.cyc_buffer.specs.Agreement.{Agrees, Owns, Continues, blocks_written, is_broken, token_of}
+use Rattle.cyc_buffer.specs.Agreement.{store_of}
+use Rattle.cyc_buffer.specs.Head.{is_busy}
 use Rattle.cyc_buffer.specs.History.{History, Article, finished_at, front_of}
+use Rattle.cyc_buffer.specs.Remembered.{is_start}
 use Rattle.cyc_buffer.specs.declared.buffer.Buffer.{Buffer}
 use Rattle.cyc_buffer.specs.declared.register.Open.{Open}
 use Rattle.cyc_token.specs.Token.{token_view}
@@ -78,27 +81,24 @@ abbrev pub AreShown : Shelves → List (Option (Where Record)) → Type 0
 AreShown register numbers = (block : ℕ) (shown : Where Record)
     → number_at numbers block ≡ Some shown → Shows register shown
 
--- the record of this number is that of the open write: it has its token and as many octets, and
--- its text begins with what is written
-pub record IsWrittenAs (register : Shelves) (h : History) (write : Open) (shown : Where Record)
-    : Type 0 where
+-- the record of this number is that of the open write: it has its token and as many octets
+pub record IsWrittenAs (register : Shelves) (write : Open) (shown : Where Record) : Type 0 where
   pub shows : Shows register shown
   pub named : token_view (token_of write) ≡ token_in shown
   pub octets : length (text_in shown) ≡ (token_in shown).length
-  pub begun : Continues (text_in shown) h
 
 -- the number beside an open write is its record's; before one stands there nothing is written
-abbrev pub HasNumber : Shelves → History → Beside → Option (Where Record) → Type 0
-HasNumber register h b None = b.written ≡ 0
-HasNumber register h b (Some shown) = IsWrittenAs register h b.write shown
+abbrev pub HasNumber : Shelves → Beside → Option (Where Record) → Type 0
+HasNumber register b None = b.written ≡ 0
+HasNumber register b (Some shown) = IsWrittenAs register b.write shown
 
 -- no write of a block of it failed, and what stands beside it says how far it has come
 pub record IsWhole {S : Type 0} {g : Ghosts S} (register : Shelves) (buffer : Buffer S g)
-    (h : History) (b : Beside)
+    (b : Beside)
     : Type 0 where
   pub unbroken : is_broken buffer ≡ false
   pub written : b.written ≡ blocks_written buffer
-  pub number : HasNumber register h b b.shown
+  pub number : HasNumber register b b.shown
 
 -- the record of this number is an open write's: it has the write's number, or, where that has none
 -- yet, the write's token
@@ -108,27 +108,53 @@ IsNamed write (Some own) shown = IsSameRecord own shown
 
 -- what stands beside a buffer is its open write
 pub record IsOpen {S : Type 0} {g : Ghosts S} (register : Shelves) (buffer : Buffer S g)
-    (h : History) (b : Beside)
+    (b : Beside)
     : Type 0 where
   pub owns : Owns buffer b.write
   pub shown : IfSome b.shown (λ shown. Shows register shown)
-  pub whole : b.broken ≡ false → IsWhole register buffer h b
+  pub whole : b.broken ≡ false → IsWhole register buffer b
 
 -- what stands beside a buffer is its open write, and where nothing stands there none is open
-abbrev pub IsBeside : {S : Type 0} {g : Ghosts S} → Shelves → Buffer S g → History → Option Beside
-    → Type 0
-IsBeside register buffer h None = h.writing ≡ None
-IsBeside register buffer h (Some b) = IsOpen register buffer h b
+abbrev pub IsBeside : {S : Type 0} {g : Ghosts S} → Shelves → Buffer S g → Option Beside → Type 0
+IsBeside register buffer None = is_busy buffer ≡ false
+IsBeside register buffer (Some b) = IsOpen register buffer b
 
--- The buffer agrees with a history, in which the open write is the one beside it, or none is open
--- where nothing stands there; and each live finished article has its record's number at its first
--- block.
+-- the article of the record of this number begins at the block
+abbrev pub IsFirstAt : (block : ℕ) → Where Record → Type 0
+IsFirstAt block shown = (named_in shown).first ≡ block
+
+-- at each block where a finished article begins there stands a number, of a record whose article
+-- begins there
+abbrev pub HaveNumbers : {S : Type 0} {g : Ghosts S} → Buffer S g → List (Option (Where Record))
+    → Type 0
+HaveNumbers buffer numbers = (block : ℕ) → block < length numbers → is_start buffer block ≡ true
+    → IsSomeAnd (number_at numbers block) (IsFirstAt block)
+
+-- what is written of the history's open write is what the text begins with of the record whose
+-- number stands beside it, where no write of a block failed
+abbrev pub IsBegunBeside : History → Option Beside → Type 0
+IsBegunBeside h None = Unit {0}
+IsBegunBeside h (Some b) = b.broken ≡ false → IfSome b.shown (λ shown. Continues (text_in shown) h)
+
+-- The buffer, whose store is honest, agrees with a history, in which each live finished article has
+-- its record's number at its first block.
+pub record IsKnown {S : Type 0} {g : Ghosts S} (register : Shelves) (buffer : Buffer S g)
+    (beside : Option Beside) (numbers : List (Option (Where Record)))
+    : Type 0 where
+  pub history : History
+  pub agrees : Agrees true buffer history
+  pub begun : IsBegunBeside history beside
+  pub numbered : AreNumbered true register history numbers
+
+-- What stands beside the buffer is its open write, and at its blocks there stand the numbers of the
+-- articles that begin there, whatever its store holds. Where the store is trusted a history is known
+-- that the buffer agrees with; where it isn't there may be none, as after a start of what nobody
+-- stopped.
 pub record Tied {S : Type 0} {g : Ghosts S} (trusted : Bool) (register : Shelves)
     (buffer : Buffer S g) (beside : Option Beside) (numbers : List (Option (Where Record)))
     : Type 0 where
-  pub history : History
-  pub agrees : Agrees trusted buffer history
-  pub open_write : IsBeside register buffer history beside
-  pub numbered : AreNumbered trusted register history numbers
+  pub open_write : IsBeside register buffer beside
+  pub started : HaveNumbers buffer numbers
   pub shown : AreShown register numbers
-  pub places : length numbers ≡ history.buffer.blocks
+  pub places : length numbers ≡ length (g.blocks (store_of buffer))
+  pub known : trusted ≡ true → IsKnown register buffer beside numbers

@@ -1,13 +1,13 @@
 //! How a buffer is started from what it left on its device, with the register's record for each
 //! live article.
-ghost use Rattle.std.specs.Prelude.{◌≡◌, ◌<◌, Bool, true, All, length, IfErr, IfOk, OnOk};
+ghost use Rattle.std.specs.Prelude.{◌≡◌, Bool, true, length, IfErr, IfOk, OnOk};
 ghost use Rattle.cyc_buffer.specs.Agreement.{Agrees, store_of};
 ghost use Rattle.cyc_buffer.specs.Head.{inside};
 ghost use Rattle.cyc_buffer.specs.History.{History};
 ghost use Rattle.cyc_buffer.specs.Reads.{IsBlamed};
+ghost use Rattle.cyc_buffer.specs.Remembered.{AreWithin};
 ghost use Rattle.cyc_buffer.specs.Starting.{ListsLive};
-ghost use Rattle.cyc_token.specs.declared.Token.{Token as CodeToken};
-ghost use Rattle.live_store.specs.Started.{AreArticles, IsMerelyRead, IsUnentered};
+ghost use Rattle.live_store.specs.Started.{AreArticles, HaveFirsts, IsMerelyRead, IsUnentered};
 ghost use Rattle.live_store.specs.Tied.{AreNumbered, AreShown};
 
 use crate::figures::no_numbers;
@@ -27,7 +27,8 @@ impl<S: BlockStore, J: Archive> UnopenedNumbered<S, J> {
     ghost use Rattle.news_terms.specs.HeadBlocks.{Open, head_image as image_of};
     ghost use Rattle.cyc_block.specs.Store.{block_at, ChangesOnly};
     ghost use Rattle.cyc_buffer.specs.Agreement.{Agrees, Follows, store_of, register_of};
-    ghost use Rattle.cyc_buffer.specs.Head.{has_open_head, inside, stop_of};
+    ghost use Rattle.cyc_buffer.specs.Head.{has_open_head, inside, stop_of, LeavesBlocks};
+    ghost use Rattle.cyc_buffer.specs.Head.{LeavesBuffer};
     ghost use Rattle.cyc_buffer.specs.History.{History};
     ghost use Rattle.cyc_buffer.specs.Stopped.{numbers_of as head_of};
     ghost use Rattle.live_store.specs.Started.{unopened_in, numbers_on};
@@ -74,7 +75,11 @@ impl<S: BlockStore, J: Archive> UnopenedNumbered<S, J> {
             < S.failures (store_of (inside (unopened_in back)))) }
         ensures refused { IfErr result (λ back.
             Follows (λ h. h) (inside (unopened_in self)) (inside (unopened_in back))) }
+        ensures rest { IfErr result (λ back.
+            LeavesBuffer (inside (unopened_in self)) (inside (unopened_in back))) }
         ensures kept { IfErr result (λ back. numbers_on back ≡ numbers_on self) }
+        ensures blocks { IfOk result (λ numbered. LeavesBlocks ⟦<S as BlockStore>⟧
+            (store_of (inside (unopened_in self))) (store_of (buffer_of numbered))) }
         ensures count { IfOk result (λ numbered. length (S.blocks (store_of (buffer_of numbered)))
             ≡ length (S.blocks (store_of (inside (unopened_in self))))) }
     {
@@ -102,13 +107,15 @@ impl<S: BlockStore, J: Archive> UnopenedNumbered<S, J> {
 impl<S: BlockStore, J: Archive> NumberedBuffer<S, J> {
     ghost use Rattle.std.specs.Prelude.{◌≡◌, ℕ, Bool, true, false, length, IfErr, IfOk};
     ghost use Rattle.cyc_buffer.specs.Agreement.{Agrees, store_of};
-    ghost use Rattle.cyc_buffer.specs.Head.{has_open_head, inside};
+    ghost use Rattle.cyc_buffer.specs.Head.{has_open_head, inside, is_busy, stop_of};
     ghost use Rattle.cyc_buffer.specs.History.{History};
-    ghost use Rattle.cyc_buffer.specs.Reads.{IsBlamed};
+    ghost use Rattle.cyc_buffer.specs.Reads.{IsBlamed, StaysHeld};
+    ghost use Rattle.cyc_buffer.specs.Remembered.{AreWithin, ListsStarts, is_start};
     ghost use Rattle.cyc_buffer.specs.Starting.{ListsLive};
     ghost use Rattle.cyc_buffer.specs.Stopped.{HoldsStopped};
     ghost use Rattle.live_store.specs.Started.{AreArticles, IsMerelyRead, IsStarted, IsUnentered};
-    ghost use Rattle.live_store.specs.Started.{WasStopped, numbers_on, unopened_in};
+    ghost use Rattle.live_store.specs.Started.{IsRefusedFor, IsStartable, WasStopped, numbers_on};
+    ghost use Rattle.live_store.specs.Started.{unopened_in};
     ghost use Rattle.live_store.specs.Tied.{AreNumbered};
 
     /// A buffer that was stopped, with the register's record for each live article: its text is
@@ -124,44 +131,62 @@ impl<S: BlockStore, J: Archive> NumberedBuffer<S, J> {
         first_cycle: u32,
     ) -> Result<(UnopenedNumbered<S, J>, u64), Refused<S>>
         requires register { register.now ≡ J.register }
-        requires honest { S.honest store }
-        requires stopped { ∥ WasStopped (S.heads store) (S.blocks store) (record {
+        // What is trusted is honest, and was stopped.
+        requires honest { J.trusted ≡ true → S.honest store }
+        requires stopped { J.trusted ≡ true → ∥ WasStopped (S.heads store) (S.blocks store) (record {
           number = number;
           blocks = length (S.blocks store);
           first_cycle = first_cycle;
         }) ∥₁ }
-        // It is the buffer that was stopped, with each history that the store holds: each live
-        // article has its record's number at its first block.
-        ensures agrees { IfOk result (λ made. (stop : ℕ) (h : History)
+        // A store that holds a buffer as stopped gives it back, with each history that it holds:
+        // each live article has its record's number at its first block.
+        ensures agrees { S.honest store → IfOk result (λ made. (stop : ℕ) (h : History)
             → HoldsStopped (S.heads store) (S.blocks store) stop h
             → h.buffer ≡ record {
               number = number;
               blocks = length (S.blocks store);
               first_cycle = first_cycle;
             } → Agrees true (inside (unopened_in made.0)) h) }
-        ensures stop { IfOk result (λ made. (stop : ℕ) (h : History)
+        ensures stop { S.honest store → IfOk result (λ made. (stop : ℕ) (h : History)
             → HoldsStopped (S.heads store) (S.blocks store) stop h → made.1 ≡ stop) }
-        ensures numbered { IfOk result (λ made. (stop : ℕ) (h : History)
+        ensures numbered { S.honest store → IfOk result (λ made. (stop : ℕ) (h : History)
             → HoldsStopped (S.heads store) (S.blocks store) stop h
             → h.buffer ≡ record {
               number = number;
               blocks = length (S.blocks store);
               first_cycle = first_cycle;
             } → AreNumbered true J.register h (numbers_on made.0)) }
-        ensures unopened { IfOk result (λ made.
-            has_open_head (inside (unopened_in made.0)) ≡ false) }
         // Where each live text is an article, it is refused for memory or its device alone.
-        ensures refused { (stop : ℕ) (h : History)
+        ensures refused { S.honest store → (stop : ℕ) (h : History)
             → HoldsStopped (S.heads store) (S.blocks store) stop h
             → h.buffer ≡ record {
               number = number;
               blocks = length (S.blocks store);
               first_cycle = first_cycle;
             } → IfErr result (λ refused. IsUnentered (AreArticles h) refused.error) }
-        ensures honest { IfErr result (λ refused. S.honest refused.store) }
-        ensures count { IfErr result (λ refused.
-            length (S.blocks refused.store) ≡ length (S.blocks store)) }
-        // Device says that the device failed, and no other answer does.
+        // Whatever the store holds, it is started only where nothing is wrong with it, and refused
+        // for the first reason.
+        ensures started { S.honest store → IfOk result (λ made.
+            IsStartable (S.heads store) (S.blocks store) (record {
+              number = number;
+              blocks = length (S.blocks store);
+              first_cycle = first_cycle;
+            }) made.1) }
+        ensures reason { S.honest store → IfErr result (λ refused.
+            IsRefusedFor (S.heads store) (S.blocks store) (record {
+              number = number;
+              blocks = length (S.blocks store);
+              first_cycle = first_cycle;
+            }) refused.error) }
+        // The buffer is idle, its head block isn't open, and it remembers the stop.
+        ensures unopened { IfOk result (λ made.
+            has_open_head (inside (unopened_in made.0)) ≡ false) }
+        ensures idle { IfOk result (λ made. is_busy (inside (unopened_in made.0)) ≡ false) }
+        ensures under { IfOk result (λ made. stop_of (inside (unopened_in made.0)) ≡ made.1) }
+        // Nothing is written, and Device says that the device failed, and no other answer does.
+        ensures same { IfOk result (λ made.
+            StaysHeld S.BlockStore store (store_of (inside (unopened_in made.0)))) }
+        ensures held { IfErr result (λ refused. StaysHeld S.BlockStore store refused.store) }
         ensures failed { IfErr result (λ refused.
             IsBlamed S.BlockStore store refused.store refused.error) }
         ensures no_failure { IfOk result (λ made.
@@ -187,7 +212,13 @@ impl<S: BlockStore, J: Archive> NumberedBuffer<S, J> {
         started: Started<S>,
     ) -> Result<UnopenedNumbered<S, J>, Refused<S>>
         requires register { register.now ≡ J.register }
-        requires started { ∥ IsStarted J.trusted (inside started.buffer) started.tokens.items ∥₁ }
+        requires started { J.trusted ≡ true
+            → ∥ IsStarted (inside started.buffer) started.tokens.items ∥₁ }
+        requires listed { ListsStarts 0 (length (S.blocks (store_of (inside started.buffer))))
+            (is_start (inside started.buffer)) started.tokens.items }
+        requires within { AreWithin (length (S.blocks (store_of (inside started.buffer))))
+            started.tokens.items }
+        requires idle { is_busy (inside started.buffer) ≡ false }
         // It is the same buffer, and each live article of each history that it agrees with has its
         // record's number at its first block.
         ensures read { IfOk result (λ numbered.
@@ -199,10 +230,10 @@ impl<S: BlockStore, J: Archive> NumberedBuffer<S, J> {
         ensures refused { (h : History) → Agrees true (inside started.buffer) h
             → ListsLive started.tokens.items h
             → IfErr result (λ refused. IsUnentered (AreArticles h) refused.error) }
-        ensures honest { IfErr result (λ refused. S.honest (store_of (inside started.buffer))
-            → S.honest refused.store) }
-        ensures count { IfErr result (λ refused. length (S.blocks refused.store)
-            ≡ length (S.blocks (store_of (inside started.buffer)))) }
+        // Nothing is written; and what is refused is no other fault of the buffer.
+        ensures held { IfErr result (λ refused.
+            StaysHeld S.BlockStore (store_of (inside started.buffer)) refused.store) }
+        ensures fault { IfErr result (λ refused. IsUnentered ⊥ refused.error) }
         ensures failed { IfErr result (λ refused. IsBlamed S.BlockStore
             (store_of (inside started.buffer)) refused.store refused.error) }
         ensures no_failure { IfOk result (λ numbered.
@@ -237,17 +268,20 @@ fn numbers_of_articles<S: BlockStore, R: Wait>(
     buffer: &mut Unopened<S>,
     tokens: &Vec<Token>,
 ) -> Result<Vec<Option<Shown>>, StartError>
-    requires within { All (λ (token : CodeToken).
-        token.first < length (S.blocks (store_of (inside buffer.old)))) tokens.now.items }
+    requires within { AreWithin (length (S.blocks (store_of (inside buffer.old))))
+        tokens.now.items }
     ensures numbered { IfOk result (λ numbers. (trusted : Bool) (h : History)
         → Agrees trusted (inside buffer.old) h → ListsLive tokens.now.items h
         → AreNumbered trusted register.now h numbers.items) }
     ensures shown { IfOk result (λ numbers. AreShown register.now numbers.items) }
+    ensures firsts { IfOk result (λ numbers.
+        HaveFirsts tokens.now.items (length tokens.now.items) numbers.items) }
     ensures length { IfOk result (λ numbers. length numbers.items
         ≡ length (S.blocks (store_of (inside buffer.old)))) }
     ensures read { IsMerelyRead (inside buffer.old) (inside buffer.new) }
     ensures refused { (h : History) → Agrees true (inside buffer.old) h
         → ListsLive tokens.now.items h → IfErr result (IsUnentered (AreArticles h)) }
+    ensures fault { IfErr result (IsUnentered ⊥) }
     ensures failed { IfErr result (IsBlamed S.BlockStore (store_of (inside buffer.old))
         (store_of (inside buffer.new))) }
     ensures no_failure { OnOk result (S.failures (store_of (inside buffer.new))

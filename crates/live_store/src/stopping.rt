@@ -18,7 +18,7 @@ impl<S: BlockStore, J: Archive> NumberedBuffer<S, J> {
     ghost use Rattle.std.specs.Prelude.{◌≡◌, ◌+◌, true, None, is_some, length, IfErr, IfOk, OnOk};
     ghost use Rattle.news_terms.specs.HeadBlocks.{head_blocks};
     ghost use Rattle.cyc_buffer.specs.Agreement.{Agrees, Follows, store_of};
-    ghost use Rattle.cyc_buffer.specs.Head.{IsInOrder, IsStopRefusal, LeavesBuffer};
+    ghost use Rattle.cyc_buffer.specs.Head.{is_busy, IsInOrder, IsStopRefusal, LeavesBuffer};
     ghost use Rattle.cyc_buffer.specs.History.{History};
     ghost use Rattle.cyc_buffer.specs.Stopped.{HoldsStopped};
     ghost use Rattle.live_store.specs.Started.{ShutWith};
@@ -26,7 +26,8 @@ impl<S: BlockStore, J: Archive> NumberedBuffer<S, J> {
 
     /// Whether a write is open, as long as which it can't be stopped.
     pub fn is_busy(&self) -> bool
-        ensures { result ≡ is_some (beside_of self.now) }
+        ensures beside { result ≡ is_some (beside_of self.now) }
+        ensures busy { result ≡ is_busy (buffer_of self.now) }
     {
         self.beside.is_some()
     }

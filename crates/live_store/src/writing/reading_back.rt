@@ -1,16 +1,16 @@
 //! What a start reads of the articles that are live, and enters in the register.
-ghost use Rattle.std.specs.Prelude.{◌≡◌, ◌<◌, ℕ, Bool, true, length, All, IfErr, IfOk, OnOk};
+ghost use Rattle.std.specs.Prelude.{◌≡◌, ℕ, Bool, true, length, IfErr, IfOk, OnOk};
 ghost use Rattle.boxcar.specs.Table.{Shows};
 ghost use Rattle.cyc_buffer.specs.Agreement.{Agrees, store_of};
 ghost use Rattle.cyc_buffer.specs.Head.{inside};
 ghost use Rattle.cyc_buffer.specs.History.{History};
 ghost use Rattle.cyc_buffer.specs.Reads.{IsBlamed};
+ghost use Rattle.cyc_buffer.specs.Remembered.{AreWithin};
 ghost use Rattle.cyc_buffer.specs.Starting.{ListsLive};
 ghost use Rattle.cyc_buffer.specs.Stopped.{IsLiveToken};
 ghost use Rattle.cyc_token.specs.Token.{token_view};
-ghost use Rattle.cyc_token.specs.declared.Token.{Token as CodeToken};
-ghost use Rattle.live_store.specs.Started.{AreArticles, AreNumberedTo, IsMerelyRead, IsNoArticle};
-ghost use Rattle.live_store.specs.Started.{IsTextOfLive, IsToldAs, IsUnentered};
+ghost use Rattle.live_store.specs.Started.{AreArticles, AreNumberedTo, HaveFirsts, IsMerelyRead};
+ghost use Rattle.live_store.specs.Started.{IsNoArticle, IsTextOfLive, IsToldAs, IsUnentered};
 ghost use Rattle.live_store.specs.Tied.{AreShown, named_in, text_in};
 ghost use Rattle.news_terms.specs.ArticleTexts.{IsArticle};
 
@@ -33,19 +33,21 @@ pub(crate) fn enter_articles<S: BlockStore, R: Wait>(
     tokens: &Vec<Token>,
     numbers: &mut Vec<Option<Shown>>,
 ) -> Result<(), StartError>
-    requires within { All (λ (token : CodeToken). token.first < length numbers.old.items)
-        tokens.now.items }
+    requires within { AreWithin (length numbers.old.items) tokens.now.items }
     ensures numbered { OnOk result ((trusted : Bool) (h : History)
         → Agrees trusted (inside buffer.old) h → ListsLive tokens.now.items h
         → AreNumberedTo trusted register.now h tokens.now.items (length tokens.now.items)
         numbers.new.items) }
     ensures shown { OnOk result (AreShown register.now numbers.old.items
         → AreShown register.now numbers.new.items) }
+    ensures firsts { OnOk result (HaveFirsts tokens.now.items (length tokens.now.items)
+        numbers.new.items) }
     ensures length { OnOk result (length numbers.new.items ≡ length numbers.old.items) }
     ensures read { IsMerelyRead (inside buffer.old) (inside buffer.new) }
     // Only what holds no article under a token, or not all of it, is damaged.
     ensures refused { (h : History) → Agrees true (inside buffer.old) h
         → ListsLive tokens.now.items h → IfErr result (IsUnentered (AreArticles h)) }
+    ensures fault { IfErr result (IsUnentered ⊥) }
     ensures failed { IfErr result (IsBlamed S.BlockStore (store_of (inside buffer.old))
         (store_of (inside buffer.new))) }
     ensures no_failure { OnOk result (S.failures (store_of (inside buffer.new))
@@ -74,6 +76,7 @@ fn enter_article<S: BlockStore, R: Wait>(
     ensures refused { (h : History) → Agrees true (inside buffer.old) h
         → (live : IsLiveToken h (token_view token.now))
         → IfErr result (IsUnentered ∥ IsArticle live.article.text ∥₁) }
+    ensures fault { IfErr result (IsUnentered ⊥) }
     ensures failed { IfErr result (IsBlamed S.BlockStore (store_of (inside buffer.old))
         (store_of (inside buffer.new))) }
     ensures no_failure { OnOk result (S.failures (store_of (inside buffer.new))
@@ -99,6 +102,7 @@ fn read_text<S: BlockStore>(
     // A live article is refused for want of memory alone, or where a read of the device failed.
     ensures refused { (h : History) → Agrees true (inside buffer.old) h
         → IsLiveToken h (token_view token.now) → IfErr result (IsUnentered (Unit {0})) }
+    ensures fault { IfErr result (IsUnentered ⊥) }
     ensures failed { IfErr result (IsBlamed S.BlockStore (store_of (inside buffer.old))
         (store_of (inside buffer.new))) }
     ensures no_failure { OnOk result (S.failures (store_of (inside buffer.new))

@@ -20,14 +20,16 @@ invariant_of-self g c =
     let tied = subst (λ b. ∥ Tied g.J.Archive.trusted g.J.Archive.register
     c.args.self.now.buffer b c.args.self.now.numbers.items ∥₁)
     (sym c.take.ensures.value ∙ c.in-Some-take.is) c.args.self.now.tied in
+    let owns = owns_of g.J.Archive.register g.J.Archive.trusted c.args.self.now.buffer
+    c.in-Some-take.field-0 c.args.self.now.numbers.items tied in
     record {
       tied = ∥∥₁_map tied (λ t.
           subst (λ b. Tied g.J.Archive.trusted g.J.Archive.register c.abandon.new.self b
           c.args.self.now.numbers.items) (sym c.take.ensures.after)
           (tied_abandon g.J.Archive.register g.J.Archive.trusted c.args.self.now.buffer
           c.abandon.new.self c.args.self.now.numbers.items c.in-Some-take.field-0 t
-          (c.abandon.ensures.abandoned (owns_of g.J.Archive.register g.J.Archive.trusted
-          c.args.self.now.buffer c.in-Some-take.field-0 c.args.self.now.numbers.items tied))));
+          (c.abandon.ensures.abandoned owns) (c.abandon.ensures.idle owns)
+          c.abandon.ensures.starts c.abandon.ensures.store));
     }
 
 pub returns-clause-abandoned : goal.returns-clause-abandoned

@@ -54,7 +54,10 @@ invariant_of-self g c =
           (sym (ap (λ t. t.first) c.finish-token.ensures.handle))
           (tied_finished g.J.Archive.register g.J.Archive.trusted c.args.self.now.buffer field
           c.args.self.now.numbers.items tied c.finish-token.new.self c.args.entered.shown can
-          c.requires.shown follows)));
+          c.requires.shown follows
+          (c.finish-token.ensures.idle (can_finish g.J.Archive.register g.J.Archive.trusted
+          c.args.self.now.buffer field c.args.self.now.numbers.items tied c.args.entered.shown can))
+          c.finish-token.ensures.starts c.finish-token.ensures.store)));
     }
 
 pub invariant_of-result : goal.invariant_of-result

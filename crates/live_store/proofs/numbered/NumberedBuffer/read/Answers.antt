@@ -1,6 +1,7 @@
 use Rattle.std.proofs.Common.{sym, ◌∙◌, ap, subst, Ok}
 use Rattle.std.proofs.Math.Logic.{∥∥₁_map}
 use Rattle.cyc_buffer.specs.Calls.{ReadsBlock}
+use Rattle.cyc_buffer.specs.Remembered.{IsFoundBy, place_of}
 use Rattle.cyc_buffer.specs.declared.answers.FaultKind.TheVariants as kinds
 use Rattle.live_store.proofs.TiedLemmas.{tied_same}
 use Rattle.live_store.proofs.OpenLemmas.{device_fails}
@@ -12,55 +13,44 @@ pub invariant_of-self : goal.invariant_of-self
 invariant_of-self g c = record {
   tied = ∥∥₁_map c.args.self.now.tied (λ t. tied_same g.J.Archive.register g.J.Archive.trusted
       c.args.self.now.buffer c.read_block.new.self c.args.self.now.numbers.items
-      c.args.self.now.beside t c.read_block.ensures.same c.read_block.ensures.register);
+      c.args.self.now.beside t c.read_block.ensures.reads.same
+      c.read_block.ensures.reads.register c.read_block.ensures.held.count);
 }
 
 pub device_fault-requires : goal.device_fault-requires
-device_fault-requires g c = device_fails g.J.Archive.register g.J.Archive.trusted
-    c.args.self.now.buffer c.args.self.now.beside c.args.self.now.numbers.items
-    c.args.self.now.tied kinds.Read c.args.token.now.length c.in-Err.error c.in-Err.ensures.fault
+device_fault-requires g c = device_fails (place_of c.args.self.now.buffer) kinds.Read
+    c.args.token.now.length c.in-Err.error c.in-Err.ensures.remembered.fault
 
 pub unreachable-requires : goal.unreachable-requires
 unreachable-requires g c = read_numbered g.J.Archive.register g.J.Archive.trusted
-    c.args.self.now.buffer c.read_block.new.self c.args.self.now.beside
-    c.args.self.now.numbers.items c.args.self.now.tied c.args.token.now c.args.k
-    c.args.chunk.now c.read_block.new.chunk c.in-Ok-Chunk.octets
-    (subst (λ r. ReadsBlock c.args.self.now.buffer c.args.token.now c.args.k c.args.chunk.now r
-    c.read_block.new.chunk c.read_block.new.self)
-    (c.in-Ok-Chunk.is ∙ ap Ok c.in-Ok-Chunk.field-0-is) c.read_block.ensures)
+    c.args.self.now.buffer c.args.self.now.beside c.args.self.now.numbers.items
+    c.args.self.now.tied c.args.token.now
+    (subst (IsFoundBy c.args.self.now.buffer c.args.token.now c.args.k)
+    (c.in-Ok-Chunk.is ∙ ap Ok c.in-Ok-Chunk.field-0-is) c.read_block.ensures.remembered)
     (sym c.number_at.ensures ∙ c.in-None.is)
 
 pub returns-in-Some-clause-chunk : goal.returns-in-Some-clause-chunk
 returns-in-Some-clause-chunk g c = read_chunk g.J.Archive.register g.J.Archive.trusted
-    c.args.self.now.buffer c.read_block.new.self c.args.self.now.beside
-    c.args.self.now.numbers.items c.args.self.now.tied c.args.token.now c.args.k
+    c.args.self.now.buffer c.args.self.now.beside c.args.self.now.numbers.items
+    c.args.self.now.tied c.args.token.now c.read_block.new.self c.args.k
     c.args.chunk.now c.read_block.new.chunk c.in-Ok-Chunk.octets c.in-Some.shown
     (subst (λ r. ReadsBlock c.args.self.now.buffer c.args.token.now c.args.k c.args.chunk.now r
     c.read_block.new.chunk c.read_block.new.self)
-    (c.in-Ok-Chunk.is ∙ ap Ok c.in-Ok-Chunk.field-0-is) c.read_block.ensures)
+    (c.in-Ok-Chunk.is ∙ ap Ok c.in-Ok-Chunk.field-0-is) c.read_block.ensures.reads)
     (sym c.number_at.ensures ∙ c.in-Some.is)
 
 pub returns-in-Some-clause-shown : goal.returns-in-Some-clause-shown
 returns-in-Some-clause-shown g c = read_shown g.J.Archive.register g.J.Archive.trusted
-    c.args.self.now.buffer c.read_block.new.self c.args.self.now.beside
-    c.args.self.now.numbers.items c.args.self.now.tied c.args.token.now c.args.k
-    c.args.chunk.now c.read_block.new.chunk c.in-Some.shown
+    c.args.self.now.buffer c.args.self.now.beside c.args.self.now.numbers.items
+    c.args.self.now.tied c.args.token.now c.in-Some.shown
     (sym c.number_at.ensures ∙ c.in-Some.is)
 
 pub returns-in-Ok-Gone-clause-gone : goal.returns-in-Ok-Gone-clause-gone
-returns-in-Ok-Gone-clause-gone g c = read_gone g.J.Archive.register g.J.Archive.trusted
-    c.args.self.now.buffer c.read_block.new.self c.args.self.now.beside
-    c.args.self.now.numbers.items c.args.self.now.tied c.args.token.now c.args.k
-    c.args.chunk.now c.read_block.new.chunk c.in-Ok-Gone.front
-    (subst (λ r. ReadsBlock c.args.self.now.buffer c.args.token.now c.args.k c.args.chunk.now r
-    c.read_block.new.chunk c.read_block.new.self)
-    (c.in-Ok-Gone.is ∙ ap Ok c.in-Ok-Gone.field-0-is) c.read_block.ensures)
+returns-in-Ok-Gone-clause-gone g c = read_gone c.args.self.now.buffer c.args.token.now c.args.k
+    c.in-Ok-Gone.front
+    (subst (IsFoundBy c.args.self.now.buffer c.args.token.now c.args.k)
+    (c.in-Ok-Gone.is ∙ ap Ok c.in-Ok-Gone.field-0-is) c.read_block.ensures.remembered)
 
 pub returns-in-Err-clause-fault : goal.returns-in-Err-clause-fault
-returns-in-Err-clause-fault g c = read_fails g.J.Archive.register g.J.Archive.trusted
-    c.args.self.now.buffer c.read_block.new.self c.args.self.now.beside
-    c.args.self.now.numbers.items c.args.self.now.tied c.args.token.now c.args.k
-    c.args.chunk.now c.read_block.new.chunk c.in-Err.error c.device_fault.result
-    (subst (λ r. ReadsBlock c.args.self.now.buffer c.args.token.now c.args.k c.args.chunk.now r
-    c.read_block.new.chunk c.read_block.new.self) c.in-Err.is c.read_block.ensures)
-    c.device_fault.ensures
+returns-in-Err-clause-fault g c = read_fails c.args.self.now.buffer c.args.token.now
+    c.in-Err.error c.device_fault.result c.in-Err.ensures.remembered c.device_fault.ensures

@@ -1,24 +1,18 @@
-use Rattle.std.proofs.Common.{subst, Bool}
+use Rattle.std.proofs.Common.{subst}
 use Rattle.boxcar.specs.Table.{Shelves}
-use Rattle.cyc_buffer.specs.Agreement.{Agrees}
 use Rattle.cyc_buffer.specs.Head.{inside}
-use Rattle.cyc_buffer.specs.History.{History}
-use Rattle.cyc_buffer.specs.Starting.{ListsLive}
 use Rattle.live_store.specs.Tied.{AreNumbered, AreShown}
-use Rattle.live_store.proofs.StartedLemmas.{tied_started, within_started}
+use Rattle.live_store.proofs.StartedLemmas.{have_numbers, tied_started}
 use Rattle.live_store.proofs.numbered.NumberedBuffer.read_back.Goals as goal
-
-pub numbers_of_articles-requires : goal.numbers_of_articles-requires
-numbers_of_articles-requires g c = record {
-  within = within_started g.J.Archive.trusted (inside c.args.started.buffer)
-      c.args.started.tokens.items c.requires.started;
-}
 
 pub invariant_of-result : goal.invariant_of-result
 invariant_of-result g c = record {
   tied = tied_started g.J.Archive.register g.J.Archive.trusted (inside c.args.started.buffer)
-      (inside c.numbers_of_articles.new.buffer) c.args.started.tokens.items
-      c.in-Ok.numbers.items c.requires.started c.numbers_of_articles.ensures.read
+      (inside c.numbers_of_articles.new.buffer) c.in-Ok.numbers.items
+      c.args.started.tokens.items c.requires.started c.requires.idle
+      c.numbers_of_articles.ensures.read
+      (have_numbers (inside c.args.started.buffer) c.args.started.tokens.items
+      c.in-Ok.numbers.items c.requires.listed c.in-Ok.ensures.length c.in-Ok.ensures.firsts)
       (λ trusted h agrees lists.
       subst (λ (r : Shelves). AreNumbered trusted r h c.in-Ok.numbers.items) c.requires.register
       (c.in-Ok.ensures.numbered trusted h agrees lists))

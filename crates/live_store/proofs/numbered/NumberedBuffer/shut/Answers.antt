@@ -1,4 +1,4 @@
-use Rattle.std.proofs.Common.{◌≡◌, ap, subst, true, Option}
+use Rattle.std.proofs.Common.{ap, subst, Option}
 use Rattle.std.proofs.Math.Logic.{∥∥₁_map}
 use Rattle.std.specs.Global.{Vec}
 use Rattle.boxcar.specs.Table.{Where}
@@ -33,7 +33,8 @@ invariant_of-result g c = record {
       (ap (λ (v : Vec (Option (Where Record))). v.items) c.into_parts-buffer.ensures.numbers)
       c.args.self.tied) (λ t. tied_same g.J.Archive.register g.J.Archive.trusted
       c.into_parts-buffer.result.0 c.in-Err.refused.buffer c.into_parts-buffer.result.2.items
-      c.into_parts-buffer.result.1 t c.in-Err.ensures.same c.in-Err.ensures.rest.register);
+      c.into_parts-buffer.result.1 t c.in-Err.ensures.same c.in-Err.ensures.rest.register
+      c.in-Err.ensures.rest.store.count);
 }
 
 pub returns-in-None-clause-known : goal.returns-in-None-clause-known

@@ -1,37 +1,56 @@
-use Rattle.std.proofs.Common.{length, true}
+use Rattle.std.proofs.Common.{length, true, inl}
 use Rattle.cyc_buffer.specs.Head.{inside}
 use Rattle.live_store.specs.Started.{AreArticles}
-use Rattle.live_store.proofs.StartedLemmas.{outside_unentered, started_of}
+use Rattle.live_store.proofs.StartedLemmas.{outside_unentered, refused_for, started_of}
 use Rattle.live_store.proofs.numbered.NumberedBuffer.start.Goals as goal
 
 pub returns-in-Err-clause-refused : goal.returns-in-Err-clause-refused
-returns-in-Err-clause-refused g c stop h held same =
+returns-in-Err-clause-refused g c honest stop h held same =
     outside_unentered (AreArticles h) c.in-Err.refused.error
-    (c.in-Err.ensures.held c.requires.honest stop h held same)
+    (c.in-Err.ensures.held honest stop h held same)
+
+pub returns-in-Err-clause-reason : goal.returns-in-Err-clause-reason
+returns-in-Err-clause-reason g c honest = inl (c.in-Err.ensures.reason honest)
 
 pub read_back-requires-clause-started : goal.read_back-requires-clause-started
-read_back-requires-clause-started g c =
-    started_of g.J.Archive.trusted (inside c.in-Ok.started.buffer) c.in-Ok.started.tokens.items
+read_back-requires-clause-started g c trusted =
+    let honest = c.requires.honest trusted in
+    started_of (inside c.in-Ok.started.buffer) c.in-Ok.started.tokens.items
     (g.S.BlockStore.heads c.args.store) (g.S.BlockStore.blocks c.args.store) (record {
       number = c.args.number;
       blocks = length (g.S.BlockStore.blocks c.args.store);
       first_cycle = c.args.first_cycle;
-    }) c.requires.stopped (c.in-Ok.ensures.agrees c.requires.honest)
-    (c.in-Ok.ensures.tokens c.requires.honest)
+    }) (c.requires.stopped trusted) (c.in-Ok.ensures.agrees honest)
+    (c.in-Ok.ensures.tokens honest)
 
 pub returns-in-Ok-read_back-clause-agrees : goal.returns-in-Ok-read_back-clause-agrees
-returns-in-Ok-read_back-clause-agrees g c stop h held same =
+returns-in-Ok-read_back-clause-agrees g c honest stop h held same =
     c.in-Ok-read_back.ensures.read.same true h
-    (c.in-Ok.ensures.agrees c.requires.honest stop h held same)
+    (c.in-Ok.ensures.agrees honest stop h held same)
 
 pub returns-in-Ok-read_back-clause-numbered : goal.returns-in-Ok-read_back-clause-numbered
-returns-in-Ok-read_back-clause-numbered g c stop h held same =
+returns-in-Ok-read_back-clause-numbered g c honest stop h held same =
     c.in-Ok-read_back.ensures.numbered true h
-    (c.in-Ok.ensures.agrees c.requires.honest stop h held same)
-    (c.in-Ok.ensures.tokens c.requires.honest stop h held)
+    (c.in-Ok.ensures.agrees honest stop h held same)
+    (c.in-Ok.ensures.tokens honest stop h held)
+
+pub returns-in-Ok-read_back-clause-started : goal.returns-in-Ok-read_back-clause-started
+returns-in-Ok-read_back-clause-started g c honest = record {
+  tokens = c.in-Ok.started.tokens.items;
+  starts = c.in-Ok.ensures.started honest;
+}
 
 pub returns-in-Err-read_back-clause-refused : goal.returns-in-Err-read_back-clause-refused
-returns-in-Err-read_back-clause-refused g c stop h held same =
+returns-in-Err-read_back-clause-refused g c honest stop h held same =
     c.in-Err-read_back.ensures.refused h
-    (c.in-Ok.ensures.agrees c.requires.honest stop h held same)
-    (c.in-Ok.ensures.tokens c.requires.honest stop h held)
+    (c.in-Ok.ensures.agrees honest stop h held same)
+    (c.in-Ok.ensures.tokens honest stop h held)
+
+pub returns-in-Err-read_back-clause-reason : goal.returns-in-Err-read_back-clause-reason
+returns-in-Err-read_back-clause-reason g c honest =
+    refused_for (g.S.BlockStore.heads c.args.store) (g.S.BlockStore.blocks c.args.store) (record {
+      number = c.args.number;
+      blocks = length (g.S.BlockStore.blocks c.args.store);
+      first_cycle = c.args.first_cycle;
+    }) c.in-Ok.started.stop c.in-Ok.started.tokens.items (c.in-Ok.ensures.started honest)
+    c.in-Err-read_back.refused.error c.in-Err-read_back.ensures.fault

@@ -4,6 +4,8 @@ use Rattle.std.specs.Prelude.{IfSome}
 use Rattle.boxcar.specs.Table.{Shows, Where}
 use Rattle.cyc_buffer.specs.Agreement.{CanWrite, length_of}
 use Rattle.cyc_buffer.specs.Calls.{WritesNext}
+use Rattle.cyc_buffer.specs.Remembered.{place_of}
+use Rattle.cyc_buffer.specs.declared.answers.Fault.{Fault}
 use Rattle.cyc_buffer.specs.declared.answers.FaultKind.TheVariants as kinds
 use Rattle.live_store.specs.declared.writing.entering.Record.{Record}
 use Rattle.live_store.specs.Tied.{Tied}
@@ -43,7 +45,7 @@ invariant_of-self g c =
           (field.written + 1) false)) c.again.ensures))
           (tied_written g.J.Archive.register g.J.Archive.trusted c.args.self.now.buffer field
           c.args.self.now.numbers.items tied c.write_next.new.self c.args.entered.now.shown c.in-Ok.last
-          can c.requires.shown writes);
+          can c.requires.shown writes c.in-Ok.ensures.device c.in-Ok.ensures.starts);
     }
 
 pub invariant_of-self-in-Err : goal.invariant_of-self-in-Err
@@ -67,26 +69,13 @@ invariant_of-self-in-Err g c =
           field.written true)) c.again-in-Err.ensures))
           (tied_broken g.J.Archive.register g.J.Archive.trusted c.args.self.now.buffer field
           c.args.self.now.numbers.items tied c.write_next.new.self c.args.entered.now.shown
-          c.in-Err.error c.requires.shown writes);
+          c.in-Err.error c.requires.shown writes c.in-Err.ensures.device
+          c.in-Err.ensures.starts);
     }
 
 pub device_fault-requires : goal.device_fault-requires
-device_fault-requires g c =
-    let field = c.in-Some-take.field-0 in
-    let tied = subst (λ b. ∥ Tied g.J.Archive.trusted g.J.Archive.register
-    c.args.self.now.buffer b c.args.self.now.numbers.items ∥₁)
-    (sym c.take.ensures.value ∙ c.in-Some-take.is) c.args.self.now.tied in
-    let can = subst (λ b. CanWriteFor b c.args.entered.now.shown)
-    (the_same c.args.self.now.beside c.take.result c.in-Some.beside field c.in-Some.is
-    c.take.ensures.value c.in-Some-take.is) (c.can_write.ensures.0 c.if-not-can_write.false) in
-    let writes = subst (λ x. CanWrite c.args.self.now.buffer field.write x
-    → WritesNext c.args.self.now.buffer field.write x (Err c.in-Err.error) c.write_next.new.self)
-    c.requires.text c.in-Err.ensures.written
-    (can_write g.J.Archive.register g.J.Archive.trusted c.args.self.now.buffer field
-    c.args.self.now.numbers.items tied c.args.entered.now.shown can) in
-    device_fails g.J.Archive.register g.J.Archive.trusted c.args.self.now.buffer
-    c.args.self.now.beside c.args.self.now.numbers.items c.args.self.now.tied kinds.Write
-    (length_of field.write) c.in-Err.error writes.fault
+device_fault-requires g c = device_fails (place_of c.args.self.now.buffer) kinds.Write
+    (length_of c.in-Some-take.field-0.write) c.in-Err.error c.in-Err.ensures.fault
 
 pub returns-in-Ok-clause-writes : goal.returns-in-Ok-clause-writes
 returns-in-Ok-clause-writes g c =
@@ -117,19 +106,12 @@ returns-in-Err-clause-writes g c =
 pub returns-in-Err-clause-fault : goal.returns-in-Err-clause-fault
 returns-in-Err-clause-fault g c =
     let field = c.in-Some-take.field-0 in
-    let tied = subst (λ b. ∥ Tied g.J.Archive.trusted g.J.Archive.register
-    c.args.self.now.buffer b c.args.self.now.numbers.items ∥₁)
-    (sym c.take.ensures.value ∙ c.in-Some-take.is) c.args.self.now.tied in
     let can = subst (λ b. CanWriteFor b c.args.entered.now.shown)
     (the_same c.args.self.now.beside c.take.result c.in-Some.beside field c.in-Some.is
     c.take.ensures.value c.in-Some-take.is) (c.can_write.ensures.0 c.if-not-can_write.false) in
-    let writes = subst (λ x. CanWrite c.args.self.now.buffer field.write x
-    → WritesNext c.args.self.now.buffer field.write x (Err c.in-Err.error) c.write_next.new.self)
-    c.requires.text c.in-Err.ensures.written
-    (can_write g.J.Archive.register g.J.Archive.trusted c.args.self.now.buffer field
-    c.args.self.now.numbers.items tied c.args.entered.now.shown can) in
-    let fault = device_fault_is g.J.Archive.register g.J.Archive.trusted c.args.self.now.buffer
-    c.args.self.now.beside c.args.self.now.numbers.items c.args.self.now.tied kinds.Write
-    (length_of field.write) c.in-Err.error c.device_fault.result writes.fault
-    c.device_fault.ensures in
-    (fault.0, fault.1 ∙ sym can.octets ∙ ap length (sym c.requires.text))
+    let fault = device_fault_is (place_of c.args.self.now.buffer) kinds.Write
+    (length_of field.write) c.in-Err.error c.device_fault.result c.in-Err.ensures.fault
+    c.device_fault.ensures in (
+      ap (λ (f : Fault). f.kind) fault,
+      ap (λ (f : Fault). f.length) fault ∙ sym can.octets ∙ ap length (sym c.requires.text),
+    )

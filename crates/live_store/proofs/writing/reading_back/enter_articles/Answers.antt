@@ -1,4 +1,4 @@
-use Rattle.std.proofs.Common.{◌≡◌, ◌∙◌, ◌<◌, ap, arith, subst, sym, length, slice_index_or, List}
+use Rattle.std.proofs.Common.{◌∙◌, ◌<◌, ap, arith, subst, length, slice_index_or, List}
 use Rattle.std.proofs.Common.{Bool, true, Some}
 use Rattle.std.proofs.lemmas.List.{length-set}
 use Rattle.news_terms.specs.ArticleTexts.{IsArticle}
@@ -9,7 +9,7 @@ use Rattle.cyc_token.specs.declared.Token as codes
 use Rattle.live_store.specs.Started.{AreArticles, IsUnentered}
 use Rattle.live_store.proofs.NumberLemmas.{shown_set}
 use Rattle.live_store.proofs.ReadBackLemmas.{merely_next, unentered_by}
-use Rattle.live_store.proofs.StartLemmas.{live_at, none_token, numbered_item}
+use Rattle.live_store.proofs.StartLemmas.{firsts_item, live_at, none_token, numbered_item}
 use Rattle.live_store.proofs.writing.reading_back.enter_articles.Goals as goal
 
 pub returns-in_err-shown-clause-read : goal.returns-in_err-shown-clause-read
@@ -53,6 +53,9 @@ loop-token-preserved g c =
       read = merely_next (inside c.args.buffer.now) (inside c.loop-token.buffer)
           (inside c.enter_article.new.buffer) was.read now.read;
       failures = now.no_failure ∙ was.failures;
+      firsts = firsts_item c.args.tokens.now.items items n none_token c.in_ok-shown.shown numbers
+          c.deref-token-items.ensures.value c.loop-token-test.true
+          (ap (λ (t : codes.Token). t.first) now.named) within was.firsts;
       room = length-set numbers token.first (Some c.in_ok-shown.shown) ∙ was.room;
       shown = λ all. shown_set c.args.register.now numbers token.first c.in_ok-shown.shown within
           now.shown (was.shown all);
@@ -74,3 +77,13 @@ returns-clause-numbered g c trusted h agrees lists cycle first article there j l
       c.loop-token-test.false,
       ap length c.deref-token-items.ensures.value,
     )) is
+
+pub returns-clause-firsts : goal.returns-clause-firsts
+returns-clause-firsts g c j d less inside =
+    c.loop-token.invariant.firsts j d
+    (omega (
+      arith,
+      less,
+      c.loop-token-test.false,
+      ap length c.deref-token-items.ensures.value,
+    )) inside

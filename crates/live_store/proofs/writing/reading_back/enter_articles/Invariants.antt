@@ -3,7 +3,7 @@ use Rattle.cyc_buffer.specs.Agreement.{Agrees, store_of}
 use Rattle.cyc_buffer.specs.Head.{inside}
 use Rattle.cyc_buffer.specs.History.{History}
 use Rattle.cyc_buffer.specs.Starting.{ListsLive}
-use Rattle.live_store.specs.Started.{AreNumberedTo, IsMerelyRead}
+use Rattle.live_store.specs.Started.{AreNumberedTo, HaveFirsts, IsMerelyRead}
 use Rattle.live_store.specs.Tied.{AreShown}
 use Rattle.live_store.proofs.writing.reading_back.enter_articles.Given as goal
 
@@ -13,6 +13,7 @@ invariant-loop-token g l = record {
   read : IsMerelyRead (inside l.initial.buffer) (inside l.buffer);
   failures : g.S.BlockStore.failures (store_of (inside l.buffer))
       ≡ g.S.BlockStore.failures (store_of (inside l.initial.buffer));
+  firsts : HaveFirsts l.tokens.items l.token-index l.numbers.items;
   room : length l.numbers.items ≡ length l.initial.numbers.items;
   shown : AreShown l.register l.initial.numbers.items → AreShown l.register l.numbers.items;
   numbered : (trusted : Bool) (h : History) → Agrees trusted (inside l.initial.buffer) h
