@@ -6,7 +6,9 @@
 #![tactic(auto)]
 
 mod fault;
+mod keeping;
 mod printing;
 
 pub use fault::ServeError;
+pub use keeping::{BufferFault, StartFault, StopFault};
 pub use printing::print_totals;
