@@ -1,5 +1,5 @@
 -- What the program's words ask for (docs/PROTOCOL.md, Commands), by what clap states of them.
-use Rattle.std.specs.Prelude.{◌≡◌, ◌⊎◌, ℕ, true, false, List, [], Option, Some, None}
+use Rattle.std.specs.Prelude.{◌≡◌, ◌⊎◌, ℕ, Bool, true, false, List, [], Option, Some, None}
 use Rattle.std.specs.Prelude.{Result, Ok, Err, unwrap_or, codes, string_bytes, if◌then◌else◌}
 use Rattle.std.specs.Prelude.{option_and_then, pos}
 use Rattle.std.specs.Str.{bytes_eq}
@@ -10,7 +10,7 @@ use Rattle.clap.specs.Words.{subcommand_of, with_rule, with_subcommand}
 use Rattle.clap.specs.Words.{IsAmong, fault_of, kind_of}
 use Rattle.clap.specs.declared.builder.Command.{Command}
 use Rattle.clap.specs.declared.builder.Command.TheViews.{out-Command as fields_of}
-use Rattle.clap.specs.declared.builder.ArgAction.TheVariants.{Set}
+use Rattle.clap.specs.declared.builder.ArgAction.TheVariants.{Set, SetTrue}
 use Rattle.clap.specs.declared.builder.ValueParser.TheVariants.{Signed}
 use Rattle.clap.specs.declared.error.Error.{Error}
 use Rattle.clap.specs.declared.error.kind.ErrorKind.{ErrorKind}
@@ -27,8 +27,8 @@ pub data Asked : Type 0 where
   -- to tell the parts of a token
   Tells : (text : List ℕ) → Asked
   -- to serve the configuration in a folder on its ports: each until it has served so many
-  -- connections, or until the relay is told to stop
-  Serves : (folder : List ℕ) (sessions : Option ℕ) → Asked
+  -- connections, or until the relay is told to stop; from its files, or with all buffers formatted
+  Serves : (folder : List ℕ) (sessions : Option ℕ) (fresh : Bool) → Asked
   -- to have the relay end that is served in a folder
   Stops : (folder : List ℕ) → Asked
   -- to print the report of the relay that is served in a folder
@@ -39,7 +39,7 @@ abbrev pub asked : Job → Asked
 asked (jobs.Drill folder script) = Drills (string_bytes folder) (string_bytes script)
 asked (jobs.Check folder) = Checks (string_bytes folder)
 asked (jobs.Token text) = Tells (string_bytes text)
-asked (jobs.Serve folder sessions) = Serves (string_bytes folder) sessions
+asked (jobs.Serve folder sessions fresh) = Serves (string_bytes folder) sessions fresh
 asked (jobs.Stop folder) = Stops (string_bytes folder)
 asked (jobs.Report folder) = Reports (string_bytes folder)
 
@@ -69,9 +69,16 @@ sessions_rule = record (new_rule (codes "sessions")) {
   action = Some Set;
 }
 
--- `serve DIR [--sessions N]`
+-- `--fresh`, which has no value and may be left out
+abbrev pub fresh_rule : Rule
+fresh_rule =
+    record (new_rule (codes "fresh")) { long = Some (codes "fresh"); action = Some SetTrue }
+
+-- `serve DIR [--sessions N] [--fresh]`
 abbrev pub serve_words : App
-serve_words = with_rule (with_rule (new_app (codes "serve")) (needed (codes "DIR"))) sessions_rule
+serve_words =
+    with_rule (with_rule (with_rule (new_app (codes "serve")) (needed (codes "DIR")))
+    sessions_rule) fresh_rule
 
 -- `stop DIR`
 abbrev pub stop_words : App
@@ -111,9 +118,14 @@ number_of text = if is_unsigned_in 0 4294967295 text
 abbrev pub sessions_given : List Row → Option ℕ
 sessions_given rows = option_and_then number_of (one_of (codes "sessions") rows)
 
+-- whether `--fresh` is given, which stands for `true` then, as clap has it
+abbrev pub fresh_given : List Row → Bool
+fresh_given rows = bytes_eq (word_given (codes "fresh") rows) (codes "true")
+
 -- what `serve` asks, with what is given for its names
 abbrev pub serves_by : List Row → Asked
-serves_by rows = Serves (word_given (codes "DIR") rows) (sessions_given rows)
+serves_by rows =
+    Serves (word_given (codes "DIR") rows) (sessions_given rows) (fresh_given rows)
 
 -- what is asked by the subcommand that the words name, with what is given for its names; without
 -- one it is a drill with the built-in configuration, of the script on standard input

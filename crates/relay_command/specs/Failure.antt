@@ -36,7 +36,7 @@ words_status OutOfMemory = 5
 words_status kind = 1
 
 -- 1 for the command line, 2 for the configuration, 3 for the script or the token, 4 for the output,
--- a file, a port, a relay that can't start or one that can't be asked, 5 for memory or a thread
+-- a file, a port, a relay that can't start, be stopped or be asked, 5 for memory or a thread
 abbrev pub status_of : Failure → ℕ
 status_of (Unbegun unbegun.Memory) = 5
 status_of (Unbegun unbegun.NoText) = 1
@@ -59,9 +59,11 @@ status_of (Token token.Unwritten) = 4
 status_of (Serve (serve.File name)) = 4
 status_of (Serve (serve.Port number)) = 4
 status_of (Serve serve.Control) = 4
+status_of (Serve (serve.Start fault)) = 4
 status_of (Serve serve.Unseeded) = 4
 status_of (Serve serve.Memory) = 5
 status_of (Serve serve.NoThread) = 5
+status_of (Serve (serve.Stop fault)) = 4
 status_of (Serve serve.Unwritten) = 4
 status_of (Ask (ask.Unserved folder)) = 4
 status_of (Ask ask.Unusable) = 4

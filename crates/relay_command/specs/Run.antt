@@ -1,5 +1,5 @@
 -- What a run of the program does (docs/PROTOCOL.md, Program).
-use Rattle.std.specs.Prelude.{◌≡◌, ◌≢◌, ℕ, List, codes, Option, Some, Result, Ok, Err}
+use Rattle.std.specs.Prelude.{◌≡◌, ◌≢◌, ℕ, Bool, List, codes, Option, Some, Result, Ok, Err}
 use Rattle.std.specs.Io.KnownBytes.{Keeps}
 use Rattle.clap.specs.Words.{Text}
 use Rattle.relay_conf.specs.declared.settings.Config.{Config}
@@ -54,25 +54,26 @@ DrillsFolder folder script (Err (Check error)) input before after =
 DrillsFolder folder script (Err failure) input before after = ⊥
 
 -- What serving a relay with the configuration in a folder answers: what came is what serving comes
--- to with that configuration, that folder and that number of connections, and what serving a relay
--- of the configuration gives.
-abbrev pub ServesIn : Serving → (folder : List ℕ) (sessions : Option ℕ)
+-- to with that configuration, that folder, that number of connections and whether all is formatted,
+-- and what serving a relay of the configuration gives.
+abbrev pub ServesIn : Serving → (folder : List ℕ) (sessions : Option ℕ) (fresh : Bool)
     → Result (Unit {0}) ServeError → (before after : Option (List ℕ)) → Type 0
-ServesIn serving folder sessions result before after =
-    (config : Config) × IsIn folder config × serving config folder sessions result before after
+ServesIn serving folder sessions fresh result before after =
+    (config : Config) × IsIn folder config
+    × serving config folder sessions fresh result before after
     × ServeGives config result before after
 
 -- what was to be served with the configuration in a folder was, or failed so; where the
 -- configuration is at fault, nothing was served or written
-abbrev pub ServesFolder : Serving → (folder : List ℕ) (sessions : Option ℕ)
+abbrev pub ServesFolder : Serving → (folder : List ℕ) (sessions : Option ℕ) (fresh : Bool)
     → Result (Unit {0}) Failure → (before after : Option (List ℕ)) → Type 0
-ServesFolder serving folder sessions (Ok done) before after =
-    ServesIn serving folder sessions (Ok done) before after
-ServesFolder serving folder sessions (Err (Serve error)) before after =
-    ServesIn serving folder sessions (Err error) before after
-ServesFolder serving folder sessions (Err (Check error)) before after =
+ServesFolder serving folder sessions fresh (Ok done) before after =
+    ServesIn serving folder sessions fresh (Ok done) before after
+ServesFolder serving folder sessions fresh (Err (Serve error)) before after =
+    ServesIn serving folder sessions fresh (Err error) before after
+ServesFolder serving folder sessions fresh (Err (Check error)) before after =
     HasError folder error × Keeps before after
-ServesFolder serving folder sessions (Err failure) before after = ⊥
+ServesFolder serving folder sessions fresh (Err failure) before after = ⊥
 
 -- what the relay of a folder was asked for it told, or that failed so; no configuration is read
 abbrev pub AsksFolder : Asking → (folder : List ℕ) → Request → Result (Unit {0}) Failure
@@ -97,8 +98,8 @@ Performs serving asking (Tells text) (Ok done) input before after =
     TellGives (Ok done) text before after
 Performs serving asking (Tells text) (Err (Token fault)) input before after =
     TellGives (Err fault) text before after
-Performs serving asking (Serves folder sessions) result input before after =
-    ServesFolder serving folder sessions result before after
+Performs serving asking (Serves folder sessions fresh) result input before after =
+    ServesFolder serving folder sessions fresh result before after
 Performs serving asking (Stops folder) result input before after =
     AsksFolder asking folder Stop result before after
 Performs serving asking (Reports folder) result input before after =

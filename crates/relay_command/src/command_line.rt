@@ -3,7 +3,8 @@ ghost use Rattle.std.specs.Prelude.{◌≡◌, false, map, string_bytes, None, S
 ghost use Rattle.clap.specs.Words.{found_of, rows_of, rule_of, subcommand_rows_of};
 ghost use Rattle.relay_command.specs.CommandLine.{Reads, ReadsWords, asked, asked_by};
 ghost use Rattle.relay_command.specs.CommandLine.{word_given, check_words, drill_words};
-ghost use Rattle.relay_command.specs.CommandLine.{serves_by, sessions_given, sessions_rule};
+ghost use Rattle.relay_command.specs.CommandLine.{fresh_given, fresh_rule, serves_by};
+ghost use Rattle.relay_command.specs.CommandLine.{sessions_given, sessions_rule};
 ghost use Rattle.relay_command.specs.CommandLine.{needed, program_words, report_words, serve_words};
 ghost use Rattle.relay_command.specs.CommandLine.{stop_words, token_words, version_words};
 
@@ -24,10 +25,12 @@ pub enum Job {
     /// To say what this text of a token stands for.
     Token(String),
     /// To serve the configuration in this folder, or the built-in one, on its peers' ports: each
-    /// until it has served so many connections, or without an end.
+    /// until it has served so many connections, or without an end; from its files, or with all
+    /// buffers formatted.
     Serve {
         folder: String,
         sessions: Option<u32>,
+        fresh: bool,
     },
     /// To have the relay end that is served in this folder.
     Stop(String),
@@ -98,7 +101,12 @@ fn service(alloc: Global, given: &ArgMatches<'_>) -> Result<Job, AllocError>
 {
     let folder = word(alloc, given, "DIR")?;
     let sessions = sessions(given);
-    Ok(Job::Serve { folder, sessions })
+    let fresh = fresh(given);
+    Ok(Job::Serve {
+        folder,
+        sessions,
+        fresh,
+    })
 }
 
 /// How many connections each port is to serve, where a number was given.
@@ -106,6 +114,16 @@ fn sessions(given: &ArgMatches<'_>) -> Option<u32>
     ensures { result ≡ sessions_given (rows_of (found_of given.now)) }
 {
     given.get_one::<u32>("sessions")
+}
+
+/// Whether all buffers are to be formatted.
+fn fresh(given: &ArgMatches<'_>) -> bool
+    ensures { result ≡ fresh_given (rows_of (found_of given.now)) }
+{
+    match given.get_str("fresh") {
+        Some(word) => word == "true",
+        None => false,
+    }
 }
 
 /// The word that was given for a name, empty where none was.
@@ -185,7 +203,7 @@ fn report<'a>(alloc: Global) -> Result<Command<'a>, AllocError>
     )
 }
 
-/// `serve DIR [--sessions N]`.
+/// `serve DIR [--sessions N] [--fresh]`.
 fn serve<'a>(alloc: Global) -> Result<Command<'a>, AllocError>
     ensures { IfOk result (λ command. Reads command serve_words) }
 {
@@ -193,11 +211,13 @@ fn serve<'a>(alloc: Global) -> Result<Command<'a>, AllocError>
         "The folder of the configuration: K1 is the built-in one",
     );
     let sessions = limit(alloc).help("Each port ends after so many connections: 1 to 1000000");
+    let fresh = anew(alloc).help("Begins with empty buffers, whatever the files have");
     Ok(
         Command::new(alloc, "serve")
             .about("Serves a configuration on its peers' ports")
             .arg(folder)?
-            .arg(sessions)?,
+            .arg(sessions)?
+            .arg(fresh)?,
     )
 }
 
@@ -211,6 +231,16 @@ fn limit<'a>(alloc: Global) -> Arg<'a>
         .value_name("N")
         .value_parser(value_parser!(u32).range(1..1_000_001))
         .action(ArgAction::Set)
+}
+
+/// `--fresh`.
+fn anew<'a>(alloc: Global) -> Arg<'a>
+    ensures rule { rule_of result ≡ fresh_rule }
+    ensures own { result.global ≡ false }
+{
+    Arg::new(alloc, "fresh")
+        .long("fresh")
+        .action(ArgAction::SetTrue)
 }
 
 /// `stop DIR`.

@@ -87,6 +87,7 @@ impl Failure {
             Failure::Drill(DrillError::Device) => 4,
             Failure::Serve(ServeError::File(_) | ServeError::Port(_)) => 4,
             Failure::Serve(ServeError::Control) => 4,
+            Failure::Serve(ServeError::Start(_) | ServeError::Stop(_)) => 4,
             Failure::Serve(ServeError::Unseeded | ServeError::Unwritten) => 4,
             Failure::Ask(AskError::Unserved(_) | AskError::Unusable) => 4,
             Failure::Ask(AskError::Unwritten) => 4,
