@@ -74,31 +74,42 @@ fn taken_by_none(file: HeldFile, others: &[HeldFile]) -> Option<HeldFile>
     Some(file)
 }
 
-/// A store in the file of each buffer, of its blocks, in the order of the buffers: each file is made
-/// as long as that takes, and its last block is tried. The error is want of memory, or the first file
-/// with which that can't be done.
+/// A store in the file of each buffer, of its blocks, in the order of the buffers, and whether no
+/// buffer was kept in any of them: each file is made as long as that takes, and its last block is
+/// tried. The error is want of memory, or the first file with which that can't be done.
 pub fn fit_files(
     alloc: Global,
     settings: &Buffers,
     files: Vec<HeldFile>,
-) -> Result<Vec<FileBlocks>, ServeError>
+) -> Result<(Vec<FileBlocks>, bool), ServeError>
     requires count { length files.items ≡ length settings.now.buffers.items }
-    ensures blocks { IfOk result (λ stores. map count_of stores.items
+    ensures blocks { IfOk result (λ fitted. map count_of fitted.0.items
         ≡ map (λ buffer. buffer.blocks) settings.now.buffers.items) }
     ensures fault { IfErr result (IsFileFault settings.now) }
 {
     let mut stores = Vec::with_capacity(alloc, settings.buffers.len())?;
     let mut rest = files.into_iter();
+    let mut blank = true;
     for buffer in &settings.buffers {
         let Some(file) = rest.next() else {
             unreachable!()
         };
         match FileBlocks::of_held(file, buffer.blocks) {
-            Ok(store) => stores.push_reserved(store),
+            Ok(mut store) => {
+                blank = is_blank(&mut store) && blank;
+                stores.push_reserved(store);
+            }
             Err(_) => return Err(unusable(alloc, buffer)),
         }
     }
-    Ok(stores)
+    Ok((stores, blank))
+}
+
+/// Whether no buffer was kept in a file, as far as that can be read.
+fn is_blank(store: &mut FileBlocks) -> bool
+    ensures count { count_of store.new ≡ count_of store.old }
+{
+    store.is_blank().unwrap_or(false)
 }
 
 /// The fault of the file of the buffer of this number, whose head block couldn't be written.
