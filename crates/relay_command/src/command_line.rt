@@ -3,11 +3,12 @@ ghost use Rattle.std.specs.Prelude.{◌≡◌, false, map, string_bytes, None, S
 ghost use Rattle.clap.specs.Words.{found_of, rows_of, rule_of, subcommand_rows_of};
 ghost use Rattle.relay_command.specs.CommandLine.{Reads, ReadsWords, asked, asked_by};
 ghost use Rattle.relay_command.specs.CommandLine.{word_given, check_words, drill_words};
-ghost use Rattle.relay_command.specs.CommandLine.{fresh_given, fresh_rule, serves_by};
-ghost use Rattle.relay_command.specs.CommandLine.{sessions_given, sessions_rule};
+ghost use Rattle.relay_command.specs.CommandLine.{explains_by, fresh_given, fresh_rule};
+ghost use Rattle.relay_command.specs.CommandLine.{serves_by, sessions_given, sessions_rule};
 ghost use Rattle.relay_command.specs.CommandLine.{needed, program_words, report_words, serve_words};
 ghost use Rattle.relay_command.specs.CommandLine.{stop_words, token_words, version_words};
 
+use crate::question::{Question, explain, question_in};
 use crate::version::VERSION;
 use clap::{Arg, ArgAction, ArgMatches, Command, Error, value_parser};
 use std::alloc::{AllocError, Global};
@@ -22,6 +23,12 @@ pub enum Job {
     },
     /// To read the configuration in this folder, or the built-in one, and say what it has.
     Check(String),
+    /// To say what the configuration in this folder does, or the built-in one; or where an article
+    /// goes by it.
+    Explain {
+        folder: String,
+        question: Option<Question>,
+    },
     /// To say what this text of a token stands for.
     Token(String),
     /// To serve the configuration in this folder, or the built-in one, on its peers' ports: each
@@ -77,6 +84,9 @@ fn job_named(alloc: Global, name: &str, given: &ArgMatches<'_>) -> Result<Job, A
     if name == "check" {
         return Ok(Job::Check(word(alloc, given, "DIR")?));
     }
+    if name == "explain" {
+        return explanation(alloc, given);
+    }
     if name == "token" {
         return Ok(Job::Token(word(alloc, given, "TEXT")?));
     }
@@ -106,6 +116,17 @@ fn service(alloc: Global, given: &ArgMatches<'_>) -> Result<Job, AllocError>
         folder,
         sessions,
         fresh,
+    })
+}
+
+/// What `explain` asks for, with what was given for its words.
+fn explanation(alloc: Global, given: &ArgMatches<'_>) -> Result<Job, AllocError>
+    ensures { IfOk result (λ job. asked job ≡ explains_by (rows_of (found_of given.now))) }
+{
+    let question = question_in(alloc, given)?;
+    Ok(Job::Explain {
+        folder: word(alloc, given, "DIR")?,
+        question,
     })
 }
 
@@ -145,6 +166,7 @@ fn command<'a>(alloc: Global) -> Result<Command<'a>, AllocError>
         program(alloc)
             .subcommand(check(alloc)?)?
             .subcommand(drill(alloc)?)?
+            .subcommand(explain(alloc)?)?
             .subcommand(report(alloc)?)?
             .subcommand(serve(alloc)?)?
             .subcommand(stop(alloc)?)?
@@ -268,7 +290,7 @@ fn token<'a>(alloc: Global) -> Result<Command<'a>, AllocError>
 }
 
 /// A word that has to be there.
-fn needed<'a>(alloc: Global, name: &'a str) -> Arg<'a>
+pub(crate) fn needed<'a>(alloc: Global, name: &'a str) -> Arg<'a>
     ensures rule { rule_of result ≡ needed name.entry.now }
     ensures own { result.global ≡ false }
 {
