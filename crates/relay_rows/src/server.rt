@@ -11,7 +11,9 @@ use line_words::Octets;
 use relay_conf::{BufferConf, Config, Peer, Relay};
 use relay_core::{FeedFigures, Figures, NamedBuffer, NamedFeed};
 use relay_report::Totals;
-use serve_terms::{BufferFault, ServeError, StartFault, StopFault, print_totals};
+use serve_terms::{
+    BufferFault, LostFile, LostPort, Reason, ServeError, StartFault, StopFault, print_totals,
+};
 use std::alloc::{AllocError, Global};
 use std::io::Write;
 
@@ -178,10 +180,11 @@ fn file_of(alloc: Global, config: &Config) -> Result<Option<ServeError>, AllocEr
         → ServeGives config.now (Err error) held held)) }
 {
     match config.buffers.buffers.first() {
-        Some(buffer) => Ok(Some(ServeError::File(String::from_utf8_lossy(
-            alloc,
-            buffer.file.as_slice(),
-        )?))),
+        Some(buffer) => {
+            let name = String::from_utf8_lossy(alloc, buffer.file.as_slice())?;
+            let reason = Reason::NoFolder;
+            Ok(Some(ServeError::File(LostFile { name, reason })))
+        }
         None => Ok(None),
     }
 }
@@ -211,7 +214,9 @@ fn port_of(config: &Config) -> Option<ServeError>
 {
     for peer in &config.relay.peers {
         if peer.port != 0 {
-            return Some(ServeError::Port(peer.port));
+            let number = peer.port;
+            let reason = Reason::InUse;
+            return Some(ServeError::Port(LostPort { number, reason }));
         }
     }
     None

@@ -19,5 +19,5 @@ served config totals (Err (faults.Start fault)) before after of printed = absurd
 served config totals (Err (faults.Stop fault)) before after of printed = absurd printed
 served config totals (Err faults.Unseeded) before after of printed = absurd printed
 served config totals (Err faults.NoThread) before after of printed = absurd printed
-served config totals (Err (faults.File name)) before after of printed = absurd printed
-served config totals (Err (faults.Port number)) before after of printed = absurd printed
+served config totals (Err (faults.File lost)) before after of printed = absurd printed
+served config totals (Err (faults.Port lost)) before after of printed = absurd printed

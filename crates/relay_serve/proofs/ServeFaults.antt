@@ -27,9 +27,9 @@ pub stop_stays : {S : Type 0} (g : Ghosts S) (config : Config) (stores : List S)
     (error : ServeError) → IsStopFault error → IsRelayFault g config stores error
 stop_stays g config stores (faults.Stop fault) stops = tt
 stop_stays g config stores faults.Memory e = tt
-stop_stays g config stores (faults.File name) e =
+stop_stays g config stores (faults.File lost) e =
     subst (IsRelayFault g config stores) (sym e) tt
-stop_stays g config stores (faults.Port number) e =
+stop_stays g config stores (faults.Port lost) e =
     subst (IsRelayFault g config stores) (sym e) tt
 stop_stays g config stores faults.Control e = subst (IsRelayFault g config stores) (sym e) tt
 stop_stays g config stores (faults.Start fault) e =
@@ -42,7 +42,7 @@ stop_stays g config stores faults.Unwritten e =
 -- such a reason names a file of the configuration, where it names one
 pub relay_serves : {S : Type 0} (g : Ghosts S) (config : Config) (stores : List S)
     (error : ServeError) → IsRelayFault g config stores error → IsServeFault config error
-relay_serves g config stores (faults.File name) fault =
+relay_serves g config stores (faults.File lost) fault =
     let all = config.buffers.buffers.items in (
       fault.number,
       fault.buffer,
@@ -50,7 +50,7 @@ relay_serves g config stores (faults.File name) fault =
       get_or_from_slice_get all fault.number fault.buffer fault.buffer fault.there,
       fault.named,
     )
-relay_serves g config stores (faults.Port number) fault = absurd fault
+relay_serves g config stores (faults.Port lost) fault = absurd fault
 relay_serves g config stores faults.Control fault = absurd fault
 relay_serves g config stores (faults.Start started) fault = fault
 relay_serves g config stores (faults.Stop stopped) fault = tt
@@ -64,8 +64,8 @@ pub stop_serves : (config : Config) (error : ServeError) → IsStopFault error
     → IsServeFault config error
 stop_serves config (faults.Stop fault) stops = tt
 stop_serves config faults.Memory e = tt
-stop_serves config (faults.File name) e = subst (IsServeFault config) (sym e) tt
-stop_serves config (faults.Port number) e = subst (IsServeFault config) (sym e) tt
+stop_serves config (faults.File lost) e = subst (IsServeFault config) (sym e) tt
+stop_serves config (faults.Port lost) e = subst (IsServeFault config) (sym e) tt
 stop_serves config faults.Control e = subst (IsServeFault config) (sym e) tt
 stop_serves config (faults.Start fault) e = subst (IsServeFault config) (sym e) tt
 stop_serves config faults.Unseeded e = tt
@@ -86,8 +86,8 @@ kept (Some octets) = refl
 -- where nothing is served nothing is written
 none_served : (config : Config) (error : ServeError) (held : Option (List ℕ))
     → IsServeFault config error → ServeGives config (Err error) held held
-none_served config (faults.File name) held names = (names, kept held)
-none_served config (faults.Port number) held none = absurd none
+none_served config (faults.File lost) held names = (names, kept held)
+none_served config (faults.Port lost) held none = absurd none
 none_served config faults.Control held none = absurd none
 none_served config (faults.Start started) held names = (names, kept held)
 none_served config (faults.Stop stopped) held fault = (tt, kept held)

@@ -65,8 +65,9 @@ pub record NamesFailed {S : Type 0} (g : blocks.Ghosts S) (config : Config) (sto
 -- buffer where that is at fault, or it couldn't be stopped so that it can start again
 abbrev pub IsRelayFault : {S : Type 0} (g : blocks.Ghosts S) → Config → (stores : List S)
     → ServeError → Type 0
-IsRelayFault g config stores (faults.File name) = NamesFailed g config stores (string_bytes name)
-IsRelayFault g config stores (faults.Port number) = ⊥
+IsRelayFault g config stores (faults.File lost) =
+    NamesFailed g config stores (string_bytes lost.name)
+IsRelayFault g config stores (faults.Port lost) = ⊥
 IsRelayFault g config stores faults.Control = ⊥
 IsRelayFault g config stores (faults.Start fault) = NamesBuffer config fault
 IsRelayFault g config stores (faults.Stop fault) = Unit {0}
@@ -77,10 +78,10 @@ IsRelayFault g config stores faults.Unwritten = ⊥
 
 -- so, over the files of a configuration: the file of one of its buffers is named
 abbrev pub IsServeFault : Config → ServeError → Type 0
-IsServeFault config (faults.File name) = NamesFile config (string_bytes name)
+IsServeFault config (faults.File lost) = NamesFile config (string_bytes lost.name)
 IsServeFault config (faults.Start fault) = NamesBuffer config fault
 IsServeFault config (faults.Stop fault) = Unit {0}
-IsServeFault config (faults.Port number) = ⊥
+IsServeFault config (faults.Port lost) = ⊥
 IsServeFault config faults.Control = ⊥
 IsServeFault config faults.Unseeded = Unit {0}
 IsServeFault config faults.Memory = Unit {0}

@@ -1,15 +1,16 @@
 //! The files of the buffers (docs/FORMATS.md, cycbuff.conf).
 ghost use Rattle.std.specs.Prelude.{◌≡◌, length, map, All, Any, IfErr, IfNone, IfOk, IfSome};
 ghost use Rattle.file_blocks.specs.Store.{count_of};
-ghost use Rattle.relay_serve.specs.Files.{IsFaultAt, IsFaultOf, IsFileFault, SharesFile};
+ghost use Rattle.relay_serve.specs.Files.{HasReason, IsFaultAt, IsFaultOf, IsFileFault};
+ghost use Rattle.relay_serve.specs.Files.{SharesFile};
 ghost use Rattle.serve_terms.specs.declared.fault.ServeError.TheVariants as faults;
 
+use crate::reasons::reason_of;
 use file_blocks::{FileBlocks, HeldFile, Unusable};
 use relay_conf::{BufferConf, Buffers};
-use serve_terms::ServeError;
+use serve_terms::{LostFile, Reason, ServeError};
 use std::alloc::Global;
 use std::fs::{File, Files};
-use std::io::ErrorKind;
 use std::path::Path;
 use std::str;
 
@@ -30,33 +31,36 @@ pub fn hold_files<R: Files<File = File>>(
     let mut files = Vec::with_capacity(alloc, settings.buffers.len())?;
     for buffer in &settings.buffers {
         match hold_file(rt, alloc, buffer, folder, &files)? {
-            Some(file) => files.push_reserved(file),
-            None => return Err(unusable(alloc, buffer)),
+            Ok(file) => files.push_reserved(file),
+            Err(reason) => return Err(unusable(alloc, buffer, reason)),
         }
     }
     Ok(files)
 }
 
-/// The file of a buffer, held, none where that can't be had or is one of the others.
+/// The file of a buffer, held, or why that can't be had, as one that is one of the others.
 fn hold_file<R: Files<File = File>>(
     rt: &R,
     alloc: Global,
     buffer: &BufferConf,
     folder: &str,
     others: &[HeldFile],
-) -> Result<Option<HeldFile>, ServeError>
+) -> Result<Result<HeldFile, Reason>, ServeError>
     ensures memory { IfErr result (λ error. error ≡ faults.Memory) }
 {
     let Ok(file) = str::from_utf8(buffer.file.as_slice()) else {
-        return Ok(None);
+        return Ok(Err(Reason::NoText));
     };
     let path = Path::new(folder).join(alloc, file)?;
     match HeldFile::hold(rt, path.as_str()) {
-        Ok(file) => Ok(taken_by_none(file, others)),
-        Err(Unusable::Refused(error)) if error.kind() == ErrorKind::OutOfMemory => {
-            Err(ServeError::Memory)
-        }
-        Err(_) => Ok(None),
+        Ok(file) => match taken_by_none(file, others) {
+            Some(file) => Ok(Ok(file)),
+            None => Ok(Err(Reason::Shared)),
+        },
+        Err(refused) => match reason_of(&refused) {
+            Some(reason) => Ok(Err(reason)),
+            None => Err(ServeError::Memory),
+        },
     }
 }
 
@@ -99,7 +103,7 @@ pub fn fit_files(
                 blank = is_blank(&mut store) && blank;
                 stores.push_reserved(store);
             }
-            Err(_) => return Err(unusable(alloc, buffer)),
+            Err(refused) => return Err(unfit(alloc, buffer, &refused)),
         }
     }
     Ok((stores, blank))
@@ -112,23 +116,34 @@ fn is_blank(store: &mut FileBlocks) -> bool
     store.is_blank().unwrap_or(false)
 }
 
+/// The fault of the file of a buffer that can't be used so.
+fn unfit(alloc: Global, buffer: &BufferConf, refused: &Unusable) -> ServeError
+    ensures { IsFaultOf buffer.now result }
+{
+    match reason_of(refused) {
+        Some(reason) => unusable(alloc, buffer, reason),
+        None => ServeError::Memory,
+    }
+}
+
 /// The fault of the file of the buffer of this number, whose head block couldn't be written.
 pub(crate) fn unformatted(alloc: Global, settings: &Buffers, number: u8) -> ServeError
     ensures { IsFaultAt settings.now number result }
 {
     match settings.buffers.get(usize::from(number)) {
-        Some(buffer) => unusable(alloc, buffer),
+        Some(buffer) => unusable(alloc, buffer, Reason::Unwritten),
         None => ServeError::Memory,
     }
 }
 
 /// The fault of a buffer's file: its name as cycbuff.conf has it, with a mark in the place of what
-/// is no UTF-8, or want of memory for it.
-fn unusable(alloc: Global, buffer: &BufferConf) -> ServeError
-    ensures { IsFaultOf buffer.now result }
+/// is no UTF-8, and why it can't be had, or want of memory for it.
+fn unusable(alloc: Global, buffer: &BufferConf, reason: Reason) -> ServeError
+    ensures name { IsFaultOf buffer.now result }
+    ensures reason { HasReason reason result }
 {
     match String::from_utf8_lossy(alloc, buffer.file.as_slice()) {
-        Ok(name) => ServeError::File(name),
+        Ok(name) => ServeError::File(LostFile { name, reason }),
         Err(_) => ServeError::Memory,
     }
 }

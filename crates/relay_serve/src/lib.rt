@@ -16,6 +16,7 @@ mod gate;
 mod history;
 mod lives;
 mod ports;
+mod reasons;
 mod running;
 mod serving;
 mod starting;

@@ -50,8 +50,8 @@ NamesBuffer config fault = Unit {0}
 -- the failure names what can't be had, where it is a file or a port, or the
 -- buffer that has the fault, where a start has one of a buffer
 abbrev pub NamesFault : Config → ServeError → Type 0
-NamesFault config (faults.File name) = NamesFile config (string_bytes name)
-NamesFault config (faults.Port number) = NamesPort config number
+NamesFault config (faults.File lost) = NamesFile config (string_bytes lost.name)
+NamesFault config (faults.Port lost) = NamesPort config lost.number
 NamesFault config (faults.Start fault) = NamesBuffer config fault
 NamesFault config error = Unit {0}
 
