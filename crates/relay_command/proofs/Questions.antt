@@ -1,5 +1,6 @@
 -- What is asked of an article, by what is given for the words.
-use Rattle.std.proofs.Common.{◌≡◌, ap, refl, sym, ℕ, List, None, Some, codes, string_bytes}
+use Rattle.std.proofs.Common.{◌≡◌, ◌∙◌, ap, ap₂, sym, ℕ, List, Option, None, Some, codes}
+use Rattle.std.proofs.Common.{string_bytes}
 use Rattle.std.specs.Prelude.{option_map}
 use Rattle.clap.specs.Words.{Row, first_of}
 use Rattle.relay_command.specs.Questions.{Asking, question_given, question_of, size_given}
@@ -19,4 +20,9 @@ pub asks_of : (rows : List Row) (given : List ℕ) (question : Question)
     → string_bytes question.newsgroups ≡ given → question.size ≡ size_given rows
     → question_of (Some question) ≡ question_given rows
 asks_of rows given question some same sized =
-    rw (some, same, sized) refl
+    let made : List ℕ → ℕ → Option Asking =
+    λ newsgroups size. Some (record { newsgroups = newsgroups; size = size }) in
+    ap₂ made same sized ∙ sym (ap (option_map (λ (newsgroups : List ℕ). record {
+      newsgroups = newsgroups;
+      size = size_given rows;
+    })) some)

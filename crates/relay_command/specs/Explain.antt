@@ -1,6 +1,6 @@
 -- What is told of what a configuration does (docs/PROTOCOL.md, `explain`).
-use Rattle.std.specs.Prelude.{◌≡◌, ◌⊎◌, ◌==◌, ℕ, List, ◌++◌, codes, length, Option, None, Some}
-use Rattle.std.specs.Prelude.{Result, Ok, Err, if◌then◌else◌}
+use Rattle.std.specs.Prelude.{◌≡◌, ◌⊎◌, ◌==◌, ℕ, List, ◌++◌, codes, decimal, length, Option}
+use Rattle.std.specs.Prelude.{None, Some, Result, Ok, Err, if◌then◌else◌}
 use Rattle.std.specs.Io.KnownBytes.{Appends, Keeps}
 use Rattle.relay_conf.specs.declared.settings.Config.{Config}
 use Rattle.relay_drill.specs.Written.{GainsFront}
@@ -8,9 +8,11 @@ use Rattle.relay_explain.specs.Choice.{choice_text}
 use Rattle.relay_explain.specs.Explained.{explained}
 use Rattle.relay_explain.specs.declared.found.Found.{Found}
 use Rattle.relay_explain.specs.declared.whole.Sources.{Sources}
-use Rattle.relay_command.specs.Check.{HasError, check_text}
+use Rattle.relay_command.specs.Check.{HasError, file_name}
 use Rattle.relay_command.specs.Questions.{Asking}
 use Rattle.relay_command.specs.Sources.{IsSaidIn}
+use Rattle.relay_command.specs.declared.failure.Failure.{Failure}
+use Rattle.relay_command.specs.declared.failure.Failure.TheVariants.{Explain}
 use Rattle.relay_command.specs.declared.load.CheckError.{CheckError}
 use Rattle.relay_command.specs.declared.load.CheckError.TheVariants.{Memory, Unreadable, Faulty}
 use Rattle.relay_command.specs.declared.load.CheckError.TheVariants.{Unwritten}
@@ -63,15 +65,17 @@ fault_words file code =
     else if code == 7 then codes "a buffer in two groups, or twice in one"
     else codes "a group without a buffer, or no group at all"
 
--- the text of an error, without the line's end: what is told of the configuration, and below it
--- its fault in words
+-- the text of an error, without the end of its last line: what `check` tells, and below it the
+-- fault in words
 abbrev pub explain_text : CheckError → List ℕ
-explain_text Memory = check_text Memory
+explain_text Memory = codes "out of memory"
 explain_text (Unreadable file) =
-    check_text (Unreadable file) ++ codes "\nthere is no such file in the folder, or it can't be read"
+    file_name file
+    ++ codes ": unreadable\nthere is no such file in the folder, or it can't be read"
 explain_text (Faulty file line code name) =
-    check_text (Faulty file line code name) ++ codes "\n" ++ fault_words file code
-explain_text Unwritten = check_text Unwritten
+    file_name file ++ codes ":" ++ decimal line ++ codes ": " ++ decimal code ++ codes " "
+    ++ name.now ++ codes "\n" ++ fault_words file code
+explain_text Unwritten = codes "stdout: unwritten"
 
 -- the answer is that what is asked of the configuration in the folder was told, or the error of
 -- that, and then nothing was written; or it has none and the writer failed, with a front of what is
@@ -87,3 +91,12 @@ ExplainGives (Err (Faulty file line code name)) folder question before after =
     HasError folder (Faulty file line code name) × Keeps before after
 ExplainGives (Err Unwritten) folder question before after =
     (text : List ℕ) × IsAnswer folder question text × GainsFront text before after
+
+-- what is asked of the configuration in a folder is told, or that failed so
+abbrev pub ExplainsFolder : (folder : List ℕ) → Option Asking → Result (Unit {0}) Failure
+    → (before after : Option (List ℕ)) → Type 0
+ExplainsFolder folder question (Ok done) before after =
+    ExplainGives (Ok done) folder question before after
+ExplainsFolder folder question (Err (Explain unexplained)) before after =
+    ExplainGives (Err unexplained.error) folder question before after
+ExplainsFolder folder question (Err failure) before after = ⊥

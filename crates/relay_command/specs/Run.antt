@@ -10,7 +10,7 @@ use Rattle.relay_command.specs.Check.{CheckGives, HasError, IsIn}
 use Rattle.relay_command.specs.CommandLine.{Asked, Drills, Checks, Explains, Tells, Serves}
 use Rattle.relay_command.specs.CommandLine.{Stops, Reports}
 use Rattle.relay_command.specs.CommandLine.{IsAskedBy, IsRefusedBy}
-use Rattle.relay_command.specs.Explain.{ExplainGives}
+use Rattle.relay_command.specs.Explain.{ExplainsFolder}
 use Rattle.relay_command.specs.Files.{CannotBeRead}
 use Rattle.relay_command.specs.Serving.{Serving}
 use Rattle.relay_command.specs.Tell.{TellGives}
@@ -18,7 +18,7 @@ use Rattle.relay_command.specs.declared.ask.Request.{Request}
 use Rattle.relay_command.specs.declared.ask.Request.TheVariants.{Stop, Report}
 use Rattle.relay_command.specs.declared.failure.Failure.{Failure}
 use Rattle.relay_command.specs.declared.failure.Failure.TheVariants.{Words, Check, Drill, Serve}
-use Rattle.relay_command.specs.declared.failure.Failure.TheVariants.{Explain, Token, Ask}
+use Rattle.relay_command.specs.declared.failure.Failure.TheVariants.{Token, Ask}
 use Rattle.serve_terms.specs.Serve.{ServeGives}
 use Rattle.serve_terms.specs.declared.fault.ServeError.{ServeError}
 
@@ -96,10 +96,8 @@ Performs serving asking (Checks folder) (Ok done) input before after =
     CheckGives (Ok done) folder before after
 Performs serving asking (Checks folder) (Err (Check error)) input before after =
     CheckGives (Err error) folder before after
-Performs serving asking (Explains folder question) (Ok done) input before after =
-    ExplainGives (Ok done) folder question before after
-Performs serving asking (Explains folder question) (Err (Explain unexplained)) input before after =
-    ExplainGives (Err unexplained.error) folder question before after
+Performs serving asking (Explains folder question) result input before after =
+    ExplainsFolder folder question result before after
 Performs serving asking (Tells text) (Ok done) input before after =
     TellGives (Ok done) text before after
 Performs serving asking (Tells text) (Err (Token fault)) input before after =

@@ -124,8 +124,9 @@ fn explanation(alloc: Global, given: &ArgMatches<'_>) -> Result<Job, AllocError>
     ensures { IfOk result (λ job. asked job ≡ explains_by (rows_of (found_of given.now))) }
 {
     let question = question_in(alloc, given)?;
+    let named = word(alloc, given, "DIR")?;
     Ok(Job::Explain {
-        folder: word(alloc, given, "DIR")?,
+        folder: named,
         question,
     })
 }

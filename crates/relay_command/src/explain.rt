@@ -1,10 +1,11 @@
 //! Saying what a configuration does (docs/PROTOCOL.md, `explain`).
 ghost use Rattle.std.specs.Prelude.{◌≡◌, IfErr, IfOk, Some};
-ghost use Rattle.relay_command.specs.Explain.{ExplainGives, IsAnswer, IsChosen, IsTold};
-ghost use Rattle.relay_command.specs.Explain.{IsUntold, explain_text};
+ghost use Rattle.relay_command.specs.Explain.{ExplainGives, ExplainsFolder, IsAnswer, IsChosen};
+ghost use Rattle.relay_command.specs.Explain.{IsTold, IsUntold, explain_text};
 ghost use Rattle.relay_command.specs.Questions.{asked_of, question_of};
 ghost use Rattle.relay_command.specs.Explain as terms;
 
+use crate::failure::Failure;
 use crate::load::{CheckError, ConfFile};
 use crate::look::look_at_files;
 use crate::question::Question;
@@ -92,9 +93,27 @@ fn unknown_words(file: ConfFile) -> &'static str
     }
 }
 
+/// Says what the configuration in a folder does, or, where that is asked, where an article goes by
+/// it.
+pub(crate) fn explain_folder<R: Files, W: Write>(
+    rt: &R,
+    alloc: Global,
+    folder: &str,
+    question: &Option<Question>,
+    writer: &mut W,
+) -> Result<(), Failure>
+    ensures { ExplainsFolder folder.now (question_of question.now) result
+        (W.contents writer.old) (W.contents writer.new) }
+{
+    match explain_in(rt, alloc, folder, question, writer) {
+        Ok(()) => Ok(()),
+        Err(error) => Err(Failure::Explain(Unexplained { error })),
+    }
+}
+
 /// Writes what the configuration in a folder does, or the built-in one where the folder is `K1`; or,
 /// where that is asked, where an article goes by it.
-pub(crate) fn explain_in<R: Files, W: Write>(
+fn explain_in<R: Files, W: Write>(
     rt: &R,
     alloc: Global,
     folder: &str,

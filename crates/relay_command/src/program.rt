@@ -15,7 +15,7 @@ ghost use Rattle.relay_command.specs.declared.failure.Unbegun.TheVariants as beg
 use crate::ask::{Request, ask_in};
 use crate::check::check;
 use crate::command_line::{Job, read_words};
-use crate::explain::{Unexplained, explain_in};
+use crate::explain::explain_folder;
 use crate::failure::{Failure, Unbegun};
 use crate::file::read_file;
 use crate::gathered::hand_on;
@@ -147,12 +147,7 @@ where
             Ok(()) => Ok(()),
             Err(error) => Err(Failure::Check(error)),
         },
-        Job::Explain { folder, question } => {
-            match explain_in(rt, alloc, folder, question, writer) {
-                Ok(()) => Ok(()),
-                Err(error) => Err(Failure::Explain(Unexplained { error })),
-            }
-        }
+        Job::Explain { folder, question } => explain_folder(rt, alloc, folder, question, writer),
         Job::Token(text) => match tell(text.as_bytes(), writer) {
             Ok(()) => Ok(()),
             Err(fault) => Err(Failure::Token(fault)),
