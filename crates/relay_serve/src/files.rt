@@ -9,10 +9,11 @@ use crate::reasons::reason_of;
 use file_blocks::{FileBlocks, HeldFile, Unusable};
 use relay_conf::{BufferConf, Buffers};
 use serve_terms::{LostFile, Reason, ServeError};
-use std::alloc::Global;
+use std::alloc::{AllocError, Global};
 use std::fs::{File, Files};
+use std::os::unix::fs::MetadataExt;
 use std::path::Path;
-use std::str;
+use std::{fs, str};
 
 /// The file of each buffer, held, in the order of the buffers. A file whose path is relative lies in
 /// the folder. Nothing is read of them or written to them. The error is want of memory, or the first
@@ -32,7 +33,10 @@ pub fn hold_files<R: Files<File = File>>(
     for buffer in &settings.buffers {
         match hold_file(rt, alloc, buffer, folder, &files)? {
             Ok(file) => files.push_reserved(file),
-            Err(reason) => return Err(unusable(alloc, buffer, reason)),
+            Err(reason) => {
+                let count = files.len();
+                return Err(unheld(rt, alloc, settings, count, folder, buffer, reason));
+            }
         }
     }
     Ok(files)
@@ -61,6 +65,65 @@ fn hold_file<R: Files<File = File>>(
             Some(reason) => Ok(Err(reason)),
             None => Err(ServeError::Memory),
         },
+    }
+}
+
+/// The fault of the file of a buffer that can't be held. One that is locked may be the file of one
+/// of the first so many buffers, which hold theirs.
+fn unheld<R: Files>(
+    rt: &R,
+    alloc: Global,
+    settings: &Buffers,
+    count: usize,
+    folder: &str,
+    buffer: &BufferConf,
+    reason: Reason,
+) -> ServeError
+    ensures { IsFaultOf buffer.now result }
+{
+    match reason {
+        Reason::Held => match is_of_earlier(rt, alloc, settings, count, folder, buffer) {
+            Ok(true) => unusable(alloc, buffer, Reason::Shared),
+            Ok(false) => unusable(alloc, buffer, Reason::Held),
+            Err(_) => ServeError::Memory,
+        },
+        other => unusable(alloc, buffer, other),
+    }
+}
+
+/// Whether the file of a buffer is that of one of the first so many, whatever its name.
+fn is_of_earlier<R: Files>(
+    rt: &R,
+    alloc: Global,
+    settings: &Buffers,
+    count: usize,
+    folder: &str,
+    buffer: &BufferConf,
+) -> Result<bool, AllocError> {
+    let own = place_of(rt, alloc, folder, buffer)?;
+    for earlier in settings.buffers.iter().take(count) {
+        let place = place_of(rt, alloc, folder, earlier)?;
+        if own.is_some() && own == place {
+            return Ok(true);
+        }
+    }
+    Ok(false)
+}
+
+/// The device and the inode of the file of a buffer, where they are to be had.
+fn place_of<R: Files>(
+    rt: &R,
+    alloc: Global,
+    folder: &str,
+    buffer: &BufferConf,
+) -> Result<Option<(u64, u64)>, AllocError> {
+    let Ok(file) = str::from_utf8(buffer.file.as_slice()) else {
+        return Ok(None);
+    };
+    let path = Path::new(folder).join(alloc, file)?;
+    match fs::metadata(rt, path.as_str()) {
+        Ok(found) => Ok(Some((found.dev(), found.ino()))),
+        Err(_) => Ok(None),
     }
 }
 
