@@ -22,7 +22,7 @@ abbrev pub start_text : StartFault → List ℕ
 start_text starts.History = codes "relay.hist: unusable"
 start_text starts.BadHistory = codes "relay.hist: 5 BadHistory"
 start_text (starts.Buffer name fault) =
-    string_bytes name ++ codes ": " ++ buffer_fault_text fault
+    string_bytes name ++ (codes ": " ++ buffer_fault_text fault)
 start_text starts.Ahead = codes "relay.hist: 7 Ahead"
 
 -- why a relay couldn't be stopped so that it can start again

@@ -12,12 +12,13 @@ use Rattle.serve_terms.specs.declared.fault.ServeError.TheVariants.{Unwritten, S
 -- a file that can't be had: its name, and below it why
 abbrev pub lost_file_text : LostFile → List ℕ
 lost_file_text lost =
-    string_bytes lost.name ++ codes ": unusable\n" ++ reason_text lost.reason
+    string_bytes lost.name ++ (codes ": unusable\n" ++ reason_text lost.reason)
 
 -- a port that can't be had: its number, and below it why
 abbrev pub lost_port_text : LostPort → List ℕ
 lost_port_text lost =
-    codes "serve: " ++ decimal lost.number ++ codes ": unusable\n" ++ reason_text lost.reason
+    codes "serve: "
+    ++ (decimal lost.number ++ (codes ": unusable\n" ++ reason_text lost.reason))
 
 -- the text of a failure, without the end of its last line
 abbrev pub text_of : ServeError → List ℕ

@@ -20,17 +20,18 @@ pub enum BufferFault {
     Mixed,
 }
 
-impl Display for BufferFault {
-    ghost output = { λ fault. Some (buffer_fault_text fault) };
-
-    fn fmt<W: fmt::Write>(&self, formatter: &mut Formatter<W>) -> fmt::Result {
-        formatter.write_str(match self {
+impl BufferFault {
+    /// Its code and its name.
+    pub fn text(self) -> &'static str
+        ensures { result.now ≡ buffer_fault_text self }
+    {
+        match self {
             BufferFault::Device => "1 Device",
             BufferFault::NoHead => "2 NoHead",
             BufferFault::Unclosed => "3 Unclosed",
             BufferFault::Damaged => "4 Damaged",
             BufferFault::Mixed => "6 Mixed",
-        })
+        }
     }
 }
 
@@ -54,7 +55,10 @@ impl Display for StartFault {
         match self {
             StartFault::History => formatter.write_str("relay.hist: unusable"),
             StartFault::BadHistory => formatter.write_str("relay.hist: 5 BadHistory"),
-            StartFault::Buffer(name, fault) => write!(formatter, "{name}: {fault}"),
+            StartFault::Buffer(name, fault) => {
+                let text = fault.text();
+                write!(formatter, "{name}: {text}")
+            }
             StartFault::Ahead => formatter.write_str("relay.hist: 7 Ahead"),
         }
     }
