@@ -13,7 +13,11 @@ returns-in-None c =
 
 pub returns-in_ok-newsgroups-in-Some : goal.returns-in_ok-newsgroups-in-Some
 returns-in_ok-newsgroups-in-Some c =
-    asks_of (rows_of (found_of c.args.given.now)) c.in-Some.newsgroups.now _
+    asks_of (rows_of (found_of c.args.given.now)) c.in-Some.newsgroups.now
+    (record {
+      newsgroups = c.in_ok-newsgroups-in-Some.newsgroups;
+      size = c.size-size.result;
+    })
     (sym (first_value-rows (found_of c.args.given.now) _)
     ∙ sym c.get_str.ensures ∙ ap (option_map (λ s. s.now)) c.in-Some.is)
-    c.in_ok-newsgroups-in-Some.ensures c.size.ensures
+    c.in_ok-newsgroups-in-Some.ensures.ok c.size-size.ensures
