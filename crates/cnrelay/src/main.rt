@@ -54,8 +54,8 @@ where
         &words,
         &mut rt.reader(),
         &mut output,
-        move |config, folder, sessions, writer| serve_on(
-            rt, alloc, config, folder, sessions, writer,
+        move |config, folder, sessions, fresh, writer| serve_on(
+            rt, alloc, config, folder, sessions, fresh, writer,
         ),
         move |folder, request| ask_there(rt, alloc, folder, request),
     );

@@ -1,3 +1,4 @@
 pub mod CutLemmas
 pub mod HeadLemmas
 pub mod AskedLemmas
+mod BlankLemmas

@@ -1,5 +1,5 @@
 -- The blocks of a file, by its octets (docs/FORMATS.md, Blocks on the device, Head blocks).
-use Rattle.std.specs.Prelude.{◌≡◌, ◌+◌, ◌*◌, ℕ, zero, suc, List, [], ◌∷◌, take, drop}
+use Rattle.std.specs.Prelude.{◌≡◌, ◌+◌, ◌*◌, ℕ, zero, suc, List, [], ◌∷◌, All, take, drop}
 use Rattle.cyc_block.specs.declared.TheConstants.{BLOCK_OCTETS}
 use Rattle.news_terms.specs.HeadBlocks.{head_blocks}
 
@@ -15,6 +15,12 @@ blocks_of (suc n) octets = octets_at octets 0 ∷ blocks_of n (drop BLOCK_OCTETS
 -- the head blocks of a file of n blocks, which follow these (docs/FORMATS.md, Head blocks)
 abbrev pub heads_of : ℕ → List ℕ → List (List ℕ)
 heads_of n octets = blocks_of (head_blocks n) (drop (n * BLOCK_OCTETS) octets)
+
+-- no buffer of so many blocks was kept in these octets: those of its first block and of its first
+-- head block are all 0
+abbrev pub IsBlank : (n : ℕ) → List ℕ → Type 0
+IsBlank n octets = All (λ octet. octet ≡ 0) (octets_at octets 0)
+    × All (λ octet. octet ≡ 0) (octets_at octets (n * BLOCK_OCTETS))
 
 -- only the 512 octets at a place are others than before
 pub record ChangesOnlyAt (place : ℕ) (old new : List ℕ) : Type 0 where

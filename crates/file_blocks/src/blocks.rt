@@ -1,7 +1,7 @@
 //! Blocks in a file.
-ghost use Rattle.std.specs.Prelude.{◌≡◌, ◌+◌, ◌*◌, ◌↔◌, [], IfOk, IsTrue};
+ghost use Rattle.std.specs.Prelude.{◌≡◌, ◌+◌, ◌*◌, ◌↔◌, [], All, IfOk, IsTrue};
 ghost use Rattle.news_terms.specs.HeadBlocks.{head_blocks};
-ghost use Rattle.file_blocks.specs.Blocks.{blocks_of, heads_of};
+ghost use Rattle.file_blocks.specs.Blocks.{IsBlank, blocks_of, heads_of, octets_at};
 ghost use Rattle.file_blocks.specs.Store.{count_of, file_of};
 ghost use Rattle.file_blocks.specs.Host.{asked_of, held_identity, identity_of};
 
@@ -26,6 +26,47 @@ impl<F: OctetFile> FileBlocks<F> {
     {
         FileBlocks { file, count: n }
     }
+
+    /// Whether no buffer was kept in the file: each octet of its first block and of its first head
+    /// block is 0, as in a file that was just made.
+    pub fn is_blank(&mut self) -> Result<bool, DeviceFailed>
+        ensures blank { F.honest (file_of self.old) → IfOk result (λ blank. IsTrue blank
+            ↔ IsBlank (count_of self.old) (F.held (file_of self.old))) }
+        ensures count { count_of self.new ≡ count_of self.old }
+        ensures same { F.honest (file_of self.old)
+            → F.held (file_of self.new) ≡ F.held (file_of self.old) }
+        ensures honest { F.honest (file_of self.old) → F.honest (file_of self.new) }
+    {
+        let block = self.is_zero_at(0)?;
+        let head = self.is_zero_at(place_of(self.count))?;
+        Ok(block && head)
+    }
+
+    /// Whether each of the 512 octets at a place is 0.
+    fn is_zero_at(&mut self, place: u64) -> Result<bool, DeviceFailed>
+        ensures zero { F.honest self.old.file → IfOk result (λ zero. IsTrue zero
+            ↔ All (λ octet. octet ≡ 0) (octets_at (F.held self.old.file) place)) }
+        ensures count { self.new.count ≡ self.old.count }
+        ensures same { F.honest self.old.file
+            → F.held self.new.file ≡ F.held self.old.file }
+        ensures honest { F.honest self.old.file → F.honest self.new.file }
+    {
+        let mut octets = [0; BLOCK_OCTETS];
+        self.file.read(place, &mut octets)?;
+        Ok(is_zero(&octets))
+    }
+}
+
+/// Whether each octet is 0.
+fn is_zero(octets: &[u8]) -> bool
+    ensures { IsTrue result ↔ All (λ octet. octet ≡ 0) octets.now }
+{
+    for octet in octets {
+        if *octet != 0 {
+            return false;
+        }
+    }
+    true
 }
 
 impl FileBlocks<HostFile> {
@@ -52,6 +93,11 @@ impl FileBlocks<HostFile> {
         ensures same { IfOk result (λ store. identity_of (file_of store) ≡ held_identity held) }
     {
         Ok(FileBlocks::new(held.fit(size_of(n))?, n))
+    }
+
+    /// Has the device take all that was written.
+    pub fn flush(&self) -> Result<(), DeviceFailed> {
+        self.file.flush()
     }
 
     /// Whether both are over one file, whatever its names: the same inode of the same device.

@@ -146,6 +146,14 @@ impl HostFile {
         self.answer(place, answer)
     }
 
+    /// Has the device take all that was written.
+    pub(crate) fn flush(&self) -> Result<(), DeviceFailed> {
+        match self.file.sync_all() {
+            Ok(()) => Ok(()),
+            Err(_) => Err(DeviceFailed),
+        }
+    }
+
     /// Notes the answer of a call at a place, and says whether it failed.
     fn answer(&mut self, place: u64, answer: io::Result<()>) -> Result<(), DeviceFailed>
         ensures answer { is_err result ≡ is_err answer }

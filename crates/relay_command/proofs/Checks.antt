@@ -30,7 +30,7 @@ no_file_fails_so folder file reads fails = elim fails [
 ]
 
 -- An error of a configuration is not the writer's.
-never_unwritten : (folder : List ℕ) → HasError folder Unwritten → ⊥
+pub never_unwritten : (folder : List ℕ) → HasError folder Unwritten → ⊥
 never_unwritten folder (in_cycbuff fails) = no_file_fails_so folder files.Cycbuff CycbuffReads fails
 never_unwritten folder (in_storage buffers said fails) =
     no_file_fails_so folder files.Storage (StorageReads buffers) fails

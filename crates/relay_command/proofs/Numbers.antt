@@ -7,7 +7,7 @@ use Rattle.clap.specs.ValueTests.{is_unsigned_in}
 use Rattle.clap.specs.Words.{ReadsOne}
 use Rattle.clap.specs.declared.builder.ValueParser.TheVariants.{Unsigned}
 use Rattle.clap.proofs.ValueTestLemmas.{Accepts-accepts, accepts-Accepts}
-use Rattle.relay_command.specs.CommandLine.{number_of}
+use Rattle.relay_command.specs.Numbers.{number_of}
 
 -- A text that was read as a number of 32 bits stands for it, and one that couldn't be for none.
 pub number_read : {E : Type 0} (gives : List ℕ → Result ℕ E → Type 0) (text : List ℕ)

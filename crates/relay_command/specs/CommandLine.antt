@@ -1,20 +1,21 @@
 -- What the program's words ask for (docs/PROTOCOL.md, Commands), by what clap states of them.
-use Rattle.std.specs.Prelude.{◌≡◌, ◌⊎◌, ℕ, true, false, List, [], Option, Some, None}
+use Rattle.std.specs.Prelude.{◌≡◌, ◌⊎◌, ℕ, Bool, true, false, List, [], Option, Some, None}
 use Rattle.std.specs.Prelude.{Result, Ok, Err, unwrap_or, codes, string_bytes, if◌then◌else◌}
 use Rattle.std.specs.Prelude.{option_and_then, pos}
 use Rattle.std.specs.Str.{bytes_eq}
-use Rattle.std.specs.Str.Parse.{digits_value, without_leading_plus}
-use Rattle.clap.specs.ValueTests.{is_unsigned_in}
 use Rattle.clap.specs.Words.{App, app_of, Row, Rule, Text, first_of, new_app, new_rule, one_of}
 use Rattle.clap.specs.Words.{subcommand_of, with_rule, with_subcommand}
 use Rattle.clap.specs.Words.{IsAmong, fault_of, kind_of}
 use Rattle.clap.specs.declared.builder.Command.{Command}
 use Rattle.clap.specs.declared.builder.Command.TheViews.{out-Command as fields_of}
-use Rattle.clap.specs.declared.builder.ArgAction.TheVariants.{Set}
+use Rattle.clap.specs.declared.builder.ArgAction.TheVariants.{Set, SetTrue}
 use Rattle.clap.specs.declared.builder.ValueParser.TheVariants.{Signed}
 use Rattle.clap.specs.declared.error.Error.{Error}
 use Rattle.clap.specs.declared.error.kind.ErrorKind.{ErrorKind}
 use Rattle.clap.specs.declared.error.kind.ErrorKind.TheVariants.{OutOfMemory}
+use Rattle.relay_command.specs.Numbers.{number_of}
+use Rattle.relay_command.specs.Questions.{Asking, question_given, question_of}
+use Rattle.relay_command.specs.Questions as questions
 use Rattle.relay_command.specs.declared.command_line.Job.{Job}
 use Rattle.relay_command.specs.declared.command_line.Job.TheVariants as jobs
 
@@ -24,11 +25,13 @@ pub data Asked : Type 0 where
   Drills : (folder script : List ℕ) → Asked
   -- to read the configuration in a folder
   Checks : (folder : List ℕ) → Asked
+  -- to say what the configuration in a folder does, or where an article goes by it
+  Explains : (folder : List ℕ) (question : Option Asking) → Asked
   -- to tell the parts of a token
   Tells : (text : List ℕ) → Asked
   -- to serve the configuration in a folder on its ports: each until it has served so many
-  -- connections, or until the relay is told to stop
-  Serves : (folder : List ℕ) (sessions : Option ℕ) → Asked
+  -- connections, or until the relay is told to stop; from its files, or with all buffers formatted
+  Serves : (folder : List ℕ) (sessions : Option ℕ) (fresh : Bool) → Asked
   -- to have the relay end that is served in a folder
   Stops : (folder : List ℕ) → Asked
   -- to print the report of the relay that is served in a folder
@@ -38,8 +41,9 @@ pub data Asked : Type 0 where
 abbrev pub asked : Job → Asked
 asked (jobs.Drill folder script) = Drills (string_bytes folder) (string_bytes script)
 asked (jobs.Check folder) = Checks (string_bytes folder)
+asked (jobs.Explain folder question) = Explains (string_bytes folder) (question_of question)
 asked (jobs.Token text) = Tells (string_bytes text)
-asked (jobs.Serve folder sessions) = Serves (string_bytes folder) sessions
+asked (jobs.Serve folder sessions fresh) = Serves (string_bytes folder) sessions fresh
 asked (jobs.Stop folder) = Stops (string_bytes folder)
 asked (jobs.Report folder) = Reports (string_bytes folder)
 
@@ -56,6 +60,10 @@ abbrev pub drill_words : App
 drill_words =
     with_rule (with_rule (new_app (codes "drill")) (needed (codes "DIR"))) (needed (codes "SCRIPT"))
 
+-- `explain DIR [NEWSGROUPS] [SIZE]`
+abbrev pub explain_words : App
+explain_words = questions.explain_words (needed (codes "DIR"))
+
 -- `report DIR`
 abbrev pub report_words : App
 report_words = with_rule (new_app (codes "report")) (needed (codes "DIR"))
@@ -69,9 +77,16 @@ sessions_rule = record (new_rule (codes "sessions")) {
   action = Some Set;
 }
 
--- `serve DIR [--sessions N]`
+-- `--fresh`, which has no value and may be left out
+abbrev pub fresh_rule : Rule
+fresh_rule =
+    record (new_rule (codes "fresh")) { long = Some (codes "fresh"); action = Some SetTrue }
+
+-- `serve DIR [--sessions N] [--fresh]`
 abbrev pub serve_words : App
-serve_words = with_rule (with_rule (new_app (codes "serve")) (needed (codes "DIR"))) sessions_rule
+serve_words =
+    with_rule (with_rule (with_rule (new_app (codes "serve")) (needed (codes "DIR")))
+    sessions_rule) fresh_rule
 
 -- `stop DIR`
 abbrev pub stop_words : App
@@ -90,8 +105,8 @@ version_words =
 abbrev pub program_words : App
 program_words =
     with_subcommand (with_subcommand (with_subcommand (with_subcommand (with_subcommand
-    (with_subcommand version_words check_words.top) drill_words.top) report_words.top)
-    serve_words.top) stop_words.top) token_words.top
+    (with_subcommand (with_subcommand version_words check_words.top) drill_words.top)
+    explain_words.top) report_words.top) serve_words.top) stop_words.top) token_words.top
 
 -- the command reads these words, and has no argument that counts below it too
 pub record Reads (command : Command) (app : App) : Type 0 where
@@ -102,18 +117,22 @@ pub record Reads (command : Command) (app : App) : Type 0 where
 abbrev pub word_given : Text → List Row → List ℕ
 word_given name rows = unwrap_or (first_of name rows) []
 
--- the number of a text that clap takes for a number of 32 bits
-abbrev pub number_of : Text → Option ℕ
-number_of text = if is_unsigned_in 0 4294967295 text
-    then Some (digits_value 10 (without_leading_plus text)) else None
-
 -- the number given for `--sessions`, where there is one
 abbrev pub sessions_given : List Row → Option ℕ
 sessions_given rows = option_and_then number_of (one_of (codes "sessions") rows)
 
+-- whether `--fresh` is given, which stands for `true` then, as clap has it
+abbrev pub fresh_given : List Row → Bool
+fresh_given rows = bytes_eq (word_given (codes "fresh") rows) (codes "true")
+
 -- what `serve` asks, with what is given for its names
 abbrev pub serves_by : List Row → Asked
-serves_by rows = Serves (word_given (codes "DIR") rows) (sessions_given rows)
+serves_by rows =
+    Serves (word_given (codes "DIR") rows) (sessions_given rows) (fresh_given rows)
+
+-- what `explain` asks, with what is given for its names
+abbrev pub explains_by : List Row → Asked
+explains_by rows = Explains (word_given (codes "DIR") rows) (question_given rows)
 
 -- what is asked by the subcommand that the words name, with what is given for its names; without
 -- one it is a drill with the built-in configuration, of the script on standard input
@@ -121,6 +140,7 @@ abbrev pub asked_by : Option (Text × List Row) → Asked
 asked_by None = Drills (codes "K1") (codes "stdin")
 asked_by (Some met) =
     if bytes_eq met.0 (codes "check") then Checks (word_given (codes "DIR") met.1)
+    else if bytes_eq met.0 (codes "explain") then explains_by met.1
     else if bytes_eq met.0 (codes "token") then Tells (word_given (codes "TEXT") met.1)
     else if bytes_eq met.0 (codes "serve") then serves_by met.1
     else if bytes_eq met.0 (codes "stop") then Stops (word_given (codes "DIR") met.1)

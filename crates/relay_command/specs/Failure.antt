@@ -11,12 +11,15 @@ use Rattle.relay_drill.specs.Text.{text_of}
 use Rattle.relay_drill.specs.declared.fault.DrillError.TheVariants as drill
 use Rattle.relay_command.specs.Ask.{ask_text}
 use Rattle.relay_command.specs.Check.{check_text}
+use Rattle.relay_command.specs.Explain.{explain_text}
 use Rattle.relay_command.specs.Tell.{fault_text}
 use Rattle.relay_command.specs.Version.{version_line}
 use Rattle.relay_command.specs.declared.ask.AskError.TheVariants as ask
+use Rattle.relay_command.specs.declared.load.CheckError as load
 use Rattle.relay_command.specs.declared.load.CheckError.TheVariants as check
 use Rattle.relay_command.specs.declared.failure.Failure.{Failure}
 use Rattle.relay_command.specs.declared.failure.Failure.TheVariants.{Unbegun, Words, Check}
+use Rattle.relay_command.specs.declared.failure.Failure.TheVariants.{Explain}
 use Rattle.relay_command.specs.declared.failure.Failure.TheVariants.{Drill, Serve, Token, Ask}
 use Rattle.relay_command.specs.declared.failure.Failure.TheVariants.{Unwritten}
 use Rattle.relay_command.specs.declared.failure.Unbegun.TheVariants as unbegun
@@ -35,16 +38,21 @@ abbrev pub words_status : ErrorKind → ℕ
 words_status OutOfMemory = 5
 words_status kind = 1
 
+-- 2 where a configuration is at fault or can't be read, 4 where the writer failed, 5 for memory
+abbrev pub check_status : load.CheckError → ℕ
+check_status check.Memory = 5
+check_status (check.Unreadable file) = 2
+check_status (check.Faulty file line code name) = 2
+check_status check.Unwritten = 4
+
 -- 1 for the command line, 2 for the configuration, 3 for the script or the token, 4 for the output,
--- a file, a port, a relay that can't start or one that can't be asked, 5 for memory or a thread
+-- a file, a port, a relay that can't start, be stopped or be asked, 5 for memory or a thread
 abbrev pub status_of : Failure → ℕ
 status_of (Unbegun unbegun.Memory) = 5
 status_of (Unbegun unbegun.NoText) = 1
 status_of (Words error) = words_status (kind_of error)
-status_of (Check check.Memory) = 5
-status_of (Check (check.Unreadable file)) = 2
-status_of (Check (check.Faulty file line code name)) = 2
-status_of (Check check.Unwritten) = 4
+status_of (Check error) = check_status error
+status_of (Explain unexplained) = check_status unexplained.error
 status_of (Drill drill.Memory) = 5
 status_of (Drill (drill.Line number)) = 3
 status_of (Drill drill.Unreadable) = 3
@@ -56,12 +64,14 @@ status_of (Token token.Marks) = 3
 status_of (Token token.Digit) = 3
 status_of (Token token.LowerCase) = 3
 status_of (Token token.Unwritten) = 4
-status_of (Serve (serve.File name)) = 4
-status_of (Serve (serve.Port number)) = 4
+status_of (Serve (serve.File lost)) = 4
+status_of (Serve (serve.Port lost)) = 4
 status_of (Serve serve.Control) = 4
+status_of (Serve (serve.Start fault)) = 4
 status_of (Serve serve.Unseeded) = 4
 status_of (Serve serve.Memory) = 5
 status_of (Serve serve.NoThread) = 5
+status_of (Serve (serve.Stop fault)) = 4
 status_of (Serve serve.Unwritten) = 4
 status_of (Ask (ask.Unserved folder)) = 4
 status_of (Ask ask.Unusable) = 4
@@ -94,6 +104,7 @@ abbrev pub told_of : Failure → Option (List ℕ)
 told_of (Unbegun unbegun) = Some (ended (unbegun_text unbegun))
 told_of (Words error) = words_text (kind_of error)
 told_of (Check error) = Some (ended (check_text error))
+told_of (Explain unexplained) = Some (ended (explain_text unexplained.error))
 told_of (Drill error) = Some (ended (text_of error))
 told_of (Token fault) = Some (ended (fault_text fault))
 told_of (Serve error) = Some (ended (serving.text_of error))

@@ -1,10 +1,14 @@
 pub mod Ask
 pub mod Check
 pub mod CommandLine
+pub mod Explain
 pub mod Failure
 pub mod Files
 pub mod Gathered
+pub mod Numbers
+pub mod Questions
 pub mod Run
 pub mod Serving
+pub mod Sources
 pub mod Tell
 pub mod Version

@@ -1,5 +1,5 @@
 -- What a run of the program does (docs/PROTOCOL.md, Program).
-use Rattle.std.specs.Prelude.{◌≡◌, ◌≢◌, ℕ, List, codes, Option, Some, Result, Ok, Err}
+use Rattle.std.specs.Prelude.{◌≡◌, ◌≢◌, ℕ, Bool, List, codes, Option, Some, Result, Ok, Err}
 use Rattle.std.specs.Io.KnownBytes.{Keeps}
 use Rattle.clap.specs.Words.{Text}
 use Rattle.relay_conf.specs.declared.settings.Config.{Config}
@@ -7,8 +7,10 @@ use Rattle.relay_drill.specs.Drill.{DrillGives}
 use Rattle.relay_drill.specs.declared.fault.DrillError.{DrillError}
 use Rattle.relay_command.specs.Ask.{Asking, AsksIn}
 use Rattle.relay_command.specs.Check.{CheckGives, HasError, IsIn}
-use Rattle.relay_command.specs.CommandLine.{Asked, Drills, Checks, Tells, Serves, Stops, Reports}
+use Rattle.relay_command.specs.CommandLine.{Asked, Drills, Checks, Explains, Tells, Serves}
+use Rattle.relay_command.specs.CommandLine.{Stops, Reports}
 use Rattle.relay_command.specs.CommandLine.{IsAskedBy, IsRefusedBy}
+use Rattle.relay_command.specs.Explain.{ExplainsFolder}
 use Rattle.relay_command.specs.Files.{CannotBeRead}
 use Rattle.relay_command.specs.Serving.{Serving}
 use Rattle.relay_command.specs.Tell.{TellGives}
@@ -54,25 +56,26 @@ DrillsFolder folder script (Err (Check error)) input before after =
 DrillsFolder folder script (Err failure) input before after = ⊥
 
 -- What serving a relay with the configuration in a folder answers: what came is what serving comes
--- to with that configuration, that folder and that number of connections, and what serving a relay
--- of the configuration gives.
-abbrev pub ServesIn : Serving → (folder : List ℕ) (sessions : Option ℕ)
+-- to with that configuration, that folder, that number of connections and whether all is formatted,
+-- and what serving a relay of the configuration gives.
+abbrev pub ServesIn : Serving → (folder : List ℕ) (sessions : Option ℕ) (fresh : Bool)
     → Result (Unit {0}) ServeError → (before after : Option (List ℕ)) → Type 0
-ServesIn serving folder sessions result before after =
-    (config : Config) × IsIn folder config × serving config folder sessions result before after
+ServesIn serving folder sessions fresh result before after =
+    (config : Config) × IsIn folder config
+    × serving config folder sessions fresh result before after
     × ServeGives config result before after
 
 -- what was to be served with the configuration in a folder was, or failed so; where the
 -- configuration is at fault, nothing was served or written
-abbrev pub ServesFolder : Serving → (folder : List ℕ) (sessions : Option ℕ)
+abbrev pub ServesFolder : Serving → (folder : List ℕ) (sessions : Option ℕ) (fresh : Bool)
     → Result (Unit {0}) Failure → (before after : Option (List ℕ)) → Type 0
-ServesFolder serving folder sessions (Ok done) before after =
-    ServesIn serving folder sessions (Ok done) before after
-ServesFolder serving folder sessions (Err (Serve error)) before after =
-    ServesIn serving folder sessions (Err error) before after
-ServesFolder serving folder sessions (Err (Check error)) before after =
+ServesFolder serving folder sessions fresh (Ok done) before after =
+    ServesIn serving folder sessions fresh (Ok done) before after
+ServesFolder serving folder sessions fresh (Err (Serve error)) before after =
+    ServesIn serving folder sessions fresh (Err error) before after
+ServesFolder serving folder sessions fresh (Err (Check error)) before after =
     HasError folder error × Keeps before after
-ServesFolder serving folder sessions (Err failure) before after = ⊥
+ServesFolder serving folder sessions fresh (Err failure) before after = ⊥
 
 -- what the relay of a folder was asked for it told, or that failed so; no configuration is read
 abbrev pub AsksFolder : Asking → (folder : List ℕ) → Request → Result (Unit {0}) Failure
@@ -93,12 +96,14 @@ Performs serving asking (Checks folder) (Ok done) input before after =
     CheckGives (Ok done) folder before after
 Performs serving asking (Checks folder) (Err (Check error)) input before after =
     CheckGives (Err error) folder before after
+Performs serving asking (Explains folder question) result input before after =
+    ExplainsFolder folder question result before after
 Performs serving asking (Tells text) (Ok done) input before after =
     TellGives (Ok done) text before after
 Performs serving asking (Tells text) (Err (Token fault)) input before after =
     TellGives (Err fault) text before after
-Performs serving asking (Serves folder sessions) result input before after =
-    ServesFolder serving folder sessions result before after
+Performs serving asking (Serves folder sessions fresh) result input before after =
+    ServesFolder serving folder sessions fresh result before after
 Performs serving asking (Stops folder) result input before after =
     AsksFolder asking folder Stop result before after
 Performs serving asking (Reports folder) result input before after =

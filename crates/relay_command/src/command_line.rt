@@ -3,10 +3,12 @@ ghost use Rattle.std.specs.Prelude.{◌≡◌, false, map, string_bytes, None, S
 ghost use Rattle.clap.specs.Words.{found_of, rows_of, rule_of, subcommand_rows_of};
 ghost use Rattle.relay_command.specs.CommandLine.{Reads, ReadsWords, asked, asked_by};
 ghost use Rattle.relay_command.specs.CommandLine.{word_given, check_words, drill_words};
+ghost use Rattle.relay_command.specs.CommandLine.{explains_by, fresh_given, fresh_rule};
 ghost use Rattle.relay_command.specs.CommandLine.{serves_by, sessions_given, sessions_rule};
 ghost use Rattle.relay_command.specs.CommandLine.{needed, program_words, report_words, serve_words};
 ghost use Rattle.relay_command.specs.CommandLine.{stop_words, token_words, version_words};
 
+use crate::question::{Question, explain, question_in};
 use crate::version::VERSION;
 use clap::{Arg, ArgAction, ArgMatches, Command, Error, value_parser};
 use std::alloc::{AllocError, Global};
@@ -21,13 +23,21 @@ pub enum Job {
     },
     /// To read the configuration in this folder, or the built-in one, and say what it has.
     Check(String),
+    /// To say what the configuration in this folder does, or the built-in one; or where an article
+    /// goes by it.
+    Explain {
+        folder: String,
+        question: Option<Question>,
+    },
     /// To say what this text of a token stands for.
     Token(String),
     /// To serve the configuration in this folder, or the built-in one, on its peers' ports: each
-    /// until it has served so many connections, or without an end.
+    /// until it has served so many connections, or without an end; from its files, or with all
+    /// buffers formatted.
     Serve {
         folder: String,
         sessions: Option<u32>,
+        fresh: bool,
     },
     /// To have the relay end that is served in this folder.
     Stop(String),
@@ -74,6 +84,9 @@ fn job_named(alloc: Global, name: &str, given: &ArgMatches<'_>) -> Result<Job, A
     if name == "check" {
         return Ok(Job::Check(word(alloc, given, "DIR")?));
     }
+    if name == "explain" {
+        return explanation(alloc, given);
+    }
     if name == "token" {
         return Ok(Job::Token(word(alloc, given, "TEXT")?));
     }
@@ -98,7 +111,24 @@ fn service(alloc: Global, given: &ArgMatches<'_>) -> Result<Job, AllocError>
 {
     let folder = word(alloc, given, "DIR")?;
     let sessions = sessions(given);
-    Ok(Job::Serve { folder, sessions })
+    let fresh = fresh(given);
+    Ok(Job::Serve {
+        folder,
+        sessions,
+        fresh,
+    })
+}
+
+/// What `explain` asks for, with what was given for its words.
+fn explanation(alloc: Global, given: &ArgMatches<'_>) -> Result<Job, AllocError>
+    ensures { IfOk result (λ job. asked job ≡ explains_by (rows_of (found_of given.now))) }
+{
+    let question = question_in(alloc, given)?;
+    let named = word(alloc, given, "DIR")?;
+    Ok(Job::Explain {
+        folder: named,
+        question,
+    })
 }
 
 /// How many connections each port is to serve, where a number was given.
@@ -106,6 +136,16 @@ fn sessions(given: &ArgMatches<'_>) -> Option<u32>
     ensures { result ≡ sessions_given (rows_of (found_of given.now)) }
 {
     given.get_one::<u32>("sessions")
+}
+
+/// Whether all buffers are to be formatted.
+fn fresh(given: &ArgMatches<'_>) -> bool
+    ensures { result ≡ fresh_given (rows_of (found_of given.now)) }
+{
+    match given.get_str("fresh") {
+        Some(word) => word == "true",
+        None => false,
+    }
 }
 
 /// The word that was given for a name, empty where none was.
@@ -127,6 +167,7 @@ fn command<'a>(alloc: Global) -> Result<Command<'a>, AllocError>
         program(alloc)
             .subcommand(check(alloc)?)?
             .subcommand(drill(alloc)?)?
+            .subcommand(explain(alloc)?)?
             .subcommand(report(alloc)?)?
             .subcommand(serve(alloc)?)?
             .subcommand(stop(alloc)?)?
@@ -185,7 +226,7 @@ fn report<'a>(alloc: Global) -> Result<Command<'a>, AllocError>
     )
 }
 
-/// `serve DIR [--sessions N]`.
+/// `serve DIR [--sessions N] [--fresh]`.
 fn serve<'a>(alloc: Global) -> Result<Command<'a>, AllocError>
     ensures { IfOk result (λ command. Reads command serve_words) }
 {
@@ -193,11 +234,13 @@ fn serve<'a>(alloc: Global) -> Result<Command<'a>, AllocError>
         "The folder of the configuration: K1 is the built-in one",
     );
     let sessions = limit(alloc).help("Each port ends after so many connections: 1 to 1000000");
+    let fresh = anew(alloc).help("Begins with empty buffers, whatever the files have");
     Ok(
         Command::new(alloc, "serve")
             .about("Serves a configuration on its peers' ports")
             .arg(folder)?
-            .arg(sessions)?,
+            .arg(sessions)?
+            .arg(fresh)?,
     )
 }
 
@@ -211,6 +254,16 @@ fn limit<'a>(alloc: Global) -> Arg<'a>
         .value_name("N")
         .value_parser(value_parser!(u32).range(1..1_000_001))
         .action(ArgAction::Set)
+}
+
+/// `--fresh`.
+fn anew<'a>(alloc: Global) -> Arg<'a>
+    ensures rule { rule_of result ≡ fresh_rule }
+    ensures own { result.global ≡ false }
+{
+    Arg::new(alloc, "fresh")
+        .long("fresh")
+        .action(ArgAction::SetTrue)
 }
 
 /// `stop DIR`.
@@ -238,7 +291,7 @@ fn token<'a>(alloc: Global) -> Result<Command<'a>, AllocError>
 }
 
 /// A word that has to be there.
-fn needed<'a>(alloc: Global, name: &'a str) -> Arg<'a>
+pub(crate) fn needed<'a>(alloc: Global, name: &'a str) -> Arg<'a>
     ensures rule { rule_of result ≡ needed name.entry.now }
     ensures own { result.global ≡ false }
 {

@@ -3,9 +3,10 @@ ghost use Rattle.std.specs.Prelude.{◌≡◌, Some, OnOk};
 ghost use Rattle.std.specs.Process.{exit_status};
 ghost use Rattle.clap.specs.Words.{kind_of};
 ghost use Rattle.relay_command.specs.Failure.{ends_with, status_of, Tells, unbegun_text};
-ghost use Rattle.relay_command.specs.Failure.{TellsWords, words_status};
+ghost use Rattle.relay_command.specs.Failure.{TellsWords, check_status, words_status};
 
 use crate::ask::AskError;
+use crate::explain::Unexplained;
 use crate::load::CheckError;
 use crate::token::TokenFault;
 use crate::version::tell_version;
@@ -52,6 +53,9 @@ pub enum Failure {
     /// A configuration can't be had, or is not told.
     #[error(transparent)]
     Check(CheckError),
+    /// A configuration can't be had, or is not explained.
+    #[error(transparent)]
+    Explain(Unexplained),
     /// A script did not run to its end.
     #[error(transparent)]
     Drill(DrillError),
@@ -77,21 +81,22 @@ impl Failure {
         match self {
             Failure::Unbegun(Unbegun::NoText) => 1,
             Failure::Words(error) => words_status(error),
-            Failure::Check(CheckError::Unreadable(_) | CheckError::Faulty { .. }) => 2,
+            Failure::Check(error) => check_status(error),
+            Failure::Explain(unexplained) => check_status(&unexplained.error),
             Failure::Drill(DrillError::Line(_) | DrillError::Unreadable) => 3,
             Failure::Token(TokenFault::Unwritten) => 4,
             Failure::Token(_) => 3,
             Failure::Unwritten => 4,
-            Failure::Check(CheckError::Unwritten) => 4,
             Failure::Drill(DrillError::Unwritten | DrillError::Unseeded) => 4,
             Failure::Drill(DrillError::Device) => 4,
             Failure::Serve(ServeError::File(_) | ServeError::Port(_)) => 4,
             Failure::Serve(ServeError::Control) => 4,
+            Failure::Serve(ServeError::Start(_) | ServeError::Stop(_)) => 4,
             Failure::Serve(ServeError::Unseeded | ServeError::Unwritten) => 4,
             Failure::Ask(AskError::Unserved(_) | AskError::Unusable) => 4,
             Failure::Ask(AskError::Unwritten) => 4,
             Failure::Unbegun(Unbegun::Memory) => 5,
-            Failure::Check(CheckError::Memory) | Failure::Drill(DrillError::Memory) => 5,
+            Failure::Drill(DrillError::Memory) => 5,
             Failure::Serve(ServeError::Memory | ServeError::NoThread) => 5,
             Failure::Ask(AskError::Memory) => 5,
         }
@@ -109,6 +114,17 @@ fn words_status(error: &clap::Error) -> u8
     }
 }
 
+/// The status where a configuration is at fault, can't be read, or is not told.
+fn check_status(error: &CheckError) -> u8
+    ensures { result ≡ check_status error.now }
+{
+    match error {
+        CheckError::Unreadable(_) | CheckError::Faulty { .. } => 2,
+        CheckError::Unwritten => 4,
+        CheckError::Memory => 5,
+    }
+}
+
 /// Writes the text of the failure where there is one: what goes to standard error.
 pub fn print_failure<W: Write>(ran: &Result<(), Failure>, writer: &mut W) -> io::Result<()>
     ensures { OnOk result (Tells ran.now (W.contents writer.old) (W.contents writer.new)) }
@@ -118,6 +134,7 @@ pub fn print_failure<W: Write>(ran: &Result<(), Failure>, writer: &mut W) -> io:
         Err(Failure::Unbegun(unbegun)) => writeln!(writer, "{unbegun}"),
         Err(Failure::Words(error)) => print_words(error, writer),
         Err(Failure::Check(error)) => writeln!(writer, "{error}"),
+        Err(Failure::Explain(unexplained)) => writeln!(writer, "{unexplained}"),
         Err(Failure::Drill(error)) => writeln!(writer, "{error}"),
         Err(Failure::Token(fault)) => writeln!(writer, "{fault}"),
         Err(Failure::Serve(error)) => writeln!(writer, "{error}"),

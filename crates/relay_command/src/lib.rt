@@ -1,5 +1,5 @@
 //! What the program does with its words (docs/PROTOCOL.md, Program): it runs a drill, says what a
-//! configuration has, or what a token stands for, has a relay served on ports, or asks one that is
+//! configuration has, what it does, or what a token stands for, has a relay served on ports, or asks one that is
 //! served to end or for its report; and why it ends where it fails, with the status.
 //!
 //! The words decide which of these is done, on which streams and with which failure (`run`). Where
@@ -9,16 +9,21 @@
 mod ask;
 mod check;
 mod command_line;
+mod explain;
 mod failure;
 mod file;
 mod gathered;
 mod load;
+mod look;
 mod program;
+mod question;
 mod serve;
+mod sources;
 mod token;
 mod version;
 
 pub use ask::{AskError, Request};
+pub use explain::Unexplained;
 pub use failure::{Failure, Unbegun, exit_code, print_failure};
 pub use gathered::gathering;
 pub use load::{CheckError, ConfFile};

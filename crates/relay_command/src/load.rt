@@ -89,7 +89,7 @@ impl Error for CheckError {}
 
 impl CheckError {
     /// The fault of a file.
-    fn of(file: ConfFile, error: ConfError) -> CheckError
+    pub(crate) fn of(file: ConfFile, error: ConfError) -> CheckError
         ensures { IsErrorIn file error result }
     {
         match error {
@@ -169,7 +169,7 @@ fn load_relay<R: Files>(rt: &R, alloc: Global, folder: &str) -> Result<Relay, Ch
 }
 
 /// The text of a file of a folder: of `K1` the built-in one.
-fn text_of<R: Files>(
+pub(crate) fn text_of<R: Files>(
     rt: &R,
     alloc: Global,
     folder: &str,

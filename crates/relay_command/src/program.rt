@@ -15,6 +15,7 @@ ghost use Rattle.relay_command.specs.declared.failure.Unbegun.TheVariants as beg
 use crate::ask::{Request, ask_in};
 use crate::check::check;
 use crate::command_line::{Job, read_words};
+use crate::explain::explain_folder;
 use crate::failure::{Failure, Unbegun};
 use crate::file::read_file;
 use crate::gathered::hand_on;
@@ -67,8 +68,9 @@ fn unread(kind: ErrorKind) -> Unbegun
 /// Does what the words ask for, of which the first is the program's name. `reader` is standard
 /// input; what is printed where nothing fails goes to standard output by `writer`, and is handed on
 /// to its end before a failure is told. `rt` has the files, and seeds the core's hasher; `serve` is
-/// asked to serve a relay on ports: with its configuration, the folder of its files, and after how
-/// many connections each port ends. `ask` is asked what the relay tells that is served in a folder.
+/// asked to serve a relay on ports: with its configuration, the folder of its files, after how many
+/// connections each port ends, and whether all buffers are formatted. `ask` is asked what the relay
+/// tells that is served in a folder.
 pub fn run<S: Files + RandomSource, R: Read, W: Write + Drop, V, A>(
     rt: &S,
     alloc: Global,
@@ -79,7 +81,7 @@ pub fn run<S: Files + RandomSource, R: Read, W: Write + Drop, V, A>(
     ask: A,
 ) -> Result<(), Failure>
 where
-    V: FnOnce(&Config, &str, Option<u32>, &mut BufWriter<W>) -> Result<(), ServeError>,
+    V: FnOnce(&Config, &str, Option<u32>, bool, &mut BufWriter<W>) -> Result<(), ServeError>,
     A: FnOnce(&str, Request) -> io::Result<Vec<u8>>,
     requires called { V.IsAlwaysCallable serve }
     requires asked { A.IsAlwaysCallable ask }
@@ -104,7 +106,7 @@ fn obey<S: Files + RandomSource, R: Read, W: Write, V, A>(
     ask: A,
 ) -> Result<(), Failure>
 where
-    V: FnOnce(&Config, &str, Option<u32>, &mut W) -> Result<(), ServeError>,
+    V: FnOnce(&Config, &str, Option<u32>, bool, &mut W) -> Result<(), ServeError>,
     A: FnOnce(&str, Request) -> io::Result<Vec<u8>>,
     requires called { V.IsAlwaysCallable serve }
     requires asked { A.IsAlwaysCallable ask }
@@ -130,7 +132,7 @@ fn perform<S: Files + RandomSource, R: Read, W: Write, V, A>(
     ask: A,
 ) -> Result<(), Failure>
 where
-    V: FnOnce(&Config, &str, Option<u32>, &mut W) -> Result<(), ServeError>,
+    V: FnOnce(&Config, &str, Option<u32>, bool, &mut W) -> Result<(), ServeError>,
     A: FnOnce(&str, Request) -> io::Result<Vec<u8>>,
     requires called { V.IsAlwaysCallable serve }
     requires asked { A.IsAlwaysCallable ask }
@@ -145,11 +147,16 @@ where
             Ok(()) => Ok(()),
             Err(error) => Err(Failure::Check(error)),
         },
+        Job::Explain { folder, question } => explain_folder(rt, alloc, folder, question, writer),
         Job::Token(text) => match tell(text.as_bytes(), writer) {
             Ok(()) => Ok(()),
             Err(fault) => Err(Failure::Token(fault)),
         },
-        Job::Serve { folder, sessions } => serve_in(rt, alloc, folder, *sessions, writer, serve),
+        Job::Serve {
+            folder,
+            sessions,
+            fresh,
+        } => serve_in(rt, alloc, folder, *sessions, *fresh, writer, serve),
         Job::Stop(folder) => ask_in(alloc, folder, Request::Stop, writer, ask),
         Job::Report(folder) => ask_in(alloc, folder, Request::Report, writer, ask),
     }

@@ -12,27 +12,29 @@ use std::fs::Files;
 use std::io::Write;
 
 /// Has a relay served with the configuration in a folder, which is read first, until each of its
-/// ports has served so many connections; without a number they have no end.
+/// ports has served so many connections; without a number they have no end. Whether all its buffers
+/// are to be formatted is handed on.
 pub fn serve_in<S: Files, W: Write, V>(
     rt: &S,
     alloc: Global,
     folder: &str,
     sessions: Option<u32>,
+    fresh: bool,
     writer: &mut W,
     serve: V,
 ) -> Result<(), Failure>
 where
-    V: FnOnce(&Config, &str, Option<u32>, &mut W) -> Result<(), ServeError>,
+    V: FnOnce(&Config, &str, Option<u32>, bool, &mut W) -> Result<(), ServeError>,
     requires called { V.IsAlwaysCallable serve }
     requires rightly { AnswersRightly W.contents (V.post serve) }
-    ensures { ServesFolder (Handed W.contents (V.post serve)) folder.now sessions result
+    ensures { ServesFolder (Handed W.contents (V.post serve)) folder.now sessions fresh result
         (W.contents writer.old) (W.contents writer.new) }
 {
     let config = match load(rt, alloc, folder) {
         Ok(config) => config,
         Err(error) => return Err(Failure::Check(error)),
     };
-    match serve(&config, folder, sessions, writer) {
+    match serve(&config, folder, sessions, fresh, writer) {
         Ok(()) => Ok(()),
         Err(error) => Err(Failure::Serve(error)),
     }

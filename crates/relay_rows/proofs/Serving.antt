@@ -22,9 +22,11 @@ pub printed : (config : Config) (totals : Totals) (result : Result (Unit {0}) Se
     (before after : Option (List ℕ)) → AreOf config totals
     → PrintGives totals result before after → ServeGives config result before after
 printed config totals (Ok done) before after of gives = (totals, of, gives)
-printed config totals (Err (faults.File name)) before after of gives = absurd gives
-printed config totals (Err (faults.Port number)) before after of gives = absurd gives
+printed config totals (Err (faults.File lost)) before after of gives = absurd gives
+printed config totals (Err (faults.Port lost)) before after of gives = absurd gives
 printed config totals (Err faults.Control) before after of gives = absurd gives
+printed config totals (Err (faults.Start fault)) before after of gives = absurd gives
+printed config totals (Err (faults.Stop fault)) before after of gives = absurd gives
 printed config totals (Err faults.Unseeded) before after of gives = absurd gives
 printed config totals (Err faults.Memory) before after of gives = (tt, gives)
 printed config totals (Err faults.NoThread) before after of gives = absurd gives

@@ -157,8 +157,8 @@ impl<'a> Row<'a> {
             &words,
             &mut input,
             output,
-            move |config, folder, sessions, writer| {
-                serve(alloc, ending, config, folder, sessions, writer)
+            move |config, folder, sessions, fresh, writer| {
+                serve(alloc, ending, config, folder, sessions, fresh, writer)
             },
             move |folder, request| ask(alloc, manner, folder, request),
         )

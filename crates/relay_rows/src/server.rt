@@ -11,7 +11,9 @@ use line_words::Octets;
 use relay_conf::{BufferConf, Config, Peer, Relay};
 use relay_core::{FeedFigures, Figures, NamedBuffer, NamedFeed};
 use relay_report::Totals;
-use serve_terms::{ServeError, print_totals};
+use serve_terms::{
+    BufferFault, LostFile, LostPort, Reason, ServeError, StartFault, StopFault, print_totals,
+};
 use std::alloc::{AllocError, Global};
 use std::io::Write;
 
@@ -34,6 +36,16 @@ pub enum Ending {
     Thread,
     /// `unwritten`: the report takes none of its octets.
     Unwritten,
+    /// `start NAME`: the first buffer has a fault.
+    Buffer(BufferFault),
+    /// `start History`: the history can't be read.
+    History,
+    /// `start BadHistory`: it is none.
+    BadHistory,
+    /// `start Ahead`: it speaks of articles that aren't there.
+    Ahead,
+    /// `stop NAME`: it can't be stopped.
+    Stop(StopFault),
 }
 
 /// The ending that a row's line names.
@@ -59,7 +71,50 @@ pub fn ending_of(manner: &[u8]) -> Ending {
     if manner == b"unwritten".as_slice() {
         return Ending::Unwritten;
     }
+    if let Some(fault) = manner.strip_prefix(b"start ".as_slice()) {
+        return start_of(fault);
+    }
+    if let Some(fault) = manner.strip_prefix(b"stop ".as_slice()) {
+        return stop_of(fault);
+    }
     Ending::Reported
+}
+
+/// The ending by the fault of a start of this name.
+fn start_of(fault: &[u8]) -> Ending {
+    if fault == b"Device".as_slice() {
+        return Ending::Buffer(BufferFault::Device);
+    }
+    if fault == b"NoHead".as_slice() {
+        return Ending::Buffer(BufferFault::NoHead);
+    }
+    if fault == b"Unclosed".as_slice() {
+        return Ending::Buffer(BufferFault::Unclosed);
+    }
+    if fault == b"Damaged".as_slice() {
+        return Ending::Buffer(BufferFault::Damaged);
+    }
+    if fault == b"Mixed".as_slice() {
+        return Ending::Buffer(BufferFault::Mixed);
+    }
+    if fault == b"BadHistory".as_slice() {
+        return Ending::BadHistory;
+    }
+    if fault == b"Ahead".as_slice() {
+        return Ending::Ahead;
+    }
+    Ending::History
+}
+
+/// The ending by the fault of a stop of this name.
+fn stop_of(fault: &[u8]) -> Ending {
+    if fault == b"NotIdle".as_slice() {
+        return Ending::Stop(StopFault::NotIdle);
+    }
+    if fault == b"Device".as_slice() {
+        return Ending::Stop(StopFault::Device);
+    }
+    Ending::Stop(StopFault::History)
 }
 
 /// Serves in a row, with this ending.
@@ -69,11 +124,12 @@ pub fn serve<W: Write>(
     config: &Config,
     folder: &str,
     sessions: Option<u32>,
+    fresh: bool,
     writer: &mut W,
 ) -> Result<(), ServeError>
     ensures { ServeGives config.now result (W.contents writer.old) (W.contents writer.new) }
 {
-    let totals = totals_of(alloc, config, folder, sessions)?;
+    let totals = totals_of(alloc, config, folder, sessions, fresh)?;
     if matches!(ending, Ending::Unwritten) {
         return Err(ServeError::Unwritten);
     }
@@ -95,11 +151,12 @@ fn failure_of(
     match ending {
         Ending::File => file_of(alloc, config),
         Ending::Port => Ok(port_of(config)),
+        Ending::Buffer(fault) => buffer_of(alloc, config, fault),
         other => Ok(plain_failure(other)),
     }
 }
 
-/// The failure of this ending, where it is neither a file nor a port.
+/// The failure of this ending, where it is neither a file nor a port nor a buffer.
 fn plain_failure(ending: Ending) -> Option<ServeError>
     ensures { IfSome result (λ error. (config : Config) (held : Option (List ℕ))
         → ServeGives config (Err error) held held) }
@@ -109,6 +166,10 @@ fn plain_failure(ending: Ending) -> Option<ServeError>
         Ending::Unseeded => Some(ServeError::Unseeded),
         Ending::Memory => Some(ServeError::Memory),
         Ending::Thread => Some(ServeError::NoThread),
+        Ending::History => Some(ServeError::Start(StartFault::History)),
+        Ending::BadHistory => Some(ServeError::Start(StartFault::BadHistory)),
+        Ending::Ahead => Some(ServeError::Start(StartFault::Ahead)),
+        Ending::Stop(fault) => Some(ServeError::Stop(fault)),
         _ => None,
     }
 }
@@ -119,10 +180,29 @@ fn file_of(alloc: Global, config: &Config) -> Result<Option<ServeError>, AllocEr
         → ServeGives config.now (Err error) held held)) }
 {
     match config.buffers.buffers.first() {
-        Some(buffer) => Ok(Some(ServeError::File(String::from_utf8_lossy(
-            alloc,
-            buffer.file.as_slice(),
-        )?))),
+        Some(buffer) => {
+            let name = String::from_utf8_lossy(alloc, buffer.file.as_slice())?;
+            let reason = Reason::NoFolder;
+            Ok(Some(ServeError::File(LostFile { name, reason })))
+        }
+        None => Ok(None),
+    }
+}
+
+/// That the relay can't start from the first buffer.
+fn buffer_of(
+    alloc: Global,
+    config: &Config,
+    fault: BufferFault,
+) -> Result<Option<ServeError>, AllocError>
+    ensures { IfOk result (λ said. IfSome said (λ error. (held : Option (List ℕ))
+        → ServeGives config.now (Err error) held held)) }
+{
+    match config.buffers.buffers.first() {
+        Some(buffer) => {
+            let name = String::from_utf8_lossy(alloc, buffer.name.as_slice())?;
+            Ok(Some(ServeError::Start(StartFault::Buffer(name, fault))))
+        }
         None => Ok(None),
     }
 }
@@ -134,19 +214,23 @@ fn port_of(config: &Config) -> Option<ServeError>
 {
     for peer in &config.relay.peers {
         if peer.port != 0 {
-            return Some(ServeError::Port(peer.port));
+            let number = peer.port;
+            let reason = Reason::InUse;
+            return Some(ServeError::Port(LostPort { number, reason }));
         }
     }
     None
 }
 
 /// The totals of a relay to which nothing came, but for its message-ids: as many are offered as the
-/// folder's name has octets, and as many stored as connections were asked for.
+/// folder's name has octets, as many stored as connections were asked for, and one is refused where
+/// all is formatted.
 fn totals_of(
     alloc: Global,
     config: &Config,
     folder: &str,
     sessions: Option<u32>,
+    fresh: bool,
 ) -> Result<Totals, AllocError>
     ensures { IfOk result (AreOf config.now) }
 {
@@ -160,7 +244,7 @@ fn totals_of(
                 offered: folder.len() as u128,
                 storing: 0,
                 stored: u128::from(sessions.unwrap_or(0)),
-                refused: 0,
+                refused: if fresh { 1 } else { 0 },
             },
         },
         accepted: 0,

@@ -6,7 +6,8 @@ use Rattle.std.specs.Io.KnownBytes.{Keeps}
 use Rattle.std.specs.Result.{IsErr, IsErrAnd}
 use Rattle.cyc_block.specs.declared.store.BlockStore.{Ghosts}
 use Rattle.relay_conf.specs.declared.settings.Config.{Config}
-use Rattle.relay_serve.specs.Running.{IsRelayFault, IsRunFault, IsServeFault}
+use Rattle.relay_serve.specs.History.{IsOriginFault}
+use Rattle.relay_serve.specs.Running.{IsRelayFault, IsRunFault, IsServeFault, IsStopFault}
 use Rattle.serve_terms.specs.Serve.{ServeGives}
 use Rattle.serve_terms.specs.declared.fault.ServeError.{ServeError}
 use Rattle.serve_terms.specs.declared.fault.ServeError.TheVariants as faults
@@ -21,10 +22,27 @@ run_serves g config stores error (inr (inl unseeded)) =
 run_serves g config stores error (inr (inr threads)) =
     subst (IsRelayFault g config stores) (sym threads) tt
 
+-- that it couldn't be stopped is one
+pub stop_stays : {S : Type 0} (g : Ghosts S) (config : Config) (stores : List S)
+    (error : ServeError) → IsStopFault error → IsRelayFault g config stores error
+stop_stays g config stores (faults.Stop fault) stops = tt
+stop_stays g config stores faults.Memory e = tt
+stop_stays g config stores (faults.File lost) e =
+    subst (IsRelayFault g config stores) (sym e) tt
+stop_stays g config stores (faults.Port lost) e =
+    subst (IsRelayFault g config stores) (sym e) tt
+stop_stays g config stores faults.Control e = subst (IsRelayFault g config stores) (sym e) tt
+stop_stays g config stores (faults.Start fault) e =
+    subst (IsRelayFault g config stores) (sym e) tt
+stop_stays g config stores faults.Unseeded e = tt
+stop_stays g config stores faults.NoThread e = tt
+stop_stays g config stores faults.Unwritten e =
+    subst (IsRelayFault g config stores) (sym e) tt
+
 -- such a reason names a file of the configuration, where it names one
 pub relay_serves : {S : Type 0} (g : Ghosts S) (config : Config) (stores : List S)
     (error : ServeError) → IsRelayFault g config stores error → IsServeFault config error
-relay_serves g config stores (faults.File name) fault =
+relay_serves g config stores (faults.File lost) fault =
     let all = config.buffers.buffers.items in (
       fault.number,
       fault.buffer,
@@ -32,12 +50,33 @@ relay_serves g config stores (faults.File name) fault =
       get_or_from_slice_get all fault.number fault.buffer fault.buffer fault.there,
       fault.named,
     )
-relay_serves g config stores (faults.Port number) fault = absurd fault
+relay_serves g config stores (faults.Port lost) fault = absurd fault
 relay_serves g config stores faults.Control fault = absurd fault
+relay_serves g config stores (faults.Start started) fault = fault
+relay_serves g config stores (faults.Stop stopped) fault = tt
 relay_serves g config stores faults.Unseeded fault = tt
 relay_serves g config stores faults.Memory fault = tt
 relay_serves g config stores faults.NoThread fault = tt
 relay_serves g config stores faults.Unwritten fault = absurd fault
+
+-- that it couldn't be stopped names none
+pub stop_serves : (config : Config) (error : ServeError) → IsStopFault error
+    → IsServeFault config error
+stop_serves config (faults.Stop fault) stops = tt
+stop_serves config faults.Memory e = tt
+stop_serves config (faults.File lost) e = subst (IsServeFault config) (sym e) tt
+stop_serves config (faults.Port lost) e = subst (IsServeFault config) (sym e) tt
+stop_serves config faults.Control e = subst (IsServeFault config) (sym e) tt
+stop_serves config (faults.Start fault) e = subst (IsServeFault config) (sym e) tt
+stop_serves config faults.Unseeded e = tt
+stop_serves config faults.NoThread e = tt
+stop_serves config faults.Unwritten e = subst (IsServeFault config) (sym e) tt
+
+-- nor that it isn't known what it begins from
+pub origin_serves : (config : Config) (error : ServeError) → IsOriginFault error
+    → IsServeFault config error
+origin_serves config error (inl memory) = subst (IsServeFault config) (sym memory) tt
+origin_serves config error (inr history) = subst (IsServeFault config) (sym history) tt
 
 -- a writer that isn't called holds what it held
 kept : (held : Option (List ℕ)) → Keeps held held
@@ -47,9 +86,11 @@ kept (Some octets) = refl
 -- where nothing is served nothing is written
 none_served : (config : Config) (error : ServeError) (held : Option (List ℕ))
     → IsServeFault config error → ServeGives config (Err error) held held
-none_served config (faults.File name) held names = (names, kept held)
-none_served config (faults.Port number) held none = absurd none
+none_served config (faults.File lost) held names = (names, kept held)
+none_served config (faults.Port lost) held none = absurd none
 none_served config faults.Control held none = absurd none
+none_served config (faults.Start started) held names = (names, kept held)
+none_served config (faults.Stop stopped) held fault = (tt, kept held)
 none_served config faults.Unseeded held fault = (tt, kept held)
 none_served config faults.Memory held fault = (tt, kept held)
 none_served config faults.NoThread held fault = (tt, kept held)

@@ -6,25 +6,31 @@ use Rattle.file_blocks.specs.declared.host.HeldFile.{HeldFile}
 use Rattle.relay_conf.specs.declared.cycbuff.BufferConf.{BufferConf}
 use Rattle.relay_conf.specs.declared.settings.Buffers.{Buffers}
 use Rattle.serve_terms.specs.declared.fault.ServeError.{ServeError}
+use Rattle.serve_terms.specs.declared.reason.Reason.{Reason}
 use Rattle.serve_terms.specs.declared.fault.ServeError.TheVariants as faults
 
 -- memory was refused, or the file of this buffer can't be had, by its name
 abbrev pub IsFaultOf : BufferConf → ServeError → Type 0
-IsFaultOf buffer (faults.File name) = string_bytes name ≡ utf8_lossy buffer.file
+IsFaultOf buffer (faults.File lost) = string_bytes lost.name ≡ utf8_lossy buffer.file
 IsFaultOf buffer error = error ≡ faults.Memory
 
 -- memory was refused, or the file of a buffer can't be had, by its name
 abbrev pub IsFileFault : Buffers → ServeError → Type 0
-IsFileFault settings (faults.File name) =
-    Any (λ buffer. string_bytes name ≡ utf8_lossy buffer.file) settings.buffers.items
+IsFileFault settings (faults.File lost) =
+    Any (λ buffer. string_bytes lost.name ≡ utf8_lossy buffer.file) settings.buffers.items
 IsFileFault settings error = error ≡ faults.Memory
 
 -- memory was refused, or the file of the buffer of this number can't be had, by its name
 abbrev pub IsFaultAt : Buffers → ℕ → ServeError → Type 0
-IsFaultAt settings number (faults.File name) =
+IsFaultAt settings number (faults.File lost) =
     (buffer : BufferConf) × (slice_get settings.buffers.items number ≡ Some buffer)
-    × (string_bytes name ≡ utf8_lossy buffer.file)
+    × (string_bytes lost.name ≡ utf8_lossy buffer.file)
 IsFaultAt settings number error = error ≡ faults.Memory
+
+-- the fault of a file has this reason
+abbrev pub HasReason : Reason → ServeError → Type 0
+HasReason reason (faults.File lost) = lost.reason ≡ reason
+HasReason reason error = error ≡ faults.Memory
 
 -- both are one file, whatever its names: the same inode of the same device
 abbrev pub SharesFile : (file other : HeldFile) → Type 0

@@ -1,6 +1,9 @@
 pub mod Figures
 pub mod Files
+pub mod History
 pub mod Moments
 pub mod Ports
+pub mod Reasons
 pub mod Running
+pub mod Starting
 pub mod Watched

@@ -2,6 +2,8 @@
 use Rattle.std.specs.Prelude.{◌≡◌, ◌≢◌, ◌+◌, ◌==◌, ◌++◌, ℕ, List, [], ◌∷◌, Any, replicate}
 use Rattle.std.specs.Prelude.{if◌then◌else◌}
 use Rattle.relay_conf.specs.declared.relay.Peer.{Peer}
+use Rattle.std.specs.declared.io.ErrorKind.{ErrorKind}
+use Rattle.relay_serve.specs.Reasons.{port_reason}
 use Rattle.serve_terms.specs.declared.fault.ServeError.{ServeError}
 use Rattle.serve_terms.specs.declared.fault.ServeError.TheVariants as faults
 
@@ -15,5 +17,10 @@ ends_from number (peer ∷ peers) =
 
 -- memory was refused, or the port of a peer can't be had; a peer of port 0 has none
 abbrev pub IsPortFault : List Peer → ServeError → Type 0
-IsPortFault peers (faults.Port number) = (number ≢ 0) × Any (λ peer. peer.port ≡ number) peers
+IsPortFault peers (faults.Port lost) =
+    (lost.number ≢ 0) × Any (λ peer. peer.port ≡ lost.number) peers
 IsPortFault peers error = error ≡ faults.Memory
+
+-- the fault of the port of this number, by the kind of the system's error
+abbrev pub lost_port : ℕ → ErrorKind → ServeError
+lost_port number kind = faults.Port (record { number = number; reason = port_reason kind })

@@ -25,7 +25,7 @@ use Rattle.relay_live.specs.declared.running.Counted.{Counted}
 use Rattle.relay_live.specs.declared.running.LiveError.{LiveError}
 use Rattle.relay_live.specs.declared.running.LiveError.TheVariants as errors
 use Rattle.relay_report.specs.declared.totals.Totals.{Totals}
-use Rattle.serve_terms.specs.Serve.{NamesFile}
+use Rattle.serve_terms.specs.Serve.{NamesBuffer, NamesFile}
 use Rattle.serve_terms.specs.declared.fault.ServeError.{ServeError}
 use Rattle.serve_terms.specs.declared.fault.ServeError.TheVariants as faults
 
@@ -44,6 +44,11 @@ abbrev pub IsRunFault : ServeError → Type 0
 IsRunFault error =
     (error ≡ faults.Memory) ⊎ ((error ≡ faults.Unseeded) ⊎ (error ≡ faults.NoThread))
 
+-- memory was refused, or the relay couldn't be stopped so that it can start again
+abbrev pub IsStopFault : ServeError → Type 0
+IsStopFault (faults.Stop fault) = Unit {0}
+IsStopFault error = error ≡ faults.Memory
+
 -- the device of a store has failed, and this is the name of its buffer's file, with a mark in the
 -- place of what is no UTF-8
 pub record NamesFailed {S : Type 0} (g : blocks.Ghosts S) (config : Config) (stores : List S)
@@ -56,12 +61,16 @@ pub record NamesFailed {S : Type 0} (g : blocks.Ghosts S) (config : Config) (sto
   pub named : name ≡ utf8_lossy buffer.file
 
 -- a relay over stores isn't run where memory was refused, where the system had no random numbers or
--- no thread, or where a device of theirs failed, whose file is named
+-- no thread, or where a device of theirs failed, whose file is named; or it can't start, which names a
+-- buffer where that is at fault, or it couldn't be stopped so that it can start again
 abbrev pub IsRelayFault : {S : Type 0} (g : blocks.Ghosts S) → Config → (stores : List S)
     → ServeError → Type 0
-IsRelayFault g config stores (faults.File name) = NamesFailed g config stores (string_bytes name)
-IsRelayFault g config stores (faults.Port number) = ⊥
+IsRelayFault g config stores (faults.File lost) =
+    NamesFailed g config stores (string_bytes lost.name)
+IsRelayFault g config stores (faults.Port lost) = ⊥
 IsRelayFault g config stores faults.Control = ⊥
+IsRelayFault g config stores (faults.Start fault) = NamesBuffer config fault
+IsRelayFault g config stores (faults.Stop fault) = Unit {0}
 IsRelayFault g config stores faults.Unseeded = Unit {0}
 IsRelayFault g config stores faults.Memory = Unit {0}
 IsRelayFault g config stores faults.NoThread = Unit {0}
@@ -69,8 +78,10 @@ IsRelayFault g config stores faults.Unwritten = ⊥
 
 -- so, over the files of a configuration: the file of one of its buffers is named
 abbrev pub IsServeFault : Config → ServeError → Type 0
-IsServeFault config (faults.File name) = NamesFile config (string_bytes name)
-IsServeFault config (faults.Port number) = ⊥
+IsServeFault config (faults.File lost) = NamesFile config (string_bytes lost.name)
+IsServeFault config (faults.Start fault) = NamesBuffer config fault
+IsServeFault config (faults.Stop fault) = Unit {0}
+IsServeFault config (faults.Port lost) = ⊥
 IsServeFault config faults.Control = ⊥
 IsServeFault config faults.Unseeded = Unit {0}
 IsServeFault config faults.Memory = Unit {0}

@@ -1,17 +1,19 @@
 //! The files of the buffers (docs/FORMATS.md, cycbuff.conf).
 ghost use Rattle.std.specs.Prelude.{◌≡◌, length, map, All, Any, IfErr, IfNone, IfOk, IfSome};
 ghost use Rattle.file_blocks.specs.Store.{count_of};
-ghost use Rattle.relay_serve.specs.Files.{IsFaultAt, IsFaultOf, IsFileFault, SharesFile};
+ghost use Rattle.relay_serve.specs.Files.{HasReason, IsFaultAt, IsFaultOf, IsFileFault};
+ghost use Rattle.relay_serve.specs.Files.{SharesFile};
 ghost use Rattle.serve_terms.specs.declared.fault.ServeError.TheVariants as faults;
 
+use crate::reasons::reason_of;
 use file_blocks::{FileBlocks, HeldFile, Unusable};
 use relay_conf::{BufferConf, Buffers};
-use serve_terms::ServeError;
-use std::alloc::Global;
+use serve_terms::{LostFile, Reason, ServeError};
+use std::alloc::{AllocError, Global};
 use std::fs::{File, Files};
-use std::io::ErrorKind;
+use std::os::unix::fs::MetadataExt;
 use std::path::Path;
-use std::str;
+use std::{fs, str};
 
 /// The file of each buffer, held, in the order of the buffers. A file whose path is relative lies in
 /// the folder. Nothing is read of them or written to them. The error is want of memory, or the first
@@ -30,32 +32,97 @@ pub fn hold_files<R: Files<File = File>>(
     let mut files = Vec::with_capacity(alloc, settings.buffers.len())?;
     for buffer in &settings.buffers {
         match hold_file(rt, alloc, buffer, folder, &files)? {
-            Some(file) => files.push_reserved(file),
-            None => return Err(unusable(alloc, buffer)),
+            Ok(file) => files.push_reserved(file),
+            Err(reason) => {
+                let count = files.len();
+                return Err(unheld(rt, alloc, settings, count, folder, buffer, reason));
+            }
         }
     }
     Ok(files)
 }
 
-/// The file of a buffer, held, none where that can't be had or is one of the others.
+/// The file of a buffer, held, or why that can't be had, as one that is one of the others.
 fn hold_file<R: Files<File = File>>(
     rt: &R,
     alloc: Global,
     buffer: &BufferConf,
     folder: &str,
     others: &[HeldFile],
-) -> Result<Option<HeldFile>, ServeError>
+) -> Result<Result<HeldFile, Reason>, ServeError>
     ensures memory { IfErr result (λ error. error ≡ faults.Memory) }
 {
+    let Ok(file) = str::from_utf8(buffer.file.as_slice()) else {
+        return Ok(Err(Reason::NoText));
+    };
+    let path = Path::new(folder).join(alloc, file)?;
+    match HeldFile::hold(rt, path.as_str()) {
+        Ok(file) => match taken_by_none(file, others) {
+            Some(file) => Ok(Ok(file)),
+            None => Ok(Err(Reason::Shared)),
+        },
+        Err(refused) => match reason_of(&refused) {
+            Some(reason) => Ok(Err(reason)),
+            None => Err(ServeError::Memory),
+        },
+    }
+}
+
+/// The fault of the file of a buffer that can't be held. One that is locked may be the file of one
+/// of the first so many buffers, which hold theirs.
+fn unheld<R: Files>(
+    rt: &R,
+    alloc: Global,
+    settings: &Buffers,
+    count: usize,
+    folder: &str,
+    buffer: &BufferConf,
+    reason: Reason,
+) -> ServeError
+    ensures { IsFaultOf buffer.now result }
+{
+    match reason {
+        Reason::Held => match is_of_earlier(rt, alloc, settings, count, folder, buffer) {
+            Ok(true) => unusable(alloc, buffer, Reason::Shared),
+            Ok(false) => unusable(alloc, buffer, Reason::Held),
+            Err(_) => ServeError::Memory,
+        },
+        other => unusable(alloc, buffer, other),
+    }
+}
+
+/// Whether the file of a buffer is that of one of the first so many, whatever its name.
+fn is_of_earlier<R: Files>(
+    rt: &R,
+    alloc: Global,
+    settings: &Buffers,
+    count: usize,
+    folder: &str,
+    buffer: &BufferConf,
+) -> Result<bool, AllocError> {
+    let own = place_of(rt, alloc, folder, buffer)?;
+    for earlier in settings.buffers.iter().take(count) {
+        let place = place_of(rt, alloc, folder, earlier)?;
+        if own.is_some() && own == place {
+            return Ok(true);
+        }
+    }
+    Ok(false)
+}
+
+/// The device and the inode of the file of a buffer, where they are to be had.
+fn place_of<R: Files>(
+    rt: &R,
+    alloc: Global,
+    folder: &str,
+    buffer: &BufferConf,
+) -> Result<Option<(u64, u64)>, AllocError> {
     let Ok(file) = str::from_utf8(buffer.file.as_slice()) else {
         return Ok(None);
     };
     let path = Path::new(folder).join(alloc, file)?;
-    match HeldFile::hold(rt, path.as_str()) {
-        Ok(file) => Ok(taken_by_none(file, others)),
-        Err(Unusable::Refused(error)) if error.kind() == ErrorKind::OutOfMemory => {
-            Err(ServeError::Memory)
-        }
+    match fs::metadata(rt, path.as_str()) {
+        Ok(found) => Ok(Some((found.dev(), found.ino()))),
         Err(_) => Ok(None),
     }
 }
@@ -74,31 +141,52 @@ fn taken_by_none(file: HeldFile, others: &[HeldFile]) -> Option<HeldFile>
     Some(file)
 }
 
-/// A store in the file of each buffer, of its blocks, in the order of the buffers: each file is made
-/// as long as that takes, and its last block is tried. The error is want of memory, or the first file
-/// with which that can't be done.
+/// A store in the file of each buffer, of its blocks, in the order of the buffers, and whether no
+/// buffer was kept in any of them: each file is made as long as that takes, and its last block is
+/// tried. The error is want of memory, or the first file with which that can't be done.
 pub fn fit_files(
     alloc: Global,
     settings: &Buffers,
     files: Vec<HeldFile>,
-) -> Result<Vec<FileBlocks>, ServeError>
+) -> Result<(Vec<FileBlocks>, bool), ServeError>
     requires count { length files.items ≡ length settings.now.buffers.items }
-    ensures blocks { IfOk result (λ stores. map count_of stores.items
+    ensures blocks { IfOk result (λ fitted. map count_of fitted.0.items
         ≡ map (λ buffer. buffer.blocks) settings.now.buffers.items) }
     ensures fault { IfErr result (IsFileFault settings.now) }
 {
     let mut stores = Vec::with_capacity(alloc, settings.buffers.len())?;
     let mut rest = files.into_iter();
+    let mut blank = true;
     for buffer in &settings.buffers {
         let Some(file) = rest.next() else {
             unreachable!()
         };
         match FileBlocks::of_held(file, buffer.blocks) {
-            Ok(store) => stores.push_reserved(store),
-            Err(_) => return Err(unusable(alloc, buffer)),
+            Ok(mut store) => {
+                blank = is_blank(&mut store) && blank;
+                stores.push_reserved(store);
+            }
+            Err(refused) => return Err(unfit(alloc, buffer, &refused)),
         }
     }
-    Ok(stores)
+    Ok((stores, blank))
+}
+
+/// Whether no buffer was kept in a file, as far as that can be read.
+fn is_blank(store: &mut FileBlocks) -> bool
+    ensures count { count_of store.new ≡ count_of store.old }
+{
+    store.is_blank().unwrap_or(false)
+}
+
+/// The fault of the file of a buffer that can't be used so.
+fn unfit(alloc: Global, buffer: &BufferConf, refused: &Unusable) -> ServeError
+    ensures { IsFaultOf buffer.now result }
+{
+    match reason_of(refused) {
+        Some(reason) => unusable(alloc, buffer, reason),
+        None => ServeError::Memory,
+    }
 }
 
 /// The fault of the file of the buffer of this number, whose head block couldn't be written.
@@ -106,18 +194,19 @@ pub(crate) fn unformatted(alloc: Global, settings: &Buffers, number: u8) -> Serv
     ensures { IsFaultAt settings.now number result }
 {
     match settings.buffers.get(usize::from(number)) {
-        Some(buffer) => unusable(alloc, buffer),
+        Some(buffer) => unusable(alloc, buffer, Reason::Unwritten),
         None => ServeError::Memory,
     }
 }
 
 /// The fault of a buffer's file: its name as cycbuff.conf has it, with a mark in the place of what
-/// is no UTF-8, or want of memory for it.
-fn unusable(alloc: Global, buffer: &BufferConf) -> ServeError
-    ensures { IsFaultOf buffer.now result }
+/// is no UTF-8, and why it can't be had, or want of memory for it.
+fn unusable(alloc: Global, buffer: &BufferConf, reason: Reason) -> ServeError
+    ensures name { IsFaultOf buffer.now result }
+    ensures reason { HasReason reason result }
 {
     match String::from_utf8_lossy(alloc, buffer.file.as_slice()) {
-        Ok(name) => ServeError::File(name),
+        Ok(name) => ServeError::File(LostFile { name, reason }),
         Err(_) => ServeError::Memory,
     }
 }

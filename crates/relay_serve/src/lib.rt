@@ -3,7 +3,8 @@
 //! `run_relay` runs a relay in threads over any stores and any doors, and says what was counted
 //! once all threads have ended. `serve_on` opens the files of a configuration's buffers, the ports of
 //! its peers and the socket by which it is asked, runs the relay over them until it is told to stop,
-//! and writes the report.
+//! from nothing or from what it was stopped with, keeps what the next start needs, and writes the
+//! report.
 #![tactic(auto)]
 
 mod beside;
@@ -12,9 +13,13 @@ mod desk;
 mod figures;
 mod files;
 mod gate;
+mod history;
+mod lives;
 mod ports;
+mod reasons;
 mod running;
 mod serving;
+mod starting;
 mod streams;
 mod watched;
 
@@ -23,6 +28,7 @@ pub use clock::MachineClock;
 pub use desk::Desk;
 pub use files::{fit_files, hold_files};
 pub use gate::CountingGate;
+pub use lives::Stopped;
 pub use ports::open_ports;
-pub use running::run_relay;
+pub use running::{Finished, run_relay};
 pub use serving::serve_on;

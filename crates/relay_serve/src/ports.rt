@@ -3,13 +3,15 @@ ghost use Rattle.std.specs.Prelude.{◌≡◌, ◌≢◌, ◌+◌, ◌*◌, ◌�
 ghost use Rattle.std.specs.Prelude.{Any, IfErr, IfOk, OnOk, length, map, replicate};
 ghost use Rattle.peer_ports.specs.Ports.{left_of};
 ghost use Rattle.relay_conf.specs.declared.relay.Peer.{Peer};
-ghost use Rattle.relay_serve.specs.Ports.{IsPortFault, ends_from};
+ghost use Rattle.relay_serve.specs.Ports.{IsPortFault, ends_from, lost_port};
 
+use crate::reasons::port_reason;
 use peer_ports::{Port, Stop};
 use relay_conf::{Peer, Relay};
 use relay_live::Door;
-use serve_terms::ServeError;
+use serve_terms::{LostPort, ServeError};
 use std::alloc::{AllocError, Global};
+use std::io::ErrorKind;
 use std::net::{Net, TcpListener, TcpStream};
 
 /// The doors of each peer that has a port, in the order of the peers: so many for each as its
@@ -37,7 +39,7 @@ pub fn open_ports<'a, N: Net<Listener = TcpListener, Stream = TcpStream>>(
         }
         match Port::listen(net, relay.bind, peer.port, sessions, stop, relay.patience) {
             Ok(first) => add_doors(&mut doors, number, peer, first)?,
-            Err(_) => return Err(ServeError::Port(peer.port)),
+            Err(error) => return Err(lost(peer, error.kind())),
         }
     }
     Ok(doors)
@@ -63,13 +65,24 @@ fn add_doors<'a>(
         → IfErr result (IsPortFault peers) }
 {
     for _ in 1..peer.connections {
-        let Ok(connections) = first.another() else {
-            return Err(ServeError::Port(peer.port));
+        let connections = match first.another() {
+            Ok(connections) => connections,
+            Err(error) => return Err(lost(peer, error.kind())),
         };
         add_door(doors, number, connections)?;
     }
     add_door(doors, number, first)?;
     Ok(())
+}
+
+/// The fault of the port of a peer.
+fn lost(peer: &Peer, kind: ErrorKind) -> ServeError
+    ensures { result ≡ lost_port peer.now.port kind }
+{
+    ServeError::Port(LostPort {
+        number: peer.port,
+        reason: port_reason(kind),
+    })
 }
 
 /// Adds a door.

@@ -12,8 +12,10 @@ ghost use Rattle.serve_terms.specs.Serve.{AreOf};
 use crate::beside::{Beside, Figured, Served, start_beside};
 use crate::figures::totals_of;
 use crate::files::unformatted;
+use crate::lives::{Stopped, shut_shared, start_shared};
 use block_shelf::BeginError;
 use cyc_block::BlockStore;
+use history_file::Origin;
 use live_session::{Clock, Gate};
 use live_store::{Archive, Register};
 use live_wire::Connections;
@@ -21,7 +23,7 @@ use relay_conf::Config;
 use relay_live::{Counted, Door, Keeper, Lends, LiveError, Shared, serve_all};
 use relay_report::Totals;
 use serve_terms::ServeError;
-use std::alloc::Global;
+use std::alloc::{AllocError, Global};
 use std::hash::RandomState;
 use std::io::ErrorKind;
 use std::random::RandomSource;
@@ -30,13 +32,26 @@ use std::sync::ledger::{Blank, Book, Ledger, Share};
 use std::thread;
 use std::thread::Threads;
 
+/// What a relay that was run and stopped has come to.
+#[derive(Drop)]
+pub struct Finished<S> {
+    /// What its run counted.
+    pub counted: Counted,
+    /// The totals, or that there was no memory for them.
+    pub totals: Result<Totals, AllocError>,
+    /// What it was stopped with.
+    pub stopped: Stopped<S>,
+}
+
 /// Runs a relay of this configuration over these stores, the i-th for buffer i: an end behind each
 /// door, each end and each group's writer in a thread of its own, until all have ended, and beside
-/// them what goes on, whose thread is had before any other. Each buffer is formatted anew. What comes
-/// back is what the run itself counted, and the totals, with the same
-/// numbers. The error is want of memory, of random numbers, or of a thread, or the file of a buffer
-/// whose device failed when it was formatted; what was served before stands, and nothing is counted.
-#[tactic(auto, using(crate::proofs::ServeFaults::run_serves))]
+/// them what goes on, whose thread is had before any other. It begins from nothing, each buffer being
+/// formatted, or from what it was stopped with. Then it is stopped. What comes back is what the run
+/// itself counted, and the totals, with the same numbers, or that there was no memory for these, and
+/// what it was stopped with. The error is that it can't start, or not be stopped, or want of memory,
+/// of random numbers, or of a thread, or the file of a buffer whose device failed when it was
+/// formatted; what was served before stands, and nothing is counted.
+#[tactic(auto, using(crate::proofs::ServeFaults::run_serves, crate::proofs::ServeFaults::stop_stays))]
 pub fn run_relay<
     X: Connections<R> + Drop + Send,
     S: BlockStore + Drop + Send,
@@ -53,11 +68,12 @@ pub fn run_relay<
     register: &Register,
     blank: Blank,
     stores: Vec<S>,
+    origin: Origin,
     doors: Vec<Door<X>>,
     clock: &C,
     gate: &G,
     beside: &B,
-) -> Result<(Totals, Counted), ServeError>
+) -> Result<Finished<S>, ServeError>
 where
     <X as Connections<R>>::Reader: Drop + Send,
     <X as Connections<R>>::Writer: Drop + Send,
@@ -69,22 +85,83 @@ where
         ≡ map (λ buffer. buffer.blocks) config.now.buffers.buffers.items }
     requires honest { J.trusted ≡ true → All S.honest stores.items }
     requires few { length doors.items < 2 ^ 62 }
-    ensures totals { IfOk result (λ run. AreOf config.now run.0) }
-    ensures counted { IfOk result (λ run. CountsOf run.0 run.1) }
+    ensures totals { IfOk result (λ run. IfOk run.totals (AreOf config.now)) }
+    ensures counted { IfOk result (λ run. IfOk run.totals (λ totals. CountsOf totals run.counted)) }
     ensures ran { IfOk result (λ run. Ran ⟦<J as Archive>⟧ config.now
-        (map (λ door. door.peer) doors.items) run.1) }
+        (map (λ door. door.peer) doors.items) run.counted) }
     ensures fault { IfErr result (IsRelayFault ⟦<S as BlockStore>⟧ config.now stores.items) }
 {
     let (book, all) = blank.open::<L>();
-    let shared = shared_by::<S, J, L, R>(rt, alloc, config, stores, book, doors.len())?;
+    // A relay that was started and can't be served would have lost what it was stopped with.
     let hasher = hasher_of(rt)?;
+    let shared = begun_by::<S, J, L, R>(
+        rt,
+        alloc,
+        config,
+        register,
+        stores,
+        origin,
+        book,
+        doors.len(),
+    )?;
     let keeper = Keeper::new(&shared, register, &config.buffers, clock);
     let served = Served::new(config, &shared, clock);
     let counted = attended(
         rt, alloc, hasher, &keeper, config, gate, doors, all, beside, &served,
     )?;
-    let totals = totals_of(rt, alloc, config, &shared, &counted)?;
-    Ok((totals, counted))
+    let totals = counted_totals(rt, alloc, config, &shared, &counted);
+    let stopped = shut_shared(rt, alloc, shared)?;
+    Ok(Finished {
+        counted,
+        totals,
+        stopped,
+    })
+}
+
+/// The totals of a run, as it was counted.
+fn counted_totals<S: BlockStore + Drop, J: Archive, L: Ledger, R: Wait>(
+    rt: &R,
+    alloc: Global,
+    config: &Config,
+    shared: &Shared<S, J, L>,
+    counted: &Counted,
+) -> Result<Totals, AllocError>
+    requires buffers { buffers_in shared.now ≡ length config.now.buffers.buffers.items }
+    requires posted { posts_in (posted_in counted.now) ≡ accepted_in counted.now }
+    ensures totals { IfOk result (AreOf config.now) }
+    ensures counted { IfOk result (λ totals. CountsOf totals counted.now) }
+{
+    let totals = totals_of(rt, alloc, config, shared, counted)?;
+    Ok(totals)
+}
+
+/// What so many ends share over these stores, from nothing or from what it was stopped with.
+fn begun_by<S: BlockStore + Drop, J: Archive, L: Ledger, R: RandomSource>(
+    rt: &R,
+    alloc: Global,
+    config: &Config,
+    register: &Register,
+    stores: Vec<S>,
+    origin: Origin,
+    book: Book<L>,
+    ends: usize,
+) -> Result<Shared<S, J, L>, ServeError>
+    requires register { register.now ≡ J.register }
+    requires stores { map (λ store. length (S.blocks store)) stores.items
+        ≡ map (λ buffer. buffer.blocks) config.now.buffers.buffers.items }
+    requires honest { J.trusted ≡ true → All S.honest stores.items }
+    requires book { book.total ≡ 0 }
+    ensures buffers { IfOk result (λ shared.
+        buffers_in shared ≡ length config.now.buffers.buffers.items) }
+    ensures ends { IfOk result (λ shared. ends_in shared ≡ ends) }
+    ensures fault { IfErr result (IsRelayFault ⟦<S as BlockStore>⟧ config.now stores.items) }
+{
+    match origin {
+        Origin::Formatted => shared_by(rt, alloc, config, stores, book, ends),
+        Origin::Stopped(text) => {
+            start_shared(rt, alloc, config, register, stores, &text, book, ends)
+        }
+    }
 }
 
 /// What so many ends share over these stores, before anything has come.

@@ -1,25 +1,28 @@
 //! A relay is served on the ports of the machine, over its files.
 ghost use Rattle.std.specs.Prelude.{◌≡◌, ◌<◌, ◌^◌, IfErr, IfOk, length, map};
 ghost use Rattle.file_blocks.specs.Store.{count_of};
-ghost use Rattle.relay_serve.specs.Running.{IsServeFault};
+ghost use Rattle.relay_serve.specs.Running.{IsServeFault, IsStopFault};
 ghost use Rattle.serve_terms.specs.Serve.{AreOf, ServeGives};
 
 use crate::clock::MachineClock;
 use crate::desk::Desk;
 use crate::files::{fit_files, hold_files};
 use crate::gate::CountingGate;
+use crate::history::{begun_from, keep_history};
+use crate::lives::Stopped;
 use crate::ports::open_ports;
 use crate::running::{lanes_of, run_relay};
 use crate::streams::fill_streams;
 use crate::watched::{Watched, watch_all};
 use file_blocks::FileBlocks;
+use history_file::{HistoryPlace, HostHistory, Origin};
 use live_store::Register;
 use peer_ports::{Port, Stop};
 use relay_conf::Config;
 use relay_control::Control;
 use relay_live::Door;
 use relay_report::Totals;
-use serve_terms::{ServeError, print_totals};
+use serve_terms::{ServeError, StopFault, print_totals};
 use std::alloc::Global;
 use std::fs::{File, Files};
 use std::io::Write;
@@ -35,14 +38,17 @@ use std::time::Clock;
 /// told to stop: the files are opened and locked first, in the order of the buffers, those whose
 /// path is relative in the folder, then the ports are had, in the order of the peers, then the files
 /// are made as long as they have to be, and last comes the socket in the folder by which it is asked.
-/// Each start formats the buffers anew. Once it was told to stop, or each port has served so many
-/// connections, the report is written. What it does is told in lines on standard error.
+/// Then it begins: from nothing where that is asked for (`fresh`), or where neither a history nor a
+/// buffer was kept there, else from what it was stopped with. Once it was told to stop, or each port
+/// has served so many connections, it is stopped, its history is kept, and the report is written.
+/// What it does is told in lines on standard error.
 pub fn serve_on<R, W: Write>(
     rt: &R,
     alloc: Global,
     config: &Config,
     folder: &str,
     sessions: Option<u32>,
+    fresh: bool,
     writer: &mut W,
 ) -> Result<(), ServeError>
 where
@@ -60,14 +66,27 @@ where
     let files = hold_files(rt, alloc, &config.buffers, folder)?;
     let stop = Stop::new();
     let doors = open_ports(rt, alloc, &config.relay, sessions, &stop)?;
-    let stores = fit_files(alloc, &config.buffers, files)?;
+    let (stores, blank) = fit_files(alloc, &config.buffers, files)?;
+    let mut history = HostHistory::in_folder(rt, alloc, folder)?;
     let gate = CountingGate::new(alloc, &config.relay.peers)?;
     let Ok(control) = Control::listen(rt, alloc, folder) else {
         return Err(ServeError::Control);
     };
     let desk = Desk::new(alloc, &stop, &gate, control);
     let _lost = eprintln!(rt; "serving ports={} buffers={}", doors.len(), stores.len());
-    let answer = run_and_print(rt, alloc, config, stores, doors, &gate, &desk, writer);
+    let answer = begin_and_run(
+        rt,
+        alloc,
+        config,
+        stores,
+        fresh,
+        blank,
+        &mut history,
+        doors,
+        &gate,
+        &desk,
+        writer,
+    );
     desk.close(rt, folder);
     if answer.is_ok() {
         let _lost = eprintln!(rt; "stopped");
@@ -75,12 +94,16 @@ where
     answer
 }
 
-/// Runs the relay over these stores and ports, and writes its report.
-fn run_and_print<'a, R, W: Write>(
+/// Finds out what the relay begins from, as it is asked to begin from nothing and as no buffer was
+/// kept in any file, then runs it.
+fn begin_and_run<'a, R, H: HistoryPlace, W: Write>(
     rt: &R,
     alloc: Global,
     config: &Config,
     stores: Vec<FileBlocks>,
+    fresh: bool,
+    blank: bool,
+    history: &mut H,
     doors: Vec<Door<Port<'a>>>,
     gate: &CountingGate<'_>,
     desk: &Desk<'_>,
@@ -93,18 +116,58 @@ where
     requires few { length doors.items < 2 ^ 62 }
     ensures { ServeGives config.now result (W.contents writer.old) (W.contents writer.new) }
 {
-    let totals = run_on(rt, alloc, config, stores, doors, gate, desk)?;
-    print_totals(alloc, &totals, writer)
+    let origin = begun_from(alloc, history, fresh, blank)?;
+    tell_start(rt, &origin);
+    run_and_print(
+        rt, alloc, config, stores, origin, history, doors, gate, desk, writer,
+    )
 }
 
-/// Runs the relay over these stores and ports, by the machine's clock. Nothing says that a file of
-/// the machine is honest, so nothing is promised of what the stores give.
-#[tactic(auto, using(crate::proofs::ServeFaults::relay_serves))]
-fn run_on<'a, R>(
+/// Tells that the relay starts from what it was stopped with, where it does.
+fn tell_start<R: Eprint>(rt: &R, origin: &Origin) {
+    if let Origin::Stopped(text) = origin {
+        let _lost = eprintln!(rt; "starting history={}", text.len());
+    }
+}
+
+/// Runs the relay over these stores and ports, keeps its history, and writes its report.
+fn run_and_print<'a, R, H: HistoryPlace, W: Write>(
     rt: &R,
     alloc: Global,
     config: &Config,
     stores: Vec<FileBlocks>,
+    origin: Origin,
+    history: &mut H,
+    doors: Vec<Door<Port<'a>>>,
+    gate: &CountingGate<'_>,
+    desk: &Desk<'_>,
+    writer: &mut W,
+) -> Result<(), ServeError>
+where
+    R: Threads + Wait + Clock + Eprint + RandomSource + Sync,
+    requires stores { map count_of stores.items
+        ≡ map (λ buffer. buffer.blocks) config.now.buffers.buffers.items }
+    requires few { length doors.items < 2 ^ 62 }
+    ensures { ServeGives config.now result (W.contents writer.old) (W.contents writer.new) }
+{
+    let totals = run_on(
+        rt, alloc, config, stores, origin, history, doors, gate, desk,
+    )?;
+    print_totals(alloc, &totals, writer)
+}
+
+/// Runs the relay over these stores and ports, by the machine's clock, and keeps its history once
+/// all that its stores were given is on their devices. Nothing says that a file of the machine is
+/// honest, so nothing is promised of what the stores give. Where there is no memory for the totals
+/// the history is kept all the same.
+#[tactic(auto, using(crate::proofs::ServeFaults::relay_serves, crate::proofs::ServeFaults::stop_serves))]
+fn run_on<'a, R, H: HistoryPlace>(
+    rt: &R,
+    alloc: Global,
+    config: &Config,
+    stores: Vec<FileBlocks>,
+    origin: Origin,
+    history: &mut H,
     doors: Vec<Door<Port<'a>>>,
     gate: &CountingGate<'_>,
     desk: &Desk<'_>,
@@ -131,9 +194,28 @@ where
         Desk<'_>,
         R,
     >(
-        rt, alloc, config, &register, blank, stores, doors, &clock, gate, desk,
+        rt, alloc, config, &register, blank, stores, origin, doors, &clock, gate, desk,
     ) {
-        Ok((totals, _counted)) => Ok(totals),
+        Ok(finished) => {
+            keep_stopped(history, &finished.stopped)?;
+            Ok(finished.totals?)
+        }
         Err(error) => Err(error),
     }
+}
+
+/// Keeps what a relay was stopped with. The history comes last: it is not to speak of blocks that
+/// the devices haven't got.
+fn keep_stopped<R, H: HistoryPlace>(
+    history: &mut H,
+    stopped: &Stopped<Watched<'_, FileBlocks, R>>,
+) -> Result<(), ServeError>
+    ensures fault { IfErr result IsStopFault }
+{
+    for store in &stopped.stores {
+        if store.flush().is_err() {
+            return Err(ServeError::Stop(StopFault::Device));
+        }
+    }
+    keep_history(history, &stopped.history)
 }

@@ -3,6 +3,7 @@ ghost use Rattle.std.specs.Prelude.{◌≡◌, IfOk, length, map};
 ghost use Rattle.relay_serve.specs.Watched.{store_in};
 
 use cyc_block::{BLOCK_OCTETS, BlockStore, DeviceFailed};
+use file_blocks::FileBlocks;
 use relay_conf::{BufferConf, Buffers};
 use std::alloc::AllocError;
 use std::str;
@@ -46,6 +47,13 @@ impl<'a, S, R: Clock + Eprint> Watched<'a, S, R> {
         self.told = second;
         let name = str::from_utf8(self.name).unwrap_or("?");
         let _lost = eprintln!(self.rt; "failed buffer={name} kind={kind}");
+    }
+}
+
+impl<R> Watched<'_, FileBlocks, R> {
+    /// Has the device take all that was written.
+    pub(crate) fn flush(&self) -> Result<(), DeviceFailed> {
+        self.store.flush()
     }
 }
 

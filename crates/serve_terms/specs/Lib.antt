@@ -1,2 +1,4 @@
+pub mod Keeping
+pub mod Reasons
 pub mod Serve
 pub mod Text

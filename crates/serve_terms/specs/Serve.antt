@@ -1,5 +1,5 @@
 -- What serving a relay answers, and what is printed of it (docs/PROTOCOL.md, `serve`).
-use Rattle.std.specs.Prelude.{◌≡◌, ◌≢◌, ℕ, List, map, Any, Option, Result, Ok, Err}
+use Rattle.std.specs.Prelude.{◌≡◌, ◌≢◌, ℕ, Bool, List, map, Any, Option, Result, Ok, Err}
 use denote.Ref.{Bor, MutBor}
 use Rattle.std.specs.Prelude.{slice_get, string_bytes}
 use Rattle.std.specs.Str.Lossy.{utf8_lossy}
@@ -11,6 +11,8 @@ use Rattle.relay_report.specs.Totals.{text_of_totals}
 use Rattle.relay_report.specs.declared.totals.Totals.{Totals}
 use Rattle.serve_terms.specs.declared.fault.ServeError.{ServeError}
 use Rattle.serve_terms.specs.declared.fault.ServeError.TheVariants as faults
+use Rattle.serve_terms.specs.declared.keeping.StartFault.{StartFault}
+use Rattle.serve_terms.specs.declared.keeping.StartFault.TheVariants as starts
 
 -- The totals are of a relay of this configuration: they have its buffers and its feeds, in their
 -- order, and as many posts as jobs that were accepted.
@@ -39,10 +41,18 @@ PrintGives totals (Err faults.Unwritten) before after =
     GainsFront (text_of_totals totals) before after
 PrintGives totals (Err error) before after = ⊥
 
--- the failure names what can't be had, where it is a file or a port
+-- the fault of a start names a buffer, where it is one of a buffer
+abbrev pub NamesBuffer : Config → StartFault → Type 0
+NamesBuffer config (starts.Buffer name fault) =
+    Any (λ b. string_bytes name ≡ utf8_lossy b.name) config.buffers.buffers.items
+NamesBuffer config fault = Unit {0}
+
+-- the failure names what can't be had, where it is a file or a port, or the
+-- buffer that has the fault, where a start has one of a buffer
 abbrev pub NamesFault : Config → ServeError → Type 0
-NamesFault config (faults.File name) = NamesFile config (string_bytes name)
-NamesFault config (faults.Port number) = NamesPort config number
+NamesFault config (faults.File lost) = NamesFile config (string_bytes lost.name)
+NamesFault config (faults.Port lost) = NamesPort config lost.number
+NamesFault config (faults.Start fault) = NamesBuffer config fault
 NamesFault config error = Unit {0}
 
 -- a relay of the configuration was served, and the report of its totals was written; or it wasn't,
@@ -58,13 +68,13 @@ ServeGives config (Err faults.Unwritten) before after =
 ServeGives config (Err error) before after = NamesFault config error × Keeps before after
 
 -- Whatever serves answers rightly: where `post` says what it may answer of a configuration, a
--- folder, a number of connections and a writer, and what writer it leaves, that is what serving a
--- relay of the configuration gives.
+-- folder, a number of connections, whether all is formatted and a writer, and what writer it
+-- leaves, that is what serving a relay of the configuration gives.
 abbrev pub AnswersRightly : {W : Type 0} → (contents : W → Option (List ℕ))
-    → (post : Bor Config → Bor (List ℕ) → Option ℕ → MutBor W → Result (Unit {0}) ServeError
-    → MutBor W → Type 0) → Type 0
+    → (post : Bor Config → Bor (List ℕ) → Option ℕ → Bool → MutBor W
+    → Result (Unit {0}) ServeError → MutBor W → Type 0) → Type 0
 AnswersRightly {W} contents post =
-    (config : Bor Config) (folder : Bor (List ℕ)) (sessions : Option ℕ) (writer : MutBor W)
-    (answer : Result (Unit {0}) ServeError) (after : MutBor W)
-    → post config folder sessions writer answer after
+    (config : Bor Config) (folder : Bor (List ℕ)) (sessions : Option ℕ) (fresh : Bool)
+    (writer : MutBor W) (answer : Result (Unit {0}) ServeError) (after : MutBor W)
+    → post config folder sessions fresh writer answer after
     → ServeGives config.now answer (contents writer.now) (contents after.now)

@@ -1,16 +1,33 @@
 -- What is told of a relay that was not served to its end (docs/PROTOCOL.md, Statuses).
 use Rattle.std.specs.Prelude.{ℕ, List, ◌++◌, codes, decimal, string_bytes}
+use Rattle.serve_terms.specs.Keeping.{start_text, stop_text}
+use Rattle.serve_terms.specs.Reasons.{reason_text}
+use Rattle.serve_terms.specs.declared.fault.LostFile.{LostFile}
+use Rattle.serve_terms.specs.declared.fault.LostPort.{LostPort}
 use Rattle.serve_terms.specs.declared.fault.ServeError.{ServeError}
 use Rattle.serve_terms.specs.declared.fault.ServeError.TheVariants.{File, Port, Control}
 use Rattle.serve_terms.specs.declared.fault.ServeError.TheVariants.{Unseeded, Memory, NoThread}
-use Rattle.serve_terms.specs.declared.fault.ServeError.TheVariants.{Unwritten}
+use Rattle.serve_terms.specs.declared.fault.ServeError.TheVariants.{Unwritten, Start, Stop}
 
--- the text of a failure, without the line's end
+-- a file that can't be had: its name, and below it why
+abbrev pub lost_file_text : LostFile → List ℕ
+lost_file_text lost =
+    string_bytes lost.name ++ (codes ": unusable\n" ++ reason_text lost.reason)
+
+-- a port that can't be had: its number, and below it why
+abbrev pub lost_port_text : LostPort → List ℕ
+lost_port_text lost =
+    codes "serve: "
+    ++ (decimal lost.number ++ (codes ": unusable\n" ++ reason_text lost.reason))
+
+-- the text of a failure, without the end of its last line
 abbrev pub text_of : ServeError → List ℕ
-text_of (File name) = string_bytes name ++ codes ": unusable"
-text_of (Port number) = codes "serve: " ++ decimal number ++ codes ": unusable"
+text_of (File lost) = lost_file_text lost
+text_of (Port lost) = lost_port_text lost
 text_of Control = codes "control: unusable"
+text_of (Start fault) = start_text fault
 text_of Unseeded = codes "relay: no random numbers to be had"
 text_of Memory = codes "out of memory"
 text_of NoThread = codes "serve: no thread to be had"
+text_of (Stop fault) = stop_text fault
 text_of Unwritten = codes "stdout: unwritten"

@@ -6,7 +6,11 @@
 #![tactic(auto)]
 
 mod fault;
+mod keeping;
 mod printing;
+mod reason;
 
-pub use fault::ServeError;
+pub use fault::{LostFile, LostPort, ServeError};
+pub use keeping::{BufferFault, StartFault, StopFault};
 pub use printing::print_totals;
+pub use reason::Reason;

@@ -3,7 +3,7 @@ use Rattle.std.specs.Prelude.{option_and_then}
 use Rattle.std.specs.Str.Parse.{ParsesUnsigned, ExplainsUnsignedError, HasUnsignedDigitsIfOk}
 use Rattle.clap.specs.Words.{found_of, one_text}
 use Rattle.clap.proofs.WalkLemmas.{one_text-rows}
-use Rattle.relay_command.specs.CommandLine.{number_of}
+use Rattle.relay_command.specs.Numbers.{number_of}
 use Rattle.relay_command.proofs.Numbers.{number_given}
 use Rattle.relay_command.proofs.command_line.sessions.Goals as goal
 

@@ -1,0 +1,2 @@
+pub mod Origin
+pub mod Place

@@ -1,0 +1,183 @@
+//! Saying what a configuration does (docs/PROTOCOL.md, `explain`).
+ghost use Rattle.std.specs.Prelude.{◌≡◌, IfErr, IfOk, Some};
+ghost use Rattle.relay_command.specs.Explain.{ExplainGives, ExplainsFolder, IsAnswer, IsChosen};
+ghost use Rattle.relay_command.specs.Explain.{IsTold, IsUntold, explain_text};
+ghost use Rattle.relay_command.specs.Questions.{asked_of, question_of};
+ghost use Rattle.relay_command.specs.Explain as terms;
+
+use crate::failure::Failure;
+use crate::load::{CheckError, ConfFile};
+use crate::look::look_at_files;
+use crate::question::Question;
+use crate::sources::load_both;
+use relay_drill::put;
+use relay_explain::{explain, explain_choice};
+use std::alloc::Global;
+use std::error::Error;
+use std::fmt;
+use std::fmt::{Display, Formatter};
+use std::fs::Files;
+use std::io::Write;
+
+/// Why a configuration is not explained. Its text is what the program prints: what `check` tells, and
+/// below it the fault in words.
+#[derive(Debug, Drop)]
+pub struct Unexplained {
+    pub error: CheckError,
+}
+
+impl Display for Unexplained {
+    ghost output = { λ unexplained. Some (explain_text unexplained.error) };
+
+    fn fmt<W: fmt::Write>(&self, formatter: &mut Formatter<W>) -> fmt::Result {
+        match &self.error {
+            CheckError::Memory => formatter.write_str("out of memory"),
+            CheckError::Unreadable(file) => write!(
+                formatter,
+                "{file}: unreadable\nthere is no such file in the folder, or it can't be read"
+            ),
+            CheckError::Faulty {
+                file,
+                line,
+                code,
+                name,
+            } => {
+                let words = fault_words(*file, *code);
+                write!(formatter, "{file}:{line}: {code} {name}\n{words}")
+            }
+            CheckError::Unwritten => formatter.write_str("stdout: unwritten"),
+        }
+    }
+}
+
+impl Error for Unexplained {}
+
+/// A fault of a file in words, by its code.
+fn fault_words(file: ConfFile, code: u8) -> &'static str
+    ensures { result.now ≡ terms.fault_words file code }
+{
+    if code == 1 {
+        return "the line has no form of its file, or something lacks";
+    }
+    if code == 2 {
+        return "a first word or a key that the file doesn't know";
+    }
+    if code == 3 {
+        return "a name or a key for the second time";
+    }
+    if code == 4 {
+        return unknown_words(file);
+    }
+    if code == 5 {
+        return "no number, one out of its range, or one line too many of its kind";
+    }
+    if code == 6 {
+        return "an expression over newsgroups that can't be read";
+    }
+    if code == 7 {
+        return "a buffer in two groups, or twice in one";
+    }
+    "a group without a buffer, or no group at all"
+}
+
+/// A name that stands for nothing, in words, by the file that has it.
+fn unknown_words(file: ConfFile) -> &'static str
+    ensures { result.now ≡ terms.unknown_words file }
+{
+    match file {
+        ConfFile::Cycbuff => "a buffer that no cycbuff line makes",
+        ConfFile::Storage => {
+            "a group that no metacycbuff line makes, or a method that isn't served: cnfs alone is"
+        }
+        ConfFile::Relay => "a peer that no peer line makes",
+    }
+}
+
+/// Says what the configuration in a folder does, or, where that is asked, where an article goes by
+/// it.
+pub(crate) fn explain_folder<R: Files, W: Write>(
+    rt: &R,
+    alloc: Global,
+    folder: &str,
+    question: &Option<Question>,
+    writer: &mut W,
+) -> Result<(), Failure>
+    ensures { ExplainsFolder folder.now (question_of question.now) result
+        (W.contents writer.old) (W.contents writer.new) }
+{
+    match explain_in(rt, alloc, folder, question, writer) {
+        Ok(()) => Ok(()),
+        Err(error) => Err(Failure::Explain(Unexplained { error })),
+    }
+}
+
+/// Writes what the configuration in a folder does, or the built-in one where the folder is `K1`; or,
+/// where that is asked, where an article goes by it.
+fn explain_in<R: Files, W: Write>(
+    rt: &R,
+    alloc: Global,
+    folder: &str,
+    question: &Option<Question>,
+    writer: &mut W,
+) -> Result<(), CheckError>
+    ensures { ExplainGives result folder.now (question_of question.now) (W.contents writer.old)
+        (W.contents writer.new) }
+{
+    let text = match answer(rt, alloc, folder, question) {
+        Ok(text) => text,
+        Err(error) => return Err(error),
+    };
+    match put(writer, &text) {
+        Ok(()) => Ok(()),
+        Err(_) => Err(CheckError::Unwritten),
+    }
+}
+
+/// The text of what is asked of the configuration in a folder.
+fn answer<R: Files>(
+    rt: &R,
+    alloc: Global,
+    folder: &str,
+    question: &Option<Question>,
+) -> Result<Vec<u8>, CheckError>
+    ensures text { IfOk result (λ text. IsAnswer folder.now (question_of question.now) text.items) }
+    ensures error { IfErr result (IsUntold folder.now) }
+{
+    match question {
+        None => whole_text(rt, alloc, folder),
+        Some(question) => choice_text(rt, alloc, folder, question),
+    }
+}
+
+/// The text of what the configuration in a folder does.
+fn whole_text<R: Files>(rt: &R, alloc: Global, folder: &str) -> Result<Vec<u8>, CheckError>
+    ensures text { IfOk result (λ text. IsTold folder.now text.items) }
+    ensures error { IfErr result (IsUntold folder.now) }
+{
+    let (config, sources) = match load_both(rt, alloc, folder) {
+        Ok(both) => both,
+        Err(error) => return Err(error),
+    };
+    let found = look_at_files(rt, alloc, &config.buffers, folder)?;
+    let text = explain(alloc, &config, &sources, &found)?;
+    Ok(text)
+}
+
+/// The text of where an article goes by the configuration in a folder.
+fn choice_text<R: Files>(
+    rt: &R,
+    alloc: Global,
+    folder: &str,
+    question: &Question,
+) -> Result<Vec<u8>, CheckError>
+    ensures text { IfOk result (λ text. IsChosen folder.now (asked_of question.now) text.items) }
+    ensures error { IfErr result (IsUntold folder.now) }
+{
+    let (config, _sources) = match load_both(rt, alloc, folder) {
+        Ok(both) => both,
+        Err(error) => return Err(error),
+    };
+    let newsgroups = question.newsgroups.as_bytes();
+    let text = explain_choice(alloc, &config, newsgroups, u64::from(question.size))?;
+    Ok(text)
+}

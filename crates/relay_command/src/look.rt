@@ -1,0 +1,85 @@
+//! Looking at what lies where the files of buffers are to be (docs/FORMATS.md, cycbuff.conf).
+ghost use Rattle.std.specs.Prelude.{◌≡◌, length, IfErr, IfOk};
+ghost use Rattle.relay_command.specs.declared.load.CheckError.TheVariants.{Memory};
+
+use crate::load::CheckError;
+use relay_conf::{BufferConf, Buffers};
+use relay_drill::{DrillError, read_all};
+use relay_explain::{Found, found_of};
+use std::alloc::Global;
+use std::fs::Files;
+use std::io::{ErrorKind, Read};
+use std::path::Path;
+use std::{fs, str};
+
+/// The octets of a file that are looked at: its first block.
+const FRONT_OCTETS: u64 = 512;
+
+/// What lies where the file of each buffer is to be, in the order of the buffers. A file whose path
+/// is relative lies in the folder. Nothing is made or locked, and nothing is waited for.
+pub(crate) fn look_at_files<R: Files>(
+    rt: &R,
+    alloc: Global,
+    settings: &Buffers,
+    folder: &str,
+) -> Result<Vec<Found>, CheckError>
+    ensures count { IfOk result (λ found. length found.items
+        ≡ length settings.now.buffers.items) }
+    ensures memory { IfErr result (λ error. error ≡ Memory) }
+{
+    let mut found = Vec::with_capacity(alloc, settings.buffers.len())?;
+    for buffer in &settings.buffers {
+        found.push_reserved(look_at_file(rt, alloc, buffer, folder)?);
+    }
+    Ok(found)
+}
+
+/// What lies where the file of a buffer is to be. A path that is no UTF-8 can't be looked at.
+fn look_at_file<R: Files>(
+    rt: &R,
+    alloc: Global,
+    buffer: &BufferConf,
+    folder: &str,
+) -> Result<Found, CheckError>
+    ensures { IfErr result (λ error. error ≡ Memory) }
+{
+    let Ok(file) = str::from_utf8(buffer.file.as_slice()) else {
+        return Ok(Found::Unseen);
+    };
+    let path = Path::new(folder).join(alloc, file)?;
+    match fs::metadata(rt, path.as_str()) {
+        Ok(there) if there.is_file() => look_into(rt, alloc, path.as_str()),
+        Ok(_) => Ok(Found::NotRegular),
+        Err(error) if error.kind() == ErrorKind::NotFound => Ok(absent(rt, path.as_str())),
+        Err(_) => Ok(Found::Unseen),
+    }
+}
+
+/// That nothing lies at a path, with or without the folder that it is to be in.
+fn absent<R: Files>(rt: &R, path: &str) -> Found {
+    match Path::new(path).parent() {
+        None => Found::NoFolder,
+        Some(folder) => {
+            let name = folder.as_str();
+            let name = if name.is_empty() { "." } else { name };
+            match fs::metadata(rt, name) {
+                Ok(there) if there.is_dir() => Found::Absent,
+                _ => Found::NoFolder,
+            }
+        }
+    }
+}
+
+/// What a regular file is, by its first octets.
+fn look_into<R: Files>(rt: &R, alloc: Global, path: &str) -> Result<Found, CheckError>
+    ensures { IfErr result (λ error. error ≡ Memory) }
+{
+    let Ok(file) = fs::File::open(rt, path) else {
+        return Ok(Found::Unseen);
+    };
+    match read_all(alloc, &mut file.take(FRONT_OCTETS)) {
+        Ok(front) => Ok(found_of(&front)),
+        Err(DrillError::Memory) => Err(CheckError::Memory),
+        Err(_) => Ok(Found::Unseen),
+    }
+}

@@ -1,0 +1,83 @@
+//! Reading a configuration with the texts of its files (docs/FORMATS.md, Configuration).
+ghost use Rattle.relay_conf.specs.RelayViews.{RelayGives};
+ghost use Rattle.relay_command.specs.Check.{CycbuffReads, StorageReads};
+ghost use Rattle.relay_command.specs.Sources.{FileGivesBoth, LoadGivesBoth};
+ghost use Rattle.relay_command.specs.declared.load.ConfFile.TheVariants as files;
+
+use crate::load::{CheckError, ConfFile, text_of};
+use relay_conf::{Buffers, Config, Method, Relay, read_cycbuff, read_relay, read_storage};
+use relay_explain::Sources;
+use std::alloc::Global;
+use std::fs::Files;
+
+/// Reads the configuration in a folder, or the built-in one where the folder is `K1`, and keeps the
+/// texts that say it.
+pub(crate) fn load_both<R: Files>(
+    rt: &R,
+    alloc: Global,
+    folder: &str,
+) -> Result<(Config, Sources), CheckError>
+    ensures { LoadGivesBoth folder.now result }
+{
+    let (buffers, cycbuff) = match cycbuff_in(rt, alloc, folder) {
+        Ok(both) => both,
+        Err(error) => return Err(error),
+    };
+    let (methods, storage) = match storage_in(rt, alloc, folder, &buffers) {
+        Ok(both) => both,
+        Err(error) => return Err(error),
+    };
+    match relay_in(rt, alloc, folder) {
+        Ok((settings, relay)) => Ok((
+            Config::new(buffers, methods, settings),
+            Sources {
+                cycbuff,
+                storage,
+                relay,
+            },
+        )),
+        Err(error) => Err(error),
+    }
+}
+
+/// Reads a folder's cycbuff.conf.
+fn cycbuff_in<R: Files>(
+    rt: &R,
+    alloc: Global,
+    folder: &str,
+) -> Result<(Buffers, Vec<u8>), CheckError>
+    ensures { FileGivesBoth folder.now files.Cycbuff CycbuffReads result }
+{
+    let text = text_of(rt, alloc, folder, ConfFile::Cycbuff)?;
+    match read_cycbuff(alloc, &text) {
+        Ok(buffers) => Ok((buffers, text)),
+        Err(error) => Err(CheckError::of(ConfFile::Cycbuff, error)),
+    }
+}
+
+/// Reads a folder's storage.conf.
+fn storage_in<R: Files>(
+    rt: &R,
+    alloc: Global,
+    folder: &str,
+    buffers: &Buffers,
+) -> Result<(Vec<Method>, Vec<u8>), CheckError>
+    ensures { FileGivesBoth folder.now files.Storage (StorageReads buffers.now) result }
+{
+    let text = text_of(rt, alloc, folder, ConfFile::Storage)?;
+    match read_storage(alloc, &text, buffers) {
+        Ok(methods) => Ok((methods, text)),
+        Err(error) => Err(CheckError::of(ConfFile::Storage, error)),
+    }
+}
+
+/// Reads a folder's relay.conf.
+fn relay_in<R: Files>(rt: &R, alloc: Global, folder: &str) -> Result<(Relay, Vec<u8>), CheckError>
+    ensures { FileGivesBoth folder.now files.Relay RelayGives result }
+{
+    let text = text_of(rt, alloc, folder, ConfFile::Relay)?;
+    match read_relay(alloc, &text) {
+        Ok(relay) => Ok((relay, text)),
+        Err(error) => Err(CheckError::of(ConfFile::Relay, error)),
+    }
+}

@@ -1,0 +1,3 @@
+mod EntryLines
+mod Shadows
+mod Totals

@@ -1,0 +1,149 @@
+-- What is told of the entries of storage.conf, in the order in which they are tried.
+use Rattle.std.specs.Prelude.{ℕ, ◌+◌, ◌&&◌, ◌||◌, not, Bool, true, false, List, [], ◌++◌, codes}
+use Rattle.std.specs.Prelude.{bytes_eq, decimal, drop, filter_map, find, flat_map, length, map, nat_le, nat_lt}
+use Rattle.std.specs.Prelude.{slice_get, unwrap_or, Option, Some, None, if◌then◌else◌}
+use Rattle.std.specs.List.{enumerate_from}
+use Rattle.news_terms.specs.Article.{without_outer_white}
+use Rattle.news_terms.specs.Pattern.{IsExpressionText}
+use Rattle.relay_conf.specs.declared.cycbuff.GroupConf.{GroupConf}
+use Rattle.relay_conf.specs.declared.settings.Config.{Config}
+use Rattle.relay_conf.specs.declared.settings.Method.{Method}
+use Rattle.relay_explain.specs.Buffers.{largest_stored}
+use Rattle.relay_explain.specs.Lines.{begins, line_at, odd_place, parts_in, place, words_in}
+use Rattle.relay_explain.specs.Patterns.{pattern_odds}
+
+-- the file in which entries are said
+abbrev pub storage : List ℕ
+storage = codes "storage.conf"
+
+-- the number from 1 of a line that begins an entry, of one with its number from 0
+abbrev pub entry_number : ℕ × List ℕ → Option ℕ
+entry_number one =
+    if begins (codes "method") (words_in one.1) then Some (one.0 + 1) else None
+
+-- the numbers from 1 of the lines that begin entries
+abbrev pub entry_lines : (lines : List (List ℕ)) → List ℕ
+entry_lines lines = filter_map entry_number (enumerate_from 0 lines)
+
+-- what follows the colon of a line, without the white space at its ends
+abbrev pub value_in : List ℕ → List ℕ
+value_in line = without_outer_white (line_at 1 (parts_in line))
+
+-- the text of the expression that the first of these lines with the key `newsgroups` has
+abbrev pub newsgroups_in : (lines : List (List ℕ)) → List ℕ
+newsgroups_in lines =
+    value_in (unwrap_or (find (λ line. begins (codes "newsgroups") (parts_in line)) lines) [])
+
+-- An entry as it is said: its number from 1, the line that begins it, the text of its expression,
+-- and its settings.
+pub record Said : Type 0 where
+  pub number : ℕ
+  pub line : ℕ
+  pub newsgroups : List ℕ
+  pub entry : Method
+
+-- the entry of this number, as the lines say it
+abbrev pub said_entry : (lines : List (List ℕ)) → ℕ × Method → Said
+said_entry lines one =
+    let line = unwrap_or (slice_get (entry_lines lines) one.0) 0 in
+    record {
+      number = one.0 + 1;
+      line = line;
+      newsgroups = newsgroups_in (drop line lines);
+      entry = one.1;
+    }
+
+-- all entries, as the lines say them
+abbrev pub said_entries : Config → (lines : List (List ℕ)) → List Said
+said_entries config lines = map (said_entry lines) (enumerate_from 0 config.methods.items)
+
+-- the text of an entry's expression is that expression
+abbrev pub IsSpelled : Said → Type 0
+IsSpelled said = IsExpressionText said.newsgroups said.entry.newsgroups
+
+-- a size within this limit is within the other one
+abbrev pub is_limit_within : (limit other : Option ℕ) → Bool
+is_limit_within limit None = true
+is_limit_within None (Some other) = false
+is_limit_within (Some limit) (Some other) = nat_le limit other
+
+-- an entry takes each size that the other takes
+abbrev pub covers_sizes : (entry other : Method) → Bool
+covers_sizes entry other =
+    nat_le entry.smallest other.smallest && is_limit_within other.largest entry.largest
+
+-- an entry takes all newsgroups that the other takes: each newsgroup, or by the same expression and
+-- no more strictly
+abbrev pub covers_newsgroups : (said other : Said) → Bool
+covers_newsgroups said other =
+    bytes_eq said.newsgroups (codes "*")
+    || (bytes_eq said.newsgroups other.newsgroups
+    && (not said.entry.exactmatch || other.entry.exactmatch))
+
+-- an entry is tried before the other and takes all that it takes
+abbrev pub shadows : (said other : Said) → Bool
+shadows said other =
+    nat_lt said.number other.number
+    && (covers_sizes said.entry other.entry && covers_newsgroups said other)
+
+-- the sizes that an entry takes
+abbrev pub sizes_text : (smallest : ℕ) → (largest : Option ℕ) → List ℕ
+sizes_text smallest None = decimal smallest ++ codes " octets and more"
+sizes_text smallest (Some largest) =
+    decimal smallest ++ codes " to " ++ decimal largest ++ codes " octets"
+
+-- the name of a group; one that isn't there has none
+abbrev pub group_name : Option GroupConf → List ℕ
+group_name None = []
+group_name (Some group) = group.name
+
+-- how many newsgroups of an article have to match
+abbrev pub match_text : (exactmatch : Bool) → List ℕ
+match_text exactmatch = if exactmatch then codes " (all of them)" else codes " (one of them)"
+
+-- `entry 1 takes articles of 0 octets and more in newsgroups * (one of them): class 1, group G`
+abbrev pub entry_line : Config → Said → List ℕ
+entry_line config said =
+    place storage said.line ++ codes "entry " ++ decimal said.number
+    ++ codes " takes articles of " ++ sizes_text said.entry.smallest said.entry.largest
+    ++ codes " in newsgroups " ++ said.newsgroups ++ match_text said.entry.exactmatch
+    ++ codes ": class " ++ decimal said.entry.class ++ codes ", group "
+    ++ group_name (slice_get config.buffers.groups.items said.entry.group) ++ codes "\n"
+
+-- no size that an article may have is taken
+abbrev pub takes_no_size : (largest_stored : ℕ) → Method → Bool
+takes_no_size largest_stored entry =
+    nat_lt largest_stored entry.smallest
+    || not (is_limit_within (Some entry.smallest) entry.largest)
+
+-- what is told of an entry that takes no size
+abbrev pub size_odd : (line : ℕ) → (no_size : Bool) → List ℕ
+size_odd line no_size =
+    if no_size then odd_place storage line ++ codes "no article has such a size\n" else []
+
+-- what is told of an entry that another shadows
+abbrev pub shadow_odd : (line : ℕ) → Option Said → List ℕ
+shadow_odd line None = []
+shadow_odd line (Some first) =
+    odd_place storage line ++ codes "the entry takes nothing: all of it is taken by entry "
+    ++ decimal first.number ++ codes "\n"
+
+-- what is told of an entry, among all
+abbrev pub entry_text : Config → List Said → Said → List ℕ
+entry_text config all said =
+    entry_line config said
+    ++ pattern_odds storage said.line said.newsgroups
+    ++ size_odd said.line (takes_no_size (largest_stored config) said.entry)
+    ++ shadow_odd said.line (find (λ first. shadows first said) all)
+
+-- what is told where there is no entry
+abbrev pub no_entries : List Said → List ℕ
+no_entries entries =
+    if nat_lt 0 (length entries) then []
+    else codes "storage.conf: odd: there is no entry: each article is refused\n"
+
+-- what is told of all entries
+abbrev pub entries_text : Config → (lines : List (List ℕ)) → List ℕ
+entries_text config lines =
+    let all = said_entries config lines in
+    flat_map (entry_text config all) all ++ no_entries all

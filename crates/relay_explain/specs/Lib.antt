@@ -1,0 +1,10 @@
+pub mod Buffers
+pub mod Choice
+pub mod Entries
+pub mod Explained
+pub mod Found
+pub mod Lines
+pub mod Patterns
+pub mod Peers
+pub mod Settings
+pub mod Sums

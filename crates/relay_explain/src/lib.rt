@@ -1,0 +1,26 @@
+//! What a configuration does, in words, and what in it is odd (docs/PROTOCOL.md, Program).
+//!
+//! It is told of the settings that were read of three texts, and of these texts: the settings say what
+//! is so, the texts on which line. What lies where the buffers' files are to be is told to it; it opens
+//! no file itself.
+#![tactic(auto)]
+
+mod buffers;
+mod choice;
+mod entries;
+mod feeds;
+mod found;
+mod groups;
+pub mod laws;
+mod lines;
+mod patterns;
+mod peers;
+mod rows;
+mod settings;
+mod sums;
+mod wants;
+mod whole;
+
+pub use choice::explain_choice;
+pub use found::{Found, found_of};
+pub use whole::{Sources, explain};

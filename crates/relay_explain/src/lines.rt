@@ -1,0 +1,133 @@
+//! Where the files of a configuration say what they say.
+ghost use Rattle.std.specs.Prelude.{◌≡◌, ◌∷◌, ◌++◌, map, slice_get, unwrap_or, codes, IfOk, OnOk};
+ghost use Rattle.std.specs.Str.Lines.{strip_carriage_return};
+ghost use Rattle.relay_conf.specs.Lines.{lines_after};
+ghost use Rattle.relay_conf.specs.Lines as conf;
+ghost use Rattle.relay_explain.specs.Lines.{begins, begins_with, parts_in, words_in};
+ghost use Rattle.relay_explain.specs.Lines as terms;
+
+use itoa::Buffer;
+use line_words::{Between, cut, first_word, trim};
+use std::alloc::{AllocError, Global};
+
+/// The lines of a text, each ended by LF or CRLF, the last by the end of the text.
+pub(crate) fn lines_of(alloc: Global, text: &[u8]) -> Result<Vec<&[u8]>, AllocError>
+    ensures { IfOk result (λ lines. map (λ line. line.now) lines.items ≡ conf.lines_of text.now) }
+{
+    let mut lines = Vec::new(alloc);
+    let mut unread = Some(text);
+    while let Some(rest) = unread {
+        let (line, after) = next_line(rest);
+        lines.push(line)?;
+        unread = after;
+    }
+    Ok(lines)
+}
+
+/// The first line of a text, and what is left behind its end.
+fn next_line(text: &[u8]) -> (&[u8], Option<&[u8]>)
+    ensures { conf.lines_of text.now ≡ result.0.now ∷ lines_after result.1 }
+{
+    match cut(text, b'\n') {
+        (line, Some(rest)) => (without_last_cr(line), Some(rest)),
+        (line, None) => (line, None),
+    }
+}
+
+/// A line without the CR at its end.
+fn without_last_cr(line: &[u8]) -> &[u8]
+    ensures { result.now ≡ strip_carriage_return line.now }
+{
+    match line.split_last() {
+        Some((last, front)) if *last == b'\r' => front,
+        _ => line,
+    }
+}
+
+/// The line of cycbuff.conf that says a buffer or a group, by its name.
+pub(crate) fn named_line(lines: &[&[u8]], key: &[u8], name: &[u8]) -> usize
+    ensures { result ≡ terms.named_line key.now name.now (map (λ line. line.now) lines.now) }
+{
+    lines
+        .iter()
+        .position(|line| has_parts(line, key, name))
+        .unwrap_or(lines.len())
+        + 1
+}
+
+/// Whether the first two parts of a line are these.
+fn has_parts(line: &[u8], key: &[u8], name: &[u8]) -> bool
+    ensures { result ≡ begins_with key.now name.now (parts_in line.now) }
+{
+    let (first, rest) = cut(trim(line), b':');
+    match rest {
+        None => false,
+        Some(rest) => {
+            let (second, _) = cut(rest, b':');
+            key == first && name == second
+        }
+    }
+}
+
+/// The line of relay.conf that says something of a peer, by its name.
+pub(crate) fn peer_line(lines: &[&[u8]], key: &[u8], name: &[u8]) -> usize
+    ensures { result ≡ terms.peer_line key.now name.now (map (λ line. line.now) lines.now) }
+{
+    lines
+        .iter()
+        .position(|line| has_words(line, key, name))
+        .unwrap_or(lines.len())
+        + 1
+}
+
+/// Whether the first two words of a line are these.
+fn has_words(line: &[u8], key: &[u8], name: &[u8]) -> bool
+    ensures { result ≡ begins_with key.now name.now (words_in line.now) }
+{
+    let Some((first, rest)) = first_word(trim(line), Between::Spaces) else {
+        return false;
+    };
+    match first_word(rest, Between::Spaces) {
+        None => false,
+        Some((second, _)) => key == first && name == second,
+    }
+}
+
+/// Whether the first word of a line is this.
+pub(crate) fn has_word(line: &[u8], key: &[u8]) -> bool
+    ensures { result ≡ begins key.now (words_in line.now) }
+{
+    match first_word(trim(line), Between::Spaces) {
+        None => false,
+        Some((first, _)) => key == first,
+    }
+}
+
+/// The line of a number from 0, empty where there is none.
+pub(crate) fn line_at<'a>(lines: &[&'a [u8]], number: usize) -> &'a [u8]
+    ensures { result.now ≡ terms.line_at number (map (λ line. line.now) lines.now) }
+{
+    match lines.get(number) {
+        Some(line) => line,
+        None => b"",
+    }
+}
+
+/// Puts where something is said.
+pub(crate) fn put_place(text: &mut Vec<u8>, file: &[u8], line: usize) -> Result<(), AllocError>
+    ensures { OnOk result (text.new.items ≡ text.old.items ++ terms.place file.now line) }
+{
+    let mut number = Buffer::new();
+    text.extend_from_slice(file)?;
+    text.extend_from_slice(b":")?;
+    text.extend_from_slice(number.format(line).as_bytes())?;
+    text.extend_from_slice(b": ")
+}
+
+/// Puts where something odd is said.
+pub(crate) fn put_odd_place(text: &mut Vec<u8>, file: &[u8], line: usize) -> Result<(), AllocError>
+    ensures { OnOk result (text.new.items ≡ text.old.items ++ terms.odd_place file.now line) }
+{
+    put_place(text, file, line)?;
+    text.extend_from_slice(b"odd: ")
+}

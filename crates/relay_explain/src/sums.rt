@@ -1,0 +1,79 @@
+//! What a configuration takes of the machine, added up.
+ghost use Rattle.std.specs.Prelude.{◌≡◌, ◌*◌, ◌^◌, ◌≤◌, length};
+ghost use Rattle.relay_explain.specs.Sums as terms;
+
+use crate::buffers::file_octets;
+use relay_conf::{BufferConf, Config, Feed, Peer};
+
+/// The octets that all files of buffers have.
+pub(crate) fn disk_of(buffers: &[BufferConf]) -> u128
+    ensures { result ≡ terms.disk_of buffers.now }
+{
+    let mut octets = 0;
+    for buffer in buffers {
+        octets += u128::from(file_octets(buffer.blocks));
+    }
+    octets
+}
+
+/// The octets of memory that all buffers take from the start.
+fn marks_of(buffers: &[BufferConf]) -> u128
+    ensures value { result ≡ terms.marks_of buffers.now }
+    ensures most { result ≤ length buffers.now * 2 ^ 37 }
+{
+    let mut octets = 0;
+    for buffer in buffers {
+        octets += u128::from(buffer.blocks) * 16 + u128::from(buffer.blocks / 4);
+    }
+    octets
+}
+
+/// The octets of memory that all rings take from the start.
+fn rings_of(feeds: &[Feed]) -> u128
+    ensures value { result ≡ terms.rings_of feeds.now }
+    ensures most { result ≤ length feeds.now * 2 ^ 36 }
+{
+    let mut octets = 0;
+    for feed in feeds {
+        octets += u128::from(feed.ring) * 16;
+    }
+    octets
+}
+
+/// The connections that are served at once.
+pub(crate) fn connections_of(peers: &[Peer]) -> u128
+    ensures value { result ≡ terms.connections_of peers.now }
+    ensures most { result ≤ length peers.now * 2 ^ 32 }
+{
+    let mut connections = 0;
+    for peer in peers {
+        connections += u128::from(served_of(peer));
+    }
+    connections
+}
+
+/// The connections of a peer that are served at once.
+fn served_of(peer: &Peer) -> u32
+    ensures { result ≡ terms.served_of peer.now }
+{
+    if peer.port == 0 { 0 } else { peer.connections }
+}
+
+/// The octets of memory from the start.
+pub(crate) fn memory_of(config: &Config) -> u128
+    ensures { result ≡ terms.memory_of config.now }
+{
+    let marks = marks_of(&config.buffers.buffers);
+    let rings = rings_of(&config.relay.feeds);
+    let groups = config.buffers.groups.len() as u128;
+    marks + rings + groups * 6_000 + 65_536
+}
+
+/// The descriptors that are open at once.
+pub(crate) fn descriptors_of(config: &Config) -> u128
+    ensures { result ≡ terms.descriptors_of config.now }
+{
+    let buffers = config.buffers.buffers.len() as u128;
+    let connections = connections_of(&config.relay.peers);
+    buffers + connections * 3 + 5
+}

@@ -1,0 +1,91 @@
+//! What is told of a whole configuration.
+ghost use Rattle.std.specs.Prelude.{◌≡◌, ◌++◌, IfOk, OnOk};
+ghost use Rattle.relay_conf.specs.Lines.{lines_of};
+ghost use Rattle.relay_explain.specs.Entries.{entries_text};
+ghost use Rattle.relay_explain.specs.Explained as terms;
+
+use crate::buffers::put_buffers;
+use crate::entries::put_entries;
+use crate::feeds::put_feeds;
+use crate::found::Found;
+use crate::groups::put_groups;
+use crate::lines::lines_of;
+use crate::peers::put_peers;
+use crate::settings::put_settings;
+use crate::wants::put_wants;
+use relay_conf::Config;
+use std::alloc::{AllocError, Global};
+
+/// The texts of the three files of a configuration.
+#[derive(Debug, Drop)]
+pub struct Sources {
+    pub cycbuff: Vec<u8>,
+    pub storage: Vec<u8>,
+    pub relay: Vec<u8>,
+}
+
+/// The text of what a configuration does, which these texts say, and of what is odd in it; `found` has
+/// what lies where the file of each buffer is to be, in the order of the buffers. The error is want of
+/// memory.
+pub fn explain(
+    alloc: Global,
+    config: &Config,
+    sources: &Sources,
+    found: &[Found],
+) -> Result<Vec<u8>, AllocError>
+    ensures { IfOk result (λ text. text.items
+        ≡ terms.explained config.now sources.now found.now) }
+{
+    let mut text = Vec::new(alloc);
+    put_cycbuff(alloc, &mut text, config, &sources.cycbuff, found)?;
+    put_storage(alloc, &mut text, config, &sources.storage)?;
+    put_relay(alloc, &mut text, config, &sources.relay)?;
+    put_wants(&mut text, config)?;
+    Ok(text)
+}
+
+/// Puts what is told of cycbuff.conf, of which this is the text.
+fn put_cycbuff(
+    alloc: Global,
+    text: &mut Vec<u8>,
+    config: &Config,
+    source: &[u8],
+    found: &[Found],
+) -> Result<(), AllocError>
+    ensures { OnOk result (text.new.items ≡ text.old.items
+        ++ terms.cycbuff_text config.now (lines_of source.now) found.now) }
+{
+    let lines = lines_of(alloc, source)?;
+    put_buffers(text, config, &lines, found)?;
+    put_groups(text, config, &lines)
+}
+
+/// Puts what is told of storage.conf, of which this is the text.
+fn put_storage(
+    alloc: Global,
+    text: &mut Vec<u8>,
+    config: &Config,
+    source: &[u8],
+) -> Result<(), AllocError>
+    ensures { OnOk result (text.new.items ≡ text.old.items
+        ++ entries_text config.now (lines_of source.now)) }
+{
+    let lines = lines_of(alloc, source)?;
+    put_entries(alloc, text, config, &lines)
+}
+
+/// Puts what is told of relay.conf, of which this is the text.
+fn put_relay(
+    alloc: Global,
+    text: &mut Vec<u8>,
+    config: &Config,
+    source: &[u8],
+) -> Result<(), AllocError>
+    ensures { OnOk result (text.new.items ≡ text.old.items
+        ++ terms.relay_text config.now (lines_of source.now)) }
+{
+    let lines = lines_of(alloc, source)?;
+    put_settings(alloc, text, &config.relay, &lines)?;
+    put_peers(text, &config.relay, &lines)?;
+    put_feeds(alloc, text, &config.relay, &lines)
+}

@@ -1,0 +1,9 @@
+use Rattle.relay_serve.proofs.ServeFaults.{origin_serves, served_none}
+use Rattle.relay_serve.proofs.serving.begin_and_run.Goals as goal
+
+-- where it isn't known what it begins from nothing is written
+pub returns-in_err-origin : goal.returns-in_err-origin
+returns-in_err-origin g c =
+    served_none c.args.config.now c.in_err-origin.field-0.0 c.from_residual.result
+    (g.W.Write.contents c.args.writer.now) c.from_residual.ensures.0 c.from_residual.ensures.1
+    (origin_serves c.args.config.now _ c.in_err-origin.ensures.fault)

@@ -1,0 +1,15 @@
+-- The history of a relay, as serving it reads and keeps it.
+use Rattle.std.specs.Prelude.{◌≡◌, ◌⊎◌, ℕ, Bool, true, false, List, Option, None}
+use Rattle.serve_terms.specs.declared.fault.ServeError.{ServeError}
+use Rattle.serve_terms.specs.declared.fault.ServeError.TheVariants as faults
+use Rattle.serve_terms.specs.declared.keeping.StartFault.TheVariants as starts
+
+-- what is kept once it is known what a relay begins from: nothing where all is formatted because it
+-- was asked for, else what was
+abbrev pub kept_by : (fresh : Bool) → Option (List ℕ) → Option (List ℕ)
+kept_by true kept = None
+kept_by false kept = kept
+
+-- memory was refused, or the history can't be had
+abbrev pub IsOriginFault : ServeError → Type 0
+IsOriginFault error = (error ≡ faults.Memory) ⊎ (error ≡ faults.Start starts.History)

@@ -1,0 +1,57 @@
+//! The history of a relay is read and kept (docs/FORMATS.md, History file).
+ghost use Rattle.std.specs.Prelude.{◌≡◌, Some, IfErr, IfOk, OnErr, OnOk};
+ghost use Rattle.history_file.specs.Origin.{begins_from, origin_view};
+ghost use Rattle.relay_serve.specs.History.{IsOriginFault, kept_by};
+ghost use Rattle.relay_serve.specs.Running.{IsStopFault};
+ghost use Rattle.serve_terms.specs.declared.fault.ServeError.TheVariants as faults;
+ghost use Rattle.serve_terms.specs.declared.keeping.StopFault.TheVariants as stops;
+
+use history_file::{HistoryPlace, Origin, keep, origin_of};
+use serve_terms::{ServeError, StartFault, StopFault};
+use std::alloc::Global;
+use std::io::ErrorKind;
+
+/// What a relay begins from: `fresh` asks for nothing, `blank` says that nothing was kept in any
+/// buffer's file. The error is want of memory, or that the history can't be read, or not be taken
+/// away where all is to be formatted.
+pub(crate) fn begun_from<P: HistoryPlace>(
+    alloc: Global,
+    place: &mut P,
+    fresh: bool,
+    blank: bool,
+) -> Result<Origin, ServeError>
+    ensures origin { P.honest place.old → IfOk result (λ origin.
+        origin_view origin ≡ begins_from fresh blank (P.kept place.old)) }
+    ensures kept { P.honest place.old → OnOk result (P.kept place.new
+        ≡ kept_by fresh (P.kept place.old)) }
+    ensures same { P.honest place.old → OnErr result (P.kept place.new ≡ P.kept place.old) }
+    ensures fault { IfErr result IsOriginFault }
+{
+    match origin_of(alloc, place, fresh, blank) {
+        Ok(origin) => Ok(origin),
+        Err(error) => Err(unread(error.kind())),
+    }
+}
+
+/// Why it isn't known what a relay begins from.
+fn unread(kind: ErrorKind) -> ServeError
+    ensures { IsOriginFault result }
+{
+    match kind {
+        ErrorKind::OutOfMemory => ServeError::Memory,
+        _ => ServeError::Start(StartFault::History),
+    }
+}
+
+/// Keeps the history of a relay that was stopped.
+pub(crate) fn keep_history<P: HistoryPlace>(place: &mut P, text: &[u8]) -> Result<(), ServeError>
+    ensures kept { P.honest place.old → OnOk result (P.kept place.new ≡ Some text.now) }
+    ensures same { P.honest place.old → OnErr result (P.kept place.new ≡ P.kept place.old) }
+    ensures fault { IfErr result (λ error. error ≡ faults.Stop stops.History) }
+    ensures stop { IfErr result IsStopFault }
+{
+    match keep(place, text) {
+        Ok(()) => Ok(()),
+        Err(_) => Err(ServeError::Stop(StopFault::History)),
+    }
+}

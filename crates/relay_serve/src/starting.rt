@@ -1,0 +1,33 @@
+//! A relay begins, from nothing or from what it was stopped with.
+ghost use Rattle.std.specs.Prelude.{◌≡◌, slice_get};
+ghost use Rattle.relay_serve.specs.Starting.{IsBufferFaultAt, IsFaultOfBuffer};
+ghost use Rattle.std.specs.Prelude.{Some};
+
+use relay_conf::{BufferConf, Buffers};
+use serve_terms::{BufferFault, ServeError, StartFault};
+use std::alloc::Global;
+
+/// Why a relay can't start: the buffer of this number has this fault.
+pub(crate) fn fault_at(
+    alloc: Global,
+    settings: &Buffers,
+    number: u8,
+    fault: BufferFault,
+) -> ServeError
+    ensures { IsBufferFaultAt settings.now number fault result }
+{
+    match settings.buffers.get(usize::from(number)) {
+        Some(buffer) => fault_of(alloc, buffer, fault),
+        None => ServeError::Memory,
+    }
+}
+
+/// Why a relay can't start: this buffer has this fault.
+fn fault_of(alloc: Global, buffer: &BufferConf, fault: BufferFault) -> ServeError
+    ensures { IsFaultOfBuffer (Some buffer.now) fault result }
+{
+    match String::from_utf8_lossy(alloc, buffer.name.as_slice()) {
+        Ok(name) => ServeError::Start(StartFault::Buffer(name, fault)),
+        Err(_) => ServeError::Memory,
+    }
+}
