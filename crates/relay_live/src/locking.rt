@@ -1,5 +1,6 @@
 //! The parts of a relay go behind their locks, and come out again.
-ghost use Rattle.std.specs.Prelude.{◌≡◌, ◌≤◌, length, IfOk, vec_capacity};
+ghost use Rattle.std.specs.Prelude.{◌≡◌, ◌≤◌, [], length, IfOk, vec_capacity};
+ghost use Rattle.relay_live.specs.Locking.{HasLockRoom, HasPartRoom};
 
 use crate::claims::Claims;
 use crate::forgetting::Rounds;
@@ -40,7 +41,9 @@ impl<S: BlockStore + Drop, J: Archive> Locks<S, J> {
         alloc: Global,
         buffers: usize,
         racks: usize,
-    ) -> Result<Locks<S, J>, AllocError> {
+    ) -> Result<Locks<S, J>, AllocError>
+        ensures { IfOk result (HasLockRoom buffers racks) }
+    {
         let shards = Vec::with_capacity(alloc, SHARD_COUNT)?;
         let buffers = Vec::with_capacity(alloc, buffers)?;
         let racks = Vec::with_capacity(alloc, racks)?;
@@ -58,7 +61,9 @@ impl<S: BlockStore + Drop, J: Archive> Parts<S, J> {
         alloc: Global,
         buffers: usize,
         racks: usize,
-    ) -> Result<Parts<S, J>, AllocError> {
+    ) -> Result<Parts<S, J>, AllocError>
+        ensures { IfOk result (HasPartRoom buffers racks) }
+    {
         let shards = Vec::with_capacity(alloc, SHARD_COUNT)?;
         let buffers = Vec::with_capacity(alloc, buffers)?;
         let racks = Vec::with_capacity(alloc, racks)?;
@@ -72,7 +77,9 @@ impl<S: BlockStore + Drop, J: Archive> Parts<S, J> {
 
 impl<J: Archive> Beside<J> {
     /// For so many ends, before the first round.
-    pub(crate) fn new(alloc: Global, ends: usize) -> Result<Beside<J>, AllocError> {
+    pub(crate) fn new(alloc: Global, ends: usize) -> Result<Beside<J>, AllocError>
+        ensures { IfOk result (λ beside. length beside.slots.items ≡ ends) }
+    {
         let slots = new_slots(alloc, ends)?;
         let rounds = Rounds::new(alloc)?;
         Ok(Beside {
@@ -94,7 +101,11 @@ fn new_slots<J: Archive>(alloc: Global, ends: usize) -> Result<Vec<Slot<J>>, All
 }
 
 /// The shards behind their locks.
-pub(crate) fn lock_shards(shards: Vec<Shard>, room: Vec<Claims>) -> Vec<Claims> {
+pub(crate) fn lock_shards(shards: Vec<Shard>, room: Vec<Claims>) -> Vec<Claims>
+    requires none { room.items ≡ [] }
+    requires room { length shards.items ≤ vec_capacity room }
+    ensures { length result.items ≡ length shards.items }
+{
     let mut locks = room;
     for shard in shards {
         locks.push_reserved(Claims::over(shard));
@@ -106,7 +117,11 @@ pub(crate) fn lock_shards(shards: Vec<Shard>, room: Vec<Claims>) -> Vec<Claims> 
 pub(crate) fn lock_buffers<S: BlockStore + Drop, J: Archive>(
     buffers: Vec<NumberedBuffer<S, J>>,
     room: Vec<Mutex<NumberedBuffer<S, J>>>,
-) -> Vec<Mutex<NumberedBuffer<S, J>>> {
+) -> Vec<Mutex<NumberedBuffer<S, J>>>
+    requires none { room.items ≡ [] }
+    requires room { length buffers.items ≤ vec_capacity room }
+    ensures { length result.items ≡ length buffers.items }
+{
     let mut locks = room;
     for buffer in buffers {
         locks.push_reserved(Mutex::new(buffer));
@@ -115,7 +130,11 @@ pub(crate) fn lock_buffers<S: BlockStore + Drop, J: Archive>(
 }
 
 /// The groups behind their locks.
-pub(crate) fn lock_racks(racks: Vec<Rack>, room: Vec<Mutex<Rack>>) -> Vec<Mutex<Rack>> {
+pub(crate) fn lock_racks(racks: Vec<Rack>, room: Vec<Mutex<Rack>>) -> Vec<Mutex<Rack>>
+    requires none { room.items ≡ [] }
+    requires room { length racks.items ≤ vec_capacity room }
+    ensures { length result.items ≡ length racks.items }
+{
     let mut locks = room;
     for rack in racks {
         locks.push_reserved(Mutex::new(rack));
@@ -124,7 +143,11 @@ pub(crate) fn lock_racks(racks: Vec<Rack>, room: Vec<Mutex<Rack>>) -> Vec<Mutex<
 }
 
 /// The shards out of their locks.
-pub(crate) fn free_shards(locks: Vec<Claims>, room: Vec<Shard>) -> Vec<Shard> {
+pub(crate) fn free_shards(locks: Vec<Claims>, room: Vec<Shard>) -> Vec<Shard>
+    requires none { room.items ≡ [] }
+    requires room { length locks.items ≤ vec_capacity room }
+    ensures { length result.items ≡ length locks.items }
+{
     let mut shards = room;
     for claims in locks {
         shards.push_reserved(claims.into_shard());
@@ -136,7 +159,11 @@ pub(crate) fn free_shards(locks: Vec<Claims>, room: Vec<Shard>) -> Vec<Shard> {
 pub(crate) fn free_buffers<S: BlockStore + Drop, J: Archive>(
     locks: Vec<Mutex<NumberedBuffer<S, J>>>,
     room: Vec<NumberedBuffer<S, J>>,
-) -> Vec<NumberedBuffer<S, J>> {
+) -> Vec<NumberedBuffer<S, J>>
+    requires none { room.items ≡ [] }
+    requires room { length locks.items ≤ vec_capacity room }
+    ensures { length result.items ≡ length locks.items }
+{
     let mut buffers = room;
     for lock in locks {
         buffers.push_reserved(lock.into_inner());
@@ -145,7 +172,11 @@ pub(crate) fn free_buffers<S: BlockStore + Drop, J: Archive>(
 }
 
 /// The groups out of their locks.
-pub(crate) fn free_racks(locks: Vec<Mutex<Rack>>, room: Vec<Rack>) -> Vec<Rack> {
+pub(crate) fn free_racks(locks: Vec<Mutex<Rack>>, room: Vec<Rack>) -> Vec<Rack>
+    requires none { room.items ≡ [] }
+    requires room { length locks.items ≤ vec_capacity room }
+    ensures { length result.items ≡ length locks.items }
+{
     let mut racks = room;
     for lock in locks {
         racks.push_reserved(lock.into_inner());

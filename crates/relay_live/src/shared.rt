@@ -6,8 +6,10 @@ use crate::alone::Alone;
 use crate::claims::Claims;
 use crate::drawing::{Number, Numbers};
 use crate::forgetting::Rounds;
-use crate::locking::{Beside, Locks, Parts, free_buffers, free_racks, free_shards};
-use crate::locking::{lock_buffers, lock_racks, lock_shards};
+use crate::locking::{
+    Beside, Locks, Parts, free_buffers, free_racks, free_shards, lock_buffers, lock_racks,
+    lock_shards,
+};
 use crate::slot::Slot;
 use crate::stopping::Unstopped;
 use block_shelf::{BeginError, Rack, StopFault};
@@ -65,7 +67,11 @@ impl<S: BlockStore + Drop, J: Archive, L: Ledger> Shared<S, J, L> {
     ghost use Rattle.std.specs.Prelude.{◌≡◌, true, map, length, All, IfErr, IfOk};
     ghost use Rattle.block_shelf.specs.Filling.{IsBeginRefusal};
     ghost use Rattle.relay_live.specs.Making.{buffers_in, groups_in, feeds_in, ends_in};
-    ghost use Rattle.relay_live.specs.Making.{remember_in};
+    ghost use Rattle.relay_live.specs.Locking.{HasLockRoom, HasPartRoom};
+    ghost use Rattle.relay_live.specs.Making.{last_stop, remember_in};
+    ghost use Rattle.relay_live.specs.Starting.{IsNotStarted, HasStopOf};
+    ghost use Rattle.relay_live.specs.Stopping.{AreShutWith, IsUnshut};
+    ghost use Rattle.relay_core.specs.Stopping.{next_stop};
 
     /// What so many ends share over these stores, the i-th for buffer i, before anything has come.
     /// All memory that no message-id takes is taken here. Each buffer's head block says that it may
@@ -128,6 +134,7 @@ impl<S: BlockStore + Drop, J: Archive, L: Ledger> Shared<S, J, L> {
         ensures ends { IfOk result (λ shared. ends_in shared ≡ ends) }
         ensures remember { IfOk result (λ shared.
             remember_in shared ≡ config.now.relay.remember) }
+        ensures history { IfOk result (HasStopOf config.now text.now) }
         ensures refused { IfErr result
             (IsNotStarted S.BlockStore config.now stores.items text.now) }
     {
@@ -146,6 +153,12 @@ impl<S: BlockStore + Drop, J: Archive, L: Ledger> Shared<S, J, L> {
     /// Stops a relay that no thread shares any more: the stores of its buffers, and the text of its
     /// history. Where a message-id is being stored or a write is open it isn't.
     pub fn shut(self, alloc: Global) -> Result<Stopped<S>, Unshut<S, J, L>>
+        // There is a store of each buffer, which holds one as stopped at the next stop; where stores
+        // are trusted, each live text in it is that of a record.
+        ensures stores { IfOk result (λ stopped.
+            length stopped.stores.items ≡ buffers_in self) }
+        ensures known { IfOk result (λ stopped. J.trusted ≡ true → AreShutWith S.BlockStore
+            J.register (next_stop (last_stop self)) stopped.stores.items) }
         ensures refused { IfErr result (IsUnshut self) }
     {
         let Ok((parts, locks)) = self.room(alloc) else {
@@ -165,14 +178,27 @@ impl<S: BlockStore + Drop, J: Archive, L: Ledger> Shared<S, J, L> {
     }
 
     /// Room for its parts without their locks, and for their locks again.
-    fn room(&self, alloc: Global) -> Result<(Parts<S, J>, Locks<S, J>), AllocError> {
+    fn room(&self, alloc: Global) -> Result<(Parts<S, J>, Locks<S, J>), AllocError>
+        ensures parts { IfOk result (λ room.
+            HasPartRoom (buffers_in self.now) (groups_in self.now) room.0) }
+        ensures locks { IfOk result (λ room.
+            HasLockRoom (buffers_in self.now) (groups_in self.now) room.1) }
+    {
         let parts = Parts::new(alloc, self.buffers.len(), self.racks.len())?;
         let locks = Locks::new(alloc, self.buffers.len(), self.racks.len())?;
         Ok((parts, locks))
     }
 
     /// These parts, each behind its lock, put where there is room for them.
-    fn over(alone: Alone<S, J, L>, locks: Locks<S, J>, beside: Beside<J>) -> Shared<S, J, L> {
+    fn over(alone: Alone<S, J, L>, locks: Locks<S, J>, beside: Beside<J>) -> Shared<S, J, L>
+        requires { HasLockRoom (length alone.buffers.items) (length alone.racks.items) locks }
+        ensures buffers { buffers_in result ≡ length alone.buffers.items }
+        ensures groups { groups_in result ≡ length alone.racks.items }
+        ensures feeds { feeds_in result ≡ alone.feeds }
+        ensures ends { ends_in result ≡ length beside.slots.items }
+        ensures remember { remember_in result ≡ alone.remember }
+        ensures stop { last_stop result ≡ alone.stop }
+    {
         let Alone {
             shards,
             desk,
@@ -198,7 +224,15 @@ impl<S: BlockStore + Drop, J: Archive, L: Ledger> Shared<S, J, L> {
     }
 
     /// Its parts without their locks, put where there is room for them, and what stood beside these.
-    fn into_alone(self, parts: Parts<S, J>) -> (Alone<S, J, L>, Beside<J>) {
+    fn into_alone(self, parts: Parts<S, J>) -> (Alone<S, J, L>, Beside<J>)
+        requires { HasPartRoom (buffers_in self) (groups_in self) parts }
+        ensures buffers { length result.0.buffers.items ≡ buffers_in self }
+        ensures groups { length result.0.racks.items ≡ groups_in self }
+        ensures feeds { result.0.feeds ≡ feeds_in self }
+        ensures ends { length result.1.slots.items ≡ ends_in self }
+        ensures remember { result.0.remember ≡ remember_in self }
+        ensures stop { result.0.stop ≡ last_stop self }
+    {
         let Shared {
             shards,
             desk,

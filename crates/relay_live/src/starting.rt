@@ -1,6 +1,10 @@
 //! How a relay is started from what a stop left (docs/PROTOCOL.md, Clean stop and start).
 ghost use Rattle.std.specs.Prelude.{◌≡◌, IfOk, map};
-ghost use Rattle.std.specs.List.{AllZip};
+ghost use Rattle.history_text.specs.History.{Holds};
+ghost use Rattle.history_text.specs.Views.{history_view};
+ghost use Rattle.live_store.specs.Started.{unopened_in};
+ghost use Rattle.relay_core.specs.Desks.{setting_of};
+ghost use Rattle.relay_live.specs.Starting.{AreOf};
 
 use crate::alone::Alone;
 use crate::drawing::Last;
@@ -8,7 +12,7 @@ use crate::filling::all_filled;
 use crate::started::{StartedBuffers, start_buffers};
 use block_shelf::{Rack, StopFault, Unstarted, resume_racks};
 use cyc_block::BlockStore;
-use history_text::{History, KeptFeed, KeptId};
+use history_text::History;
 use id_history::{Shard, Shards};
 use live_settle::CountedDesk;
 use live_store::{Archive, Register};
@@ -31,7 +35,7 @@ struct Desks<L: Ledger> {
 
 impl<S: BlockStore + Drop, J: Archive, L: Ledger> Alone<S, J, L> {
     ghost use Rattle.std.specs.Prelude.{◌≡◌, true, IfErr, IfOk, All, length, map};
-    ghost use Rattle.relay_live.specs.Starting.{IsNotStarted, IsStartRefusal, StartsOver};
+    ghost use Rattle.relay_live.specs.Starting.{IsNotStarted, IsRefusedRightly, StartsOver};
 
     /// The relay over the stores of one that was stopped, the i-th for buffer i, from the text of
     /// its history, with the register's record for each live article. It is refused in the order of
@@ -84,7 +88,7 @@ impl<S: BlockStore + Drop, J: Archive, L: Ledger> Alone<S, J, L> {
         requires book { book.total ≡ 0 }
         ensures started { IfOk result (StartsOver config.now stores.items text.now) }
         ensures refused { IfErr result
-            (IsStartRefusal S.BlockStore config.now stores.items text.now) }
+            (IsRefusedRightly S.BlockStore config.now stores.items text.now) }
     {
         // A text that can't be read refuses before a store is called.
         let history = match read_history(alloc, config, text) {
@@ -140,7 +144,12 @@ impl<L: Ledger> Desks<L> {
         history: History,
         started: &StartedBuffers<S, J>,
         book: Book<L>,
-    ) -> Result<Desks<L>, AllocError> {
+    ) -> Result<Desks<L>, AllocError>
+        requires book { book.total ≡ 0 }
+        requires holds { Holds (setting_of config.now) (history_view history) }
+        ensures { IfOk result (AreOf config.now (map unopened_in started.now.buffers.items)
+            (history_view history)) }
+    {
         let History {
             stop: _,
             newest,

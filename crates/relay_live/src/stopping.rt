@@ -1,4 +1,9 @@
 //! How a relay is stopped that no thread shares any more (docs/PROTOCOL.md, Clean stop and start).
+ghost use Rattle.std.specs.Prelude.{◌≡◌, ◌≤◌, ◌<◌, ◌+◌, [], None, map, vec_len, vec_capacity};
+ghost use Rattle.block_shelf.specs.Stopping.{IsStopped, StopsNext};
+ghost use Rattle.live_store.specs.Steps.{buffer_of};
+ghost use Rattle.relay_live.specs.Stopping.{AreKnown, IsShutAll};
+
 use crate::alone::Alone;
 use block_shelf::number_of;
 use cyc_block::BlockStore;
@@ -20,9 +25,15 @@ pub(crate) enum Unstopped<S: BlockStore + Drop, J: Archive, L: Ledger> {
 }
 
 impl<S: BlockStore + Drop, J: Archive, L: Ledger> Alone<S, J, L> {
+    ghost use Rattle.std.specs.Prelude.{◌≡◌, true, false, IfErr, IfOk};
+    ghost use Rattle.relay_live.specs.Stopping.{ComesBack, IsAtRest, IsStoring, Shuts};
+
     /// Stops the relay: the stores of its buffers, and the text of its history. Where a message-id
     /// is being stored or a write is open it isn't.
-    pub(crate) fn shut(self, alloc: Global) -> Result<Stopped<S>, Unstopped<S, J, L>> {
+    pub(crate) fn shut(self, alloc: Global) -> Result<Stopped<S>, Unstopped<S, J, L>>
+        ensures shut { IfOk result (λ shut. Shuts self shut.stores.items shut.history.items) }
+        ensures back { IfErr result (ComesBack self) }
+    {
         if !self.is_idle() {
             return Err(Unstopped::NotIdle(self));
         }
@@ -44,7 +55,10 @@ impl<S: BlockStore + Drop, J: Archive, L: Ledger> Alone<S, J, L> {
     }
 
     /// Whether no message-id is being stored and no write is open.
-    fn is_idle(&self) -> bool {
+    fn is_idle(&self) -> bool
+        ensures idle { result ≡ true → IsAtRest self.now }
+        ensures busy { result ≡ false → IsStoring self.now }
+    {
         for shard in &self.shards {
             if shard.counts().storing > 0 {
                 return false;
@@ -65,7 +79,12 @@ fn shut_all<S: BlockStore + Drop, J: Archive>(
     buffers: Vec<NumberedBuffer<S, J>>,
     stop: u64,
     room: Vec<S>,
-) -> (Option<u8>, Vec<S>) {
+) -> (Option<u8>, Vec<S>)
+    requires few { vec_len buffers ≤ 256 }
+    requires none { room.items ≡ [] }
+    requires room { vec_len buffers ≤ vec_capacity room }
+    ensures { IsShutAll stop buffers.items result.0 result.1.items }
+{
     let mut stores = room;
     let mut failed = None;
     for buffer in buffers {
@@ -84,7 +103,15 @@ fn shut_next<S: BlockStore + Drop, J: Archive>(
     stop: u64,
     failed: Option<usize>,
     stores: &mut Vec<S>,
-) -> Option<usize> {
+) -> Option<usize>
+    requires { vec_len stores.old < vec_capacity stores.old }
+    ensures stops { StopsNext stop (buffer_of buffer) failed stores.old.items result
+        stores.new.items }
+    ensures known { AreKnown S.BlockStore J.Archive stop failed stores.old.items
+        → AreKnown S.BlockStore J.Archive stop result stores.new.items }
+    ensures count { vec_len stores.new ≡ vec_len stores.old + 1 }
+    ensures room { vec_capacity stores.new ≡ vec_capacity stores.old }
+{
     if failed.is_some() {
         stores.push_reserved(buffer.into_store());
         return failed;
