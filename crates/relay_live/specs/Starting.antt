@@ -27,7 +27,8 @@ use Rattle.history_text.specs.History as texts
 use Rattle.id_history.specs.Lasting.{AreLasting, lasting}
 use Rattle.id_history.specs.Shards.{EachKeeps}
 use Rattle.live_settle.specs.Desks.{desk_of}
-use Rattle.live_store.specs.Started.{AreArticles, IsUnentered, numbers_on, unopened_in}
+use Rattle.live_store.specs.Started.{AreArticles, IsRefusedFor, IsUnentered, WasStopped}
+use Rattle.live_store.specs.Started.{numbers_on, unopened_in}
 use Rattle.live_store.specs.Steps.{beside_of, buffer_of, numbers_of}
 use Rattle.live_store.specs.Tied.{AreNumbered}
 use Rattle.live_store.specs.declared.numbered.NumberedBuffer.{NumberedBuffer}
@@ -57,6 +58,14 @@ use Rattle.relay_model.specs.Claims.{Claim}
 use Rattle.relay_model.specs.State.{Feed, State}
 use Rattle.relay_model.specs.Terms.{Terms}
 use Rattle.relay_model.specs.World.{World}
+
+-- FROM WHAT
+
+-- each store holds its buffer as it was stopped
+abbrev pub WereStopped : {S : Type 0} (s : blocks.Ghosts S) → (stores : List S) → Type 0
+WereStopped {S} s stores =
+    (b : ℕ) (store : S) → slice_get stores b ≡ Some store
+    → ∥ WasStopped (s.heads store) (s.blocks store) (buffer_over s b store) ∥₁
 
 -- EACH BUFFER
 
@@ -125,13 +134,15 @@ pub record StartsOver {S J L : Type 0} {s : blocks.Ghosts S} {j : archives.Ghost
 -- WHY IT ISN'T STARTED
 
 -- the start of the buffer at this place is refused, and none before it: an honest store for the
--- first reason that it gives
+-- first reason that its blocks give, or as the text of a live article is none
 pub record IsRefusedAt {S : Type 0} (s : blocks.Ghosts S) (stores : List S) (error : StartError)
     (back : List S)
     : Type 0 where
   pub place : ℕ
   pub store : S
   pub there : slice_get stores place ≡ Some store
+  pub reason : s.honest store
+      → IsRefusedFor (s.heads store) (s.blocks store) (buffer_over s place store) error
   -- where each text that it holds as stopped is an article, that is no reason
   pub outside : s.honest store → (stop : ℕ) (h : History)
       → HoldsStopped (s.heads store) (s.blocks store) stop h
@@ -169,13 +180,12 @@ AllStart {S} s stores stop =
     (b : ℕ) (one : S) → slice_get stores b ≡ Some one → s.honest one → CanStart s b one stop
 
 -- A store comes back, where the device of the one at this place failed while its head was opened: it
--- has failed, no other has, and none behind it was written.
+-- has failed, none before it has, and those behind it are unwritten.
 pub record IsLeftUnopened {S : Type 0} (s : blocks.Ghosts S) (place b : ℕ) (old new : S) : Type 0
   where
     pub failed : b ≡ place → s.failures old < s.failures new
-    pub others : b ≢ place → s.failures new ≡ s.failures old
-    pub count : b ≢ place → length (s.blocks new) ≡ length (s.blocks old)
-    pub behind : place < b → StaysHeld s old new
+    pub before : b < place → s.failures new ≡ s.failures old
+    pub behind : place < b → IsUnwritten s None b old new
 
 -- the device of a buffer failed, whose number is told; the stores are those of all, in their order
 pub record IsUnopened {S : Type 0} (s : blocks.Ghosts S) (stores : List S) (refused : Unstarted S)
@@ -321,6 +331,14 @@ abbrev pub TriesNext : {S J : Type 0} {s : blocks.Ghosts S} {j : archives.Ghosts
     → S → (old new : Starting S J s j) → Type 0
 TriesNext {S} stop store old new =
     (before : List S) → HasTried stop before old → HasTried stop (before ++ store ∷ []) new
+
+-- where none was refused, the next store holds the next buffer as it was stopped, if it is trusted
+abbrev pub IsNextStopped : {S J : Type 0} {s : blocks.Ghosts S} {j : archives.Ghosts J} → S
+    → Starting S J s j → Type 0
+IsNextStopped {s = s} {j} store (states.Started buffers stores mixed) =
+    j.trusted ≡ true
+    → ∥ WasStopped (s.heads store) (s.blocks store) (buffer_over s (vec_len buffers) store) ∥₁
+IsNextStopped store (states.Refused stores number error) = Unit {0}
 
 -- how many buffers and stores it has
 abbrev pub tried_count : {S J : Type 0} {s : blocks.Ghosts S} {j : archives.Ghosts J}

@@ -1,11 +1,11 @@
 //! The parts of what is shared are made, before anything has come.
 ghost use Rattle.std.specs.Prelude.{◌≡◌, ◌≤◌, true, All, length, map, IfErr, IfOk};
-ghost use Rattle.block_shelf.specs.Filling.{AreNewOver, IsShelfRefusal};
+ghost use Rattle.block_shelf.specs.Each.{AreEach};
+ghost use Rattle.block_shelf.specs.Filling.{IsShelfRefusal};
 ghost use Rattle.feed_queue.specs.Feeds.{KeepsFeeds, no_feed, ring_size};
 ghost use Rattle.id_history.specs.Shards.{EachKeeps};
 ghost use Rattle.live_settle.specs.Desks.{desk_of};
-ghost use Rattle.live_store.specs.Steps.{buffer_of};
-ghost use Rattle.relay_live.specs.Alone.{last_in};
+ghost use Rattle.relay_live.specs.Beginning.{IsNewOver};
 ghost use Rattle.relay_model.specs.Claims.{Unknown};
 ghost use Rattle.relay_model.specs.Terms.{shard_count};
 
@@ -37,8 +37,7 @@ pub(crate) fn new_buffers<S: BlockStore + Drop, J: Archive>(
 ) -> Result<Vec<NumberedBuffer<S, J>>, ShelfError<S>>
     requires few { length stores.items ≤ 256 }
     requires honest { J.trusted ≡ true → All S.honest stores.items }
-    ensures over { IfOk result (λ buffers.
-        AreNewOver stores.items (map buffer_of buffers.items)) }
+    ensures over { IfOk result (λ buffers. AreEach IsNewOver stores.items buffers.items) }
     ensures refusal { IfErr result (IsShelfRefusal ⟦<S as BlockStore>⟧ stores.items) }
 {
     let mut buffers = Vec::with_capacity(alloc, stores.len())?;

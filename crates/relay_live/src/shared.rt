@@ -69,7 +69,7 @@ impl<S: BlockStore + Drop, J: Archive, L: Ledger> Shared<S, J, L> {
     ghost use Rattle.relay_live.specs.Making.{buffers_in, groups_in, feeds_in, ends_in};
     ghost use Rattle.relay_live.specs.Locking.{HasLockRoom, HasPartRoom};
     ghost use Rattle.relay_live.specs.Making.{last_stop, remember_in};
-    ghost use Rattle.relay_live.specs.Starting.{IsNotStarted, HasStopOf};
+    ghost use Rattle.relay_live.specs.Starting.{HasStopOf, IsNotStarted, WereStopped};
     ghost use Rattle.relay_live.specs.Stopping.{AreShutWith, IsUnshut};
     ghost use Rattle.relay_core.specs.Stopping.{next_stop};
 
@@ -124,6 +124,7 @@ impl<S: BlockStore + Drop, J: Archive, L: Ledger> Shared<S, J, L> {
         requires stores { map (λ store. length (S.blocks store)) stores.items
             ≡ map (λ buffer. buffer.blocks) config.now.buffers.buffers.items }
         requires honest { J.trusted ≡ true → All S.honest stores.items }
+        requires stopped { J.trusted ≡ true → WereStopped S.BlockStore stores.items }
         requires book { book.total ≡ 0 }
         ensures buffers { IfOk result (λ shared.
             buffers_in shared ≡ length config.now.buffers.buffers.items) }

@@ -3,12 +3,12 @@ ghost use Rattle.std.specs.Prelude.{◌≡◌, ◌≤◌, ◌<◌, ◌+◌, ◌+
 ghost use Rattle.std.specs.Prelude.{IfErr, IfOk, vec_len, vec_capacity};
 ghost use Rattle.block_shelf.specs.Each.{AreEach};
 ghost use Rattle.block_shelf.specs.Resuming.{AreUsed};
-ghost use Rattle.block_shelf.specs.Starting.{buffers_inside};
+ghost use Rattle.block_shelf.specs.Starting.{buffer_over, buffers_inside};
 ghost use Rattle.cyc_buffer.specs.Agreement.{store_of};
-ghost use Rattle.live_store.specs.Started.{unopened_in};
+ghost use Rattle.live_store.specs.Started.{WasStopped, unopened_in};
 ghost use Rattle.live_store.specs.Steps.{buffer_of};
 ghost use Rattle.relay_live.specs.Starting.{AreStarted, IsHeadFailed, IsOpenedFrom, IsUnstarted};
-ghost use Rattle.relay_live.specs.Starting.{OpensNext, StartsNext};
+ghost use Rattle.relay_live.specs.Starting.{IsNextStopped, OpensNext, StartsNext, WereStopped};
 ghost use Rattle.relay_live.specs.Starting.{TriesNext, opening_count, opening_room, tried_count};
 ghost use Rattle.relay_live.specs.Starting.{stores_of, tried_room};
 
@@ -87,6 +87,7 @@ pub(crate) fn start_buffers<S: BlockStore + Drop, J: Archive, R: Wait>(
     requires register { register.now ≡ J.register }
     requires few { length stores.items ≤ 256 }
     requires honest { J.trusted ≡ true → All S.honest stores.items }
+    requires stopped { J.trusted ≡ true → WereStopped S.BlockStore stores.items }
     // Each buffer is started, and was stopped at this stop.
     ensures started { IfOk result (λ started.
         AreStarted stores.items stop started.buffers.items) }
@@ -101,12 +102,12 @@ pub(crate) fn start_buffers<S: BlockStore + Drop, J: Archive, R: Wait>(
         });
     };
     let Room {
-        unopened: buffers,
+        unopened,
         opened,
         stores: room,
     } = room;
     let mut starting = Starting::Started {
-        buffers,
+        buffers: unopened,
         room,
         mixed: None,
     };
@@ -231,6 +232,7 @@ impl<S: BlockStore + Drop, J: Archive> Starting<S, J> {
     ) -> Starting<S, J>
         requires register { register.now ≡ J.register }
         requires honest { J.trusted ≡ true → S.honest store }
+        requires stopped { IsNextStopped store self }
         requires few { tried_count self < 256 }
         requires room { tried_count self < tried_room self }
         ensures tries { TriesNext stop store self result }
@@ -272,6 +274,8 @@ fn next_started<S: BlockStore + Drop, J: Archive, R: Wait>(
 ) -> Starting<S, J>
     requires register { register.now ≡ J.register }
     requires honest { J.trusted ≡ true → S.honest store }
+    requires stopped { J.trusted ≡ true → ∥ WasStopped (S.heads store) (S.blocks store)
+        (buffer_over S.BlockStore (vec_len buffers) store) ∥₁ }
     requires few { vec_len buffers < 256 }
     requires buffers_room { vec_len buffers < vec_capacity buffers }
     requires stores_room { vec_len buffers + vec_len room < vec_capacity room }

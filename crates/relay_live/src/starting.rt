@@ -36,6 +36,7 @@ struct Desks<L: Ledger> {
 impl<S: BlockStore + Drop, J: Archive, L: Ledger> Alone<S, J, L> {
     ghost use Rattle.std.specs.Prelude.{◌≡◌, true, IfErr, IfOk, All, length, map};
     ghost use Rattle.relay_live.specs.Starting.{IsNotStarted, IsRefusedRightly, StartsOver};
+    ghost use Rattle.relay_live.specs.Starting.{WereStopped};
 
     /// The relay over the stores of one that was stopped, the i-th for buffer i, from the text of
     /// its history, with the register's record for each live article. It is refused in the order of
@@ -55,6 +56,7 @@ impl<S: BlockStore + Drop, J: Archive, L: Ledger> Alone<S, J, L> {
         requires stores { map (λ store. length (S.blocks store)) stores.items
             ≡ map (λ buffer. buffer.blocks) config.now.buffers.buffers.items }
         requires honest { J.trusted ≡ true → All S.honest stores.items }
+        requires stopped { J.trusted ≡ true → WereStopped S.BlockStore stores.items }
         requires book { book.total ≡ 0 }
         ensures started { IfOk result (StartsOver config.now stores.items text.now) }
         ensures refused { IfErr result
@@ -85,6 +87,7 @@ impl<S: BlockStore + Drop, J: Archive, L: Ledger> Alone<S, J, L> {
         requires stores { map (λ store. length (S.blocks store)) stores.items
             ≡ map (λ buffer. buffer.blocks) config.now.buffers.buffers.items }
         requires honest { J.trusted ≡ true → All S.honest stores.items }
+        requires stopped { J.trusted ≡ true → WereStopped S.BlockStore stores.items }
         requires book { book.total ≡ 0 }
         ensures started { IfOk result (StartsOver config.now stores.items text.now) }
         ensures refused { IfErr result
