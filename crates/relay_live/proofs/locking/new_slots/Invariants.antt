@@ -1,6 +1,6 @@
 use Rattle.std.proofs.Common.{◌≡◌, ◌≤◌, length}
 use Rattle.std.specs.Prelude.{vec_capacity}
-use Rattle.relay_live.proofs.making.new_slots.Given as goal
+use Rattle.relay_live.proofs.locking.new_slots.Given as goal
 
 -- a slot for each end so far, and room for the others
 abbrev pub invariant-loop-end : goal.invariant-loop-end

@@ -1,7 +1,7 @@
 use Rattle.std.proofs.Common.{◌≡◌, ◌+◌, ◌≤◌, length}
 use Rattle.std.specs.Prelude.{vec_capacity}
 use Rattle.std.specs.Vec.Iter.{into_iter_len}
-use Rattle.relay_live.proofs.making.locked.Given as goal
+use Rattle.relay_live.proofs.locking.lock_racks.Given as goal
 
 -- a lock for each rack so far, and room for the others
 abbrev pub invariant-loop-rack : goal.invariant-loop-rack
