@@ -28,7 +28,6 @@ pub use clock::MachineClock;
 pub use desk::Desk;
 pub use files::{fit_files, hold_files};
 pub use gate::CountingGate;
-pub use lives::Stopped;
 pub use ports::open_ports;
 pub use running::{Finished, run_relay};
 pub use serving::serve_on;

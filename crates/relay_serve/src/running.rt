@@ -12,7 +12,7 @@ ghost use Rattle.serve_terms.specs.Serve.{AreOf};
 use crate::beside::{Beside, Figured, Served, start_beside};
 use crate::figures::totals_of;
 use crate::files::unformatted;
-use crate::lives::{Stopped, shut_shared, start_shared};
+use crate::lives::{shut_shared, start_shared};
 use block_shelf::BeginError;
 use cyc_block::BlockStore;
 use history_file::Origin;
@@ -20,6 +20,7 @@ use live_session::{Clock, Gate};
 use live_store::{Archive, Register};
 use live_wire::Connections;
 use relay_conf::Config;
+use relay_core::Stopped;
 use relay_live::{Counted, Door, Keeper, Lends, LiveError, Shared, serve_all};
 use relay_report::Totals;
 use serve_terms::ServeError;
@@ -110,7 +111,7 @@ where
         rt, alloc, hasher, &keeper, config, gate, doors, all, beside, &served,
     )?;
     let totals = counted_totals(rt, alloc, config, &shared, &counted);
-    let stopped = shut_shared(rt, alloc, shared)?;
+    let stopped = shut_shared(alloc, shared)?;
     Ok(Finished {
         counted,
         totals,
@@ -136,7 +137,7 @@ fn counted_totals<S: BlockStore + Drop, J: Archive, L: Ledger, R: Wait>(
 }
 
 /// What so many ends share over these stores, from nothing or from what it was stopped with.
-fn begun_by<S: BlockStore + Drop, J: Archive, L: Ledger, R: RandomSource>(
+fn begun_by<S: BlockStore + Drop, J: Archive, L: Ledger, R: RandomSource + Wait>(
     rt: &R,
     alloc: Global,
     config: &Config,
@@ -325,7 +326,7 @@ pub(crate) fn lanes_of(config: &Config) -> usize
 }
 
 /// Why a relay could not begin: memory ran out, or the system has no random numbers.
-fn unbegun(kind: ErrorKind) -> ServeError
+pub(crate) fn unbegun(kind: ErrorKind) -> ServeError
     ensures error { result ≡ unbegun_as kind }
     ensures fault { IsRunFault result }
 {
