@@ -3,3 +3,4 @@ mod Kept
 mod Printed
 mod ServeFaults
 mod Sizes
+mod Starts

@@ -1,6 +1,7 @@
 pub mod Figures
 pub mod Files
 pub mod History
+pub mod Lives
 pub mod Moments
 pub mod Ports
 pub mod Reasons

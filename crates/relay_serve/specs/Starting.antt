@@ -2,13 +2,14 @@
 use Rattle.std.specs.Prelude.{◌≡◌, ℕ, Option, None, Some, slice_get, string_bytes}
 use Rattle.std.specs.Str.Lossy.{utf8_lossy}
 use Rattle.block_shelf.specs.declared.starting.StopFault.{StopFault}
-use Rattle.block_shelf.specs.declared.starting.StopFault.TheVariants as stops
+use Rattle.block_shelf.specs.declared.starting.StopFault.TheVariants as reasons
 use Rattle.relay_conf.specs.declared.cycbuff.BufferConf.{BufferConf}
 use Rattle.relay_conf.specs.declared.settings.Buffers.{Buffers}
 use Rattle.serve_terms.specs.declared.fault.ServeError.{ServeError}
 use Rattle.serve_terms.specs.declared.fault.ServeError.TheVariants as faults
 use Rattle.serve_terms.specs.declared.keeping.BufferFault.{BufferFault}
-use Rattle.serve_terms.specs.declared.keeping.BufferFault.TheVariants as told
+use Rattle.serve_terms.specs.declared.keeping.BufferFault.TheVariants.{Device, NoHead, Unclosed}
+use Rattle.serve_terms.specs.declared.keeping.BufferFault.TheVariants.{Damaged, Mixed}
 use Rattle.serve_terms.specs.declared.keeping.StartFault.TheVariants as starts
 
 -- this buffer has this fault, by its name, or there was no memory to say so
@@ -22,18 +23,19 @@ abbrev pub IsBufferFaultAt : Buffers → (number : ℕ) → BufferFault → Serv
 IsBufferFaultAt settings number fault error =
     IsFaultOfBuffer (slice_get settings.buffers.items number) fault error
 
--- the buffer of this number has this fault, where one is told
-abbrev pub IsNumbered : Buffers → Option ℕ → BufferFault → ServeError → Type 0
-IsNumbered settings None fault error = error ≡ faults.Memory
-IsNumbered settings (Some number) fault error = IsBufferFaultAt settings number fault error
+-- the buffer of this number has this fault; without a number there was no memory to say so
+abbrev pub IsFaultAtAny : Buffers → (number : Option ℕ) → BufferFault → ServeError → Type 0
+IsFaultAtAny settings (Some number) fault error = IsBufferFaultAt settings number fault error
+IsFaultAtAny settings None fault error = error ≡ faults.Memory
 
--- why a relay isn't started, as it is told: the history's fault, or that of the buffer by its name
-abbrev pub IsToldAs : Buffers → Option ℕ → StopFault → ServeError → Type 0
-IsToldAs settings buffer stops.Memory error = error ≡ faults.Memory
-IsToldAs settings buffer stops.Device error = IsNumbered settings buffer told.Device error
-IsToldAs settings buffer stops.NoHead error = IsNumbered settings buffer told.NoHead error
-IsToldAs settings buffer stops.Unclosed error = IsNumbered settings buffer told.Unclosed error
-IsToldAs settings buffer stops.Damaged error = IsNumbered settings buffer told.Damaged error
-IsToldAs settings buffer stops.BadHistory error = error ≡ faults.Start starts.BadHistory
-IsToldAs settings buffer stops.Mixed error = IsNumbered settings buffer told.Mixed error
-IsToldAs settings buffer stops.Ahead error = error ≡ faults.Start starts.Ahead
+-- a start that is refused for this reason is told so: by the buffer of this number where the reason
+-- is one of a buffer, else by the history, or as want of memory
+abbrev pub IsRefusal : Buffers → (number : Option ℕ) → StopFault → ServeError → Type 0
+IsRefusal settings number reasons.Memory error = error ≡ faults.Memory
+IsRefusal settings number reasons.Device error = IsFaultAtAny settings number Device error
+IsRefusal settings number reasons.NoHead error = IsFaultAtAny settings number NoHead error
+IsRefusal settings number reasons.Unclosed error = IsFaultAtAny settings number Unclosed error
+IsRefusal settings number reasons.Damaged error = IsFaultAtAny settings number Damaged error
+IsRefusal settings number reasons.BadHistory error = error ≡ faults.Start starts.BadHistory
+IsRefusal settings number reasons.Mixed error = IsFaultAtAny settings number Mixed error
+IsRefusal settings number reasons.Ahead error = error ≡ faults.Start starts.Ahead

@@ -2,10 +2,11 @@
 ghost use Rattle.std.specs.Prelude.{◌≡◌, true, All, IfErr, IfOk, length, map};
 ghost use Rattle.relay_live.specs.Making.{buffers_in, ends_in};
 ghost use Rattle.relay_live.specs.Starting.{WereStopped};
+ghost use Rattle.relay_serve.specs.Lives.{IsUnstartedAs, TellsStart, TellsStop, stopped_as};
 ghost use Rattle.relay_serve.specs.Running.{IsRelayFault, IsStopFault};
 
 use crate::running::unbegun;
-use crate::starting::unstarted;
+use crate::starting::refusal;
 use cyc_block::BlockStore;
 use live_store::{Archive, Register};
 use relay_conf::Config;
@@ -33,18 +34,29 @@ pub(crate) fn start_shared<S: BlockStore + Drop, J: Archive, L: Ledger, R: Rando
     requires stores { map (λ store. length (S.blocks store)) stores.items
         ≡ map (λ buffer. buffer.blocks) config.now.buffers.buffers.items }
     requires honest { J.trusted ≡ true → All S.honest stores.items }
-    requires stopped { J.trusted ≡ true → WereStopped S.BlockStore stores.items }
+    requires stopped { J.trusted ≡ true → WereStopped ⟦<S as BlockStore>⟧ stores.items }
     requires book { book.total ≡ 0 }
     ensures buffers { IfOk result (λ shared.
         buffers_in shared ≡ length config.now.buffers.buffers.items) }
     ensures ends { IfOk result (λ shared. ends_in shared ≡ ends) }
+    ensures told { IfErr result
+        (TellsStart ⟦<S as BlockStore>⟧ config.now stores.items history.now) }
     ensures fault { IfErr result (IsRelayFault ⟦<S as BlockStore>⟧ config.now stores.items) }
 {
     match Shared::start(rt, alloc, config, register, stores, history, book, ends) {
         Ok(shared) => Ok(shared),
-        Err(NotStarted::Host(error, _stores)) => Err(unbegun(error.kind())),
-        Err(NotStarted::Refused(refused)) => {
-            Err(unstarted(alloc, &config.buffers, refused.buffer, refused.error))
+        Err(refused) => Err(unstarted(alloc, config, refused)),
+    }
+}
+
+/// Why a relay isn't started over the stores of a configuration.
+fn unstarted<S: Drop>(alloc: Global, config: &Config, refused: NotStarted<S>) -> ServeError
+    ensures { IsUnstartedAs config.now.buffers refused result }
+{
+    match refused {
+        NotStarted::Host(error, _stores) => unbegun(error.kind()),
+        NotStarted::Refused(refused) => {
+            refusal(alloc, &config.buffers, refused.buffer, refused.error)
         }
     }
 }
@@ -54,12 +66,24 @@ pub(crate) fn shut_shared<S: BlockStore + Drop, J: Archive, L: Ledger>(
     alloc: Global,
     shared: Shared<S, J, L>,
 ) -> Result<Stopped<S>, ServeError>
+    ensures stores { IfOk result (λ stopped. length stopped.stores.items ≡ buffers_in shared) }
+    ensures told { IfErr result (TellsStop shared) }
     ensures fault { IfErr result IsStopFault }
 {
     match shared.shut(alloc) {
         Ok(stopped) => Ok(stopped),
-        Err(Unshut::NotIdle(_shared)) => Err(ServeError::Stop(StopFault::NotIdle)),
-        Err(Unshut::Memory(_shared)) => Err(ServeError::Memory),
-        Err(Unshut::Device(_number, _stores)) => Err(ServeError::Stop(StopFault::Device)),
+        Err(refused) => Err(unstopped(refused)),
+    }
+}
+
+/// Why a relay isn't stopped so that it can start again.
+fn unstopped<S: BlockStore + Drop, J: Archive, L: Ledger>(refused: Unshut<S, J, L>) -> ServeError
+    ensures error { result ≡ stopped_as refused }
+    ensures fault { IsStopFault result }
+{
+    match refused {
+        Unshut::NotIdle(_) => ServeError::Stop(StopFault::NotIdle),
+        Unshut::Memory(_) => ServeError::Memory,
+        Unshut::Device(_, _) => ServeError::Stop(StopFault::Device),
     }
 }

@@ -5,6 +5,7 @@ ghost use Rattle.live_settle.specs.Desks.{posts_in};
 ghost use Rattle.relay_live.specs.Counts.{accepted_in, posted_in};
 ghost use Rattle.relay_live.specs.Holding.{has_buffer};
 ghost use Rattle.relay_live.specs.Making.{buffers_in, ends_in, slots_of};
+ghost use Rattle.relay_serve.specs.Lives.{AreOfOrigin, IsNoStart, StartsAsTold};
 ghost use Rattle.relay_serve.specs.Running.{CountsOf, IsRelayFault, IsRunFault, Ran, ended_as};
 ghost use Rattle.relay_serve.specs.Running.{lane_count, unbegun_as};
 ghost use Rattle.serve_terms.specs.Serve.{AreOf};
@@ -52,7 +53,7 @@ pub struct Finished<S> {
 /// what it was stopped with. The error is that it can't start, or not be stopped, or want of memory,
 /// of random numbers, or of a thread, or the file of a buffer whose device failed when it was
 /// formatted; what was served before stands, and nothing is counted.
-#[tactic(auto, using(crate::proofs::ServeFaults::run_serves, crate::proofs::ServeFaults::stop_stays))]
+#[tactic(auto, using(crate::proofs::ServeFaults::run_serves, crate::proofs::ServeFaults::stop_stays, crate::proofs::Starts::run_told, crate::proofs::Starts::stop_told))]
 pub fn run_relay<
     X: Connections<R> + Drop + Send,
     S: BlockStore + Drop + Send,
@@ -85,11 +86,15 @@ where
     requires stores { map (λ store. length (S.blocks store)) stores.items
         ≡ map (λ buffer. buffer.blocks) config.now.buffers.buffers.items }
     requires honest { J.trusted ≡ true → All S.honest stores.items }
+    requires stopped { J.trusted ≡ true
+        → AreOfOrigin ⟦<S as BlockStore>⟧ origin stores.items }
     requires few { length doors.items < 2 ^ 62 }
     ensures totals { IfOk result (λ run. IfOk run.totals (AreOf config.now)) }
     ensures counted { IfOk result (λ run. IfOk run.totals (λ totals. CountsOf totals run.counted)) }
     ensures ran { IfOk result (λ run. Ran ⟦<J as Archive>⟧ config.now
         (map (λ door. door.peer) doors.items) run.counted) }
+    ensures start { IfErr result
+        (StartsAsTold ⟦<S as BlockStore>⟧ config.now stores.items origin) }
     ensures fault { IfErr result (IsRelayFault ⟦<S as BlockStore>⟧ config.now stores.items) }
 {
     let (book, all) = blank.open::<L>();
@@ -151,10 +156,14 @@ fn begun_by<S: BlockStore + Drop, J: Archive, L: Ledger, R: RandomSource + Wait>
     requires stores { map (λ store. length (S.blocks store)) stores.items
         ≡ map (λ buffer. buffer.blocks) config.now.buffers.buffers.items }
     requires honest { J.trusted ≡ true → All S.honest stores.items }
+    requires stopped { J.trusted ≡ true
+        → AreOfOrigin ⟦<S as BlockStore>⟧ origin stores.items }
     requires book { book.total ≡ 0 }
     ensures buffers { IfOk result (λ shared.
         buffers_in shared ≡ length config.now.buffers.buffers.items) }
     ensures ends { IfOk result (λ shared. ends_in shared ≡ ends) }
+    ensures start { IfErr result
+        (StartsAsTold ⟦<S as BlockStore>⟧ config.now stores.items origin) }
     ensures fault { IfErr result (IsRelayFault ⟦<S as BlockStore>⟧ config.now stores.items) }
 {
     match origin {
@@ -181,6 +190,7 @@ fn shared_by<S: BlockStore + Drop, J: Archive, L: Ledger, R: RandomSource>(
     ensures buffers { IfOk result (λ shared.
         buffers_in shared ≡ length config.now.buffers.buffers.items) }
     ensures ends { IfOk result (λ shared. ends_in shared ≡ ends) }
+    ensures other { IfErr result IsNoStart }
     ensures fault { IfErr result (IsRelayFault ⟦<S as BlockStore>⟧ config.now stores.items) }
 {
     match Shared::new(rt, alloc, config, stores, book, ends) {
@@ -190,13 +200,14 @@ fn shared_by<S: BlockStore + Drop, J: Archive, L: Ledger, R: RandomSource>(
 }
 
 /// Why nothing is shared over the stores of a configuration.
-#[tactic(auto, using(crate::proofs::ServeFaults::run_serves))]
+#[tactic(auto, using(crate::proofs::ServeFaults::run_serves, crate::proofs::Starts::run_other, crate::proofs::Starts::file_other))]
 fn unshared<S: BlockStore + Drop>(
     alloc: Global,
     config: &Config,
     error: BeginError<S>,
 ) -> ServeError
-    ensures { (stores : List S) → IsBeginRefusal ⟦<S as BlockStore>⟧ stores error
+    ensures other { IsNoStart result }
+    ensures fault { (stores : List S) → IsBeginRefusal ⟦<S as BlockStore>⟧ stores error
         → IsRelayFault ⟦<S as BlockStore>⟧ config.now stores result }
 {
     match error {

@@ -1,6 +1,7 @@
 //! A relay begins, from nothing or from what it was stopped with.
 ghost use Rattle.std.specs.Prelude.{◌≡◌, slice_get};
-ghost use Rattle.relay_serve.specs.Starting.{IsBufferFaultAt, IsFaultOfBuffer, IsNumbered, IsToldAs};
+ghost use Rattle.relay_serve.specs.Starting.{IsBufferFaultAt, IsFaultAtAny, IsFaultOfBuffer};
+ghost use Rattle.relay_serve.specs.Starting.{IsRefusal};
 ghost use Rattle.std.specs.Prelude.{Some};
 
 use block_shelf::StopFault;
@@ -8,49 +9,40 @@ use relay_conf::{BufferConf, Buffers};
 use serve_terms::{BufferFault, ServeError, StartFault};
 use std::alloc::Global;
 
-/// Why a relay isn't started, as it is told: a fault of a buffer by its name.
-pub(crate) fn unstarted(
+/// Why a relay can't start: the start was refused for this reason, the fault of the buffer of this
+/// number where it is one of a buffer.
+pub(crate) fn refusal(
     alloc: Global,
     settings: &Buffers,
-    buffer: Option<u8>,
-    fault: StopFault,
+    number: Option<u8>,
+    reason: StopFault,
 ) -> ServeError
-    ensures { IsToldAs settings.now buffer fault result }
+    ensures { IsRefusal settings.now number reason result }
 {
-    match fault {
+    match reason {
         StopFault::Memory => ServeError::Memory,
+        StopFault::Device => told(alloc, settings, number, BufferFault::Device),
+        StopFault::NoHead => told(alloc, settings, number, BufferFault::NoHead),
+        StopFault::Unclosed => told(alloc, settings, number, BufferFault::Unclosed),
+        StopFault::Damaged => told(alloc, settings, number, BufferFault::Damaged),
         StopFault::BadHistory => ServeError::Start(StartFault::BadHistory),
+        StopFault::Mixed => told(alloc, settings, number, BufferFault::Mixed),
         StopFault::Ahead => ServeError::Start(StartFault::Ahead),
-        StopFault::Device => told_at(alloc, settings, buffer, BufferFault::Device),
-        StopFault::NoHead => told_at(alloc, settings, buffer, BufferFault::NoHead),
-        StopFault::Unclosed => told_at(alloc, settings, buffer, BufferFault::Unclosed),
-        StopFault::Damaged => told_at(alloc, settings, buffer, BufferFault::Damaged),
-        StopFault::Mixed => told_at(alloc, settings, buffer, BufferFault::Mixed),
     }
 }
 
-/// A buffer has this fault, whose number is known.
-fn told_at(
-    alloc: Global,
-    settings: &Buffers,
-    buffer: Option<u8>,
-    fault: BufferFault,
-) -> ServeError
-    ensures { IsNumbered settings.now buffer fault result }
+/// Why a relay can't start: a buffer has this fault, the one of this number.
+fn told(alloc: Global, settings: &Buffers, number: Option<u8>, fault: BufferFault) -> ServeError
+    ensures { IsFaultAtAny settings.now number fault result }
 {
-    match buffer {
+    match number {
         Some(number) => fault_at(alloc, settings, number, fault),
         None => ServeError::Memory,
     }
 }
 
 /// Why a relay can't start: the buffer of this number has this fault.
-pub(crate) fn fault_at(
-    alloc: Global,
-    settings: &Buffers,
-    number: u8,
-    fault: BufferFault,
-) -> ServeError
+fn fault_at(alloc: Global, settings: &Buffers, number: u8, fault: BufferFault) -> ServeError
     ensures { IsBufferFaultAt settings.now number fault result }
 {
     match settings.buffers.get(usize::from(number)) {

@@ -5,9 +5,22 @@ use Rattle.std.proofs.lemmas.Result.{err_from_is_err_and}
 use Rattle.peer_ports.specs.declared.port.Port.{Port}
 use Rattle.relay_conf.specs.declared.relay.Peer.{Peer}
 use Rattle.relay_live.specs.declared.running.Door.{Door}
-use Rattle.relay_serve.specs.Ports.{ends_from}
+use Rattle.relay_serve.specs.Ports.{IsPortFault, ends_from}
 use Rattle.relay_serve.proofs.Doors.{after_peer, drop_peer}
 use Rattle.relay_serve.proofs.ports.open_ports.Goals as goal
+
+pub returns-in-Err-clause-fault : goal.returns-in-Err-clause-fault
+returns-in-Err-clause-fault g c =
+    let peers = c.args.relay.now.peers.items in
+    let peer = c.peer-item.result in
+    let k = c.loop-number.number in
+    let within : k < length peers =
+    omega (arith, c.loop-number-test.true, ap length c.deref-peer-items.ensures.value) in
+    let same : peer ≡ get_or peers k peer =
+    c.peer-item.is
+    ∙ ap (λ (all : List Peer). get_or all k peer) c.deref-peer-items.ensures.value in
+    subst (IsPortFault peers) (sym c.lost.ensures)
+    (c.if-peer-eq0.false, (k, peer, within, sym same, refl))
 
 pub returns-in_err-add_doors-in-Ok-clause-fault : goal.returns-in_err-add_doors-in-Ok-clause-fault
 returns-in_err-add_doors-in-Ok-clause-fault g c =

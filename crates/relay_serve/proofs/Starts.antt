@@ -1,0 +1,161 @@
+-- Whether a relay that isn't run couldn't start, and why not.
+use Rattle.std.proofs.Common.{◌≡◌, ◌∙◌, ap, inl, inr, List, ℕ, Option, None, Some, refl, subst, sym}
+use Rattle.std.specs.Prelude.{slice_get}
+use Rattle.std.proofs.lemmas.Option.{get_or_from_slice_get, slice_get_within}
+use Rattle.std.specs.IoError.{error_kind}
+use Rattle.std.specs.declared.io.ErrorKind.{ErrorKind}
+use Rattle.std.specs.declared.io.ErrorKind.TheVariants.{OutOfMemory}
+use Rattle.block_shelf.specs.declared.starting.StopFault.{StopFault}
+use Rattle.block_shelf.specs.declared.starting.StopFault.TheVariants as reasons
+use Rattle.cyc_block.specs.declared.store.BlockStore.{Ghosts}
+use Rattle.history_file.specs.declared.origin.Origin.{Origin}
+use Rattle.history_file.specs.declared.origin.Origin.TheVariants as origins
+use Rattle.relay_conf.specs.declared.cycbuff.BufferConf.{BufferConf}
+use Rattle.relay_conf.specs.declared.settings.Buffers.{Buffers}
+use Rattle.relay_conf.specs.declared.settings.Config.{Config}
+use Rattle.relay_core.specs.declared.stopped.NotStarted.{NotStarted}
+use Rattle.relay_core.specs.declared.stopped.NotStarted.TheVariants as nots
+use Rattle.serve_terms.specs.declared.fault.ServeError.{ServeError}
+use Rattle.serve_terms.specs.declared.fault.ServeError.TheVariants as faults
+use Rattle.serve_terms.specs.declared.keeping.BufferFault.{BufferFault}
+use Rattle.serve_terms.specs.declared.keeping.BufferFault.TheVariants.{Device, NoHead, Unclosed}
+use Rattle.serve_terms.specs.declared.keeping.BufferFault.TheVariants.{Damaged, Mixed}
+use Rattle.serve_terms.specs.declared.keeping.StartFault.TheVariants as starts
+use Rattle.relay_serve.specs.Files.{IsFaultAt}
+use Rattle.relay_serve.specs.Lives.{IsNoStart, IsUnstartedAs, StartsAsTold}
+use Rattle.relay_serve.specs.Running.{IsRelayFault, IsRunFault, IsStopFault, unbegun_as}
+use Rattle.relay_serve.specs.Starting.{IsFaultAtAny, IsFaultOfBuffer, IsRefusal}
+use Rattle.relay_serve.proofs.ServeFaults.{run_serves}
+
+-- What ends a run isn't that it can't start,
+pub run_other : (error : ServeError) → IsRunFault error → IsNoStart error
+run_other error (inl memory) = subst IsNoStart (sym memory) tt
+run_other error (inr (inl unseeded)) = subst IsNoStart (sym unseeded) tt
+run_other error (inr (inr threads)) = subst IsNoStart (sym threads) tt
+
+-- nor is that it couldn't be stopped,
+stop_other : (error : ServeError) → IsStopFault error → IsNoStart error
+stop_other (faults.Start fault) e = absurd (cc e)
+stop_other (faults.File lost) e = tt
+stop_other (faults.Port lost) e = tt
+stop_other faults.Control e = tt
+stop_other faults.Unseeded e = tt
+stop_other faults.Memory e = tt
+stop_other faults.NoThread e = tt
+stop_other (faults.Stop fault) e = tt
+stop_other faults.Unwritten e = tt
+
+-- nor that a file can't be had.
+pub file_other : (settings : Buffers) (number : ℕ) (error : ServeError)
+    → IsFaultAt settings number error → IsNoStart error
+file_other settings number (faults.Start fault) e = absurd (cc e)
+file_other settings number (faults.File lost) e = tt
+file_other settings number (faults.Port lost) e = tt
+file_other settings number faults.Control e = tt
+file_other settings number faults.Unseeded e = tt
+file_other settings number faults.Memory e = tt
+file_other settings number faults.NoThread e = tt
+file_other settings number (faults.Stop fault) e = tt
+file_other settings number faults.Unwritten e = tt
+
+-- Another error says nothing of a start.
+other_told : {S : Type 0} (g : Ghosts S) (config : Config) (stores : List S) (origin : Origin)
+    (error : ServeError) → IsNoStart error → StartsAsTold g config stores origin error
+other_told g config stores origins.Formatted error other = other
+other_told g config stores (origins.Stopped text) (faults.Start fault) other = absurd other
+other_told g config stores (origins.Stopped text) (faults.File lost) other = tt
+other_told g config stores (origins.Stopped text) (faults.Port lost) other = tt
+other_told g config stores (origins.Stopped text) faults.Control other = tt
+other_told g config stores (origins.Stopped text) faults.Unseeded other = tt
+other_told g config stores (origins.Stopped text) faults.Memory other = tt
+other_told g config stores (origins.Stopped text) faults.NoThread other = tt
+other_told g config stores (origins.Stopped text) (faults.Stop fault) other = tt
+other_told g config stores (origins.Stopped text) faults.Unwritten other = tt
+
+-- So what ends a run says nothing of a start,
+pub run_told : {S : Type 0} (g : Ghosts S) (config : Config) (stores : List S) (origin : Origin)
+    (error : ServeError) → IsRunFault error → StartsAsTold g config stores origin error
+run_told g config stores origin error fault =
+    other_told g config stores origin error (run_other error fault)
+
+-- nor does that it couldn't be stopped.
+pub stop_told : {S : Type 0} (g : Ghosts S) (config : Config) (stores : List S) (origin : Origin)
+    (error : ServeError) → IsStopFault error → StartsAsTold g config stores origin error
+stop_told g config stores origin error fault =
+    other_told g config stores origin error (stop_other error fault)
+
+-- The fault of a buffer that is there names it.
+of_buffer : {S : Type 0} (g : Ghosts S) (config : Config) (stores : List S) (number : ℕ)
+    (fault : BufferFault) (error : ServeError) (there : Option BufferConf)
+    → slice_get config.buffers.buffers.items number ≡ there → IsFaultOfBuffer there fault error
+    → IsRelayFault g config stores error
+of_buffer g config stores number fault error None at e =
+    subst (IsRelayFault g config stores) (sym e) tt
+of_buffer g config stores number fault (faults.Start (starts.Buffer name found)) (Some buffer) at e =
+    let all = config.buffers.buffers.items in (
+      number,
+      buffer,
+      slice_get_within all number buffer at,
+      get_or_from_slice_get all number buffer buffer at,
+      e.0,
+    )
+of_buffer g config stores number fault (faults.Start starts.History) (Some buffer) at e = tt
+of_buffer g config stores number fault (faults.Start starts.BadHistory) (Some buffer) at e = tt
+of_buffer g config stores number fault (faults.Start starts.Ahead) (Some buffer) at e = tt
+of_buffer g config stores number fault (faults.File lost) (Some buffer) at e =
+    subst (IsRelayFault g config stores) (sym e) tt
+of_buffer g config stores number fault (faults.Port lost) (Some buffer) at e =
+    subst (IsRelayFault g config stores) (sym e) tt
+of_buffer g config stores number fault faults.Control (Some buffer) at e =
+    subst (IsRelayFault g config stores) (sym e) tt
+of_buffer g config stores number fault faults.Unseeded (Some buffer) at e = tt
+of_buffer g config stores number fault faults.Memory (Some buffer) at e = tt
+of_buffer g config stores number fault faults.NoThread (Some buffer) at e = tt
+of_buffer g config stores number fault (faults.Stop stopped) (Some buffer) at e = tt
+of_buffer g config stores number fault faults.Unwritten (Some buffer) at e =
+    subst (IsRelayFault g config stores) (sym e) tt
+
+-- So does that of the buffer of a number, where there is one.
+at_any : {S : Type 0} (g : Ghosts S) (config : Config) (stores : List S) (number : Option ℕ)
+    (fault : BufferFault) (error : ServeError) → IsFaultAtAny config.buffers number fault error
+    → IsRelayFault g config stores error
+at_any g config stores None fault error e = subst (IsRelayFault g config stores) (sym e) tt
+at_any g config stores (Some number) fault error e =
+    of_buffer g config stores number fault error
+    (slice_get config.buffers.buffers.items number) refl e
+
+-- What a start is refused for is a reason that a relay isn't run,
+refusal_stays : {S : Type 0} (g : Ghosts S) (config : Config) (stores : List S) (number : Option ℕ)
+    (reason : StopFault) (error : ServeError) → IsRefusal config.buffers number reason error
+    → IsRelayFault g config stores error
+refusal_stays g config stores number reasons.Memory error e =
+    subst (IsRelayFault g config stores) (sym e) tt
+refusal_stays g config stores number reasons.Device error e =
+    at_any g config stores number Device error e
+refusal_stays g config stores number reasons.NoHead error e =
+    at_any g config stores number NoHead error e
+refusal_stays g config stores number reasons.Unclosed error e =
+    at_any g config stores number Unclosed error e
+refusal_stays g config stores number reasons.Damaged error e =
+    at_any g config stores number Damaged error e
+refusal_stays g config stores number reasons.BadHistory error e =
+    subst (IsRelayFault g config stores) (sym e) tt
+refusal_stays g config stores number reasons.Mixed error e =
+    at_any g config stores number Mixed error e
+refusal_stays g config stores number reasons.Ahead error e =
+    subst (IsRelayFault g config stores) (sym e) tt
+
+-- Where the host lets none begin, that ends a run.
+unbegun_runs : (kind : ErrorKind) → IsRunFault (unbegun_as kind)
+unbegun_runs OutOfMemory = inl refl
+unbegun_runs kind = inr (inl refl)
+
+-- and so is why it isn't started.
+pub unstarted_stays : {S : Type 0} (g : Ghosts S) (config : Config) (stores : List S)
+    (refused : NotStarted S) (error : ServeError) → IsUnstartedAs config.buffers refused error
+    → IsRelayFault g config stores error
+unstarted_stays g config stores (nots.Host why back) error e =
+    subst (IsRelayFault g config stores) (sym e)
+    (run_serves g config stores (unbegun_as (error_kind why)) (unbegun_runs (error_kind why)))
+unstarted_stays g config stores (nots.Refused refused) error e =
+    refusal_stays g config stores refused.buffer refused.error error e

@@ -1,0 +1,68 @@
+-- How a relay is started and stopped from one life to the next, and why it isn't (docs/PROTOCOL.md,
+-- Clean stop and start).
+use Rattle.std.specs.Prelude.{◌≡◌, ℕ, List}
+use Rattle.std.specs.IoError.{error_kind}
+use Rattle.cyc_block.specs.declared.store.BlockStore as blocks
+use Rattle.history_file.specs.declared.origin.Origin.{Origin}
+use Rattle.history_file.specs.declared.origin.Origin.TheVariants as origins
+use Rattle.live_store.specs.declared.record.Archive as archives
+use Rattle.relay_conf.specs.declared.settings.Buffers.{Buffers}
+use Rattle.relay_conf.specs.declared.settings.Config.{Config}
+use Rattle.relay_core.specs.declared.stopped.NotStarted.{NotStarted}
+use Rattle.relay_core.specs.declared.stopped.NotStarted.TheVariants as nots
+use Rattle.relay_live.specs.Starting.{IsNotStarted, WereStopped}
+use Rattle.relay_live.specs.Stopping.{IsUnshut}
+use Rattle.relay_live.specs.declared.shared.Shared.{Shared}
+use Rattle.relay_live.specs.declared.shared.Unshut.{Unshut}
+use Rattle.relay_live.specs.declared.shared.Unshut.TheVariants as unshut
+use Rattle.serve_terms.specs.declared.fault.ServeError.{ServeError}
+use Rattle.serve_terms.specs.declared.fault.ServeError.TheVariants as faults
+use Rattle.serve_terms.specs.declared.keeping.StopFault.TheVariants as stops
+use Rattle.relay_serve.specs.Running.{unbegun_as}
+use Rattle.relay_serve.specs.Starting.{IsRefusal}
+
+-- where a relay is to begin from what it was stopped with, each store holds its buffer as stopped
+abbrev pub AreOfOrigin : {S : Type 0} → blocks.Ghosts S → Origin → (stores : List S) → Type 0
+AreOfOrigin g origins.Formatted stores = Unit {0}
+AreOfOrigin g (origins.Stopped text) stores = WereStopped g stores
+
+-- why a relay isn't started is told so
+abbrev pub IsUnstartedAs : {S : Type 0} → Buffers → NotStarted S → ServeError → Type 0
+IsUnstartedAs settings (nots.Host why back) error = error ≡ unbegun_as (error_kind why)
+IsUnstartedAs settings (nots.Refused refused) error =
+    IsRefusal settings refused.buffer refused.error error
+
+-- The error tells why a relay isn't started from these stores and this history: for the first
+-- reason that there is.
+pub record TellsStart {S : Type 0} (g : blocks.Ghosts S) (config : Config) (stores : List S)
+    (text : List ℕ) (error : ServeError) : Type 0 where
+  pub refused : NotStarted S
+  pub rightly : IsNotStarted g config stores text refused
+  pub told : IsUnstartedAs config.buffers refused error
+
+-- the error isn't that a relay can't start
+abbrev pub IsNoStart : ServeError → Type 0
+IsNoStart (faults.Start fault) = ⊥
+IsNoStart error = Unit {0}
+
+-- where a relay can't start that is why; one that is formatted always can
+abbrev pub StartsAsTold : {S : Type 0} → blocks.Ghosts S → Config → (stores : List S) → Origin
+    → ServeError → Type 0
+StartsAsTold g config stores origins.Formatted error = IsNoStart error
+StartsAsTold g config stores (origins.Stopped text) (faults.Start fault) =
+    TellsStart g config stores text.items (faults.Start fault)
+StartsAsTold g config stores (origins.Stopped text) error = Unit {0}
+
+-- why a relay isn't stopped so that it can start again is told so
+abbrev pub stopped_as : {S J L : Type 0} {s : blocks.Ghosts S} {j : archives.Ghosts J}
+    → Unshut S J L s j → ServeError
+stopped_as (unshut.NotIdle shared) = faults.Stop stops.NotIdle
+stopped_as (unshut.Memory shared) = faults.Memory
+stopped_as (unshut.Device number stores) = faults.Stop stops.Device
+
+-- the error tells why this relay isn't stopped: for the first reason that there is
+pub record TellsStop {S J L : Type 0} {s : blocks.Ghosts S} {j : archives.Ghosts J}
+    (shared : Shared S J L s j) (error : ServeError) : Type 0 where
+  pub refused : Unshut S J L s j
+  pub rightly : IsUnshut shared refused
+  pub told : error ≡ stopped_as refused
