@@ -25,7 +25,7 @@ use Rattle.relay_serve.specs.Files.{IsFaultAt}
 use Rattle.relay_serve.specs.Lives.{IsNoStart, IsUnstartedAs, StartsAsTold}
 use Rattle.relay_serve.specs.Running.{IsRelayFault, IsRunFault, IsStopFault, unbegun_as}
 use Rattle.relay_serve.specs.Starting.{IsFaultAtAny, IsFaultOfBuffer, IsRefusal}
-use Rattle.relay_serve.proofs.ServeFaults.{run_serves}
+use Rattle.relay_serve.proofs.ServeFaults.{run_serves, stop_stays}
 
 -- What ends a run isn't that it can't start,
 pub run_other : (error : ServeError) → IsRunFault error → IsNoStart error
@@ -83,6 +83,12 @@ pub stop_told : {S : Type 0} (g : Ghosts S) (config : Config) (stores : List S) 
     (error : ServeError) → IsStopFault error → StartsAsTold g config stores origin error
 stop_told g config stores origin error fault =
     other_told g config stores origin error (stop_other error fault)
+
+-- what is said of a relay that isn't run, for another reason than a start
+pub ruleset run_ends = (run_serves, stop_stays, run_told, stop_told)
+
+-- what is said of a relay that isn't begun from nothing
+pub ruleset begin_ends = (run_serves, run_other, file_other)
 
 -- The fault of a buffer that is there names it.
 of_buffer : {S : Type 0} (g : Ghosts S) (config : Config) (stores : List S) (number : ℕ)

@@ -53,7 +53,7 @@ pub struct Finished<S> {
 /// what it was stopped with. The error is that it can't start, or not be stopped, or want of memory,
 /// of random numbers, or of a thread, or the file of a buffer whose device failed when it was
 /// formatted; what was served before stands, and nothing is counted.
-#[tactic(auto, using(crate::proofs::ServeFaults::run_serves, crate::proofs::ServeFaults::stop_stays, crate::proofs::Starts::run_told, crate::proofs::Starts::stop_told))]
+#[tactic(auto, using(crate::proofs::Starts::run_ends))]
 pub fn run_relay<
     X: Connections<R> + Drop + Send,
     S: BlockStore + Drop + Send,
@@ -200,7 +200,7 @@ fn shared_by<S: BlockStore + Drop, J: Archive, L: Ledger, R: RandomSource>(
 }
 
 /// Why nothing is shared over the stores of a configuration.
-#[tactic(auto, using(crate::proofs::ServeFaults::run_serves, crate::proofs::Starts::run_other, crate::proofs::Starts::file_other))]
+#[tactic(auto, using(crate::proofs::Starts::begin_ends))]
 fn unshared<S: BlockStore + Drop>(
     alloc: Global,
     config: &Config,
