@@ -84,11 +84,11 @@ module _ {S J : Type 0} {s : blocks.Ghosts S} {j : archives.Ghosts J} (config : 
           agrees = subst
               (λ (each : places.Buffer). Agrees true (buffer_of made.item) (new_history each))
               (sym is)
-              (made.belongs.buffer.agrees true (λ yes. holds_at s.honest stores honest b one.0 one.1));
+              (made.belongs.agrees true (λ yes. holds_at s.honest stores honest b one.0 one.1));
           is_said = new_said (places_of_groups config.buffers) buffer;
           failed = ap (λ (each : places.Buffer). failures_in s stores each.number) is
               ∙ ap (λ found. unwrap_or (option_map s.failures found) 0) one.1
-              ∙ sym made.belongs.buffer.failures;
+              ∙ sym made.belongs.failures;
         };
       }
 

@@ -4,6 +4,7 @@ mod Blamed
 mod Each
 mod Entries
 mod Fills
+mod Kept
 mod Lists
 mod OpenedBuffers
 mod Rest

@@ -1,9 +1,14 @@
 -- Whether an id is being stored, shard after shard.
 use Rattle.std.proofs.Common.{◌≡◌, ◌≢◌, ◌∙◌, ℕ, ◌+◌, ◌<◌, ◌≤◌, ◌==◌, Bool, true, false, List, arith}
-use Rattle.std.proofs.Common.{ap, cond, length, refl, slice_index_or, subst, sym, true≢false}
+use Rattle.std.proofs.Common.{ap, cond, length, refl, Some, slice_get, slice_index_or, subst, sym}
+use Rattle.std.proofs.Common.{true≢false}
 use Rattle.std.proofs.Math.Nat.{mod-lt}
-use Rattle.std.proofs.lemmas.Bool.{cond-true, cond-false, eqb-false, eqb-true}
+use Rattle.std.proofs.lemmas.Bool.{eqb-false, eqb-true}
+use Rattle.std.proofs.lemmas.Option.{same_Some}
 use Rattle.std.specs.Prelude.{sum}
+use Rattle.cyc_block.specs.declared.store.BlockStore.{Ghosts}
+use Rattle.cyc_buffer.specs.Head.{is_busy}
+use Rattle.cyc_buffer.specs.declared.buffer.Buffer.{Buffer}
 use Rattle.id_history.specs.Counts.{CountsOf}
 use Rattle.id_history.specs.Shard.{Keeps}
 use Rattle.id_history.specs.Shards.{EachKeeps, claims_at}
@@ -79,3 +84,22 @@ module _ (shards : List Shard) (k : ℕ) (shard : Shard) (counts : Counts)
           (λ no zero. absurd (true≢false no)) id
       by false e =
           rest claims keeps id (omega (arith, below, eqb-false (shard_of id) k e))
+
+-- no write is open in the buffers before this place
+abbrev pub AreIdleTo : {S : Type 0} {s : Ghosts S} → List (Buffer S s) → (place : ℕ) → Type 0
+AreIdleTo {S} {s} codes place =
+    (b : ℕ) (code : Buffer S s) → b < place → slice_get codes b ≡ Some code
+    → is_busy code ≡ false
+
+-- nor in one more
+pub idle_more : {S : Type 0} {s : Ghosts S} (codes : List (Buffer S s)) (place : ℕ)
+    (code : Buffer S s) → slice_get codes place ≡ Some code → is_busy code ≡ false
+    → AreIdleTo codes place → AreIdleTo codes (place + 1)
+idle_more {S} {s} codes place code is idle before b one less there = by (b == place) refl
+  where
+    by : (same : Bool) → (b == place) ≡ same → is_busy one ≡ false
+    by true e =
+        let same : code ≡ one =
+        same_Some code one (sym is ∙ ap (slice_get codes) (sym (eqb-true b place e)) ∙ there) in
+        subst (λ (each : Buffer S s). is_busy each ≡ false) same idle
+    by false e = before b one (omega (arith, less, eqb-false b place e)) there

@@ -48,17 +48,17 @@ pub tells_of : {S J L : Type 0} {s : blocks.Ghosts S} {j : archives.Ghosts J}
     → AreEntries alone.shards.items ids → TellsHistory alone stop text
 tells_of alone stop text kept feeds ids fits written stops newest positions feeds_are feeds_left
     ids_are ids_left w σ beside = record {
-  kept = kept;
-  fits = fits;
-  written = written;
-  history = record {
-    stop_is = stops;
-    newest = newest ∙ beside.newest;
-    positions = told_racks w σ.begun alone.racks.items kept.positions beside.sound beside.racks
-        positions;
-    feeds = subst (λ fs. AreLeft fs (ring_sizes w) σ.feed) (sym feeds_are)
-        (feeds_left (ring_sizes w) σ.feed beside.feeds
-        (length-map w.feeds (λ (feed : FeedTerms). feed.ring) ∙ sym beside.feed_count));
-    ids = subst (λ xs. AreLasting xs σ.claim) (sym ids_are) (ids_left σ.claim beside.claims);
-  };
-}
+      kept = kept;
+      fits = fits;
+      written = written;
+      history = record {
+        stop_is = stops;
+        newest = newest ∙ beside.newest;
+        positions = told_racks w σ.begun alone.racks.items kept.positions beside.sound beside.racks
+            positions;
+        feeds = subst (λ fs. AreLeft fs (ring_sizes w) σ.feed) (sym feeds_are)
+            (feeds_left (ring_sizes w) σ.feed beside.feeds
+            (length-map w.feeds (λ (feed : FeedTerms). feed.ring) ∙ sym beside.feed_count));
+        ids = subst (λ xs. AreLasting xs σ.claim) (sym ids_are) (ids_left σ.claim beside.claims);
+      };
+    }

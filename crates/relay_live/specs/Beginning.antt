@@ -1,10 +1,13 @@
 -- The parts of a relay before anything has come (docs/PROTOCOL.md, State).
-use Rattle.std.specs.Prelude.{◌≡◌, ℕ, List, None, length, map, replicate}
+use Rattle.std.specs.Prelude.{◌≡◌, ◌+◌, ℕ, Bool, true, List, None, length, map, replicate}
 use Rattle.block_shelf.specs.Each.{AreEach}
-use Rattle.block_shelf.specs.Filling as shelves
 use Rattle.block_shelf.specs.Filling.{AreNewRacks, failures_in}
 use Rattle.article_verdict.specs.Config.{terms_of}
+use Rattle.block_shelf.specs.Starting.{buffer_over}
 use Rattle.cyc_block.specs.declared.store.BlockStore as blocks
+use Rattle.cyc_buffer.specs.Agreement.{Agrees, store_of}
+use Rattle.cyc_buffer.specs.Head.{LeavesBlocks}
+use Rattle.cyc_buffer.specs.History.{new_history}
 use Rattle.feed_queue.specs.Feeds.{KeepsFeeds, no_feed, ring_size}
 use Rattle.id_history.specs.Shards.{EachKeeps}
 use Rattle.live_settle.specs.Desks.{desk_of}
@@ -19,12 +22,16 @@ use Rattle.relay_model.specs.Claims.{Unknown}
 use Rattle.relay_model.specs.State.{empty_state}
 use Rattle.std.specs.List.{All}
 
--- the buffer of this number over a store, in which nothing was begun: nothing stands beside it, and
--- no number at a block
+-- The buffer of this number over a store, in which nothing was begun: nothing stands beside it, and no
+-- number at a block. The device was called once, for head block 0, and hasn't failed.
 pub record IsNewOver {S J : Type 0} {s : blocks.Ghosts S} {j : archives.Ghosts J} (number : ℕ)
     (store : S) (numbered : NumberedBuffer S J s j)
     : Type 0 where
-  pub buffer : shelves.IsNewOver number store (buffer_of numbered)
+  pub agrees : (trusted : Bool) → (trusted ≡ true → s.honest store)
+      → Agrees trusted (buffer_of numbered) (new_history (buffer_over s number store))
+  pub blocks : LeavesBlocks s store (store_of (buffer_of numbered))
+  pub calls : s.calls (store_of (buffer_of numbered)) ≡ s.calls store + 1
+  pub failures : s.failures (store_of (buffer_of numbered)) ≡ s.failures store
   pub free : beside_of numbered ≡ None
   pub unnumbered : numbers_of numbered ≡ replicate (length (s.blocks store)) None
 

@@ -1,10 +1,11 @@
 //! How a relay is started from what a stop left (docs/PROTOCOL.md, Clean stop and start).
-ghost use Rattle.std.specs.Prelude.{◌≡◌, IfOk, map};
+ghost use Rattle.std.specs.Prelude.{◌≡◌, IfOk, length, map};
 ghost use Rattle.history_text.specs.History.{Holds};
 ghost use Rattle.history_text.specs.Views.{history_view};
 ghost use Rattle.live_store.specs.Started.{unopened_in};
 ghost use Rattle.relay_core.specs.Desks.{setting_of};
 ghost use Rattle.relay_live.specs.Starting.{AreOf};
+ghost use Rattle.relay_model.specs.Terms.{shard_count};
 
 use crate::alone::Alone;
 use crate::drawing::Last;
@@ -31,6 +32,7 @@ struct Desks<L: Ledger> {
     desk: CountedDesk<L>,
     racks: Vec<Rack>,
     last: Last<L>,
+    ghost sixteen: { length shards.items ≡ shard_count },
 }
 
 impl<S: BlockStore + Drop, J: Archive, L: Ledger> Alone<S, J, L> {
@@ -93,6 +95,8 @@ impl<S: BlockStore + Drop, J: Archive, L: Ledger> Alone<S, J, L> {
         ensures refused { IfErr result
             (IsRefusedRightly S.BlockStore config.now stores.items text.now) }
     {
+        // A head block is of one buffer, so what a store holds is of one stop.
+        news_terms::heads::one_head();
         // A text that can't be read refuses before a store is called.
         let history = match read_history(alloc, config, text) {
             Ok(history) => history,

@@ -35,13 +35,10 @@ loop-store-preserved g c =
           (one_more_each IsNewOver c.loop-store.yielded c.loop-store.buffers.items c.in-Some.store
           c.in-Ok.buffer c.loop-store.invariant.over
           (subst (λ n. IsNewOver n c.in-Some.store c.in-Ok.buffer) here (record {
-            buffer = record {
-              agrees = c.in-Ok.ensures.new;
-              opened = c.in-Ok.ensures.opened;
-              calls = c.in-Ok.ensures.calls;
-              failures = c.in-Ok.ensures.failures;
-              blocks = c.in-Ok.ensures.blocks;
-            };
+            agrees = c.in-Ok.ensures.new;
+            blocks = c.in-Ok.ensures.blocks;
+            calls = c.in-Ok.ensures.calls;
+            failures = c.in-Ok.ensures.failures;
             free = c.in-Ok.ensures.free;
             unnumbered = c.in-Ok.ensures.numbers;
           })));

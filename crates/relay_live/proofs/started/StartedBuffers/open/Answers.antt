@@ -1,7 +1,6 @@
 use Rattle.std.proofs.Common.{◌∙◌, ◌+◌, ◌∷◌, [], Some, ap, arith, length, map, refl, subst, sym}
 use Rattle.std.proofs.lemmas.List.{length-append, length-map, nil_from_length}
 use Rattle.block_shelf.proofs.EachLemmas.{all_through, count_through, none_each, one_through}
-
 use Rattle.block_shelf.specs.Each.{AreEach}
 use Rattle.block_shelf.specs.Heads.{IsLeftUnopened}
 use Rattle.live_store.specs.Started.{unopened_in}
