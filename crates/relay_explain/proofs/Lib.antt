@@ -1,3 +1,10 @@
 mod EntryLines
+mod Joined
+mod Places
+mod Puts
+mod SaidEntries
 mod Shadows
+mod Taking
+mod Told
 mod Totals
+mod Untaken

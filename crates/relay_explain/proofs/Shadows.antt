@@ -1,5 +1,5 @@
 -- What an entry takes that is tried before another one and covers its sizes and newsgroups.
-use Rattle.std.proofs.Common.{◌≡◌, ap, sym, subst, refl, arith, inl, inr, ℕ, Bool, true, false}
+use Rattle.std.proofs.Common.{◌≡◌, ap, subst, refl, arith, inl, inr, ℕ, Bool, true, false}
 use Rattle.std.proofs.Common.{List, [], ◌∷◌, Option, None, Some, codes}
 use Rattle.std.proofs.lemmas.Bool.{and_from, and_parts, le-leb, leb-true}
 use Rattle.std.proofs.lemmas.Slice.Eq.{bytes_eq-Decides}
@@ -44,7 +44,7 @@ sizes first other size covers taken =
     (within other.largest first.largest size c.1 t.1)
 
 -- the expression that a star alone spells
-star : List Marked
+abbrev star : List Marked
 star = record { mark = Match; pattern = Star ∷ [] } ∷ []
 
 -- a star spells it
@@ -129,6 +129,7 @@ pub shadowed : (first other : Said) (groups : List (List ℕ)) (size : ℕ) → 
     → IsSpelled other → shadows first other ≡ true
     → takes (entry_view other.entry) groups size ≡ true
     → takes (entry_view first.entry) groups size ≡ true
+unfolding shadows
 shadowed first other groups size spelled others shadow taken =
     let covers = and_parts _ _ (and_parts _ _ shadow).1 in
     let t = and_parts _ _ taken in

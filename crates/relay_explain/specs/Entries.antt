@@ -1,15 +1,17 @@
 -- What is told of the entries of storage.conf, in the order in which they are tried.
-use Rattle.std.specs.Prelude.{ℕ, ◌+◌, ◌&&◌, ◌||◌, not, Bool, true, false, List, [], ◌++◌, codes}
-use Rattle.std.specs.Prelude.{bytes_eq, decimal, drop, filter_map, find, flat_map, length, map, nat_le, nat_lt}
-use Rattle.std.specs.Prelude.{slice_get, unwrap_or, Option, Some, None, if◌then◌else◌}
+use Rattle.std.specs.Prelude.{ℕ, ◌+◌, ◌&&◌, ◌||◌, not, Bool, true, false, List, [], ◌∷◌, ◌++◌, codes}
+use Rattle.std.specs.Prelude.{bytes_eq, decimal, drop, filter_map, find, flat_map, length, map}
+use Rattle.std.specs.Prelude.{nat_le, nat_lt, slice_get, unwrap_or, Option, Some, None}
+use Rattle.std.specs.Prelude.{if◌then◌else◌}
 use Rattle.std.specs.List.{enumerate_from}
 use Rattle.news_terms.specs.Article.{without_outer_white}
 use Rattle.news_terms.specs.Pattern.{IsExpressionText}
+use Rattle.relay_conf.specs.StorageLines.{key_and_value}
 use Rattle.relay_conf.specs.declared.cycbuff.GroupConf.{GroupConf}
 use Rattle.relay_conf.specs.declared.settings.Config.{Config}
 use Rattle.relay_conf.specs.declared.settings.Method.{Method}
 use Rattle.relay_explain.specs.Buffers.{largest_stored}
-use Rattle.relay_explain.specs.Lines.{begins, line_at, odd_place, parts_in, place, words_in}
+use Rattle.relay_explain.specs.Lines.{begins, odd_line, told_line, words_in}
 use Rattle.relay_explain.specs.Patterns.{pattern_odds}
 
 -- the file in which entries are said
@@ -25,14 +27,20 @@ entry_number one =
 abbrev pub entry_lines : (lines : List (List ℕ)) → List ℕ
 entry_lines lines = filter_map entry_number (enumerate_from 0 lines)
 
--- what follows the colon of a line, without the white space at its ends
-abbrev pub value_in : List ℕ → List ℕ
-value_in line = without_outer_white (line_at 1 (parts_in line))
+-- the value of the key `newsgroups`, without the white space at its ends, where it is that key
+abbrev pub newsgroups_value : (two : Option (List ℕ × List ℕ)) → Option (List ℕ)
+newsgroups_value None = None
+newsgroups_value (Some two) =
+    if bytes_eq two.0 (codes "newsgroups") then Some (without_outer_white two.1) else None
 
--- the text of the expression that the first of these lines with the key `newsgroups` has
+-- the text of the expression that a line says, where it has the key `newsgroups`
+abbrev pub newsgroups_on : (line : List ℕ) → Option (List ℕ)
+newsgroups_on line = newsgroups_value (key_and_value (without_outer_white line))
+
+-- the text of the expression that the first of these lines says that says one
 abbrev pub newsgroups_in : (lines : List (List ℕ)) → List ℕ
-newsgroups_in lines =
-    value_in (unwrap_or (find (λ line. begins (codes "newsgroups") (parts_in line)) lines) [])
+newsgroups_in [] = []
+newsgroups_in (line ∷ more) = unwrap_or (newsgroups_on line) (newsgroups_in more)
 
 -- An entry as it is said: its number from 1, the line that begins it, the text of its expression,
 -- and its settings.
@@ -81,13 +89,13 @@ covers_newsgroups said other =
     && (not said.entry.exactmatch || other.entry.exactmatch))
 
 -- an entry is tried before the other and takes all that it takes
-abbrev pub shadows : (said other : Said) → Bool
+unfoldable pub shadows : (said other : Said) → Bool
 shadows said other =
     nat_lt said.number other.number
     && (covers_sizes said.entry other.entry && covers_newsgroups said other)
 
 -- the sizes that an entry takes
-abbrev pub sizes_text : (smallest : ℕ) → (largest : Option ℕ) → List ℕ
+unfoldable pub sizes_text : (smallest : ℕ) → (largest : Option ℕ) → List ℕ
 sizes_text smallest None = decimal smallest ++ codes " octets and more"
 sizes_text smallest (Some largest) =
     decimal smallest ++ codes " to " ++ decimal largest ++ codes " octets"
@@ -97,43 +105,46 @@ abbrev pub group_name : Option GroupConf → List ℕ
 group_name None = []
 group_name (Some group) = group.name
 
--- how many newsgroups of an article have to match
-abbrev pub match_text : (exactmatch : Bool) → List ℕ
-match_text exactmatch = if exactmatch then codes " (all of them)" else codes " (one of them)"
+-- the newsgroups that an entry takes, and how many of an article's have to match
+abbrev pub newsgroups_text : Said → List ℕ
+newsgroups_text said =
+    if said.entry.exactmatch
+    then codes " in newsgroups " ++ said.newsgroups ++ codes " (all of them)"
+    else codes " in newsgroups " ++ said.newsgroups ++ codes " (one of them)"
+
+-- the articles that an entry takes: `0 octets and more in newsgroups * (one of them)`
+unfoldable pub taken_text : Said → List ℕ
+taken_text said =
+    sizes_text said.entry.smallest said.entry.largest
+    ++ newsgroups_text said
 
 -- `entry 1 takes articles of 0 octets and more in newsgroups * (one of them): class 1, group G`
-abbrev pub entry_line : Config → Said → List ℕ
-entry_line config said =
-    place storage said.line ++ codes "entry " ++ decimal said.number
-    ++ codes " takes articles of " ++ sizes_text said.entry.smallest said.entry.largest
-    ++ codes " in newsgroups " ++ said.newsgroups ++ match_text said.entry.exactmatch
+unfoldable pub entry_told : Config → Said → List ℕ
+entry_told config said =
+    codes "entry " ++ decimal said.number ++ codes " takes articles of " ++ taken_text said
     ++ codes ": class " ++ decimal said.entry.class ++ codes ", group "
-    ++ group_name (slice_get config.buffers.groups.items said.entry.group) ++ codes "\n"
+    ++ group_name (slice_get config.buffers.groups.items said.entry.group)
 
 -- no size that an article may have is taken
-abbrev pub takes_no_size : (largest_stored : ℕ) → Method → Bool
+unfoldable pub takes_no_size : (largest_stored : ℕ) → Method → Bool
 takes_no_size largest_stored entry =
     nat_lt largest_stored entry.smallest
     || not (is_limit_within (Some entry.smallest) entry.largest)
 
--- what is told of an entry that takes no size
-abbrev pub size_odd : (line : ℕ) → (no_size : Bool) → List ℕ
-size_odd line no_size =
-    if no_size then odd_place storage line ++ codes "no article has such a size\n" else []
-
--- what is told of an entry that another shadows
-abbrev pub shadow_odd : (line : ℕ) → Option Said → List ℕ
+-- what is odd in an entry that another shadows, the first that does
+unfoldable pub shadow_odd : (line : ℕ) → Option Said → List ℕ
 shadow_odd line None = []
 shadow_odd line (Some first) =
-    odd_place storage line ++ codes "the entry takes nothing: all of it is taken by entry "
-    ++ decimal first.number ++ codes "\n"
+    odd_line true storage line
+    (codes "the entry takes nothing: all of it is taken by entry " ++ decimal first.number)
 
 -- what is told of an entry, among all
 abbrev pub entry_text : Config → List Said → Said → List ℕ
 entry_text config all said =
-    entry_line config said
+    told_line storage said.line (entry_told config said)
     ++ pattern_odds storage said.line said.newsgroups
-    ++ size_odd said.line (takes_no_size (largest_stored config) said.entry)
+    ++ odd_line (takes_no_size (largest_stored config) said.entry) storage said.line
+    (codes "no article has such a size")
     ++ shadow_odd said.line (find (λ first. shadows first said) all)
 
 -- what is told where there is no entry
@@ -143,7 +154,7 @@ no_entries entries =
     else codes "storage.conf: odd: there is no entry: each article is refused\n"
 
 -- what is told of all entries
-abbrev pub entries_text : Config → (lines : List (List ℕ)) → List ℕ
+unfoldable pub entries_text : Config → (lines : List (List ℕ)) → List ℕ
 entries_text config lines =
     let all = said_entries config lines in
     flat_map (entry_text config all) all ++ no_entries all

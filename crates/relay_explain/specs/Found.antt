@@ -1,11 +1,15 @@
 -- What lies where the file of a buffer is to be, and how it is told.
-use Rattle.std.specs.Prelude.{ℕ, ◌==◌, ◌||◌, Bool, List, [], ◌++◌, codes, if◌then◌else◌}
+use Rattle.std.specs.Prelude.{ℕ, ◌==◌, ◌||◌, true, Bool, List, [], ◌++◌, codes, if◌then◌else◌}
 use Rattle.std.specs.Prelude.{nat_eq, Option, Some, None}
 use Rattle.std.specs.List.{list_all, starts_with}
-use Rattle.relay_explain.specs.Lines.{place, odd_place}
+use Rattle.relay_explain.specs.Lines.{odd_line, told_line}
 use Rattle.relay_explain.specs.declared.found.Found.{Found}
 use Rattle.relay_explain.specs.declared.found.Found.TheVariants.{Fit, Absent, NoFolder, Inn, Other}
 use Rattle.relay_explain.specs.declared.found.Found.TheVariants.{NotRegular, Unseen}
+
+-- the file in which buffers and groups are said
+abbrev pub cycbuff : List ℕ
+cycbuff = codes "cycbuff.conf"
 
 -- octets that a buffer of this program begins with: a block, or nothing but zeros
 -- (docs/FORMATS.md, Blocks on the device)
@@ -21,27 +25,22 @@ is_inn front =
 abbrev pub found_of : (front : List ℕ) → Found
 found_of front = if is_own front then Fit else if is_inn front then Inn else Other
 
--- the line of cycbuff.conf, by its number, with what is told of a file at its end
-abbrev pub file_line : (start file told : List ℕ) → List ℕ
-file_line start file told = start ++ codes "file " ++ file ++ told
+-- what is odd of the file of a buffer, which this line names
+abbrev pub odd_file : (line : ℕ) → (file told : List ℕ) → List ℕ
+odd_file line file told = odd_line true cycbuff line (codes "file " ++ file ++ told)
 
--- what is told of the file of a buffer, which the line of this number names; of one that is as it
--- should be nothing
-abbrev pub found_text : (line : ℕ) → (file : List ℕ) → Option Found → List ℕ
+-- what is told of the file of a buffer, which this line names, by what lies there; of one that is
+-- as it should be nothing
+unfoldable pub found_text : (line : ℕ) → (file : List ℕ) → Option Found → List ℕ
 found_text line file None = []
 found_text line file (Some Fit) = []
 found_text line file (Some Absent) =
-    file_line (place (codes "cycbuff.conf") line) file (codes " isn't there: a start makes it\n")
+    told_line cycbuff line (codes "file " ++ file ++ codes " isn't there: a start makes it")
 found_text line file (Some NoFolder) =
-    file_line (odd_place (codes "cycbuff.conf") line) file
-    (codes " can't be made: its folder isn't there\n")
+    odd_file line file (codes " can't be made: its folder isn't there")
 found_text line file (Some Inn) =
-    file_line (odd_place (codes "cycbuff.conf") line) file
-    (codes " is a buffer of INN, over whose articles a start writes\n")
+    odd_file line file (codes " is a buffer of INN, over whose articles a start writes")
 found_text line file (Some Other) =
-    file_line (odd_place (codes "cycbuff.conf") line) file
-    (codes " is no buffer of this program, and a start writes over it\n")
-found_text line file (Some NotRegular) =
-    file_line (odd_place (codes "cycbuff.conf") line) file (codes " is no regular file\n")
-found_text line file (Some Unseen) =
-    file_line (odd_place (codes "cycbuff.conf") line) file (codes " can't be read\n")
+    odd_file line file (codes " is no buffer of this program, and a start writes over it")
+found_text line file (Some NotRegular) = odd_file line file (codes " is no regular file")
+found_text line file (Some Unseen) = odd_file line file (codes " can't be read")

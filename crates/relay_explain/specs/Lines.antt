@@ -1,11 +1,14 @@
--- Where the files of a configuration say what they say (docs/FORMATS.md, Configuration).
+-- Where the files of a configuration say what they say (docs/FORMATS.md, Configuration), and the
+-- lines that are told of it (docs/PROTOCOL.md, `explain`).
 use Rattle.std.specs.Prelude.{ℕ, ◌+◌, ◌&&◌, Bool, false, List, [], ◌∷◌, ◌++◌, codes, decimal}
-use Rattle.std.specs.Prelude.{bytes_eq, slice_get, unwrap_or}
+use Rattle.std.specs.Prelude.{bytes_eq, fold, slice_get, unwrap_or, Option, Some, None, if◌then◌else◌}
 use Rattle.std.specs.List.{position_or_len}
 use Rattle.line_words.specs.Parts.{parts}
 use Rattle.line_words.specs.Words.{words}
 use Rattle.line_words.specs.declared.words.Between.TheVariants.{Spaces}
 use Rattle.news_terms.specs.Article.{without_outer_white}
+
+-- WHERE SOMETHING IS SAID
 
 -- the octet between the parts of a line of cycbuff.conf, and behind a key of storage.conf
 abbrev pub colon : ℕ
@@ -43,14 +46,32 @@ named_line key name lines = line_where (λ line. begins_with key name (parts_in 
 abbrev pub peer_line : (key name : List ℕ) → (lines : List (List ℕ)) → ℕ
 peer_line key name lines = line_where (λ line. begins_with key name (words_in line)) lines
 
--- the line of a number, empty where there is none
+-- the line of relay.conf that says a setting of the relay itself
+abbrev pub key_line : (key : List ℕ) → (lines : List (List ℕ)) → ℕ
+key_line key lines = line_where (λ line. begins key (words_in line)) lines
+
+-- the line of a number from 0, empty where there is none
 abbrev pub line_at : (number : ℕ) → (lines : List (List ℕ)) → List ℕ
 line_at number lines = unwrap_or (slice_get lines number) []
 
--- where something is said: `cycbuff.conf:2: `
-abbrev pub place : (file : List ℕ) → (line : ℕ) → List ℕ
-place file line = file ++ codes ":" ++ decimal line ++ codes ": "
+-- WHAT IS TOLD
 
--- where something odd is said: `cycbuff.conf:2: odd: `
-abbrev pub odd_place : (file : List ℕ) → (line : ℕ) → List ℕ
-odd_place file line = place file line ++ codes "odd: "
+-- texts, one behind the other
+abbrev pub joined : (parts : List (List ℕ)) → List ℕ
+joined parts = fold ◌++◌ [] parts
+
+-- what is told of what a line of a file says: `cycbuff.conf:2: group G`
+unfoldable pub told_line : (file : List ℕ) → (line : ℕ) → (told : List ℕ) → List ℕ
+told_line file line told =
+    file ++ codes ":" ++ decimal line ++ codes ": " ++ told ++ codes "\n"
+
+-- what is odd in what a line of a file says, where that is so: `cycbuff.conf:2: odd: no room`
+unfoldable pub odd_line : (is_odd : Bool) → (file : List ℕ) → (line : ℕ) → (told : List ℕ) → List ℕ
+odd_line is_odd file line told =
+    if is_odd then told_line file line (codes "odd: " ++ told) else []
+
+-- what is odd where an earlier one, of this name, has the same: `relay.conf:4: odd: as peer p1`
+unfoldable pub shared_line : (file : List ℕ) → (line : ℕ) → (shared : List ℕ) → Option (List ℕ)
+    → List ℕ
+shared_line file line shared None = []
+shared_line file line shared (Some name) = told_line file line (codes "odd: " ++ shared ++ name)

@@ -1,12 +1,64 @@
 -- What is told of the peers and the feeds of relay.conf.
-use Rattle.std.specs.Prelude.{ℕ, ◌-◌, ◌==◌, List, [], ◌++◌, codes, decimal, find, flat_map}
-use Rattle.std.specs.Prelude.{bytes_eq, slice_get, Bool, Option, Some, None, if◌then◌else◌}
+use Rattle.std.specs.Prelude.{ℕ, ◌-◌, ◌==◌, List, [], ◌++◌, codes, decimal, find, flat_map, take}
+use Rattle.std.specs.Prelude.{bytes_eq, slice_get, Option, Some, None, option_map}
+use Rattle.std.specs.Prelude.{if◌then◌else◌}
+use Rattle.std.specs.List.{enumerate_from}
 use Rattle.relay_conf.specs.declared.relay.Feed.{Feed}
 use Rattle.relay_conf.specs.declared.relay.Peer.{Peer}
 use Rattle.relay_conf.specs.declared.settings.Relay.{Relay}
-use Rattle.relay_explain.specs.Lines.{line_at, odd_place, peer_line, place, words_in}
+use Rattle.relay_explain.specs.Lines.{line_at, odd_line, peer_line, shared_line, told_line, words_in}
 use Rattle.relay_explain.specs.Patterns.{pattern_odds}
 use Rattle.relay_explain.specs.Settings.{relay_conf}
+
+-- where a peer is served, and how many of its connections at once
+unfoldable pub port_text : Peer → List ℕ
+port_text peer =
+    if peer.port == 0 then codes "no port: it isn't served"
+    else codes "port " ++ decimal peer.port ++ codes ", connections at once: "
+    ++ decimal peer.connections
+
+-- `peer p1, identity one.example, port 1119, connections at once: 4`
+unfoldable pub peer_told : Peer → List ℕ
+peer_told peer =
+    codes "peer " ++ peer.name ++ codes ", identity " ++ peer.identity ++ codes ", "
+    ++ port_text peer
+
+-- the name of the first peer, of these, that has this port
+unfoldable pub first_of_port : (port : ℕ) → List Peer → Option (List ℕ)
+first_of_port port peers =
+    option_map (λ other. other.name) (find (λ other. other.port == port) peers)
+
+-- the name of the first peer, of these, that is served on this port; on port 0 none is
+unfoldable pub first_on : (port : ℕ) → List Peer → Option (List ℕ)
+first_on port peers =
+    if port == 0 then None else first_of_port port peers
+
+-- the name of the first peer, of these, that has this identity
+unfoldable pub first_known_as : (identity : List ℕ) → List Peer → Option (List ℕ)
+first_known_as identity peers =
+    option_map (λ other. other.name) (find (λ other. bytes_eq other.identity identity) peers)
+
+-- what is odd in a peer of this number: an earlier one has its port, an earlier one has its
+-- identity, the relay has it
+unfoldable pub peer_odds : Relay → (line number : ℕ) → Peer → List ℕ
+peer_odds relay line number peer =
+    shared_line relay_conf line
+    (codes "the port is taken: no start serves it beside that of peer ")
+    (first_on peer.port (take number relay.peers.items))
+    ++ shared_line relay_conf line (codes "the identity is that of peer ")
+    (first_known_as peer.identity (take number relay.peers.items))
+    ++ odd_line (bytes_eq peer.identity relay.own) relay_conf line
+    (codes "the identity is the relay's own")
+
+-- what is told of a peer of this number
+abbrev pub peer_text : Relay → (lines : List (List ℕ)) → ℕ × Peer → List ℕ
+peer_text relay lines one =
+    let line = peer_line (codes "peer") one.1.name lines in
+    told_line relay_conf line (peer_told one.1) ++ peer_odds relay line one.0 one.1
+
+-- what is told of all peers
+unfoldable pub peers_text : Relay → (lines : List (List ℕ)) → List ℕ
+peers_text relay lines = flat_map (peer_text relay lines) (enumerate_from 0 relay.peers.items)
 
 -- the name of a peer; one that isn't there has none
 abbrev pub name_of : Option Peer → List ℕ
@@ -18,99 +70,37 @@ abbrev pub port_of : Option Peer → ℕ
 port_of None = 0
 port_of (Some peer) = peer.port
 
--- where a peer is served, and how many of its connections at once
-abbrev pub port_text : Peer → List ℕ
-port_text peer =
-    if peer.port == 0 then codes "no port: it isn't served\n"
-    else codes "port " ++ decimal peer.port ++ codes ", connections at once: "
-    ++ decimal peer.connections ++ codes "\n"
-
--- `peer p1, identity one.example, port 1119, connections at once: 4`
-abbrev pub peer_front : (line : ℕ) → Peer → List ℕ
-peer_front line peer =
-    place relay_conf line ++ codes "peer " ++ peer.name ++ codes ", identity " ++ peer.identity
-    ++ codes ", " ++ port_text peer
-
--- what is told of a peer that has something in common with this one, an earlier one
-abbrev pub shared_odd : (line : ℕ) → (name shared : List ℕ) → Option Peer → List ℕ
-shared_odd line name shared None = []
-shared_odd line name shared (Some first) =
-    if bytes_eq first.name name then []
-    else odd_place relay_conf line ++ shared ++ first.name ++ codes "\n"
-
--- the first peer with the port of this one, where that is one
-abbrev pub first_on_port : List Peer → Peer → Option Peer
-first_on_port peers peer =
-    if peer.port == 0 then None else find (λ other. other.port == peer.port) peers
-
--- what is told of a peer that has the relay's own identity
-abbrev pub own_odd : (line : ℕ) → (is_own : Bool) → List ℕ
-own_odd line is_own =
-    if is_own then odd_place relay_conf line ++ codes "the identity is the relay's own\n" else []
-
--- what is odd in a peer
-abbrev pub peer_odds : Relay → (line : ℕ) → Peer → List ℕ
-peer_odds relay line peer =
-    shared_odd line peer.name
-    (codes "the port is taken: no start serves it beside that of peer ")
-    (first_on_port relay.peers.items peer)
-    ++ shared_odd line peer.name (codes "the identity is that of peer ")
-    (find (λ other. bytes_eq other.identity peer.identity) relay.peers.items)
-    ++ own_odd line (bytes_eq peer.identity relay.own)
-
--- what is told of a peer
-abbrev pub peer_text : Relay → (lines : List (List ℕ)) → Peer → List ℕ
-peer_text relay lines peer =
-    let line = peer_line (codes "peer") peer.name lines in
-    peer_front line peer ++ peer_odds relay line peer
-
--- what is told of all peers
-abbrev pub peers_text : Relay → (lines : List (List ℕ)) → List ℕ
-peers_text relay lines = flat_map (peer_text relay lines) relay.peers.items
-
--- the first word, empty where there is none
-abbrev pub first_or_none : (words : List (List ℕ)) → List ℕ
-first_or_none words = line_at 0 words
-
 -- the text of the expression that a line of a feed has: its fourth word
 abbrev pub newsgroups_on : List ℕ → List ℕ
 newsgroups_on line = line_at 3 (words_in line)
 
+-- the text of the expression that the line of a feed of this number, counted from 1, has
+unfoldable pub newsgroups_at : (line : ℕ) → (lines : List (List ℕ)) → List ℕ
+newsgroups_at line lines = newsgroups_on (line_at (line - 1) lines)
+
 -- `feed of p2: newsgroups *, tokens that wait at most: 2`
-abbrev pub feed_front : (line ring : ℕ) → (name newsgroups : List ℕ) → List ℕ
-feed_front line ring name newsgroups =
-    place relay_conf line ++ codes "feed of " ++ name ++ codes ": newsgroups " ++ newsgroups
-    ++ codes ", tokens that wait at most: " ++ decimal ring ++ codes "\n"
+unfoldable pub feed_told : (name newsgroups : List ℕ) → (ring : ℕ) → List ℕ
+feed_told name newsgroups ring =
+    codes "feed of " ++ name ++ codes ": newsgroups " ++ newsgroups
+    ++ codes ", tokens that wait at most: " ++ decimal ring
 
--- what is told of a feed of a peer on this port
-abbrev pub port_odd : (line port : ℕ) → List ℕ
-port_odd line port =
-    if port == 0
-    then odd_place relay_conf line ++ codes "the peer has no port, so nobody takes the feed\n"
-    else []
-
--- what is told of a feed with so small a ring
-abbrev pub ring_odd : (line ring : ℕ) → List ℕ
-ring_odd line ring =
-    if ring == 1
-    then odd_place relay_conf line ++ codes "of a ring of 1 only the newest token is ever there\n"
-    else []
-
--- what is told of a feed of this peer, which this line says
-abbrev pub feed_body : (line : ℕ) → (newsgroups : List ℕ) → Option Peer → Feed → List ℕ
-feed_body line newsgroups peer feed =
-    feed_front line feed.ring (name_of peer) newsgroups
+-- what is told of a feed of this peer, which this line says with these newsgroups
+unfoldable pub feed_told_on : (line : ℕ) → (newsgroups : List ℕ) → Option Peer → Feed → List ℕ
+feed_told_on line newsgroups peer feed =
+    told_line relay_conf line (feed_told (name_of peer) newsgroups feed.ring)
     ++ pattern_odds relay_conf line newsgroups
-    ++ port_odd line (port_of peer)
-    ++ ring_odd line feed.ring
+    ++ odd_line (port_of peer == 0) relay_conf line
+    (codes "the peer has no port, so nobody takes the feed")
+    ++ odd_line (feed.ring == 1) relay_conf line
+    (codes "of a ring of 1 only the newest token is ever there")
 
 -- what is told of a feed
 abbrev pub feed_text : Relay → (lines : List (List ℕ)) → Feed → List ℕ
 feed_text relay lines feed =
     let peer = slice_get relay.peers.items feed.peer in
     let line = peer_line (codes "feed") (name_of peer) lines in
-    feed_body line (newsgroups_on (line_at (line - 1) lines)) peer feed
+    feed_told_on line (newsgroups_at line lines) peer feed
 
 -- what is told of all feeds
-abbrev pub feeds_text : Relay → (lines : List (List ℕ)) → List ℕ
+unfoldable pub feeds_text : Relay → (lines : List (List ℕ)) → List ℕ
 feeds_text relay lines = flat_map (feed_text relay lines) relay.feeds.items

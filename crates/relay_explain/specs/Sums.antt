@@ -9,16 +9,16 @@ use Rattle.relay_conf.specs.declared.settings.Config.{Config}
 use Rattle.relay_explain.specs.Buffers.{file_octets}
 
 -- the octets that all files of buffers have
-abbrev pub disk_of : List BufferConf → ℕ
+unfoldable pub disk_of : List BufferConf → ℕ
 disk_of buffers = sum_by (λ b. file_octets b.blocks) buffers
 
 -- the octets of memory that all buffers take from the start: of each block two marks and the number
 -- of the article that begins there
-abbrev pub marks_of : List BufferConf → ℕ
+unfoldable pub marks_of : List BufferConf → ℕ
 marks_of buffers = sum_by (λ b. b.blocks * 16 + b.blocks / 4) buffers
 
 -- the octets of memory that all rings take from the start
-abbrev pub rings_of : List Feed → ℕ
+unfoldable pub rings_of : List Feed → ℕ
 rings_of feeds = sum_by (λ f. f.ring * 16) feeds
 
 -- the connections of a peer that are served at once
@@ -26,29 +26,28 @@ abbrev pub served_of : Peer → ℕ
 served_of peer = if peer.port == 0 then 0 else peer.connections
 
 -- the connections that are served at once
-abbrev pub connections_of : List Peer → ℕ
+unfoldable pub connections_of : List Peer → ℕ
 connections_of peers = sum_by served_of peers
 
 -- the octets of memory from the start: for buffers, rings, the queue of each group, and what is
 -- printed
-abbrev pub memory_of : Config → ℕ
+unfoldable pub memory_of : Config → ℕ
 memory_of config =
     marks_of config.buffers.buffers.items + rings_of config.relay.feeds.items
     + length config.buffers.groups.items * 6000 + 65536
 
 -- the descriptors: of each buffer, three of each connection, of the socket and of whoever asks
 -- there, and of the standard streams
-abbrev pub descriptors_of : Config → ℕ
+unfoldable pub descriptors_of : Config → ℕ
 descriptors_of config =
     length config.buffers.buffers.items + connections_of config.relay.peers.items * 3 + 5
 
 -- what a configuration takes of the machine
-abbrev pub wants_text : Config → List ℕ
+unfoldable pub wants_text : Config → List ℕ
 wants_text config =
     codes "disk: " ++ decimal (disk_of config.buffers.buffers.items)
-    ++ codes " octets in the files of buffers\n"
-    ++ codes "memory: " ++ decimal (memory_of config)
+    ++ codes " octets in the files of buffers\nmemory: " ++ decimal (memory_of config)
     ++ codes " octets from the start, at most 700000 more for each of "
     ++ decimal (connections_of config.relay.peers.items)
-    ++ codes " connections, and what ids and articles take\n"
-    ++ codes "descriptors: " ++ decimal (descriptors_of config) ++ codes "\n"
+    ++ codes " connections, and what ids and articles take\ndescriptors: "
+    ++ decimal (descriptors_of config) ++ codes "\n"

@@ -1,13 +1,13 @@
 //! Where an article goes, by its newsgroups and its size.
-ghost use Rattle.std.specs.Prelude.{◌≡◌, ◌++◌, codes, decimal, Option, IfOk, OnOk};
-ghost use Rattle.std.specs.Option.{option_copied, option_map};
-ghost use Rattle.news_terms.specs.StorageClass.{Entry};
-ghost use Rattle.store_class.specs.Choice.{given};
+ghost use Rattle.std.specs.Prelude.{◌≡◌, ◌++◌, codes, decimal, map, slice_get, IfOk, OnOk};
+ghost use Rattle.std.specs.Option.{option_copied};
+ghost use Rattle.line_words.specs.Parts.{parts};
 ghost use Rattle.relay_explain.specs.Choice as terms;
 
-use crate::groups::put_group;
-use crate::patterns::parts_of;
+use crate::groups::group_told;
+use crate::text::put;
 use itoa::Buffer;
+use line_words::cut;
 use relay_conf::{BufferConf, Config, GroupConf};
 use std::alloc::{AllocError, Global};
 use store_class::choose;
@@ -25,59 +25,98 @@ pub fn explain_choice(
 {
     let groups = parts_of(alloc, newsgroups)?;
     let mut text = Vec::new(alloc);
-    put_asked(&mut text, newsgroups, size)?;
-    put_taken(&mut text, config, choose(&config.methods, &groups, size))?;
+    let mut number = Buffer::new();
+    put(
+        &mut text,
+        &[
+            newsgroups,
+            b", ",
+            number.format(size).as_bytes(),
+            b" octets: ",
+        ],
+    )?;
+    put_taken(
+        alloc,
+        &mut text,
+        config,
+        choose(&config.methods, &groups, size),
+    )?;
     Ok(text)
 }
 
-/// Puts what is asked.
-fn put_asked(text: &mut Vec<u8>, newsgroups: &[u8], size: u64) -> Result<(), AllocError>
-    ensures { OnOk result (text.new.items ≡ text.old.items
-        ++ newsgroups.now ++ codes ", " ++ decimal size ++ codes " octets: ") }
+/// The parts of a text between commas.
+fn parts_of(alloc: Global, text: &[u8]) -> Result<Vec<&[u8]>, AllocError>
+    ensures { IfOk result (λ all. map (λ one. one.now) all.items ≡ parts 44 text.now) }
 {
-    let mut number = Buffer::new();
-    text.extend_from_slice(newsgroups)?;
-    text.extend_from_slice(b", ")?;
-    text.extend_from_slice(number.format(size).as_bytes())?;
-    text.extend_from_slice(b" octets: ")
+    let mut all = Vec::new(alloc);
+    let mut unread = Some(text);
+    while let Some(rest) = unread {
+        let (one, after) = cut(rest, b',');
+        all.push(one)?;
+        unread = after;
+    }
+    Ok(all)
 }
 
 /// Puts what is told of the entry that takes an article, by its class and its group.
+#[tactic(auto, unfolding(crate::specs::Choice::taken_text))]
 fn put_taken(
+    alloc: Global,
     text: &mut Vec<u8>,
     config: &Config,
     taken: Option<(u8, u16)>,
 ) -> Result<(), AllocError>
-    ensures { (entry : Option Entry) → taken ≡ option_map given entry
-        → OnOk result (text.new.items ≡ text.old.items ++ terms.taken_text config.now entry) }
+    ensures { OnOk result (text.new.items ≡ text.old.items ++ terms.taken_text config.now taken) }
 {
     match taken {
         None => text.extend_from_slice(b"no entry takes it, so it is refused\n"),
-        Some((class, group)) => {
-            let mut number = Buffer::new();
-            text.extend_from_slice(b"class ")?;
-            text.extend_from_slice(number.format(class).as_bytes())?;
-            put_group_told(
-                text,
-                &config.buffers.buffers,
-                config.buffers.groups.get(usize::from(group)),
-            )
-        }
+        Some((class, group)) => put_class(alloc, text, config, class, group),
     }
 }
 
+/// Puts a class, and the group of this number with its buffers.
+fn put_class(
+    alloc: Global,
+    text: &mut Vec<u8>,
+    config: &Config,
+    class: u8,
+    group: u16,
+) -> Result<(), AllocError>
+    ensures { OnOk result (text.new.items ≡ text.old.items ++ (codes "class " ++ decimal class
+        ++ terms.group_end config.now.buffers.buffers.items
+        (slice_get config.now.buffers.groups.items group))) }
+{
+    let mut number = Buffer::new();
+    put(text, &[b"class ", number.format(class).as_bytes()])?;
+    put_group_end(
+        alloc,
+        text,
+        &config.buffers.buffers,
+        group_at(config, group),
+    )
+}
+
+/// The group of this number, where it is there.
+fn group_at(config: &Config, group: u16) -> Option<&GroupConf>
+    ensures { option_copied result ≡ slice_get config.now.buffers.groups.items group }
+{
+    config.buffers.groups.get(usize::from(group))
+}
+
 /// Puts a group and its buffers, where it is there.
-fn put_group_told(
+#[tactic(auto, unfolding(crate::specs::Choice::group_end))]
+fn put_group_end(
+    alloc: Global,
     text: &mut Vec<u8>,
     buffers: &[BufferConf],
     group: Option<&GroupConf>,
 ) -> Result<(), AllocError>
     ensures { OnOk result (text.new.items
-        ≡ text.old.items ++ terms.group_told buffers.now (option_copied group)) }
+        ≡ text.old.items ++ terms.group_end buffers.now (option_copied group.entry)) }
 {
-    if let Some(group) = group {
-        text.extend_from_slice(b", ")?;
-        put_group(text, buffers, group)?;
-    }
-    text.extend_from_slice(b"\n")
+    let Some(group) = group else {
+        return text.extend_from_slice(b"\n");
+    };
+    let told = group_told(alloc, buffers, group)?;
+    put(text, &[b", ", &told, b"\n"])
 }

@@ -1,13 +1,13 @@
 //! What is told of the entries of storage.conf, in the order in which they are tried.
-ghost use Rattle.std.specs.Prelude.{◌≡◌, ◌++◌, codes, decimal, find, flat_map, map, slice_get, OnOk};
+ghost use Rattle.std.specs.Prelude.{◌≡◌, ◌++◌, find, flat_map, map, slice_get, IfOk, OnOk};
 ghost use Rattle.std.specs.Option.{option_copied};
 ghost use Rattle.relay_explain.specs.Entries as terms;
-ghost use Rattle.relay_explain.specs.Lines.{place};
+ghost use Rattle.relay_explain.specs.Lines.{told_line};
 
 use crate::buffers::largest_stored;
-use crate::lines::{put_odd_place, put_place};
 use crate::patterns::put_pattern_odds;
 use crate::rows::{Row, rows_of};
+use crate::text::{put, put_line, put_odd};
 use itoa::Buffer;
 use relay_conf::{Config, Method};
 use std::alloc::{AllocError, Global};
@@ -16,6 +16,7 @@ use std::alloc::{AllocError, Global};
 const STORAGE: &[u8] = b"storage.conf";
 
 /// Puts what is told of all entries.
+#[tactic(auto, unfolding(crate::specs::Entries::entries_text))]
 pub(crate) fn put_entries(
     alloc: Global,
     text: &mut Vec<u8>,
@@ -67,11 +68,135 @@ fn put_entry(
     ensures { OnOk result (text.new.items
         ≡ text.old.items ++ terms.entry_text config.now rows.now row.now) }
 {
-    put_entry_line(text, config, row)?;
-    put_pattern_odds(alloc, text, STORAGE, row.line, row.newsgroups)?;
-    let no_size = takes_no_size(largest_stored(config), row.entry);
-    put_size_odd(text, row.line, no_size)?;
+    put_entry_line(alloc, text, config, row)?;
+    put_pattern_odds(text, STORAGE, row.line, row.newsgroups)?;
+    put_odd(
+        text,
+        takes_no_size(largest_stored(config), row.entry),
+        STORAGE,
+        row.line,
+        &[b"no article has such a size"],
+    )?;
     put_shadow_odd(text, row.line, shadow_of(rows, row))
+}
+
+/// Puts the line of an entry.
+#[tactic(auto, unfolding(crate::specs::Entries::entry_told))]
+fn put_entry_line(
+    alloc: Global,
+    text: &mut Vec<u8>,
+    config: &Config,
+    row: &Row<'_>,
+) -> Result<(), AllocError>
+    ensures { OnOk result (text.new.items ≡ text.old.items
+        ++ told_line terms.storage row.now.line (terms.entry_told config.now row.now)) }
+{
+    let taken = taken_text(alloc, row)?;
+    let (mut number, mut class) = (Buffer::new(), Buffer::new());
+    put_line(
+        text,
+        STORAGE,
+        row.line,
+        &[
+            b"entry ",
+            number.format(row.number).as_bytes(),
+            b" takes articles of ",
+            &taken,
+            b": class ",
+            class.format(row.entry.class).as_bytes(),
+            b", group ",
+            group_name(config, row.entry.group),
+        ],
+    )
+}
+
+/// The articles that an entry takes: their sizes, their newsgroups, and how many of these have to
+/// match.
+#[tactic(auto, unfolding(crate::specs::Entries::taken_text))]
+fn taken_text(alloc: Global, row: &Row<'_>) -> Result<Vec<u8>, AllocError>
+    ensures { IfOk result (λ text. text.items ≡ terms.taken_text row.now) }
+{
+    let mut text = Vec::new(alloc);
+    put_sizes(&mut text, row.entry.smallest, row.entry.largest)?;
+    put_newsgroups(&mut text, row)?;
+    Ok(text)
+}
+
+/// Puts the newsgroups that an entry takes, and how many of an article's have to match.
+fn put_newsgroups(text: &mut Vec<u8>, row: &Row<'_>) -> Result<(), AllocError>
+    ensures { OnOk result (text.new.items ≡ text.old.items ++ terms.newsgroups_text row.now) }
+{
+    if row.entry.exactmatch {
+        return put(
+            text,
+            &[b" in newsgroups ", row.newsgroups, b" (all of them)"],
+        );
+    }
+    put(
+        text,
+        &[b" in newsgroups ", row.newsgroups, b" (one of them)"],
+    )
+}
+
+/// Puts the sizes that an entry takes.
+#[tactic(auto, unfolding(crate::specs::Entries::sizes_text))]
+fn put_sizes(text: &mut Vec<u8>, smallest: u64, largest: Option<u64>) -> Result<(), AllocError>
+    ensures { OnOk result (text.new.items ≡ text.old.items ++ terms.sizes_text smallest largest) }
+{
+    let (mut least, mut most) = (Buffer::new(), Buffer::new());
+    let least = least.format(smallest).as_bytes();
+    match largest {
+        None => put(text, &[least, b" octets and more"]),
+        Some(largest) => put(
+            text,
+            &[least, b" to ", most.format(largest).as_bytes(), b" octets"],
+        ),
+    }
+}
+
+/// The name of the group of this number; one that isn't there has none.
+fn group_name(config: &Config, group: u16) -> &[u8]
+    ensures { result.now
+        ≡ terms.group_name (slice_get config.now.buffers.groups.items group) }
+{
+    match config.buffers.groups.get(usize::from(group)) {
+        Some(group) => group.name.as_slice(),
+        None => b"",
+    }
+}
+
+/// Whether no size is taken that an article may have.
+#[tactic(auto, unfolding(crate::specs::Entries::takes_no_size))]
+fn takes_no_size(largest_stored: u64, entry: &Method) -> bool
+    ensures { result ≡ terms.takes_no_size largest_stored entry.now }
+{
+    largest_stored < entry.smallest || !is_limit_within(Some(entry.smallest), entry.largest)
+}
+
+/// Puts what is odd in an entry that an earlier one, the first of these, shadows.
+#[tactic(auto, unfolding(crate::specs::Entries::shadow_odd))]
+fn put_shadow_odd(
+    text: &mut Vec<u8>,
+    line: usize,
+    first: Option<&Row<'_>>,
+) -> Result<(), AllocError>
+    ensures { OnOk result (text.new.items
+        ≡ text.old.items ++ terms.shadow_odd line (option_copied first.entry)) }
+{
+    match first {
+        None => Ok(()),
+        Some(first) => {
+            let mut number = Buffer::new();
+            let told = b"the entry takes nothing: all of it is taken by entry ".as_slice();
+            put_odd(
+                text,
+                true,
+                STORAGE,
+                line,
+                &[told, number.format(first.number).as_bytes()],
+            )
+        }
+    }
 }
 
 /// The first entry that is tried before this one and takes all that it takes.
@@ -82,6 +207,7 @@ fn shadow_of<'a, 'b>(rows: &'a [Row<'b>], row: &Row<'_>) -> Option<&'a Row<'b>>
 }
 
 /// Whether an entry is tried before the other and takes all that it takes.
+#[tactic(auto, unfolding(crate::specs::Entries::shadows))]
 fn shadows(row: &Row<'_>, other: &Row<'_>) -> bool
     ensures { result ≡ terms.shadows row.now other.now }
 {
@@ -115,121 +241,4 @@ fn covers_newsgroups(row: &Row<'_>, other: &Row<'_>) -> bool
 {
     row.newsgroups == b"*".as_slice()
         || (row.newsgroups == other.newsgroups && (!row.entry.exactmatch || other.entry.exactmatch))
-}
-
-/// Whether no size is taken that an article may have.
-fn takes_no_size(largest_stored: u64, entry: &Method) -> bool
-    ensures { result ≡ terms.takes_no_size largest_stored entry.now }
-{
-    largest_stored < entry.smallest || !is_limit_within(Some(entry.smallest), entry.largest)
-}
-
-/// Puts the line of an entry.
-fn put_entry_line(text: &mut Vec<u8>, config: &Config, row: &Row<'_>) -> Result<(), AllocError>
-    ensures { OnOk result (text.new.items
-        ≡ text.old.items ++ terms.entry_line config.now row.now) }
-{
-    put_front(text, row.line, row.number)?;
-    put_sizes(text, row.entry.smallest, row.entry.largest)?;
-    text.extend_from_slice(b" in newsgroups ")?;
-    text.extend_from_slice(row.newsgroups)?;
-    text.extend_from_slice(match_text(row.entry.exactmatch))?;
-    put_end(text, config, row.entry)
-}
-
-/// Puts what the line of an entry begins with: its place, and its number.
-fn put_front(text: &mut Vec<u8>, line: usize, number: usize) -> Result<(), AllocError>
-    ensures { OnOk result (text.new.items
-        ≡ text.old.items ++ place terms.storage line ++ codes "entry " ++ decimal number
-        ++ codes " takes articles of ") }
-{
-    let mut digits = Buffer::new();
-    put_place(text, STORAGE, line)?;
-    text.extend_from_slice(b"entry ")?;
-    text.extend_from_slice(digits.format(number).as_bytes())?;
-    text.extend_from_slice(b" takes articles of ")
-}
-
-/// How many newsgroups of an article have to match.
-fn match_text(exactmatch: bool) -> &'static [u8]
-    ensures { result.now ≡ terms.match_text exactmatch }
-{
-    if exactmatch {
-        b" (all of them)"
-    } else {
-        b" (one of them)"
-    }
-}
-
-/// Puts the sizes that an entry takes.
-fn put_sizes(text: &mut Vec<u8>, smallest: u64, largest: Option<u64>) -> Result<(), AllocError>
-    ensures { OnOk result (text.new.items
-        ≡ text.old.items ++ terms.sizes_text smallest largest) }
-{
-    let mut number = Buffer::new();
-    text.extend_from_slice(number.format(smallest).as_bytes())?;
-    match largest {
-        None => text.extend_from_slice(b" octets and more"),
-        Some(largest) => {
-            text.extend_from_slice(b" to ")?;
-            text.extend_from_slice(number.format(largest).as_bytes())?;
-            text.extend_from_slice(b" octets")
-        }
-    }
-}
-
-/// Puts what the line of an entry ends with: its class and its group.
-fn put_end(text: &mut Vec<u8>, config: &Config, entry: &Method) -> Result<(), AllocError>
-    ensures { OnOk result (text.new.items
-        ≡ text.old.items ++ codes ": class " ++ decimal entry.now.class ++ codes ", group "
-        ++ terms.group_name (slice_get config.now.buffers.groups.items entry.now.group)
-        ++ codes "\n") }
-{
-    let mut number = Buffer::new();
-    text.extend_from_slice(b": class ")?;
-    text.extend_from_slice(number.format(entry.class).as_bytes())?;
-    text.extend_from_slice(b", group ")?;
-    put_group_name(text, config, entry.group)?;
-    text.extend_from_slice(b"\n")
-}
-
-/// Puts the name of the group of this number.
-fn put_group_name(text: &mut Vec<u8>, config: &Config, group: u16) -> Result<(), AllocError>
-    ensures { OnOk result (text.new.items ≡ text.old.items
-        ++ terms.group_name (slice_get config.now.buffers.groups.items group)) }
-{
-    match config.buffers.groups.get(usize::from(group)) {
-        Some(group) => text.extend_from_slice(group.name.as_slice()),
-        None => Ok(()),
-    }
-}
-
-/// Puts what is told of an entry that takes no size.
-fn put_size_odd(text: &mut Vec<u8>, line: usize, no_size: bool) -> Result<(), AllocError>
-    ensures { OnOk result (text.new.items ≡ text.old.items ++ terms.size_odd line no_size) }
-{
-    if !no_size {
-        return Ok(());
-    }
-    put_odd_place(text, STORAGE, line)?;
-    text.extend_from_slice(b"no article has such a size\n")
-}
-
-/// Puts what is told of an entry that another shadows.
-fn put_shadow_odd(
-    text: &mut Vec<u8>,
-    line: usize,
-    first: Option<&Row<'_>>,
-) -> Result<(), AllocError>
-    ensures { OnOk result (text.new.items
-        ≡ text.old.items ++ terms.shadow_odd line (option_copied first)) }
-{
-    let Some(first) = first else {
-        return Ok(());
-    };
-    let mut number = Buffer::new();
-    put_odd_place(text, STORAGE, line)?;
-    text.extend_from_slice(b"the entry takes nothing: all of it is taken by entry ")?;
-    text.extend_from_slice(number.format(first.number).as_bytes())?;
-    text.extend_from_slice(b"\n")
 }

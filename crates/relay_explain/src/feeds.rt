@@ -1,22 +1,23 @@
 //! What is told of the feeds of relay.conf.
-ghost use Rattle.std.specs.Prelude.{◌≡◌, ◌++◌, codes, decimal, drop, map, OnOk};
+ghost use Rattle.std.specs.Prelude.{◌≡◌, ◌++◌, drop, map, slice_get, OnOk};
 ghost use Rattle.std.specs.Option.{option_copied};
 ghost use Rattle.line_words.specs.Words.{words};
 ghost use Rattle.line_words.specs.declared.words.Between.TheVariants.{Spaces};
-ghost use Rattle.relay_explain.specs.Peers.{first_or_none};
+ghost use Rattle.relay_explain.specs.Lines.{line_at};
 ghost use Rattle.relay_explain.specs.Peers as terms;
 
-use crate::lines::{line_at, peer_line, put_odd_place, put_place};
+use crate::lines::{line_at, peer_line};
 use crate::patterns::put_pattern_odds;
 use crate::settings::RELAY;
+use crate::text::{put_line, put_odd};
 use itoa::Buffer;
 use line_words::{Between, first_word, trim};
 use relay_conf::{Feed, Peer, Relay};
-use std::alloc::{AllocError, Global};
+use std::alloc::AllocError;
 
 /// Puts what is told of all feeds.
+#[tactic(auto, unfolding(crate::specs::Peers::feeds_text))]
 pub(crate) fn put_feeds(
-    alloc: Global,
     text: &mut Vec<u8>,
     relay: &Relay,
     lines: &[&[u8]],
@@ -25,14 +26,13 @@ pub(crate) fn put_feeds(
         ++ terms.feeds_text relay.now (map (λ line. line.now) lines.now)) }
 {
     for feed in &relay.feeds {
-        put_feed(alloc, text, relay, lines, feed)?;
+        put_feed(text, relay, lines, feed)?;
     }
     Ok(())
 }
 
 /// Puts what is told of a feed.
 fn put_feed(
-    alloc: Global,
     text: &mut Vec<u8>,
     relay: &Relay,
     lines: &[&[u8]],
@@ -41,15 +41,30 @@ fn put_feed(
     ensures { OnOk result (text.new.items ≡ text.old.items
         ++ terms.feed_text relay.now (map (λ line. line.now) lines.now) feed.now) }
 {
-    let peer = relay.peers.get(usize::from(feed.peer));
+    let peer = peer_at(relay, feed.peer);
     let line = peer_line(lines, b"feed", name_of(peer));
-    let newsgroups = newsgroups_on(line_at(lines, line.saturating_sub(1)));
-    put_body(alloc, text, line, newsgroups, peer, feed)
+    let newsgroups = newsgroups_at(lines, line);
+    put_told_on(text, line, newsgroups, peer, feed)
 }
 
-/// Puts what is told of a feed of this peer, which this line says.
-fn put_body(
-    alloc: Global,
+/// The peer of this number, where it is there.
+fn peer_at(relay: &Relay, peer: u16) -> Option<&Peer>
+    ensures { option_copied result ≡ slice_get relay.now.peers.items peer }
+{
+    relay.peers.get(usize::from(peer))
+}
+
+/// The text of the expression that the line of a feed of this number has.
+#[tactic(auto, unfolding(crate::specs::Peers::newsgroups_at))]
+fn newsgroups_at<'a>(lines: &[&'a [u8]], line: usize) -> &'a [u8]
+    ensures { result.now ≡ terms.newsgroups_at line (map (λ line. line.now) lines.now) }
+{
+    newsgroups_on(line_at(lines, line.saturating_sub(1)))
+}
+
+/// Puts what is told of a feed of this peer, which this line says with these newsgroups.
+#[tactic(auto, unfolding(crate::specs::Peers::feed_told, crate::specs::Peers::feed_told_on))]
+fn put_told_on(
     text: &mut Vec<u8>,
     line: usize,
     newsgroups: &[u8],
@@ -57,17 +72,42 @@ fn put_body(
     feed: &Feed,
 ) -> Result<(), AllocError>
     ensures { OnOk result (text.new.items ≡ text.old.items
-        ++ terms.feed_body line newsgroups.now (option_copied peer) feed.now) }
+        ++ terms.feed_told_on line newsgroups.now (option_copied peer.entry) feed.now) }
 {
-    put_front(text, line, feed.ring, name_of(peer), newsgroups)?;
-    put_pattern_odds(alloc, text, RELAY, line, newsgroups)?;
-    put_port_odd(text, line, port_of(peer))?;
-    put_ring_odd(text, line, feed.ring)
+    let mut ring = Buffer::new();
+    put_line(
+        text,
+        RELAY,
+        line,
+        &[
+            b"feed of ",
+            name_of(peer),
+            b": newsgroups ",
+            newsgroups,
+            b", tokens that wait at most: ",
+            ring.format(feed.ring).as_bytes(),
+        ],
+    )?;
+    put_pattern_odds(text, RELAY, line, newsgroups)?;
+    put_odd(
+        text,
+        port_of(peer) == 0,
+        RELAY,
+        line,
+        &[b"the peer has no port, so nobody takes the feed"],
+    )?;
+    put_odd(
+        text,
+        feed.ring == 1,
+        RELAY,
+        line,
+        &[b"of a ring of 1 only the newest token is ever there"],
+    )
 }
 
 /// The name of a peer; one that isn't there has none.
 fn name_of(peer: Option<&Peer>) -> &[u8]
-    ensures { result.now ≡ terms.name_of (option_copied peer) }
+    ensures { result.now ≡ terms.name_of (option_copied peer.entry) }
 {
     match peer {
         None => b"",
@@ -77,7 +117,7 @@ fn name_of(peer: Option<&Peer>) -> &[u8]
 
 /// The port of a peer; one that isn't there has none, as port 0 is none.
 fn port_of(peer: Option<&Peer>) -> u16
-    ensures { result ≡ terms.port_of (option_copied peer) }
+    ensures { result ≡ terms.port_of (option_copied peer.entry) }
 {
     match peer {
         None => 0,
@@ -95,7 +135,7 @@ fn newsgroups_on(line: &[u8]) -> &[u8]
 
 /// The first word, empty where there is none.
 fn word_of(line: &[u8]) -> &[u8]
-    ensures { result.now ≡ first_or_none (words Spaces line.now) }
+    ensures { result.now ≡ line_at 0 (words Spaces line.now) }
 {
     match first_word(line, Between::Spaces) {
         None => b"",
@@ -111,56 +151,4 @@ fn behind_word(line: &[u8]) -> &[u8]
         None => line,
         Some((_, rest)) => rest,
     }
-}
-
-/// Puts the line of a feed.
-fn put_front(
-    text: &mut Vec<u8>,
-    line: usize,
-    ring: u32,
-    name: &[u8],
-    newsgroups: &[u8],
-) -> Result<(), AllocError>
-    ensures { OnOk result (text.new.items ≡ text.old.items
-        ++ terms.feed_front line ring name.now newsgroups.now) }
-{
-    put_place(text, RELAY, line)?;
-    text.extend_from_slice(b"feed of ")?;
-    text.extend_from_slice(name)?;
-    text.extend_from_slice(b": newsgroups ")?;
-    text.extend_from_slice(newsgroups)?;
-    put_ring(text, ring)
-}
-
-/// Puts how many tokens wait at most.
-fn put_ring(text: &mut Vec<u8>, ring: u32) -> Result<(), AllocError>
-    ensures { OnOk result (text.new.items ≡ text.old.items
-        ++ codes ", tokens that wait at most: " ++ decimal ring ++ codes "\n") }
-{
-    let mut number = Buffer::new();
-    text.extend_from_slice(b", tokens that wait at most: ")?;
-    text.extend_from_slice(number.format(ring).as_bytes())?;
-    text.extend_from_slice(b"\n")
-}
-
-/// Puts what is told of a feed of a peer on this port.
-fn put_port_odd(text: &mut Vec<u8>, line: usize, port: u16) -> Result<(), AllocError>
-    ensures { OnOk result (text.new.items ≡ text.old.items ++ terms.port_odd line port) }
-{
-    if port != 0 {
-        return Ok(());
-    }
-    put_odd_place(text, RELAY, line)?;
-    text.extend_from_slice(b"the peer has no port, so nobody takes the feed\n")
-}
-
-/// Puts what is told of a feed with so small a ring.
-fn put_ring_odd(text: &mut Vec<u8>, line: usize, ring: u32) -> Result<(), AllocError>
-    ensures { OnOk result (text.new.items ≡ text.old.items ++ terms.ring_odd line ring) }
-{
-    if ring != 1 {
-        return Ok(());
-    }
-    put_odd_place(text, RELAY, line)?;
-    text.extend_from_slice(b"of a ring of 1 only the newest token is ever there\n")
 }

@@ -1,12 +1,15 @@
 //! What lies where the file of a buffer is to be.
-ghost use Rattle.std.specs.Prelude.{◌≡◌, ◌++◌, codes, OnOk};
+ghost use Rattle.std.specs.Prelude.{◌≡◌, ◌==◌, ◌++◌, OnOk};
+ghost use Rattle.std.specs.List.{list_all};
 ghost use Rattle.std.specs.Option.{option_copied};
-ghost use Rattle.relay_explain.specs.Found.{file_line, found_text, is_inn, is_own};
+ghost use Rattle.relay_explain.specs.Found.{found_text, is_inn, is_own, odd_file};
 ghost use Rattle.relay_explain.specs.Found as terms;
-ghost use Rattle.relay_explain.specs.Lines.{odd_place, place};
 
-use crate::lines::{put_odd_place, put_place};
+use crate::text::{put_line, put_odd};
 use std::alloc::AllocError;
+
+/// The file in which buffers and groups are said.
+pub(crate) const CYCBUFF: &[u8] = b"cycbuff.conf";
 
 /// What lies where the file of a buffer is to be (docs/FORMATS.md, Blocks on the device).
 #[derive(Clone, Copy, Debug, PartialEq, Eq)]
@@ -44,7 +47,14 @@ pub fn found_of(front: &[u8]) -> Found
 fn begins_own(front: &[u8]) -> bool
     ensures { result ≡ is_own front.now }
 {
-    front.starts_with(b"CNB1") || front.iter().all(|octet| *octet == 0)
+    front.starts_with(b"CNB1") || has_zeros_alone(front)
+}
+
+/// Whether each octet is zero.
+fn has_zeros_alone(front: &[u8]) -> bool
+    ensures { result ≡ list_all (λ c. c == 0) front.now }
+{
+    front.iter().all(|octet| *octet == 0)
 }
 
 /// Whether a file with this front is a buffer of INN.
@@ -54,7 +64,8 @@ fn begins_inn(front: &[u8]) -> bool
     front.starts_with(b"CBuf") || front.starts_with(b"Cycbuff")
 }
 
-/// Puts what is told of the file of a buffer, which the line of this number names.
+/// Puts what is told of the file of a buffer, which this line names, by what lies there.
+#[tactic(auto, unfolding(crate::specs::Found::found_text))]
 pub(crate) fn put_found(
     text: &mut Vec<u8>,
     line: usize,
@@ -62,53 +73,38 @@ pub(crate) fn put_found(
     found: Option<&Found>,
 ) -> Result<(), AllocError>
     ensures { OnOk result (text.new.items
-        ≡ text.old.items ++ found_text line file.now (option_copied found)) }
+        ≡ text.old.items ++ found_text line file.now (option_copied found.entry)) }
 {
     match found {
         None | Some(Found::Fit) => Ok(()),
         Some(Found::Absent) => {
-            put_place(text, b"cycbuff.conf", line)?;
-            put_file(text, file, b" isn't there: a start makes it\n")
+            let told = b" isn't there: a start makes it".as_slice();
+            put_line(text, CYCBUFF, line, &[b"file ", file, told])
         }
         Some(Found::NoFolder) => {
-            put_odd_file(
-                text,
-                line,
-                file,
-                b" can't be made: its folder isn't there\n",
-            )
+            put_odd_file(text, line, file, b" can't be made: its folder isn't there")
         }
         Some(Found::Inn) => put_odd_file(
             text,
             line,
             file,
-            b" is a buffer of INN, over whose articles a start writes\n",
+            b" is a buffer of INN, over whose articles a start writes",
         ),
         Some(Found::Other) => put_odd_file(
             text,
             line,
             file,
-            b" is no buffer of this program, and a start writes over it\n",
+            b" is no buffer of this program, and a start writes over it",
         ),
-        Some(Found::NotRegular) => put_odd_file(text, line, file, b" is no regular file\n"),
-        Some(Found::Unseen) => put_odd_file(text, line, file, b" can't be read\n"),
+        Some(Found::NotRegular) => put_odd_file(text, line, file, b" is no regular file"),
+        Some(Found::Unseen) => put_odd_file(text, line, file, b" can't be read"),
     }
 }
 
-/// Puts what is odd of a file, which the line of this number names.
+/// Puts what is odd of the file of a buffer, which this line names.
 fn put_odd_file(text: &mut Vec<u8>, line: usize, file: &[u8], told: &[u8]) -> Result<(), AllocError>
     ensures { OnOk result (text.new.items
-        ≡ text.old.items ++ file_line (odd_place (codes "cycbuff.conf") line) file.now told.now) }
+        ≡ text.old.items ++ odd_file line file.now told.now) }
 {
-    put_odd_place(text, b"cycbuff.conf", line)?;
-    put_file(text, file, told)
-}
-
-/// Puts a file's name, and what is told of it.
-fn put_file(text: &mut Vec<u8>, file: &[u8], told: &[u8]) -> Result<(), AllocError>
-    ensures { OnOk result (text.new.items ≡ text.old.items ++ codes "file " ++ file.now ++ told.now) }
-{
-    text.extend_from_slice(b"file ")?;
-    text.extend_from_slice(file)?;
-    text.extend_from_slice(told)
+    put_odd(text, true, CYCBUFF, line, &[b"file ", file, told])
 }

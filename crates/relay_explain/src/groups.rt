@@ -1,15 +1,17 @@
 //! What is told of the groups of cycbuff.conf.
-ghost use Rattle.std.specs.Prelude.{◌≡◌, ◌++◌, codes, flat_map, map, OnOk};
+ghost use Rattle.std.specs.Prelude.{◌≡◌, ◌++◌, codes, flat_map, map, slice_get, IfOk, OnOk};
 ghost use Rattle.relay_explain.specs.Buffers as terms;
-ghost use Rattle.relay_explain.specs.Lines.{named_line, place};
 
-use crate::buffers::CYCBUFF;
-use crate::lines::{named_line, put_place};
+use crate::found::CYCBUFF;
+use crate::lines::named_line;
+use crate::text::{put, put_line};
 use relay_conf::{BufferConf, Config, GroupConf, Mode};
-use std::alloc::AllocError;
+use std::alloc::{AllocError, Global};
 
 /// Puts what is told of all groups.
+#[tactic(auto, unfolding(crate::specs::Buffers::groups_text))]
 pub(crate) fn put_groups(
+    alloc: Global,
     text: &mut Vec<u8>,
     config: &Config,
     lines: &[&[u8]],
@@ -18,54 +20,55 @@ pub(crate) fn put_groups(
         ++ terms.groups_text config.now (map (λ line. line.now) lines.now)) }
 {
     for group in &config.buffers.groups {
-        put_group_line(text, &config.buffers.buffers, lines, group)?;
+        put_group(alloc, text, config, lines, group)?;
     }
     Ok(())
 }
 
-/// Puts the line of a group.
-fn put_group_line(
+/// Puts what is told of a group.
+fn put_group(
+    alloc: Global,
     text: &mut Vec<u8>,
-    buffers: &[BufferConf],
+    config: &Config,
     lines: &[&[u8]],
     group: &GroupConf,
 ) -> Result<(), AllocError>
     ensures { OnOk result (text.new.items ≡ text.old.items
-        ++ place terms.cycbuff (named_line (codes "metacycbuff") group.now.name
-        (map (λ line. line.now) lines.now))
-        ++ terms.group_text buffers.now group.now ++ codes "\n") }
+        ++ terms.group_text config.now (map (λ line. line.now) lines.now) group.now) }
 {
-    put_place(
-        text,
-        CYCBUFF,
-        named_line(lines, b"metacycbuff", group.name.as_slice()),
-    )?;
-    put_group(text, buffers, group)?;
-    text.extend_from_slice(b"\n")
+    let told = group_told(alloc, &config.buffers.buffers, group)?;
+    let line = named_line(lines, b"metacycbuff", group.name.as_slice());
+    put_line(text, CYCBUFF, line, &[&told])
 }
 
-/// Puts a group, its mode, and its buffers in their order.
-pub(crate) fn put_group(
-    text: &mut Vec<u8>,
+/// A group, its mode, and its buffers in their order.
+#[tactic(auto, unfolding(crate::specs::Buffers::group_told))]
+pub(crate) fn group_told(
+    alloc: Global,
     buffers: &[BufferConf],
     group: &GroupConf,
-) -> Result<(), AllocError>
-    ensures { OnOk result (text.new.items
-        ≡ text.old.items ++ terms.group_text buffers.now group.now) }
+) -> Result<Vec<u8>, AllocError>
+    ensures { IfOk result (λ told. told.items ≡ terms.group_told buffers.now group.now) }
 {
-    text.extend_from_slice(b"group ")?;
-    text.extend_from_slice(group.name.as_slice())?;
-    text.extend_from_slice(mode_text(group.mode))?;
-    put_members(text, buffers, &group.buffers)
+    let mut told = Vec::new(alloc);
+    put_mode(&mut told, group)?;
+    put_members(&mut told, buffers, &group.buffers)?;
+    Ok(told)
 }
 
-/// How a group of this mode fills its buffers.
-fn mode_text(mode: Mode) -> &'static [u8]
-    ensures { result.now ≡ terms.mode_text mode }
+/// Puts a group and how it fills its buffers.
+#[tactic(auto, unfolding(crate::specs::Buffers::mode_text))]
+fn put_mode(text: &mut Vec<u8>, group: &GroupConf) -> Result<(), AllocError>
+    ensures { OnOk result (text.new.items ≡ text.old.items
+        ++ (codes "group " ++ group.now.name ++ terms.mode_text group.now.mode)) }
 {
-    match mode {
-        Mode::Interleave => b", article by article in turn:",
-        Mode::Sequential => b", one to its end before the next:",
+    let name = group.name.as_slice();
+    match group.mode {
+        Mode::Interleave => put(text, &[b"group ", name, b", article by article in turn:"]),
+        Mode::Sequential => put(
+            text,
+            &[b"group ", name, b", one to its end before the next:"],
+        ),
     }
 }
 
@@ -79,19 +82,17 @@ fn put_members(
         ≡ text.old.items ++ flat_map (terms.member_text buffers.now) numbers.now) }
 {
     for number in numbers {
-        put_member(text, buffers, *number)?;
+        put(text, &[b" ", buffer_name(buffers, *number)])?;
     }
     Ok(())
 }
 
-/// Puts the name of the buffer of this number.
-fn put_member(text: &mut Vec<u8>, buffers: &[BufferConf], number: usize) -> Result<(), AllocError>
-    ensures { OnOk result (text.new.items
-        ≡ text.old.items ++ terms.member_text buffers.now number) }
+/// The name of the buffer of this number; one that isn't there has none.
+fn buffer_name(buffers: &[BufferConf], number: usize) -> &[u8]
+    ensures { result.now ≡ terms.buffer_name (slice_get buffers.now number) }
 {
-    text.extend_from_slice(b" ")?;
     match buffers.get(number) {
-        Some(buffer) => text.extend_from_slice(buffer.name.as_slice()),
-        None => Ok(()),
+        Some(buffer) => buffer.name.as_slice(),
+        None => b"",
     }
 }

@@ -1,8 +1,11 @@
 //! What follows from the definitions of what is odd.
-ghost use Rattle.std.specs.Prelude.{ℕ, List, IsTrue};
+ghost use Rattle.std.specs.Prelude.{◌≡◌, ◌∷◌, ℕ, List, IsFalse, IsTrue};
+ghost use Rattle.std.specs.List.{list_any};
+ghost use Rattle.news_terms.specs.Pattern.{IsExpressionText, Marked, is_match, verdict};
 ghost use Rattle.news_terms.specs.StorageClass.{takes};
 ghost use Rattle.relay_conf.specs.Storage.{entry_view};
 ghost use Rattle.relay_explain.specs.Entries.{IsSpelled, Said, shadows};
+ghost use Rattle.relay_explain.specs.Patterns.{has_taking, is_taking};
 
 /// An entry that is told as taken by an earlier one takes nothing behind that: each article that it
 /// takes is taken by the earlier one, where both are spelled as they are said.
@@ -11,4 +14,19 @@ pub fn shadowed_entries_take_nothing()
         → IsSpelled first → IsSpelled other → IsTrue (shadows first other)
         → IsTrue (takes (entry_view other.entry) groups size)
         → IsTrue (takes (entry_view first.entry) groups size) }
+{}
+
+/// The text of an expression is told as one without a pattern that takes anything just where that
+/// expression has none.
+pub fn taking_is_of_patterns()
+    ensures { (text : List ℕ) (expression : List Marked) → IsExpressionText text expression
+        → has_taking text ≡ list_any is_taking expression }
+{}
+
+/// By the text of an expression that is told as one by which no newsgroup matches none does: no name
+/// of an octet or more.
+pub fn untaken_newsgroups_do_not_match()
+    ensures { (text : List ℕ) (expression : List Marked) (c : ℕ) (name : List ℕ)
+        → IsExpressionText text expression → IsFalse (has_taking text)
+        → IsFalse (is_match (verdict expression (c ∷ name))) }
 {}

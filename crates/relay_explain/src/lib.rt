@@ -1,4 +1,4 @@
-//! What a configuration does, in words, and what in it is odd (docs/PROTOCOL.md, Program).
+//! What a configuration does, in words, and what in it is odd (docs/PROTOCOL.md, `explain`).
 //!
 //! It is told of the settings that were read of three texts, and of these texts: the settings say what
 //! is so, the texts on which line. What lies where the buffers' files are to be is told to it; it opens
@@ -18,7 +18,7 @@ mod peers;
 mod rows;
 mod settings;
 mod sums;
-mod wants;
+mod text;
 mod whole;
 
 pub use choice::explain_choice;

@@ -1,12 +1,11 @@
 //! Where the files of a configuration say what they say.
-ghost use Rattle.std.specs.Prelude.{◌≡◌, ◌∷◌, ◌++◌, map, slice_get, unwrap_or, codes, IfOk, OnOk};
+ghost use Rattle.std.specs.Prelude.{◌≡◌, ◌∷◌, map, IfOk};
 ghost use Rattle.std.specs.Str.Lines.{strip_carriage_return};
 ghost use Rattle.relay_conf.specs.Lines.{lines_after};
 ghost use Rattle.relay_conf.specs.Lines as conf;
 ghost use Rattle.relay_explain.specs.Lines.{begins, begins_with, parts_in, words_in};
 ghost use Rattle.relay_explain.specs.Lines as terms;
 
-use itoa::Buffer;
 use line_words::{Between, cut, first_word, trim};
 use std::alloc::{AllocError, Global};
 
@@ -93,6 +92,17 @@ fn has_words(line: &[u8], key: &[u8], name: &[u8]) -> bool
     }
 }
 
+/// The line of relay.conf that says a setting of the relay itself.
+pub(crate) fn key_line(lines: &[&[u8]], key: &[u8]) -> usize
+    ensures { result ≡ terms.key_line key.now (map (λ line. line.now) lines.now) }
+{
+    lines
+        .iter()
+        .position(|line| has_word(line, key))
+        .unwrap_or(lines.len())
+        + 1
+}
+
 /// Whether the first word of a line is this.
 pub(crate) fn has_word(line: &[u8], key: &[u8]) -> bool
     ensures { result ≡ begins key.now (words_in line.now) }
@@ -111,23 +121,4 @@ pub(crate) fn line_at<'a>(lines: &[&'a [u8]], number: usize) -> &'a [u8]
         Some(line) => line,
         None => b"",
     }
-}
-
-/// Puts where something is said.
-pub(crate) fn put_place(text: &mut Vec<u8>, file: &[u8], line: usize) -> Result<(), AllocError>
-    ensures { OnOk result (text.new.items ≡ text.old.items ++ terms.place file.now line) }
-{
-    let mut number = Buffer::new();
-    text.extend_from_slice(file)?;
-    text.extend_from_slice(b":")?;
-    text.extend_from_slice(number.format(line).as_bytes())?;
-    text.extend_from_slice(b": ")
-}
-
-/// Puts where something odd is said.
-pub(crate) fn put_odd_place(text: &mut Vec<u8>, file: &[u8], line: usize) -> Result<(), AllocError>
-    ensures { OnOk result (text.new.items ≡ text.old.items ++ terms.odd_place file.now line) }
-{
-    put_place(text, file, line)?;
-    text.extend_from_slice(b"odd: ")
 }

@@ -1,13 +1,11 @@
 //! What is odd in the text of an expression over newsgroups.
-ghost use Rattle.std.specs.Prelude.{◌≡◌, ◌++◌, map, IfOk, OnOk};
+ghost use Rattle.std.specs.Prelude.{◌≡◌, ◌++◌, OnOk};
 ghost use Rattle.std.specs.Option.{option_copied};
-ghost use Rattle.line_words.specs.Parts.{parts, parts_after};
 ghost use Rattle.relay_explain.specs.Patterns as terms;
 
-use crate::lines::put_odd_place;
+use crate::text::put_odd;
 use itoa::Buffer;
-use line_words::cut;
-use std::alloc::{AllocError, Global};
+use std::alloc::AllocError;
 
 /// The octets of a name that are no letters and no digits.
 const NAME_MARKS: &[u8] = b"+-_.";
@@ -15,23 +13,22 @@ const NAME_MARKS: &[u8] = b"+-_.";
 /// The octets that a pattern may have besides.
 const PATTERN_MARKS: &[u8] = b"*?[]^\\!@,";
 
-/// The parts of a text between commas.
-pub(crate) fn parts_of(alloc: Global, text: &[u8]) -> Result<Vec<&[u8]>, AllocError>
-    ensures { IfOk result (λ all. map (λ one. one.now) all.items ≡ parts 44 text.now) }
-{
-    let mut all = Vec::new(alloc);
-    let mut unread = Some(text);
-    while let Some(rest) = unread {
-        let (one, after) = cut(rest, b',');
-        all.push(one)?;
-        unread = after;
-    }
-    Ok(all)
+/// Where an octet of an expression stands.
+#[derive(Clone, Copy)]
+pub(crate) enum Place {
+    /// At the front of a pattern.
+    Front,
+    /// Inside of one.
+    Inside,
+    /// Behind a backslash.
+    Escaped,
+    /// Between brackets.
+    InSet,
 }
 
 /// Puts what is odd in the text of an expression.
+#[tactic(auto, unfolding(crate::specs::Patterns::pattern_odds))]
 pub(crate) fn put_pattern_odds(
-    alloc: Global,
     text: &mut Vec<u8>,
     file: &[u8],
     line: usize,
@@ -41,11 +38,45 @@ pub(crate) fn put_pattern_odds(
         ≡ text.old.items ++ terms.pattern_odds file.now line expression.now) }
 {
     put_octet(text, file, line, odd_octet(expression))?;
-    let taking = has_taking(alloc, expression)?;
-    put_taking(text, file, line, taking)
+    put_odd(
+        text,
+        !has_taking(expression),
+        file,
+        line,
+        &[b"no newsgroup matches"],
+    )
+}
+
+/// Puts what is told of an octet that no newsgroup's name has.
+#[tactic(auto, unfolding(crate::specs::Patterns::octet_text))]
+fn put_octet(
+    text: &mut Vec<u8>,
+    file: &[u8],
+    line: usize,
+    octet: Option<&u8>,
+) -> Result<(), AllocError>
+    ensures { OnOk result (text.new.items
+        ≡ text.old.items ++ terms.octet_text file.now line (option_copied octet.entry)) }
+{
+    let Some(octet) = octet else {
+        return Ok(());
+    };
+    let mut number = Buffer::new();
+    put_odd(
+        text,
+        true,
+        file,
+        line,
+        &[
+            b"a pattern has the octet ",
+            number.format(*octet).as_bytes(),
+            b", which no newsgroup has: it matches none by it",
+        ],
+    )
 }
 
 /// The first octet of an expression that neither a name nor a pattern has.
+#[tactic(auto, unfolding(crate::specs::Patterns::odd_octet))]
 fn odd_octet(expression: &[u8]) -> Option<&u8>
     ensures { option_copied result ≡ terms.odd_octet expression.now }
 {
@@ -72,53 +103,56 @@ fn is_of_patterns(octet: u8) -> bool
 }
 
 /// Whether an expression has a pattern that takes what it matches.
-fn has_taking(alloc: Global, expression: &[u8]) -> Result<bool, AllocError>
-    ensures { IfOk result (λ taking. taking ≡ terms.has_taking expression.now) }
+fn has_taking(expression: &[u8]) -> bool
+    ensures { result ≡ terms.has_taking expression.now }
 {
-    let patterns = parts_of(alloc, expression)?;
-    Ok(patterns.iter().any(|pattern| is_taking(pattern)))
-}
-
-/// Whether a pattern takes what it matches.
-fn is_taking(pattern: &[u8]) -> bool
-    ensures { result ≡ terms.is_taking pattern.now }
-{
-    match pattern.first() {
-        None => false,
-        Some(first) => !(*first == b'!' || *first == b'@'),
-    }
-}
-
-/// Puts what is told of an octet that no newsgroup's name has.
-fn put_octet(
-    text: &mut Vec<u8>,
-    file: &[u8],
-    line: usize,
-    octet: Option<&u8>,
-) -> Result<(), AllocError>
-    ensures { OnOk result (text.new.items
-        ≡ text.old.items ++ terms.octet_text file.now line (option_copied octet)) }
-{
-    match octet {
-        None => Ok(()),
-        Some(octet) => {
-            let mut number = Buffer::new();
-            put_odd_place(text, file, line)?;
-            text.extend_from_slice(b"a pattern has the octet ")?;
-            text.extend_from_slice(number.format(*octet).as_bytes())?;
-            text.extend_from_slice(b", which no newsgroup has: it matches none by it\n")
+    let mut place = Place::Front;
+    for octet in expression {
+        match behind(place, *octet) {
+            None => return true,
+            Some(next) => place = next,
         }
     }
+    false
 }
 
-/// Puts what is told of an expression without a pattern that takes anything.
-fn put_taking(text: &mut Vec<u8>, file: &[u8], line: usize, taking: bool) -> Result<(), AllocError>
-    ensures { OnOk result (text.new.items
-        ≡ text.old.items ++ terms.taking_text file.now line taking) }
+/// Where the next octet stands, where none that takes has begun yet.
+fn behind(place: Place, octet: u8) -> Option<Place>
+    ensures { result ≡ terms.behind place octet }
 {
-    if taking {
-        return Ok(());
+    match place {
+        Place::Front => behind_front(octet),
+        Place::Inside => Some(behind_inside(octet)),
+        Place::Escaped => Some(Place::Inside),
+        Place::InSet if octet == b']' => Some(Place::Inside),
+        Place::InSet => Some(Place::InSet),
     }
-    put_odd_place(text, file, line)?;
-    text.extend_from_slice(b"no newsgroup matches\n")
+}
+
+/// Where the next octet stands, behind one at the front of a pattern.
+fn behind_front(octet: u8) -> Option<Place>
+    ensures { result ≡ terms.behind_front octet }
+{
+    if octet == b',' {
+        Some(Place::Front)
+    } else if octet == b'!' || octet == b'@' {
+        Some(Place::Inside)
+    } else {
+        None
+    }
+}
+
+/// Where the next octet stands, behind one inside of a pattern.
+fn behind_inside(octet: u8) -> Place
+    ensures { result ≡ terms.behind_inside octet }
+{
+    if octet == b',' {
+        Place::Front
+    } else if octet == b'\\' {
+        Place::Escaped
+    } else if octet == b'[' {
+        Place::InSet
+    } else {
+        Place::Inside
+    }
 }

@@ -1,16 +1,21 @@
 //! What is told of the peers of relay.conf.
-ghost use Rattle.std.specs.Prelude.{◌≡◌, ◌++◌, bytes_eq, find, map, OnOk};
+ghost use Rattle.std.specs.Prelude.{◌≡◌, ◌++◌, bytes_eq, map, take, IfOk, OnOk};
 ghost use Rattle.std.specs.Option.{option_copied};
+ghost use Rattle.relay_explain.specs.Lines.{told_line};
 ghost use Rattle.relay_explain.specs.Peers as terms;
+ghost use Rattle.relay_explain.specs.Settings.{relay_conf};
 
-use crate::lines::{peer_line, put_odd_place, put_place};
+use crate::lines::peer_line;
 use crate::settings::RELAY;
+use crate::text::{put, put_line, put_odd, put_shared};
 use itoa::Buffer;
 use relay_conf::{Peer, Relay};
-use std::alloc::AllocError;
+use std::alloc::{AllocError, Global};
 
 /// Puts what is told of all peers.
+#[tactic(auto, unfolding(crate::specs::Peers::peers_text))]
 pub(crate) fn put_peers(
+    alloc: Global,
     text: &mut Vec<u8>,
     relay: &Relay,
     lines: &[&[u8]],
@@ -18,130 +23,148 @@ pub(crate) fn put_peers(
     ensures { OnOk result (text.new.items ≡ text.old.items
         ++ terms.peers_text relay.now (map (λ line. line.now) lines.now)) }
 {
-    for peer in &relay.peers {
-        put_peer(text, relay, lines, peer)?;
+    for (number, peer) in relay.peers.iter().enumerate() {
+        put_peer(alloc, text, relay, lines, number, peer)?;
     }
     Ok(())
 }
 
-/// Puts what is told of a peer.
+/// Puts what is told of the peer of this number.
 fn put_peer(
+    alloc: Global,
     text: &mut Vec<u8>,
     relay: &Relay,
     lines: &[&[u8]],
+    number: usize,
     peer: &Peer,
 ) -> Result<(), AllocError>
     ensures { OnOk result (text.new.items ≡ text.old.items
-        ++ terms.peer_text relay.now (map (λ line. line.now) lines.now) peer.now) }
+        ++ terms.peer_text relay.now (map (λ line. line.now) lines.now) (number, peer.now)) }
 {
     let line = peer_line(lines, b"peer", peer.name.as_slice());
-    put_front(text, line, peer)?;
-    put_odds(text, relay, line, peer)
+    put_peer_line(alloc, text, line, peer)?;
+    put_odds(text, relay, line, number, peer)
 }
 
 /// Puts the line of a peer.
-fn put_front(text: &mut Vec<u8>, line: usize, peer: &Peer) -> Result<(), AllocError>
-    ensures { OnOk result (text.new.items
-        ≡ text.old.items ++ terms.peer_front line peer.now) }
-{
-    put_place(text, RELAY, line)?;
-    text.extend_from_slice(b"peer ")?;
-    text.extend_from_slice(peer.name.as_slice())?;
-    text.extend_from_slice(b", identity ")?;
-    text.extend_from_slice(peer.identity.as_slice())?;
-    text.extend_from_slice(b", ")?;
-    put_port(text, peer)
-}
-
-/// Puts where a peer is served, and how many of its connections at once.
-fn put_port(text: &mut Vec<u8>, peer: &Peer) -> Result<(), AllocError>
-    ensures { OnOk result (text.new.items ≡ text.old.items ++ terms.port_text peer.now) }
-{
-    if peer.port == 0 {
-        return text.extend_from_slice(b"no port: it isn't served\n");
-    }
-    let mut number = Buffer::new();
-    text.extend_from_slice(b"port ")?;
-    text.extend_from_slice(number.format(peer.port).as_bytes())?;
-    text.extend_from_slice(b", connections at once: ")?;
-    text.extend_from_slice(number.format(peer.connections).as_bytes())?;
-    text.extend_from_slice(b"\n")
-}
-
-/// Puts what is odd in a peer.
-fn put_odds(text: &mut Vec<u8>, relay: &Relay, line: usize, peer: &Peer) -> Result<(), AllocError>
-    ensures { OnOk result (text.new.items
-        ≡ text.old.items ++ terms.peer_odds relay.now line peer.now) }
-{
-    let name = peer.name.as_slice();
-    put_shared(
-        text,
-        line,
-        name,
-        b"the port is taken: no start serves it beside that of peer ",
-        first_on_port(&relay.peers, peer),
-    )?;
-    put_shared(
-        text,
-        line,
-        name,
-        b"the identity is that of peer ",
-        first_named(&relay.peers, peer.identity.as_slice()),
-    )?;
-    put_own(text, line, peer.identity.as_slice() == relay.own.as_slice())
-}
-
-/// The first peer with the port of this one, where that is one.
-fn first_on_port<'a>(peers: &'a [Peer], peer: &Peer) -> Option<&'a Peer>
-    ensures { option_copied result ≡ terms.first_on_port peers.now peer.now }
-{
-    if peer.port == 0 {
-        return None;
-    }
-    let port = peer.port;
-    peers.iter().find(|other| other.port == port)
-}
-
-/// The first peer with this identity.
-fn first_named<'a>(peers: &'a [Peer], identity: &[u8]) -> Option<&'a Peer>
-    ensures { option_copied result
-        ≡ find (λ other. bytes_eq other.identity identity.now) peers.now }
-{
-    peers
-        .iter()
-        .find(|other| other.identity.as_slice() == identity)
-}
-
-/// Puts what is told of a peer that has something in common with this one, an earlier one.
-fn put_shared(
+#[tactic(auto, unfolding(crate::specs::Peers::peer_told))]
+fn put_peer_line(
+    alloc: Global,
     text: &mut Vec<u8>,
     line: usize,
-    name: &[u8],
-    shared: &[u8],
-    first: Option<&Peer>,
+    peer: &Peer,
 ) -> Result<(), AllocError>
-    ensures { OnOk result (text.new.items ≡ text.old.items
-        ++ terms.shared_odd line name.now shared.now (option_copied first)) }
+    ensures { OnOk result (text.new.items
+        ≡ text.old.items ++ told_line relay_conf line (terms.peer_told peer.now)) }
 {
-    let Some(first) = first else {
-        return Ok(());
-    };
-    if first.name.as_slice() == name {
-        return Ok(());
-    }
-    put_odd_place(text, RELAY, line)?;
-    text.extend_from_slice(shared)?;
-    text.extend_from_slice(first.name.as_slice())?;
-    text.extend_from_slice(b"\n")
+    let port = port_text(alloc, peer)?;
+    put_line(
+        text,
+        RELAY,
+        line,
+        &[
+            b"peer ",
+            peer.name.as_slice(),
+            b", identity ",
+            peer.identity.as_slice(),
+            b", ",
+            &port,
+        ],
+    )
 }
 
-/// Puts what is told of a peer that has the relay's own identity.
-fn put_own(text: &mut Vec<u8>, line: usize, is_own: bool) -> Result<(), AllocError>
-    ensures { OnOk result (text.new.items ≡ text.old.items ++ terms.own_odd line is_own) }
+/// Where a peer is served, and how many of its connections at once.
+#[tactic(auto, unfolding(crate::specs::Peers::port_text))]
+fn port_text(alloc: Global, peer: &Peer) -> Result<Vec<u8>, AllocError>
+    ensures { IfOk result (λ text. text.items ≡ terms.port_text peer.now) }
 {
-    if !is_own {
-        return Ok(());
+    if peer.port == 0 {
+        return Vec::from_slice(alloc, b"no port: it isn't served");
     }
-    put_odd_place(text, RELAY, line)?;
-    text.extend_from_slice(b"the identity is the relay's own\n")
+    let (mut port, mut connections) = (Buffer::new(), Buffer::new());
+    let mut text = Vec::new(alloc);
+    put(
+        &mut text,
+        &[
+            b"port ",
+            port.format(peer.port).as_bytes(),
+            b", connections at once: ",
+            connections.format(peer.connections).as_bytes(),
+        ],
+    )?;
+    Ok(text)
+}
+
+/// Puts what is odd in a peer of this number.
+#[tactic(auto, unfolding(crate::specs::Peers::peer_odds))]
+fn put_odds(
+    text: &mut Vec<u8>,
+    relay: &Relay,
+    line: usize,
+    number: usize,
+    peer: &Peer,
+) -> Result<(), AllocError>
+    ensures { OnOk result (text.new.items
+        ≡ text.old.items ++ terms.peer_odds relay.now line number peer.now) }
+{
+    put_shared(
+        text,
+        RELAY,
+        line,
+        b"the port is taken: no start serves it beside that of peer ",
+        first_on(&relay.peers, number, peer.port),
+    )?;
+    put_shared(
+        text,
+        RELAY,
+        line,
+        b"the identity is that of peer ",
+        first_known_as(&relay.peers, number, peer.identity.as_slice()),
+    )?;
+    put_odd(
+        text,
+        is_own(relay, peer),
+        RELAY,
+        line,
+        &[b"the identity is the relay's own"],
+    )
+}
+
+/// Whether a peer has the relay's own identity.
+fn is_own(relay: &Relay, peer: &Peer) -> bool
+    ensures { result ≡ bytes_eq peer.now.identity relay.now.own }
+{
+    peer.identity.as_slice() == relay.own.as_slice()
+}
+
+/// The name of the first of so many peers that is served on this port.
+#[tactic(auto, unfolding(crate::specs::Peers::first_on))]
+fn first_on(peers: &[Peer], most: usize, port: u16) -> Option<&[u8]>
+    ensures { option_copied result ≡ terms.first_on port (take most peers.now) }
+{
+    if port == 0 {
+        return None;
+    }
+    first_of_port(peers, most, port)
+}
+
+/// The name of the first of so many peers that has this port.
+#[tactic(auto, unfolding(crate::specs::Peers::first_of_port))]
+fn first_of_port(peers: &[Peer], most: usize, port: u16) -> Option<&[u8]>
+    ensures { option_copied result ≡ terms.first_of_port port (take most peers.now) }
+{
+    let first = peers.iter().take(most).find(|other| other.port == port)?;
+    Some(first.name.as_slice())
+}
+
+/// The name of the first of so many peers that has this identity.
+#[tactic(auto, unfolding(crate::specs::Peers::first_known_as))]
+fn first_known_as<'a>(peers: &'a [Peer], most: usize, identity: &[u8]) -> Option<&'a [u8]>
+    ensures { option_copied result ≡ terms.first_known_as identity.now (take most peers.now) }
+{
+    let first = peers
+        .iter()
+        .take(most)
+        .find(|other| other.identity.as_slice() == identity)?;
+    Some(first.name.as_slice())
 }

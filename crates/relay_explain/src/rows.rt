@@ -1,11 +1,12 @@
 //! The entries of storage.conf as its lines say them.
-ghost use Rattle.std.specs.Prelude.{◌≡◌, drop, map, slice_get, unwrap_or, IfOk};
+ghost use Rattle.std.specs.Prelude.{◌≡◌, drop, map, option_map, slice_get, unwrap_or, IfOk};
 ghost use Rattle.std.specs.List.{enumerate_from};
+ghost use Rattle.std.specs.Option.{option_copied};
+ghost use Rattle.relay_conf.specs.StorageLines as conf;
 ghost use Rattle.relay_explain.specs.Entries as terms;
-ghost use Rattle.relay_explain.specs.Lines.{begins, parts_in};
 
 use crate::lines::has_word;
-use line_words::{cut, trim};
+use line_words::trim;
 use relay_conf::Method;
 use std::alloc::{AllocError, Global};
 use std::marker::Model;
@@ -50,7 +51,7 @@ pub(crate) fn rows_of<'a>(
         rows.push(Row {
             number: place + 1,
             line,
-            newsgroups: newsgroups_from(lines, line),
+            newsgroups: newsgroups_in(behind(lines, line)),
             entry,
         })?;
     }
@@ -64,6 +65,17 @@ fn number_at(numbers: &[usize], place: usize) -> usize
     match numbers.get(place) {
         Some(number) => *number,
         None => 0,
+    }
+}
+
+/// What stands behind so many lines.
+fn behind<'a, 'b>(lines: &'b [&'a [u8]], most: usize) -> &'b [&'a [u8]]
+    ensures { result.now ≡ drop most lines.now }
+{
+    if most < lines.len() {
+        &lines[most..]
+    } else {
+        &[]
     }
 }
 
@@ -81,37 +93,34 @@ fn entry_lines(alloc: Global, lines: &[&[u8]]) -> Result<Vec<usize>, AllocError>
     Ok(numbers)
 }
 
-/// The text of the expression that the first line behind so many has with the key `newsgroups`.
-fn newsgroups_from<'a>(lines: &[&'a [u8]], line: usize) -> &'a [u8]
-    ensures { result.now ≡ terms.newsgroups_in (drop line (map (λ line. line.now) lines.now)) }
+/// The text of the expression that the first of these lines says that says one.
+fn newsgroups_in<'a>(lines: &[&'a [u8]]) -> &'a [u8]
+    ensures { result.now ≡ terms.newsgroups_in (map (λ line. line.now) lines.now) }
 {
-    match lines
-        .iter()
-        .skip(line)
-        .find(|line| has_key(line, b"newsgroups"))
-    {
-        Some(line) => value_in(line),
-        None => b"",
-    }
-}
-
-/// Whether a line has this key before its first colon.
-fn has_key(line: &[u8], key: &[u8]) -> bool
-    ensures { result ≡ begins key.now (parts_in line.now) }
-{
-    let (first, _) = cut(trim(line), b':');
-    key == first
-}
-
-/// What follows the first colon of a line up to a second one, without the white space at its ends.
-fn value_in(line: &[u8]) -> &[u8]
-    ensures { result.now ≡ terms.value_in line.now }
-{
-    match cut(trim(line), b':') {
-        (_, None) => b"",
-        (_, Some(rest)) => {
-            let (value, _) = cut(rest, b':');
-            trim(value)
+    for line in lines {
+        if let Some(newsgroups) = newsgroups_on(line) {
+            return newsgroups;
         }
     }
+    b""
+}
+
+/// The text of the expression that a line says, where it has the key `newsgroups`.
+fn newsgroups_on(line: &[u8]) -> Option<&[u8]>
+    ensures { option_copied result ≡ terms.newsgroups_on line.now }
+{
+    let (key, value) = key_and_value(trim(line))?;
+    if key == b"newsgroups".as_slice() {
+        Some(trim(value))
+    } else {
+        None
+    }
+}
+
+/// The octets before the first colon and those behind it, where there is one.
+fn key_and_value(line: &[u8]) -> Option<(&[u8], &[u8])>
+    ensures { option_map (λ two. (two.0.now, two.1.now)) result ≡ conf.key_and_value line.now }
+{
+    let at = line.iter().position(|octet| *octet == b':')?;
+    Some((&line[..at], &line[at + 1..]))
 }

@@ -4,7 +4,8 @@ ghost use Rattle.std.specs.Net.Addr.{ipv4_octets};
 ghost use Rattle.std.specs.Net.Text.{ipv4_text};
 ghost use Rattle.relay_explain.specs.Settings as terms;
 
-use crate::lines::{has_word, put_odd_place, put_place};
+use crate::lines::key_line;
+use crate::text::{put, put_line, put_odd};
 use itoa::Buffer;
 use relay_conf::Relay;
 use std::alloc::{AllocError, Global};
@@ -14,9 +15,10 @@ use std::net::Ipv4Addr;
 pub(crate) const RELAY: &[u8] = b"relay.conf";
 
 /// The seconds that the date of an article may lie ahead.
-const DAY: u64 = 86_400;
+const DAY: u128 = 86_400;
 
 /// Puts what is told of the relay itself.
+#[tactic(auto, unfolding(crate::specs::Settings::settings_text))]
 pub(crate) fn put_settings(
     alloc: Global,
     text: &mut Vec<u8>,
@@ -48,11 +50,11 @@ pub(crate) fn put_settings(
         b"seconds past which an article is too old",
     )?;
     put_remember(text, lines, relay.cutoff, relay.remember)?;
-    put_line_settings(alloc, text, relay, lines)
+    put_ports(alloc, text, relay, lines)
 }
 
 /// Puts what is told of how its ports listen.
-fn put_line_settings(
+fn put_ports(
     alloc: Global,
     text: &mut Vec<u8>,
     relay: &Relay,
@@ -89,6 +91,61 @@ fn address_text(alloc: Global, address: &Ipv4Addr) -> Result<String, AllocError>
     format!(in alloc; "{address}")
 }
 
+/// Puts what is told of how long ids are remembered.
+#[tactic(auto, unfolding(crate::specs::Settings::remember_text))]
+fn put_remember(
+    text: &mut Vec<u8>,
+    lines: &[&[u8]],
+    cutoff: u64,
+    remember: Option<u64>,
+) -> Result<(), AllocError>
+    ensures { OnOk result (text.new.items ≡ text.old.items
+        ++ terms.remember_text (map (λ line. line.now) lines.now) cutoff remember) }
+{
+    match remember {
+        None => text.extend_from_slice(
+            b"relay.conf: remember (no line says it): no message-id is forgotten\n",
+        ),
+        Some(seconds) => put_remembered(text, lines, cutoff, seconds),
+    }
+}
+
+/// Puts for how long ids are remembered.
+fn put_remembered(
+    text: &mut Vec<u8>,
+    lines: &[&[u8]],
+    cutoff: u64,
+    seconds: u64,
+) -> Result<(), AllocError>
+    ensures { OnOk result (text.new.items ≡ text.old.items
+        ++ terms.remembered_text (map (λ line. line.now) lines.now) cutoff seconds) }
+{
+    put_number(
+        text,
+        lines,
+        b"remember",
+        seconds,
+        b"seconds for which a message-id is remembered at least",
+    )?;
+    put_odd(
+        text,
+        is_soon_forgotten(cutoff, seconds),
+        RELAY,
+        key_line(lines, b"remember"),
+        &[
+            b"an article of a message-id that is forgotten may come again: ",
+            b"remember isn't above cutoff by more than 86400",
+        ],
+    )
+}
+
+/// Whether an id may be forgotten while its article would still be taken.
+fn is_soon_forgotten(cutoff: u64, seconds: u64) -> bool
+    ensures { result ≡ terms.is_soon_forgotten cutoff seconds }
+{
+    u128::from(seconds) <= u128::from(cutoff) + DAY
+}
+
 /// Puts a setting that is a number, and what it means.
 fn put_number(
     text: &mut Vec<u8>,
@@ -106,6 +163,7 @@ fn put_number(
 }
 
 /// Puts a setting, its value, and what it means.
+#[tactic(auto, unfolding(crate::specs::Settings::setting_text))]
 fn put_setting(
     text: &mut Vec<u8>,
     lines: &[&[u8]],
@@ -117,91 +175,20 @@ fn put_setting(
         ++ terms.setting_text (map (λ line. line.now) lines.now) key.now value.now
         meaning.now) }
 {
-    put_front(text, said_at(lines, key), key, value)?;
-    text.extend_from_slice(b": ")?;
-    text.extend_from_slice(meaning)?;
-    text.extend_from_slice(b"\n")
-}
-
-/// The number of the first line with this key, where there is one.
-fn said_at(lines: &[&[u8]], key: &[u8]) -> Option<usize>
-    ensures { result ≡ terms.said_at key.now (map (λ line. line.now) lines.now) }
-{
-    match lines.iter().position(|line| has_word(line, key)) {
-        Some(at) => Some(at + 1),
-        None => None,
-    }
-}
-
-/// Puts a setting and its value, at the line that says it or as one that is taken without a line.
-fn put_front(
-    text: &mut Vec<u8>,
-    line: Option<usize>,
-    key: &[u8],
-    value: &[u8],
-) -> Result<(), AllocError>
-    ensures { OnOk result (text.new.items
-        ≡ text.old.items ++ terms.setting_front line key.now value.now) }
-{
-    match line {
-        Some(line) => {
-            put_place(text, RELAY, line)?;
-            put_pair(text, key, value)
-        }
-        None => {
-            text.extend_from_slice(b"relay.conf: ")?;
-            put_pair(text, key, value)?;
-            text.extend_from_slice(b" (no line says it)")
-        }
-    }
-}
-
-/// Puts a key and its value.
-fn put_pair(text: &mut Vec<u8>, key: &[u8], value: &[u8]) -> Result<(), AllocError>
-    ensures { OnOk result (text.new.items
-        ≡ text.old.items ++ key.now ++ codes " " ++ value.now) }
-{
-    text.extend_from_slice(key)?;
-    text.extend_from_slice(b" ")?;
-    text.extend_from_slice(value)
-}
-
-/// Puts what is told of how long ids are remembered.
-fn put_remember(
-    text: &mut Vec<u8>,
-    lines: &[&[u8]],
-    cutoff: u64,
-    remember: Option<u64>,
-) -> Result<(), AllocError>
-    ensures { OnOk result (text.new.items ≡ text.old.items
-        ++ terms.remember_text (map (λ line. line.now) lines.now) cutoff remember) }
-{
-    let Some(seconds) = remember else {
-        return text.extend_from_slice(
-            b"relay.conf: remember (no line says it): no message-id is forgotten\n",
+    let line = key_line(lines, key);
+    if lines.len() < line {
+        return put(
+            text,
+            &[
+                b"relay.conf: ",
+                key,
+                b" ",
+                value,
+                b" (no line says it): ",
+                meaning,
+                b"\n",
+            ],
         );
-    };
-    put_number(
-        text,
-        lines,
-        b"remember",
-        seconds,
-        b"seconds for which a message-id is remembered at least",
-    )?;
-    if seconds.saturating_sub(cutoff) > DAY {
-        return Ok(());
     }
-    put_remember_odd(text, said_at(lines, b"remember"))
-}
-
-/// Puts what is told of ids that are forgotten while their articles would still be taken.
-fn put_remember_odd(text: &mut Vec<u8>, line: Option<usize>) -> Result<(), AllocError>
-    ensures { OnOk result (text.new.items ≡ text.old.items ++ terms.remember_odd line) }
-{
-    let Some(line) = line else {
-        return Ok(());
-    };
-    put_odd_place(text, RELAY, line)?;
-    text.extend_from_slice(b"an article of a message-id that is forgotten may come again: ")?;
-    text.extend_from_slice(b"remember isn't above cutoff by more than 86400\n")
+    put_line(text, RELAY, line, &[key, b" ", value, b": ", meaning])
 }

@@ -1,12 +1,41 @@
 //! What a configuration takes of the machine, added up.
-ghost use Rattle.std.specs.Prelude.{◌≡◌, ◌*◌, ◌^◌, ◌≤◌, length};
+ghost use Rattle.std.specs.Prelude.{◌≡◌, ◌*◌, ◌^◌, ◌≤◌, ◌++◌, length, OnOk};
 ghost use Rattle.relay_explain.specs.Sums as terms;
 
 use crate::buffers::file_octets;
+use crate::text::put;
+use itoa::Buffer;
 use relay_conf::{BufferConf, Config, Feed, Peer};
+use std::alloc::AllocError;
+
+/// Puts what a configuration takes of the machine.
+#[tactic(auto, unfolding(crate::specs::Sums::wants_text))]
+pub(crate) fn put_wants(text: &mut Vec<u8>, config: &Config) -> Result<(), AllocError>
+    ensures { OnOk result (text.new.items ≡ text.old.items ++ terms.wants_text config.now) }
+{
+    let (mut disk, mut memory) = (Buffer::new(), Buffer::new());
+    let (mut connections, mut descriptors) = (Buffer::new(), Buffer::new());
+    put(
+        text,
+        &[
+            b"disk: ",
+            disk.format(disk_of(&config.buffers.buffers)).as_bytes(),
+            b" octets in the files of buffers\nmemory: ",
+            memory.format(memory_of(config)).as_bytes(),
+            b" octets from the start, at most 700000 more for each of ",
+            connections
+                .format(connections_of(&config.relay.peers))
+                .as_bytes(),
+            b" connections, and what ids and articles take\ndescriptors: ",
+            descriptors.format(descriptors_of(config)).as_bytes(),
+            b"\n",
+        ],
+    )
+}
 
 /// The octets that all files of buffers have.
-pub(crate) fn disk_of(buffers: &[BufferConf]) -> u128
+#[tactic(auto, unfolding(crate::specs::Sums::disk_of))]
+fn disk_of(buffers: &[BufferConf]) -> u128
     ensures { result ≡ terms.disk_of buffers.now }
 {
     let mut octets = 0;
@@ -17,6 +46,7 @@ pub(crate) fn disk_of(buffers: &[BufferConf]) -> u128
 }
 
 /// The octets of memory that all buffers take from the start.
+#[tactic(auto, unfolding(crate::specs::Sums::marks_of))]
 fn marks_of(buffers: &[BufferConf]) -> u128
     ensures value { result ≡ terms.marks_of buffers.now }
     ensures most { result ≤ length buffers.now * 2 ^ 37 }
@@ -29,6 +59,7 @@ fn marks_of(buffers: &[BufferConf]) -> u128
 }
 
 /// The octets of memory that all rings take from the start.
+#[tactic(auto, unfolding(crate::specs::Sums::rings_of))]
 fn rings_of(feeds: &[Feed]) -> u128
     ensures value { result ≡ terms.rings_of feeds.now }
     ensures most { result ≤ length feeds.now * 2 ^ 36 }
@@ -41,7 +72,8 @@ fn rings_of(feeds: &[Feed]) -> u128
 }
 
 /// The connections that are served at once.
-pub(crate) fn connections_of(peers: &[Peer]) -> u128
+#[tactic(auto, unfolding(crate::specs::Sums::connections_of))]
+fn connections_of(peers: &[Peer]) -> u128
     ensures value { result ≡ terms.connections_of peers.now }
     ensures most { result ≤ length peers.now * 2 ^ 32 }
 {
@@ -60,7 +92,8 @@ fn served_of(peer: &Peer) -> u32
 }
 
 /// The octets of memory from the start.
-pub(crate) fn memory_of(config: &Config) -> u128
+#[tactic(auto, unfolding(crate::specs::Sums::memory_of))]
+fn memory_of(config: &Config) -> u128
     ensures { result ≡ terms.memory_of config.now }
 {
     let marks = marks_of(&config.buffers.buffers);
@@ -70,7 +103,8 @@ pub(crate) fn memory_of(config: &Config) -> u128
 }
 
 /// The descriptors that are open at once.
-pub(crate) fn descriptors_of(config: &Config) -> u128
+#[tactic(auto, unfolding(crate::specs::Sums::descriptors_of))]
+fn descriptors_of(config: &Config) -> u128
     ensures { result ≡ terms.descriptors_of config.now }
 {
     let buffers = config.buffers.buffers.len() as u128;

@@ -12,7 +12,7 @@ use crate::groups::put_groups;
 use crate::lines::lines_of;
 use crate::peers::put_peers;
 use crate::settings::put_settings;
-use crate::wants::put_wants;
+use crate::sums::put_wants;
 use relay_conf::Config;
 use std::alloc::{AllocError, Global};
 
@@ -55,9 +55,10 @@ fn put_cycbuff(
     ensures { OnOk result (text.new.items ≡ text.old.items
         ++ terms.cycbuff_text config.now (lines_of source.now) found.now) }
 {
-    let lines = lines_of(alloc, source)?;
-    put_buffers(text, config, &lines, found)?;
-    put_groups(text, config, &lines)
+    let all = lines_of(alloc, source)?;
+    let lines = all.as_slice();
+    put_buffers(alloc, text, config, lines, found)?;
+    put_groups(alloc, text, config, lines)
 }
 
 /// Puts what is told of storage.conf, of which this is the text.
@@ -70,8 +71,9 @@ fn put_storage(
     ensures { OnOk result (text.new.items ≡ text.old.items
         ++ entries_text config.now (lines_of source.now)) }
 {
-    let lines = lines_of(alloc, source)?;
-    put_entries(alloc, text, config, &lines)
+    let all = lines_of(alloc, source)?;
+    let lines = all.as_slice();
+    put_entries(alloc, text, config, lines)
 }
 
 /// Puts what is told of relay.conf, of which this is the text.
@@ -84,8 +86,9 @@ fn put_relay(
     ensures { OnOk result (text.new.items ≡ text.old.items
         ++ terms.relay_text config.now (lines_of source.now)) }
 {
-    let lines = lines_of(alloc, source)?;
-    put_settings(alloc, text, &config.relay, &lines)?;
-    put_peers(text, &config.relay, &lines)?;
-    put_feeds(alloc, text, &config.relay, &lines)
+    let all = lines_of(alloc, source)?;
+    let lines = all.as_slice();
+    put_settings(alloc, text, &config.relay, lines)?;
+    put_peers(alloc, text, &config.relay, lines)?;
+    put_feeds(text, &config.relay, lines)
 }

@@ -1,0 +1,61 @@
+-- What is told, or made, of the elements so far, and of one more.
+use Rattle.std.proofs.Common.{◌≡◌, ◌∙◌, ◌≤◌, ◌<◌, ◌+◌, ap, sym, zero-add, arith, ℕ, List}
+use Rattle.std.proofs.Common.{[], ◌∷◌, ◌++◌, length, map, take, append_assoc, append-nil, flat_map}
+use Rattle.std.proofs.Math.ListN.{get_or}
+use Rattle.std.proofs.lemmas.List.{map-append, take_all, take_more}
+use Rattle.std.proofs.lemmas.List.Concat.{flat_map-append}
+use Rattle.std.proofs.lemmas.List.FromFn.{get_or-enumerate_from, length-enumerate_from}
+use Rattle.std.specs.List.{enumerate_from}
+
+-- One numbered element more is the last of them.
+numbered_more : {X : Type 0} (xs : List X) (k : ℕ) (d : X) → k < length xs
+    → take (k + 1) (enumerate_from 0 xs)
+    ≡ take k (enumerate_from 0 xs) ++ (k, get_or xs k d) ∷ []
+numbered_more xs k d there =
+    let all = enumerate_from 0 xs in
+    let listed : k < length all = omega (arith, there, length-enumerate_from 0 xs) in
+    take_more all k (k, d) listed
+    ∙ ap (λ last. take k all ++ last ∷ [])
+    (get_or-enumerate_from 0 xs k (k, d) there
+    ∙ ap (λ number. (number, get_or xs k d)) (zero-add k))
+
+-- What is told of one numbered element more stands behind what is told of the others.
+pub told_more : {X : Type 0} (f : ℕ × X → List ℕ) (xs : List X) (k : ℕ) (d : X)
+    (before had after : List ℕ) → k < length xs
+    → had ≡ before ++ flat_map f (take k (enumerate_from 0 xs))
+    → after ≡ had ++ f (k, get_or xs k d)
+    → after ≡ before ++ flat_map f (take (k + 1) (enumerate_from 0 xs))
+told_more f xs k d before had after there so_far told =
+    let front = flat_map f (take k (enumerate_from 0 xs)) in
+    let more : flat_map f (take (k + 1) (enumerate_from 0 xs)) ≡ front ++ f (k, get_or xs k d) =
+    ap (flat_map f) (numbered_more xs k d there)
+    ∙ flat_map-append f (take k (enumerate_from 0 xs)) ((k, get_or xs k d) ∷ [])
+    ∙ ap (λ last. front ++ last) (append-nil (f (k, get_or xs k d))) in
+    told ∙ ap (λ text. text ++ f (k, get_or xs k d)) so_far
+    ∙ append_assoc before front (f (k, get_or xs k d)) ∙ ap (λ text. before ++ text) (sym more)
+
+-- At the end it is told of all.
+pub told_all : {X : Type 0} (f : ℕ × X → List ℕ) (xs : List X) (k : ℕ) (before had : List ℕ)
+    → length xs ≤ k → had ≡ before ++ flat_map f (take k (enumerate_from 0 xs))
+    → had ≡ before ++ flat_map f (enumerate_from 0 xs)
+told_all f xs k before had end so_far =
+    let past : length (enumerate_from 0 xs) ≤ k = omega (arith, end, length-enumerate_from 0 xs) in
+    so_far ∙ ap (λ front. before ++ flat_map f front) (take_all k (enumerate_from 0 xs) past)
+
+-- What is made of one numbered element more is the last of what is made.
+pub made_more : {X Y : Type 0} (f : ℕ × X → Y) (xs : List X) (k : ℕ) (d : X) (had after : List Y)
+    → k < length xs → had ≡ map f (take k (enumerate_from 0 xs))
+    → after ≡ had ++ f (k, get_or xs k d) ∷ []
+    → after ≡ map f (take (k + 1) (enumerate_from 0 xs))
+made_more f xs k d had after there so_far made =
+    made ∙ ap (λ front. front ++ f (k, get_or xs k d) ∷ []) so_far
+    ∙ sym (ap (map f) (numbered_more xs k d there)
+    ∙ map-append f (take k (enumerate_from 0 xs)) ((k, get_or xs k d) ∷ []))
+
+-- At the end it is made of all.
+pub made_all : {X Y : Type 0} (f : ℕ × X → Y) (xs : List X) (k : ℕ) (had : List Y)
+    → length xs ≤ k → had ≡ map f (take k (enumerate_from 0 xs))
+    → had ≡ map f (enumerate_from 0 xs)
+made_all f xs k had end so_far =
+    let past : length (enumerate_from 0 xs) ≤ k = omega (arith, end, length-enumerate_from 0 xs) in
+    so_far ∙ ap (map f) (take_all k (enumerate_from 0 xs) past)
