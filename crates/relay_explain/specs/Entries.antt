@@ -1,5 +1,6 @@
 -- What is told of the entries of storage.conf, in the order in which they are tried.
-use Rattle.std.specs.Prelude.{ℕ, ◌+◌, ◌&&◌, ◌||◌, not, Bool, true, false, List, [], ◌∷◌, ◌++◌, codes}
+use Rattle.std.specs.Prelude.{ℕ, ◌+◌, ◌&&◌, ◌||◌, not, Bool, true, false, List, [], ◌∷◌, ◌++◌}
+use Rattle.std.specs.Prelude.{codes}
 use Rattle.std.specs.Prelude.{bytes_eq, decimal, drop, filter_map, find, flat_map, length, map}
 use Rattle.std.specs.Prelude.{nat_le, nat_lt, slice_get, unwrap_or, Option, Some, None}
 use Rattle.std.specs.Prelude.{if◌then◌else◌}

@@ -1,7 +1,8 @@
 -- Where the files of a configuration say what they say (docs/FORMATS.md, Configuration), and the
 -- lines that are told of it (docs/PROTOCOL.md, `explain`).
 use Rattle.std.specs.Prelude.{ℕ, ◌+◌, ◌&&◌, Bool, false, List, [], ◌∷◌, ◌++◌, codes, decimal}
-use Rattle.std.specs.Prelude.{bytes_eq, fold, slice_get, unwrap_or, Option, Some, None, if◌then◌else◌}
+use Rattle.std.specs.Prelude.{bytes_eq, fold, slice_get, unwrap_or, Option, Some, None}
+use Rattle.std.specs.Prelude.{if◌then◌else◌}
 use Rattle.std.specs.List.{position_or_len}
 use Rattle.line_words.specs.Parts.{parts}
 use Rattle.line_words.specs.Words.{words}

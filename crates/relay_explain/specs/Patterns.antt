@@ -41,8 +41,8 @@ behind_front c =
     else if c == byte "!" || c == byte "@" then Some Inside
     else None
 
--- where the next octet stands, behind one inside of a pattern: a comma ends it, `\` stands before an
--- octet for itself, `[` before those of a set
+-- where the next octet stands, behind one inside of a pattern: a comma ends it, `\` stands before
+-- an octet for itself, `[` before those of a set
 abbrev pub behind_inside : ℕ → Place
 behind_inside c =
     if c == byte "," then Front

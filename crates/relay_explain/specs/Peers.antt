@@ -6,7 +6,8 @@ use Rattle.std.specs.List.{enumerate_from}
 use Rattle.relay_conf.specs.declared.relay.Feed.{Feed}
 use Rattle.relay_conf.specs.declared.relay.Peer.{Peer}
 use Rattle.relay_conf.specs.declared.settings.Relay.{Relay}
-use Rattle.relay_explain.specs.Lines.{line_at, odd_line, peer_line, shared_line, told_line, words_in}
+use Rattle.relay_explain.specs.Lines.{line_at, odd_line, peer_line, shared_line, told_line}
+use Rattle.relay_explain.specs.Lines.{words_in}
 use Rattle.relay_explain.specs.Patterns.{pattern_odds}
 use Rattle.relay_explain.specs.Settings.{relay_conf}
 

@@ -23,8 +23,8 @@ pub fn taking_is_of_patterns()
         → has_taking text ≡ list_any is_taking expression }
 {}
 
-/// By the text of an expression that is told as one by which no newsgroup matches none does: no name
-/// of an octet or more.
+/// By the text of an expression that is told as one by which no newsgroup matches none does: no
+/// name of an octet or more.
 pub fn untaken_newsgroups_do_not_match()
     ensures { (text : List ℕ) (expression : List Marked) (c : ℕ) (name : List ℕ)
         → IsExpressionText text expression → IsFalse (has_taking text)

@@ -1,8 +1,8 @@
 //! What a configuration does, in words, and what in it is odd (docs/PROTOCOL.md, `explain`).
 //!
-//! It is told of the settings that were read of three texts, and of these texts: the settings say what
-//! is so, the texts on which line. What lies where the buffers' files are to be is told to it; it opens
-//! no file itself.
+//! It is told of the settings that were read of three texts, and of these texts: the settings say
+//! what is so, the texts on which line. What lies where the buffers' files are to be is told to it;
+//! it opens no file itself.
 #![tactic(auto)]
 
 mod buffers;

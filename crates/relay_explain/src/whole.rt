@@ -24,9 +24,9 @@ pub struct Sources {
     pub relay: Vec<u8>,
 }
 
-/// The text of what a configuration does, which these texts say, and of what is odd in it; `found` has
-/// what lies where the file of each buffer is to be, in the order of the buffers. The error is want of
-/// memory.
+/// The text of what a configuration does, which these texts say, and of what is odd in it; `found`
+/// has what lies where the file of each buffer is to be, in the order of the buffers. The error is
+/// want of memory.
 pub fn explain(
     alloc: Global,
     config: &Config,
