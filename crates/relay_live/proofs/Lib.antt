@@ -1,5 +1,16 @@
 pub mod Accounts
+mod Begins
 mod Blamed
+mod Each
+mod Entries
+mod Fills
+mod Kept
 mod Lists
+mod OpenedBuffers
+mod Rest
+mod Shuts
+mod StartedBuffers
+mod StartedRelay
+mod Tells
 pub mod Sessions
 pub mod Sent

@@ -1,9 +1,15 @@
+pub mod Alone
+pub mod Beginning
 pub mod Counts
 pub mod Ends
 pub mod Figures
 pub mod Holding
+pub mod Locking
 pub mod Making
 pub mod Numbers
 pub mod Rounds
 pub mod Sessions
 pub mod Slots
+pub mod Starting
+pub mod Stopping
+pub mod Telling

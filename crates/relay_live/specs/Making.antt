@@ -26,6 +26,11 @@ abbrev pub remember_in : {S J L : Type 0} {s : blocks.Ghosts S} {j : archives.Gh
     → Shared S J L s j → Option ℕ
 remember_in shared = shared.remember
 
+-- the number of the last stop; before the first it is 0
+abbrev pub last_stop : {S J L : Type 0} {s : blocks.Ghosts S} {j : archives.Ghosts J}
+    → Shared S J L s j → ℕ
+last_stop shared = shared.stop
+
 -- how many ends there are
 abbrev pub ends_in : {S J L : Type 0} {s : blocks.Ghosts S} {j : archives.Ghosts J}
     → Shared S J L s j → ℕ

@@ -12,8 +12,7 @@ use cyc_token::Token;
 use id_history::{Counts, Offer, Shard, Take};
 use live_settle::{CountedDesk, Posted};
 use nntp_text::MsgId;
-use std::alloc::{AllocError, Global};
-use std::hash::RandomState;
+use std::alloc::AllocError;
 use std::sync::ledger::{Ledger, Share};
 use std::sync::{Mutex, Wait};
 
@@ -27,12 +26,18 @@ pub(crate) struct Claims {
 }
 
 impl Claims {
-    /// Every message-id is unknown.
-    pub(crate) fn new(alloc: Global, hasher: RandomState) -> Claims {
+    /// The shard, behind its lock.
+    pub(crate) fn over(shard: Shard) -> Claims {
         Claims {
-            shard: Mutex::new(Shard::new(alloc, hasher)),
+            shard: Mutex::new(shard),
             ended: EventCount::new(),
         }
+    }
+
+    /// The shard, which nobody waits for any more.
+    pub(crate) fn into_shard(self) -> Shard {
+        let Claims { shard, ended: _ } = self;
+        shard.into_inner()
     }
 
     pub(crate) fn offer<R: Wait>(

@@ -1,9 +1,8 @@
 //! The numbers of sessions.
 mod last;
 
-use last::Last;
-pub(crate) use last::Number;
-use std::sync::ledger::{Book, Ledger};
+pub(crate) use last::{Last, Number};
+use std::sync::ledger::Ledger;
 use std::sync::{Mutex, Wait};
 
 /// Gives each session of a relay a number of its own: the one that was drawn last, behind its lock.
@@ -13,11 +12,17 @@ pub(crate) struct Numbers<L: Ledger> {
 }
 
 impl<L: Ledger> Numbers<L> {
-    /// No number is drawn yet in the relay of this book.
-    pub(crate) fn new(book: &Book<L>) -> Numbers<L> {
+    /// They go on above the one that was drawn last.
+    pub(crate) fn over(last: Last<L>) -> Numbers<L> {
         Numbers {
-            last: Mutex::new(Last::new(book)),
+            last: Mutex::new(last),
         }
+    }
+
+    /// The one that was drawn last.
+    pub(crate) fn into_last(self) -> Last<L> {
+        let Numbers { last } = self;
+        last.into_inner()
     }
 
     /// Draws the number one above the last, none after the greatest.

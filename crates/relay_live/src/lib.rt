@@ -7,25 +7,33 @@
 //! `serve_all` runs all ends and writers in threads of their own. `expire_round` forgets ids.
 #![tactic(auto)]
 
+mod alone;
 mod claims;
+mod desks;
 mod drawing;
 mod end;
 mod fetching;
+mod filling;
 mod forgetting;
 mod holding;
 mod keeper;
 mod lending;
+mod locking;
 mod looking;
 mod making;
 mod running;
 mod shared;
 mod sharing;
 mod slot;
+mod started;
+mod starting;
+mod stopping;
+mod telling;
 
 pub use end::End;
 pub use forgetting::{Round, expire_round};
 pub use keeper::Keeper;
 pub use lending::Lends;
 pub use running::{Counted, Door, LiveError, serve_all};
-pub use shared::Shared;
+pub use shared::{Shared, Unshut};
 pub use slot::{Answer, Slot};

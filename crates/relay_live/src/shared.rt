@@ -2,19 +2,25 @@
 ghost use Rattle.std.specs.Prelude.{◌≡◌, ◌≤◌, length};
 ghost use Rattle.relay_model.specs.Terms.{shard_count};
 
+use crate::alone::Alone;
 use crate::claims::Claims;
 use crate::drawing::{Number, Numbers};
 use crate::forgetting::Rounds;
-use crate::making::{locked, new_buffers, new_desk, new_shards, new_slots};
+use crate::locking::{
+    Beside, Locks, Parts, free_buffers, free_racks, free_shards, lock_buffers, lock_racks,
+    lock_shards,
+};
 use crate::slot::Slot;
-use block_shelf::{BeginError, Rack, new_racks, unbegun};
+use crate::stopping::Unstopped;
+use block_shelf::{BeginError, Rack, StopFault};
 use cyc_block::BlockStore;
 use live_fates::Told;
 use live_settle::CountedDesk;
-use live_store::{Archive, NumberedBuffer};
+use live_store::{Archive, NumberedBuffer, Register};
 use nntp_text::MsgId;
 use relay_conf::Config;
-use std::alloc::Global;
+use relay_core::{NotStarted, Stopped, refused};
+use std::alloc::{AllocError, Global};
 use std::random::RandomSource;
 use std::sync::ledger::{Book, Ledger};
 use std::sync::{Mutex, Wait};
@@ -32,24 +38,44 @@ pub struct Shared<S: BlockStore + Drop, J: Archive, L: Ledger> {
     pub(crate) racks: Vec<Mutex<Rack>>,
     pub(crate) slots: Vec<Slot<J>>,
     numbers: Numbers<L>,
+    /// The number of the last stop; before the first it is 0.
+    stop: u64,
     /// For how many seconds ids are remembered; without it for good.
     pub(crate) remember: Option<u64>,
     /// What the rounds of forgetting go by, one after the other.
     pub(crate) rounds: Mutex<Rounds>,
     ghost sixteen: { length shards.items ≡ shard_count },
     ghost few: { length buffers.items ≤ 256 },
+    ghost few_racks: { length racks.items ≤ 256 },
+    ghost few_feeds: { feeds ≤ 1024 },
+}
+
+/// Why a relay isn't stopped, in the order of trial; want of memory comes last before the devices.
+#[derive(Drop)]
+pub enum Unshut<S: BlockStore + Drop, J: Archive, L: Ledger> {
+    /// A message-id is being stored, or a write is open in a buffer. The relay goes on, and nothing
+    /// was written.
+    NotIdle(Shared<S, J, L>),
+    /// Memory was refused. The relay goes on, and nothing was written.
+    Memory(Shared<S, J, L>),
+    /// The device of the buffer of this number failed. All stores; heads may say that they are
+    /// closed.
+    Device(u8, Vec<S>),
 }
 
 impl<S: BlockStore + Drop, J: Archive, L: Ledger> Shared<S, J, L> {
     ghost use Rattle.std.specs.Prelude.{◌≡◌, true, map, length, All, IfErr, IfOk};
     ghost use Rattle.block_shelf.specs.Filling.{IsBeginRefusal};
     ghost use Rattle.relay_live.specs.Making.{buffers_in, groups_in, feeds_in, ends_in};
-    ghost use Rattle.relay_live.specs.Making.{remember_in};
+    ghost use Rattle.relay_live.specs.Locking.{HasLockRoom, HasPartRoom};
+    ghost use Rattle.relay_live.specs.Making.{last_stop, remember_in};
+    ghost use Rattle.relay_live.specs.Starting.{HasStopOf, IsNotStarted, WereStopped};
+    ghost use Rattle.relay_live.specs.Stopping.{AreShutWith, IsUnshut};
+    ghost use Rattle.relay_core.specs.Stopping.{next_stop};
 
     /// What so many ends share over these stores, the i-th for buffer i, before anything has come.
     /// All memory that no message-id takes is taken here. Each buffer's head block says that it may
     /// change.
-    #[tactic(auto, using(block_shelf::proofs::HostFaults::host_refuses))]
     pub fn new(
         rt: &impl RandomSource,
         alloc: Global,
@@ -73,27 +99,164 @@ impl<S: BlockStore + Drop, J: Archive, L: Ledger> Shared<S, J, L> {
             remember_in shared ≡ config.now.relay.remember) }
         ensures refusal { IfErr result (IsBeginRefusal ⟦<S as BlockStore>⟧ stores.items) }
     {
-        let numbers = Numbers::new(&book);
-        let shards = new_shards(rt, alloc)?;
-        let desk = new_desk(alloc, config, book)?;
-        let racks = locked(alloc, new_racks(alloc, &config.buffers)?)?;
-        let slots = new_slots(alloc, ends)?;
-        let buffers = match new_buffers(alloc, stores) {
-            Ok(buffers) => buffers,
-            Err(error) => return Err(unbegun(error)),
+        let locks = Locks::new(alloc, stores.len(), config.buffers.groups.len())?;
+        let beside = Beside::new(alloc, ends)?;
+        let alone = Alone::new(rt, alloc, config, stores, book)?;
+        Ok(Shared::over(alone, locks, beside))
+    }
+
+    /// What so many ends share over the stores of a relay that was stopped, the i-th for buffer i,
+    /// from the text of its history, with the register's record for each live article. It is
+    /// refused in the order of StopFault, but that a text that can't be read comes before a store is
+    /// called; want of memory may come in place of each. All stores come back then, in their order,
+    /// unwritten but for a Device of the last: the heads are opened once all else is done.
+    pub fn start<R: RandomSource + Wait>(
+        rt: &R,
+        alloc: Global,
+        config: &Config,
+        register: &Register,
+        stores: Vec<S>,
+        text: &[u8],
+        book: Book<L>,
+        ends: usize,
+    ) -> Result<Shared<S, J, L>, NotStarted<S>>
+        requires register { register.now ≡ J.register }
+        requires stores { map (λ store. length (S.blocks store)) stores.items
+            ≡ map (λ buffer. buffer.blocks) config.now.buffers.buffers.items }
+        requires honest { J.trusted ≡ true → All S.honest stores.items }
+        requires stopped { J.trusted ≡ true → WereStopped S.BlockStore stores.items }
+        requires book { book.total ≡ 0 }
+        ensures buffers { IfOk result (λ shared.
+            buffers_in shared ≡ length config.now.buffers.buffers.items) }
+        ensures groups { IfOk result (λ shared.
+            groups_in shared ≡ length config.now.buffers.groups.items) }
+        ensures feeds { IfOk result (λ shared.
+            feeds_in shared ≡ length config.now.relay.feeds.items) }
+        ensures ends { IfOk result (λ shared. ends_in shared ≡ ends) }
+        ensures remember { IfOk result (λ shared.
+            remember_in shared ≡ config.now.relay.remember) }
+        ensures history { IfOk result (HasStopOf config.now text.now) }
+        ensures refused { IfErr result
+            (IsNotStarted S.BlockStore config.now stores.items text.now) }
+    {
+        let Ok(locks) = Locks::new(alloc, stores.len(), config.buffers.groups.len()) else {
+            return Err(NotStarted::Refused(refused(stores, StopFault::Memory)));
         };
-        let rounds = Rounds::new(alloc)?;
-        Ok(Shared {
+        let Ok(beside) = Beside::new(alloc, ends) else {
+            return Err(NotStarted::Refused(refused(stores, StopFault::Memory)));
+        };
+        match Alone::start(rt, alloc, config, register, stores, text, book) {
+            Ok(alone) => Ok(Shared::over(alone, locks, beside)),
+            Err(not_started) => Err(not_started),
+        }
+    }
+
+    /// Stops a relay that no thread shares any more: the stores of its buffers, and the text of its
+    /// history. Where a message-id is being stored or a write is open it isn't.
+    pub fn shut(self, alloc: Global) -> Result<Stopped<S>, Unshut<S, J, L>>
+        // There is a store of each buffer, which holds one as stopped at the next stop; where stores
+        // are trusted, each live text in it is that of a record.
+        ensures stores { IfOk result (λ stopped.
+            length stopped.stores.items ≡ buffers_in self) }
+        ensures known { IfOk result (λ stopped. J.trusted ≡ true → AreShutWith S.BlockStore
+            J.register (next_stop (last_stop self)) stopped.stores.items) }
+        ensures refused { IfErr result (IsUnshut self) }
+    {
+        let Ok((parts, locks)) = self.room(alloc) else {
+            return Err(Unshut::Memory(self));
+        };
+        let (alone, beside) = self.into_alone(parts);
+        match alone.shut(alloc) {
+            Ok(stopped) => Ok(stopped),
+            Err(Unstopped::NotIdle(alone)) => {
+                Err(Unshut::NotIdle(Shared::over(alone, locks, beside)))
+            }
+            Err(Unstopped::Memory(alone)) => {
+                Err(Unshut::Memory(Shared::over(alone, locks, beside)))
+            }
+            Err(Unstopped::Device(number, stores)) => Err(Unshut::Device(number, stores)),
+        }
+    }
+
+    /// Room for its parts without their locks, and for their locks again.
+    fn room(&self, alloc: Global) -> Result<(Parts<S, J>, Locks<S, J>), AllocError>
+        ensures parts { IfOk result (λ room.
+            HasPartRoom (buffers_in self.now) (groups_in self.now) room.0) }
+        ensures locks { IfOk result (λ room.
+            HasLockRoom (buffers_in self.now) (groups_in self.now) room.1) }
+    {
+        let parts = Parts::new(alloc, self.buffers.len(), self.racks.len())?;
+        let locks = Locks::new(alloc, self.buffers.len(), self.racks.len())?;
+        Ok((parts, locks))
+    }
+
+    /// These parts, each behind its lock, put where there is room for them.
+    fn over(alone: Alone<S, J, L>, locks: Locks<S, J>, beside: Beside<J>) -> Shared<S, J, L>
+        requires { HasLockRoom (length alone.buffers.items) (length alone.racks.items) locks }
+        ensures buffers { buffers_in result ≡ length alone.buffers.items }
+        ensures groups { groups_in result ≡ length alone.racks.items }
+        ensures feeds { feeds_in result ≡ alone.feeds }
+        ensures ends { ends_in result ≡ length beside.slots.items }
+        ensures remember { remember_in result ≡ alone.remember }
+        ensures stop { last_stop result ≡ alone.stop }
+    {
+        let Alone {
             shards,
+            desk,
+            feeds,
+            buffers,
+            racks,
+            last,
+            stop,
+            remember,
+        } = alone;
+        Shared {
+            shards: lock_shards(shards, locks.shards),
             desk: Mutex::new(desk),
-            feeds: config.relay.feeds.len(),
+            feeds,
+            buffers: lock_buffers(buffers, locks.buffers),
+            racks: lock_racks(racks, locks.racks),
+            slots: beside.slots,
+            numbers: Numbers::over(last),
+            stop,
+            remember,
+            rounds: beside.rounds,
+        }
+    }
+
+    /// Its parts without their locks, put where there is room for them, and what stood beside these.
+    fn into_alone(self, parts: Parts<S, J>) -> (Alone<S, J, L>, Beside<J>)
+        requires { HasPartRoom (buffers_in self) (groups_in self) parts }
+        ensures buffers { length result.0.buffers.items ≡ buffers_in self }
+        ensures groups { length result.0.racks.items ≡ groups_in self }
+        ensures feeds { result.0.feeds ≡ feeds_in self }
+        ensures ends { length result.1.slots.items ≡ ends_in self }
+        ensures remember { result.0.remember ≡ remember_in self }
+        ensures stop { result.0.stop ≡ last_stop self }
+    {
+        let Shared {
+            shards,
+            desk,
+            feeds,
             buffers,
             racks,
             slots,
             numbers,
-            remember: config.relay.remember,
-            rounds: Mutex::new(rounds),
-        })
+            stop,
+            remember,
+            rounds,
+        } = self;
+        let alone = Alone {
+            shards: free_shards(shards, parts.shards),
+            desk: desk.into_inner(),
+            feeds,
+            buffers: free_buffers(buffers, parts.buffers),
+            racks: free_racks(racks, parts.racks),
+            last: numbers.into_last(),
+            stop,
+            remember,
+        };
+        (alone, Beside { slots, rounds })
     }
 
     /// Draws the number of a session: one above the last, from 1 on, none after the greatest.

@@ -25,7 +25,7 @@ impl<L: Ledger> Number<L> {
 
 /// The number that was drawn last, 0 before the first.
 #[derive(Drop)]
-pub(super) struct Last<L: Ledger> {
+pub(crate) struct Last<L: Ledger> {
     number: u64,
     relay: PhantomData<Book<L>>,
 }
@@ -35,17 +35,31 @@ impl<L: Ledger> Last<L> {
 
     /// No number is drawn yet. The book of the relay is shown, and nobody has that once the desk
     /// keeps it: so no other `Last` is made later.
-    pub(super) fn new(_book: &Book<L>) -> Last<L>
+    pub(crate) fn new(book: &Book<L>) -> Last<L>
         ensures { last_of result ≡ 0 }
     {
+        Last::after(book, 0)
+    }
+
+    /// This number was drawn last, in a relay that goes on; its book is shown, as to `new`.
+    pub(crate) fn after(_book: &Book<L>, number: u64) -> Last<L>
+        ensures { last_of result ≡ number }
+    {
         Last {
-            number: 0,
+            number,
             relay: PhantomData,
         }
     }
 
+    /// The number that was drawn last.
+    pub(crate) fn number(&self) -> u64
+        ensures { result ≡ last_of self.now }
+    {
+        self.number
+    }
+
     /// One above the last, which is the last from now on; none after the greatest of 64 bits.
-    pub(super) fn next(&mut self) -> Option<Number<L>>
+    pub(crate) fn next(&mut self) -> Option<Number<L>>
         ensures some { IfSome result (λ number. (number_of number ≡ last_of self.old + 1)
             × (last_of self.new ≡ number_of number)) }
         ensures none { (result ≡ None) ↔ (last_of self.old ≡ 2 ^ 64 - 1) }

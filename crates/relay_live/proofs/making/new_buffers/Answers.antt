@@ -1,29 +1,63 @@
-use Rattle.std.proofs.Common.{◌∙◌, ◌++◌, ◌∷◌, [], ap, append_assoc, arith, rules, sym}
-use Rattle.std.proofs.lemmas.List.{length-append}
+use Rattle.std.proofs.Common.{◌≡◌, ◌∙◌, ◌++◌, ◌∷◌, [], ap, append_assoc, arith, length, rules, subst, sym}
 use Rattle.std.proofs.lemmas.List.Elements.{All-rest}
 use Rattle.std.specs.Vec.Iter.{into_iter_items}
+use Rattle.std.proofs.lemmas.List.{nil_from_length}
+use Rattle.block_shelf.proofs.EachLemmas.{all_through, none_each, one_more_each}
+use Rattle.block_shelf.specs.Each.{AreEach}
 use Rattle.relay_live.proofs.Blamed.{blamed_at}
+use Rattle.relay_live.specs.Beginning.{IsNewOver}
 use Rattle.relay_live.proofs.making.new_buffers.Goals as goal
 
-pub loop-store-preserved : goal.loop-store-preserved
-loop-store-preserved g c = record {
-  all = append_assoc c.loop-store.yielded (c.in-Some.store ∷ []) (into_iter_items c.next.new.self)
-      ∙ ap (λ rest. c.loop-store.yielded ++ rest) (sym c.in-Some.ensures.steps.0)
-      ∙ c.loop-store.invariant.all;
-  so_far = omega (
-    arith,
-    c.push_reserved.ensures.len,
-    c.loop-store.buffers.ok,
-    c.push_reserved.new.self.ok,
-    c.loop-store.invariant.so_far,
-    length-append c.loop-store.yielded (c.in-Some.store ∷ []),
-  );
+pub loop-store-init : goal.loop-store-init
+loop-store-init g c = record {
+  all = search rules;
+  over = subst (AreEach IsNewOver []) (sym c.in_ok-buffers.ensures.items) (none_each IsNewOver);
   count = search rules;
   room = search rules;
-  honest = λ trusted. All-rest g.S.BlockStore.honest c.in-Some.store
-      (into_iter_items c.next.new.self) (into_iter_items c.loop-store.store-iterator)
-      c.in-Some.ensures.steps.0 (c.loop-store.invariant.honest trusted);
+  honest = search rules;
 }
+
+-- one buffer more
+pub loop-store-preserved : goal.loop-store-preserved
+loop-store-preserved g c =
+    let here : c.len-number.result ≡ length c.loop-store.yielded = omega (
+      arith,
+      c.len-number.ensures,
+      c.loop-store.buffers.ok,
+      c.loop-store.invariant.over.count,
+    ) in
+    record {
+      all = append_assoc c.loop-store.yielded (c.in-Some.store ∷ []) (into_iter_items c.next.new.self)
+          ∙ ap (λ rest. c.loop-store.yielded ++ rest) (sym c.in-Some.ensures.steps.0)
+          ∙ c.loop-store.invariant.all;
+      over = subst (AreEach IsNewOver (c.loop-store.yielded ++ c.in-Some.store ∷ []))
+          (sym c.push_reserved.ensures.items)
+          (one_more_each IsNewOver c.loop-store.yielded c.loop-store.buffers.items c.in-Some.store
+          c.in-Ok.buffer c.loop-store.invariant.over
+          (subst (λ n. IsNewOver n c.in-Some.store c.in-Ok.buffer) here (record {
+            agrees = c.in-Ok.ensures.new;
+            blocks = c.in-Ok.ensures.blocks;
+            calls = c.in-Ok.ensures.calls;
+            failures = c.in-Ok.ensures.failures;
+            free = c.in-Ok.ensures.free;
+            unnumbered = c.in-Ok.ensures.numbers;
+          })));
+      count = search rules;
+      room = search rules;
+      honest = λ trusted. All-rest g.S.BlockStore.honest c.in-Some.store
+          (into_iter_items c.next.new.self) (into_iter_items c.loop-store.store-iterator)
+          c.in-Some.ensures.steps.0 (c.loop-store.invariant.honest trusted);
+    }
+
+-- all stores were gone through
+pub returns-clause-over : goal.returns-clause-over
+returns-clause-over g c =
+    subst (λ stores. AreEach IsNewOver stores c.loop-store.buffers.items)
+    (all_through c.loop-store.yielded c.loop-store.store-iterator.rest.items c.args.stores.items
+    c.loop-store.invariant.all
+    (nil_from_length c.loop-store.store-iterator.rest.items
+    (omega (arith, c.in-None.ensures.steps.0, c.loop-store.store-iterator.rest.ok))))
+    c.loop-store.invariant.over
 
 -- the store that is blamed stands behind those so far
 pub returns-in-Err-clause-refusal : goal.returns-in-Err-clause-refusal
@@ -32,5 +66,10 @@ returns-in-Err-clause-refusal g c =
     (into_iter_items c.next.new.self) c.args.stores.items c.len-number.result c.unformatted.result
     (ap (λ rest. c.loop-store.yielded ++ rest) (sym c.in-Some.ensures.steps.0)
     ∙ c.loop-store.invariant.all)
-    (omega (arith, c.len-number.ensures, c.loop-store.buffers.ok, c.loop-store.invariant.so_far))
+    (omega (
+      arith,
+      c.len-number.ensures,
+      c.loop-store.buffers.ok,
+      c.loop-store.invariant.over.count,
+    ))
     (c.unformatted.ensures c.in-Some.store c.in-Err.ensures.refusal)

@@ -1,13 +1,16 @@
 use Rattle.std.proofs.Common.{◌≡◌, ◌++◌, ◌+◌, ◌≤◌, true, All, length}
 use Rattle.std.specs.Prelude.{vec_capacity}
 use Rattle.std.specs.Vec.Iter.{into_iter_len, into_iter_items}
+use Rattle.block_shelf.specs.Each.{AreEach}
+use Rattle.relay_live.specs.Beginning.{IsNewOver}
 use Rattle.relay_live.proofs.making.new_buffers.Given as goal
 
--- a buffer for each store so far, which all stores begin with, room for the others, and these are honest where they are trusted
+-- a new buffer over each store so far, which all stores begin with, room for the others, and these
+-- are honest where they are trusted
 abbrev pub invariant-loop-store : goal.invariant-loop-store
 invariant-loop-store g l = record {
   all : l.yielded ++ into_iter_items l.store-iterator ≡ l.fn.stores.items;
-  so_far : length l.buffers.items ≡ length l.yielded;
+  over : AreEach IsNewOver l.yielded l.buffers.items;
   count : length l.buffers.items + into_iter_len l.store-iterator ≡ length l.fn.stores.items;
   room : length l.fn.stores.items ≤ vec_capacity l.buffers;
   honest : g.J.Archive.trusted ≡ true

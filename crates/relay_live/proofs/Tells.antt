@@ -1,0 +1,64 @@
+-- The text of a history tells each state that the parts of a relay keep.
+use Rattle.std.proofs.Common.{◌≡◌, ◌∙◌, ℕ, List, ap, map, Some, subst, sym}
+use Rattle.std.proofs.lemmas.List.{length-map}
+use Rattle.block_shelf.proofs.Placed.{few_members}
+use Rattle.block_shelf.specs.Each.{AreEach}
+use Rattle.block_shelf.specs.Starting.{RacksKeep}
+use Rattle.block_shelf.specs.Stopping.{ArePositions, TellsPosition}
+use Rattle.block_shelf.specs.declared.shelf.Rack.{Rack}
+use Rattle.cyc_block.specs.declared.store.BlockStore as blocks
+use Rattle.feed_queue.specs.Left.{AreLeft}
+use Rattle.history_text.specs.History.{Fits, history_octets}
+use Rattle.history_text.specs.History as texts
+use Rattle.history_text.specs.Views.{feed_view, id_view}
+use Rattle.history_text.specs.declared.kept.KeptFeed.{KeptFeed}
+use Rattle.history_text.specs.declared.kept.KeptId.{KeptId}
+use Rattle.id_history.specs.Lasting.{AreLasting}
+use Rattle.live_settle.specs.Desks.{desk_of}
+use Rattle.live_store.specs.declared.record.Archive as archives
+use Rattle.news_terms.specs.Settings.{AreSound}
+use Rattle.relay_core.specs.Agreement.{ring_sizes}
+use Rattle.relay_live.specs.Alone.{newest_in}
+use Rattle.relay_live.specs.Stopping.{TellsHistory}
+use Rattle.relay_live.specs.Telling.{AreEntries, AreKeptFeeds}
+use Rattle.relay_live.specs.declared.alone.Alone.{Alone}
+use Rattle.relay_model.specs.Terms.{FeedTerms, Terms}
+
+-- the positions that racks tell are those of the groups
+pub told_racks : (w : Terms) (begun : ℕ → List ℕ) (racks : List Rack) (positions : List ℕ)
+    → AreSound w.buffers w.groups → RacksKeep racks w begun → AreEach TellsPosition racks positions
+    → ArePositions w.groups begun positions
+told_racks w begun racks positions sound keeps told = record {
+  count = told.count ∙ keeps.count;
+  each = λ h group at.
+      let had = keeps.each h group at in
+      let one = told.each h had.code had.there in
+      one.there
+      ∙ ap Some
+      (one.belongs group (begun h) had.keeps (few_members w.buffers w.groups sound h group at));
+}
+
+-- the history that is made of the parts is that of each state
+pub tells_of : {S J L : Type 0} {s : blocks.Ghosts S} {j : archives.Ghosts J}
+    (alone : Alone S J L s j) (stop : ℕ) (text : List ℕ) (kept : texts.Kept)
+    (feeds : List KeptFeed) (ids : List KeptId) → Fits kept → text ≡ history_octets kept
+    → kept.stop ≡ stop → kept.newest ≡ newest_in alone
+    → AreEach TellsPosition alone.racks.items kept.positions → kept.feeds ≡ map feed_view feeds
+    → AreKeptFeeds (desk_of alone.desk) alone.feeds feeds → kept.ids ≡ map id_view ids
+    → AreEntries alone.shards.items ids → TellsHistory alone stop text
+tells_of alone stop text kept feeds ids fits written stops newest positions feeds_are feeds_left
+    ids_are ids_left w σ beside = record {
+      kept = kept;
+      fits = fits;
+      written = written;
+      history = record {
+        stop_is = stops;
+        newest = newest ∙ beside.newest;
+        positions = told_racks w σ.begun alone.racks.items kept.positions beside.sound beside.racks
+            positions;
+        feeds = subst (λ fs. AreLeft fs (ring_sizes w) σ.feed) (sym feeds_are)
+            (feeds_left (ring_sizes w) σ.feed beside.feeds
+            (length-map w.feeds (λ (feed : FeedTerms). feed.ring) ∙ sym beside.feed_count));
+        ids = subst (λ xs. AreLasting xs σ.claim) (sym ids_are) (ids_left σ.claim beside.claims);
+      };
+    }

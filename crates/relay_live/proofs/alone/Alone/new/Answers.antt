@@ -1,0 +1,42 @@
+use Rattle.std.proofs.Common.{◌∙◌, arith, refl}
+use Rattle.article_verdict.proofs.FewFeeds.{few_feeds}
+use Rattle.block_shelf.proofs.NewShelf.{same_count}
+use Rattle.relay_live.proofs.Begins.{keeps_nothing}
+use Rattle.relay_live.proofs.alone.Alone.new.Goals as goal
+
+-- as many buffers as stores, and so no more than a configuration has
+pub invariant_of-result : goal.invariant_of-result
+invariant_of-result g c = record {
+  sixteen = c.in_ok-shards.ensures.sixteen;
+  few = omega (
+    arith,
+    c.in-Ok.ensures.over.count,
+    same_count g.S.BlockStore c.args.config.now.buffers c.args.stores.items c.requires.stores,
+    c.args.config.now.buffers.few_buffers,
+  );
+  few_racks = omega (arith, c.in_ok-racks.ensures.count, c.args.config.now.buffers.few_groups);
+  few_feeds = omega (arith, few_feeds c.args.config.now, c.len.ensures, c.args.config.now.relay.feeds.ok);
+}
+
+-- each part is as it is before anything has come
+pub returns-clause-begins : goal.returns-clause-begins
+returns-clause-begins g c =
+    record {
+      claims = c.in_ok-shards.ensures.unknown;
+      feeds = c.in_ok-desk.ensures;
+      racks = c.in_ok-racks.ensures.racks;
+      rack_count = c.in_ok-racks.ensures.count;
+      buffers = c.in-Ok.ensures.over;
+      newest = c.new-last.ensures;
+      stop_is = refl;
+      feed_count = c.len.ensures ∙ c.args.config.now.relay.feeds.ok.0;
+      remembers = refl;
+      keeps = λ honest. keeps_nothing c.args.config.now c.args.stores.items _ c.requires.stores
+          c.in-Ok.ensures.over c.in_ok-shards.ensures.unknown c.in_ok-desk.ensures
+          c.in_ok-racks.ensures.racks c.in_ok-racks.ensures.count c.new-last.ensures
+          (c.len.ensures ∙ c.args.config.now.relay.feeds.ok.0) honest;
+    }
+
+-- what the making of the buffers blames is blamed
+pub returns-in-Err-clause-refusal : goal.returns-in-Err-clause-refusal
+returns-in-Err-clause-refusal g c = c.unbegun.ensures c.args.stores.items c.in-Err.ensures.refusal

@@ -1,0 +1,28 @@
+use Rattle.std.proofs.Common.{◌≡◌, ◌∙◌, ◌<◌, length, rules}
+use Rattle.std.proofs.lemmas.List.{take_at}
+use Rattle.std.proofs.lemmas.List.Sorted.{length_permutation}
+use Rattle.relay_live.proofs.Entries.{all_left, left_more, none_left}
+use Rattle.relay_live.proofs.telling.entries_of.Goals as goal
+
+pub loop-shard-init : goal.loop-shard-init
+loop-shard-init c = none_left c.args.shards.now c.new-entries.result.items c.new-entries.ensures.items
+
+-- the shard adds the ids of its own
+pub loop-shard-preserved : goal.loop-shard-preserved
+loop-shard-preserved c =
+    let all = c.args.shards.now in
+    let k = c.loop-shard.shard-index in
+    let within : k < length all = search rules in
+    left_more all k c.shard-item.result c.loop-shard.entries.items c.gather.new.list.items within
+    c.shard-item.is c.in_ok-gather.ensures.gathers c.loop-shard.invariant
+
+-- after the last shard these are all, in order
+pub returns : goal.returns
+returns c =
+    let past : c.loop-shard.shard-index ≡ 16 = search rules in
+    all_left c.args.shards.now c.loop-shard.shard-index c.deref_mut.result.now
+    c.loop-shard.entries.items c.sort.new.entries _ past c.deref_mut.ensures.value
+    c.sort.ensures.same c.sort.ensures.rises
+    (take_at c.sort.new.entries _ c.loop-shard.entries.len
+    (length_permutation _ _ c.sort.ensures.same ∙ c.deref_mut.ensures.len))
+    c.loop-shard.invariant

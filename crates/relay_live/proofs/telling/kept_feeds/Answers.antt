@@ -1,0 +1,58 @@
+use Rattle.std.proofs.Common.{◌≡◌, ◌∙◌, ◌<◌, ◌≤◌, ap, arith, length, rules, sym}
+use Rattle.std.specs.Prelude.{Ok}
+use Rattle.relay_core.proofs.Stops.{kept_joins, some_of, waits_join}
+use Rattle.relay_live.proofs.telling.kept_feeds.Goals as goal
+use Rattle.relay_live.proofs.telling.kept_feeds.Goals.{in-Some, in_default}
+
+-- there are fewer feeds than numbers
+pub overflow_cast-number : goal.overflow_cast-number
+overflow_cast-number g c =
+    let within : c.loop-number.number < c.args.count = search rules in
+    omega (arith, c.requires, within)
+
+-- one feed more
+pub loop-number-preserved : goal.loop-number-preserved
+loop-number-preserved g c =
+    let n = c.loop-number.number in
+    let within : n < c.args.count = search rules in
+    elim c.match-branch-3.branch [
+      | in-Some w ↦
+          record {
+            count = search rules;
+            room = search rules;
+            waits = waits_join c.loop-number.kept.items c.match-branch-3.kept.items w.in-Some.one
+                (cc (w.push_reserved.ensures.items, w.kept-is)) c.loop-number.invariant.waits
+                (some_of _ _ w.in-Some.one w.in-Some.is c.in_ok-one.ensures.fits);
+            left = λ sizes feed keeps all. kept_joins n c.loop-number.kept.items
+                c.match-branch-3.kept.items w.in-Some.one sizes feed
+                (cc (w.push_reserved.ensures.items, w.kept-is))
+                (c.loop-number.invariant.left sizes feed keeps all)
+                (some_of _ _ w.in-Some.one w.in-Some.is c.in_ok-one.ensures.left sizes feed keeps);
+          }
+      | in_default w ↦
+          record {
+            count = search rules;
+            room = search rules;
+            waits = search rules;
+            left = λ sizes feed keeps all. absurd (omega (
+              arith,
+              c.kept.ensures.missing.0 (c.in_ok-one.was ∙ ap Ok w.in_default.is),
+              keeps.count,
+              all,
+              within,
+            ));
+          }
+    ]
+
+-- that was the last
+pub returns-clause-left : goal.returns-clause-left
+returns-clause-left g c = λ sizes feed keeps all.
+    let so_far = c.loop-number.invariant.left sizes feed keeps all in
+    let past : c.loop-number.number ≡ c.args.count = search rules in
+    record { count = so_far.count ∙ past ∙ sym all; each = so_far.each }
+
+pub returns-clause-room : goal.returns-clause-room
+returns-clause-room g c =
+    let all : c.loop-number.number ≡ c.args.count = search rules in
+    let few : length c.loop-number.kept.items ≤ c.loop-number.number = search rules in
+    (omega (arith, few, all, c.requires), c.loop-number.invariant.waits)

@@ -1,0 +1,18 @@
+use Rattle.std.proofs.Common.{◌≡◌, ◌≤◌, ◌<◌, ◌^◌, ℕ, All, List, length, map, vec_len, vec_capacity}
+use Rattle.feed_queue.specs.Feeds.{KeepsFeeds}
+use Rattle.history_text.specs.Views.{feed_view}
+use Rattle.history_text.specs.declared.kept.KeptFeed.{KeptFeed}
+use Rattle.live_settle.specs.Desks.{desk_of}
+use Rattle.relay_core.proofs.Stops.{AreLeftSoFar}
+use Rattle.relay_model.specs.State.{Feed}
+use Rattle.relay_live.proofs.telling.kept_feeds.Given as goal
+
+-- this is left of the feeds so far, and there is room for all
+abbrev pub invariant-loop-number : goal.invariant-loop-number
+invariant-loop-number g l = record {
+  count : vec_len l.kept ≤ l.number;
+  room : l.count ≤ vec_capacity l.kept;
+  waits : All (λ (feed : KeptFeed). length feed.waiting.items < 2 ^ 32) l.kept.items;
+  left : (sizes : List ℕ) (feed : ℕ → Feed) → KeepsFeeds (desk_of l.desk) sizes feed
+      → length sizes ≡ l.count → AreLeftSoFar l.number (map feed_view l.kept.items) sizes feed;
+}

@@ -1,0 +1,55 @@
+-- The parts of a relay before anything has come (docs/PROTOCOL.md, State).
+use Rattle.std.specs.Prelude.{◌≡◌, ◌+◌, ℕ, Bool, true, List, None, length, map, replicate}
+use Rattle.block_shelf.specs.Each.{AreEach}
+use Rattle.block_shelf.specs.Filling.{AreNewRacks, failures_in}
+use Rattle.article_verdict.specs.Config.{terms_of}
+use Rattle.block_shelf.specs.Starting.{buffer_over}
+use Rattle.cyc_block.specs.declared.store.BlockStore as blocks
+use Rattle.cyc_buffer.specs.Agreement.{Agrees, store_of}
+use Rattle.cyc_buffer.specs.Head.{LeavesBlocks}
+use Rattle.cyc_buffer.specs.History.{new_history}
+use Rattle.feed_queue.specs.Feeds.{KeepsFeeds, no_feed, ring_size}
+use Rattle.id_history.specs.Shards.{EachKeeps}
+use Rattle.live_settle.specs.Desks.{desk_of}
+use Rattle.live_store.specs.Steps.{beside_of, buffer_of, numbers_of}
+use Rattle.live_store.specs.declared.numbered.NumberedBuffer.{NumberedBuffer}
+use Rattle.live_store.specs.declared.record.Archive as archives
+use Rattle.relay_conf.specs.Settings.{places_of_groups}
+use Rattle.relay_conf.specs.declared.settings.Config.{Config}
+use Rattle.relay_live.specs.Alone.{KeepsState, newest_in, stop_in}
+use Rattle.relay_live.specs.declared.alone.Alone.{Alone}
+use Rattle.relay_model.specs.Claims.{Unknown}
+use Rattle.relay_model.specs.State.{empty_state}
+use Rattle.std.specs.List.{All}
+
+-- The buffer of this number over a store, in which nothing was begun: nothing stands beside it, and no
+-- number at a block. The device was called once, for head block 0, and hasn't failed.
+pub record IsNewOver {S J : Type 0} {s : blocks.Ghosts S} {j : archives.Ghosts J} (number : ℕ)
+    (store : S) (numbered : NumberedBuffer S J s j)
+    : Type 0 where
+  pub agrees : (trusted : Bool) → (trusted ≡ true → s.honest store)
+      → Agrees trusted (buffer_of numbered) (new_history (buffer_over s number store))
+  pub blocks : LeavesBlocks s store (store_of (buffer_of numbered))
+  pub calls : s.calls (store_of (buffer_of numbered)) ≡ s.calls store + 1
+  pub failures : s.failures (store_of (buffer_of numbered)) ≡ s.failures store
+  pub free : beside_of numbered ≡ None
+  pub unnumbered : numbers_of numbered ≡ replicate (length (s.blocks store)) None
+
+-- The parts of a relay of this configuration over these stores, before anything has come: every
+-- message-id is unknown, no feed gained anything, nothing was begun in a buffer or a group, no session
+-- was drawn, and there was no stop. So over honest stores they keep the empty state, in which each
+-- device has failed as often as it had.
+pub record BeginsOver {S J L : Type 0} {s : blocks.Ghosts S} {j : archives.Ghosts J}
+    (config : Config) (stores : List S) (alone : Alone S J L s j)
+    : Type 0 where
+  pub claims : EachKeeps alone.shards.items (λ id. Unknown)
+  pub feeds : KeepsFeeds (desk_of alone.desk) (map ring_size config.relay.feeds.items) (λ f. no_feed)
+  pub racks : AreNewRacks (places_of_groups config.buffers) alone.racks.items
+  pub rack_count : length alone.racks.items ≡ length config.buffers.groups.items
+  pub buffers : AreEach IsNewOver stores alone.buffers.items
+  pub newest : newest_in alone ≡ 0
+  pub stop_is : stop_in alone ≡ 0
+  pub feed_count : alone.feeds ≡ length config.relay.feeds.items
+  pub remembers : alone.remember ≡ config.relay.remember
+  pub keeps : All s.honest stores
+      → KeepsState (terms_of config) alone empty_state (failures_in s stores)

@@ -1,0 +1,81 @@
+//! What the threads of a relay share, as it is while no thread shares it: each part without its
+//! lock.
+ghost use Rattle.std.specs.Prelude.{◌≡◌, ◌≤◌, length};
+ghost use Rattle.relay_model.specs.Terms.{shard_count};
+
+use crate::drawing::Last;
+use crate::making::{new_buffers, new_desk, new_shards};
+use block_shelf::{BeginError, Rack, new_racks, unbegun};
+use cyc_block::BlockStore;
+use id_history::Shard;
+use live_settle::CountedDesk;
+use live_store::{Archive, NumberedBuffer};
+use relay_conf::Config;
+use std::alloc::Global;
+use std::random::RandomSource;
+use std::sync::ledger::{Book, Ledger};
+
+/// The parts of a relay that no thread shares: sixteen shards, the feed desk, the buffers and the
+/// groups of the configuration, the number of the session that was drawn last, and that of the last
+/// stop.
+#[derive(Drop)]
+pub(crate) struct Alone<S: BlockStore + Drop, J: Archive, L: Ledger> {
+    pub(crate) shards: Vec<Shard>,
+    pub(crate) desk: CountedDesk<L>,
+    /// How many feeds the desk had when it was made.
+    pub(crate) feeds: usize,
+    pub(crate) buffers: Vec<NumberedBuffer<S, J>>,
+    pub(crate) racks: Vec<Rack>,
+    pub(crate) last: Last<L>,
+    /// The number of the last stop; before the first it is 0.
+    pub(crate) stop: u64,
+    /// For how many seconds ids are remembered; without it for good.
+    pub(crate) remember: Option<u64>,
+    ghost sixteen: { length shards.items ≡ shard_count },
+    ghost few: { length buffers.items ≤ 256 },
+    ghost few_racks: { length racks.items ≤ 256 },
+    ghost few_feeds: { feeds ≤ 1024 },
+}
+
+impl<S: BlockStore + Drop, J: Archive, L: Ledger> Alone<S, J, L> {
+    ghost use Rattle.std.specs.Prelude.{◌≡◌, true, map, All, IfErr, IfOk};
+    ghost use Rattle.block_shelf.specs.Filling.{IsBeginRefusal};
+    ghost use Rattle.relay_live.specs.Beginning.{BeginsOver};
+
+    /// The relay over these stores, the i-th for buffer i, before anything has come. Each buffer's
+    /// head block says that it may change.
+    #[tactic(auto, using(block_shelf::proofs::HostFaults::host_refuses))]
+    pub(crate) fn new(
+        rt: &impl RandomSource,
+        alloc: Global,
+        config: &Config,
+        stores: Vec<S>,
+        book: Book<L>,
+    ) -> Result<Alone<S, J, L>, BeginError<S>>
+        requires stores { map (λ store. length (S.blocks store)) stores.items
+            ≡ map (λ buffer. buffer.blocks) config.now.buffers.buffers.items }
+        requires honest { J.trusted ≡ true → All S.honest stores.items }
+        requires book { book.total ≡ 0 }
+        ensures begins { IfOk result (BeginsOver config.now stores.items) }
+        ensures refusal { IfErr result (IsBeginRefusal ⟦<S as BlockStore>⟧ stores.items) }
+    {
+        let last = Last::new(&book);
+        let shards = new_shards(rt, alloc)?;
+        let desk = new_desk(alloc, config, book)?;
+        let racks = new_racks(alloc, &config.buffers)?;
+        let buffers = match new_buffers(alloc, stores) {
+            Ok(buffers) => buffers,
+            Err(error) => return Err(unbegun(error)),
+        };
+        Ok(Alone {
+            shards,
+            desk,
+            feeds: config.relay.feeds.len(),
+            buffers,
+            racks,
+            last,
+            stop: 0,
+            remember: config.relay.remember,
+        })
+    }
+}

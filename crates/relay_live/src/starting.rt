@@ -1,0 +1,123 @@
+//! How a relay is started from what a stop left (docs/PROTOCOL.md, Clean stop and start).
+
+use crate::alone::Alone;
+use crate::desks::Desks;
+use crate::filling::all_filled;
+use crate::started::start_buffers;
+use block_shelf::{StopFault, Unstarted};
+use cyc_block::BlockStore;
+use live_store::{Archive, Register};
+use relay_conf::Config;
+use relay_core::{NotStarted, is_ahead, read_history, refused, unread};
+use std::alloc::Global;
+use std::hash::RandomState;
+use std::random::RandomSource;
+use std::sync::Wait;
+use std::sync::ledger::{Book, Ledger};
+
+impl<S: BlockStore + Drop, J: Archive, L: Ledger> Alone<S, J, L> {
+    ghost use Rattle.std.specs.Prelude.{◌≡◌, true, IfErr, IfOk, All, length, map};
+    ghost use Rattle.relay_live.specs.Starting.{IsNotStarted, IsRefusedRightly, StartsOver};
+    ghost use Rattle.relay_live.specs.Starting.{WereStopped};
+
+    /// The relay over the stores of one that was stopped, the i-th for buffer i, from the text of
+    /// its history, with the register's record for each live article. It is refused in the order of
+    /// StopFault, but that a text that can't be read comes before a store is called; want of memory
+    /// may come in place of each. All stores come back then, in their order, unwritten but for a
+    /// Device of the last: their heads are opened once all else is done.
+    pub(crate) fn start<R: RandomSource + Wait>(
+        rt: &R,
+        alloc: Global,
+        config: &Config,
+        register: &Register,
+        stores: Vec<S>,
+        text: &[u8],
+        book: Book<L>,
+    ) -> Result<Alone<S, J, L>, NotStarted<S>>
+        requires register { register.now ≡ J.register }
+        requires stores { map (λ store. length (S.blocks store)) stores.items
+            ≡ map (λ buffer. buffer.blocks) config.now.buffers.buffers.items }
+        requires honest { J.trusted ≡ true → All S.honest stores.items }
+        requires stopped { J.trusted ≡ true → WereStopped S.BlockStore stores.items }
+        requires book { book.total ≡ 0 }
+        ensures started { IfOk result (StartsOver config.now stores.items text.now) }
+        ensures refused { IfErr result
+            (IsNotStarted S.BlockStore config.now stores.items text.now) }
+    {
+        let hasher = match RandomState::new(rt) {
+            Ok(hasher) => hasher,
+            Err(why) => return Err(NotStarted::Host(why, stores)),
+        };
+        match Alone::start_with(rt, alloc, hasher, config, register, stores, text, book) {
+            Ok(alone) => Ok(alone),
+            Err(unstarted) => Err(NotStarted::Refused(unstarted)),
+        }
+    }
+
+    /// The same with a seed.
+    fn start_with<R: Wait>(
+        rt: &R,
+        alloc: Global,
+        hasher: RandomState,
+        config: &Config,
+        register: &Register,
+        stores: Vec<S>,
+        text: &[u8],
+        book: Book<L>,
+    ) -> Result<Alone<S, J, L>, Unstarted<S>>
+        requires register { register.now ≡ J.register }
+        requires stores { map (λ store. length (S.blocks store)) stores.items
+            ≡ map (λ buffer. buffer.blocks) config.now.buffers.buffers.items }
+        requires honest { J.trusted ≡ true → All S.honest stores.items }
+        requires stopped { J.trusted ≡ true → WereStopped S.BlockStore stores.items }
+        requires book { book.total ≡ 0 }
+        ensures started { IfOk result (StartsOver config.now stores.items text.now) }
+        ensures refused { IfErr result
+            (IsRefusedRightly S.BlockStore config.now stores.items text.now) }
+    {
+        // A head block is of one buffer, so what a store holds is of one stop.
+        news_terms::heads::one_head();
+        // A text that can't be read refuses before a store is called.
+        let history = match read_history(alloc, config, text) {
+            Ok(history) => history,
+            Err(error) => return Err(refused(stores, unread(error))),
+        };
+        let started = match start_buffers(rt, alloc, register, stores, history.stop) {
+            Ok(started) => started,
+            Err(unstarted) => return Err(unstarted),
+        };
+        let filled = match all_filled(alloc, &started) {
+            Ok(filled) => filled,
+            Err(_) => return Err(refused(started.into_stores(), StopFault::Memory)),
+        };
+        if is_ahead(&filled, &history) {
+            return Err(refused(started.into_stores(), StopFault::Ahead));
+        }
+        let stop = history.stop;
+        let desks = match Desks::resume(alloc, hasher, config, history, &started, book) {
+            Ok(desks) => desks,
+            Err(_) => return Err(refused(started.into_stores(), StopFault::Memory)),
+        };
+        // No head is opened before all memory is taken: what is refused until here is unwritten.
+        let buffers = match started.open() {
+            Ok(buffers) => buffers,
+            Err(unstarted) => return Err(unstarted),
+        };
+        let Desks {
+            shards,
+            desk,
+            racks,
+            last,
+        } = desks;
+        Ok(Alone {
+            shards,
+            desk,
+            feeds: config.relay.feeds.len(),
+            buffers,
+            racks,
+            last,
+            stop,
+            remember: config.relay.remember,
+        })
+    }
+}

@@ -1,0 +1,84 @@
+//! The text of a relay's history, which no thread shares any more.
+ghost use Rattle.std.specs.Prelude.{◌≡◌, ◌≤◌, IfOk, length};
+ghost use Rattle.block_shelf.specs.Each.{AreEach};
+ghost use Rattle.block_shelf.specs.Stopping.{TellsPosition};
+ghost use Rattle.live_settle.specs.Desks.{desk_of};
+ghost use Rattle.relay_core.specs.Stopping.{HaveRoom};
+ghost use Rattle.relay_live.specs.Telling.{AreEntries, AreKeptFeeds};
+ghost use Rattle.relay_model.specs.Terms.{shard_count};
+
+use crate::alone::Alone;
+use block_shelf::Rack;
+use cyc_block::BlockStore;
+use history_text::{History, KeptFeed, KeptId, write};
+use id_history::{Shard, sort};
+use live_settle::CountedDesk;
+use live_store::Archive;
+use std::alloc::{AllocError, Global};
+use std::sync::ledger::Ledger;
+
+impl<S: BlockStore + Drop, J: Archive, L: Ledger> Alone<S, J, L> {
+    ghost use Rattle.std.specs.Prelude.{IfOk};
+    ghost use Rattle.relay_live.specs.Stopping.{TellsHistory};
+
+    /// The text of its history at this stop.
+    pub(crate) fn text(&self, alloc: Global, stop: u64) -> Result<Vec<u8>, AllocError>
+        ensures { IfOk result (λ text. TellsHistory self.now stop text.items) }
+    {
+        let positions = positions_of(alloc, &self.racks)?;
+        let feeds = kept_feeds(alloc, &self.desk, self.feeds)?;
+        let ids = entries_of(alloc, &self.shards)?;
+        let history = History {
+            stop,
+            newest: self.last.number(),
+            positions,
+            feeds,
+            ids,
+        };
+        let text = write(alloc, &history)?;
+        Ok(text)
+    }
+}
+
+/// The place of the current buffer of each group in it, counted from 0.
+fn positions_of(alloc: Global, racks: &[Rack]) -> Result<Vec<u32>, AllocError>
+    ensures { IfOk result (λ positions. AreEach TellsPosition racks.now positions.items) }
+{
+    let mut positions = Vec::with_capacity(alloc, racks.len())?;
+    for rack in racks {
+        positions.push_reserved(rack.position());
+    }
+    Ok(positions)
+}
+
+/// What is left of so many feeds.
+fn kept_feeds<L: Ledger>(
+    alloc: Global,
+    desk: &CountedDesk<L>,
+    count: usize,
+) -> Result<Vec<KeptFeed>, AllocError>
+    requires { count ≤ 1024 }
+    ensures left { IfOk result (λ kept. AreKeptFeeds (desk_of desk.now) count kept.items) }
+    ensures room { IfOk result (λ kept. HaveRoom kept.items) }
+{
+    let mut kept = Vec::with_capacity(alloc, count)?;
+    for number in 0..count {
+        if let Some(one) = desk.kept(alloc, number as u16)? {
+            kept.push_reserved(one);
+        }
+    }
+    Ok(kept)
+}
+
+/// The message-ids that are stored or were refused, of all shards, rising by their octets.
+fn entries_of(alloc: Global, shards: &[Shard]) -> Result<Vec<KeptId>, AllocError>
+    requires { length shards.now ≡ shard_count }
+    ensures { IfOk result (λ entries. AreEntries shards.now entries.items) }
+{
+    let mut entries = Vec::new(alloc);
+    for shard in shards {
+        shard.gather(&mut entries)?;
+    }
+    sort(&mut entries);
+    Ok(entries)
+}
