@@ -1,5 +1,5 @@
 -- The parts of a relay before anything has come keep the empty state.
-use Rattle.std.proofs.Common.{◌≡◌, ◌∙◌, ◌<◌, ℕ, true, List, [], ap, arith, length, map, None, Some}
+use Rattle.std.proofs.Common.{◌≡◌, ◌∙◌, ℕ, true, List, [], ap, arith, length, map, None, Some}
 use Rattle.std.proofs.Common.{option_map, refl, slice_get, subst, sym, unwrap_or}
 use Rattle.std.proofs.lemmas.List.{length-map}
 use Rattle.std.proofs.lemmas.List.Elements.{All-nil}
@@ -34,7 +34,6 @@ use Rattle.relay_conf.specs.declared.cycbuff.BufferConf.{BufferConf}
 use Rattle.relay_conf.specs.declared.settings.Buffers.{Buffers}
 use Rattle.relay_conf.specs.declared.settings.Config.{Config}
 use Rattle.relay_core.proofs.Beginnings.{groups_count, rings_are}
-use Rattle.relay_core.specs.Agreement.{ring_sizes}
 use Rattle.relay_live.specs.Alone.{KeepsState, newest_in}
 use Rattle.relay_live.specs.Beginning.{IsNewOver}
 use Rattle.relay_live.specs.declared.alone.Alone.{Alone}

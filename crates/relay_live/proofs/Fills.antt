@@ -1,10 +1,10 @@
 -- How far started buffers are filled, one after the other.
-use Rattle.std.proofs.Common.{◌≡◌, ◌∙◌, ℕ, ◌+◌, ◌<◌, ◌≤◌, Bool, true, arith, refl, sym, ap, subst, List}
-use Rattle.std.proofs.Common.{[], ◌∷◌, ◌++◌, get_or, length, map, None, Some, slice_get, take}
+use Rattle.std.proofs.Common.{◌≡◌, ◌∙◌, ℕ, ◌+◌, ◌<◌, ◌≤◌, Bool, true, arith, sym, ap, subst, List}
+use Rattle.std.proofs.Common.{[], ◌∷◌, ◌++◌, length, map, None, Some, slice_get, take}
 use Rattle.std.proofs.Common.{option_map}
 use Rattle.std.proofs.lemmas.List.{length-map, map_push, take_all, take_more}
 use Rattle.std.proofs.lemmas.Option.{get_or_from_slice_get, same_Some, slice_get-map}
-use Rattle.std.proofs.lemmas.Option.{slice_get-get_or, slice_get_within}
+use Rattle.std.proofs.lemmas.Option.{slice_get_within}
 use Rattle.block_shelf.proofs.Reported.{figures_agree}
 use Rattle.block_shelf.proofs.ShelfReads.{some_there}
 use Rattle.block_shelf.specs.Starting.{BuffersKeep, buffers_inside}

@@ -1,5 +1,5 @@
 -- The heads of started buffers are opened, one after the other; how far they are filled.
-use Rattle.std.proofs.Common.{◌≡◌, ◌∙◌, ℕ, ◌+◌, ◌<◌, true, arith, refl, sym, ap, subst, List, [], ◌∷◌}
+use Rattle.std.proofs.Common.{◌≡◌, ◌∙◌, ℕ, ◌<◌, true, arith, sym, ap, subst, List, [], ◌∷◌}
 use Rattle.std.proofs.Common.{◌++◌, length, map, None, option_map}
 use Rattle.std.proofs.lemmas.List.{length-append, length-map, map_push}
 use Rattle.std.proofs.lemmas.Option.{none-some, slice_get-map}

@@ -1,5 +1,5 @@
 -- Whether an id is being stored, shard after shard.
-use Rattle.std.proofs.Common.{◌≡◌, ◌≢◌, ◌∙◌, ℕ, ◌+◌, ◌<◌, ◌≤◌, ◌==◌, Bool, true, false, List, arith}
+use Rattle.std.proofs.Common.{◌≡◌, ◌≢◌, ◌∙◌, ℕ, ◌+◌, ◌<◌, ◌==◌, Bool, true, false, List, arith}
 use Rattle.std.proofs.Common.{ap, cond, length, refl, Some, slice_get, slice_index_or, subst, sym}
 use Rattle.std.proofs.Common.{true≢false}
 use Rattle.std.proofs.Math.Nat.{mod-lt}

@@ -1,10 +1,9 @@
 -- What the stop of the parts of a relay gives.
-use Rattle.std.proofs.Common.{◌≡◌, ◌≢◌, ◌∙◌, ◌⊎◌, inl, inr, ℕ, ◌<◌, ◌^◌, ◌++◌, ◌∷◌, [], Bool, true}
+use Rattle.std.proofs.Common.{◌≡◌, ◌∙◌, ◌⊎◌, inl, inr, ℕ, ◌++◌, ◌∷◌, [], true}
 use Rattle.std.proofs.Common.{false, List, length, map, Option, None, Some, ap, arith, refl, slice_get}
 use Rattle.std.proofs.Common.{is_some, option_map, subst, sym, true≢false}
 use Rattle.std.proofs.lemmas.List.{length-map}
 use Rattle.std.proofs.lemmas.Option.{none-some, slice_get-map}
-use Rattle.boxcar.specs.Table.{Shelves}
 use Rattle.block_shelf.proofs.EachLemmas.{here_through}
 use Rattle.block_shelf.specs.Each.{AreEach}
 use Rattle.block_shelf.specs.Starting.{BuffersKeep}
@@ -19,7 +18,7 @@ use Rattle.live_store.specs.declared.record.Archive as archives
 use Rattle.relay_conf.proofs.ListPlaces.{at_pushed}
 use Rattle.relay_core.specs.Stopping.{next_stop}
 use Rattle.relay_live.specs.Alone.{codes_of, stop_in}
-use Rattle.relay_live.specs.Stopping.{AreKnown, AreShutWith, ComesBack, IsAtRest, IsShutAll}
+use Rattle.relay_live.specs.Stopping.{AreKnown, AreShutWith, IsAtRest, IsShutAll}
 use Rattle.relay_live.specs.Stopping.{IsShutPartly, Shuts, TellsHistory}
 use Rattle.relay_live.specs.declared.alone.Alone.{Alone}
 use Rattle.relay_model.specs.State.{Kept}

@@ -1,12 +1,11 @@
 -- The buffers of a relay are started, one after the other.
-use Rattle.std.proofs.Common.{◌≡◌, ◌≢◌, ◌∙◌, ℕ, ◌<◌, ◌≤◌, ◌⊎◌, inl, inr, arith, refl, sym, ap, subst}
+use Rattle.std.proofs.Common.{◌≡◌, ◌∙◌, ℕ, arith, refl, sym, ap, subst}
 use Rattle.std.proofs.Common.{List, [], ◌∷◌, ◌++◌, length, map, Option, None, Some, slice_get}
-use Rattle.std.proofs.Common.{option_map}
+use Rattle.std.proofs.Common.{option_map, true}
 use Rattle.std.proofs.lemmas.List.{length-map, map_push}
-use Rattle.std.proofs.lemmas.Option.{none-some, same_Some, slice_get-map, slice_get_within}
+use Rattle.std.proofs.lemmas.Option.{none-some, slice_get-map, slice_get_within}
 use Rattle.block_shelf.proofs.EachLemmas.{comes_from, each_mapped, one_more_each}
 use Rattle.block_shelf.proofs.NewShelf.{pushed_before, pushed_last}
-use Rattle.block_shelf.proofs.ShelfReads.{some_there}
 use Rattle.block_shelf.proofs.Starts.{blamed_here, blamed_nowhere, buffer_is, failed_there}
 use Rattle.block_shelf.proofs.Starts.{other_more, still_earlier, untouched_store}
 use Rattle.block_shelf.specs.Each.{AreEach}
@@ -38,11 +37,11 @@ use Rattle.relay_live.specs.declared.started.Starting.TheVariants as states
 use Rattle.relay_model.specs.State.{Kept}
 use Rattle.relay_model.specs.Terms.{Terms}
 
-module _ {S J : Type 0} {s : blocks.Ghosts S} {j : archives.Ghosts J} where
-  -- a started buffer's store can be started, at the stop that it remembers
-  abbrev pub CanBe : ℕ → S → Unopened S s → Type 0
-  CanBe b store one = s.honest store → CanStart s b store (stop_of (inside one))
+-- a started buffer's store can be started, at the stop that it remembers
+abbrev pub CanBe : {S : Type 0} {s : blocks.Ghosts S} → ℕ → S → Unopened S s → Type 0
+CanBe {s = s} b store one = s.honest store → CanStart s b store (stop_of (inside one))
 
+module _ {S J : Type 0} {s : blocks.Ghosts S} {j : archives.Ghosts J} where
   pub can_be : (stores : List S) (buffers : List (UnopenedNumbered S J s j))
       → AreEach IsStartedOver stores buffers → AreEach CanBe stores (map unopened_in buffers)
   can_be stores buffers are =
@@ -106,6 +105,7 @@ module _ {S : Type 0} (s : blocks.Ghosts S) (before : List S) (store : S) where
         place = had.place;
         store = had.store;
         there = pushed_before before store had.place had.store had.there;
+        reason = had.reason;
         outside = had.outside;
         earlier = still_earlier s before store had.place (omega (arith, within)) had.earlier;
         back_each = one_more_each (IsUnwritten s (failed_at error had.place)) before back store
@@ -247,7 +247,7 @@ pub next_stopped : {S J : Type 0} {s : blocks.Ghosts S} {j : archives.Ghosts J} 
     → (j.trusted ≡ true
     → ∥ WasStopped (s.heads store) (s.blocks store) (buffer_over s (length before) store) ∥₁)
     → IsNextStopped store state
-next_stopped {s = s} stop before store (states.Started buffers stores mixed) had stopped trusted =
+next_stopped {s = s} stop before store (states.Started buffers stores mixed) had stopped = λ trusted.
     subst (λ n. ∥ WasStopped (s.heads store) (s.blocks store) (buffer_over s n store) ∥₁)
     (sym (buffers.ok.0 ∙ had.0.count)) (stopped trusted)
 next_stopped stop before store (states.Refused stores number error) had stopped = tt

@@ -1,5 +1,5 @@
 -- The parts of a relay that is started from what a stop left, and why they aren't.
-use Rattle.std.proofs.Common.{◌≡◌, ◌≢◌, ◌∙◌, ℕ, Bool, true, false, List, Option, None, Some, ap, refl}
+use Rattle.std.proofs.Common.{◌≡◌, ◌∙◌, ℕ, Bool, true, false, List, Option, None, Some, ap, refl}
 use Rattle.std.proofs.Common.{length, map, slice_get, subst, sym, true≢false, arith}
 use Rattle.std.proofs.Math.Logic.{∥∥₁_elim}
 use Rattle.std.proofs.lemmas.List.{length-map}
@@ -16,7 +16,7 @@ use Rattle.block_shelf.specs.declared.starting.Unstarted.{Unstarted}
 use Rattle.cyc_block.specs.declared.store.BlockStore as blocks
 use Rattle.cyc_buffer.specs.History.{History}
 use Rattle.cyc_buffer.specs.Stopped.{HoldsStopped, numbers_of}
-use Rattle.feed_queue.specs.Feeds.{KeepsFeeds, ring_size}
+use Rattle.feed_queue.specs.Feeds.{KeepsFeeds}
 use Rattle.feed_queue.specs.Permission.{feed_view}
 use Rattle.history_text.specs.History as texts
 use Rattle.history_text.specs.declared.fault.HistoryError.{HistoryError}
@@ -51,7 +51,7 @@ use Rattle.relay_live.specs.Starting.{IsUnstarted, IsUnstartedBy, StartsOver, Te
 use Rattle.relay_live.specs.Starting as reasons
 use Rattle.relay_live.specs.Stopping.{AreShutWith}
 use Rattle.relay_live.specs.declared.alone.Alone.{Alone}
-use Rattle.relay_live.specs.declared.starting.Desks.{Desks}
+use Rattle.relay_live.specs.declared.desks.Desks.{Desks}
 use Rattle.relay_model.specs.Terms.{Terms}
 use Rattle.relay_model.specs.World.{World}
 
@@ -227,7 +227,7 @@ unread_or_room s config stores text refused errors.BadHistory is of_none same no
 
 -- THE START
 
-module _ {S J L : Type 0} {s : blocks.Ghosts S} {j : archives.Ghosts J} (config : Config)
+module _ {S J : Type 0} {s : blocks.Ghosts S} {j : archives.Ghosts J} (config : Config)
     (stores : List S)
     (sized : map (λ store. length (s.blocks store)) stores
     ≡ map (λ (conf : BufferConf). conf.blocks) config.buffers.buffers.items) (text : List ℕ)
@@ -246,7 +246,7 @@ module _ {S J L : Type 0} {s : blocks.Ghosts S} {j : archives.Ghosts J} (config 
       ∙ sym is
 
   -- the parts start
-  pub starts : (alone : Alone S J L s j) (desks : Desks L) → IsAheadAs s config stores kept false
+  pub starts : {L : Type 0} (alone : Alone S J L s j) (desks : Desks L) → IsAheadAs s config stores kept false
       → AreOf config (map unopened_in buffers) kept desks
       → AreEach IsOpenedFrom buffers alone.buffers.items → alone.shards ≡ desks.shards
       → alone.desk ≡ desks.desk → alone.racks ≡ desks.racks → alone.last ≡ desks.last

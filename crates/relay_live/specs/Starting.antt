@@ -1,5 +1,5 @@
 -- A start of the parts of a relay: from what, and why not (docs/PROTOCOL.md, Clean stop and start).
-use Rattle.std.specs.Prelude.{◌≡◌, ◌≢◌, ℕ, ◌+◌, ◌<◌, Bool, true, false, List, [], ◌∷◌, ◌++◌, length}
+use Rattle.std.specs.Prelude.{◌≡◌, ℕ, ◌+◌, ◌<◌, true, false, List, [], ◌∷◌, ◌++◌, length}
 use Rattle.std.specs.Prelude.{map, min, Option, None, Some, slice_get, vec_len, vec_capacity}
 use Rattle.article_verdict.specs.Config.{terms_of}
 use Rattle.boxcar.specs.Table.{Shelves}
@@ -48,12 +48,12 @@ use Rattle.relay_live.specs.Making.{last_stop}
 use Rattle.relay_live.specs.Numbers.{last_of}
 use Rattle.relay_live.specs.Stopping.{AreShutWith}
 use Rattle.relay_live.specs.declared.alone.Alone.{Alone}
+use Rattle.relay_live.specs.declared.desks.Desks.{Desks}
 use Rattle.relay_live.specs.declared.shared.Shared.{Shared}
 use Rattle.relay_live.specs.declared.started.Opening.{Opening}
 use Rattle.relay_live.specs.declared.started.Opening.TheVariants as openings
 use Rattle.relay_live.specs.declared.started.Starting.{Starting}
 use Rattle.relay_live.specs.declared.started.Starting.TheVariants as states
-use Rattle.relay_live.specs.declared.starting.Desks.{Desks}
 use Rattle.relay_model.specs.Claims.{Claim}
 use Rattle.relay_model.specs.State.{Feed, State}
 use Rattle.relay_model.specs.Terms.{Terms}

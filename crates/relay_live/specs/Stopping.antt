@@ -1,6 +1,6 @@
 -- A stop of the parts of a relay: what its history tells, and what stores and text hold
 -- (docs/PROTOCOL.md, Clean stop and start).
-use Rattle.std.specs.Prelude.{◌≡◌, ◌≢◌, ◌⊎◌, ℕ, ◌<◌, ◌^◌, ◌++◌, ◌∷◌, [], Bool, true, false, List}
+use Rattle.std.specs.Prelude.{◌≡◌, ℕ, ◌<◌, true, false, List}
 use Rattle.std.specs.Prelude.{length, map, Option, None, Some, slice_get}
 use Rattle.boxcar.specs.Table.{Shelves}
 use Rattle.block_shelf.specs.Each.{AreEach}

@@ -9,6 +9,7 @@
 
 mod alone;
 mod claims;
+mod desks;
 mod drawing;
 mod end;
 mod fetching;

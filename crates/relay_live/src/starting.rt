@@ -1,39 +1,19 @@
 //! How a relay is started from what a stop left (docs/PROTOCOL.md, Clean stop and start).
-ghost use Rattle.std.specs.Prelude.{◌≡◌, IfOk, length, map};
-ghost use Rattle.history_text.specs.History.{Holds};
-ghost use Rattle.history_text.specs.Views.{history_view};
-ghost use Rattle.live_store.specs.Started.{unopened_in};
-ghost use Rattle.relay_core.specs.Desks.{setting_of};
-ghost use Rattle.relay_live.specs.Starting.{AreOf};
-ghost use Rattle.relay_model.specs.Terms.{shard_count};
 
 use crate::alone::Alone;
-use crate::drawing::Last;
+use crate::desks::Desks;
 use crate::filling::all_filled;
-use crate::started::{StartedBuffers, start_buffers};
-use block_shelf::{Rack, StopFault, Unstarted, resume_racks};
+use crate::started::start_buffers;
+use block_shelf::{StopFault, Unstarted};
 use cyc_block::BlockStore;
-use history_text::History;
-use id_history::{Shard, Shards};
-use live_settle::CountedDesk;
 use live_store::{Archive, Register};
 use relay_conf::Config;
 use relay_core::{NotStarted, is_ahead, read_history, refused, unread};
-use std::alloc::{AllocError, Global};
+use std::alloc::Global;
 use std::hash::RandomState;
 use std::random::RandomSource;
 use std::sync::Wait;
 use std::sync::ledger::{Book, Ledger};
-
-/// What is made of a history beside the buffers.
-#[derive(Drop)]
-struct Desks<L: Ledger> {
-    shards: Vec<Shard>,
-    desk: CountedDesk<L>,
-    racks: Vec<Rack>,
-    last: Last<L>,
-    ghost sixteen: { length shards.items ≡ shard_count },
-}
 
 impl<S: BlockStore + Drop, J: Archive, L: Ledger> Alone<S, J, L> {
     ghost use Rattle.std.specs.Prelude.{◌≡◌, true, IfErr, IfOk, All, length, map};
@@ -138,42 +118,6 @@ impl<S: BlockStore + Drop, J: Archive, L: Ledger> Alone<S, J, L> {
             last,
             stop,
             remember: config.relay.remember,
-        })
-    }
-}
-
-impl<L: Ledger> Desks<L> {
-    /// What is made of a history over started buffers. No token is posted.
-    fn resume<S: BlockStore + Drop, J: Archive>(
-        alloc: Global,
-        hasher: RandomState,
-        config: &Config,
-        history: History,
-        started: &StartedBuffers<S, J>,
-        book: Book<L>,
-    ) -> Result<Desks<L>, AllocError>
-        requires book { book.total ≡ 0 }
-        requires holds { Holds (setting_of config.now) (history_view history) }
-        ensures { IfOk result (AreOf config.now (map unopened_in started.now.buffers.items)
-            (history_view history)) }
-    {
-        let History {
-            stop: _,
-            newest,
-            positions,
-            feeds,
-            ids,
-        } = history;
-        let last = Last::after(&book, newest);
-        let used = started.used(alloc)?;
-        let racks = resume_racks(alloc, &config.buffers, &used, &positions)?;
-        let shards = Shards::resume(alloc, hasher, ids)?.into_shards();
-        let desk = CountedDesk::resume(alloc, &config.relay.feeds, &feeds, book)?;
-        Ok(Desks {
-            shards,
-            desk,
-            racks,
-            last,
         })
     }
 }

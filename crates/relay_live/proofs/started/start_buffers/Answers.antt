@@ -14,8 +14,8 @@ use Rattle.relay_live.specs.Starting.{HasTried, IsStartedOver}
 use Rattle.relay_live.proofs.started.start_buffers.Goals as goal
 
 -- there is no room for the buffers
-pub returns-in_else-clause-refusal : goal.returns-in_else-clause-refusal
-returns-in_else-clause-refusal g c = (refl, untouched_stores g.S.BlockStore c.args.stores.items)
+pub returns-in_default-clause-refusal : goal.returns-in_default-clause-refusal
+returns-in_default-clause-refusal g c = (refl, untouched_stores g.S.BlockStore c.args.stores.items)
 
 pub loop-store-init : goal.loop-store-init
 loop-store-init g c =

@@ -1,4 +1,4 @@
-use Rattle.std.proofs.Common.{◌≡◌, ◌≤◌, ◌++◌, true, All, length}
+use Rattle.std.proofs.Common.{◌≡◌, ◌≤◌, ◌++◌, length}
 use Rattle.relay_live.specs.Starting.{HasTried, tried_count, tried_room}
 use Rattle.relay_live.proofs.started.start_buffers.Given as goal
 

@@ -1,4 +1,4 @@
-use Rattle.std.proofs.Common.{◌∙◌, None, Some, arith, refl, sym}
+use Rattle.std.proofs.Common.{◌∙◌, Some, arith, refl, sym}
 use Rattle.block_shelf.proofs.Stops.{fails_next, stays_failed, stops_next}
 use Rattle.live_store.specs.Steps.{buffer_of}
 use Rattle.relay_live.proofs.Shuts.{known_failed, known_more}
@@ -39,11 +39,12 @@ returns-in-Ok-clause-known g c = λ had.
 pub returns-in-Err-clause-stops : goal.returns-in-Err-clause-stops
 returns-in-Err-clause-stops g c = λ before idle had.
     fails_next c.args.stop (buffer_of c.args.buffer) before c.args.stores.now.items c.args.failed
-    c.in-Err.error (buffer_of c.in-Err.buffer) c.into_store-in-Err.result
+    c.in-Err.field-0.error (buffer_of c.in-Err.field-0.buffer) c.into_store-in-Err.result
     c.push_reserved-in-Err.new.self.items c.len-place.result
     (sym c.is_some.ensures ∙ c.if-is_some.false) idle c.in-Err.ensures.refusal
     c.in-Err.ensures.rest
-    (omega (arith, c.len-place.ensures, c.args.stores.now.ok)) c.into_store-in-Err.ensures
+    (omega (arith, c.len-place.ensures, c.args.stores.now.ok))
+    (cc (c.into_store-in-Err.ensures, c.in-Err.buffer-is))
     c.push_reserved-in-Err.ensures.items had
 
 pub returns-in-Err-clause-known : goal.returns-in-Err-clause-known

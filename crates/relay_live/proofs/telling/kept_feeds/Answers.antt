@@ -1,6 +1,5 @@
-use Rattle.std.proofs.Common.{◌≡◌, ◌∙◌, ◌<◌, ◌≤◌, ap, arith, length, map, rules, sym}
+use Rattle.std.proofs.Common.{◌≡◌, ◌∙◌, ◌<◌, ◌≤◌, ap, arith, length, rules, sym}
 use Rattle.std.specs.Prelude.{Ok}
-use Rattle.history_text.specs.Views.{feed_view}
 use Rattle.relay_core.proofs.Stops.{kept_joins, some_of, waits_join}
 use Rattle.relay_live.proofs.telling.kept_feeds.Goals as goal
 use Rattle.relay_live.proofs.telling.kept_feeds.Goals.{in-Some, in_default}

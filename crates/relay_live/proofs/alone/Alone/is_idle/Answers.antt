@@ -22,8 +22,8 @@ loop-shard-preserved g c =
     c.loop-shard.invariant
 
 -- an id is being stored
-pub returns-then-storing-clause-busy : goal.returns-then-storing-clause-busy
-returns-then-storing-clause-busy g c = λ e.
+pub returns-then-counts-gt0-clause-busy : goal.returns-then-counts-gt0-clause-busy
+returns-then-counts-gt0-clause-busy g c = λ e.
     let all = c.args.self.now.shards.items in
     let k = c.loop-shard.shard-index in
     let one = c.shard-item.result in

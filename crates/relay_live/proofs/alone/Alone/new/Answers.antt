@@ -1,4 +1,4 @@
-use Rattle.std.proofs.Common.{◌∙◌, ap, arith, refl}
+use Rattle.std.proofs.Common.{◌∙◌, arith, refl}
 use Rattle.article_verdict.proofs.FewFeeds.{few_feeds}
 use Rattle.block_shelf.proofs.NewShelf.{same_count}
 use Rattle.relay_live.proofs.Begins.{keeps_nothing}

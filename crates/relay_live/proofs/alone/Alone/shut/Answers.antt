@@ -1,4 +1,4 @@
-use Rattle.std.proofs.Common.{◌∙◌, ap, refl, subst, sym}
+use Rattle.std.proofs.Common.{Option, refl, subst}
 use Rattle.relay_live.proofs.Shuts.{shut_partly, shuts}
 use Rattle.relay_live.specs.Stopping.{IsShutAll}
 use Rattle.relay_live.proofs.alone.Alone.shut.Goals as goal
@@ -6,3 +6,26 @@ use Rattle.relay_live.proofs.alone.Alone.shut.Goals as goal
 -- it isn't idle
 pub returns-then-not-is_idle-clause-back : goal.returns-then-not-is_idle-clause-back
 returns-then-not-is_idle-clause-back g c = (refl, c.is_idle.ensures.busy c.if-not-is_idle.true)
+
+-- it is stopped
+pub returns-in-None-default-clause-shut : goal.returns-in-None-default-clause-shut
+returns-in-None-default-clause-shut g c =
+    shuts c.args.self (c.is_idle.ensures.idle c.if-not-is_idle.false) c.next_stop-stop.result
+    c.shut_all.result.1.items c.in-Ok.history.items c.next_stop-stop.ensures c.in-Ok.ensures
+    (subst
+    (λ (failed : Option _). IsShutAll c.next_stop-stop.result c.args.self.buffers.items failed
+    c.shut_all.result.1.items)
+    c.in-None-default.is-0 c.shut_all.ensures)
+
+-- or the device of a buffer has failed
+pub returns-clause-back : goal.returns-clause-back
+returns-clause-back g c =
+    let rest = c.is_idle.ensures.idle c.if-not-is_idle.false in (
+      rest,
+      shut_partly c.args.self rest c.next_stop-stop.result c.in-Some-default.number
+          c.shut_all.result.1.items
+          (subst
+          (λ (failed : Option _). IsShutAll c.next_stop-stop.result c.args.self.buffers.items failed
+          c.shut_all.result.1.items)
+          c.in-Some-default.is-0 c.shut_all.ensures),
+    )

@@ -46,7 +46,7 @@ returns-in-Err-all_filled-clause-refused g c =
     (ap (λ (u : Unstarted g.row.S.Denot). u.buffer) c.refused-in-Err-all_filled.ensures)
     (subst (AreEach (IsUnwritten g.S.BlockStore None) c.args.stores.items)
     (sym (ap (λ (u : Unstarted g.row.S.Denot). u.stores.items) c.refused-in-Err-all_filled.ensures
-    ∙ c.into_stores-in-Err-all_filled.ensures))
+    ∙ c.into_stores.ensures))
     (started_stores c.args.stores.items c.in-Ok-start_buffers.started.buffers.items
     c.in-Ok-start_buffers.ensures.started.over))
 

@@ -1,4 +1,4 @@
-use Rattle.std.proofs.Common.{◌∙◌, ◌+◌, ◌<◌, ◌++◌, ◌∷◌, [], ap, arith, get_or, length, map, rules}
+use Rattle.std.proofs.Common.{◌∙◌, ◌+◌, ◌<◌, ◌++◌, ◌∷◌, [], ap, get_or, length, map, rules}
 use Rattle.std.proofs.Common.{subst, sym, take}
 use Rattle.std.proofs.lemmas.List.{map_push, take_all, take_more}
 use Rattle.cyc_buffer.specs.Agreement.{Agrees}
