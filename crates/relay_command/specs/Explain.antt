@@ -20,8 +20,8 @@ use Rattle.relay_command.specs.declared.load.ConfFile.{ConfFile}
 use Rattle.relay_command.specs.declared.load.ConfFile.TheVariants as files
 
 -- The text is what a configuration that the folder's files say does, with what lay where the files
--- of its buffers are to be; or where an article goes by it, where that is asked. Nothing says what
--- lies anywhere.
+-- of its buffers are to be, in their order; or where an article goes by it, where that is asked.
+-- Nothing says what lies anywhere.
 pub record IsTold (folder : List ℕ) (text : List ℕ) : Type 0 where
   pub config : Config
   pub sources : Sources

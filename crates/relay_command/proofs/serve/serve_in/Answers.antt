@@ -1,4 +1,3 @@
-use Rattle.std.proofs.Common.{subst}
 use Rattle.relay_command.proofs.Servings.{handed}
 use Rattle.relay_command.proofs.serve.serve_in.Goals as goal
 

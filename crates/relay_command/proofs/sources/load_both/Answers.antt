@@ -1,9 +1,9 @@
-use Rattle.std.proofs.Common.{List, ℕ, subst, sym}
+use Rattle.std.proofs.Common.{subst, sym}
 use Rattle.relay_conf.specs.Lines.{lines_of}
 use Rattle.relay_conf.specs.RelayViews.{RelayGives}
 use Rattle.relay_conf.specs.declared.settings.Buffers.{Buffers}
 use Rattle.relay_conf.proofs.SoundStorage.{methods_go}
-use Rattle.relay_command.specs.Check.{CycbuffReads, Says, StorageReads, in_storage, in_relay}
+use Rattle.relay_command.specs.Check.{CycbuffReads, StorageReads, in_storage, in_relay}
 use Rattle.relay_command.specs.Sources.{SaysBy}
 use Rattle.relay_command.specs.declared.load.ConfFile.TheVariants as files
 use Rattle.relay_command.proofs.sources.load_both.Goals as goal
