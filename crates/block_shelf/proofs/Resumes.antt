@@ -65,34 +65,34 @@ used_by_mode modes.Sequential buffers begun used turns filled = sym (filled refl
 
 module _ (all_used : List ℕ) (m : confs.Mode) (buffers : List places.Buffer) (begun : List ℕ)
   where
-  -- the group
-  abbrev pub group_of : Group
-  group_of = record { mode = mode_view m; buffers = buffers }
+    -- the group
+    abbrev pub group_of : Group
+    group_of = record { mode = mode_view m; buffers = buffers }
 
-  -- the group is where it was, at this position
-  pub resumed : HasCurrent all_used group_of begun → (position used : ℕ) (numbers : List ℕ)
-      (number : ℕ) → (position_of group_of begun).index ≡ position
-      → numbers ≡ map (λ (b : places.Buffer). b.number) buffers
-      → number ≡ unwrap_or (slice_get numbers position) 0 → (m ≡ modes.Interleave → used ≡ 0)
-      → (m ≡ modes.Sequential → used ≡ unwrap_or (slice_get all_used number) 0)
-      → position_of group_of begun ≡ record { index = position; used = used }
-  resumed has position used numbers number at named read turns filled =
-      position_parts (position_of group_of begun) position used at
-      (used_by_mode m buffers begun used turns (λ is.
-      filled is
-      ∙ ap (λ n. unwrap_or (slice_get all_used n) 0)
-      (read ∙ ap (λ ns. unwrap_or (slice_get ns position) 0) named
-      ∙ ap (λ o. unwrap_or o 0)
-      (slice_get-map (λ (b : places.Buffer). b.number) buffers position
-      ∙ ap (λ i. option_map (λ (b : places.Buffer). b.number) (slice_get buffers i)) (sym at)
-      ∙ ap (option_map (λ (b : places.Buffer). b.number)) has.there))
-      ∙ ap (λ o. unwrap_or o 0) (has.used_there (ap mode_view is))
-      ∙ ap (λ each. (position_by (mode_view each) buffers begun).used) is))
+    -- the group is where it was, at this position
+    pub resumed : HasCurrent all_used group_of begun → (position used : ℕ) (numbers : List ℕ)
+        (number : ℕ) → (position_of group_of begun).index ≡ position
+        → numbers ≡ map (λ (b : places.Buffer). b.number) buffers
+        → number ≡ unwrap_or (slice_get numbers position) 0 → (m ≡ modes.Interleave → used ≡ 0)
+        → (m ≡ modes.Sequential → used ≡ unwrap_or (slice_get all_used number) 0)
+        → position_of group_of begun ≡ record { index = position; used = used }
+    resumed has position used numbers number at named read turns filled =
+        position_parts (position_of group_of begun) position used at
+        (used_by_mode m buffers begun used turns (λ is.
+        filled is
+        ∙ ap (λ n. unwrap_or (slice_get all_used n) 0)
+        (read ∙ ap (λ ns. unwrap_or (slice_get ns position) 0) named
+        ∙ ap (λ o. unwrap_or o 0)
+        (slice_get-map (λ (b : places.Buffer). b.number) buffers position
+        ∙ ap (λ i. option_map (λ (b : places.Buffer). b.number) (slice_get buffers i)) (sym at)
+        ∙ ap (option_map (λ (b : places.Buffer). b.number)) has.there))
+        ∙ ap (λ o. unwrap_or o 0) (has.used_there (ap mode_view is))
+        ∙ ap (λ each. (position_by (mode_view each) buffers begun).used) is))
 
-  -- its position is one of its buffers
-  pub position_inside : HasCurrent all_used group_of begun
-      → (position_of group_of begun).index < length buffers
-  position_inside has = slice_get_within buffers (position_of group_of begun).index has.buffer has.there
+    -- its position is one of its buffers
+    pub position_inside : HasCurrent all_used group_of begun
+        → (position_of group_of begun).index < length buffers
+    position_inside has = slice_get_within buffers (position_of group_of begun).index has.buffer has.there
 
 -- a group with a buffer is at one of its buffers
 position_within : (group : Group) (begun : List ℕ) → 0 < length group.buffers

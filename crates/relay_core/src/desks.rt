@@ -57,11 +57,7 @@ impl Desks {
 }
 
 /// The history of a text that is one of this configuration.
-pub fn read_history(
-    alloc: Global,
-    config: &Config,
-    text: &[u8],
-) -> Result<History, HistoryError>
+pub fn read_history(alloc: Global, config: &Config, text: &[u8]) -> Result<History, HistoryError>
     ensures reads { IfOk result (λ history. Reads config.now text.now (history_view history)) }
     ensures only { IfOk result (λ history. (kept : texts.Kept)
         → Reads config.now text.now kept → history_view history ≡ kept) }
