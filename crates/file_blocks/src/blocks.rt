@@ -27,6 +27,14 @@ impl<F: OctetFile> FileBlocks<F> {
         FileBlocks { file, count: n }
     }
 
+    /// The file, and how many blocks of it these are.
+    pub fn into_parts(self) -> (F, u32)
+        ensures file { result.0 ≡ file_of self }
+        ensures count { result.1 ≡ count_of self }
+    {
+        (self.file, self.count)
+    }
+
     /// Whether no buffer was kept in the file: each octet of its first block and of its first head
     /// block is 0, as in a file that was just made.
     pub fn is_blank(&mut self) -> Result<bool, DeviceFailed>

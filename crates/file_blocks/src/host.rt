@@ -147,7 +147,7 @@ impl HostFile {
     }
 
     /// Has the device take all that was written.
-    pub(crate) fn flush(&self) -> Result<(), DeviceFailed> {
+    pub fn flush(&self) -> Result<(), DeviceFailed> {
         match self.file.sync_all() {
             Ok(()) => Ok(()),
             Err(_) => Err(DeviceFailed),

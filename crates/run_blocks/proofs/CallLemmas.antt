@@ -1,11 +1,13 @@
 -- What a store of runs keeps over its calls.
-use Rattle.std.proofs.Common.{◌≡◌, ◌∙◌, ◌<◌, ℕ, List, length, sym, subst}
+use Rattle.std.proofs.Common.{◌≡◌, ◌∙◌, ◌+◌, ◌<◌, ◌≤◌, ℕ, List, length, ap, sym, subst}
+use Rattle.std.proofs.Common.{Result, Ok, Err, OnErr, OnOk}
+use Rattle.std.proofs.lemmas.Result.{on_err_weaker, on_ok_weaker}
 use Rattle.cyc_block.specs.declared.TheConstants.{BLOCK_OCTETS}
 use Rattle.news_terms.specs.HeadBlocks.{head_blocks}
-use Rattle.file_blocks.specs.Blocks.{blocks_of, ChangesOnlyAt}
+use Rattle.file_blocks.specs.Blocks.{blocks_of, heads_of, ChangesOnlyAt}
 use Rattle.file_blocks.proofs.CutLemmas.{length-blocks_of}
 use Rattle.run_blocks.specs.File.{ChangesOnlyIn}
-use Rattle.run_blocks.specs.Store.{blocks_seen, IsCopy, IsHonest}
+use Rattle.run_blocks.specs.Store.{blocks_seen, heads_seen, AsksFile, IsCopy, IsHonest}
 use Rattle.run_blocks.specs.declared.file.RunFile.{Ghosts}
 use Rattle.run_blocks.specs.declared.run.Run.{Run}
 use Rattle.run_blocks.specs.declared.store.RunBlocks.{RunBlocks}
@@ -56,3 +58,30 @@ pub head_within : {F : Type 0} (g : Ghosts F) (store : RunBlocks F) (n k : ℕ) 
 head_within g store n k octets same h =
     subst (λ (m : ℕ). k < head_blocks m)
     (length-blocks_seen g store ∙ sym same ∙ sym (length-blocks_of n octets)) h
+
+-- a store that has the same file has the same head blocks
+pub heads_as : {F : Type 0} (g : Ghosts F) (old new : RunBlocks F) → new.file ≡ old.file
+    → new.count ≡ old.count → heads_seen g new ≡ heads_seen g old
+heads_as {F} g old new file count =
+    ap (λ (n : ℕ). heads_of n (g.held new.file)) count
+    ∙ ap (λ (f : F). heads_of old.count (g.held f)) file
+
+-- what was asked of a file behind a step that asked it for nothing
+pub asks_behind : {F A E : Type 0} (g : Ghosts F) (most : ℕ) (old mid new : RunBlocks F)
+    (result : Result A E) → mid.file ≡ old.file → AsksFile g most mid new result
+    → AsksFile g most old new result
+asks_behind {F} g most old mid new result same asks = record {
+  calls = subst (λ (f : F). g.calls new.file ≤ g.calls f + most) same asks.calls;
+  failed = on_err_weaker result (λ is. is ∙ ap (λ (f : F). g.failures f + 1) same) asks.failed;
+  no_failure = on_ok_weaker result (λ is. is ∙ ap (λ (f : F). g.failures f) same) asks.no_failure;
+}
+
+-- what is so anyway is so where a call answered Ok
+pub any_ok : {T E P : Type 0} (result : Result T E) → P → OnOk result P
+any_ok (Ok x) p = p
+any_ok (Err e) p = tt
+
+-- what is so anyway is so where a call failed
+pub any_err : {T E P : Type 0} (result : Result T E) → P → OnErr result P
+any_err (Ok x) p = tt
+any_err (Err e) p = p

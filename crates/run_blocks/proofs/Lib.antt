@@ -1,5 +1,7 @@
+pub mod AsideLemmas
 pub mod CallLemmas
 pub mod CopyLemmas
+pub mod KeptLemmas
 pub mod OverlayLemmas
 pub mod PlaceLemmas
 pub mod RunLemmas

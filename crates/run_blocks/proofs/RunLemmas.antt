@@ -1,7 +1,10 @@
 -- The blocks of a run by its octets.
 use Rattle.std.proofs.Common.{◌≡◌, ◌∙◌, ◌+◌, ◌*◌, ◌<◌, ◌≤◌, ℕ, zero, suc, List, [], ◌∷◌, ◌++◌}
-use Rattle.std.proofs.Common.{take, drop, get_or, refl, sym, ap, subst, arith, add-one}
+use Rattle.std.proofs.Common.{length, take, drop, get_or, refl, sym, ap, subst, arith}
+use Rattle.std.proofs.Common.{add-one}
 use Rattle.std.proofs.lemmas.List.{drop-drop, take-take}
+use Rattle.std.proofs.lemmas.List.Edits.{take-paste}
+use Rattle.std.proofs.Math.Seq.{paste}
 use Rattle.cyc_block.specs.declared.TheConstants.{BLOCK_OCTETS}
 use Rattle.file_blocks.specs.Blocks.{blocks_of, octets_at, ChangesOnlyAt}
 use Rattle.file_blocks.proofs.CutLemmas.{block_there, same_front}
@@ -69,3 +72,20 @@ got_block n j place size all octets out h at long same is =
     ∙ ap (λ (p : ℕ). take BLOCK_OCTETS (drop p all)) at
     ∙ ap (λ (o : List ℕ). take BLOCK_OCTETS (drop (j * BLOCK_OCTETS) o)) same
     ∙ sym (block_there n j octets h)
+
+-- where all blocks but the first are moved to the front, they are the blocks there
+pub moved_blocks : (left size : ℕ) (old new : List ℕ) → left * BLOCK_OCTETS ≤ size
+    → size ≤ length (drop BLOCK_OCTETS old) → new ≡ paste old 0 (drop BLOCK_OCTETS old) size
+    → blocks_of left new ≡ drop 1 (blocks_of (left + 1) old)
+unfolding blocks_of
+moved_blocks left size old new h fits is =
+    let rest : List ℕ = drop BLOCK_OCTETS old in
+    let front : take size new ≡ take 0 old ++ take size rest =
+    ap (λ (o : List ℕ). take size o) is
+    ∙ ap (λ (m : ℕ). take m (paste old 0 rest size)) (omega arith)
+    ∙ take-paste old 0 rest size (omega arith) fits in
+    same_front left rest new
+    (sym (take-take (left * BLOCK_OCTETS) size new h)
+    ∙ ap (λ (o : List ℕ). take (left * BLOCK_OCTETS) o) front
+    ∙ take-take (left * BLOCK_OCTETS) size rest h)
+    ∙ sym (ap (λ (m : ℕ). drop 1 (blocks_of m old)) (add-one left))

@@ -1,13 +1,14 @@
 -- What a store of runs holds.
-use Rattle.std.specs.Prelude.{◌≡◌, ◌+◌, ◌<◌, ◌≤◌, ℕ, List, length, Result, OnErr, OnOk}
-use Rattle.cyc_block.specs.Store.{block_at}
+use Rattle.std.specs.Prelude.{◌≡◌, ◌≢◌, ◌⊎◌, ◌+◌, ◌-◌, ◌<◌, ◌≤◌, ℕ, List, length, slice_set, IsTrue}
+use Rattle.std.specs.Prelude.{Result, OnErr, OnOk}
+use Rattle.cyc_block.specs.Store.{block_at, ChangesOnly}
 use Rattle.file_blocks.specs.Blocks.{blocks_of, heads_of}
 use Rattle.run_blocks.specs.declared.run.Run.{Run}
 use Rattle.run_blocks.specs.declared.run.TheConstants.{RUN_BLOCKS}
 use Rattle.run_blocks.specs.declared.file.RunFile.{Ghosts}
 use Rattle.run_blocks.specs.declared.store.RunBlocks.{RunBlocks}
 use Rattle.run_blocks.specs.Overlay.{overlaid}
-use Rattle.run_blocks.specs.Run.{blocks_in}
+use Rattle.run_blocks.specs.Run.{blocks_in, Holds}
 
 -- the file
 abbrev pub file_of : {F : Type 0} → RunBlocks F → F
@@ -47,6 +48,46 @@ IsCopy run blocks =
 pub record IsHonest {F : Type 0} (g : Ghosts F) (store : RunBlocks F) : Type 0 where
   pub file : g.honest store.file
   pub ahead : IsCopy store.ahead (blocks_there g store)
+
+-- what is gathered couldn't be written: it is set aside, and is kept in memory alone
+abbrev pub IsSetAside : {F : Type 0} → RunBlocks F → Type 0
+IsSetAside store = IsTrue store.set_aside
+
+-- block k is in memory alone, and not in the file
+abbrev pub IsInMemory : {F : Type 0} → RunBlocks F → (k : ℕ) → Type 0
+IsInMemory store k = Holds store.gathered k
+
+-- none of the blocks from this one on up to that one is in memory alone
+abbrev pub AreWritten : {F : Type 0} → (first last : ℕ) → RunBlocks F → Type 0
+AreWritten first last store = (j : ℕ) → first ≤ j → j ≤ last → ¬ IsInMemory store j
+
+-- A write of block k, which has this index in its article, doesn't wait for what is set aside: block k
+-- is the first of that, or none of the article's blocks up to it is in memory alone.
+abbrev pub PassesBy : {F : Type 0} → (k index : ℕ) → RunBlocks F → Type 0
+PassesBy k index store = (k ≡ store.gathered.first) ⊎ AreWritten (k - index) k store
+
+-- What a write of block k leaves of blocks that were set aside: no others are gathered, and they stay
+-- so but for block k, or all of them are written.
+pub record KeepsAside {F : Type 0} (k : ℕ) (old new : RunBlocks F) : Type 0 where
+  pub no_more : (j : ℕ) → IsInMemory new j → IsInMemory old j
+  pub rest : IsSetAside new → (j : ℕ) → j ≢ k → IsInMemory old j → IsInMemory new j
+  pub aside : (j : ℕ) → IsInMemory new j → IsSetAside new
+
+-- what is set aside stays so, and nothing else is gathered
+pub record StaysAside {F : Type 0} (old new : RunBlocks F) : Type 0 where
+  pub run : new.gathered ≡ old.gathered
+  pub aside : IsSetAside new
+
+-- What a write of block k leaves of an honest store: block k holds these octets where it answers Ok,
+-- no other block and no head block holds other octets than before, and it stays honest.
+pub record WritesBlock {F A E : Type 0} (g : Ghosts F) (k : ℕ) (octets : List ℕ)
+    (old new : RunBlocks F) (result : Result A E) : Type 0 where
+  pub written : IsHonest g old
+      → OnOk result (blocks_seen g new ≡ slice_set (blocks_seen g old) k octets)
+  pub others : IsHonest g old → ChangesOnly k (blocks_seen g old) (blocks_seen g new)
+  pub heads : IsHonest g old → heads_seen g new ≡ heads_seen g old
+  pub honest : IsHonest g old → IsHonest g new
+  pub count : new.count ≡ old.count
 
 -- block k can be put behind what is gathered: it follows that, or nothing is gathered
 pub record CanTake {F : Type 0} (store : RunBlocks F) (k : ℕ) : Type 0 where

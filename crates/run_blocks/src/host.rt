@@ -1,14 +1,13 @@
 //! Files of the machine.
 ghost use Rattle.std.specs.Prelude.{◌≡◌, ◌+◌, ◌++◌, ◌∷◌, [], length, is_err, IfOk, OnErr, OnOk};
 ghost use Rattle.file_blocks.specs.Host.{asked_of as calls_of, failed_in};
-ghost use Rattle.file_blocks.specs.Host.{held_identity, identity_of};
+ghost use Rattle.file_blocks.specs.Store.{count_of as blocks_counted, file_of as file_below};
 
 use crate::file::RunFile;
-use crate::run::place_of;
 use crate::store::RunBlocks;
-use cyc_block::{DeviceFailed, head_count};
-use file_blocks::{HeldFile, HostFile, Unusable};
-use std::alloc::Global;
+use cyc_block::DeviceFailed;
+use file_blocks::{FileBlocks, HostFile};
+use std::alloc::{AllocError, Global};
 
 impl RunFile for HostFile {
     // Of a file of the machine nothing is promised, so contracts see no octet of it, and nothing
@@ -47,20 +46,20 @@ impl RunFile for HostFile {
 impl RunBlocks<HostFile> {
     ghost use Rattle.run_blocks.specs.Store.{asked_of, count_of, file_of, gathered_of};
 
-    /// The first n blocks of a file that is held, and their head blocks. The file is made longer
-    /// with zeros where it is shorter; octets that it has stay. Want of memory is a refusal of the
-    /// machine.
-    pub fn of_held(alloc: Global, held: HeldFile, n: u32) -> Result<RunBlocks<HostFile>, Unusable>
-        ensures count { IfOk result (λ store. count_of store ≡ n) }
-        ensures unasked { IfOk result (λ store. calls_of (file_of store) ≡ []) }
-        ensures same { IfOk result (λ store. identity_of (file_of store) ≡ held_identity held) }
+    /// The blocks of a file, which are written and read in runs from here on. All memory that it
+    /// ever takes is taken here, as by `new`.
+    pub fn of_blocks(alloc: Global, blocks: FileBlocks) -> Result<RunBlocks<HostFile>, AllocError>
+        ensures count { IfOk result (λ store. count_of store ≡ blocks_counted blocks) }
+        ensures file { IfOk result (λ store. file_of store ≡ file_below blocks) }
         ensures gathered { IfOk result (λ store. gathered_of store ≡ []) }
         ensures asked { IfOk result (λ store. asked_of store ≡ 0) }
     {
-        let file = held.fit(place_of(n) + place_of(head_count(n)))?;
-        match RunBlocks::new(alloc, file, n) {
-            Ok(store) => Ok(store),
-            Err(refused) => Err(Unusable::Refused(refused.into())),
-        }
+        let (file, count) = blocks.into_parts();
+        RunBlocks::new(alloc, file, count)
+    }
+
+    /// Has the device take all that was written to the file, which what is gathered is not.
+    pub fn sync(&self) -> Result<(), DeviceFailed> {
+        self.file.flush()
     }
 }

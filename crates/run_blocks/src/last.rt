@@ -16,7 +16,7 @@ pub(crate) fn octets_left(octets: &[u8; BLOCK_OCTETS]) -> u64
 }
 
 /// The index in its article that a block says.
-fn index(octets: &[u8; BLOCK_OCTETS]) -> u32
+pub(crate) fn index(octets: &[u8; BLOCK_OCTETS]) -> u32
     ensures { (b : Block) → IsBlock b → octets.now ≡ image_of b → result ≡ b.index }
 {
     u32::from_be_bytes([octets[12], octets[13], octets[14], octets[15]])

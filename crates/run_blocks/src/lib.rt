@@ -2,13 +2,17 @@
 //! (docs/FORMATS.md, Blocks on the device).
 //!
 //! What is written is gathered first: blocks that follow each other go to the file in one call.
-//! What is gathered is read out of memory. A store keeps what a store promises as far as its file
-//! is honest, and the write of an article's last block leaves nothing gathered.
+//! What is gathered is read out of memory. A run that can't be written is set aside, and blocks are
+//! written past it. A store keeps what a store promises as far as its file is honest, and after the
+//! write of an article's last block none of its blocks is in memory alone.
 #![tactic(auto)]
 
 mod file;
+mod gathering;
 mod host;
 mod last;
+mod past;
+mod reading;
 mod run;
 mod store;
 

@@ -1,6 +1,6 @@
 //! Runs of blocks in memory.
-ghost use Rattle.std.specs.Prelude.{◌≡◌, ◌+◌, ◌-◌, ◌*◌, ◌<◌, ◌≤◌, ◌++◌, ◌∷◌, [], ◌↔◌};
-ghost use Rattle.std.specs.Prelude.{length, take, IfOk, IsTrue, OnErr, OnOk};
+ghost use Rattle.std.specs.Prelude.{◌≡◌, ◌+◌, ◌-◌, ◌*◌, ◌<◌, ◌≤◌, ◌++◌, ◌∷◌, [], ◌↔◌, ◌^◌};
+ghost use Rattle.std.specs.Prelude.{length, take, drop, IfOk, IsTrue, OnErr, OnOk};
 ghost use Rattle.cyc_block.specs.Store.{block_at};
 ghost use Rattle.file_blocks.specs.Blocks.{blocks_of, octets_at, ChangesOnlyAt};
 ghost use Rattle.run_blocks.specs.File.{octets_in};
@@ -62,6 +62,16 @@ impl Run {
         self.count < RUN_BLOCKS && self.first <= k && k - self.first == self.count
     }
 
+    /// Whether one of the blocks from this one on up to that one is one of them.
+    pub(crate) fn meets(&self, first: u32, last: u32) -> bool
+        requires some { 0 < self.now.count }
+        requires order { first ≤ last }
+        ensures { IsTrue result
+            ↔ (self.now.first ≤ last) × (first < self.now.first + self.now.count) }
+    {
+        self.first <= last && (first < self.first || first - self.first < self.count)
+    }
+
     /// Takes all of them away where one of so many blocks from block `first` on is one of them.
     pub(crate) fn give_way(&mut self, first: u32, count: u32)
         ensures stays { 0 < self.new.count → self.new ≡ self.old }
@@ -111,6 +121,21 @@ impl Run {
         ensures fewer { blocks_in self.new ≡ take self.new.count (blocks_in self.old) }
     {
         self.count -= 1;
+    }
+
+    /// Takes the first of them away; the others are moved to the front.
+    pub(crate) fn drop_first(&mut self)
+        requires some { 0 < self.old.count }
+        requires small { self.old.first + 1 < 2 ^ 32 }
+        ensures first { self.new.first ≡ self.old.first + 1 }
+        ensures count { self.new.count + 1 ≡ self.old.count }
+        ensures fewer { blocks_in self.new ≡ drop 1 (blocks_in self.old) }
+    {
+        let left = self.count - 1;
+        let all = self.octets.as_mut_slice();
+        all.copy_within(BLOCK_OCTETS..RUN_OCTETS, 0);
+        self.first += 1;
+        self.count = left;
     }
 
     /// Takes all of them away.

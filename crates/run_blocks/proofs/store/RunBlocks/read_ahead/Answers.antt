@@ -1,5 +1,5 @@
 -- What was read is as it is in the file, of which nothing is another.
-use Rattle.std.proofs.Common.{List, ℕ, sym, ap, subst, refl, arith}
+use Rattle.std.proofs.Common.{List, ℕ, sym, ap, subst, refl}
 use Rattle.file_blocks.specs.Blocks.{blocks_of, heads_of}
 use Rattle.run_blocks.specs.Overlay.{overlaid}
 use Rattle.run_blocks.specs.Run.{blocks_in}
@@ -22,8 +22,8 @@ returns-clause-seen g c =
         file = read.honest honest.file;
         ahead = subst (λ (o : List ℕ). IsCopy c.read.new.self (blocks_of n o))
             (sym (read.same honest.file))
-            (read_copy c.read.result c.read.new.self n c.args.k c.min-count.result held
-            (omega (arith, c.requires.within, c.min-count.ensures)) c.read.ensures.none
+            (read_copy c.read.result c.read.new.self n c.args.k c.args.many held
+            c.requires.within c.read.ensures.none
             c.read.ensures.first c.read.ensures.count (c.read.ensures.octets honest.file));
       };
       count = refl;

@@ -5,8 +5,8 @@ use Rattle.run_blocks.specs.File.{octets_in}
 use Rattle.run_blocks.proofs.SeenLemmas.{single_read}
 use Rattle.run_blocks.proofs.store.RunBlocks.read_there.Goals as goal
 
-pub returns-then-self-k-clause-octets : goal.returns-then-self-k-clause-octets
-returns-then-self-k-clause-octets g c honest =
+pub returns-then-many-eq1-clause-octets : goal.returns-then-many-eq1-clause-octets
+returns-then-many-eq1-clause-octets g c honest =
     let store = c.args.self.now in
     let held = g.F.RunFile.held store.file in
     on_ok_weaker c.read.result

@@ -1,24 +1,25 @@
 -- What is gathered is written first; then a write at the place of head block k changes it alone.
-use Rattle.std.proofs.Common.{◌∙◌, List, ℕ, [], get_or, set, ap, refl, sym, subst}
-use Rattle.std.proofs.lemmas.Result.{on_ok_weaker}
+use Rattle.std.proofs.Common.{◌∙◌, ◌+◌, List, ℕ, [], get_or, set, ap, refl, sym, subst}
+use Rattle.std.proofs.Common.{arith}
+use Rattle.std.proofs.lemmas.Result.{on_err_weaker, on_ok_weaker}
 use Rattle.file_blocks.proofs.HeadLemmas.{blocks_stay, other_heads, written_head}
 use Rattle.run_blocks.specs.File.{octets_in}
 use Rattle.run_blocks.specs.Overlay.{overlaid}
 use Rattle.run_blocks.specs.Run.{blocks_in}
 use Rattle.run_blocks.specs.Store.{IsCopy}
-use Rattle.run_blocks.proofs.CallLemmas.{block_change, head_within, honest_as, same_seen}
+use Rattle.run_blocks.proofs.CallLemmas.{any_err, block_change, head_within, honest_as, same_seen}
 use Rattle.run_blocks.proofs.SeenLemmas.{two_seen}
 use Rattle.run_blocks.proofs.store.RunBlocksBlockStore.write_head.Goals as goal
 
-pub returns-in_err-flush-clause-count : goal.returns-in_err-flush-clause-count
-returns-in_err-flush-clause-count g c =
-    same_seen g.F.RunFile c.args.self.now c.flush.new.self c.flush.ensures.seen.count
+pub returns-in_err-clear_way-clause-count : goal.returns-in_err-clear_way-clause-count
+returns-in_err-clear_way-clause-count g c =
+    same_seen g.F.RunFile c.args.self.now c.clear_way.new.self c.clear_way.ensures.seen.count
 
 pub returns-clause-written : goal.returns-clause-written
 returns-clause-written g c honest =
     let f = g.F.RunFile in
-    let mid = c.flush.new.self in
-    let seen = c.flush.ensures.seen in
+    let mid = c.clear_way.new.self in
+    let seen = c.clear_way.ensures.seen in
     let file = (seen.honest (honest_as f c.args.self.now _ refl refl refl honest)).file in
     let old = f.held mid.file in
     let new = f.held c.write.new.self in
@@ -36,8 +37,8 @@ returns-clause-written g c honest =
 pub returns-clause-others : goal.returns-clause-others
 returns-clause-others g c honest j other =
     let f = g.F.RunFile in
-    let mid = c.flush.new.self in
-    let seen = c.flush.ensures.seen in
+    let mid = c.clear_way.new.self in
+    let seen = c.clear_way.ensures.seen in
     let file = (seen.honest (honest_as f c.args.self.now _ refl refl refl honest)).file in
     let old = f.held mid.file in
     let new = f.held c.write.new.self in
@@ -52,8 +53,8 @@ returns-clause-others g c honest j other =
 pub returns-clause-blocks : goal.returns-clause-blocks
 returns-clause-blocks g c honest =
     let f = g.F.RunFile in
-    let mid = c.flush.new.self in
-    let seen = c.flush.ensures.seen in
+    let mid = c.clear_way.new.self in
+    let seen = c.clear_way.ensures.seen in
     let file = (seen.honest (honest_as f c.args.self.now _ refl refl refl honest)).file in
     let old = f.held mid.file in
     let new = f.held c.write.new.self in
@@ -66,8 +67,8 @@ returns-clause-blocks g c honest =
 pub returns-clause-honest : goal.returns-clause-honest
 returns-clause-honest g c honest =
     let f = g.F.RunFile in
-    let mid = c.flush.new.self in
-    let after = c.flush.ensures.seen.honest (honest_as f c.args.self.now _ refl refl refl honest) in
+    let mid = c.clear_way.new.self in
+    let after = c.clear_way.ensures.seen.honest (honest_as f c.args.self.now _ refl refl refl honest) in
     let old = f.held mid.file in
     let new = f.held c.write.new.self in
     let place = c.head_place_of.result in
@@ -82,8 +83,23 @@ returns-clause-honest g c honest =
 pub returns-clause-count : goal.returns-clause-count
 returns-clause-count g c =
     let store = c.args.self.now in
-    let mid = c.flush.new.self in
+    let mid = c.clear_way.new.self in
     two_seen store.count mid.count store.gathered.first store.gathered.count mid.gathered.first
     mid.gathered.count (g.F.RunFile.held store.file) (g.F.RunFile.held c.write.new.self)
-    store.gathered.octets.items mid.gathered.octets.items c.flush.ensures.seen.count
+    store.gathered.octets.items mid.gathered.octets.items c.clear_way.ensures.seen.count
     store.gathered_within mid.gathered_within
+
+pub returns-clause-aside : goal.returns-clause-aside
+returns-clause-aside g c = any_err c.write.result c.in_ok-clear_way.ensures.rest
+
+pub returns-clause-once : goal.returns-clause-once
+returns-clause-once g c aside =
+    let same = c.clear_way.ensures.unasked aside in
+    let f = g.F.RunFile in
+    record {
+      calls = omega (arith, c.write.ensures.calls, ap (λ file. f.calls file) same);
+      failed = on_err_weaker c.write.result (λ is. is ∙ ap (λ file. f.failures file + 1) same)
+          c.write.ensures.failed;
+      no_failure = on_ok_weaker c.write.result (λ is. is ∙ ap (λ file. f.failures file) same)
+          c.write.ensures.no_failure;
+    }
