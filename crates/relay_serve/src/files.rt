@@ -1,13 +1,15 @@
 //! The files of the buffers (docs/FORMATS.md, cycbuff.conf).
 ghost use Rattle.std.specs.Prelude.{◌≡◌, length, map, All, Any, IfErr, IfNone, IfOk, IfSome};
-ghost use Rattle.file_blocks.specs.Store.{count_of};
+ghost use Rattle.file_blocks.specs.Store.{count_of as blocks_counted};
 ghost use Rattle.relay_serve.specs.Files.{HasReason, IsFaultAt, IsFaultOf, IsFileFault};
 ghost use Rattle.relay_serve.specs.Files.{SharesFile};
+ghost use Rattle.run_blocks.specs.Store.{count_of};
 ghost use Rattle.serve_terms.specs.declared.fault.ServeError.TheVariants as faults;
 
 use crate::reasons::reason_of;
 use file_blocks::{FileBlocks, HeldFile, Unusable};
 use relay_conf::{BufferConf, Buffers};
+use run_blocks::RunBlocks;
 use serve_terms::{LostFile, Reason, ServeError};
 use std::alloc::{AllocError, Global};
 use std::fs::{File, Files};
@@ -141,14 +143,15 @@ fn taken_by_none(file: HeldFile, others: &[HeldFile]) -> Option<HeldFile>
     Some(file)
 }
 
-/// A store in the file of each buffer, of its blocks, in the order of the buffers, and whether no
-/// buffer was kept in any of them: each file is made as long as that takes, and its last block is
-/// tried. The error is want of memory, or the first file with which that can't be done.
+/// A store in the file of each buffer, of its blocks, in the order of the buffers, which writes and
+/// reads runs of them, and whether no buffer was kept in any: each file is made as long as that
+/// takes, and its last block is tried. The error is want of memory, or the first file with which
+/// that can't be done.
 pub fn fit_files(
     alloc: Global,
     settings: &Buffers,
     files: Vec<HeldFile>,
-) -> Result<(Vec<FileBlocks>, bool), ServeError>
+) -> Result<(Vec<RunBlocks>, bool), ServeError>
     requires count { length files.items ≡ length settings.now.buffers.items }
     ensures blocks { IfOk result (λ fitted. map count_of fitted.0.items
         ≡ map (λ buffer. buffer.blocks) settings.now.buffers.items) }
@@ -162,9 +165,9 @@ pub fn fit_files(
             unreachable!()
         };
         match FileBlocks::of_held(file, buffer.blocks) {
-            Ok(mut store) => {
-                blank = is_blank(&mut store) && blank;
-                stores.push_reserved(store);
+            Ok(mut file) => {
+                blank = is_blank(&mut file) && blank;
+                stores.push_reserved(RunBlocks::of_blocks(alloc, file)?);
             }
             Err(refused) => return Err(unfit(alloc, buffer, &refused)),
         }
@@ -173,10 +176,10 @@ pub fn fit_files(
 }
 
 /// Whether no buffer was kept in a file, as far as that can be read.
-fn is_blank(store: &mut FileBlocks) -> bool
-    ensures count { count_of store.new ≡ count_of store.old }
+fn is_blank(file: &mut FileBlocks) -> bool
+    ensures count { blocks_counted file.new ≡ blocks_counted file.old }
 {
-    store.is_blank().unwrap_or(false)
+    file.is_blank().unwrap_or(false)
 }
 
 /// The fault of the file of a buffer that can't be used so.

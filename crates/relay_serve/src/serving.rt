@@ -1,7 +1,7 @@
 //! A relay is served on the ports of the machine, over its files.
 ghost use Rattle.std.specs.Prelude.{◌≡◌, ◌<◌, ◌^◌, IfErr, IfOk, length, map};
-ghost use Rattle.file_blocks.specs.Store.{count_of};
 ghost use Rattle.relay_serve.specs.Running.{IsServeFault, IsStopFault};
+ghost use Rattle.run_blocks.specs.Store.{count_of};
 ghost use Rattle.serve_terms.specs.Serve.{AreOf, ServeGives};
 
 use crate::clock::MachineClock;
@@ -13,7 +13,6 @@ use crate::ports::open_ports;
 use crate::running::{lanes_of, run_relay};
 use crate::streams::fill_streams;
 use crate::watched::{Watched, watch_all};
-use file_blocks::FileBlocks;
 use history_file::{HistoryPlace, HostHistory, Origin};
 use live_store::Register;
 use peer_ports::{Port, Stop};
@@ -22,6 +21,7 @@ use relay_control::Control;
 use relay_core::Stopped;
 use relay_live::Door;
 use relay_report::Totals;
+use run_blocks::RunBlocks;
 use serve_terms::{ServeError, StopFault, print_totals};
 use std::alloc::Global;
 use std::fs::{File, Files};
@@ -100,7 +100,7 @@ fn begin_and_run<'a, R, H: HistoryPlace, W: Write>(
     rt: &R,
     alloc: Global,
     config: &Config,
-    stores: Vec<FileBlocks>,
+    stores: Vec<RunBlocks>,
     fresh: bool,
     blank: bool,
     history: &mut H,
@@ -135,7 +135,7 @@ fn run_and_print<'a, R, H: HistoryPlace, W: Write>(
     rt: &R,
     alloc: Global,
     config: &Config,
-    stores: Vec<FileBlocks>,
+    stores: Vec<RunBlocks>,
     origin: Origin,
     history: &mut H,
     doors: Vec<Door<Port<'a>>>,
@@ -165,7 +165,7 @@ fn run_on<'a, R, H: HistoryPlace>(
     rt: &R,
     alloc: Global,
     config: &Config,
-    stores: Vec<FileBlocks>,
+    stores: Vec<RunBlocks>,
     origin: Origin,
     history: &mut H,
     doors: Vec<Door<Port<'a>>>,
@@ -186,7 +186,7 @@ where
     let stores = watch_all(rt, &config.buffers, stores)?;
     match run_relay::<
         Port<'a>,
-        Watched<'_, FileBlocks, R>,
+        Watched<'_, RunBlocks, R>,
         Brand,
         Brand,
         MachineClock<'_, R>,
@@ -208,12 +208,12 @@ where
 /// the devices haven't got.
 fn keep_stopped<R, H: HistoryPlace>(
     history: &mut H,
-    stopped: &Stopped<Watched<'_, FileBlocks, R>>,
+    stopped: &Stopped<Watched<'_, RunBlocks, R>>,
 ) -> Result<(), ServeError>
     ensures fault { IfErr result IsStopFault }
 {
     for store in &stopped.stores {
-        if store.flush().is_err() {
+        if store.sync().is_err() {
             return Err(ServeError::Stop(StopFault::Device));
         }
     }
