@@ -41,6 +41,10 @@ BODY = parts(HEADER + b"\r\nKeywords:\r\n\r\n", b"x" * 62 + b"\r\n")
 NAMED = parts(b"Path: ", b"a.example!", BEHIND_PATH)
 FOLDED = parts(b"Path: ", b"a.\r\n example!", BEHIND_PATH)
 LINES = parts(b"", LINE)
+# An article whose lines have 62 octets with their CRLF, and the same as a block.
+LARGE = parts(HEADER + b"\r\nKeywords:\r\n\r\n", b"x" * 60 + b"\r\n")
+UPDATED = parts(b"Path: a.example!" + BEHIND_PATH[:-3], b"x" * 60 + b"\r\n")
+BLOCK = parts(b"", b"x" * 60 + b"\r\n", b".\r\n")
 STARS = parts(b"", b"*")
 ENTRIES = parts(b"", b"method cnfs {\nclass: 1\nnewsgroups: *\noptions: G\n}\n")
 
@@ -61,6 +65,12 @@ TABLES = {
         ("giving a quarter of a million newsgroups", "groups", 0, GROUPS, MILLION // 4),
         ("giving two million newsgroups", "groups", 0, GROUPS, 2 * MILLION),
         ("a body of 16 MB", "parse", 0, BODY, 1 << 18),
+    ],
+    "large": [
+        ("a block of 1 MB cut, in pieces of 65,536", "blocks", 65_536, BLOCK, MILLION // 62),
+        ("an article of 1 MB read", "parse", 0, LARGE, MILLION // 62),
+        ("its Path updated", "updated", 0, UPDATED, MILLION // 62),
+        ("its text stuffed", "stuff", 0, LARGE, MILLION // 62),
     ],
     "paths": [
         ("`identities`, each piece an identity", "identities", 0, NAMED, MILLION),

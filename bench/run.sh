@@ -1,7 +1,7 @@
 #!/usr/bin/env bash
 # Builds the benchmarks and runs one of them: bench/run.sh relay for the whole relay, bench/run.sh relay count for its
 # instructions (by valgrind), bench/run.sh history for a stop and a start with a million message-ids, or cutting,
-# articles, paths, patterns or settings for the crates of texts and settings.
+# articles, large, paths, patterns or settings for the crates of texts and settings.
 set -euo pipefail
 cd "$(dirname "${BASH_SOURCE[0]}")"
 word="${1:-cutting}"

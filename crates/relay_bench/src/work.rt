@@ -6,7 +6,7 @@ use std::alloc::Global;
 use std::io;
 use std::io::ErrorKind;
 use std::time::Instant;
-use stream_cut::{CutError, Cutter};
+use stream_cut::{CutError, Cutter, stuff};
 use uwild::Expr;
 
 /// The octets of a block's text, at most.
@@ -22,6 +22,8 @@ pub enum Work {
     Lines,
     /// Blocks are.
     Blocks,
+    /// It is stuffed as a block.
+    Stuff,
     /// It is read as an article.
     Parse,
     /// Of the article that it is, the newsgroups are given,
@@ -52,9 +54,10 @@ pub struct Job {
 }
 
 /// The words that name work. Any other names the first.
-static WORDS: [(&str, Work); 12] = [
+static WORDS: [(&str, Work); 13] = [
     ("lines", Work::Lines),
     ("blocks", Work::Blocks),
+    ("stuff", Work::Stuff),
     ("parse", Work::Parse),
     ("groups", Work::Groups),
     ("identities", Work::Identities),
@@ -108,6 +111,7 @@ fn is_done(alloc: Global, job: Job, text: &[u8]) -> bool {
     match job.work {
         Work::Lines => cut(alloc, text, job.number, false).is_ok(),
         Work::Blocks => cut(alloc, text, job.number, true).is_ok(),
+        Work::Stuff => stuff(alloc, text).is_ok(),
         Work::Parse => Article::parse(alloc, text).is_ok(),
         Work::Expression => Expr::parse(alloc, text).is_ok(),
         Work::Storage => configure_storage(alloc, text),
