@@ -226,6 +226,8 @@ impl Load {
         for first in (0..self.count).step_by(OFFERED) {
             if first > 0 {
                 wire.ask("QUIT")?;
+                // The relay waits for the end of what a peer sends before it takes the next connection.
+                wire.close()?;
                 *wire = self.open()?;
             }
             let begun = Instant::now();

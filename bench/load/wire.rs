@@ -1,7 +1,7 @@
 //! A connection to a news server: lines, blocks, and octets that go out.
 use std::collections::HashMap;
 use std::io::{self, ErrorKind, Read, Write};
-use std::net::{Ipv4Addr, SocketAddrV4, TcpStream};
+use std::net::{Ipv4Addr, Shutdown, SocketAddrV4, TcpStream};
 use std::os::fd::{AsRawFd, FromRawFd};
 use std::time::Duration;
 
@@ -205,6 +205,11 @@ impl Wire {
     pub fn skip_block(&mut self) -> io::Result<usize> {
         let (begin, end) = self.until(b"\r\n.\r\n")?;
         Ok(end - begin)
+    }
+
+    /// Ends the connection, both ways.
+    pub fn close(&mut self) -> io::Result<()> {
+        self.stream.shutdown(Shutdown::Both)
     }
 
     /// Sends a command and gives the line that answers it.
