@@ -67,7 +67,7 @@ TABLES = {
         ("a body of 16 MB", "parse", 0, BODY, 1 << 18),
     ],
     "large": [
-        ("a block of 1 MB cut, in pieces of 65,536", "blocks", 65_536, BLOCK, MILLION // 62),
+        ("a block of 1 MB found, in pieces of 65,536", "find", 65_536, BLOCK, MILLION // 62),
         ("an article of 1 MB read", "parse", 0, LARGE, MILLION // 62),
         ("its Path updated", "updated", 0, UPDATED, MILLION // 62),
         ("its text stuffed", "stuff", 0, LARGE, MILLION // 62),

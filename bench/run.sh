@@ -7,8 +7,8 @@ cd "$(dirname "${BASH_SOURCE[0]}")"
 word="${1:-cutting}"
 out=../crates/relay_bench/out
 if [ "$word" = history ]; then
-    (cd ../crates/history_bench && rt run)
-    exec ../crates/history_bench/out/history_bench "${2:-1000000}"
+    (cd ../crates/relay_bench && rt run)
+    exec "$out/relay_bench" history "${2:-1000000}"
 fi
 # Without words the program does nothing: this proves and builds it.
 (cd ../crates/relay_bench && rt run)

@@ -1,4 +1,9 @@
 mod EmptyLinePlaces
 mod FaultReplies
+pub mod FirstContents
+pub mod Fronts
 mod Hearing
+pub mod Lines
 mod Overviews
+pub mod Rooms
+pub mod Walks

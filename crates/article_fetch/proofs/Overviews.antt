@@ -11,9 +11,9 @@ use Rattle.news_terms.specs.Article.{Article, IsLaidOut, article_text}
 use Rattle.news_terms.specs.Overview.{overview_line}
 use Rattle.news_terms.specs.Lines.{crlf}
 use Rattle.news_terms.specs.Reply.{OverviewFollows, line_of, reply_text}
-use Rattle.overview_line.proofs.Rooms.{line_within}
-use Rattle.overview_line.specs.declared.overview.PutError.{PutError}
-use Rattle.overview_line.specs.declared.overview.PutError.TheVariants as errors
+use Rattle.article_fetch.proofs.Rooms.{line_within}
+use Rattle.article_fetch.specs.declared.overview.PutError.{PutError}
+use Rattle.article_fetch.specs.declared.overview.PutError.TheVariants as errors
 
 -- the octets in front of a line, and the line
 line_fits : (front after text : List ℕ) (a : Article) → IsLaidOut text a → length text < 2 ^ 64

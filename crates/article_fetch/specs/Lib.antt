@@ -4,4 +4,5 @@ pub mod Given
 pub mod Inside
 pub mod Layout
 pub mod Malformed
+pub mod Parts
 pub mod Shown

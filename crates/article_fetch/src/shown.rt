@@ -18,10 +18,10 @@ ghost use Rattle.article_fetch.specs.Shown.{SaysLast, ShowsArticle, ShowsPart, m
 use crate::asked::Asked;
 use crate::chunk::Chunk;
 use crate::layout::empty_line_place;
+use crate::overview::put_line;
 use cyc_token::Token;
 use line_words::put_octets;
 use nntp_text::{MsgId, Part, Reply, put_reply};
-use overview_line::put_line;
 
 /// What is said by what was read last, and by the text that was gathered (docs/FORMATS.md,
 /// Replies).

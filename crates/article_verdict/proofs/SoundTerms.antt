@@ -15,8 +15,8 @@ use Rattle.article_verdict.specs.Config.{terms_of}
 pub are_sound : (config : Config) → IsSound (terms_of config)
 are_sound config = record {
   places = config.buffers.sound;
-  classes = All-map (λ (entry : Entry). entry.class < 2 ^ 8) entry_view config.methods.items
-      (λ k d within. (get_or config.methods.items k d).fits);
+  classes = All-map (λ (entry : Entry). entry.class < 2 ^ 8) entry_view config.storage_entries.items
+      (λ k d within. (get_or config.storage_entries.items k d).fits);
   rings = All-map (λ (feed : FeedTerms). 1 ≤ feed.ring) feed_view config.relay.feeds.items
       (λ k d within. (config.relay.sound.rings k d within).0);
   own_feed = λ i j a b at other same.

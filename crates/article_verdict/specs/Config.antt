@@ -20,7 +20,7 @@ terms_of config =
       remember = config.relay.remember;
       buffers = places_of_buffers config.buffers;
       groups = places_of_groups config.buffers;
-      entries = map entry_view config.methods.items;
+      entries = map entry_view config.storage_entries.items;
       feeds = map feed_view config.relay.feeds.items;
       second_read = second_read;
     }

@@ -46,7 +46,7 @@ path_reason own path =
 -- the entry of a configuration that an article of so many octets falls to
 abbrev pub chosen_for : Config → Article → (octets : ℕ) → Option Entry
 chosen_for config a octets =
-    chosen_entry (map entry_view config.methods.items) (newsgroups a.fields) octets
+    chosen_entry (map entry_view config.storage_entries.items) (newsgroups a.fields) octets
 
 -- the entry that an article falls to, by its newsgroups and the octets of the updated text
 abbrev pub class_of : Terms → (from : ℕ) → Article → Option Entry

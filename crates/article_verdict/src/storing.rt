@@ -9,7 +9,7 @@ ghost use Rattle.buffer_group.specs.Jobs as jobs;
 ghost use Rattle.feed_queue.specs.Permission.{identity_view};
 ghost use Rattle.relay_model.specs.Judging.{classed};
 ghost use Rattle.relay_model.specs.Judging as terms;
-ghost use Rattle.store_class.specs.Choice.{given};
+ghost use Rattle.relay_conf.specs.Choice.{given};
 
 use crate::reasons::Reason;
 use crate::room::has_room;
@@ -17,9 +17,8 @@ use article_parse::Article;
 use buffer_group::Accepted;
 use feed_queue::permitted;
 use path_rules::{updated_octets, updated_text};
-use relay_conf::{Config, Octets, Peer};
+use relay_conf::{Config, Octets, Peer, choose};
 use std::alloc::{AllocError, Global};
-use store_class::choose;
 
 /// The verdict on an article by its storage class and by the room of its group. Both go by the
 /// octets of the updated text, which is built only where the article is accepted.
@@ -55,7 +54,7 @@ fn chosen_class(
         ≡ option_map given (chosen_for config.now (article_view article.now) octets)) }
 {
     let groups = article.groups(alloc)?;
-    let class = choose(&config.methods, &groups, octets);
+    let class = choose(&config.storage_entries, &groups, octets);
     Ok(class)
 }
 

@@ -8,7 +8,7 @@ use Rattle.std.proofs.lemmas.Bool.{cond-true, cond-false, true≢false}
 use Rattle.std.proofs.lemmas.Option.{same_Some}
 use Rattle.cyc_buffer.specs.History.{History, Begin, Article, asked, head_of, is_at, finished_at}
 use Rattle.cyc_buffer.specs.History.{text_of, with_begin}
-use Rattle.cyc_buffer.specs.Register.{IsSized}
+use Rattle.cyc_buffer.specs.BufferState.{IsSized}
 use Rattle.news_terms.proofs.PickedBegins.{begins_here, begins_elsewhere}
 use Rattle.news_terms.specs.Picks.{pick_of, begins_in, place_after}
 use Rattle.news_terms.specs.Places.{Buffer, Group, Head, size_of}

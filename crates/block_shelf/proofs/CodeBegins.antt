@@ -7,48 +7,51 @@ use Rattle.buffer_group.specs.declared.group.Group as groups
 use Rattle.buffer_group.specs.declared.group.Pick.{Pick}
 use Rattle.cyc_block.specs.declared.store.BlockStore.{Ghosts}
 use Rattle.cyc_buffer.specs.Agreement as buffers
-use Rattle.cyc_buffer.specs.Agreement.{Agrees, store_of, register_of}
+use Rattle.cyc_buffer.specs.Agreement.{Agrees, store_of, buffer_state_of}
 use Rattle.cyc_buffer.specs.Answers.{refusal}
 use Rattle.cyc_buffer.specs.History.{History, with_begin, open_token}
 use Rattle.cyc_buffer.specs.declared.answers.BufError.{BufError}
 use Rattle.cyc_buffer.specs.declared.buffer.Buffer.{Buffer}
-use Rattle.cyc_buffer.specs.declared.register.Open.{Open}
+use Rattle.cyc_buffer.specs.declared.buffer_state.Open.{Open}
 use Rattle.cyc_token.specs.Token.{token_view}
 use Rattle.news_terms.specs.Picks as picks
 use Rattle.news_terms.specs.Picks.{pick_of}
 use Rattle.news_terms.specs.Places.{Group, Place, size_of}
 use Rattle.relay_model.specs.State.{Kept}
 use Rattle.relay_model.specs.Terms.{Terms}
-use Rattle.block_shelf.proofs.BegunShelf.{target, rack_keeps, number_found, number_is, buffer_found}
-use Rattle.block_shelf.proofs.BegunShelf.{at, place, place_is, worn, in_time, unchanged}
-use Rattle.block_shelf.proofs.BegunShelf.{same_agrees, token_is, has_begun}
+use Rattle.block_shelf.proofs.BegunBufferSet.{target, placed_group_keeps, number_found, number_is}
+use Rattle.block_shelf.proofs.BegunBufferSet.{buffer_found}
+use Rattle.block_shelf.proofs.BegunBufferSet.{at, place, place_is, worn, in_time, unchanged}
+use Rattle.block_shelf.proofs.BegunBufferSet.{same_agrees, token_is, has_begun}
 use Rattle.block_shelf.specs.Calls.{CanBegin, BegunAs, place_in}
-use Rattle.block_shelf.specs.Keeping.{KeepsTexts, KeepsBuffer, KeepsRack}
+use Rattle.block_shelf.specs.Keeping.{KeepsTexts, KeepsBuffer, KeepsPlacedGroup}
 use Rattle.block_shelf.specs.Openings.{Opening}
-use Rattle.block_shelf.specs.declared.shelf.Rack.{Rack}
-use Rattle.block_shelf.specs.declared.shelf.Shelf.{Shelf}
+use Rattle.block_shelf.specs.declared.buffer_set.PlacedGroup.{PlacedGroup}
+use Rattle.block_shelf.specs.declared.buffer_set.BufferSet.{BufferSet}
 
-module _ {S : Type 0} {g : Ghosts S} (trusted : Bool) (old : Shelf S g) (w : Terms)
+module _ {S : Type 0} {g : Ghosts S} (trusted : Bool) (old : BufferSet S g) (w : Terms)
     (begun : ℕ → List ℕ) (kept : List Kept) (openings : ℕ → Option Opening) (failures : ℕ → ℕ)
     (keeps : KeepsTexts trusted old w begun kept openings failures) (h class octets : ℕ)
-    (can : CanBegin w h (size_of octets) openings) (i : ℕ) (rack : Rack) (is : i ≡ h)
-    (read_rack : rack ≡ slice_index_or old.racks.items i rack) (picked : Pick)
-    (picks_as : (group : Group) (sizes : List ℕ) → KeepsPlaces rack.group group sizes
+    (can : CanBegin w h (size_of octets) openings) (i : ℕ) (placed_group : PlacedGroup) (is : i ≡ h)
+    (read_placed_group : placed_group ≡ slice_index_or old.placed_groups.items i placed_group)
+    (picked : Pick)
+    (picks_as : (group : Group) (sizes : List ℕ) → KeepsPlaces placed_group.group group sizes
     → pick_view picked ≡ pick_of group sizes (size_of octets)) (numbers : List ℕ)
-    (listed : numbers ≡ rack.numbers.items) where
+    (listed : numbers ≡ placed_group.numbers.items) where
   -- what the group picks
   abbrev pick : picks.Pick
   pick = pick_of can.group (begun h) (size_of octets)
 
   -- the code's group keeps what is said of it
-  has_rack : KeepsRack rack can.group (begun h)
-  has_rack =
-      rack_keeps trusted old w begun kept openings failures keeps h class octets can i rack is
-      read_rack
+  has_placed_group : KeepsPlacedGroup placed_group can.group (begun h)
+  has_placed_group =
+      placed_group_keeps trusted old w begun kept openings failures keeps h class octets can i
+      placed_group is
+      read_placed_group
 
   -- so it picks what the group picks
   picks_it : pick_view picked ≡ pick
-  picks_it = picks_as can.group (begun h) has_rack.position
+  picks_it = picks_as can.group (begun h) has_placed_group.position
 
   fresh_is : picked.fresh ≡ pick.fresh
   fresh_is = ap (λ (p : picks.Pick). p.fresh) picks_it
@@ -56,8 +59,9 @@ module _ {S : Type 0} {g : Ghosts S} (trusted : Bool) (old : Shelf S g) (w : Ter
   -- there is a number at the place that was picked
   pub has_number : false ≡ nat_lt picked.buffer (length numbers) → ⊥
   has_number missing =
-      number_found trusted old w begun kept openings failures keeps h class octets can i rack is
-      read_rack picked picks_it
+      number_found trusted old w begun kept openings failures keeps h class octets can i
+      placed_group is
+      read_placed_group picked picks_it
       (subst (λ items. false ≡ nat_lt picked.buffer (length items)) listed missing)
 
   module _ (number : ℕ) (read_number : number ≡ slice_index_or numbers picked.buffer number) where
@@ -65,8 +69,9 @@ module _ {S : Type 0} {g : Ghosts S} (trusted : Bool) (old : Shelf S g) (w : Ter
     is_number : number
         ≡ (target trusted old w begun kept openings failures keeps h class octets can).0.number
     is_number =
-        number_is trusted old w begun kept openings failures keeps h class octets can i rack is
-        read_rack picked picks_it number
+        number_is trusted old w begun kept openings failures keeps h class octets can i
+        placed_group is
+        read_placed_group picked picks_it number
         (subst (λ items. number ≡ slice_index_or items picked.buffer number) listed read_number)
 
     -- and there is such a buffer
@@ -97,15 +102,15 @@ module _ {S : Type 0} {g : Ghosts S} (trusted : Bool) (old : Shelf S g) (w : Ter
           is_number read
 
       -- a begin that the buffer refuses
-      pub not_begun : (e : BufError) → register_of code' ≡ register_of code
+      pub not_begun : (e : BufError) → buffer_state_of code' ≡ buffer_state_of code
           → ((t : Bool) (each : History) → Agrees t code each
           → Some e ≡ refusal each octets picked.fresh)
           → (one : Place) × (place_in w h (begun h) (size_of octets) ≡ Some one)
           × BegunAs trusted w h class octets begun kept openings failures one None (record {
             buffers = with_item old.buffers number code';
-            racks = with_item old.racks i rack;
+            placed_groups = with_item old.placed_groups i placed_group;
           })
-      not_begun e same_register refuses = (
+      not_begun e same_buffer_state refuses = (
         goes_to,
         goes_there,
         (
@@ -114,14 +119,14 @@ module _ {S : Type 0} {g : Ghosts S} (trusted : Bool) (old : Shelf S g) (w : Ter
               (subst (λ f. Some e ≡ refusal has.history octets f) fresh_is
               (refuses trusted has.history has.agrees)),
           unchanged trusted old w begun kept openings failures keeps h class octets can number code
-              is_number read code' rack i is read_rack
-              (same_agrees code code' same_register same_store) same_store,
+              is_number read code' placed_group i is read_placed_group
+              (same_agrees code code' same_buffer_state same_store) same_store,
         ),
       )
 
       -- a begin that it takes
       pub is_begun : (write : Open) (moved : groups.Group)
-          → (KeepsPlaces rack.group can.group (begun h) → pick_view picked ≡ pick
+          → (KeepsPlaces placed_group.group can.group (begun h) → pick_view picked ≡ pick
           → KeepsPlaces moved can.group (begun h ++ size_of octets ∷ []))
           → ((t : Bool) (each : History) → Agrees t code each
           → None ≡ refusal each octets picked.fresh)
@@ -134,7 +139,9 @@ module _ {S : Type 0} {g : Ghosts S} (trusted : Bool) (old : Shelf S g) (w : Ter
           × BegunAs trusted w h class octets begun kept openings failures one
           (Some (record { «open» = write })) (record {
             buffers = with_item old.buffers number code';
-            racks = with_item old.racks i (record { group = moved; numbers = rack.numbers });
+            placed_groups =
+                with_item old.placed_groups i
+                (record { group = moved; numbers = placed_group.numbers });
           })
       is_begun write moved moves takes follows named =
           let agrees : (t : Bool) (each : History) → Agrees t code each
@@ -153,9 +160,13 @@ module _ {S : Type 0} {g : Ghosts S} (trusted : Bool) (old : Shelf S g) (w : Ter
           ≡ open_token (with_begin class octets f each))
           fresh_is named
           in
-          let rack' : Rack = record { group = moved; numbers = rack.numbers } in
-          let keeps_it : KeepsRack rack' can.group (begun h ++ size_of octets ∷ []) =
-          record { position = moves has_rack.position picks_it; numbers = has_rack.numbers }
+          let placed_group'
+          : PlacedGroup = record { group = moved; numbers = placed_group.numbers } in
+          let keeps_it : KeepsPlacedGroup placed_group' can.group (begun h ++ size_of octets ∷ []) =
+          record {
+            position = moves has_placed_group.position picks_it;
+            numbers = has_placed_group.numbers;
+          }
           in (
             goes_to,
             goes_there,
@@ -165,8 +176,10 @@ module _ {S : Type 0} {g : Ghosts S} (trusted : Bool) (old : Shelf S g) (w : Ter
                   (subst (λ f. None ≡ refusal has.history octets f) fresh_is
                   (takes trusted has.history has.agrees)),
               token_is trusted old w begun kept openings failures keeps h class octets can number
-                  code is_number read code' rack rack' i is keeps_it write agrees same_store token,
+                  code is_number read code' placed_group placed_group' i is keeps_it write agrees
+                  same_store token,
               has_begun trusted old w begun kept openings failures keeps h class octets can number
-                  code is_number read code' rack rack' i is keeps_it write agrees same_store token,
+                  code is_number read code' placed_group placed_group' i is keeps_it write agrees
+                  same_store token,
             ),
           )

@@ -1,4 +1,4 @@
--- A write of a block and the end of a write, in what the shelf keeps.
+-- A write of a block and the end of a write, in what the buffer set keeps.
 use Rattle.std.proofs.Common.{◌≡◌, ◌∙◌, ℕ, nat_lt, Bool, false, refl, sym, ap, subst}
 use Rattle.std.proofs.Common.{length}
 use Rattle.std.proofs.Common.{List, Option, None, Some, slice_get, slice_index_or}
@@ -12,7 +12,7 @@ use Rattle.cyc_buffer.specs.Agreement as buffers
 use Rattle.cyc_buffer.specs.Agreement.{Agrees, Follows, Owns, IsOpenAs, store_of}
 use Rattle.cyc_buffer.specs.History.{History, Writing, without_write}
 use Rattle.cyc_buffer.specs.declared.buffer.Buffer.{Buffer}
-use Rattle.cyc_buffer.specs.declared.register.Open.{Open}
+use Rattle.cyc_buffer.specs.declared.buffer_state.Open.{Open}
 use Rattle.cyc_token.specs.Token.{token_view}
 use Rattle.news_terms.specs.Places as places
 use Rattle.news_terms.specs.Token.{Token}
@@ -28,7 +28,7 @@ use Rattle.block_shelf.proofs.Writings.{IsApart, IsOnly}
 use Rattle.block_shelf.specs.Histories.{HasBegins, IsWriting}
 use Rattle.block_shelf.specs.Keeping.{KeepsTexts, KeepsBuffer, IsOpenIn}
 use Rattle.block_shelf.specs.Openings.{Opening, token_in}
-use Rattle.block_shelf.specs.declared.shelf.Shelf.{Shelf}
+use Rattle.block_shelf.specs.declared.buffer_set.BufferSet.{BufferSet}
 
 -- a buffer that has nothing to do with a call keeps what is said after it
 pub record IsUntouched (kept kept' : List Kept) (openings : ℕ → Option Opening) (h : ℕ)
@@ -96,7 +96,7 @@ pub record Found {S : Type 0} {g : Ghosts S} (trusted : Bool) (code : Buffer S g
   pub number : (token_in one).buffer ≡ keeps.history.buffer.number
   pub this : HasThis keeps.history one
 
-module _ {S : Type 0} {g : Ghosts S} (trusted : Bool) (old : Shelf S g) (w : Terms)
+module _ {S : Type 0} {g : Ghosts S} (trusted : Bool) (old : BufferSet S g) (w : Terms)
     (begun : ℕ → List ℕ) (kept : List Kept) (openings : ℕ → Option Opening) (failures : ℕ → ℕ)
     (keeps : KeepsTexts trusted old w begun kept openings failures) (h : ℕ) (one : Opening)
     (is : openings h ≡ Some one) where
@@ -165,16 +165,18 @@ module _ {S : Type 0} {g : Ghosts S} (trusted : Bool) (old : Shelf S g) (w : Ter
         f.keeps.agrees (writing_of f.keeps.history one f.this).1
         (ap Some named ∙ sym f.this.token)
 
-    -- the shelf after the open write was given up
+    -- the buffer set after the open write was given up
     pub abandoned : (Owns code write → Follows without_write code code')
         → store_of code' ≡ store_of code
-        → KeepsTexts trusted (record { buffers = with_item old.buffers i code'; racks = old.racks })
+        → KeepsTexts trusted
+        (record { buffers = with_item old.buffers i code'; placed_groups = old.placed_groups })
         w begun kept (put_at openings h None) failures
     abandoned follows same_store =
         let f = found i code number read in
         let follows_here = follows (handle_is_open f).owned in
-        replaced trusted old w begun kept openings failures keeps i code' old.racks keeps.rack_count begun kept
-        (put_at openings h None) failures keeps.fit ended_opened keeps.racks
+        replaced trusted old w begun kept openings failures keeps i code' old.placed_groups
+        keeps.placed_group_count begun kept
+        (put_at openings h None) failures keeps.fit ended_opened keeps.placed_groups
         (λ buffer there.
         let same : f.place.buffer ≡ buffer =
         same_Some f.place.buffer buffer

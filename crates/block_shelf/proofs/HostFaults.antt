@@ -7,7 +7,8 @@ use Rattle.block_shelf.specs.declared.beginning.BeginError.{BeginError}
 use Rattle.block_shelf.specs.declared.beginning.BeginError.TheVariants as begins
 
 -- the host's own error is one of a relay that doesn't begin
-pub host_refuses : {S X : Type 0} (g : Ghosts S) (stores : List S) (result : Result X (BeginError S))
+pub host_refuses
+    : {S X : Type 0} (g : Ghosts S) (stores : List S) (result : Result X (BeginError S))
     → IsErrAnd result IsHost → IfErr result (IsBeginRefusal g stores)
 host_refuses g stores (Ok made) host = tt
 host_refuses g stores (Err (begins.Host why)) host = tt

@@ -1,6 +1,6 @@
 pub mod Armings
 pub mod Begins
-pub mod BegunShelf
+pub mod BegunBufferSet
 pub mod CodeBegins
 pub mod EachLemmas
 pub mod Ending
@@ -8,7 +8,7 @@ pub mod Finishes
 pub mod Founds
 pub mod Fronts
 pub mod HostFaults
-pub mod NewShelf
+pub mod NewBufferSet
 pub mod OpenWrites
 pub mod Opens
 pub mod Placed
@@ -16,8 +16,8 @@ pub mod Refusals
 pub mod Reported
 pub mod Restarts
 pub mod Resumes
-pub mod ShelfCalls
-pub mod ShelfReads
+pub mod BufferSetCalls
+pub mod BufferSetReads
 pub mod Shelving
 pub mod Starts
 pub mod Stops

@@ -1,4 +1,4 @@
--- A write of a block and a finish of a group's open write, in what the shelf keeps.
+-- A write of a block and a finish of a group's open write, in what the buffer set keeps.
 use Rattle.std.proofs.Common.{◌≡◌, ◌∙◌, ℕ, ◌+◌, ◌*◌, ◌<◌, ◌≤◌, Bool, false, refl, sym}
 use Rattle.std.proofs.Common.{ap}
 use Rattle.std.proofs.Common.{subst, arith, take, length, map, List, [], ◌∷◌, ◌++◌, Option, None}
@@ -16,13 +16,13 @@ use Rattle.cyc_buffer.specs.Calls.{LeavesDevice, WritesNext}
 use Rattle.cyc_buffer.specs.History.{History, Article, Begin, Writing, asked, finish_begins}
 use Rattle.cyc_buffer.specs.History.{token_of_open, token_at, with_block, with_failure, with_finish}
 use Rattle.cyc_buffer.specs.History.{head_of, text_of, finished_at, stored_count}
-use Rattle.cyc_buffer.specs.Register.{Writes}
+use Rattle.cyc_buffer.specs.BufferState.{Writes}
 use Rattle.cyc_buffer.specs.declared.answers.BufError.{BufError}
 use Rattle.cyc_buffer.specs.declared.answers.BufError.TheVariants.{Device}
 use Rattle.cyc_buffer.specs.declared.answers.FaultKind.TheVariants as kinds
 use Rattle.cyc_buffer.specs.declared.buffer.Buffer.{Buffer}
-use Rattle.cyc_buffer.specs.declared.register.Open.{Open}
-use Rattle.cyc_buffer.specs.declared.register.Progress.{Progress}
+use Rattle.cyc_buffer.specs.declared.buffer_state.Open.{Open}
+use Rattle.cyc_buffer.specs.declared.buffer_state.Progress.{Progress}
 use Rattle.cyc_token.specs.Token.{token_view}
 use Rattle.news_terms.specs.BlockImage.{chunk_size}
 use Rattle.news_terms.specs.Picks.{place_after}
@@ -47,7 +47,7 @@ use Rattle.block_shelf.specs.Histories.{IsWriting}
 use Rattle.block_shelf.specs.Keeping.{KeepsTexts, KeepsBuffer, IsOpenIn}
 use Rattle.block_shelf.specs.Openings.{Opening, IsOpen, IsBroken, token_in}
 use Rattle.news_terms.specs.Settings.{IsBufferAt}
-use Rattle.block_shelf.specs.declared.shelf.Shelf.{Shelf}
+use Rattle.block_shelf.specs.declared.buffer_set.BufferSet.{BufferSet}
 
 -- so much of a text is the front of it that is as long
 front_of_text : (m : ℕ) (text : List ℕ) → take (length (take m text)) text ≡ take m text
@@ -94,7 +94,7 @@ is_writing h token text written this = by h.writing refl this.writing
     by None e is = absurd is
     by (Some w) e is = e ∙ ap Some is
 
-module _ {S : Type 0} {g : Ghosts S} (trusted : Bool) (old : Shelf S g) (w : Terms)
+module _ {S : Type 0} {g : Ghosts S} (trusted : Bool) (old : BufferSet S g) (w : Terms)
     (begun : ℕ → List ℕ) (kept : List Kept) (openings : ℕ → Option Opening) (failures : ℕ → ℕ)
     (keeps : KeepsTexts trusted old w begun kept openings failures) (h : ℕ) (token : Token)
     (text : List ℕ) (written : ℕ) (is : openings h ≡ Some (IsOpen token text written)) (i : ℕ)
@@ -230,15 +230,16 @@ module _ {S : Type 0} {g : Ghosts S} (trusted : Bool) (old : Shelf S g) (w : Ter
             ∙ ap failures' at.place.number ∙ failed;
       }
 
-  -- the shelf after a write of a block
+  -- the buffer set after a write of a block
   pub wrote : (result : Result Bool BufError) → WritesNext code write text result code'
       → LeavesDevice code result code'
       → WrittenAs trusted w h token text written begun kept openings failures result
-      (record { buffers = with_item old.buffers i code'; racks = old.racks })
+      (record { buffers = with_item old.buffers i code'; placed_groups = old.placed_groups })
   wrote (Ok last) does device =
       let next : Opening = IsOpen token text (written + 1) in (
         last_is last does,
-        replaced trusted old w begun kept openings failures keeps i code' old.racks keeps.rack_count begun kept
+        replaced trusted old w begun kept openings failures keeps i code' old.placed_groups
+            keeps.placed_group_count begun kept
             (put_at openings h (Some next)) failures keeps.fit
             (still_opened next (record {
               index = at.place.index;
@@ -247,7 +248,7 @@ module _ {S : Type 0} {g : Ghosts S} (trusted : Bool) (old : Shelf S g) (w : Ter
               named = at.place.number;
               whole = whole_length;
             }))
-            keeps.racks
+            keeps.placed_groups
             (here (with_block text now) next failures refl refl
             (does.written trusted now
             (subst (ContinuesIn text) (sym writes) (front_of_text (chunk_size * written) text))
@@ -305,10 +306,11 @@ module _ {S : Type 0} {g : Ghosts S} (trusted : Bool) (old : Shelf S g) (w : Ter
 
       keeps_after : WritesNext code write text (Err e) code'
           → KeepsTexts trusted
-          (record { buffers = with_item old.buffers i code'; racks = old.racks })
+          (record { buffers = with_item old.buffers i code'; placed_groups = old.placed_groups })
           w begun kept (put_at openings h (Some (IsBroken token))) later
       keeps_after does =
-          replaced trusted old w begun kept openings failures keeps i code' old.racks keeps.rack_count begun kept
+          replaced trusted old w begun kept openings failures keeps i code' old.placed_groups
+          keeps.placed_group_count begun kept
           (put_at openings h (Some (IsBroken token))) later keeps.fit
           (still_opened (IsBroken token) (record {
             index = at.place.index;
@@ -317,7 +319,7 @@ module _ {S : Type 0} {g : Ghosts S} (trusted : Bool) (old : Shelf S g) (w : Ter
             named = at.place.number;
             whole = tt;
           }))
-          keeps.racks
+          keeps.placed_groups
           (here (with_failure now) (IsBroken token) later refl refl
           (does.broken trusted now at.keeps.agrees)
           (failed_block now token text written at.this)
@@ -328,17 +330,19 @@ module _ {S : Type 0} {g : Ghosts S} (trusted : Bool) (old : Shelf S g) (w : Ter
           kept (λ buffer t named_there away. refl) (λ buffer away. refl) later
           (λ k away. put_at_there failures token.buffer (g.failures (store_of code')) k away))
 
-  -- the shelf after a finish, where all is written
+  -- the buffer set after a finish, where all is written
   pub finished : (id : List ℕ) → written ≡ size_of (length text)
       → (CanFinish code write → Follows with_finish code code') → store_of code' ≡ store_of code
-      → KeepsTexts trusted (record { buffers = with_item old.buffers i code'; racks = old.racks }) w
+      → KeepsTexts trusted
+      (record { buffers = with_item old.buffers i code'; placed_groups = old.placed_groups }) w
       begun (kept ++ record { token = token; id = id; text = text } ∷ [])
       (put_at openings h None) failures
   finished id all follows same_store =
-      replaced trusted old w begun kept openings failures keeps i code' old.racks keeps.rack_count begun kept'
+      replaced trusted old w begun kept openings failures keeps i code' old.placed_groups
+      keeps.placed_group_count begun kept'
       (put_at openings h None) failures keeps.fit
       (ended_opened trusted old w begun kept openings failures keeps h one is)
-      keeps.racks
+      keeps.placed_groups
       (λ buffer there.
       let same : at.place.buffer ≡ buffer = same_buffer buffer there in
       record {
@@ -380,7 +384,7 @@ module _ {S : Type 0} {g : Ghosts S} (trusted : Bool) (old : Shelf S g) (w : Ter
     where
       newest : HasNewest now (writing_at token text written)
       newest =
-          has_newest now code.register.progress now.writing (writing_at token text written)
+          has_newest now code.buffer_state.progress now.writing (writing_at token text written)
           at.keeps.agrees.keeps.writing writes
 
       added : Kept

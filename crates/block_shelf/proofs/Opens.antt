@@ -1,4 +1,5 @@
--- The heads of a started shelf's buffers are opened, buffer after buffer; and what its figures are.
+-- The heads of a started buffer set's buffers are opened, buffer after buffer; and what its figures
+-- are.
 use Rattle.std.proofs.Common.{◌≡◌, ◌∙◌, ℕ, ◌<◌, ◌≤◌, Bool, true, arith, refl, sym, ap, subst}
 use Rattle.std.proofs.Common.{List, [], ◌∷◌, ◌++◌, length, map, None, Some, slice_get, option_map}
 use Rattle.std.proofs.Common.{slice_index_or}
@@ -18,15 +19,15 @@ use Rattle.relay_model.specs.State.{State}
 use Rattle.relay_model.specs.Terms.{Terms}
 use Rattle.block_shelf.proofs.EachLemmas.{each_mapped, one_more_each}
 use Rattle.block_shelf.proofs.Reported.{figures, figures_agree, same_figures}
-use Rattle.block_shelf.proofs.ShelfCalls.{read_there}
-use Rattle.block_shelf.proofs.ShelfReads.{some_there}
+use Rattle.block_shelf.proofs.BufferSetCalls.{read_there}
+use Rattle.block_shelf.proofs.BufferSetReads.{some_there}
 use Rattle.block_shelf.specs.Each.{AreEach}
 use Rattle.block_shelf.specs.Heads.{IsLeftUnopened, IsOpenedFrom, KeepsOpened}
-use Rattle.block_shelf.specs.Keeping.{HasRack, KeepsBuffer}
+use Rattle.block_shelf.specs.Keeping.{HasPlacedGroup, KeepsBuffer}
 use Rattle.block_shelf.specs.Starting.{BuffersKeep, buffers_inside}
-use Rattle.block_shelf.specs.declared.opening.UnopenedShelf.{UnopenedShelf}
-use Rattle.block_shelf.specs.declared.shelf.Rack.{Rack}
-use Rattle.block_shelf.specs.declared.shelf.Shelf.{Shelf}
+use Rattle.block_shelf.specs.declared.opening.UnopenedBufferSet.{UnopenedBufferSet}
+use Rattle.block_shelf.specs.declared.buffer_set.PlacedGroup.{PlacedGroup}
+use Rattle.block_shelf.specs.declared.buffer_set.BufferSet.{BufferSet}
 
 module _ {S : Type 0} {g : Ghosts S} (before : List (Unopened S g)) (unopened : Unopened S g) where
   -- a buffer behind one whose device failed gives its store
@@ -89,11 +90,12 @@ module _ {S : Type 0} {g : Ghosts S} (before : List (Unopened S g)) (unopened : 
         })),
   )
 
--- an opened shelf keeps what the started one was to keep
-pub keeps_opened : {S : Type 0} {g : Ghosts S} (unopened : UnopenedShelf S g) (shelf : Shelf S g)
-    → AreEach IsOpenedFrom unopened.buffers.items shelf.buffers.items
-    → shelf.racks ≡ unopened.racks → KeepsOpened unopened shelf
-keeps_opened {S} {g} unopened shelf are same w begun kept failures keeps = record {
+-- an opened buffer set keeps what the started one was to keep
+pub keeps_opened : {S : Type 0} {g : Ghosts S} (unopened : UnopenedBufferSet S g)
+    (buffer_set : BufferSet S g)
+    → AreEach IsOpenedFrom unopened.buffers.items buffer_set.buffers.items
+    → buffer_set.placed_groups ≡ unopened.placed_groups → KeepsOpened unopened buffer_set
+keeps_opened {S} {g} unopened buffer_set are same w begun kept failures keeps = record {
   sound = keeps.texts.sound;
   numbered = keeps.texts.numbered;
   fit = keeps.texts.fit;
@@ -117,10 +119,12 @@ keeps_opened {S} {g} unopened shelf are same w begun kept failures keeps = recor
           failed = was.failed ∙ sym now.belongs.no_failure;
         };
       };
-  rack_count = ap (λ (racks : Vec Rack). length racks.items) same ∙ keeps.racks.count;
-  racks = λ h group at.
-      subst (λ (racks : Vec Rack). HasRack racks.items (begun h) h group) (sym same)
-      (keeps.racks.each h group at);
+  placed_group_count = ap (λ (placed_groups : Vec PlacedGroup). length placed_groups.items) same
+      ∙ keeps.placed_groups.count;
+  placed_groups = λ h group at.
+      subst (λ (placed_groups : Vec PlacedGroup). HasPlacedGroup placed_groups.items (begun h) h
+      group) (sym same)
+      (keeps.placed_groups.each h group at);
 }
 
 module _ {S : Type 0} {g : Ghosts S} (unopened : List (Unopened S g)) (w : Terms) (σ : State)

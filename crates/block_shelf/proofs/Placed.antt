@@ -1,4 +1,4 @@
--- The positions of a shelf's groups, which have no more buffers than a token has numbers for.
+-- The positions of a buffer set's groups, which have no more buffers than a token has numbers for.
 use Rattle.std.proofs.Common.{◌≡◌, ◌∙◌, ℕ, suc, ◌^◌, ◌<◌, ◌≤◌, ◌==◌, ◌||◌, Bool, true, false}
 use Rattle.std.proofs.Common.{arith, refl, sym, ap, List, [], ◌∷◌, length, map, Some, slice_get}
 use Rattle.std.specs.List.{AllByRecursion, IsDistinct, list_any}
@@ -12,7 +12,7 @@ use Rattle.relay_conf.proofs.ListPlaces.{holds_at, mapped_at}
 use Rattle.cyc_block.specs.declared.store.BlockStore.{Ghosts}
 use Rattle.block_shelf.specs.Each.{AreEach}
 use Rattle.block_shelf.specs.Stopping.{TellsPosition, TellsPositions}
-use Rattle.block_shelf.specs.declared.shelf.Shelf.{Shelf}
+use Rattle.block_shelf.specs.declared.buffer_set.BufferSet.{BufferSet}
 
 -- a number that a list has stands at a place of it
 find_number : (n : ℕ) (xs : List ℕ) → list_any (λ x. n == x) xs ≡ true
@@ -78,14 +78,16 @@ few_members all groups sound h group at =
         omega (arith, (holds_at IsSoundBuffer all sound.buffers k.0 a.0 k.1).number, a.2)
 
 -- the positions are those of the groups
-pub told_positions : {S : Type 0} {g : Ghosts S} (shelf : Shelf S g) (positions : List ℕ)
-    → AreEach TellsPosition shelf.racks.items positions → TellsPositions shelf positions
-told_positions shelf positions are trusted w begun kept openings failures keeps = record {
-  count = are.count ∙ keeps.rack_count;
+pub told_positions : {S : Type 0} {g : Ghosts S} (buffer_set : BufferSet S g) (positions : List ℕ)
+    → AreEach TellsPosition buffer_set.placed_groups.items positions
+    → TellsPositions buffer_set positions
+told_positions buffer_set positions are trusted w begun kept openings failures keeps = record {
+  count = are.count ∙ keeps.placed_group_count;
   each = λ h group at.
-      let had = keeps.racks h group at in
+      let had = keeps.placed_groups h group at in
       let told = are.each h had.code had.there in
       told.there
       ∙ ap Some
-      (told.belongs group (begun h) had.keeps (few_members w.buffers w.groups keeps.sound h group at));
+      (told.belongs group (begun h) had.keeps
+      (few_members w.buffers w.groups keeps.sound h group at));
 }

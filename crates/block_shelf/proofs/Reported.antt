@@ -14,11 +14,11 @@ use Rattle.relay_model.specs.Figures.{BufferFigures, buffer_figures}
 use Rattle.relay_model.specs.State.{State}
 use Rattle.relay_model.specs.Terms.{Terms}
 use Rattle.block_shelf.proofs.Fronts.{cycles_agree, fronts_agree, counts_agree}
-use Rattle.block_shelf.proofs.ShelfReads.{at_place}
+use Rattle.block_shelf.proofs.BufferSetReads.{at_place}
 use Rattle.block_shelf.specs.Histories.{IsHistoryOf}
 use Rattle.block_shelf.specs.Keeping.{KeepsTexts}
 use Rattle.block_shelf.specs.Openings.{Opening}
-use Rattle.block_shelf.specs.declared.shelf.Shelf.{Shelf}
+use Rattle.block_shelf.specs.declared.buffer_set.BufferSet.{BufferSet}
 
 -- these four numbers as figures
 abbrev pub figures : (cycle front begun stored : ℕ) → BufferFigures
@@ -53,7 +53,7 @@ figures_agree w σ openings sound fit numbered j h there is_said =
     (counts_agree w σ h sound fit numbered j there is_said.begins)
     is_said.stored
 
-module _ {S : Type 0} {g : Ghosts S} (trusted : Bool) (old : Shelf S g) (w : Terms) (σ : State)
+module _ {S : Type 0} {g : Ghosts S} (trusted : Bool) (old : BufferSet S g) (w : Terms) (σ : State)
     (openings : ℕ → Option Opening) (failures : ℕ → ℕ)
     (keeps : KeepsTexts trusted old w σ.begun σ.kept openings failures) where
   -- the figures that a buffer of this place says

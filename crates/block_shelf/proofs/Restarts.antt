@@ -1,4 +1,4 @@
--- A restart of a shelf, buffer after buffer.
+-- A restart of a buffer set, buffer after buffer.
 use Rattle.std.proofs.Common.{◌≡◌, ◌∙◌, ℕ, ◌+◌, ◌^◌, ◌<◌, ◌≤◌, ◌==◌, Bool, true, false, arith}
 use Rattle.std.proofs.Common.{refl, sym, ap, subst, length, None, Some, slice_get}
 use Rattle.std.proofs.Common.{List, Result, Ok, Err, length-set, slice_set}
@@ -28,10 +28,10 @@ use Rattle.block_shelf.specs.Keeping.{KeepsTexts}
 use Rattle.block_shelf.specs.Restarting.{AreRestarted, HaveRestarted, IsBusyRestart}
 use Rattle.block_shelf.specs.Restarting.{IsOtherFault, IsRestartedFrom, IsRestartedTo, KeepsOn}
 use Rattle.block_shelf.specs.Restarting.{RestartsNext, StaysKept, restart_fault}
-use Rattle.block_shelf.specs.Stopping.{IsBusyShelf}
+use Rattle.block_shelf.specs.Stopping.{IsBusyBufferSet}
 use Rattle.block_shelf.specs.declared.restarting.RestartFault.{RestartFault}
 use Rattle.block_shelf.specs.declared.restarting.RestartFault.TheVariants as faults
-use Rattle.block_shelf.specs.declared.shelf.Shelf.{Shelf}
+use Rattle.block_shelf.specs.declared.buffer_set.BufferSet.{BufferSet}
 
 -- THE ANSWERS, TOLD APART
 
@@ -61,17 +61,17 @@ number_answered (Err faults.Busy) = 0
 number_answered (Err faults.Memory) = 0
 number_answered (Err (faults.Failed number)) = number
 
--- a fault that isn't Busy, of a shelf that isn't
-pub not_busy : {S : Type 0} {g : Ghosts S} (old new : Shelf S g) (fault : RestartFault)
-    → IsOtherFault fault → (IsBusyShelf old → ⊥) → IsBusyRestart old fault new
+-- a fault that isn't Busy, of a buffer set that isn't
+pub not_busy : {S : Type 0} {g : Ghosts S} (old new : BufferSet S g) (fault : RestartFault)
+    → IsOtherFault fault → (IsBusyBufferSet old → ⊥) → IsBusyRestart old fault new
 not_busy old new faults.Busy other idle = absurd other
 not_busy old new faults.Memory other idle = idle
 not_busy old new (faults.Failed number) other idle = idle
 
 -- WHAT IS KEPT
 
--- a shelf to which nothing was done
-pub stays_same : {S : Type 0} {g : Ghosts S} (old : Shelf S g) → KeepsOn old (Ok tt) old
+-- a buffer set to which nothing was done
+pub stays_same : {S : Type 0} {g : Ghosts S} (old : BufferSet S g) → KeepsOn old (Ok tt) old
 stays_same old trusted w begun kept failures keeps = record {
   later = failures;
   rises = λ k. omega arith;
@@ -82,7 +82,7 @@ stays_same old trusted w begun kept failures keeps = record {
 }
 
 -- one that was restarted as far as a buffer, and goes on
-pub keeps_further : {S : Type 0} {g : Ghosts S} (first old new : Shelf S g)
+pub keeps_further : {S : Type 0} {g : Ghosts S} (first old new : BufferSet S g)
     (result : Result (Unit {0}) RestartFault) → KeepsOn first (Ok tt) old → KeepsOn old result new
     → KeepsOn first result new
 keeps_further first old new result before next trusted w begun kept failures keeps =
@@ -106,12 +106,15 @@ keeps_further first old new result before next trusted w begun kept failures kee
           };
     }
 
-module _ {S : Type 0} {g : Ghosts S} (old : Shelf S g) (place : ℕ) (code code' : Buffer S g)
+module _ {S : Type 0} {g : Ghosts S} (old : BufferSet S g) (place : ℕ) (code code' : Buffer S g)
     (there : slice_get old.buffers.items place ≡ Some code) (same : Follows (λ h. h) code code')
   where
-    -- the shelf with the buffer as it is after its restart
-    abbrev pub restarted : Shelf S g
-    restarted = record { buffers = with_item old.buffers place code'; racks = old.racks }
+    -- the buffer set with the buffer as it is after its restart
+    abbrev pub restarted : BufferSet S g
+    restarted = record {
+      buffers = with_item old.buffers place code';
+      placed_groups = old.placed_groups;
+    }
 
     -- the device hasn't failed less often
     pub grown : (error : RestartError) → IsRestartRefusal code error code'
@@ -150,8 +153,9 @@ module _ {S : Type 0} {g : Ghosts S} (old : Shelf S g) (place : ℕ) (code code'
 
       stays : KeepsTexts trusted restarted w begun kept (λ h. None) later
       stays =
-          replaced trusted old w begun kept (λ h. None) failures keeps place code' old.racks
-          keeps.rack_count begun kept (λ h. None) later keeps.fit keeps.opened keeps.racks
+          replaced trusted old w begun kept (λ h. None) failures keeps place code' old.placed_groups
+          keeps.placed_group_count begun kept (λ h. None) later keeps.fit keeps.opened
+          keeps.placed_groups
           (λ buffer is.
           let one : at.buffer ≡ buffer = same_Some at.buffer buffer (sym at.there ∙ is) in
           record {
@@ -275,7 +279,7 @@ module _ {S : Type 0} {g : Ghosts S} (old : Shelf S g) (place : ℕ) (code code'
                 };
           }
 
-    -- the shelf keeps on, where the buffer is restarted
+    -- the buffer set keeps on, where the buffer is restarted
     pub keeps_done : g.failures (store_of code') ≡ g.failures (store_of code)
         → KeepsOn old (Ok tt) restarted
     keeps_done none trusted w begun kept failures keeps =
@@ -300,7 +304,7 @@ module _ {S : Type 0} {g : Ghosts S} (old : Shelf S g) (place : ℕ) (code code'
         count = length-set old.buffers.items place code' ∙ had.each.count;
         each = λ b one at_one. by b one at_one (b == place) refl;
       };
-      racks = had.racks;
+      placed_groups = had.placed_groups;
     }
       where
         by : (b : ℕ) (one : Buffer S g) → slice_get first.buffers.items b ≡ Some one → (at : Bool)
@@ -310,7 +314,8 @@ module _ {S : Type 0} {g : Ghosts S} (old : Shelf S g) (place : ℕ) (code code'
             let here : b ≡ place = eqb-true b place e in
             let was = had.each.each b one at_one in
             let item : was.item ≡ code =
-            same_Some was.item code (sym was.there ∙ ap (slice_get old.buffers.items) here ∙ there) in
+            same_Some was.item code
+            (sym was.there ∙ ap (slice_get old.buffers.items) here ∙ there) in
             let begun_from : code ≡ one =
             sym item ∙ was.belongs.behind (omega (arith, here)) in
             record {
@@ -336,7 +341,7 @@ module _ {S : Type 0} {g : Ghosts S} (old : Shelf S g) (place : ℕ) (code code'
             }
 
 -- past the last buffer there is nothing to restart
-pub none_restarted : {S : Type 0} {g : Ghosts S} (stop place : ℕ) (old : Shelf S g)
+pub none_restarted : {S : Type 0} {g : Ghosts S} (stop place : ℕ) (old : BufferSet S g)
     → length old.buffers.items ≤ place → RestartsNext stop place old old
 none_restarted stop place old past first had = record {
   each = record {
@@ -353,11 +358,11 @@ none_restarted stop place old past first had = record {
           };
         };
   };
-  racks = had.racks;
+  placed_groups = had.placed_groups;
 }
 
 -- before the first buffer nothing is restarted yet
-pub nothing_restarted : {S : Type 0} {g : Ghosts S} (stop : ℕ) (old : Shelf S g)
+pub nothing_restarted : {S : Type 0} {g : Ghosts S} (stop : ℕ) (old : BufferSet S g)
     → HaveRestarted stop 0 old old
 nothing_restarted stop old = record {
   each = record {
@@ -368,11 +373,11 @@ nothing_restarted stop old = record {
       belongs = record { before = λ less. absurd (omega (arith, less)); behind = λ more. refl };
     };
   };
-  racks = refl;
+  placed_groups = refl;
 }
 
 -- behind the last buffer all are
-pub all_restarted : {S : Type 0} {g : Ghosts S} (stop place : ℕ) (old new : Shelf S g)
+pub all_restarted : {S : Type 0} {g : Ghosts S} (stop place : ℕ) (old new : BufferSet S g)
     → length old.buffers.items ≤ place → HaveRestarted stop place old new
     → AreRestarted stop old new
 all_restarted stop place old new past had = record {
@@ -387,5 +392,5 @@ all_restarted stop place old new past had = record {
               (omega (arith, past, slice_get_within old.buffers.items b one is));
         };
   };
-  racks = had.racks;
+  placed_groups = had.placed_groups;
 }

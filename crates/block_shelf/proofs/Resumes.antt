@@ -1,4 +1,4 @@
--- The groups of a started shelf are where they were.
+-- The groups of a started buffer set are where they were.
 use Rattle.std.proofs.Common.{◌≡◌, ◌∙◌, ℕ, ◌+◌, ◌*◌, ◌<◌, ◌≤◌, Bool, true, arith, refl, sym, ap}
 use Rattle.std.proofs.Common.{subst}
 use Rattle.std.proofs.Common.{List, length, map, Option, Some, slice_get, unwrap_or}
@@ -24,12 +24,12 @@ use Rattle.relay_conf.specs.declared.cycbuff.Mode.TheVariants as modes
 use Rattle.relay_conf.specs.declared.settings.Buffers.{Buffers}
 use Rattle.relay_model.specs.State.{Kept}
 use Rattle.relay_model.specs.Terms.{Terms}
-use Rattle.block_shelf.proofs.ShelfReads.{some_there}
+use Rattle.block_shelf.proofs.BufferSetReads.{some_there}
 use Rattle.block_shelf.specs.Each.{AreEach}
 use Rattle.block_shelf.specs.Resuming.{AreUsed, HasCurrent, IsResumedAt, ResumesByUse}
-use Rattle.block_shelf.specs.Resuming.{ResumesRack}
-use Rattle.block_shelf.specs.Starting.{BuffersKeep, ResumeRacks}
-use Rattle.block_shelf.specs.declared.shelf.Rack.{Rack}
+use Rattle.block_shelf.specs.Resuming.{ResumesPlacedGroup}
+use Rattle.block_shelf.specs.Starting.{BuffersKeep, ResumePlacedGroups}
+use Rattle.block_shelf.specs.declared.buffer_set.PlacedGroup.{PlacedGroup}
 
 -- what a buffer says of its cycle, its blocks and its front says how much of the cycle is used
 pub used_is : {S : Type 0} {g : Ghosts S} (trusted : Bool) (code : Buffer S g) (h : History)
@@ -41,7 +41,7 @@ used_is trusted code h agrees cycle blocks front is_cycle is_blocks is_front = (
       ∙ ap (λ n. cycle * n + used_of h) (sym is_blocks),
   omega (
     arith,
-    code.register.line.within,
+    code.buffer_state.line.within,
     agrees.keeps.used,
     ap (λ (b : places.Buffer). b.blocks) agrees.keeps.buffer,
     is_blocks,
@@ -92,7 +92,8 @@ module _ (all_used : List ℕ) (m : confs.Mode) (buffers : List places.Buffer) (
     -- its position is one of its buffers
     pub position_inside : HasCurrent all_used group_of begun
         → (position_of group_of begun).index < length buffers
-    position_inside has = slice_get_within buffers (position_of group_of begun).index has.buffer has.there
+    position_inside has =
+        slice_get_within buffers (position_of group_of begun).index has.buffer has.there
 
 -- a group with a buffer is at one of its buffers
 position_within : (group : Group) (begun : List ℕ) → 0 < length group.buffers
@@ -136,38 +137,46 @@ module _ {S : Type 0} {g : Ghosts S} (codes : List (Buffer S g)) (used : List �
             ∙ used_of_position group (begun h) mode (keeps.fit h group at) one.0 one.1));
       }
 
--- the racks are those of the settings' groups
-pub racks_resumed : (settings : Buffers) (positions used : List ℕ) (racks : List Rack)
-    → AreEach (IsResumedAt settings.buffers.items positions used) settings.groups.items racks
-    → ResumesByUse settings positions used racks
-racks_resumed settings positions used racks are w begun groups current_of are_at = record {
-  count = are.count
-      ∙ sym (ap length groups
-      ∙ length-map (map group_view settings.groups.items)
-      (group_over (numbered_buffers settings.buffers.items))
-      ∙ length-map settings.groups.items group_view);
-  each = λ h group at.
-      let a = mapped_at (group_over (numbered_buffers settings.buffers.items))
-      (map group_view settings.groups.items) h group
-      (ap (λ all. slice_get all h) (sym groups) ∙ at) in
-      let b = mapped_at group_view settings.groups.items h a.0 a.1 in
-      let same : group_over (numbered_buffers settings.buffers.items) (group_view b.0) ≡ group =
-      ap (group_over (numbered_buffers settings.buffers.items)) b.2 ∙ a.2 in
-      let rack = are.each h b.0 b.1 in
-      let resumes : ResumesRack group (unwrap_or (slice_get positions h) 0) used rack.item =
-      subst (λ each. ResumesRack each (unwrap_or (slice_get positions h) 0) used rack.item) same
-      rack.belongs in
-      record {
-        code = rack.item;
-        there = rack.there;
-        keeps = resumes (begun h) (sym (ap (λ o. unwrap_or o 0) (are_at.each h group at)))
-            (current_of h group at);
-      };
-}
+-- the placed groups are those of the settings' groups
+pub placed_groups_resumed
+    : (settings : Buffers) (positions used : List ℕ) (placed_groups : List PlacedGroup)
+    → AreEach (IsResumedAt settings.buffers.items positions used)
+    settings.groups.items placed_groups
+    → ResumesByUse settings positions used placed_groups
+placed_groups_resumed settings positions used placed_groups are w begun groups current_of are_at =
+    record {
+      count = are.count
+          ∙ sym (ap length groups
+          ∙ length-map (map group_view settings.groups.items)
+          (group_over (numbered_buffers settings.buffers.items))
+          ∙ length-map settings.groups.items group_view);
+      each = λ h group at.
+          let a = mapped_at (group_over (numbered_buffers settings.buffers.items))
+          (map group_view settings.groups.items) h group
+          (ap (λ all. slice_get all h) (sym groups) ∙ at) in
+          let b = mapped_at group_view settings.groups.items h a.0 a.1 in
+          let same : group_over (numbered_buffers settings.buffers.items) (group_view b.0) ≡ group =
+          ap (group_over (numbered_buffers settings.buffers.items)) b.2 ∙ a.2 in
+          let placed_group = are.each h b.0 b.1 in
+          let resumes : ResumesPlacedGroup group (unwrap_or (slice_get positions h) 0)
+          used placed_group.item =
+          subst (λ each. ResumesPlacedGroup each (unwrap_or (slice_get positions h) 0) used
+          placed_group.item) same
+          placed_group.belongs in
+          record {
+            code = placed_group.item;
+            there = placed_group.there;
+            keeps = resumes (begun h) (sym (ap (λ o. unwrap_or o 0) (are_at.each h group at)))
+                (current_of h group at);
+          };
+    }
 
 -- over buffers of which so much is used, they are those that keep what the buffers do
 pub resumed_over : {S : Type 0} {g : Ghosts S} (settings : Buffers) (positions : List ℕ)
-    (codes : List (Buffer S g)) (used : List ℕ) (racks : List Rack) → AreUsed codes used
-    → ResumesByUse settings positions used racks → ResumeRacks settings positions codes racks
-resumed_over settings positions codes used racks are resumes w begun kept failures groups keeps at =
+    (codes : List (Buffer S g)) (used : List ℕ) (placed_groups : List PlacedGroup)
+    → AreUsed codes used
+    → ResumesByUse settings positions used placed_groups
+    → ResumePlacedGroups settings positions codes placed_groups
+resumed_over settings positions codes used placed_groups are resumes w begun kept failures
+    groups keeps at =
     resumes w begun groups (current codes used w begun kept failures are keeps) at

@@ -1,4 +1,4 @@
--- What the shelf keeps once one of its buffers, or one of its groups, is another.
+-- What the buffer set keeps once one of its buffers, or one of its groups, is another.
 use Rattle.std.proofs.Common.{◌≡◌, ◌∙◌, ℕ, zero, suc, Bool, true, false, refl, sym, ap}
 use Rattle.std.proofs.Common.{List, [], ◌∷◌, length, Option, Some, All, slice_get}
 use Rattle.std.proofs.Common.{◌==◌}
@@ -15,11 +15,11 @@ use Rattle.news_terms.specs.Places.{Group}
 use Rattle.relay_model.specs.State.{Kept}
 use Rattle.relay_model.specs.Terms.{Terms}
 use Rattle.block_shelf.proofs.Writings.{IsOnly}
-use Rattle.block_shelf.specs.Keeping.{KeepsTexts, KeepsBuffer, HasBuffer, HasRack, IsOpenIn}
+use Rattle.block_shelf.specs.Keeping.{KeepsTexts, KeepsBuffer, HasBuffer, HasPlacedGroup, IsOpenIn}
 use Rattle.block_shelf.specs.Openings.{Opening, token_in}
 use Rattle.news_terms.specs.Settings.{IsBufferAt}
-use Rattle.block_shelf.specs.declared.shelf.Rack.{Rack}
-use Rattle.block_shelf.specs.declared.shelf.Shelf.{Shelf}
+use Rattle.block_shelf.specs.declared.buffer_set.PlacedGroup.{PlacedGroup}
+use Rattle.block_shelf.specs.declared.buffer_set.BufferSet.{BufferSet}
 
 -- an item that was put at a place stands there
 pub put_here : {X : Type 0} (xs : List X) (i : ℕ) (old x : X) → slice_get xs i ≡ Some old
@@ -52,7 +52,7 @@ pub record OpenPlace (w : Terms) (h : ℕ) (one : Opening) : Type 0 where
   pub index : ℕ
   pub is_at : IsBufferAt w.groups h index buffer
 
-module _ {S : Type 0} {g : Ghosts S} (trusted : Bool) (old : Shelf S g) (w : Terms)
+module _ {S : Type 0} {g : Ghosts S} (trusted : Bool) (old : BufferSet S g) (w : Terms)
     (begun : ℕ → List ℕ) (kept : List Kept) (openings : ℕ → Option Opening) (failures : ℕ → ℕ)
     (keeps : KeepsTexts trusted old w begun kept openings failures) where
   -- the open write of a group is in a buffer that is there
@@ -76,32 +76,34 @@ module _ {S : Type 0} {g : Ghosts S} (trusted : Bool) (old : Shelf S g) (w : Ter
       (keeps.sound.once k h there.index i there.buffer buffer there.is_at at (there.named ∙ here)).0
 
   -- with another buffer, which keeps what is said from now on, while every other keeps it as it is
-  pub replaced : (b : ℕ) (code : Buffer S g) (racks : Vec Rack)
-      → length racks.items ≡ length w.groups → (begun' : ℕ → List ℕ) (kept' : List Kept)
+  pub replaced : (b : ℕ) (code : Buffer S g) (placed_groups : Vec PlacedGroup)
+      → length placed_groups.items ≡ length w.groups → (begun' : ℕ → List ℕ) (kept' : List Kept)
       (openings' : ℕ → Option Opening) (failures' : ℕ → ℕ)
       → ((h : ℕ) (group : Group) → slice_get w.groups h ≡ Some group
       → All (FitsGroup group) (begun' h))
       → ((h : ℕ) (one : Opening) → openings' h ≡ Some one → IsOpenIn w.groups h one)
       → ((h : ℕ) (group : Group) → slice_get w.groups h ≡ Some group
-      → HasRack racks.items (begun' h) h group)
+      → HasPlacedGroup placed_groups.items (begun' h) h group)
       → ((buffer : places.Buffer) → slice_get w.buffers b ≡ Some buffer
       → KeepsBuffer trusted code w.groups begun' kept' openings' failures' buffer)
       → ((j : ℕ) (buffer : places.Buffer) → slice_get w.buffers j ≡ Some buffer → (j ≡ b → ⊥)
       → (each : Buffer S g)
       → KeepsBuffer trusted each w.groups begun kept openings failures buffer
       → KeepsBuffer trusted each w.groups begun' kept' openings' failures' buffer)
-      → KeepsTexts trusted (record { buffers = with_item old.buffers b code; racks = racks }) w
+      → KeepsTexts trusted
+      (record { buffers = with_item old.buffers b code; placed_groups = placed_groups }) w
       begun' kept' openings' failures'
-  replaced b code racks rack_count begun' kept' openings' failures' fit opened has_racks here others = record {
-    sound = keeps.sound;
-    numbered = keeps.numbered;
-    fit = fit;
-    opened = opened;
-    count = length-set old.buffers.items b code ∙ keeps.count;
-    buffers = λ j buffer there. by j buffer there (j == b) refl;
-    rack_count = rack_count;
-    racks = has_racks;
-  }
+  replaced b code placed_groups placed_group_count begun' kept' openings' failures' fit opened
+      has_placed_groups here others = record {
+        sound = keeps.sound;
+        numbered = keeps.numbered;
+        fit = fit;
+        opened = opened;
+        count = length-set old.buffers.items b code ∙ keeps.count;
+        buffers = λ j buffer there. by j buffer there (j == b) refl;
+        placed_group_count = placed_group_count;
+        placed_groups = has_placed_groups;
+      }
     where
       by : (j : ℕ) (buffer : places.Buffer) → slice_get w.buffers j ≡ Some buffer → (same : Bool)
           → (j == b) ≡ same

@@ -1,4 +1,4 @@
--- A shelf is started, buffer after buffer.
+-- A buffer set is started, buffer after buffer.
 use Rattle.std.proofs.Common.{◌≡◌, ◌≢◌, ◌∙◌, ℕ, ◌<◌, ◌≤◌, ◌==◌, ◌⊎◌, inl, inr, Bool, true}
 use Rattle.std.proofs.Common.{false, arith, refl, sym, ap, subst, List, [], ◌∷◌, ◌++◌, length, map}
 use Rattle.std.proofs.Common.{Option, None, Some, slice_get, option_map, Result, Ok, Err}
@@ -26,16 +26,18 @@ use Rattle.relay_conf.specs.declared.settings.Buffers.{Buffers}
 use Rattle.relay_model.specs.State.{Kept}
 use Rattle.relay_model.specs.Terms.{Terms}
 use Rattle.block_shelf.proofs.EachLemmas.{comes_from, each_mapped, one_more_each}
-use Rattle.block_shelf.proofs.NewShelf.{numbered_view, pushed_before, pushed_last}
-use Rattle.block_shelf.proofs.ShelfReads.{some_there}
+use Rattle.block_shelf.proofs.NewBufferSet.{numbered_view, pushed_before, pushed_last}
+use Rattle.block_shelf.proofs.BufferSetReads.{some_there}
 use Rattle.block_shelf.specs.Each.{AreEach}
 use Rattle.block_shelf.specs.Starting.{BuffersKeep, CanStart, EarlierStart}
-use Rattle.block_shelf.specs.Starting.{IsFirstOther, IsFromOutside, IsHeldBy, IsMixedAt, IsRefusedAt}
+use Rattle.block_shelf.specs.Starting.{IsFirstOther, IsFromOutside, IsHeldBy, IsMixedAt}
+use Rattle.block_shelf.specs.Starting.{IsRefusedAt}
 use Rattle.block_shelf.specs.Starting.{IsStartedOver, IsUnstartedBy, IsUnwritten, buffer_over}
 use Rattle.block_shelf.specs.Starting.{buffers_inside, failed_at, fault_of_start, number_told}
 use Rattle.block_shelf.specs.Starting.{IsTriedRefusal, other_after}
-use Rattle.block_shelf.specs.Starting.{IsStartedShelf, KeepsHeld, ResumeRacks, WillKeepHeld}
-use Rattle.block_shelf.specs.declared.opening.UnopenedShelf.{UnopenedShelf}
+use Rattle.block_shelf.specs.Starting.{IsStartedBufferSet, KeepsHeld, ResumePlacedGroups}
+use Rattle.block_shelf.specs.Starting.{WillKeepHeld}
+use Rattle.block_shelf.specs.declared.opening.UnopenedBufferSet.{UnopenedBufferSet}
 use Rattle.block_shelf.specs.declared.starting.StopFault.{StopFault}
 use Rattle.block_shelf.specs.declared.starting.StopFault.TheVariants as faults
 
@@ -244,7 +246,7 @@ pub told_refused : {S : Type 0} (g : Ghosts S) (before stores new : List S) (num
 told_refused g before stores new number fault start is why told made =
     subst (IsTriedRefusal g before fault number) (sym made) (start, is, (why, told))
 
--- a fault of a buffer, as that of the shelf
+-- a fault of a buffer, as that of the buffer set
 pub refused_by : {S : Type 0} (g : Ghosts S) (stores : List S) (stop : ℕ) (start : StartError)
     (back : List S) (why : IsRefusedAt g stores start back)
     → IsUnstartedBy g stores stop (fault_of_start start) (number_told start why.place) back
@@ -254,7 +256,7 @@ refused_by g stores stop errors.NoHead back why = (why, refl)
 refused_by g stores stop errors.Unclosed back why = (why, refl)
 refused_by g stores stop errors.Damaged back why = (why, refl)
 
--- a fault that has nothing to do with what the store holds is none of the shelf's either
+-- a fault that has nothing to do with what the store holds is none of the buffer set's either
 outside_fault : (start : StartError) → IsOutside start → IsFromOutside (fault_of_start start)
 outside_fault errors.Memory is = tt
 outside_fault errors.Device is = tt
@@ -384,11 +386,12 @@ mixed_at {S} {g} stores stop buffers are place had =
       back_each = started_stores stores buffers are;
     }
 
--- a start that was refused, as the shelf's
-pub refused_shelf : {S : Type 0} (g : Ghosts S) (stores : List S) (stop : ℕ) (fault : StopFault)
+-- a start that was refused, as the buffer set's
+pub refused_buffer_set
+    : {S : Type 0} (g : Ghosts S) (stores : List S) (stop : ℕ) (fault : StopFault)
     (number : Option ℕ) (back : List S) → IsTriedRefusal g stores fault number back
     → IsUnstartedBy g stores stop fault number back
-refused_shelf g stores stop fault number back had =
+refused_buffer_set g stores stop fault number back had =
     subst (λ f. IsUnstartedBy g stores stop f number back) (sym had.1)
     (subst (λ n. IsUnstartedBy g stores stop (fault_of_start had.0) n back) (sym had.2.1)
     (refused_by g stores stop had.0 back had.2.0))
@@ -406,13 +409,13 @@ refused_cause g settings stores sized stop fault number back had w begun kept fa
     (refused_outside g settings stores sized stop w begun kept failures held had.0 back had.2.0)
 
 -- a start that was mixed
-pub mixed_shelf : {S : Type 0} {g : Ghosts S} (stores : List S) (stop : ℕ)
+pub mixed_buffer_set : {S : Type 0} {g : Ghosts S} (stores : List S) (stop : ℕ)
     (buffers : List (Unopened S g)) (room back : List S) (number : ℕ)
     → AreEach IsStartedOver stores buffers → room ≡ []
     → IsFirstOther stop buffers (Some number)
     → back ≡ room ++ map (λ (one : Unopened S g). store_of (inside one)) buffers
     → IsUnstartedBy g stores stop faults.Mixed (Some number) back
-mixed_shelf {S} {g} stores stop buffers room back number are none first made = (
+mixed_buffer_set {S} {g} stores stop buffers room back number are none first made = (
   number,
   refl,
   subst (IsMixedAt g stores stop number)
@@ -422,26 +425,30 @@ mixed_shelf {S} {g} stores stop buffers room back number are none first made = (
 )
 
 -- a start that was refused memory for its groups
-pub memory_shelf : {S : Type 0} {g : Ghosts S} (stores : List S) (stop : ℕ)
+pub memory_buffer_set : {S : Type 0} {g : Ghosts S} (stores : List S) (stop : ℕ)
     (buffers : List (Unopened S g)) (fault : StopFault) (number : Option ℕ) (back : List S)
     → AreEach IsStartedOver stores buffers → (number ≡ None) × (fault ≡ faults.Memory)
     → back ≡ map (λ (one : Unopened S g). store_of (inside one)) buffers
     → IsUnstartedBy g stores stop fault number back
-memory_shelf {S} {g} stores stop buffers fault number back are is made =
-    subst (λ f. IsUnstartedBy g stores stop f number back) (sym is.1)
-    (is.0, subst (AreEach (IsUnwritten g None) stores) (sym made) (started_stores stores buffers are))
+memory_buffer_set {S} {g} stores stop buffers fault number back are is made =
+    subst (λ f. IsUnstartedBy g stores stop f number back) (sym is.1) (
+      is.0,
+      subst (AreEach (IsUnwritten g None) stores) (sym made)
+          (started_stores stores buffers are),
+    )
 
 module _ {S : Type 0} {g : Ghosts S} (settings : Buffers) (stores : List S)
     (sized : map (λ store. length (g.blocks store)) stores
     ≡ map (λ (conf : BufferConf). conf.blocks) settings.buffers.items) (stop : ℕ)
     (buffers : Vec (Unopened S g)) (are : AreEach IsStartedOver stores buffers.items)
-    (shelf : UnopenedShelf S g) (same : shelf.buffers ≡ buffers) where
-  -- the shelf's buffers are those that were started
-  over : AreEach IsStartedOver stores shelf.buffers.items
+    (buffer_set : UnopenedBufferSet S g) (same : buffer_set.buffers ≡ buffers) where
+  -- the buffer set's buffers are those that were started
+  over : AreEach IsStartedOver stores buffer_set.buffers.items
   over = subst (λ (bs : Vec (Unopened S g)). AreEach IsStartedOver stores bs.items) (sym same) are
 
-  pub started_shelf : IsFirstOther stop buffers.items None → IsStartedShelf stores stop shelf
-  started_shelf first = record {
+  pub started_buffer_set : IsFirstOther stop buffers.items None
+      → IsStartedBufferSet stores stop buffer_set
+  started_buffer_set first = record {
     started = record {
       over = over;
       under = subst
@@ -449,23 +456,26 @@ module _ {S : Type 0} {g : Ghosts S} (settings : Buffers) (stores : List S)
           → slice_get bs.items b ≡ Some one → stop_of (inside one) ≡ stop)
           (sym same) first;
     };
-    unwritten = started_stores stores shelf.buffers.items over;
+    unwritten = started_stores stores buffer_set.buffers.items over;
   }
 
-  pub shelf_held : KeepsHeld settings stores stop shelf
-  shelf_held w begun kept failures held =
-      buffers_keep g settings stores sized stop w begun kept failures held shelf.buffers.items over
+  pub buffer_set_held : KeepsHeld settings stores stop buffer_set
+  buffer_set_held w begun kept failures held =
+      buffers_keep g settings stores sized stop w begun kept failures held
+      buffer_set.buffers.items over
 
-  pub shelf_keeps : (positions : List ℕ)
-      → ResumeRacks settings positions (buffers_inside buffers.items) shelf.racks.items
-      → WillKeepHeld settings stores stop positions shelf
-  shelf_keeps positions resume w begun kept failures held are_at =
-      let texts = shelf_held w begun kept failures held in
+  pub buffer_set_keeps : (positions : List ℕ)
+      → ResumePlacedGroups settings positions (buffers_inside buffers.items)
+      buffer_set.placed_groups.items
+      → WillKeepHeld settings stores stop positions buffer_set
+  buffer_set_keeps positions resume w begun kept failures held are_at =
+      let texts = buffer_set_held w begun kept failures held in
       record {
         texts = texts;
-        racks = resume w begun kept failures held.1
+        placed_groups = resume w begun kept failures held.1
             (subst
-            (λ (bs : Vec (Unopened S g)). BuffersKeep (buffers_inside bs.items) w begun kept failures)
+            (λ (bs : Vec (Unopened S g)). BuffersKeep (buffers_inside bs.items) w
+            begun kept failures)
             same texts)
             are_at;
       }

@@ -1,4 +1,4 @@
--- What the stop of a shelf leaves, buffer after buffer.
+-- What the stop of a buffer set leaves, buffer after buffer.
 use Rattle.std.proofs.Common.{◌≡◌, ◌∙◌, ℕ, ◌+◌, ◌<◌, Bool, true, false, arith, refl, sym, ap}
 use Rattle.std.proofs.Common.{List, [], ◌∷◌, ◌++◌, length, Option, None, Some, is_some, slice_get}
 use Rattle.std.proofs.Common.{subst, ◌==◌}
@@ -9,23 +9,23 @@ use Rattle.cyc_block.specs.declared.store.BlockStore.{Ghosts}
 use Rattle.cyc_buffer.specs.Agreement.{Agrees, store_of}
 use Rattle.cyc_buffer.specs.Head.{IsStopRefusal, LeavesBuffer, is_busy}
 use Rattle.cyc_buffer.specs.History.{History, Writing}
-use Rattle.cyc_buffer.specs.Register.{Writes}
+use Rattle.cyc_buffer.specs.BufferState.{Writes}
 use Rattle.cyc_buffer.specs.declared.answers.BufError.{BufError}
 use Rattle.cyc_buffer.specs.declared.answers.BufError.TheVariants as errors
 use Rattle.cyc_buffer.specs.declared.buffer.Buffer.{Buffer}
-use Rattle.cyc_buffer.specs.declared.register.Progress.{Progress}
+use Rattle.cyc_buffer.specs.declared.buffer_state.Progress.{Progress}
 use Rattle.news_terms.specs.Places as places
 use Rattle.relay_model.specs.State.{Kept}
 use Rattle.relay_model.specs.Terms.{Terms}
 use Rattle.block_shelf.proofs.EachLemmas.{each_so, one_more_each}
-use Rattle.block_shelf.proofs.ShelfReads.{some_there}
+use Rattle.block_shelf.proofs.BufferSetReads.{some_there}
 use Rattle.block_shelf.specs.Histories.{HasWriting, IsFree, IsBusy}
 use Rattle.block_shelf.specs.Keeping.{KeepsBuffer, KeepsTexts}
 use Rattle.block_shelf.specs.Openings.{Opening}
 use Rattle.block_shelf.specs.Stopping.{AreIdleTo}
-use Rattle.block_shelf.specs.Stopping.{AreIdle, AreShut, HoldsKept, IsBusyShelf, IsLeftOver}
+use Rattle.block_shelf.specs.Stopping.{AreIdle, AreShut, HoldsKept, IsBusyBufferSet, IsLeftOver}
 use Rattle.block_shelf.specs.Stopping.{IsShutOver, IsStopped}
-use Rattle.block_shelf.specs.declared.shelf.Shelf.{Shelf}
+use Rattle.block_shelf.specs.declared.buffer_set.BufferSet.{BufferSet}
 
 -- where no group has an open write, no history has
 pub nothing_written : (h : History) → HasWriting (λ k. None) h → h.writing ≡ None
@@ -36,7 +36,7 @@ nothing_written h (IsBusy k one is named this) = absurd (none-some one is)
 pub idle_agrees : {S : Type 0} {g : Ghosts S} (trusted : Bool) (code : Buffer S g) (h : History)
     → Agrees trusted code h → h.writing ≡ None → is_busy code ≡ false
 idle_agrees trusted code h agrees none =
-    by code.register.progress h.writing agrees.keeps.writing none
+    by code.buffer_state.progress h.writing agrees.keeps.writing none
   where
     by : (p : Option Progress) (w : Option Writing) → Writes h p w → w ≡ None → is_some p ≡ false
     by None w writes e = refl
@@ -52,14 +52,14 @@ pub record KeptAt {S : Type 0} {g : Ghosts S} (trusted : Bool) (w : Terms) (begu
   pub there : slice_get w.buffers b ≡ Some buffer
   pub keeps : KeepsBuffer trusted code w.groups begun kept openings failures buffer
 
-pub kept_at : {S : Type 0} {g : Ghosts S} (trusted : Bool) (shelf : Shelf S g) (w : Terms)
+pub kept_at : {S : Type 0} {g : Ghosts S} (trusted : Bool) (buffer_set : BufferSet S g) (w : Terms)
     (begun : ℕ → List ℕ) (kept : List Kept) (openings : ℕ → Option Opening) (failures : ℕ → ℕ)
-    → KeepsTexts trusted shelf w begun kept openings failures → (b : ℕ) (code : Buffer S g)
-    → slice_get shelf.buffers.items b ≡ Some code
+    → KeepsTexts trusted buffer_set w begun kept openings failures → (b : ℕ) (code : Buffer S g)
+    → slice_get buffer_set.buffers.items b ≡ Some code
     → KeptAt trusted w begun kept openings failures b code
-kept_at trusted shelf w begun kept openings failures keeps b code is =
+kept_at trusted buffer_set w begun kept openings failures keeps b code is =
     let one = some_there w.buffers b
-    (omega (arith, slice_get_within shelf.buffers.items b code is, keeps.count)) in
+    (omega (arith, slice_get_within buffer_set.buffers.items b code is, keeps.count)) in
     let had = keeps.buffers b one.0 one.1 in
     record {
       buffer = one.0;
@@ -69,50 +69,55 @@ kept_at trusted shelf w begun kept openings failures keeps b code is =
           (same_Some had.code code (sym had.there ∙ is)) had.keeps;
     }
 
--- a shelf that keeps what is said without an open write is idle
-pub idle_kept : {S : Type 0} {g : Ghosts S} (trusted : Bool) (shelf : Shelf S g) (w : Terms)
+-- a buffer set that keeps what is said without an open write is idle
+pub idle_kept
+    : {S : Type 0} {g : Ghosts S} (trusted : Bool) (buffer_set : BufferSet S g) (w : Terms)
     (begun : ℕ → List ℕ) (kept : List Kept) (failures : ℕ → ℕ)
-    → KeepsTexts trusted shelf w begun kept (λ h. None) failures → AreIdle shelf
-idle_kept trusted shelf w begun kept failures keeps b code is =
-    let at = kept_at trusted shelf w begun kept (λ h. None) failures keeps b code is in
+    → KeepsTexts trusted buffer_set w begun kept (λ h. None) failures → AreIdle buffer_set
+idle_kept trusted buffer_set w begun kept failures keeps b code is =
+    let at = kept_at trusted buffer_set w begun kept (λ h. None) failures keeps b code is in
     idle_agrees trusted code at.keeps.history at.keeps.agrees
     (nothing_written at.keeps.history at.keeps.is_said.writing)
 
--- a busy buffer makes the shelf busy
-pub busy_shelf : {S : Type 0} {g : Ghosts S} (shelf : Shelf S g) (b : ℕ) (code : Buffer S g)
-    → slice_get shelf.buffers.items b ≡ Some code → is_busy code ≡ true → IsBusyShelf shelf
-busy_shelf shelf b code is busy = record {
+-- a busy buffer makes the buffer set busy
+pub busy_buffer_set : {S : Type 0} {g : Ghosts S} (buffer_set : BufferSet S g) (b : ℕ)
+    (code : Buffer S g)
+    → slice_get buffer_set.buffers.items b ≡ Some code → is_busy code ≡ true
+    → IsBusyBufferSet buffer_set
+busy_buffer_set buffer_set b code is busy = record {
   at = b;
   code = code;
   there = is;
   busy = busy;
   writing = λ trusted w begun kept failures keeps.
-      true≢false (sym busy ∙ idle_kept trusted shelf w begun kept failures keeps b code is);
+      true≢false (sym busy ∙ idle_kept trusted buffer_set w begun kept failures keeps b code is);
 }
 
 -- one buffer more in which no write is open
-pub idle_more : {S : Type 0} {g : Ghosts S} (shelf : Shelf S g) (place : ℕ) (code : Buffer S g)
-    → slice_get shelf.buffers.items place ≡ Some code → is_busy code ≡ false
-    → AreIdleTo shelf place → AreIdleTo shelf (place + 1)
-idle_more {S} {g} shelf place code is idle before b one less there = by (b == place) refl
+pub idle_more : {S : Type 0} {g : Ghosts S} (buffer_set : BufferSet S g) (place : ℕ)
+    (code : Buffer S g)
+    → slice_get buffer_set.buffers.items place ≡ Some code → is_busy code ≡ false
+    → AreIdleTo buffer_set place → AreIdleTo buffer_set (place + 1)
+idle_more {S} {g} buffer_set place code is idle before b one less there = by (b == place) refl
   where
     by : (same : Bool) → (b == place) ≡ same → is_busy one ≡ false
     by true e =
         let same : code ≡ one =
         same_Some code one
-        (sym is ∙ ap (slice_get shelf.buffers.items) (sym (eqb-true b place e)) ∙ there) in
+        (sym is ∙ ap (slice_get buffer_set.buffers.items) (sym (eqb-true b place e)) ∙ there) in
         subst (λ (each : Buffer S g). is_busy each ≡ false) same idle
     by false e = before b one (omega (arith, less, eqb-false b place e)) there
 
--- an idle shelf isn't busy
-pub idle_or_busy : {S : Type 0} {g : Ghosts S} (shelf : Shelf S g) → AreIdle shelf
-    → IsBusyShelf shelf → ⊥
-idle_or_busy shelf idle is = true≢false (sym is.busy ∙ idle is.at is.code is.there)
+-- an idle buffer set isn't busy
+pub idle_or_busy : {S : Type 0} {g : Ghosts S} (buffer_set : BufferSet S g) → AreIdle buffer_set
+    → IsBusyBufferSet buffer_set → ⊥
+idle_or_busy buffer_set idle is = true≢false (sym is.busy ∙ idle is.at is.code is.there)
 
--- the stores hold what the shelf kept
-pub holds_kept : {S : Type 0} {g : Ghosts S} (stop : ℕ) (shelf : Shelf S g) (stores : List S)
-    → AreShut stop shelf stores → HoldsKept stop shelf stores
-holds_kept stop shelf stores shut w begun kept failures keeps = record {
+-- the stores hold what the buffer set kept
+pub holds_kept : {S : Type 0} {g : Ghosts S} (stop : ℕ) (buffer_set : BufferSet S g)
+    (stores : List S)
+    → AreShut stop buffer_set stores → HoldsKept stop buffer_set stores
+holds_kept stop buffer_set stores shut w begun kept failures keeps = record {
   sound = keeps.sound;
   numbered = keeps.numbered;
   fit = keeps.fit;

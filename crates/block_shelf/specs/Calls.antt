@@ -1,5 +1,5 @@
--- What a begin, a write of a block, a finish and an abandon do to what the shelf keeps. The calls
--- are total: what each needs stands as a premise, in the relay's own words.
+-- What a begin, a write of a block, a finish and an abandon do to what the buffer set keeps. The
+-- calls are total: what each needs stands as a premise, in the relay's own words.
 use Rattle.std.specs.Prelude.{◌≡◌, ℕ, ◌+◌, ◌==◌, ◌≤◌, ◌<◌, Bool, List, [], ◌∷◌, ◌++◌, length}
 use Rattle.std.specs.Prelude.{slice_get}
 use Rattle.std.specs.Prelude.{Option, None, Some, option_and_then, Result, Ok, Err}
@@ -19,8 +19,8 @@ use Rattle.relay_model.specs.World.{HasFailedAt}
 use Rattle.block_shelf.specs.Devices.{calls_at}
 use Rattle.block_shelf.specs.Keeping.{KeepsTexts}
 use Rattle.block_shelf.specs.Openings.{Opening, IsOpen, IsBroken, token_in}
-use Rattle.block_shelf.specs.declared.shelf.Begun.{Begun}
-use Rattle.block_shelf.specs.declared.shelf.Shelf.{Shelf}
+use Rattle.block_shelf.specs.declared.buffer_set.Begun.{Begun}
+use Rattle.block_shelf.specs.declared.buffer_set.BufferSet.{BufferSet}
 
 -- the token that a begun article is finished under
 abbrev pub token_of : Begun → Token
@@ -55,7 +55,7 @@ token_at class octets place =
 -- that is kept changes
 abbrev pub BegunAs : {S : Type 0} {g : Ghosts S} → (trusted : Bool) → Terms → (h class octets : ℕ)
     → (ℕ → List ℕ) → List Kept → (ℕ → Option Opening) → (ℕ → ℕ) → Place → Option Begun
-    → (new : Shelf S g) → Type 0
+    → (new : BufferSet S g) → Type 0
 BegunAs trusted w h class octets begun kept openings failures place None new =
     (last_cycle < place.cycle) × KeepsTexts trusted new w begun kept openings failures
 BegunAs trusted w h class octets begun kept openings failures place (Some one) new =
@@ -64,8 +64,8 @@ BegunAs trusted w h class octets begun kept openings failures place (Some one) n
     → KeepsTexts trusted new w (put_at begun h (begun h ++ size_of octets ∷ [])) kept
     (put_at openings h (Some (IsOpen (token_of one) text 0))) failures)
 
--- all that the shelf keeps, with whatever state, it still keeps
-abbrev pub KeepsAll : {S : Type 0} {g : Ghosts S} → (old new : Shelf S g) → Type 0
+-- all that the buffer set keeps, with whatever state, it still keeps
+abbrev pub KeepsAll : {S : Type 0} {g : Ghosts S} → (old new : BufferSet S g) → Type 0
 KeepsAll old new =
     (trusted : Bool) (w : Terms) (begun : ℕ → List ℕ) (kept : List Kept)
     (openings : ℕ → Option Opening) (failures : ℕ → ℕ)
@@ -73,8 +73,8 @@ KeepsAll old new =
     → KeepsTexts trusted new w begun kept openings failures
 
 -- an article of this class and length is begun in group h
-abbrev pub BeginsOn : {S : Type 0} {g : Ghosts S} → (h class octets : ℕ) → (old : Shelf S g)
-    → Option Begun → (new : Shelf S g) → Type 0
+abbrev pub BeginsOn : {S : Type 0} {g : Ghosts S} → (h class octets : ℕ) → (old : BufferSet S g)
+    → Option Begun → (new : BufferSet S g) → Type 0
 BeginsOn h class octets old result new =
     (trusted : Bool) (w : Terms) (begun : ℕ → List ℕ) (kept : List Kept)
     (openings : ℕ → Option Opening) (failures : ℕ → ℕ)
@@ -92,7 +92,7 @@ IsFaultAt kind token e =
 -- said; or the device failed
 abbrev pub WrittenAs : {S : Type 0} {g : Ghosts S} → (trusted : Bool) → Terms → (h : ℕ) → Token
     → (text : List ℕ) → (written : ℕ) → (ℕ → List ℕ) → List Kept → (ℕ → Option Opening) → (ℕ → ℕ)
-    → Result Bool BufError → (new : Shelf S g) → Type 0
+    → Result Bool BufError → (new : BufferSet S g) → Type 0
 WrittenAs trusted w h token text written begun kept openings failures (Ok last) new =
     (last ≡ (written + 1 == size_of (length text)))
     × KeepsTexts trusted new w begun kept
@@ -104,8 +104,8 @@ WrittenAs trusted w h token text written begun kept openings failures (Err e) ne
 
 -- the next block of the open write under this token is written, whichever group has it, by one call
 -- of its buffer's device
-abbrev pub WritesOn : {S : Type 0} {g : Ghosts S} → Token → (text : List ℕ) → (old : Shelf S g)
-    → Result Bool BufError → (new : Shelf S g) → Type 0
+abbrev pub WritesOn : {S : Type 0} {g : Ghosts S} → Token → (text : List ℕ) → (old : BufferSet S g)
+    → Result Bool BufError → (new : BufferSet S g) → Type 0
 WritesOn token text old result new =
     (trusted : Bool) (w : Terms) (begun : ℕ → List ℕ) (kept : List Kept)
     (openings : ℕ → Option Opening) (failures : ℕ → ℕ)
@@ -116,7 +116,7 @@ WritesOn token text old result new =
     × (calls_at new token.buffer ≡ calls_at old token.buffer + 1)
 
 -- the open write under this token, all of which is written, becomes whole
-abbrev pub FinishesOn : {S : Type 0} {g : Ghosts S} → Token → (old new : Shelf S g) → Type 0
+abbrev pub FinishesOn : {S : Type 0} {g : Ghosts S} → Token → (old new : BufferSet S g) → Type 0
 FinishesOn token old new =
     (trusted : Bool) (w : Terms) (begun : ℕ → List ℕ) (kept : List Kept)
     (openings : ℕ → Option Opening) (failures : ℕ → ℕ)
@@ -127,7 +127,7 @@ FinishesOn token old new =
     (kept ++ record { token = token; id = id; text = text } ∷ []) (put_at openings h None) failures
 
 -- the open write under this token is given up
-abbrev pub AbandonsOn : {S : Type 0} {g : Ghosts S} → Token → (old new : Shelf S g) → Type 0
+abbrev pub AbandonsOn : {S : Type 0} {g : Ghosts S} → Token → (old new : BufferSet S g) → Type 0
 AbandonsOn token old new =
     (trusted : Bool) (w : Terms) (begun : ℕ → List ℕ) (kept : List Kept)
     (openings : ℕ → Option Opening) (failures : ℕ → ℕ)

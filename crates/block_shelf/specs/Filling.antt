@@ -1,6 +1,7 @@
--- A shelf before anything is begun, over stores of which the i-th is that of buffer i
+-- A buffer set before anything is begun, over stores of which the i-th is that of buffer i
 -- (docs/PROTOCOL.md, Store).
-use Rattle.std.specs.Prelude.{◌≡◌, ◌<◌, ◌+◌, ℕ, Bool, true, List, [], length, None, Some, slice_get, All}
+use Rattle.std.specs.Prelude.{◌≡◌, ◌<◌, ◌+◌, ℕ, Bool, true, List, [], length, None, Some, slice_get}
+use Rattle.std.specs.Prelude.{All}
 use Rattle.std.specs.Prelude.{option_map, unwrap_or, map, filter_map}
 use Rattle.buffer_group.specs.Groups.{blocks_in}
 use Rattle.cyc_block.specs.declared.store.BlockStore.{Ghosts}
@@ -14,25 +15,25 @@ use Rattle.relay_conf.specs.declared.cycbuff.BufferConf.{BufferConf}
 use Rattle.relay_conf.specs.Settings.{places_of_buffers, places_of_groups}
 use Rattle.relay_conf.specs.declared.settings.Buffers.{Buffers}
 use Rattle.relay_model.specs.Terms.{Terms}
-use Rattle.block_shelf.specs.Keeping.{KeepsTexts, HasRack}
-use Rattle.block_shelf.specs.declared.filling.ShelfError.{ShelfError}
-use Rattle.block_shelf.specs.declared.filling.ShelfError.TheVariants as errors
-use Rattle.block_shelf.specs.declared.shelf.Rack.{Rack}
+use Rattle.block_shelf.specs.Keeping.{KeepsTexts, HasPlacedGroup}
+use Rattle.block_shelf.specs.declared.filling.BufferSetError.{BufferSetError}
+use Rattle.block_shelf.specs.declared.filling.BufferSetError.TheVariants as errors
+use Rattle.block_shelf.specs.declared.buffer_set.PlacedGroup.{PlacedGroup}
 use Rattle.block_shelf.specs.declared.beginning.BeginError.{BeginError}
 use Rattle.block_shelf.specs.declared.beginning.BeginError.TheVariants as begins
-use Rattle.block_shelf.specs.declared.shelf.Shelf.{Shelf}
+use Rattle.block_shelf.specs.declared.buffer_set.BufferSet.{BufferSet}
 
 -- how often the device at each place of a list has failed, 0 where there is none
 abbrev pub failures_in : {S : Type 0} (g : Ghosts S) → List S → ℕ → ℕ
 failures_in g stores b = unwrap_or (option_map g.failures (slice_get stores b)) 0
 
--- nothing was begun in any buffer of the settings, and the shelf keeps that
-abbrev pub KeepsNothing : {S : Type 0} {g : Ghosts S} → Buffers → (stores : List S) → Shelf S g
+-- nothing was begun in any buffer of the settings, and the buffer set keeps that
+abbrev pub KeepsNothing : {S : Type 0} {g : Ghosts S} → Buffers → (stores : List S) → BufferSet S g
     → Type 0
-KeepsNothing {g = g} settings stores shelf =
+KeepsNothing {g = g} settings stores buffer_set =
     (trusted : Bool) → (trusted ≡ true → All g.honest stores) → (w : Terms)
     → w.buffers ≡ places_of_buffers settings → w.groups ≡ places_of_groups settings
-    → KeepsTexts trusted shelf w (λ h. []) [] (λ h. None) (failures_in g stores)
+    → KeepsTexts trusted buffer_set w (λ h. []) [] (λ h. None) (failures_in g stores)
 
 -- the buffer of this number over a store, in which nothing was begun
 pub record IsNewOver {S : Type 0} {g : Ghosts S} (number : ℕ) (store : S) (code : Buffer S g)
@@ -63,39 +64,42 @@ pub record AreNewOver {S : Type 0} {g : Ghosts S} (stores : List S) (codes : Lis
   pub each : (b : ℕ) (store : S) → slice_get stores b ≡ Some store → HasNewOver codes b store
 
 -- the store is the one at a place of a list, and its device has failed since
-pub record HasFailedAt {S : Type 0} (g : Ghosts S) (stores : List S) (number : ℕ) (store : S) : Type 0
+pub record HasFailedAt {S : Type 0} (g : Ghosts S) (stores : List S) (number : ℕ) (store : S)
+    : Type 0
   where
     pub before : S
     pub there : slice_get stores number ≡ Some before
     pub failed : g.failures before < g.failures store
 
 -- a buffer of this number isn't made over a store where memory was refused, or its device failed
-abbrev pub IsRefusalOver : {S : Type 0} (g : Ghosts S) (store : S) (number : ℕ) → ShelfError S
+abbrev pub IsRefusalOver : {S : Type 0} (g : Ghosts S) (store : S) (number : ℕ) → BufferSetError S
     → Type 0
 IsRefusalOver g store number errors.Memory = Unit {0}
 IsRefusalOver g store number (errors.Device of left) =
     (of ≡ number) × (g.failures store < g.failures left)
 
--- a shelf over stores isn't made where memory was refused, or where a device of theirs failed
-abbrev pub IsShelfRefusal : {S : Type 0} (g : Ghosts S) (stores : List S) → ShelfError S → Type 0
-IsShelfRefusal g stores errors.Memory = Unit {0}
-IsShelfRefusal g stores (errors.Device number store) = HasFailedAt g stores number store
+-- a buffer set over stores isn't made where memory was refused, or where a device of theirs failed
+abbrev pub IsBufferSetRefusal : {S : Type 0} (g : Ghosts S) (stores : List S)
+    → BufferSetError S → Type 0
+IsBufferSetRefusal g stores errors.Memory = Unit {0}
+IsBufferSetRefusal g stores (errors.Device number store) = HasFailedAt g stores number store
 
 -- a relay doesn't begin since its host had no seed or no memory for it
 abbrev pub IsHost : {S : Type 0} → BeginError S → Type 0
 IsHost (begins.Host why) = Unit {0}
 IsHost (begins.Device number store) = ⊥
 
--- a relay over stores doesn't begin where its host had no seed or no memory for it, or where a device
--- of theirs has failed
+-- a relay over stores doesn't begin where its host had no seed or no memory for it, or where a
+-- device of theirs has failed
 abbrev pub IsBeginRefusal : {S : Type 0} (g : Ghosts S) (stores : List S) → BeginError S → Type 0
 IsBeginRefusal g stores (begins.Host why) = Unit {0}
 IsBeginRefusal g stores (begins.Device number store) = HasFailedAt g stores number store
 
--- the racks are those of these groups, before anything is begun
-abbrev pub AreNewRacks : List places.Group → List Rack → Type 0
-AreNewRacks groups racks =
-    (h : ℕ) (group : places.Group) → slice_get groups h ≡ Some group → HasRack racks [] h group
+-- the placed groups are those of these groups, before anything is begun
+abbrev pub AreNewPlacedGroups : List places.Group → List PlacedGroup → Type 0
+AreNewPlacedGroups groups placed_groups =
+    (h : ℕ) (group : places.Group) → slice_get groups h ≡ Some group
+    → HasPlacedGroup placed_groups [] h group
 
 -- the buffers that these numbers stand for
 abbrev pub members : List BufferConf → List ℕ → List places.Buffer

@@ -1,4 +1,4 @@
--- The heads of a started shelf's buffers are opened (docs/PROTOCOL.md, Clean stop and start).
+-- The heads of a started buffer set's buffers are opened (docs/PROTOCOL.md, Clean stop and start).
 use Rattle.std.specs.Prelude.{◌≡◌, ◌≢◌, ℕ, ◌+◌, ◌^◌, ◌<◌, true, List, [], ◌∷◌, ◌++◌, length, min}
 use Rattle.std.specs.Prelude.{None, Some, vec_len, vec_capacity}
 use Rattle.cyc_block.specs.Store.{block_at}
@@ -17,19 +17,21 @@ use Rattle.block_shelf.specs.Keeping.{KeepsTexts}
 use Rattle.block_shelf.specs.Starting.{WillKeep}
 use Rattle.block_shelf.specs.declared.opening.Opening.{Opening}
 use Rattle.block_shelf.specs.declared.opening.Opening.TheVariants as states
-use Rattle.block_shelf.specs.declared.opening.UnopenedShelf.{UnopenedShelf}
-use Rattle.block_shelf.specs.declared.shelf.Shelf.{Shelf}
+use Rattle.block_shelf.specs.declared.opening.UnopenedBufferSet.{UnopenedBufferSet}
+use Rattle.block_shelf.specs.declared.buffer_set.BufferSet.{BufferSet}
 use Rattle.block_shelf.specs.declared.starting.StopFault.TheVariants as faults
 use Rattle.block_shelf.specs.declared.starting.Unstarted.{Unstarted}
 
--- an opened shelf keeps all that the started one was to keep
-abbrev pub KeepsOpened : {S : Type 0} {g : Ghosts S} → UnopenedShelf S g → Shelf S g → Type 0
-KeepsOpened unopened shelf =
+-- an opened buffer set keeps all that the started one was to keep
+abbrev pub KeepsOpened : {S : Type 0} {g : Ghosts S} → UnopenedBufferSet S g
+    → BufferSet S g → Type 0
+KeepsOpened unopened buffer_set =
     (w : Terms) (begun : ℕ → List ℕ) (kept : List Kept) (failures : ℕ → ℕ)
     → WillKeep unopened w begun kept failures
-    → KeepsTexts true shelf w begun kept (λ h. None) failures
+    → KeepsTexts true buffer_set w begun kept (λ h. None) failures
 
--- the buffer is the started one, whose device says, by one call that hasn't failed, that it may change
+-- the buffer is the started one, whose device says, by one call that hasn't failed, that it may
+-- change
 pub record IsOpenedFrom {S : Type 0} {g : Ghosts S} (b : ℕ) (unopened : Unopened S g)
     (code : Buffer S g)
     : Type 0 where
@@ -43,12 +45,12 @@ pub record IsOpenedFrom {S : Type 0} {g : Ghosts S} (b : ℕ) (unopened : Unopen
   pub count : length (g.blocks (store_of code)) ≡ length (g.blocks (store_of (inside unopened)))
 
 -- the buffers are the started ones, each with its head open
-abbrev pub IsOpened : {S : Type 0} {g : Ghosts S} → UnopenedShelf S g → Shelf S g → Type 0
-IsOpened unopened shelf =
-    AreEach IsOpenedFrom unopened.buffers.items shelf.buffers.items
+abbrev pub IsOpened : {S : Type 0} {g : Ghosts S} → UnopenedBufferSet S g → BufferSet S g → Type 0
+IsOpened unopened buffer_set =
+    AreEach IsOpenedFrom unopened.buffers.items buffer_set.buffers.items
 
--- the store of a buffer, where the device of the one at this place failed: it has failed, none before
--- it has, and none behind it was called
+-- the store of a buffer, where the device of the one at this place failed: it has failed, none
+-- before it has, and none behind it was called
 pub record IsLeftUnopened {S : Type 0} {g : Ghosts S} (place b : ℕ) (unopened : Unopened S g)
     (store : S)
     : Type 0 where
@@ -57,14 +59,14 @@ pub record IsLeftUnopened {S : Type 0} {g : Ghosts S} (place b : ℕ) (unopened 
   pub behind : place < b → store ≡ store_of (inside unopened)
 
 -- the device of a buffer failed, whose number is told; the stores are those of all, in their order
-pub record IsUnopened {S : Type 0} {g : Ghosts S} (shelf : UnopenedShelf S g)
+pub record IsUnopened {S : Type 0} {g : Ghosts S} (buffer_set : UnopenedBufferSet S g)
     (refused : Unstarted S)
     : Type 0 where
   pub device : refused.error ≡ faults.Device
   pub place : ℕ
-  pub within : place < length shelf.buffers.items
+  pub within : place < length buffer_set.buffers.items
   pub told : refused.buffer ≡ Some place
-  pub left : AreEach (IsLeftUnopened place) shelf.buffers.items refused.stores.items
+  pub left : AreEach (IsLeftUnopened place) buffer_set.buffers.items refused.stores.items
 
 -- STEP BY STEP
 

@@ -1,5 +1,5 @@
--- What the shelf keeps, in the relay's own words: the sizes begun, the texts that are whole, the
--- open writes, and how often each device has failed (docs/PROTOCOL.md, Store).
+-- What the buffer set keeps, in the relay's own words: the sizes begun, the texts that are whole,
+-- the open writes, and how often each device has failed (docs/PROTOCOL.md, Store).
 use Rattle.std.specs.Prelude.{◌≡◌, ℕ, Bool, List, map, length, Option, Some, slice_get, All}
 use Rattle.buffer_group.specs.Groups.{KeepsPlaces}
 use Rattle.cyc_block.specs.declared.store.BlockStore.{Ghosts}
@@ -14,8 +14,8 @@ use Rattle.relay_model.specs.Terms.{Terms}
 use Rattle.block_shelf.specs.Histories.{IsHistoryOf}
 use Rattle.block_shelf.specs.Openings.{Opening, IsOpen, IsBroken, token_in}
 use Rattle.news_terms.specs.Settings.{IsBufferAt, AreSound}
-use Rattle.block_shelf.specs.declared.shelf.Rack.{Rack}
-use Rattle.block_shelf.specs.declared.shelf.Shelf.{Shelf}
+use Rattle.block_shelf.specs.declared.buffer_set.PlacedGroup.{PlacedGroup}
+use Rattle.block_shelf.specs.declared.buffer_set.BufferSet.{BufferSet}
 
 -- the text of an open write is as long as its token says
 abbrev pub HasItsLength : Opening → Type 0
@@ -42,7 +42,7 @@ pub record KeepsBuffer {S : Type 0} {g : Ghosts S} (trusted : Bool) (code : Buff
   pub is_said : IsHistoryOf groups begun kept openings history
   pub failed : failures buffer.number ≡ g.failures (store_of code)
 
--- the buffer at this place of the shelf keeps what is said of this buffer
+-- the buffer at this place of the buffer set keeps what is said of this buffer
 pub record HasBuffer {S : Type 0} {g : Ghosts S} (trusted : Bool) (codes : List (Buffer S g))
     (groups : List Group) (begun : ℕ → List ℕ) (kept : List Kept) (openings : ℕ → Option Opening)
     (failures : ℕ → ℕ) (b : ℕ) (buffer : places.Buffer)
@@ -52,19 +52,21 @@ pub record HasBuffer {S : Type 0} {g : Ghosts S} (trusted : Bool) (codes : List 
   pub keeps : KeepsBuffer trusted code groups begun kept openings failures buffer
 
 -- the code's group is where these sizes have brought the group, and has the numbers of its buffers
-pub record KeepsRack (code : Rack) (group : Group) (begun : List ℕ) : Type 0 where
+pub record KeepsPlacedGroup (code : PlacedGroup) (group : Group) (begun : List ℕ) : Type 0 where
   pub position : KeepsPlaces code.group group begun
   pub numbers : code.numbers.items ≡ map (λ (buffer : places.Buffer). buffer.number) group.buffers
 
--- the group at this place of the shelf keeps what is said of this group
-pub record HasRack (codes : List Rack) (begun : List ℕ) (h : ℕ) (group : Group) : Type 0 where
-  pub code : Rack
+-- the group at this place of the buffer set keeps what is said of this group
+pub record HasPlacedGroup (codes : List PlacedGroup) (begun : List ℕ) (h : ℕ) (group : Group)
+    : Type 0 where
+  pub code : PlacedGroup
   pub there : slice_get codes h ≡ Some code
-  pub keeps : KeepsRack code group begun
+  pub keeps : KeepsPlacedGroup code group begun
 
--- The shelf keeps, with these buffers and groups, these sizes begun, texts, open writes and counts
--- of failures; where its stores are trusted, they are honest.
-pub record KeepsTexts {S : Type 0} {g : Ghosts S} (trusted : Bool) (shelf : Shelf S g) (w : Terms)
+-- The buffer set keeps, with these buffers and groups, these sizes begun, texts, open writes and
+-- counts of failures; where its stores are trusted, they are honest.
+pub record KeepsTexts {S : Type 0} {g : Ghosts S} (trusted : Bool)
+    (buffer_set : BufferSet S g) (w : Terms)
     (begun : ℕ → List ℕ) (kept : List Kept) (openings : ℕ → Option Opening) (failures : ℕ → ℕ)
     : Type 0 where
   -- buffers and groups are sound, and the buffers numbered in their order
@@ -76,10 +78,10 @@ pub record KeepsTexts {S : Type 0} {g : Ghosts S} (trusted : Bool) (shelf : Shel
       → All (FitsGroup group) (begun h)
   -- each open write is in a buffer of its group
   pub opened : (h : ℕ) (one : Opening) → openings h ≡ Some one → IsOpenIn w.groups h one
-  -- each buffer and each group of the shelf keeps what is said of it
-  pub count : length shelf.buffers.items ≡ length w.buffers
+  -- each buffer and each group of the buffer set keeps what is said of it
+  pub count : length buffer_set.buffers.items ≡ length w.buffers
   pub buffers : (b : ℕ) (buffer : places.Buffer) → slice_get w.buffers b ≡ Some buffer
-      → HasBuffer trusted shelf.buffers.items w.groups begun kept openings failures b buffer
-  pub rack_count : length shelf.racks.items ≡ length w.groups
-  pub racks : (h : ℕ) (group : Group) → slice_get w.groups h ≡ Some group
-      → HasRack shelf.racks.items (begun h) h group
+      → HasBuffer trusted buffer_set.buffers.items w.groups begun kept openings failures b buffer
+  pub placed_group_count : length buffer_set.placed_groups.items ≡ length w.groups
+  pub placed_groups : (h : ℕ) (group : Group) → slice_get w.groups h ≡ Some group
+      → HasPlacedGroup buffer_set.placed_groups.items (begun h) h group

@@ -18,7 +18,7 @@ use Rattle.relay_model.specs.World.{HasFailedAt}
 use Rattle.block_shelf.specs.Calls.{IsFaultAt}
 use Rattle.block_shelf.specs.Keeping.{KeepsTexts}
 use Rattle.block_shelf.specs.Openings.{Opening}
-use Rattle.block_shelf.specs.declared.shelf.Shelf.{Shelf}
+use Rattle.block_shelf.specs.declared.buffer_set.BufferSet.{BufferSet}
 
 -- the front of the buffer that a token names
 pub record IsFrontFor (w : Terms) (σ : State) (token : Token) (front : Front) : Type 0 where
@@ -45,7 +45,7 @@ IsNowhere kept token =
 -- what a read of block k does: it finds what a fetch finds, or the device failed
 pub data BlockRead {S : Type 0} {g : Ghosts S} (trusted : Bool) (w : Terms) (σ : State)
     (openings : ℕ → Option Opening) (failures : ℕ → ℕ) (token : Token) (k : ℕ)
-    (result : Result Found BufError) (after : List ℕ) (new : Shelf S g)
+    (result : Result Found BufError) (after : List ℕ) (new : BufferSet S g)
     : Type 0 where
   -- It finds what a fetch finds, over stores that are trusted; over any, where the numbers decide
   -- or nothing whole begins there.
@@ -64,8 +64,8 @@ pub data BlockRead {S : Type 0} {g : Ghosts S} (trusted : Bool) (w : Terms) (σ 
       → BlockRead trusted w σ openings failures token k result after new
 
 -- block k of what lies under a token is read; the article has a block k, or k is 0
-abbrev pub ReadsOn : {S : Type 0} {g : Ghosts S} → Token → (k : ℕ) → (old : Shelf S g)
-    → Result Found BufError → (after : List ℕ) → (new : Shelf S g) → Type 0
+abbrev pub ReadsOn : {S : Type 0} {g : Ghosts S} → Token → (k : ℕ) → (old : BufferSet S g)
+    → Result Found BufError → (after : List ℕ) → (new : BufferSet S g) → Type 0
 ReadsOn token k old result after new =
     (trusted : Bool) (w : Terms) (σ : State) (openings : ℕ → Option Opening) (failures : ℕ → ℕ)
     → KeepsTexts trusted old w σ.begun σ.kept openings failures

@@ -1,9 +1,9 @@
--- A shelf that is stopped and started again in place (docs/PROTOCOL.md, Restart).
+-- A buffer set that is stopped and started again in place (docs/PROTOCOL.md, Restart).
 use Rattle.std.specs.Prelude.{◌≡◌, ◌≢◌, ℕ, ◌+◌, ◌<◌, ◌≤◌, Bool, true, List, None, Some}
 use Rattle.std.specs.Prelude.{slice_get, Result, Ok, Err}
 use Rattle.cyc_block.specs.Store.{block_at}
 use Rattle.cyc_block.specs.declared.store.BlockStore.{Ghosts}
-use Rattle.cyc_buffer.specs.Agreement.{Agrees, Follows, register_of, store_of}
+use Rattle.cyc_buffer.specs.Agreement.{Agrees, Follows, buffer_state_of, store_of}
 use Rattle.cyc_buffer.specs.Head.{has_open_head, stop_of}
 use Rattle.cyc_buffer.specs.History.{History}
 use Rattle.cyc_buffer.specs.Stopped.{numbers_of}
@@ -19,10 +19,10 @@ use Rattle.relay_model.specs.Terms.{Terms}
 use Rattle.relay_model.specs.World as world
 use Rattle.block_shelf.specs.Each.{AreEach}
 use Rattle.block_shelf.specs.Keeping.{KeepsTexts}
-use Rattle.block_shelf.specs.Stopping.{IsBusyShelf}
+use Rattle.block_shelf.specs.Stopping.{IsBusyBufferSet}
 use Rattle.block_shelf.specs.declared.restarting.RestartFault.{RestartFault}
 use Rattle.block_shelf.specs.declared.restarting.RestartFault.TheVariants as faults
-use Rattle.block_shelf.specs.declared.shelf.Shelf.{Shelf}
+use Rattle.block_shelf.specs.declared.buffer_set.BufferSet.{BufferSet}
 
 -- the device of the buffer of this number has failed
 pub record FailedAt (w : Terms) (number : ℕ) (before after : ℕ → ℕ) : Type 0 where
@@ -30,12 +30,12 @@ pub record FailedAt (w : Terms) (number : ℕ) (before after : ℕ → ℕ) : Ty
   pub there : slice_get w.buffers number ≡ Some buffer
   pub failed : world.HasFailedAt buffer.number before after
 
--- What came of a restart. Done or not, over honest stores and over others, the shelf keeps what it
--- kept. Where it is done no device has failed; it is refused for memory, and over honest stores else
--- for a device that failed alone.
+-- What came of a restart. Done or not, over honest stores and over others, the buffer set keeps
+-- what it kept. Where it is done no device has failed; it is refused for memory, and over honest
+-- stores else for a device that failed alone.
 pub record StaysKept {S : Type 0} {g : Ghosts S} (trusted : Bool) (w : Terms)
     (begun : ℕ → List ℕ) (kept : List Kept) (failures : ℕ → ℕ)
-    (result : Result (Unit {0}) RestartFault) (new : Shelf S g)
+    (result : Result (Unit {0}) RestartFault) (new : BufferSet S g)
     : Type 0 where
   pub later : ℕ → ℕ
   pub rises : world.Rises failures later
@@ -45,16 +45,16 @@ pub record StaysKept {S : Type 0} {g : Ghosts S} (trusted : Bool) (w : Terms)
   pub failed : (number : ℕ) → result ≡ Err (faults.Failed number) → trusted ≡ true
       → FailedAt w number failures later
 
--- a shelf in which no write is open stays kept
-abbrev pub KeepsOn : {S : Type 0} {g : Ghosts S} → (old : Shelf S g)
-    → Result (Unit {0}) RestartFault → (new : Shelf S g) → Type 0
+-- a buffer set in which no write is open stays kept
+abbrev pub KeepsOn : {S : Type 0} {g : Ghosts S} → (old : BufferSet S g)
+    → Result (Unit {0}) RestartFault → (new : BufferSet S g) → Type 0
 KeepsOn old result new =
     (trusted : Bool) (w : Terms) (begun : ℕ → List ℕ) (kept : List Kept) (failures : ℕ → ℕ)
     → KeepsTexts trusted old w begun kept (λ h. None) failures
     → StaysKept trusted w begun kept failures result new
 
--- The buffer was stopped and started again: its head block says its numbers as open, under the number
--- of the stop. It agrees with what it agreed with, and its device hasn't failed.
+-- The buffer was stopped and started again: its head block says its numbers as open, under the
+-- number of the stop. It agrees with what it agreed with, and its device hasn't failed.
 pub record IsRestartedFrom {S : Type 0} {g : Ghosts S} (stop b : ℕ) (old new : Buffer S g) : Type 0
   where
     pub opened : has_open_head new ≡ true
@@ -62,20 +62,21 @@ pub record IsRestartedFrom {S : Type 0} {g : Ghosts S} (stop b : ℕ) (old new :
     pub written : (h : History) → Agrees true old h
         → block_at (g.heads (store_of new)) 0 ≡ head_image (numbers_of Open stop h)
     pub same : Follows (λ h. h) old new
-    pub register : register_of new ≡ register_of old
+    pub buffer_state : buffer_state_of new ≡ buffer_state_of old
     pub no_failure : g.failures (store_of new) ≡ g.failures (store_of old)
 
 -- each buffer was, and the groups are as they were
-pub record AreRestarted {S : Type 0} {g : Ghosts S} (stop : ℕ) (old new : Shelf S g) : Type 0 where
+pub record AreRestarted {S : Type 0} {g : Ghosts S} (stop : ℕ) (old new : BufferSet S g)
+    : Type 0 where
   pub each : AreEach (IsRestartedFrom stop) old.buffers.items new.buffers.items
-  pub racks : new.racks ≡ old.racks
+  pub placed_groups : new.placed_groups ≡ old.placed_groups
 
--- as Busy a shelf with an open write is refused, and is as it was
-abbrev pub IsBusyRestart : {S : Type 0} {g : Ghosts S} → (old : Shelf S g) → RestartFault
-    → (new : Shelf S g) → Type 0
-IsBusyRestart old faults.Busy new = IsBusyShelf old × (new ≡ old)
-IsBusyRestart old faults.Memory new = IsBusyShelf old → ⊥
-IsBusyRestart old (faults.Failed number) new = IsBusyShelf old → ⊥
+-- as Busy a buffer set with an open write is refused, and is as it was
+abbrev pub IsBusyRestart : {S : Type 0} {g : Ghosts S} → (old : BufferSet S g) → RestartFault
+    → (new : BufferSet S g) → Type 0
+IsBusyRestart old faults.Busy new = IsBusyBufferSet old × (new ≡ old)
+IsBusyRestart old faults.Memory new = IsBusyBufferSet old → ⊥
+IsBusyRestart old (faults.Failed number) new = IsBusyBufferSet old → ⊥
 
 -- STEP BY STEP
 
@@ -100,19 +101,20 @@ pub record IsRestartedTo {S : Type 0} {g : Ghosts S} (stop place b : ℕ) (old n
   pub behind : place ≤ b → new ≡ old
 
 -- a restart as far as this place: the buffers before it, and the groups as they were
-pub record HaveRestarted {S : Type 0} {g : Ghosts S} (stop place : ℕ) (old new : Shelf S g) : Type 0
+pub record HaveRestarted {S : Type 0} {g : Ghosts S} (stop place : ℕ) (old new : BufferSet S g)
+    : Type 0
   where
     pub each : AreEach (IsRestartedTo stop place) old.buffers.items new.buffers.items
-    pub racks : new.racks ≡ old.racks
+    pub placed_groups : new.placed_groups ≡ old.placed_groups
 
 -- it goes on by the buffer at this place
-abbrev pub RestartsNext : {S : Type 0} {g : Ghosts S} → (stop place : ℕ) → (old new : Shelf S g)
+abbrev pub RestartsNext : {S : Type 0} {g : Ghosts S} → (stop place : ℕ) → (old new : BufferSet S g)
     → Type 0
 RestartsNext {S} {g} stop place old new =
-    (first : Shelf S g) → HaveRestarted stop place first old
+    (first : BufferSet S g) → HaveRestarted stop place first old
     → HaveRestarted stop (place + 1) first new
 
--- the fault of a shelf where the buffer of this number isn't restarted
+-- the fault of a buffer set where the buffer of this number isn't restarted
 abbrev pub restart_fault : RestartError → ℕ → RestartFault
 restart_fault (errors.Stop error) number = faults.Failed number
 restart_fault (errors.Start error) number = start_fault error number

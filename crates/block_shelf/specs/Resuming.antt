@@ -1,4 +1,5 @@
--- The groups of a shelf that is started (docs/PROTOCOL.md, Groups and writers, Clean stop and start).
+-- The groups of a buffer set that is started (docs/PROTOCOL.md, Groups and writers, Clean stop and
+-- start).
 use Rattle.std.specs.Prelude.{◌≡◌, ℕ, Bool, List, Some, slice_get, unwrap_or}
 use Rattle.cyc_block.specs.declared.store.BlockStore.{Ghosts}
 use Rattle.cyc_buffer.specs.Agreement.{Agrees}
@@ -15,10 +16,10 @@ use Rattle.relay_conf.specs.declared.cycbuff.GroupConf.{GroupConf}
 use Rattle.relay_conf.specs.declared.settings.Buffers.{Buffers}
 use Rattle.relay_model.specs.Terms.{Terms}
 use Rattle.block_shelf.specs.Each.{AreEach}
-use Rattle.block_shelf.specs.Keeping.{KeepsRack}
-use Rattle.block_shelf.specs.Starting.{RacksKeep}
+use Rattle.block_shelf.specs.Keeping.{KeepsPlacedGroup}
+use Rattle.block_shelf.specs.Starting.{PlacedGroupsKeep}
 use Rattle.block_shelf.specs.Stopping.{ArePositions}
-use Rattle.block_shelf.specs.declared.shelf.Rack.{Rack}
+use Rattle.block_shelf.specs.declared.buffer_set.PlacedGroup.{PlacedGroup}
 
 -- so many blocks are used in the cycle of a buffer
 abbrev pub IsUsed : {S : Type 0} {g : Ghosts S} → ℕ → Buffer S g → (used : ℕ) → Type 0
@@ -36,26 +37,26 @@ pub record HasCurrent (used : List ℕ) (group : Group) (begun : List ℕ) : Typ
   pub used_there : group.mode ≡ Sequential
       → slice_get used buffer.number ≡ Some (position_of group begun).used
 
--- the rack is that of a group at this position of it, over buffers with so many blocks used
-abbrev pub ResumesRack : Group → (position : ℕ) → (used : List ℕ) → Rack → Type 0
-ResumesRack group position used rack =
+-- the placed group is that of a group at this position of it, over buffers with so many blocks used
+abbrev pub ResumesPlacedGroup : Group → (position : ℕ) → (used : List ℕ) → PlacedGroup → Type 0
+ResumesPlacedGroup group position used placed_group =
     (begun : List ℕ) → (position_of group begun).index ≡ position → HasCurrent used group begun
-    → KeepsRack rack group begun
+    → KeepsPlacedGroup placed_group group begun
 
--- the rack is that of the group at this place of the settings, at its position; at its first buffer
--- where it has none
+-- the placed group is that of the group at this place of the settings, at its position; at its
+-- first buffer where it has none
 abbrev pub IsResumedAt : List BufferConf → (positions used : List ℕ) → (place : ℕ) → GroupConf
-    → Rack → Type 0
-IsResumedAt all positions used place group rack =
-    ResumesRack (group_over (numbered_buffers all) (group_view group))
-    (unwrap_or (slice_get positions place) 0) used rack
+    → PlacedGroup → Type 0
+IsResumedAt all positions used place group placed_group =
+    ResumesPlacedGroup (group_over (numbered_buffers all) (group_view group))
+    (unwrap_or (slice_get positions place) 0) used placed_group
 
--- The racks are those of the settings' groups: where each group's current buffer is there and as much
--- of it is used as is said, and the positions are those of the groups, the racks are where that has
--- brought the groups.
-abbrev pub ResumesByUse : Buffers → (positions used : List ℕ) → List Rack → Type 0
-ResumesByUse settings positions used racks =
+-- The placed groups are those of the settings' groups: where each group's current buffer is there
+-- and as much of it is used as is said, and the positions are those of the groups, the placed
+-- groups are where that has brought the groups.
+abbrev pub ResumesByUse : Buffers → (positions used : List ℕ) → List PlacedGroup → Type 0
+ResumesByUse settings positions used placed_groups =
     (w : Terms) (begun : ℕ → List ℕ) → w.groups ≡ places_of_groups settings
     → ((h : ℕ) (group : Group) → slice_get w.groups h ≡ Some group
     → HasCurrent used group (begun h))
-    → ArePositions w.groups begun positions → RacksKeep racks w begun
+    → ArePositions w.groups begun positions → PlacedGroupsKeep placed_groups w begun

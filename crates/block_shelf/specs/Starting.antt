@@ -1,5 +1,7 @@
--- A shelf that is started from what was left on its stores (docs/PROTOCOL.md, Clean stop and start).
-use Rattle.std.specs.Prelude.{◌≡◌, ◌≢◌, ℕ, ◌+◌, ◌<◌, ◌≤◌, true, false, List, [], ◌∷◌, ◌++◌, map, ◌==◌}
+-- A buffer set that is started from what was left on its stores (docs/PROTOCOL.md, Clean stop and
+-- start).
+use Rattle.std.specs.Prelude.{◌≡◌, ◌≢◌, ℕ, ◌+◌, ◌<◌, ◌≤◌, true, false, List, [], ◌∷◌, ◌++◌, map}
+use Rattle.std.specs.Prelude.{◌==◌}
 use Rattle.std.specs.Prelude.{if◌then◌else◌}
 use Rattle.std.specs.Prelude.{length, min, All, Option, None, Some, slice_get, IfSome}
 use Rattle.std.specs.Prelude.{vec_len, vec_capacity}
@@ -25,19 +27,19 @@ use Rattle.relay_conf.specs.declared.settings.Buffers.{Buffers}
 use Rattle.relay_model.specs.State.{Kept}
 use Rattle.relay_model.specs.Terms.{Terms}
 use Rattle.block_shelf.specs.Each.{AreEach}
-use Rattle.block_shelf.specs.Keeping.{HasBuffer, HasRack}
+use Rattle.block_shelf.specs.Keeping.{HasBuffer, HasPlacedGroup}
 use Rattle.block_shelf.specs.Stopping.{ArePositions, HoldsTexts}
-use Rattle.block_shelf.specs.declared.shelf.Rack.{Rack}
+use Rattle.block_shelf.specs.declared.buffer_set.PlacedGroup.{PlacedGroup}
 use Rattle.block_shelf.specs.declared.starting.StopFault.{StopFault}
 use Rattle.block_shelf.specs.declared.starting.StopFault.TheVariants as faults
 use Rattle.block_shelf.specs.declared.starting.Starting.{Starting}
 use Rattle.block_shelf.specs.declared.starting.Starting.TheVariants as states
 use Rattle.block_shelf.specs.declared.starting.Unstarted.{Unstarted}
-use Rattle.block_shelf.specs.declared.opening.UnopenedShelf.{UnopenedShelf}
+use Rattle.block_shelf.specs.declared.opening.UnopenedBufferSet.{UnopenedBufferSet}
 
 -- WHAT IT KEEPS
 
--- the buffers of a started shelf
+-- the buffers of a started buffer set
 abbrev pub buffers_inside : {S : Type 0} {g : Ghosts S} → List (Unopened S g) → List (Buffer S g)
 buffers_inside unopened = map inside unopened
 
@@ -55,24 +57,25 @@ pub record BuffersKeep {S : Type 0} {g : Ghosts S} (codes : List (Buffer S g)) (
   pub buffers : (b : ℕ) (buffer : places.Buffer) → slice_get w.buffers b ≡ Some buffer
       → HasBuffer true codes w.groups begun kept (λ h. None) failures b buffer
 
--- so the buffers of a started shelf do
-abbrev pub HoldsStarted : {S : Type 0} {g : Ghosts S} → UnopenedShelf S g → Terms → (ℕ → List ℕ)
+-- so the buffers of a started buffer set do
+abbrev pub HoldsStarted : {S : Type 0} {g : Ghosts S} → UnopenedBufferSet S g → Terms → (ℕ → List ℕ)
     → List Kept → (ℕ → ℕ) → Type 0
-HoldsStarted shelf w begun kept failures =
-    BuffersKeep (buffers_inside shelf.buffers.items) w begun kept failures
+HoldsStarted buffer_set w begun kept failures =
+    BuffersKeep (buffers_inside buffer_set.buffers.items) w begun kept failures
 
--- the racks are where these sizes have brought the groups
-pub record RacksKeep (racks : List Rack) (w : Terms) (begun : ℕ → List ℕ) : Type 0 where
-  pub count : length racks ≡ length w.groups
+-- the placed groups are where these sizes have brought the groups
+pub record PlacedGroupsKeep (placed_groups : List PlacedGroup) (w : Terms) (begun : ℕ → List ℕ)
+    : Type 0 where
+  pub count : length placed_groups ≡ length w.groups
   pub each : (h : ℕ) (group : Group) → slice_get w.groups h ≡ Some group
-      → HasRack racks (begun h) h group
+      → HasPlacedGroup placed_groups (begun h) h group
 
--- the started shelf keeps, over honest stores, what it will keep once its heads are open
-pub record WillKeep {S : Type 0} {g : Ghosts S} (shelf : UnopenedShelf S g) (w : Terms)
+-- the started buffer set keeps, over honest stores, what it will keep once its heads are open
+pub record WillKeep {S : Type 0} {g : Ghosts S} (buffer_set : UnopenedBufferSet S g) (w : Terms)
     (begun : ℕ → List ℕ) (kept : List Kept) (failures : ℕ → ℕ)
     : Type 0 where
-  pub texts : HoldsStarted shelf w begun kept failures
-  pub racks : RacksKeep shelf.racks.items w begun
+  pub texts : HoldsStarted buffer_set w begun kept failures
+  pub placed_groups : PlacedGroupsKeep buffer_set.placed_groups.items w begun
 
 -- what stores hold as stopped under this number, with the buffers and groups of the settings
 abbrev pub IsHeldBy : {S : Type 0} → Ghosts S → Buffers → (stores : List S) → (stop : ℕ) → Terms
@@ -81,26 +84,26 @@ IsHeldBy g settings stores stop w begun kept failures =
     (w.buffers ≡ places_of_buffers settings) × (w.groups ≡ places_of_groups settings)
     × HoldsTexts g stores stop w begun kept failures
 
--- the buffers of a started shelf over these stores keep all that they hold as stopped
+-- the buffers of a started buffer set over these stores keep all that they hold as stopped
 abbrev pub KeepsHeld : {S : Type 0} {g : Ghosts S} → Buffers → (stores : List S) → (stop : ℕ)
-    → UnopenedShelf S g → Type 0
-KeepsHeld {g = g} settings stores stop shelf =
+    → UnopenedBufferSet S g → Type 0
+KeepsHeld {g = g} settings stores stop buffer_set =
     (w : Terms) (begun : ℕ → List ℕ) (kept : List Kept) (failures : ℕ → ℕ)
     → IsHeldBy g settings stores stop w begun kept failures
-    → HoldsStarted shelf w begun kept failures
+    → HoldsStarted buffer_set w begun kept failures
 
 -- its groups at these positions, it will keep all that once its heads are open
 abbrev pub WillKeepHeld : {S : Type 0} {g : Ghosts S} → Buffers → (stores : List S) → (stop : ℕ)
-    → (positions : List ℕ) → UnopenedShelf S g → Type 0
-WillKeepHeld {g = g} settings stores stop positions shelf =
+    → (positions : List ℕ) → UnopenedBufferSet S g → Type 0
+WillKeepHeld {g = g} settings stores stop positions buffer_set =
     (w : Terms) (begun : ℕ → List ℕ) (kept : List Kept) (failures : ℕ → ℕ)
     → IsHeldBy g settings stores stop w begun kept failures
-    → ArePositions w.groups begun positions → WillKeep shelf w begun kept failures
+    → ArePositions w.groups begun positions → WillKeep buffer_set w begun kept failures
 
--- the stores of a started shelf
-abbrev pub stores_inside : {S : Type 0} {g : Ghosts S} → UnopenedShelf S g → List S
-stores_inside {S} {g} shelf =
-    map (λ (one : Unopened S g). store_of (inside one)) shelf.buffers.items
+-- the stores of a started buffer set
+abbrev pub stores_inside : {S : Type 0} {g : Ghosts S} → UnopenedBufferSet S g → List S
+stores_inside {S} {g} buffer_set =
+    map (λ (one : Unopened S g). store_of (inside one)) buffer_set.buffers.items
 
 -- EACH BUFFER
 
@@ -153,24 +156,25 @@ pub record IsUnwritten {S : Type 0} (g : Ghosts S) (failed : Option ℕ) (b : �
   pub failed_here : failed ≡ Some b → g.failures old < g.failures new
   pub no_failure : failed ≢ Some b → g.failures new ≡ g.failures old
 
--- a shelf was started from these stores, which are unwritten, and all of which were stopped under
--- this number
-pub record IsStartedShelf {S : Type 0} {g : Ghosts S} (stores : List S) (stop : ℕ)
-    (shelf : UnopenedShelf S g)
+-- a buffer set was started from these stores, which are unwritten, and all of which were stopped
+-- under this number
+pub record IsStartedBufferSet {S : Type 0} {g : Ghosts S} (stores : List S) (stop : ℕ)
+    (buffer_set : UnopenedBufferSet S g)
     : Type 0 where
-  pub started : AreStarted stores stop shelf.buffers.items
-  pub unwritten : AreEach (IsUnwritten g None) stores (stores_inside shelf)
+  pub started : AreStarted stores stop buffer_set.buffers.items
+  pub unwritten : AreEach (IsUnwritten g None) stores (stores_inside buffer_set)
 
--- The racks are those of the settings' groups at these positions: where the buffers keep what was
--- begun, and the positions are those of the groups, the racks are where that has brought the groups.
-abbrev pub ResumeRacks : {S : Type 0} {g : Ghosts S} → Buffers → (positions : List ℕ)
-    → List (Buffer S g) → List Rack → Type 0
-ResumeRacks settings positions codes racks =
+-- The placed groups are those of the settings' groups at these positions: where the buffers keep
+-- what was begun, and the positions are those of the groups, the placed groups are where that has
+-- brought the groups.
+abbrev pub ResumePlacedGroups : {S : Type 0} {g : Ghosts S} → Buffers → (positions : List ℕ)
+    → List (Buffer S g) → List PlacedGroup → Type 0
+ResumePlacedGroups settings positions codes placed_groups =
     (w : Terms) (begun : ℕ → List ℕ) (kept : List Kept) (failures : ℕ → ℕ)
     → w.groups ≡ places_of_groups settings → BuffersKeep codes w begun kept failures
-    → ArePositions w.groups begun positions → RacksKeep racks w begun
+    → ArePositions w.groups begun positions → PlacedGroupsKeep placed_groups w begun
 
--- WHY A SHELF ISN'T STARTED
+-- WHY A BUFFER SET ISN'T STARTED
 
 -- the fault of a start of a buffer, as the relay's
 abbrev pub fault_of_start : StartError → StopFault
@@ -239,8 +243,8 @@ pub record IsMixedAt {S : Type 0} (g : Ghosts S) (stores : List S) (stop place :
   pub all : EarlierStart g stores (length stores)
   pub back_each : AreEach (IsUnwritten g None) stores back
 
--- The fault of a buffer is told with its number, in the order of the buffers; then the first that was
--- stopped under another number; memory may be refused in place of each. Nothing is written.
+-- The fault of a buffer is told with its number, in the order of the buffers; then the first that
+-- was stopped under another number; memory may be refused in place of each. Nothing is written.
 abbrev pub IsUnstartedBy : {S : Type 0} → Ghosts S → (stores : List S) → (stop : ℕ) → StopFault
     → Option ℕ → (back : List S) → Type 0
 IsUnstartedBy g stores stop faults.Memory buffer back =

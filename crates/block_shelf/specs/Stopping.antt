@@ -1,6 +1,7 @@
--- What a stop leaves of a shelf on its stores, and the positions of its groups
+-- What a stop leaves of a buffer set on its stores, and the positions of its groups
 -- (docs/PROTOCOL.md, Clean stop and start).
-use Rattle.std.specs.Prelude.{◌≡◌, ◌≢◌, ℕ, ◌+◌, ◌^◌, ◌<◌, ◌≤◌, Bool, true, false, List, [], ◌∷◌, ◌++◌}
+use Rattle.std.specs.Prelude.{◌≡◌, ◌≢◌, ℕ, ◌+◌, ◌^◌, ◌<◌, ◌≤◌, Bool, true, false, List, [], ◌∷◌}
+use Rattle.std.specs.Prelude.{◌++◌}
 use Rattle.std.specs.Prelude.{length, All, Option, None, Some, slice_get, Result, Ok, Err}
 use Rattle.std.specs.Global.{Vec}
 use Rattle.cyc_block.specs.declared.store.BlockStore.{Ghosts}
@@ -19,10 +20,10 @@ use Rattle.relay_model.specs.State.{Kept}
 use Rattle.relay_model.specs.Terms.{Terms}
 use Rattle.block_shelf.specs.Each.{AreEach}
 use Rattle.block_shelf.specs.Histories.{IsHistoryOf}
-use Rattle.block_shelf.specs.Keeping.{KeepsRack, KeepsTexts}
+use Rattle.block_shelf.specs.Keeping.{KeepsPlacedGroup, KeepsTexts}
 use Rattle.block_shelf.specs.Openings.{Opening}
-use Rattle.block_shelf.specs.declared.shelf.Rack.{Rack}
-use Rattle.block_shelf.specs.declared.shelf.Shelf.{Shelf}
+use Rattle.block_shelf.specs.declared.buffer_set.PlacedGroup.{PlacedGroup}
+use Rattle.block_shelf.specs.declared.buffer_set.BufferSet.{BufferSet}
 use Rattle.block_shelf.specs.declared.stopping.Unshut.{Unshut}
 use Rattle.block_shelf.specs.declared.stopping.Unshut.TheVariants as answers
 
@@ -35,18 +36,19 @@ pub record ArePositions (groups : List Group) (begun : ℕ → List ℕ) (positi
     pub each : (h : ℕ) (group : Group) → slice_get groups h ≡ Some group
         → slice_get positions h ≡ Some (position_of group (begun h)).index
 
--- the position is that of the rack's group, which has no more buffers than there are numbers
-abbrev pub TellsPosition : ℕ → Rack → (position : ℕ) → Type 0
-TellsPosition b rack position =
-    (group : Group) (begun : List ℕ) → KeepsRack rack group begun
+-- the position is that of the placed group's group, which has no more buffers than there are
+-- numbers
+abbrev pub TellsPosition : ℕ → PlacedGroup → (position : ℕ) → Type 0
+TellsPosition b placed_group position =
+    (group : Group) (begun : List ℕ) → KeepsPlacedGroup placed_group group begun
     → length group.buffers ≤ 2 ^ 8 → position ≡ (position_of group begun).index
 
--- these are the positions of the shelf's groups
-abbrev pub TellsPositions : {S : Type 0} {g : Ghosts S} → Shelf S g → List ℕ → Type 0
-TellsPositions shelf positions =
+-- these are the positions of the buffer set's groups
+abbrev pub TellsPositions : {S : Type 0} {g : Ghosts S} → BufferSet S g → List ℕ → Type 0
+TellsPositions buffer_set positions =
     (trusted : Bool) (w : Terms) (begun : ℕ → List ℕ) (kept : List Kept)
     (openings : ℕ → Option Opening) (failures : ℕ → ℕ)
-    → KeepsTexts trusted shelf w begun kept openings failures
+    → KeepsTexts trusted buffer_set w begun kept openings failures
     → ArePositions w.groups begun positions
 
 -- THE STORES
@@ -80,11 +82,11 @@ pub record HoldsTexts {S : Type 0} (g : Ghosts S) (stores : List S) (stop : ℕ)
   pub buffers : (b : ℕ) (buffer : places.Buffer) → slice_get w.buffers b ≡ Some buffer
       → HoldsBuffer g stores stop w.groups begun kept failures b buffer
 
--- the stores hold all that the shelf kept over honest stores, where no write was open
-abbrev pub HoldsKept : {S : Type 0} {g : Ghosts S} → (stop : ℕ) → Shelf S g → List S → Type 0
-HoldsKept {g = g} stop shelf stores =
+-- the stores hold all that the buffer set kept over honest stores, where no write was open
+abbrev pub HoldsKept : {S : Type 0} {g : Ghosts S} → (stop : ℕ) → BufferSet S g → List S → Type 0
+HoldsKept {g = g} stop buffer_set stores =
     (w : Terms) (begun : ℕ → List ℕ) (kept : List Kept) (failures : ℕ → ℕ)
-    → KeepsTexts true shelf w begun kept (λ h. None) failures
+    → KeepsTexts true buffer_set w begun kept (λ h. None) failures
     → HoldsTexts g stores stop w begun kept failures
 
 -- a store is what the stop of a buffer leaves
@@ -100,28 +102,29 @@ pub record IsShutOver {S : Type 0} {g : Ghosts S} (stop b : ℕ) (code : Buffer 
   pub no_failure : g.failures store ≡ g.failures (store_of code)
 
 -- the stores are what the stop of each buffer leaves, in the order of the buffers
-abbrev pub AreShut : {S : Type 0} {g : Ghosts S} → (stop : ℕ) → Shelf S g → List S → Type 0
-AreShut stop shelf stores = AreEach (IsShutOver stop) shelf.buffers.items stores
+abbrev pub AreShut : {S : Type 0} {g : Ghosts S} → (stop : ℕ) → BufferSet S g → List S → Type 0
+AreShut stop buffer_set stores = AreEach (IsShutOver stop) buffer_set.buffers.items stores
 
 -- THE REFUSALS
 
--- no write is open in a buffer of the shelf
-abbrev pub AreIdle : {S : Type 0} {g : Ghosts S} → Shelf S g → Type 0
-AreIdle {S} {g} shelf =
-    (b : ℕ) (code : Buffer S g) → slice_get shelf.buffers.items b ≡ Some code
+-- no write is open in a buffer of the buffer set
+abbrev pub AreIdle : {S : Type 0} {g : Ghosts S} → BufferSet S g → Type 0
+AreIdle {S} {g} buffer_set =
+    (b : ℕ) (code : Buffer S g) → slice_get buffer_set.buffers.items b ≡ Some code
     → is_busy code ≡ false
 
--- a write is open in a buffer, so that there is no state without an open write that the shelf keeps
-pub record IsBusyShelf {S : Type 0} {g : Ghosts S} (shelf : Shelf S g) : Type 0 where
+-- a write is open in a buffer, so that there is no state without an open write that the buffer set
+-- keeps
+pub record IsBusyBufferSet {S : Type 0} {g : Ghosts S} (buffer_set : BufferSet S g) : Type 0 where
   pub at : ℕ
   pub code : Buffer S g
-  pub there : slice_get shelf.buffers.items at ≡ Some code
+  pub there : slice_get buffer_set.buffers.items at ≡ Some code
   pub busy : is_busy code ≡ true
   pub writing : (trusted : Bool) (w : Terms) (begun : ℕ → List ℕ) (kept : List Kept)
-      (failures : ℕ → ℕ) → KeepsTexts trusted shelf w begun kept (λ h. None) failures → ⊥
+      (failures : ℕ → ℕ) → KeepsTexts trusted buffer_set w begun kept (λ h. None) failures → ⊥
 
--- the store of a buffer, where the stop of the buffer at this place was refused: it stays honest and
--- keeps the number of its blocks, and the device of the one at this place alone has failed
+-- the store of a buffer, where the stop of the buffer at this place was refused: it stays honest
+-- and keeps the number of its blocks, and the device of the one at this place alone has failed
 pub record IsLeftOver {S : Type 0} {g : Ghosts S} (place b : ℕ) (code : Buffer S g) (store : S)
     : Type 0 where
   pub honest : g.honest (store_of code) → g.honest store
@@ -129,17 +132,19 @@ pub record IsLeftOver {S : Type 0} {g : Ghosts S} (place b : ℕ) (code : Buffer
   pub failed : b ≡ place → g.failures (store_of code) < g.failures store
   pub others : b ≢ place → g.failures store ≡ g.failures (store_of code)
 
--- the device of the buffer of this number failed; the stores are those of all buffers, in their order
-pub record IsShutPartly {S : Type 0} {g : Ghosts S} (old : Shelf S g) (number : ℕ) (stores : List S)
+-- the device of the buffer of this number failed; the stores are those of all buffers, in their
+-- order
+pub record IsShutPartly {S : Type 0} {g : Ghosts S} (old : BufferSet S g) (number : ℕ)
+    (stores : List S)
     : Type 0 where
   pub place : ℕ
   pub within : place < length old.buffers.items
   pub told : place < 2 ^ 8 → number ≡ place
   pub left : AreEach (IsLeftOver place) old.buffers.items stores
 
--- why a shelf isn't stopped: as Busy or for want of memory it comes back as it was
-abbrev pub IsUnshut : {S : Type 0} {g : Ghosts S} → Shelf S g → Unshut S g → Type 0
-IsUnshut old (answers.Busy back) = (back ≡ old) × IsBusyShelf old
+-- why a buffer set isn't stopped: as Busy or for want of memory it comes back as it was
+abbrev pub IsUnshut : {S : Type 0} {g : Ghosts S} → BufferSet S g → Unshut S g → Type 0
+IsUnshut old (answers.Busy back) = (back ≡ old) × IsBusyBufferSet old
 IsUnshut old (answers.Memory back) = back ≡ old
 IsUnshut old (answers.Device number stores) = IsShutPartly old number stores.items
 
@@ -153,9 +158,9 @@ IsBusyAnswer (Err (answers.Device number stores)) = ⊥
 -- STEP BY STEP
 
 -- no write is open in the buffers before this place
-abbrev pub AreIdleTo : {S : Type 0} {g : Ghosts S} → Shelf S g → (place : ℕ) → Type 0
-AreIdleTo {S} {g} shelf place =
-    (b : ℕ) (code : Buffer S g) → b < place → slice_get shelf.buffers.items b ≡ Some code
+abbrev pub AreIdleTo : {S : Type 0} {g : Ghosts S} → BufferSet S g → (place : ℕ) → Type 0
+AreIdleTo {S} {g} buffer_set place =
+    (b : ℕ) (code : Buffer S g) → b < place → slice_get buffer_set.buffers.items b ≡ Some code
     → is_busy code ≡ false
 
 -- the stores are those of the buffers so far: each is stopped, or the one at a place has failed

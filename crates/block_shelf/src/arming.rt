@@ -1,12 +1,12 @@
-//! A shelf whose stores fail on purpose.
+//! A buffer set whose stores fail on purpose.
 ghost use Rattle.block_shelf.specs.Arming.{Arms};
 ghost use Rattle.block_shelf.specs.Calls.{KeepsAll};
 ghost use Rattle.block_shelf.specs.Devices.{CallsNone};
 
-use crate::shelf::Shelf;
+use crate::buffer_set::BufferSet;
 use cyc_block::{BlockStore, FailAt};
 
-impl<S: BlockStore> Shelf<FailAt<S>> {
+impl<S: BlockStore> BufferSet<FailAt<S>> {
     /// From here call number k of the store of the buffer of this number fails, once, counted from
     /// 1; with 0 none does. A call that was to fail before no longer is. Where there is no such
     /// buffer nothing is armed.

@@ -1,8 +1,8 @@
 //! Why a relay over stores doesn't begin.
 ghost use Rattle.std.specs.Prelude.{List};
-ghost use Rattle.block_shelf.specs.Filling.{IsShelfRefusal, IsBeginRefusal, IsHost};
+ghost use Rattle.block_shelf.specs.Filling.{IsBufferSetRefusal, IsBeginRefusal, IsHost};
 
-use crate::filling::ShelfError;
+use crate::filling::BufferSetError;
 use cyc_block::BlockStore;
 use std::alloc::AllocError;
 use std::io;
@@ -34,12 +34,12 @@ impl<S: BlockStore> From<AllocError> for BeginError<S> {
 }
 
 /// Why a relay whose buffers aren't made doesn't begin.
-pub fn unbegun<S: BlockStore>(error: ShelfError<S>) -> BeginError<S>
-    ensures { (stores : List S) → IsShelfRefusal ⟦<S as BlockStore>⟧ stores error
+pub fn unbegun<S: BlockStore>(error: BufferSetError<S>) -> BeginError<S>
+    ensures { (stores : List S) → IsBufferSetRefusal ⟦<S as BlockStore>⟧ stores error
         → IsBeginRefusal ⟦<S as BlockStore>⟧ stores result }
 {
     match error {
-        ShelfError::Memory => BeginError::Host(io::Error::from(ErrorKind::OutOfMemory)),
-        ShelfError::Device(number, store) => BeginError::Device(number, store),
+        BufferSetError::Memory => BeginError::Host(io::Error::from(ErrorKind::OutOfMemory)),
+        BufferSetError::Device(number, store) => BeginError::Device(number, store),
     }
 }

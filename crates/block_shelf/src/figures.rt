@@ -7,7 +7,7 @@ ghost use Rattle.relay_model.specs.Figures.{buffer_figures};
 ghost use Rattle.relay_model.specs.State.{State};
 ghost use Rattle.relay_model.specs.Terms.{Terms};
 
-use crate::shelf::Shelf;
+use crate::buffer_set::BufferSet;
 use cyc_block::BlockStore;
 
 /// What the report says of a buffer (docs/FORMATS.md, Report).
@@ -23,7 +23,7 @@ pub struct BufferFigures {
     pub stored: u64,
 }
 
-impl<S: BlockStore> Shelf<S> {
+impl<S: BlockStore> BufferSet<S> {
     /// The figures of the buffer of this number, where there is one. Takes no memory.
     pub fn figures(&self, number: u8) -> Option<BufferFigures>
         ensures { (trusted : Bool) (w : Terms) (σ : State) (openings : ℕ → Option Opening)

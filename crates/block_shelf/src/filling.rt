@@ -1,59 +1,67 @@
-//! A shelf over stores, before anything is begun.
+//! A buffer set over stores, before anything is begun.
 ghost use Rattle.std.specs.Prelude.{◌≡◌, ◌≤◌, [], length, map, IfOk, IfErr};
 ghost use Rattle.cyc_buffer.specs.Head.{IsFormatRefusal};
-ghost use Rattle.block_shelf.specs.Filling.{KeepsNothing, IsNewOver, AreNewOver, AreNewRacks};
-ghost use Rattle.block_shelf.specs.Filling.{IsNamed, IsRefusalOver, IsShelfRefusal};
-ghost use Rattle.block_shelf.specs.declared.filling.ShelfError.TheVariants as errors;
-ghost use Rattle.block_shelf.specs.Keeping.{KeepsRack};
+ghost use Rattle.block_shelf.specs.Filling.{KeepsNothing, IsNewOver, AreNewOver};
+ghost use Rattle.block_shelf.specs.Filling.{AreNewPlacedGroups};
+ghost use Rattle.block_shelf.specs.Filling.{IsNamed, IsRefusalOver, IsBufferSetRefusal};
+ghost use Rattle.block_shelf.specs.declared.filling.BufferSetError.TheVariants as errors;
+ghost use Rattle.block_shelf.specs.Keeping.{KeepsPlacedGroup};
 ghost use Rattle.relay_conf.specs.Places.{group_view, group_over, numbered_buffers};
 ghost use Rattle.relay_conf.specs.Settings.{places_of_groups};
 
-use crate::shelf::{Rack, Shelf};
+use crate::buffer_set::{BufferSet, PlacedGroup};
 use buffer_group::Group;
 use cyc_block::BlockStore;
 use cyc_buffer::{Buffer, FormatError, Unformatted};
 use relay_conf::{BufferConf, Buffers, GroupConf};
 use std::alloc::{AllocError, AllocFailed, Global};
 
-/// Why a shelf isn't made, in the order of trial at each buffer.
+/// Why a buffer set isn't made, in the order of trial at each buffer.
 #[derive(Debug, Drop)]
-pub enum ShelfError<S: BlockStore> {
+pub enum BufferSetError<S: BlockStore> {
     /// Memory was refused.
     Memory,
     /// The device of the buffer of this number failed; its store.
     Device(u8, S),
 }
 
-impl<S: BlockStore> From<AllocError> for ShelfError<S> {
+impl<S: BlockStore> From<AllocError> for BufferSetError<S> {
     ghost from_gives = { λ _ made. made ≡ errors.Memory };
 
-    fn from(_error: AllocError) -> ShelfError<S> {
-        ShelfError::Memory
+    fn from(_error: AllocError) -> BufferSetError<S> {
+        BufferSetError::Memory
     }
 }
 
-impl<S: BlockStore, T: Drop> From<AllocFailed<T>> for ShelfError<S> {
+impl<S: BlockStore, T: Drop> From<AllocFailed<T>> for BufferSetError<S> {
     ghost from_gives = { λ _ made. made ≡ errors.Memory };
 
-    fn from(_error: AllocFailed<T>) -> ShelfError<S> {
-        ShelfError::Memory
+    fn from(_error: AllocFailed<T>) -> BufferSetError<S> {
+        BufferSetError::Memory
     }
 }
 
-impl<S: BlockStore> Shelf<S> {
-    /// A shelf over these stores, the i-th for buffer i, before anything is begun, whose head
+impl<S: BlockStore> BufferSet<S> {
+    /// A buffer set over these stores, the i-th for buffer i, before anything is begun, whose head
     /// blocks say so. All memory is taken here.
-    pub fn new(alloc: Global, settings: &Buffers, stores: Vec<S>) -> Result<Shelf<S>, ShelfError<S>>
+    pub fn new(
+        alloc: Global,
+        settings: &Buffers,
+        stores: Vec<S>,
+    ) -> Result<BufferSet<S>, BufferSetError<S>>
     where
         S: Drop,
         requires { map (λ store. length (S.blocks store)) stores.items
             ≡ map (λ buffer. buffer.blocks) settings.now.buffers.items }
         ensures nothing { IfOk result (KeepsNothing settings.now stores.items) }
-        ensures refusal { IfErr result (IsShelfRefusal ⟦<S as BlockStore>⟧ stores.items) }
+        ensures refusal { IfErr result (IsBufferSetRefusal ⟦<S as BlockStore>⟧ stores.items) }
     {
         let buffers = new_buffers(alloc, stores)?;
-        let racks = new_racks(alloc, settings)?;
-        Ok(Shelf { buffers, racks })
+        let placed_groups = new_placed_groups(alloc, settings)?;
+        Ok(BufferSet {
+            buffers,
+            placed_groups,
+        })
     }
 }
 
@@ -61,10 +69,10 @@ impl<S: BlockStore> Shelf<S> {
 fn new_buffers<S: BlockStore + Drop>(
     alloc: Global,
     stores: Vec<S>,
-) -> Result<Vec<Buffer<S>>, ShelfError<S>>
+) -> Result<Vec<Buffer<S>>, BufferSetError<S>>
     requires { length stores.items ≤ 256 }
     ensures over { IfOk result (λ buffers. AreNewOver stores.items buffers.items) }
-    ensures refusal { IfErr result (IsShelfRefusal ⟦<S as BlockStore>⟧ stores.items) }
+    ensures refusal { IfErr result (IsBufferSetRefusal ⟦<S as BlockStore>⟧ stores.items) }
 {
     let mut buffers = Vec::with_capacity(alloc, stores.len())?;
     for store in stores {
@@ -80,7 +88,7 @@ fn new_buffer<S: BlockStore + Drop>(
     alloc: Global,
     store: S,
     number: u8,
-) -> Result<Buffer<S>, ShelfError<S>>
+) -> Result<Buffer<S>, BufferSetError<S>>
     ensures is_new { IfOk result (IsNewOver number store) }
     ensures refusal { IfErr result (IsRefusalOver ⟦<S as BlockStore>⟧ store number) }
 {
@@ -90,42 +98,42 @@ fn new_buffer<S: BlockStore + Drop>(
     }
 }
 
-/// Why a shelf isn't made where the buffer of this number isn't.
-pub fn unformatted<S: BlockStore + Drop>(refused: Unformatted<S>, number: u8) -> ShelfError<S>
+/// Why a buffer set isn't made where the buffer of this number isn't.
+pub fn unformatted<S: BlockStore + Drop>(refused: Unformatted<S>, number: u8) -> BufferSetError<S>
     ensures { (store : S) → IsFormatRefusal ⟦<S as BlockStore>⟧ store refused.error refused.store
         → IsRefusalOver ⟦<S as BlockStore>⟧ store number result }
 {
     let Unformatted { store, error } = refused;
     match error {
-        FormatError::Memory => ShelfError::Memory,
-        FormatError::Device => ShelfError::Device(number, store),
+        FormatError::Memory => BufferSetError::Memory,
+        FormatError::Device => BufferSetError::Device(number, store),
     }
 }
 
-/// The racks of all groups, before anything is begun.
-pub fn new_racks(alloc: Global, settings: &Buffers) -> Result<Vec<Rack>, AllocError>
-    ensures racks { IfOk result (λ racks.
-        AreNewRacks (places_of_groups settings.now) racks.items) }
-    ensures count { IfOk result (λ racks.
-        length racks.items ≡ length settings.now.groups.items) }
+/// The placed groups of all groups, before anything is begun.
+pub fn new_placed_groups(alloc: Global, settings: &Buffers) -> Result<Vec<PlacedGroup>, AllocError>
+    ensures placed_groups { IfOk result (λ placed_groups.
+        AreNewPlacedGroups (places_of_groups settings.now) placed_groups.items) }
+    ensures count { IfOk result (λ placed_groups.
+        length placed_groups.items ≡ length settings.now.groups.items) }
 {
-    let mut racks = Vec::with_capacity(alloc, settings.groups.len())?;
+    let mut placed_groups = Vec::with_capacity(alloc, settings.groups.len())?;
     for group in &settings.groups {
-        racks.push(Rack::new(alloc, &settings.buffers, group)?)?;
+        placed_groups.push(PlacedGroup::new(alloc, &settings.buffers, group)?)?;
     }
-    Ok(racks)
+    Ok(placed_groups)
 }
 
-impl Rack {
-    /// The rack of a group over all buffers, before anything is begun.
-    fn new(alloc: Global, all: &[BufferConf], group: &GroupConf) -> Result<Rack, AllocError>
+impl PlacedGroup {
+    /// The placed group of a group over all buffers, before anything is begun.
+    fn new(alloc: Global, all: &[BufferConf], group: &GroupConf) -> Result<PlacedGroup, AllocError>
         requires { 1 ≤ length
             (group_over (numbered_buffers all.now) (group_view group.now)).buffers }
-        ensures { IfOk result (λ rack. KeepsRack rack
+        ensures { IfOk result (λ placed_group. KeepsPlacedGroup placed_group
             (group_over (numbered_buffers all.now) (group_view group.now)) []) }
     {
         let Members { numbers, blocks } = members_of(alloc, all, group)?;
-        Ok(Rack {
+        Ok(PlacedGroup {
             group: Group::new(group.mode, blocks),
             numbers,
         })

@@ -5,6 +5,7 @@
 
 mod arming;
 mod beginning;
+mod buffer_set;
 mod figures;
 mod filling;
 mod giving;
@@ -12,17 +13,16 @@ mod opening;
 mod picking;
 mod restarting;
 mod resuming;
-mod shelf;
 mod starting;
 mod stopping;
 
 pub use beginning::{BeginError, unbegun};
+pub use buffer_set::{Begun, BufferSet, PlacedGroup};
 pub use figures::BufferFigures;
-pub use filling::{ShelfError, new_racks, unformatted};
-pub use opening::UnopenedShelf;
+pub use filling::{BufferSetError, new_placed_groups, unformatted};
+pub use opening::UnopenedBufferSet;
 pub use picking::Place;
 pub use restarting::RestartFault;
-pub use resuming::{resume_racks, used_in};
-pub use shelf::{Begun, Rack, Shelf};
+pub use resuming::{resume_placed_groups, used_in};
 pub use starting::{StopFault, Unstarted, blamed, fault_of, first_other, start};
 pub use stopping::{Unshut, number_of};

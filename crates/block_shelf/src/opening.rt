@@ -1,20 +1,20 @@
-//! A started shelf before its heads are open, and their opening.
+//! A started buffer set before its heads are open, and their opening.
 ghost use Rattle.std.specs.Prelude.{◌≡◌, ◌≤◌, [], vec_len, vec_capacity};
 
+use crate::buffer_set::{BufferSet, PlacedGroup};
 use crate::figures::BufferFigures;
 use crate::giving::{give_back, give_up};
-use crate::shelf::{Rack, Shelf};
 use crate::starting::{StopFault, Unstarted};
 use crate::stopping::number_of;
 use cyc_block::BlockStore;
 use cyc_buffer::{Buffer, Unopened};
 
-/// A shelf that was started, whose buffers' head blocks say closed yet. It begins nothing before
-/// they are open.
+/// A buffer set that was started, whose buffers' head blocks say closed yet. It begins nothing
+/// before they are open.
 #[derive(Debug, Drop)]
-pub struct UnopenedShelf<S: BlockStore> {
+pub struct UnopenedBufferSet<S: BlockStore> {
     pub(crate) buffers: Vec<Unopened<S>>,
-    pub(crate) racks: Vec<Rack>,
+    pub(crate) placed_groups: Vec<PlacedGroup>,
     /// Room for the buffers once they are open.
     pub(crate) opened: Vec<Buffer<S>>,
     /// Room for the stores where one can't be opened.
@@ -41,7 +41,7 @@ enum Opening<S: BlockStore> {
     },
 }
 
-impl<S: BlockStore + Drop> UnopenedShelf<S> {
+impl<S: BlockStore + Drop> UnopenedBufferSet<S> {
     ghost use Rattle.std.specs.Prelude.{◌≡◌, ℕ, IfErr, IfOk, option_map, slice_get};
     ghost use Rattle.block_shelf.specs.Figures.{figures_view};
     ghost use Rattle.block_shelf.specs.Heads.{IsOpened, IsUnopened, KeepsOpened};
@@ -52,14 +52,14 @@ impl<S: BlockStore + Drop> UnopenedShelf<S> {
 
     /// Says on each device, in the order of the buffers, that its buffer may change from here.
     /// Takes no memory.
-    pub fn open(self) -> Result<Shelf<S>, Unstarted<S>>
+    pub fn open(self) -> Result<BufferSet<S>, Unstarted<S>>
         ensures keeps { IfOk result (KeepsOpened self) }
         ensures opened { IfOk result (IsOpened self) }
         ensures refusal { IfErr result (IsUnopened self) }
     {
-        let UnopenedShelf {
+        let UnopenedBufferSet {
             buffers,
-            racks,
+            placed_groups,
             opened,
             stores,
         } = self;
@@ -74,7 +74,10 @@ impl<S: BlockStore + Drop> UnopenedShelf<S> {
             Opening::Opened {
                 buffers,
                 room: _room,
-            } => Ok(Shelf { buffers, racks }),
+            } => Ok(BufferSet {
+                buffers,
+                placed_groups,
+            }),
             Opening::Failed { stores, place } => Err(Unstarted {
                 stores,
                 buffer: Some(number_of(place)),
@@ -87,7 +90,7 @@ impl<S: BlockStore + Drop> UnopenedShelf<S> {
     pub fn into_stores(self) -> Vec<S>
         ensures { result.items ≡ stores_inside self }
     {
-        let UnopenedShelf {
+        let UnopenedBufferSet {
             buffers,
             stores,
             ..

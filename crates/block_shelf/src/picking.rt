@@ -1,5 +1,5 @@
 //! Where the next article of a group goes, for who has its buffers elsewhere.
-use crate::shelf::Rack;
+use crate::buffer_set::PlacedGroup;
 use buffer_group::Pick;
 
 /// Where an article goes: what its group picks, and the number of that buffer.
@@ -9,9 +9,9 @@ pub struct Place {
     pub number: usize,
 }
 
-impl Rack {
+impl PlacedGroup {
     ghost use Rattle.std.specs.Prelude.{◌≡◌, ℕ, List, [], ◌∷◌, ◌++◌, IsSomeAnd};
-    ghost use Rattle.block_shelf.specs.Keeping.{KeepsRack};
+    ghost use Rattle.block_shelf.specs.Keeping.{KeepsPlacedGroup};
     ghost use Rattle.block_shelf.specs.Picking.{IsPicked};
     ghost use Rattle.buffer_group.specs.Groups.{pick_view};
     ghost use Rattle.news_terms.specs.Picks.{pick_of};
@@ -19,7 +19,7 @@ impl Rack {
 
     /// Where the next article of the group goes, which has so many octets.
     pub fn pick(&self, length: u32) -> Option<Place>
-        ensures { (group : Group) (begun : List ℕ) → KeepsRack self.now group begun
+        ensures { (group : Group) (begun : List ℕ) → KeepsPlacedGroup self.now group begun
             → IsSomeAnd result (IsPicked group begun (size_of length)) }
     {
         let pick = self.group.pick(length);
@@ -29,9 +29,9 @@ impl Rack {
 
     /// Goes on after an article of so many octets was begun where it was picked.
     pub fn begun(&mut self, pick: &Pick, length: u32)
-        ensures { (group : Group) (begun : List ℕ) → KeepsRack self.old group begun
+        ensures { (group : Group) (begun : List ℕ) → KeepsPlacedGroup self.old group begun
             → pick_view pick.now ≡ pick_of group begun (size_of length)
-            → KeepsRack self.new group (begun ++ size_of length ∷ []) }
+            → KeepsPlacedGroup self.new group (begun ++ size_of length ∷ []) }
     {
         self.group.begun(pick, length);
     }

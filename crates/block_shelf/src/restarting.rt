@@ -1,15 +1,15 @@
-//! How a shelf is stopped and started again in place.
+//! How a buffer set is stopped and started again in place.
 ghost use Rattle.std.specs.Prelude.{◌≡◌, ◌^◌, ◌<◌, IfErr, OnOk};
 ghost use Rattle.block_shelf.specs.Restarting.{AreRestarted, IsBusyRestart, KeepsOn};
 ghost use Rattle.block_shelf.specs.Restarting.{IsOtherFault, RestartsNext, restart_fault};
 
-use crate::shelf::Shelf;
+use crate::buffer_set::BufferSet;
 use crate::stopping::number_of;
 use cyc_block::BlockStore;
 use cyc_buffer::{RestartError, StartError};
 use std::alloc::Global;
 
-/// Why a shelf isn't stopped and started again, in the order of trial.
+/// Why a buffer set isn't stopped and started again, in the order of trial.
 #[derive(Clone, Copy, Debug, PartialEq, Eq)]
 pub enum RestartFault {
     /// A write is open in one of its buffers.
@@ -21,7 +21,7 @@ pub enum RestartFault {
     Failed(u8),
 }
 
-impl<S: BlockStore> Shelf<S> {
+impl<S: BlockStore> BufferSet<S> {
     /// Stops each buffer under this number and starts it again, in their order. Refused as Busy
     /// before a device is called. Memory is taken of one buffer after the other, and given back.
     pub fn restart(&mut self, alloc: Global, stop: u64) -> Result<(), RestartFault>
@@ -57,7 +57,7 @@ impl<S: BlockStore> Shelf<S> {
     }
 }
 
-/// The fault of the shelf where the buffer at this place isn't restarted.
+/// The fault of the buffer set where the buffer at this place isn't restarted.
 fn fault_of(place: usize, error: &RestartError) -> RestartFault
     ensures fault { place < 2 ^ 8 → result ≡ restart_fault error.now place }
     ensures other { IsOtherFault result }

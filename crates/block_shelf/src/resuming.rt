@@ -1,34 +1,34 @@
-//! The groups of a shelf that is started, as they were.
+//! The groups of a buffer set that is started, as they were.
 ghost use Rattle.std.specs.Prelude.{◌≡◌, ◌≤◌, ◌<◌, Bool, ℕ, IfOk, length, slice_get, unwrap_or};
-ghost use Rattle.block_shelf.specs.Resuming.{AreUsed, ResumesByUse, ResumesRack};
-ghost use Rattle.block_shelf.specs.Starting.{ResumeRacks, buffers_inside};
+ghost use Rattle.block_shelf.specs.Resuming.{AreUsed, ResumesByUse, ResumesPlacedGroup};
+ghost use Rattle.block_shelf.specs.Starting.{ResumePlacedGroups, buffers_inside};
 ghost use Rattle.cyc_buffer.specs.Agreement.{Agrees};
 ghost use Rattle.cyc_buffer.specs.History.{History};
 ghost use Rattle.cyc_buffer.specs.Stopped.{used_of};
 ghost use Rattle.relay_conf.specs.Places.{group_view, group_over, numbered_buffers};
 ghost use Rattle.relay_conf.specs.declared.cycbuff.Mode.TheVariants as modes;
 
+use crate::buffer_set::PlacedGroup;
 use crate::filling::{Members, members_of};
-use crate::shelf::Rack;
 use buffer_group::Group;
 use cyc_block::BlockStore;
 use cyc_buffer::{Buffer, Unopened};
 use relay_conf::{BufferConf, Buffers, GroupConf, Mode};
 use std::alloc::{AllocError, Global};
 
-/// The racks of all groups, at these positions, over started buffers.
-pub(crate) fn racks_over<S: BlockStore>(
+/// The placed groups of all groups, at these positions, over started buffers.
+pub(crate) fn placed_groups_over<S: BlockStore>(
     alloc: Global,
     settings: &Buffers,
     buffers: &[Unopened<S>],
     positions: &[u32],
-) -> Result<Vec<Rack>, AllocError>
-    ensures { IfOk result (λ racks. ResumeRacks settings.now positions.now
-        (buffers_inside buffers.now) racks.items) }
+) -> Result<Vec<PlacedGroup>, AllocError>
+    ensures { IfOk result (λ placed_groups. ResumePlacedGroups settings.now positions.now
+        (buffers_inside buffers.now) placed_groups.items) }
 {
     let used = all_used(alloc, buffers)?;
-    let racks = resume_racks(alloc, settings, &used, positions)?;
-    Ok(racks)
+    let placed_groups = resume_placed_groups(alloc, settings, &used, positions)?;
+    Ok(placed_groups)
 }
 
 /// Of each started buffer the blocks used in its cycle.
@@ -42,26 +42,32 @@ fn all_used<S: BlockStore>(alloc: Global, buffers: &[Unopened<S>]) -> Result<Vec
     Ok(used)
 }
 
-/// The racks of all groups, at these positions, over buffers in whose cycles so many blocks are
-/// used, for who has the buffers elsewhere. A position past the buffers of its group stands for the
-/// first one.
-pub fn resume_racks(
+/// The placed groups of all groups, at these positions, over buffers in whose cycles so many blocks
+/// are used, for who has the buffers elsewhere. A position past the buffers of its group stands for
+/// the first one.
+pub fn resume_placed_groups(
     alloc: Global,
     settings: &Buffers,
     used: &[u32],
     positions: &[u32],
-) -> Result<Vec<Rack>, AllocError>
-    ensures racks { IfOk result (λ racks.
-        ResumesByUse settings.now positions.now used.now racks.items) }
-    ensures count { IfOk result (λ racks.
-        length racks.items ≡ length settings.now.groups.items) }
+) -> Result<Vec<PlacedGroup>, AllocError>
+    ensures placed_groups { IfOk result (λ placed_groups.
+        ResumesByUse settings.now positions.now used.now placed_groups.items) }
+    ensures count { IfOk result (λ placed_groups.
+        length placed_groups.items ≡ length settings.now.groups.items) }
 {
-    let mut racks = Vec::with_capacity(alloc, settings.groups.len())?;
+    let mut placed_groups = Vec::with_capacity(alloc, settings.groups.len())?;
     for (place, group) in settings.groups.iter().enumerate() {
         let position = position_in(positions, place);
-        racks.push_reserved(Rack::resume(alloc, &settings.buffers, group, position, used)?);
+        placed_groups.push_reserved(PlacedGroup::resume(
+            alloc,
+            &settings.buffers,
+            group,
+            position,
+            used,
+        )?);
     }
-    Ok(racks)
+    Ok(placed_groups)
 }
 
 /// The position of the group at this place; 0 where there is none.
@@ -74,24 +80,24 @@ fn position_in(positions: &[u32], place: usize) -> usize
     }
 }
 
-impl Rack {
-    /// The rack of a group, at this position of it, over buffers with so many blocks used.
+impl PlacedGroup {
+    /// The placed group of a group, at this position of it, over buffers with so many blocks used.
     fn resume(
         alloc: Global,
         all: &[BufferConf],
         group: &GroupConf,
         position: usize,
         used: &[u32],
-    ) -> Result<Rack, AllocError>
+    ) -> Result<PlacedGroup, AllocError>
         requires { 1 ≤ length
             (group_over (numbered_buffers all.now) (group_view group.now)).buffers }
-        ensures { IfOk result (ResumesRack
+        ensures { IfOk result (ResumesPlacedGroup
             (group_over (numbered_buffers all.now) (group_view group.now)) position used.now) }
     {
         let Members { numbers, blocks } = members_of(alloc, all, group)?;
         let position = within(position, blocks.len());
         let used = used_by(group.mode, used, number_at(&numbers, position));
-        Ok(Rack {
+        Ok(PlacedGroup {
             group: Group::resume(group.mode, blocks, position, used),
             numbers,
         })

@@ -1,17 +1,18 @@
-//! How a shelf is started from what was left on its stores.
+//! How a buffer set is started from what was left on its stores.
 ghost use Rattle.std.specs.Prelude.{◌≡◌, ◌≤◌, ◌<◌, ◌+◌, ◌++◌, [], None, length, map, min, IfErr};
 ghost use Rattle.std.specs.Prelude.{IfOk, vec_len, vec_capacity};
 ghost use Rattle.cyc_buffer.specs.Agreement.{store_of};
 ghost use Rattle.cyc_buffer.specs.Head.{inside};
-ghost use Rattle.block_shelf.specs.Starting.{HasCause, IsStartedShelf, IsUnstarted, KeepsHeld};
-ghost use Rattle.block_shelf.specs.Starting.{ResumeRacks, StartsNext, TriesNext, WillKeepHeld};
+ghost use Rattle.block_shelf.specs.Starting.{HasCause, IsStartedBufferSet, IsUnstarted, KeepsHeld};
+ghost use Rattle.block_shelf.specs.Starting.{ResumePlacedGroups, StartsNext, TriesNext};
+ghost use Rattle.block_shelf.specs.Starting.{WillKeepHeld};
 ghost use Rattle.block_shelf.specs.Starting.{buffers_inside, fault_of_start, number_told};
 ghost use Rattle.block_shelf.specs.Starting.{other_after, tried_count, tried_room};
 ghost use Rattle.block_shelf.specs.declared.starting.StopFault.TheVariants as faults;
 
 use crate::giving::give_back;
-use crate::opening::UnopenedShelf;
-use crate::resuming::racks_over;
+use crate::opening::UnopenedBufferSet;
+use crate::resuming::placed_groups_over;
 use cyc_block::BlockStore;
 use cyc_buffer::{Buffer, StartError, Unopened};
 use relay_conf::Buffers;
@@ -38,7 +39,7 @@ pub enum StopFault {
     Ahead,
 }
 
-/// The stores of a shelf that isn't started, in the order of its buffers, and why.
+/// The stores of a buffer set that isn't started, in the order of its buffers, and why.
 #[derive(Debug, Drop)]
 pub struct Unstarted<S> {
     pub stores: Vec<S>,
@@ -73,9 +74,9 @@ struct Room<S: BlockStore> {
     stores: Vec<S>,
 }
 
-/// The shelf whose buffers were stopped at this stop over these stores, the i-th for buffer i, its
-/// groups at these positions; a position past the buffers of its group stands for the first one.
-/// Nothing is written. All memory is taken here, of one buffer after the other: the list of a
+/// The buffer set whose buffers were stopped at this stop over these stores, the i-th for buffer i,
+/// its groups at these positions; a position past the buffers of its group stands for the first
+/// one. Nothing is written. All memory is taken here, of one buffer after the other: the list of a
 /// buffer's tokens is let go as soon as it is read.
 pub fn start<S: BlockStore + Drop>(
     alloc: Global,
@@ -83,13 +84,13 @@ pub fn start<S: BlockStore + Drop>(
     stores: Vec<S>,
     stop: u64,
     positions: &[u32],
-) -> Result<UnopenedShelf<S>, Unstarted<S>>
+) -> Result<UnopenedBufferSet<S>, Unstarted<S>>
     requires { map (λ store. length (S.blocks store)) stores.items
         ≡ map (λ buffer. buffer.blocks) settings.now.buffers.items }
     ensures held { IfOk result (KeepsHeld settings.now stores.items stop) }
     ensures keeps { IfOk result (WillKeepHeld settings.now stores.items stop positions.now) }
     // Nothing is written, and no device has failed; each buffer was stopped at this stop.
-    ensures started { IfOk result (IsStartedShelf stores.items stop) }
+    ensures started { IfOk result (IsStartedBufferSet stores.items stop) }
     // Refused for the first fault, in the order of the buffers; the stores come back unwritten.
     ensures refusal { IfErr result (IsUnstarted ⟦<S as BlockStore>⟧ stores.items stop) }
     // What was stopped so is refused for memory or a device that failed alone.
@@ -140,7 +141,7 @@ pub fn start<S: BlockStore + Drop>(
     }
 }
 
-/// The shelf of started buffers, where memory isn't refused for its groups.
+/// The buffer set of started buffers, where memory isn't refused for its groups.
 fn shelve<S: BlockStore + Drop>(
     alloc: Global,
     settings: &Buffers,
@@ -148,30 +149,31 @@ fn shelve<S: BlockStore + Drop>(
     buffers: Vec<Unopened<S>>,
     opened: Vec<Buffer<S>>,
     room: Vec<S>,
-) -> Result<UnopenedShelf<S>, Unstarted<S>>
+) -> Result<UnopenedBufferSet<S>, Unstarted<S>>
     requires few { vec_len buffers ≤ 256 }
     requires none_opened { opened.items ≡ [] }
     requires none_back { room.items ≡ [] }
     requires opened_room { vec_len buffers ≤ vec_capacity opened }
     requires stores_room { vec_len buffers ≤ vec_capacity room }
-    ensures buffers { IfOk result (λ shelf. shelf.buffers ≡ buffers) }
-    ensures racks { IfOk result (λ shelf.
-        ResumeRacks settings.now positions.now (buffers_inside buffers.items) shelf.racks.items) }
+    ensures buffers { IfOk result (λ buffer_set. buffer_set.buffers ≡ buffers) }
+    ensures placed_groups { IfOk result (λ buffer_set.
+        ResumePlacedGroups settings.now positions.now (buffers_inside buffers.items)
+        buffer_set.placed_groups.items) }
     ensures stores { IfErr result (λ refused. refused.stores.items
         ≡ map (λ one. store_of (inside one)) buffers.items) }
     ensures memory { IfErr result (λ refused.
         (refused.buffer ≡ None) × (refused.error ≡ faults.Memory)) }
 {
-    let Ok(racks) = racks_over(alloc, settings, &buffers, positions) else {
+    let Ok(placed_groups) = placed_groups_over(alloc, settings, &buffers, positions) else {
         return Err(Unstarted {
             stores: give_back(buffers, room),
             buffer: None,
             error: StopFault::Memory,
         });
     };
-    Ok(UnopenedShelf {
+    Ok(UnopenedBufferSet {
         buffers,
-        racks,
+        placed_groups,
         opened,
         stores: room,
     })

@@ -1,27 +1,27 @@
-//! How a shelf is stopped: each of its buffers says on its store what it keeps.
+//! How a buffer set is stopped: each of its buffers says on its store what it keeps.
 ghost use Rattle.std.specs.Prelude.{◌≡◌, ◌<◌, ◌+◌, ◌^◌, true, false, IfErr, IfOk};
 ghost use Rattle.std.specs.Prelude.{vec_len, vec_capacity};
 ghost use Rattle.block_shelf.specs.Stopping.{AreIdle, AreShut, HoldsKept, IsBusyAnswer};
 ghost use Rattle.block_shelf.specs.Stopping.{TellsPositions};
-ghost use Rattle.block_shelf.specs.Stopping.{IsBusyShelf, IsUnshut, StopsNext, TellsPosition};
+ghost use Rattle.block_shelf.specs.Stopping.{IsBusyBufferSet, IsUnshut, StopsNext, TellsPosition};
 
-use crate::shelf::{Rack, Shelf};
+use crate::buffer_set::{BufferSet, PlacedGroup};
 use cyc_block::BlockStore;
 use cyc_buffer::Buffer;
 use std::alloc::{AllocError, Global};
 
-/// Why a shelf isn't stopped, in the order of trial.
+/// Why a buffer set isn't stopped, in the order of trial.
 #[derive(Debug, Drop)]
 pub enum Unshut<S: BlockStore> {
-    /// A write is open in one of its buffers; the shelf, as it was.
-    Busy(Shelf<S>),
-    /// Memory was refused for the list of its stores; the shelf, as it was.
-    Memory(Shelf<S>),
+    /// A write is open in one of its buffers; the buffer set, as it was.
+    Busy(BufferSet<S>),
+    /// Memory was refused for the list of its stores; the buffer set, as it was.
+    Memory(BufferSet<S>),
     /// The device of the buffer of this number failed; all stores, in the order of their buffers.
     Device(u8, Vec<S>),
 }
 
-impl Rack {
+impl PlacedGroup {
     /// The place of the group's current buffer in it, counted from 0.
     pub fn position(&self) -> u32
         ensures { TellsPosition 0 self.now result }
@@ -30,21 +30,21 @@ impl Rack {
     }
 }
 
-impl<S: BlockStore> Shelf<S> {
+impl<S: BlockStore> BufferSet<S> {
     /// The place of the current buffer of each group in it, counted from 0.
     pub fn positions(&self, alloc: Global) -> Result<Vec<u32>, AllocError>
         ensures { IfOk result (λ positions. TellsPositions self.now positions.items) }
     {
-        let mut positions = Vec::with_capacity(alloc, self.racks.len())?;
-        for rack in &self.racks {
-            positions.push_reserved(rack.position());
+        let mut positions = Vec::with_capacity(alloc, self.placed_groups.len())?;
+        for placed_group in &self.placed_groups {
+            positions.push_reserved(placed_group.position());
         }
         Ok(positions)
     }
 
     /// Whether a write is open in one of its buffers.
     pub(crate) fn is_busy(&self) -> bool
-        ensures busy { result ≡ true → IsBusyShelf self.now }
+        ensures busy { result ≡ true → IsBusyBufferSet self.now }
         ensures idle { result ≡ false → AreIdle self.now }
     {
         for buffer in &self.buffers {
@@ -64,8 +64,8 @@ impl<S: BlockStore> Shelf<S> {
         ensures held { IfOk result (λ stores. HoldsKept stop self stores.items) }
         ensures shut { IfOk result (λ stores. AreShut stop self stores.items) }
         ensures refusal { IfErr result (IsUnshut self) }
-        // A shelf with an open write is refused as Busy.
-        ensures busy { IsBusyShelf self → IsBusyAnswer result }
+        // A buffer set with an open write is refused as Busy.
+        ensures busy { IsBusyBufferSet self → IsBusyAnswer result }
     {
         if self.is_busy() {
             return Err(Unshut::Busy(self));
@@ -73,7 +73,7 @@ impl<S: BlockStore> Shelf<S> {
         let Ok(mut stores) = Vec::with_capacity(alloc, self.buffers.len()) else {
             return Err(Unshut::Memory(self));
         };
-        let Shelf { buffers, .. } = self;
+        let BufferSet { buffers, .. } = self;
         let mut failed = None;
         for buffer in buffers {
             failed = shut_next(buffer, stop, failed, &mut stores);
@@ -115,7 +115,7 @@ fn shut_next<S: BlockStore>(
     }
 }
 
-/// The number of the buffer at this place of a shelf.
+/// The number of the buffer at this place of a buffer set.
 pub fn number_of(place: usize) -> u8
     ensures { place < 2 ^ 8 → result ≡ place }
 {

@@ -9,7 +9,7 @@
 #![tactic(auto)]
 
 use relay_command::{Failure, Request, exit_code, gathering, print_failure, program_words, run};
-use relay_control::{Word, ask};
+use relay_folder::{Word, ask};
 use relay_serve::serve_on;
 use std::alloc::Global;
 use std::env::Env;

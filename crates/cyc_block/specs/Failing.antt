@@ -19,8 +19,8 @@ spent failing = failing.on_purpose
 abbrev pub armed : {S : Type 0} → (k : ℕ) → FailAt S → FailAt S
 armed k failing = record failing { left = k }
 
--- What each call leaves, whether it fails or not: the store stays honest and keeps the number of its
--- blocks; it was one call; and a call failed where an error is answered, and only there.
+-- What each call leaves, whether it fails or not: the store stays honest and keeps the number of
+-- its blocks; it was one call; and a call failed where an error is answered, and only there.
 abbrev pub IsOneCall : {S A E : Type 0} → Ghosts S → (old new : FailAt S) → Result A E → Type 0
 IsOneCall g old new result =
     (g.honest (store_below old) → g.honest (store_below new))

@@ -10,7 +10,8 @@ use crate::tally::Tally;
 use crate::{BLOCK_OCTETS, BlockStore, DeviceFailed};
 
 /// A store whose call number k fails once; reads and writes, those of head blocks too, are counted
-/// together, from 1. The call that fails does nothing else. Armed again, it fails another call once.
+/// together, from 1. The call that fails does nothing else. Armed again, it fails another call
+/// once.
 #[derive(Debug, Drop)]
 pub struct FailAt<S> {
     store: S,

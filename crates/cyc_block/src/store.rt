@@ -8,8 +8,8 @@ use crate::BLOCK_OCTETS;
 #[derive(Clone, Copy, Debug, PartialEq, Eq)]
 pub struct DeviceFailed;
 
-/// A row of blocks of 512 octets, numbered from 0, and a row of head blocks, numbered from 0 too, in
-/// which a buffer says what it is.
+/// A row of blocks of 512 octets, numbered from 0, and a row of head blocks, numbered from 0 too,
+/// in which a buffer says what it is.
 pub trait BlockStore {
     /// What the blocks hold, in order.
     ghost blocks: { Self → List (List ℕ) };

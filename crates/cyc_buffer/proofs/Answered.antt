@@ -12,14 +12,14 @@ use Rattle.cyc_buffer.specs.Agreement.{Holds}
 use Rattle.cyc_buffer.specs.History.{History, cycle_of}
 use Rattle.cyc_buffer.specs.Marks.{is_marked}
 use Rattle.cyc_buffer.specs.Reads.{HasStarted, IsRefusedBy}
-use Rattle.cyc_buffer.specs.Register.{Keeps, buffer_of, numbers_in}
+use Rattle.cyc_buffer.specs.BufferState.{Keeps, buffer_of, numbers_in}
 use Rattle.cyc_buffer.specs.Starting.{IsOutside, IsReason, ListsLive, Starts}
 use Rattle.cyc_buffer.specs.Stopped.{HoldsStopped, IsDamaged, IsLiveToken, IsWhole, numbers_of}
 use Rattle.cyc_buffer.specs.Stopped.{HeadAbove, CycleBelow, BegunAbove, StoredAbove, BitBeyond}
 use Rattle.cyc_buffer.specs.Stopped.{NotWhole, IsRising, has_bit, used_of}
 use Rattle.cyc_buffer.specs.declared.answers.StartError.{StartError}
 use Rattle.cyc_buffer.specs.declared.answers.StartError.TheVariants as errors
-use Rattle.cyc_buffer.specs.declared.register.Register.{Register}
+use Rattle.cyc_buffer.specs.declared.buffer_state.BufferState.{BufferState}
 use Rattle.cyc_buffer.proofs.Finished.{lies}
 use Rattle.cyc_buffer.proofs.Numbers.{live_place, live_unpassed}
 use Rattle.cyc_buffer.proofs.Restored.{all_rising, listed_whole, told, whole_at, whole_listed}
@@ -33,8 +33,8 @@ open_closed : Open ≡ Closed → ⊥
 open_closed e = cc
 
 -- What a start says of the device, whatever it holds.
-module _ (heads blocks : List (List ℕ)) (buffer : Buffer) (stop : ℕ) (register : Register)
-    (tokens : List Token) (s : HasStarted heads blocks buffer stop register tokens) where
+module _ (heads blocks : List (List ℕ)) (buffer : Buffer) (stop : ℕ) (buffer_state : BufferState)
+    (tokens : List Token) (s : HasStarted heads blocks buffer stop buffer_state tokens) where
   -- nothing is wrong with the device
   not_wrong : IsDamaged heads blocks s.numbers → ⊥
   not_wrong (HeadAbove e) = omega (arith, e, s.sound.head)
@@ -44,8 +44,8 @@ module _ (heads blocks : List (List ℕ)) (buffer : Buffer) (stop : ℕ) (regist
   not_wrong (BitBeyond j behind within e) =
       false≢true (sym (s.beyond j behind within) ∙ e)
   not_wrong (NotWhole j within e none) =
-      let at = whole_at heads blocks s.numbers register.starts.words.items tokens s.some_kept
-      register.kept.words.items s.bits s.sound s.unkept s.all j within e in
+      let at = whole_at heads blocks s.numbers buffer_state.starts.words.items tokens s.some_kept
+      buffer_state.kept.words.items s.bits s.sound s.unkept s.all j within e in
       none (token_view at.token) at.here at.whole
 
   pub starts_of : Starts heads blocks buffer stop tokens
@@ -56,14 +56,14 @@ module _ (heads blocks : List (List ℕ)) (buffer : Buffer) (stop : ℕ) (regist
     stop_is = s.stop_is;
     sound = not_wrong;
     all = λ t. (
-      λ c. (listed_whole heads blocks s.numbers register.starts.words.items tokens s.some_kept
-          register.kept.words.items s.bits s.sound s.unkept s.all t c).whole,
-      whole_listed heads blocks s.numbers register.starts.words.items tokens s.some_kept
-          register.kept.words.items s.bits s.sound s.unkept s.all t,
+      λ c. (listed_whole heads blocks s.numbers buffer_state.starts.words.items tokens s.some_kept
+          buffer_state.kept.words.items s.bits s.sound s.unkept s.all t c).whole,
+      whole_listed heads blocks s.numbers buffer_state.starts.words.items tokens s.some_kept
+          buffer_state.kept.words.items s.bits s.sound s.unkept s.all t,
     );
     rising = subst (λ n. IsRising n (map token_view tokens)) s.says.says.blocks
-        (all_rising heads blocks s.numbers register.starts.words.items tokens s.some_kept
-        register.kept.words.items s.bits s.sound s.unkept s.all);
+        (all_rising heads blocks s.numbers buffer_state.starts.words.items tokens s.some_kept
+        buffer_state.kept.words.items s.bits s.sound s.unkept s.all);
   }
 
   -- What a start gives back of a history that the device holds.
@@ -71,63 +71,66 @@ module _ (heads blocks : List (List ℕ)) (buffer : Buffer) (stop : ℕ) (regist
     same : s.numbers ≡ numbers_of Closed kept_stop h
     same = s.says.only (numbers_of Closed kept_stop h) held.fit held.numbers
 
-    in_register : numbers_in register Closed stop ≡ numbers_of Closed kept_stop h
-    in_register = s.register_is ∙ same
+    in_buffer_state : numbers_in buffer_state Closed stop ≡ numbers_of Closed kept_stop h
+    in_buffer_state = s.buffer_state_is ∙ same
 
-    same_buffer : h.buffer ≡ buffer_of register.line
+    same_buffer : h.buffer ≡ buffer_of buffer_state.line
     same_buffer = λ i. record {
-      number = (sym in_register i).number;
-      blocks = (sym in_register i).blocks;
-      first_cycle = (sym in_register i).first_cycle;
+      number = (sym in_buffer_state i).number;
+      blocks = (sym in_buffer_state i).blocks;
+      first_cycle = (sym in_buffer_state i).first_cycle;
     }
 
-    same_cycle : register.line.cycle ≡ cycle_of h
-    same_cycle = ap (λ (b : HeadBlock). b.cycle) in_register
+    same_cycle : buffer_state.line.cycle ≡ cycle_of h
+    same_cycle = ap (λ (b : HeadBlock). b.cycle) in_buffer_state
 
-    same_used : register.line.used ≡ used_of h
-    same_used = ap (λ (b : HeadBlock). b.head) in_register
+    same_used : buffer_state.line.used ≡ used_of h
+    same_used = ap (λ (b : HeadBlock). b.head) in_buffer_state
 
-    same_blocks : s.numbers.blocks ≡ register.line.blocks
-    same_blocks = sym (ap (λ (b : HeadBlock). b.blocks) s.register_is)
+    same_blocks : s.numbers.blocks ≡ buffer_state.line.blocks
+    same_blocks = sym (ap (λ (b : HeadBlock). b.blocks) s.buffer_state_is)
 
-    starts_told : (j : ℕ) → j < register.line.blocks
-        → is_marked register.starts.words.items j ≡ has_bit heads j
+    starts_told : (j : ℕ) → j < buffer_state.line.blocks
+        → is_marked buffer_state.starts.words.items j ≡ has_bit heads j
     starts_told j within = s.bits j (omega (arith, within, same_blocks))
 
-    kept_told : (j : ℕ) → j < register.line.blocks
-        → is_marked register.kept.words.items j ≡ true
-        → IsCovered heads blocks (cycle_of h) (used_of h) register.line.blocks j
+    kept_told : (j : ℕ) → j < buffer_state.line.blocks
+        → is_marked buffer_state.kept.words.items j ≡ true
+        → IsCovered heads blocks (cycle_of h) (used_of h) buffer_state.line.blocks j
     kept_told j within m =
-        subst (λ (n : HeadBlock). IsCovered heads blocks n.cycle n.head register.line.blocks j)
+        subst (λ (n : HeadBlock). IsCovered heads blocks n.cycle n.head buffer_state.line.blocks j)
         same
         (subst (λ n. IsCovered heads blocks s.numbers.cycle s.numbers.head n j) same_blocks
-        (told heads blocks s.numbers register.starts.words.items tokens s.some_kept
-        register.kept.words.items s.bits s.sound s.unkept s.all j m))
+        (told heads blocks s.numbers buffer_state.starts.words.items tokens s.some_kept
+        buffer_state.kept.words.items s.bits s.sound s.unkept s.all j m))
 
-    whole_told : (j : ℕ) → j < register.line.blocks → has_bit heads j ≡ true
-        → IsMarkedWhole heads blocks (cycle_of h) (used_of h) register.kept.words.items j
+    whole_told : (j : ℕ) → j < buffer_state.line.blocks → has_bit heads j ≡ true
+        → IsMarkedWhole heads blocks (cycle_of h) (used_of h) buffer_state.kept.words.items j
     whole_told j within set =
         subst (λ (n : HeadBlock).
-        IsMarkedWhole heads blocks n.cycle n.head register.kept.words.items j) same
-        (whole_marked heads blocks s.numbers register.starts.words.items tokens s.some_kept
-        register.kept.words.items s.bits s.sound s.unkept s.all j
+        IsMarkedWhole heads blocks n.cycle n.head buffer_state.kept.words.items j) same
+        (whole_marked heads blocks s.numbers buffer_state.starts.words.items tokens s.some_kept
+        buffer_state.kept.words.items s.bits s.sound s.unkept s.all j
         (omega (arith, within, same_blocks)) set)
 
-    pub keeps_history : Keeps register h
-    keeps_history = keeps_started heads blocks kept_stop h held register same_buffer same_cycle
-        same_used (ap (λ (b : HeadBlock). b.begun) in_register)
-        (ap (λ (b : HeadBlock). b.stored) in_register) s.progress starts_told kept_told whole_told
+    pub keeps_history : Keeps buffer_state h
+    keeps_history = keeps_started heads blocks kept_stop h held buffer_state same_buffer same_cycle
+        same_used (ap (λ (b : HeadBlock). b.begun) in_buffer_state)
+        (ap (λ (b : HeadBlock). b.stored) in_buffer_state) s.progress starts_told
+        kept_told whole_told
 
-    pub holds_history : Holds blocks register h
-    holds_history = holds_started heads blocks kept_stop h held register same_buffer same_cycle
-        same_used (ap (λ (b : HeadBlock). b.begun) in_register)
-        (ap (λ (b : HeadBlock). b.stored) in_register) s.progress starts_told kept_told whole_told
+    pub holds_history : Holds blocks buffer_state h
+    holds_history = holds_started heads blocks kept_stop h held buffer_state same_buffer same_cycle
+        same_used (ap (λ (b : HeadBlock). b.begun) in_buffer_state)
+        (ap (λ (b : HeadBlock). b.stored) in_buffer_state) s.progress starts_told
+        kept_told whole_told
 
     -- a listed token is of a live finished article
     listed_live : (t : Token) → Contains tokens t → IsLiveToken h (token_view t)
     listed_live t c =
-        let w = listed_whole heads blocks s.numbers register.starts.words.items tokens s.some_kept
-        register.kept.words.items s.bits s.sound s.unkept s.all t c in
+        let w = listed_whole heads blocks s.numbers buffer_state.starts.words.items
+        tokens s.some_kept
+        buffer_state.kept.words.items s.bits s.sound s.unkept s.all t c in
         let whole = subst (λ (n : HeadBlock). IsWhole heads blocks n (token_view t)) same w.whole in
         let read = subst (λ (n : HeadBlock). IsReadFirst heads blocks n.cycle n.head (token_view t))
         same w.read in
@@ -161,8 +164,8 @@ module _ (heads blocks : List (List ℕ)) (buffer : Buffer) (stop : ℕ) (regist
         l.live.begun l.live.here in
         let whole = whole_live heads blocks kept_stop h held t.cycle t.first l.article l.finished
         unpassed in
-        whole_listed heads blocks s.numbers register.starts.words.items tokens s.some_kept
-        register.kept.words.items s.bits s.sound s.unkept s.all t
+        whole_listed heads blocks s.numbers buffer_state.starts.words.items tokens s.some_kept
+        buffer_state.kept.words.items s.bits s.sound s.unkept s.all t
         (subst (λ (n : HeadBlock). IsWhole heads blocks n (token_view t)) (sym same)
         (subst (λ (u : terms.Token). IsWhole heads blocks (numbers_of Closed kept_stop h) u)
         (λ i. record {
@@ -177,8 +180,8 @@ module _ (heads blocks : List (List ℕ)) (buffer : Buffer) (stop : ℕ) (regist
     lists_live = record {
       all = λ t. (listed_live t, live_listed t);
       rising = subst (λ (b : HeadBlock). IsRising b.blocks (map token_view tokens)) same
-          (all_rising heads blocks s.numbers register.starts.words.items tokens s.some_kept
-          register.kept.words.items s.bits s.sound s.unkept s.all);
+          (all_rising heads blocks s.numbers buffer_state.starts.words.items tokens s.some_kept
+          buffer_state.kept.words.items s.bits s.sound s.unkept s.all);
     }
 
 -- a refusal's cause

@@ -4,7 +4,7 @@ use Rattle.std.proofs.Common.{length, Some}
 use Rattle.std.specs.List.{AllByRecursion}
 use Rattle.news_terms.specs.Places.{Buffer, size_of}
 use Rattle.cyc_buffer.specs.History.{Article, Begin, head_of, is_at, finished_at}
-use Rattle.cyc_buffer.specs.Register.{IsSized}
+use Rattle.cyc_buffer.specs.BufferState.{IsSized}
 use Rattle.cyc_buffer.proofs.Places.{placed, chosen}
 use Rattle.cyc_buffer.proofs.Finished.{Lies, lies, place_of, at_parts, none_is_none}
 

@@ -6,15 +6,15 @@ use Rattle.std.proofs.lemmas.Bool.{cond-false, false≢true}
 use Rattle.news_terms.specs.Places.{Buffer, Head, size_of}
 use Rattle.cyc_buffer.specs.History.{Article, Begin, head_of, finished_at}
 use Rattle.news_terms.specs.Picks.{place_after, head_past}
-use Rattle.cyc_buffer.specs.Register.{IsStart, IsKept, IsKeptWhole, IsUnpassed, Writes, Keeps}
-use Rattle.cyc_buffer.specs.Register.{IsUnpassedBy, buffer_of, line_head, is_passed, mark_passed}
+use Rattle.cyc_buffer.specs.BufferState.{IsStart, IsKept, IsKeptWhole, IsUnpassed, Writes, Keeps}
+use Rattle.cyc_buffer.specs.BufferState.{IsUnpassedBy, buffer_of, line_head, is_passed, mark_passed}
 use Rattle.cyc_buffer.specs.History.{History, with_begin}
 use Rattle.cyc_buffer.specs.Marks.{is_marked}
 use Rattle.cyc_buffer.specs.Progress.{started}
-use Rattle.cyc_buffer.specs.declared.register.Register.{Register}
+use Rattle.cyc_buffer.specs.declared.buffer_state.BufferState.{BufferState}
 use Rattle.cyc_token.specs.Token.{token_view}
 use Rattle.news_terms.specs.Token as tokens
-use Rattle.cyc_buffer.specs.declared.register.Progress.{Progress}
+use Rattle.cyc_buffer.specs.declared.buffer_state.Progress.{Progress}
 use Rattle.cyc_token.specs.declared.Token.{Token}
 use Rattle.cyc_buffer.proofs.Places.{passes}
 use Rattle.cyc_buffer.proofs.Keeping.{as_cycles, place_shifted, block_before, block_after, line_is}
@@ -42,7 +42,7 @@ token_of class buffer cycle first octets =
 size_some : (octets : ℕ) → 1 ≤ octets → 1 ≤ size_of octets
 size_some octets h = omega (arith, h)
 
-module _ (old new : Register) (h : History) (class octets : ℕ) (fresh : Bool) (at : Head)
+module _ (old new : BufferState) (h : History) (class octets : ℕ) (fresh : Bool) (at : Head)
     (token : Token)
     (some : 1 ≤ octets) (class_fits : class < 2 ^ 8) (octets_fit : octets < 2 ^ 32)
     (room : size_of octets ≤ old.line.blocks)

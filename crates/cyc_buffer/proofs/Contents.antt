@@ -10,11 +10,11 @@ use Rattle.cyc_buffer.specs.Agreement.{Holds, HoldsOpen, open_block}
 use Rattle.cyc_buffer.specs.History.{Article, Begin, Writing, History, finished_at, with_begin}
 use Rattle.cyc_buffer.specs.History.{with_finish}
 use Rattle.cyc_buffer.specs.Progress.{IsTheOpen, written_of}
-use Rattle.cyc_buffer.specs.Register.{IsUnpassed, IsUnpassedBy, Writes, Keeps}
+use Rattle.cyc_buffer.specs.BufferState.{IsUnpassed, IsUnpassedBy, Writes, Keeps}
 use Rattle.cyc_buffer.specs.declared.line.Line.{Line}
-use Rattle.cyc_buffer.specs.declared.register.Open.{Open}
-use Rattle.cyc_buffer.specs.declared.register.Progress.{Progress}
-use Rattle.cyc_buffer.specs.declared.register.Register.{Register}
+use Rattle.cyc_buffer.specs.declared.buffer_state.Open.{Open}
+use Rattle.cyc_buffer.specs.declared.buffer_state.Progress.{Progress}
+use Rattle.cyc_buffer.specs.declared.buffer_state.BufferState.{BufferState}
 use Rattle.cyc_buffer.proofs.Finished.{at_parts}
 use Rattle.cyc_buffer.proofs.Keeping.{block_before, line_is}
 use Rattle.cyc_buffer.proofs.Finishing.{newest, place, finished_now, old_history, whole_text}
@@ -31,7 +31,7 @@ none_held blocks None w e = tt
 none_held blocks (Some p) w e = λ k h. absurd (omega (arith, h, e))
 
 -- after a begin the blocks hold what isn't passed
-pub holds_begin : (blocks : List (List ℕ)) (old new : Register) (h : History) (class octets : ℕ)
+pub holds_begin : (blocks : List (List ℕ)) (old new : BufferState) (h : History) (class octets : ℕ)
     (fresh : Bool)
     → Keeps old h → Keeps new (with_begin class octets fresh h) → Holds blocks old h
     → Holds blocks new (with_begin class octets fresh h)
@@ -80,7 +80,7 @@ article_block p w cycle first k same_cycle same_first whole =
     ∙ ap (λ n. made cycle n w.octets w.class k w.text) same_first
     ∙ ap (λ n. made cycle first n w.class k w.text) (sym whole)
 
-module _ (blocks : List (List ℕ)) (old new : Register) (h : History) (write : Open)
+module _ (blocks : List (List ℕ)) (old new : BufferState) (h : History) (write : Open)
     (keeps : Keeps old h)
     (line : new.line ≡ old.line) (holds : Holds blocks old h) where
   finish_holds_by : (p : Option Progress) (o : Option Writing) → h.writing ≡ o → old.progress ≡ p

@@ -7,7 +7,7 @@ use Rattle.std.proofs.lemmas.Bool.{false_from_ne_true}
 use Rattle.news_terms.specs.Places.{Buffer, Head, size_of}
 use Rattle.cyc_buffer.specs.History.{Article, Begin, head_of, is_at, finished_at}
 use Rattle.news_terms.specs.Picks.{place_after, head_past}
-use Rattle.cyc_buffer.specs.Register.{IsSized, HasItsSize, IsOfSize}
+use Rattle.cyc_buffer.specs.BufferState.{IsSized, HasItsSize, IsOfSize}
 use Rattle.cyc_buffer.proofs.Places.{IsPlaced, placed, placed_within, chosen}
 
 -- where the next begin of these goes

@@ -9,15 +9,15 @@ use Rattle.news_terms.specs.Places.{Buffer, Head, size_of}
 use Rattle.cyc_buffer.specs.History.{Article, Begin, Writing, History, head_of, is_at, finished_at}
 use Rattle.cyc_buffer.specs.History.{with_finish, token_at, stored_count}
 use Rattle.news_terms.specs.Picks.{place_after}
-use Rattle.cyc_buffer.specs.Register.{IsStart, IsKept, IsKeptWhole, IsUnpassed, Writes, Keeps}
-use Rattle.cyc_buffer.specs.Register.{buffer_of}
+use Rattle.cyc_buffer.specs.BufferState.{IsStart, IsKept, IsKeptWhole, IsUnpassed, Writes, Keeps}
+use Rattle.cyc_buffer.specs.BufferState.{buffer_of}
 use Rattle.cyc_buffer.specs.Marks.{is_marked, is_among, marked_after}
 use Rattle.cyc_buffer.specs.Progress.{IsTheOpen, written_of}
 use Rattle.cyc_buffer.specs.declared.line.Line.{Line}
-use Rattle.cyc_buffer.specs.declared.register.Open.{Open}
+use Rattle.cyc_buffer.specs.declared.buffer_state.Open.{Open}
 use Rattle.news_terms.specs.Token as tokens
-use Rattle.cyc_buffer.specs.declared.register.Progress.{Progress}
-use Rattle.cyc_buffer.specs.declared.register.Register.{Register}
+use Rattle.cyc_buffer.specs.declared.buffer_state.Progress.{Progress}
+use Rattle.cyc_buffer.specs.declared.buffer_state.BufferState.{BufferState}
 use Rattle.cyc_token.specs.Token.{token_view}
 use Rattle.cyc_buffer.proofs.Places.{chosen}
 use Rattle.cyc_buffer.proofs.Finished.{none_is_none, same_some, at_parts, at_itself}
@@ -96,7 +96,8 @@ module _ (buffer : Buffer) (earlier : List Begin) (fresh : Bool) (w : Writing) w
   abbrev pub new_history : History
   new_history = record { buffer = buffer; begins = done ∷ earlier; writing = None }
 
-module _ (old new : Register) (buffer : Buffer) (earlier : List Begin) (fresh : Bool) (w : Writing)
+module _ (old new : BufferState) (buffer : Buffer) (earlier : List Begin)
+    (fresh : Bool) (w : Writing)
     (keeps : Keeps old (old_history buffer earlier fresh w))
     (some : 1 ≤ w.octets) (class_fits : w.class < 2 ^ 8) (octets_fit : w.octets < 2 ^ 32)
     (whole : length w.text ≡ w.octets)
@@ -271,7 +272,7 @@ module _ (old new : Register) (buffer : Buffer) (earlier : List Begin) (fresh : 
   }
 
 -- A finish of the open write that a history has.
-module _ (old new : Register) (h : History) (write : Open) (keeps : Keeps old h)
+module _ (old new : BufferState) (h : History) (write : Open) (keeps : Keeps old h)
     (line : new.line ≡ old.line)
     (starts : (j : ℕ) → is_marked new.starts.words.items j
     ≡ marked_after write.token.first (write.token.first + 1) true j

@@ -5,9 +5,9 @@ use Rattle.std.specs.List.{AllByRecursion}
 use Rattle.news_terms.specs.Places.{Buffer, Head, size_of}
 use Rattle.cyc_buffer.specs.History.{Article, Begin, head_of, finished_at}
 use Rattle.news_terms.specs.Picks.{place_after}
-use Rattle.cyc_buffer.specs.Register.{IsSized, IsUnpassedBy, Keeps, line_head}
+use Rattle.cyc_buffer.specs.BufferState.{IsSized, IsUnpassedBy, Keeps, line_head}
 use Rattle.cyc_buffer.specs.History.{History}
-use Rattle.cyc_buffer.specs.declared.register.Register.{Register}
+use Rattle.cyc_buffer.specs.declared.buffer_state.BufferState.{BufferState}
 use Rattle.cyc_buffer.proofs.Places.{IsPlaced, IsPast, placed, passes, held_before}
 use Rattle.cyc_buffer.proofs.Places.{held_after}
 use Rattle.cyc_buffer.proofs.Finished.{Lies, lies, was_finished, stays_finished}
@@ -123,7 +123,7 @@ block_after buffer begins b since first index article sized finished inside held
     )
 
 -- the head that a register agrees with, as its line has it
-pub line_is : (r : Register) (h : History) → Keeps r h
+pub line_is : (r : BufferState) (h : History) → Keeps r h
     → line_head r.line ≡ as_cycles h.buffer (head_of h.buffer.blocks h.begins)
 line_is r h keeps = ap (λ n. head_at n r.line.used) keeps.cycle
     ∙ ap (head_at (h.buffer.first_cycle + (head_of h.buffer.blocks h.begins).run)) keeps.used

@@ -20,5 +20,5 @@ pub mod Whole
 pub mod BitLemmas
 mod Restored
 pub mod Answered
-pub mod SameRegister
+pub mod SameBufferState
 pub mod RememberedLemmas

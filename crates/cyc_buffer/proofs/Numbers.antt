@@ -13,14 +13,14 @@ use Rattle.cyc_buffer.specs.Answers.{Chunk, Gone, Unknown, is_beyond, by_numbers
 use Rattle.cyc_buffer.specs.Answers.{front_view}
 use Rattle.cyc_buffer.specs.History.{History, front_of, head_of}
 use Rattle.cyc_buffer.specs.Look.{numbers_of}
-use Rattle.cyc_buffer.specs.Register.{Keeps, buffer_of}
+use Rattle.cyc_buffer.specs.BufferState.{Keeps, buffer_of}
 use Rattle.cyc_buffer.specs.declared.answers.Front.{Front}
-use Rattle.cyc_buffer.specs.declared.register.Register.{Register}
+use Rattle.cyc_buffer.specs.declared.buffer_state.BufferState.{BufferState}
 use Rattle.cyc_buffer.proofs.Places.{chosen}
 use Rattle.cyc_buffer.proofs.Finished.{none_is_none}
 
 -- the numbers of a register are those of the history that it agrees with
-pub numbers_same : (r : Register) (h : History) (token : Token) (k : ℕ) → Keeps r h
+pub numbers_same : (r : BufferState) (h : History) (token : Token) (k : ℕ) → Keeps r h
     → numbers_of r token k ≡ by_numbers h.buffer (front_of h) (token_view token) k
 numbers_same r h token k keeps =
     ap (λ n. by_numbers (buffer_of r.line) (on_line r.line.blocks n r.line.used) (token_view token)
@@ -157,7 +157,7 @@ gone_front buffer front token k passed e =
     same_gone e = cc
 
 -- the front of a history is that of the register that agrees with it
-pub front_same : (r : Register) (h : History) → Keeps r h
+pub front_same : (r : BufferState) (h : History) → Keeps r h
     → front_of h ≡ on_line h.buffer.blocks r.line.cycle r.line.used
 front_same r h keeps =
     ap (λ n. on_line h.buffer.blocks n (head_of h.buffer.blocks h.begins).used) (sym keeps.cycle)

@@ -10,11 +10,11 @@ use Rattle.cyc_buffer.specs.Agreement.{Agrees, IsOpenAs, CanWrite, CanFinish, to
 use Rattle.cyc_buffer.specs.History.{Begin, History, Writing, open_token, token_of_open}
 use Rattle.cyc_buffer.specs.History.{newest_token}
 use Rattle.cyc_buffer.specs.Progress.{has_failed, written_of}
-use Rattle.cyc_buffer.specs.Register.{Writes}
+use Rattle.cyc_buffer.specs.BufferState.{Writes}
 use Rattle.cyc_buffer.specs.declared.buffer.Buffer.{Buffer}
 use Rattle.cyc_buffer.specs.Progress.{IsTheOpen, end_of, start_of, open_count}
-use Rattle.cyc_buffer.specs.declared.register.Open.{Open}
-use Rattle.cyc_buffer.specs.declared.register.Progress.{Progress}
+use Rattle.cyc_buffer.specs.declared.buffer_state.Open.{Open}
+use Rattle.cyc_buffer.specs.declared.buffer_state.Progress.{Progress}
 use Rattle.cyc_buffer.proofs.Finished.{same_some}
 
 -- its article ends where the register says
@@ -75,8 +75,8 @@ pub is_open : {S : Type 0} {g : Ghosts S} (buffer : Buffer S g) (write : Open) (
     (h : History) (w : Writing) → Agrees trusted buffer h → h.writing ≡ Some w
     → Some (token_view (token_of write)) ≡ open_token h → IsOpenAs buffer write w
 is_open buffer write trusted h w agrees writing token =
-    let known = progress_as h write w buffer.register.progress
-    (subst (Writes h buffer.register.progress) writing agrees.keeps.writing)
+    let known = progress_as h write w buffer.buffer_state.progress
+    (subst (Writes h buffer.buffer_state.progress) writing agrees.keeps.writing)
     (token ∙ ap (token_of_open h.buffer h.begins) writing) in
     record {
       owned = known.owned;

@@ -7,7 +7,7 @@ use Rattle.std.proofs.lemmas.Bool.{or_parts, or_from, not-false, not_from_true}
 use Rattle.news_terms.specs.Places.{Head, place_in_runs}
 use Rattle.news_terms.specs.Picks.{place_after}
 use Rattle.cyc_buffer.specs.Marks.{is_among}
-use Rattle.cyc_buffer.specs.Register.{IsUnpassedBy}
+use Rattle.cyc_buffer.specs.BufferState.{IsUnpassedBy}
 
 -- a begin goes right behind the head, or to the front of the next run
 abbrev pub IsPlaced : (blocks : ℕ) → Head → (size : ℕ) → Head → Type 0

@@ -20,10 +20,10 @@ use Rattle.cyc_buffer.specs.History.{text_of}
 use Rattle.cyc_buffer.specs.Look.{look_by, look_of, has_marks, numbers_of}
 use Rattle.cyc_buffer.specs.Marks.{is_marked}
 use Rattle.cyc_buffer.specs.Progress.{stamp_of}
-use Rattle.cyc_buffer.specs.Register.{IsUnpassed, Keeps, buffer_of}
+use Rattle.cyc_buffer.specs.BufferState.{IsUnpassed, Keeps, buffer_of}
 use Rattle.cyc_buffer.specs.declared.answers.Found.TheVariants as found
-use Rattle.cyc_buffer.specs.declared.register.Look.TheVariants as look
-use Rattle.cyc_buffer.specs.declared.register.Register.{Register}
+use Rattle.cyc_buffer.specs.declared.buffer_state.Look.TheVariants as look
+use Rattle.cyc_buffer.specs.declared.buffer_state.BufferState.{BufferState}
 use Rattle.cyc_buffer.proofs.Places.{chosen, one_cycle}
 use Rattle.cyc_buffer.proofs.Finished.{none_is_none, same_some, lies}
 use Rattle.cyc_buffer.proofs.Numbers.{Undecided, undecided, numbers_same, no_chunk, front_same}
@@ -83,7 +83,7 @@ is_under h token a number finished class octets =
     (eq-eqb a.class token.class class) (eq-eqb (length a.text) token.length octets))
 
 -- What is known where the numbers don't decide.
-module _ (r : Register) (h : History) (token : Token) (k : ℕ) (keeps : Keeps r h)
+module _ (r : BufferState) (h : History) (token : Token) (k : ℕ) (keeps : Keeps r h)
     (room : r.line.used ≤ r.line.blocks)
     (numbers : numbers_of r token k ≡ None) where
   open_numbers : Undecided (buffer_of r.line) (on_line r.line.blocks r.line.cycle r.line.used)
@@ -177,7 +177,7 @@ look_block (Some (Gone front)) m block b e = absurd cc
 look_block (Some Unknown) m block b e = absurd cc
 
 -- where the register says that nothing is known, that is the answer
-pub unknown_answer : (r : Register) (h : History) (token : Token) (k : ℕ) → Keeps r h
+pub unknown_answer : (r : BufferState) (h : History) (token : Token) (k : ℕ) → Keeps r h
     → r.line.used ≤ r.line.blocks
     → look.Unknown ≡ look_of r token k → answer h (token_view token) k ≡ Unknown
 unknown_answer r h token k keeps room e =
@@ -197,7 +197,7 @@ unknown_answer r h token k keeps room e =
         (sym (numbers_same r h token k keeps) ∙ is)
 
 -- where the register says that an article is gone, that is the answer
-pub gone_answer : (r : Register) (h : History) (token : Token) (k : ℕ) → Keeps r h
+pub gone_answer : (r : BufferState) (h : History) (token : Token) (k : ℕ) → Keeps r h
     → look.Gone ≡ look_of r token k
     → answer h (token_view token) k
     ≡ Gone (front_view (buffer_of r.line) (on_line r.line.blocks r.line.cycle r.line.used))
@@ -233,7 +233,7 @@ is_block cycle first k a cycle_fits place_fits class octets inside = record {
 }
 
 -- What is found in a block that was read.
-module _ (r : Register) (h : History) (token : Token) (k : ℕ) (keeps : Keeps r h)
+module _ (r : BufferState) (h : History) (token : Token) (k : ℕ) (keeps : Keeps r h)
     (room : r.line.used ≤ r.line.blocks)
     (blocks : List (List ℕ)) (holds : Holds blocks r h) (cycle_fits : r.line.cycle < 2 ^ 32)
     (blocks_fit : r.line.blocks < 2 ^ 32)
@@ -325,7 +325,7 @@ module _ (r : Register) (h : History) (token : Token) (k : ℕ) (keeps : Keeps r
       by_none (Some text) e = absurd (none text e)
 
 -- What is known of a block that may be a finished article's.
-module _ (r : Register) (h : History) (block : ℕ) (keeps : Keeps r h)
+module _ (r : BufferState) (h : History) (block : ℕ) (keeps : Keeps r h)
     (room : r.line.used ≤ r.line.blocks)
     (within : block < r.line.blocks) where
   same_blocks : h.buffer.blocks ≡ r.line.blocks
@@ -377,7 +377,7 @@ module _ (r : Register) (h : History) (block : ℕ) (keeps : Keeps r h)
       })
 
 -- where the block is to be read, neither the numbers nor the marks decide
-pub not_unread : (r : Register) (h : History) (token : Token) (k : ℕ) → Keeps r h
+pub not_unread : (r : BufferState) (h : History) (token : Token) (k : ℕ) → Keeps r h
     → r.line.used ≤ r.line.blocks
     → numbers_of r token k ≡ None → has_marks r token k ≡ true → IsUnread h (token_view token) k → ⊥
 not_unread r h token k keeps room numbers marks (inl e) =
@@ -393,7 +393,7 @@ not_unread r h token k keeps room numbers marks (inr (inr none)) =
     m.1)
 
 -- where it is said to be read, the register looks it up
-pub looked_up : (r : Register) (h : History) (token : Token) (k : ℕ) → Keeps r h
+pub looked_up : (r : BufferState) (h : History) (token : Token) (k : ℕ) → Keeps r h
     → r.line.used ≤ r.line.blocks
     → IsRead h (token_view token) k → look_of r token k ≡ look.Block (token.first + k)
 looked_up r h token k keeps room read =

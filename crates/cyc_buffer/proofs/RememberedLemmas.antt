@@ -11,17 +11,17 @@ use Rattle.cyc_buffer.specs.Answers.{Answer, Chunk, Gone, Unknown, front_view}
 use Rattle.cyc_buffer.specs.Answers.{is_beyond}
 use Rattle.cyc_buffer.specs.Look.{look_by, look_of, has_marks, numbers_of}
 use Rattle.cyc_buffer.specs.Marks.{is_marked}
-use Rattle.cyc_buffer.specs.Register.{buffer_of}
+use Rattle.cyc_buffer.specs.BufferState.{buffer_of}
 use Rattle.cyc_buffer.specs.Remembered.{ListsStarts, AreWithin}
 use Rattle.cyc_buffer.specs.declared.answers.Front.{Front}
-use Rattle.cyc_buffer.specs.declared.register.Look.TheVariants as look
-use Rattle.cyc_buffer.specs.declared.register.Register.{Register}
+use Rattle.cyc_buffer.specs.declared.buffer_state.Look.TheVariants as look
+use Rattle.cyc_buffer.specs.declared.buffer_state.BufferState.{BufferState}
 use Rattle.news_terms.specs.Places.{Buffer, on_line}
 use Rattle.cyc_buffer.proofs.Numbers.{undecided}
 use Rattle.cyc_buffer.proofs.Reading.{look_block}
 
 -- what is gone is so by the numbers
-pub gone_numbers : (r : Register) (token : Token) (k : ℕ) → look_of r token k ≡ look.Gone
+pub gone_numbers : (r : BufferState) (token : Token) (k : ℕ) → look_of r token k ≡ look.Gone
     → numbers_of r token k
     ≡ Some (Gone (front_view (buffer_of r.line) (on_line r.line.blocks r.line.cycle r.line.used)))
 gone_numbers r token k is =
@@ -52,12 +52,13 @@ gone_numbers r token k is =
         (nat_lt (on_line buffer.blocks token.cycle token.first + buffer.blocks) front) f is))
 
 -- a block is read of the buffer's articles alone, where one begins
-pub read_within : (r : Register) (token : Token) (k block : ℕ)
+pub read_within : (r : BufferState) (token : Token) (k block : ℕ)
     → look.Block block ≡ look_of r token k
     → (token.buffer ≡ r.line.number) × (is_marked r.starts.words.items token.first ≡ true)
     × (token.first < r.line.blocks)
 read_within r token k block is =
-    let known = look_block (numbers_of r token k) (has_marks r token k) (token.first + k) block is in
+    let known = look_block (numbers_of r token k) (has_marks r token k)
+    (token.first + k) block is in
     let marks = and_parts (is_marked r.starts.words.items token.first)
     (is_marked r.kept.words.items (token.first + k)) known.1 in
     let u = undecided (buffer_of r.line) (on_line r.line.blocks r.line.cycle r.line.used)

@@ -12,7 +12,7 @@ use Rattle.news_terms.specs.Token as tokens
 use Rattle.cyc_block.specs.Store.{block_at}
 use Rattle.cyc_buffer.specs.History.{Article, Begin, History, head_of, cycle_of, finished_at}
 use Rattle.cyc_buffer.specs.History.{is_at, is_stored, stored_count}
-use Rattle.cyc_buffer.specs.Register.{IsSized, IsUnpassedBy}
+use Rattle.cyc_buffer.specs.BufferState.{IsSized, IsUnpassedBy}
 use Rattle.cyc_buffer.specs.Stopped.{HoldsStopped, has_bit, used_of}
 use Rattle.cyc_buffer.specs.Stopped.{numbers_of, passed_blocks, end_by, IsImageUnder, IsWhole}
 use Rattle.cyc_buffer.specs.Stopped.{IsDamaged, HeadAbove, CycleBelow, BegunAbove, StoredAbove}

@@ -8,11 +8,11 @@ use Rattle.cyc_block.specs.Store.{block_at}
 use Rattle.cyc_buffer.specs.Agreement.{Holds, HoldsOpen}
 use Rattle.cyc_buffer.specs.History.{Article, Writing, History, finished_at, cycle_of, stored_count}
 use Rattle.cyc_buffer.specs.Marks.{is_marked}
-use Rattle.cyc_buffer.specs.Register.{Keeps, Writes, IsStart, IsKept, IsKeptWhole, IsUnpassed}
-use Rattle.cyc_buffer.specs.Register.{IsUnpassedBy, buffer_of}
+use Rattle.cyc_buffer.specs.BufferState.{Keeps, Writes, IsStart, IsKept, IsKeptWhole, IsUnpassed}
+use Rattle.cyc_buffer.specs.BufferState.{IsUnpassedBy, buffer_of}
 use Rattle.cyc_buffer.specs.Stopped.{HoldsStopped, has_bit, used_of}
-use Rattle.cyc_buffer.specs.declared.register.Progress.{Progress}
-use Rattle.cyc_buffer.specs.declared.register.Register.{Register}
+use Rattle.cyc_buffer.specs.declared.buffer_state.Progress.{Progress}
+use Rattle.cyc_buffer.specs.declared.buffer_state.BufferState.{BufferState}
 use Rattle.cyc_buffer.proofs.Places.{moved, one_cycle}
 use Rattle.cyc_buffer.proofs.Finished.{lies, same_some}
 use Rattle.cyc_buffer.proofs.Contents.{no_open}
@@ -101,7 +101,7 @@ module _ (heads blocks : List (List ℕ)) (stop : ℕ) (h : History)
         | inr u ↦ inr (u.0, omega (arith, u.1))
       ]
 
-  module _ (r : Register)
+  module _ (r : BufferState)
       (buffer : h.buffer ≡ buffer_of r.line)
       (cycle : r.line.cycle ≡ cycle_of h)
       (used : r.line.used ≡ used_of h)

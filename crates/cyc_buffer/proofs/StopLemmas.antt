@@ -15,12 +15,12 @@ use Rattle.cyc_buffer.specs.Agreement.{Follows, Holds}
 use Rattle.cyc_buffer.specs.Head.{LeavesBuffer, LeavesBlocks}
 use Rattle.cyc_buffer.specs.History.{Writing, History, cycle_of}
 use Rattle.cyc_buffer.specs.Marks.{is_marked, is_told}
-use Rattle.cyc_buffer.specs.Register.{Keeps, Writes, numbers_in}
+use Rattle.cyc_buffer.specs.BufferState.{Keeps, Writes, numbers_in}
 use Rattle.cyc_buffer.specs.Stopped.{HoldsStopped, TellsStarts, BeginsLive, has_bit, used_of}
 use Rattle.cyc_buffer.specs.Stopped.{numbers_of}
 use Rattle.cyc_buffer.specs.declared.buffer.Buffer as buffers
-use Rattle.cyc_buffer.specs.declared.register.Progress.{Progress}
-use Rattle.cyc_buffer.specs.declared.register.Register.{Register}
+use Rattle.cyc_buffer.specs.declared.buffer_state.Progress.{Progress}
+use Rattle.cyc_buffer.specs.declared.buffer_state.BufferState.{BufferState}
 use Rattle.cyc_buffer.proofs.Places.{moved}
 use Rattle.cyc_buffer.proofs.Writes.{without_error}
 
@@ -39,7 +39,7 @@ numbers_with state stop buffer cycle head begun stored = record {
 }
 
 -- a register and a history that it agrees with say the same numbers
-pub same_numbers : (r : Register) (h : History) (state : HeadState) (stop : ℕ) → Keeps r h
+pub same_numbers : (r : BufferState) (h : History) (state : HeadState) (stop : ℕ) → Keeps r h
     → numbers_in r state stop ≡ numbers_of state stop h
 same_numbers r h state stop keeps =
     ap (λ (b : Buffer). numbers_with state stop b r.line.cycle r.line.used r.counts.begun
@@ -101,7 +101,7 @@ pub none_of : {A : Type 0} (o : Option A) → is_some o ≡ false → o ≡ None
 none_of None e = refl
 none_of (Some a) e = absurd (true≢false e)
 
-module _ (r : Register) (heads : List (List ℕ)) (h : History) (keeps : Keeps r h)
+module _ (r : BufferState) (heads : List (List ℕ)) (h : History) (keeps : Keeps r h)
     (bitmap : IsBitmap heads r.starts.words.items r.line.blocks) where
   same_count : h.buffer.blocks ≡ r.line.blocks
   same_count = ap (λ (b : Buffer). b.blocks) keeps.buffer
@@ -152,7 +152,7 @@ module _ (r : Register) (heads : List (List ℕ)) (h : History) (keeps : Keeps r
   }
 
 -- numbers, bitmap and blocks hold the buffer as stopped
-pub holds_stopped : (r : Register) (heads blocks : List (List ℕ)) (stop : ℕ) (h : History)
+pub holds_stopped : (r : BufferState) (heads blocks : List (List ℕ)) (stop : ℕ) (h : History)
     → Keeps r h → Holds blocks r h → r.progress ≡ None → length blocks ≡ r.line.blocks
     → IsHeadBlock (numbers_in r Closed stop)
     → block_at heads 0 ≡ head_image (numbers_in r Closed stop)
@@ -183,9 +183,9 @@ leaves_twice g old mid new first second = record {
 pub still_agrees : {S : Type 0} {g : Ghosts S} (old new : buffers.Buffer S g)
     → LeavesBuffer old new → Follows (λ h. h) old new
 still_agrees {g = g} old new left trusted h agrees = record {
-  keeps = subst (λ (r : Register). Keeps r h) (sym left.register) agrees.keeps;
+  keeps = subst (λ (r : BufferState). Keeps r h) (sym left.buffer_state) agrees.keeps;
   honest = λ is. left.store.honest (agrees.honest is);
-  holds = λ is. subst (λ (r : Register). Holds (g.blocks new.store) r h) (sym left.register)
-      (subst (λ (blocks : List (List ℕ)). Holds blocks old.register h)
+  holds = λ is. subst (λ (r : BufferState). Holds (g.blocks new.store) r h) (sym left.buffer_state)
+      (subst (λ (blocks : List (List ℕ)). Holds blocks old.buffer_state h)
       (sym (left.store.blocks (agrees.honest is))) (agrees.holds is));
 }

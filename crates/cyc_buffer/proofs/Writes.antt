@@ -19,14 +19,14 @@ use Rattle.cyc_buffer.specs.History.{Article, Begin, Writing, History, head_of, 
 use Rattle.cyc_buffer.specs.History.{token_at, with_next_block, as_broken, changed}
 use Rattle.cyc_buffer.specs.Marks.{is_marked}
 use Rattle.cyc_buffer.specs.Progress.{IsTheOpen, written_of, counted, failed, stamp_of}
-use Rattle.cyc_buffer.specs.Register.{IsSized, IsUnpassed, IsWriting, Writes, Keeps, Stays}
-use Rattle.cyc_buffer.specs.Register.{buffer_of}
+use Rattle.cyc_buffer.specs.BufferState.{IsSized, IsUnpassed, IsWriting, Writes, Keeps, Stays}
+use Rattle.cyc_buffer.specs.BufferState.{buffer_of}
 use Rattle.cyc_buffer.specs.declared.line.Line.{Line}
 use Rattle.cyc_buffer.specs.declared.marks.Marks.{Marks}
-use Rattle.cyc_buffer.specs.declared.register.Counts.{Counts}
-use Rattle.cyc_buffer.specs.declared.register.Open.{Open}
-use Rattle.cyc_buffer.specs.declared.register.Progress.{Progress}
-use Rattle.cyc_buffer.specs.declared.register.Register.{Register}
+use Rattle.cyc_buffer.specs.declared.buffer_state.Counts.{Counts}
+use Rattle.cyc_buffer.specs.declared.buffer_state.Open.{Open}
+use Rattle.cyc_buffer.specs.declared.buffer_state.Progress.{Progress}
+use Rattle.cyc_buffer.specs.declared.buffer_state.BufferState.{BufferState}
 use Rattle.cyc_buffer.proofs.Places.{placed}
 use Rattle.cyc_buffer.proofs.Finished.{lies, was_finished}
 use Rattle.cyc_buffer.proofs.Finishing.{newest, place, history_of}
@@ -45,7 +45,7 @@ block_with cycle first k octets class payload =
 
 -- A register of which the progress alone is changed agrees with what is changed of the open write
 -- alone.
-pub keeps_stays : (old new : Register) (h : History) (o : Option Writing) → Stays old new
+pub keeps_stays : (old new : BufferState) (h : History) (o : Option Writing) → Stays old new
     → Writes (history_of h.buffer h.begins o) new.progress o → Keeps old h
     → Keeps new (history_of h.buffer h.begins o)
 keeps_stays old new h o stays writes keeps = record {
@@ -171,7 +171,7 @@ chunk_next w text k h =
     sym (chunk_of_front k (chunk_size * (w.blocks + 1)) text (inl (omega (arith, h))))
 
 -- What a write of one block leaves, where the open write is this one.
-module _ (old new : Register) (h : History) (write : Open) (p : Progress) (w : Writing)
+module _ (old new : BufferState) (h : History) (write : Open) (p : Progress) (w : Writing)
     (keeps : Keeps old h) (stays : Stays old new) (writes : IsWriting h p w)
     (the_open : p.token ≡ write.token) (left : p.written < size_of write.token.length) where
   abbrev at : Head
@@ -354,7 +354,7 @@ image_there blocks after stamp token k image payload text is within same imaged 
     ∙ ap (λ (s : Stamp). block_image (stamped s (chunk s.index text))) same
 
 -- What a write of one block leaves of a register and blocks that agree with a history.
-module _ (honest : Type 0) (blocks after : List (List ℕ)) (old new : Register) (h : History)
+module _ (honest : Type 0) (blocks after : List (List ℕ)) (old new : BufferState) (h : History)
     (write : Open)
     (keeps : Keeps old h) (holds : honest → Holds blocks old h) (stays : Stays old new) where
   pub fails_by : (p : Option Progress) (o : Option Writing) → h.writing ≡ o → old.progress ≡ p

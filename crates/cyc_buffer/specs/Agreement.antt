@@ -5,12 +5,12 @@ use Rattle.cyc_block.specs.Store.{block_at}
 use Rattle.cyc_block.specs.declared.store.BlockStore.{Ghosts}
 use Rattle.cyc_buffer.specs.History.{Article, Writing, History, finished_at}
 use Rattle.cyc_buffer.specs.Progress.{IsTheOpen, written_of, has_failed, CanWriteOn, CanFinishOn}
-use Rattle.cyc_buffer.specs.Register.{Keeps, IsUnpassed}
+use Rattle.cyc_buffer.specs.BufferState.{Keeps, IsUnpassed}
 use Rattle.cyc_token.specs.declared.Token.{Token}
 use Rattle.cyc_buffer.specs.declared.buffer.Buffer.{Buffer}
-use Rattle.cyc_buffer.specs.declared.register.Open.{Open}
-use Rattle.cyc_buffer.specs.declared.register.Progress.{Progress}
-use Rattle.cyc_buffer.specs.declared.register.Register.{Register}
+use Rattle.cyc_buffer.specs.declared.buffer_state.Open.{Open}
+use Rattle.cyc_buffer.specs.declared.buffer_state.Progress.{Progress}
+use Rattle.cyc_buffer.specs.declared.buffer_state.BufferState.{BufferState}
 use Rattle.news_terms.specs.BlockImage.{Block, block_of, block_image, chunk}
 use Rattle.news_terms.specs.Places.{size_of}
 
@@ -19,8 +19,8 @@ abbrev pub store_of : {S : Type 0} {g : Ghosts S} → Buffer S g → S
 store_of buffer = buffer.store
 
 -- what a buffer keeps in memory
-abbrev pub register_of : {S : Type 0} {g : Ghosts S} → Buffer S g → Register
-register_of buffer = buffer.register
+abbrev pub buffer_state_of : {S : Type 0} {g : Ghosts S} → Buffer S g → BufferState
+buffer_state_of buffer = buffer.buffer_state
 
 -- block k of an open write
 abbrev pub open_block : Progress → Writing → (k : ℕ) → Block
@@ -41,7 +41,7 @@ HoldsOpen blocks (Some p) (Some w) =
     (k : ℕ) → k < w.blocks → block_at blocks (p.token.first + k) ≡ block_image (open_block p w k)
 
 -- the blocks that aren't passed hold what was finished, and those of the open write what is written
-pub record Holds (blocks : List (List ℕ)) (r : Register) (h : History) : Type 0 where
+pub record Holds (blocks : List (List ℕ)) (r : BufferState) (h : History) : Type 0 where
   pub articles : (cycle first k : ℕ) (article : Article)
       → finished_at h.buffer h.begins cycle first ≡ Some article
       → k < size_of (length article.text) → IsUnpassed r.line cycle (first + k)
@@ -53,9 +53,9 @@ pub record Holds (blocks : List (List ℕ)) (r : Register) (h : History) : Type 
 -- blocks hold what they should.
 pub record Agrees {S : Type 0} {g : Ghosts S} (trusted : Bool) (buffer : Buffer S g) (h : History)
     : Type 0 where
-  pub keeps : Keeps buffer.register h
+  pub keeps : Keeps buffer.buffer_state h
   pub honest : trusted ≡ true → g.honest buffer.store
-  pub holds : trusted ≡ true → Holds (g.blocks buffer.store) buffer.register h
+  pub holds : trusted ≡ true → Holds (g.blocks buffer.store) buffer.buffer_state h
 
 -- each history that the old buffer agrees with is followed by one that the new buffer agrees with
 abbrev pub Follows : {S : Type 0} {g : Ghosts S} → (History → History)
@@ -65,15 +65,15 @@ Follows step old new =
 
 -- this is the open write of the buffer
 abbrev pub Owns : {S : Type 0} {g : Ghosts S} → Buffer S g → Open → Type 0
-Owns buffer write = IsTheOpen write buffer.register.progress
+Owns buffer write = IsTheOpen write buffer.buffer_state.progress
 
 -- the blocks of its open write that are written
 abbrev pub blocks_written : {S : Type 0} {g : Ghosts S} → Buffer S g → ℕ
-blocks_written buffer = written_of buffer.register.progress
+blocks_written buffer = written_of buffer.buffer_state.progress
 
 -- a write of a block of its open write has failed
 abbrev pub is_broken : {S : Type 0} {g : Ghosts S} → Buffer S g → Bool
-is_broken buffer = has_failed buffer.register.progress
+is_broken buffer = has_failed buffer.buffer_state.progress
 
 -- the token that the article of an open write is finished under
 abbrev pub token_of : Open → Token
@@ -93,11 +93,11 @@ pub record IsOpenAs {S : Type 0} {g : Ghosts S} (buffer : Buffer S g) (write : O
 
 -- the next block of the text can be written to the buffer's open write
 abbrev pub CanWrite : {S : Type 0} {g : Ghosts S} → Buffer S g → Open → List ℕ → Type 0
-CanWrite buffer write text = CanWriteOn buffer.register.progress write text
+CanWrite buffer write text = CanWriteOn buffer.buffer_state.progress write text
 
 -- the buffer's open write can be finished
 abbrev pub CanFinish : {S : Type 0} {g : Ghosts S} → Buffer S g → Open → Type 0
-CanFinish buffer write = CanFinishOn buffer.register.progress write
+CanFinish buffer write = CanFinishOn buffer.buffer_state.progress write
 
 -- the text begins with what is written of the open write
 abbrev pub ContinuesIn : List ℕ → Option Writing → Type 0

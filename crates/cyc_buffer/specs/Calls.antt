@@ -4,7 +4,7 @@ use Rattle.std.specs.Prelude.{Result, Ok, Err, IfOk, IfErr, IsOkAnd, OnOk, OnErr
 use Rattle.cyc_block.specs.declared.store.BlockStore.{Ghosts}
 use Rattle.cyc_token.specs.Token.{token_view}
 use Rattle.cyc_token.specs.declared.Token.{Token}
-use Rattle.cyc_buffer.specs.Agreement.{Agrees, Follows, Owns, Continues, store_of, register_of}
+use Rattle.cyc_buffer.specs.Agreement.{Agrees, Follows, Owns, Continues, store_of, buffer_state_of}
 use Rattle.cyc_buffer.specs.Agreement.{blocks_written, is_broken, length_of}
 use Rattle.cyc_buffer.specs.Answers.{Shows, answer, by_numbers, HasRoom, IsDeviceFault, IsOther}
 use Rattle.cyc_buffer.specs.Answers.{IsRead, IsUnread}
@@ -15,7 +15,7 @@ use Rattle.cyc_buffer.specs.declared.answers.FaultKind.TheVariants as kinds
 use Rattle.cyc_buffer.specs.declared.answers.Found.{Found}
 use Rattle.cyc_buffer.specs.declared.answers.Found.TheVariants as found
 use Rattle.cyc_buffer.specs.declared.buffer.Buffer.{Buffer}
-use Rattle.cyc_buffer.specs.declared.register.Open.{Open}
+use Rattle.cyc_buffer.specs.declared.buffer_state.Open.{Open}
 use Rattle.news_terms.specs.Places.{size_of}
 
 -- what a call of the device leaves of it, and what its failure has to do with the result
@@ -88,7 +88,7 @@ pub record ReadsBlock {S : Type 0} {g : Ghosts S} (old : Buffer S g) (token : To
   -- The buffer after. It agrees with the same histories.
   pub same : Follows (λ h. h) old new
   -- What it keeps in memory is the same, and what its head says.
-  pub register : register_of new ≡ register_of old
+  pub buffer_state : buffer_state_of new ≡ buffer_state_of old
   pub opened : has_open_head new ≡ has_open_head old
   -- The device. It is called once, whether it fails or not, or not at all.
   pub calls : (store_of new ≡ store_of old)

@@ -2,10 +2,10 @@
 use Rattle.std.specs.Prelude.{◌≡◌, ◌<◌, ◌+◌, ◌⊎◌, ℕ, Bool, true, false, is_some, length}
 use Rattle.cyc_block.specs.Store.{block_at}
 use Rattle.cyc_block.specs.declared.store.BlockStore.{Ghosts}
-use Rattle.cyc_buffer.specs.Agreement.{Agrees, store_of, register_of}
+use Rattle.cyc_buffer.specs.Agreement.{Agrees, store_of, buffer_state_of}
 use Rattle.cyc_buffer.specs.Answers.{fault_of}
 use Rattle.cyc_buffer.specs.History.{History}
-use Rattle.cyc_buffer.specs.Register.{buffer_of}
+use Rattle.cyc_buffer.specs.BufferState.{buffer_of}
 use Rattle.cyc_buffer.specs.Stopped.{TellsStarts}
 use Rattle.cyc_buffer.specs.declared.answers.BufError.{BufError}
 use Rattle.cyc_buffer.specs.declared.answers.BufError.TheVariants as errors
@@ -29,12 +29,12 @@ stop_of buffer = buffer.stop
 
 -- a write is open
 abbrev pub is_busy : {S : Type 0} {g : Ghosts S} → Buffer S g → Bool
-is_busy buffer = is_some (register_of buffer).progress
+is_busy buffer = is_some (buffer_state_of buffer).progress
 
 -- the error is the device's at a write of a head block, which speaks of no article
 abbrev pub IsHeadFault : {S : Type 0} {g : Ghosts S} → Buffer S g → BufError → Type 0
 IsHeadFault buffer e =
-    e ≡ errors.Device (fault_of (buffer_of (register_of buffer).line) kinds.Write 0)
+    e ≡ errors.Device (fault_of (buffer_of (buffer_state_of buffer).line) kinds.Write 0)
 
 -- a stop is refused while a write is open, or where the device failed during the call
 abbrev pub IsStopRefusal : {S : Type 0} {g : Ghosts S} → Buffer S g → BufError → Buffer S g → Type 0
@@ -53,13 +53,13 @@ pub record LeavesBlocks {S : Type 0} (g : Ghosts S) (old new : S) : Type 0 where
 
 -- of a buffer nothing is another than before but what the head blocks of its device hold
 pub record LeavesBuffer {S : Type 0} {g : Ghosts S} (old new : Buffer S g) : Type 0 where
-  pub register : register_of new ≡ register_of old
+  pub buffer_state : buffer_state_of new ≡ buffer_state_of old
   pub opened : has_open_head new ≡ has_open_head old
   pub stop : stop_of new ≡ stop_of old
   pub store : LeavesBlocks g (store_of old) (store_of new)
 
--- A buffer isn't made where memory was refused, and then the store is as it was, or where the device
--- failed at the one call that was made of it.
+-- A buffer isn't made where memory was refused, and then the store is as it was, or where the
+-- device failed at the one call that was made of it.
 abbrev pub IsFormatRefusal : {S : Type 0} (g : Ghosts S) → (old : S) → FormatError → (new : S)
     → Type 0
 IsFormatRefusal g old formats.Memory new = new ≡ old

@@ -8,7 +8,7 @@ pub mod Look
 pub mod Marks
 pub mod Progress
 pub mod Reads
-pub mod Register
+pub mod BufferState
 pub mod Remembered
 pub mod Restart
 pub mod Starting

@@ -2,8 +2,8 @@
 use Rattle.std.specs.Prelude.{◌≡◌, ℕ, ◌+◌, ◌<◌, Bool, true, false, List, length, Option, None, Some}
 use Rattle.cyc_block.specs.declared.image.Stamp.{Stamp}
 use Rattle.cyc_token.specs.declared.Token.{Token}
-use Rattle.cyc_buffer.specs.declared.register.Open.{Open}
-use Rattle.cyc_buffer.specs.declared.register.Progress.{Progress}
+use Rattle.cyc_buffer.specs.declared.buffer_state.Open.{Open}
+use Rattle.cyc_buffer.specs.declared.buffer_state.Progress.{Progress}
 use Rattle.news_terms.specs.Places.{size_of}
 
 -- the block after those of the open write, or 0 where there is none

@@ -12,11 +12,11 @@ use Rattle.cyc_block.specs.declared.store.BlockStore.{Ghosts}
 use Rattle.cyc_token.specs.Token.{token_view}
 use Rattle.cyc_token.specs.declared.Token.{Token}
 use Rattle.cyc_buffer.specs.Marks.{is_marked}
-use Rattle.cyc_buffer.specs.Register.{numbers_in}
+use Rattle.cyc_buffer.specs.BufferState.{numbers_in}
 use Rattle.cyc_buffer.specs.Stopped.{IsImageUnder, IsDamaged, Says, has_bit, passed_blocks}
 use Rattle.cyc_buffer.specs.declared.answers.StartError.{StartError}
 use Rattle.cyc_buffer.specs.declared.answers.StartError.TheVariants as errors
-use Rattle.cyc_buffer.specs.declared.register.Register.{Register}
+use Rattle.cyc_buffer.specs.declared.buffer_state.BufferState.{BufferState}
 
 -- what an honest store holds stays as it was, and any store keeps the number of its blocks
 pub record StaysHeld {S : Type 0} (g : Ghosts S) (old new : S) : Type 0 where
@@ -194,7 +194,7 @@ pub record HasReadAll (starts : ℕ → Bool) (blocks : List (List ℕ)) (b : He
 -- All of a device was read that a start asks for: the numbers, the bitmap and the articles; the
 -- register has them.
 pub record HasStarted (heads blocks : List (List ℕ)) (buffer : Buffer) (stop : ℕ)
-    (register : Register) (tokens : List Token) : Type 0 where
+    (buffer_state : BufferState) (tokens : List Token) : Type 0 where
   pub numbers : HeadBlock
   pub says : SaysOnly heads buffer numbers
   pub closed : numbers.state ≡ Closed
@@ -202,13 +202,13 @@ pub record HasStarted (heads blocks : List (List ℕ)) (buffer : Buffer) (stop :
   pub sound : AreSound numbers
   pub beyond : (j : ℕ) → numbers.blocks ≤ j → j < bits_of_block * bitmap_blocks numbers.blocks
       → has_bit heads j ≡ false
-  pub register_is : numbers_in register Closed stop ≡ numbers
-  pub progress : register.progress ≡ None
-  pub bits : AreBits heads numbers.blocks register.starts.words.items
+  pub buffer_state_is : numbers_in buffer_state Closed stop ≡ numbers
+  pub progress : buffer_state.progress ≡ None
+  pub bits : AreBits heads numbers.blocks buffer_state.starts.words.items
   pub some_kept : List ℕ
   pub unkept : (j : ℕ) → is_marked some_kept j ≡ false
-  pub all : HasReadAll (is_marked register.starts.words.items) blocks numbers tokens some_kept
-      register.kept.words.items
+  pub all : HasReadAll (is_marked buffer_state.starts.words.items) blocks numbers tokens some_kept
+      buffer_state.kept.words.items
 
 -- head block 0 says these numbers of the buffer, which was stopped, and something is wrong with it
 pub record IsDamagedBy (heads blocks : List (List ℕ)) (buffer : Buffer) : Type 0 where

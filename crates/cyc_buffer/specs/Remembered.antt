@@ -1,14 +1,14 @@
--- What a buffer's memory says of its calls, whatever its store holds: where no history is known that
--- the buffer agrees with, as after a start over a store that nobody vouches for
+-- What a buffer's memory says of its calls, whatever its store holds: where no history is known
+-- that the buffer agrees with, as after a start over a store that nobody vouches for
 -- (docs/PROTOCOL.md, Clean stop and start).
 use Rattle.std.specs.Prelude.{◌≡◌, ◌<◌, ◌≤◌, ◌⊎◌, ℕ, Bool, true, List, Some, Result, Ok}
 use Rattle.std.specs.Prelude.{All, Err}
 use Rattle.std.specs.List.{Contains}
 use Rattle.cyc_block.specs.declared.store.BlockStore.{Ghosts}
-use Rattle.cyc_buffer.specs.Agreement.{register_of}
+use Rattle.cyc_buffer.specs.Agreement.{buffer_state_of}
 use Rattle.cyc_buffer.specs.Answers.{Gone, IsDeviceFault, by_numbers, fault_of}
 use Rattle.cyc_buffer.specs.Marks.{is_marked}
-use Rattle.cyc_buffer.specs.Register as registers
+use Rattle.cyc_buffer.specs.BufferState as registers
 use Rattle.cyc_buffer.specs.declared.answers.BufError.{BufError}
 use Rattle.cyc_buffer.specs.declared.answers.BufError.TheVariants as errors
 use Rattle.cyc_buffer.specs.declared.answers.FaultKind.TheVariants as kinds
@@ -22,16 +22,16 @@ use Rattle.news_terms.specs.Places.{on_line, size_of}
 
 -- the number, the blocks and the first cycle that a buffer has
 abbrev pub place_of : {S : Type 0} {g : Ghosts S} → Buffer S g → places.Buffer
-place_of buffer = registers.buffer_of (register_of buffer).line
+place_of buffer = registers.buffer_of (buffer_state_of buffer).line
 
 -- the place of its front on the endless line of its blocks
 abbrev pub front_in : {S : Type 0} {g : Ghosts S} → Buffer S g → ℕ
 front_in buffer =
-    let line = (register_of buffer).line in on_line line.blocks line.cycle line.used
+    let line = (buffer_state_of buffer).line in on_line line.blocks line.cycle line.used
 
 -- a finished article begins at the block, by the buffer's marks
 abbrev pub is_start : {S : Type 0} {g : Ghosts S} → Buffer S g → (block : ℕ) → Bool
-is_start buffer block = is_marked (register_of buffer).starts.words.items block
+is_start buffer block = is_marked (buffer_state_of buffer).starts.words.items block
 
 -- finished articles begin at no other blocks than before
 abbrev pub AddsNoStart : {S : Type 0} {g : Ghosts S} → (old new : Buffer S g) → Type 0

@@ -6,10 +6,10 @@ use Rattle.cyc_buffer.specs.Agreement.{store_of}
 use Rattle.cyc_buffer.specs.Head.{IsHeadFault, IsStopRefusal, is_busy}
 use Rattle.cyc_buffer.specs.Marks.{is_marked}
 use Rattle.cyc_buffer.specs.Reads.{IsBlamed}
-use Rattle.cyc_buffer.specs.Register.{numbers_in}
+use Rattle.cyc_buffer.specs.BufferState.{numbers_in}
 use Rattle.cyc_buffer.specs.Starting.{IsOutside}
 use Rattle.cyc_buffer.specs.declared.buffer.Buffer.{Buffer}
-use Rattle.cyc_buffer.specs.declared.register.Register.{Register}
+use Rattle.cyc_buffer.specs.declared.buffer_state.BufferState.{BufferState}
 use Rattle.cyc_buffer.specs.declared.restarting.RestartError.{RestartError}
 use Rattle.cyc_buffer.specs.declared.restarting.RestartError.TheVariants as errors
 
@@ -20,7 +20,7 @@ pub record HaveOther (one other : List ℕ) (count : ℕ) : Type 0 where
   pub differ : is_marked one at ≢ is_marked other at
 
 -- the numbers and the marks of first blocks are those of another register
-pub record IsSameRegister (one other : Register) : Type 0 where
+pub record IsSameBufferState (one other : BufferState) : Type 0 where
   pub numbers : numbers_in one Closed 0 ≡ numbers_in other Closed 0
   pub starts : (j : ℕ) → j < one.line.blocks
       → is_marked one.starts.words.items j ≡ is_marked other.starts.words.items j

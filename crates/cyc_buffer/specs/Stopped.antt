@@ -12,7 +12,7 @@ use Rattle.news_terms.specs.Token.{Token}
 use Rattle.cyc_block.specs.Store.{block_at}
 use Rattle.cyc_buffer.specs.History.{Article, History, head_of, cycle_of, front_of, finished_at}
 use Rattle.cyc_buffer.specs.History.{stored_count}
-use Rattle.cyc_buffer.specs.Register.{IsSized, IsUnpassedBy}
+use Rattle.cyc_buffer.specs.BufferState.{IsSized, IsUnpassedBy}
 
 -- the bit of block j in the bitmap of a device's head blocks
 abbrev pub has_bit : (heads : List (List ℕ)) → (j : ℕ) → Bool

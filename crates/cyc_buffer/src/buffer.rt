@@ -6,7 +6,7 @@ ghost use Rattle.cyc_block.specs.Image.{stamped};
 ghost use Rattle.cyc_buffer.specs.Progress.{stamp_of};
 
 use crate::answers::{BufError, FaultKind, FormatError, Found, Front};
-use crate::register::{Look, Open, Register};
+use crate::buffer_state::{BufferState, Look, Open};
 use cyc_block::{
     BLOCK_OCTETS, BlockStore, CHUNK_OCTETS, HeadState, Stamp, block_image, read_image,
 };
@@ -17,12 +17,12 @@ use std::alloc::Global;
 #[derive(Debug, Drop)]
 pub struct Buffer<S: BlockStore> {
     pub(crate) store: S,
-    pub(crate) register: Register,
+    pub(crate) buffer_state: BufferState,
     /// The number of the stop that it was started from; 0 where it was made anew.
     pub(crate) stop: u64,
     /// Head block 0 says that the buffer may change.
     pub(crate) has_open_head: bool,
-    ghost counted: { register.line.blocks ≡ length (S.blocks store) },
+    ghost counted: { buffer_state.line.blocks ≡ length (S.blocks store) },
 }
 
 /// A store over which no buffer is made, and why.
@@ -38,7 +38,7 @@ impl<S: BlockStore> Buffer<S> {
     ghost use Rattle.std.specs.Prelude.{◌≡◌, ◌≤◌, ◌+◌, length, Bool, true, false, Some, Ok, IfOk};
     ghost use Rattle.std.specs.Prelude.{IfErr, OnOk, OnErr};
     ghost use Rattle.cyc_token.specs.Token.{token_view};
-    ghost use Rattle.cyc_buffer.specs.Agreement.{Agrees, Follows, Owns, store_of, register_of};
+    ghost use Rattle.cyc_buffer.specs.Agreement.{Agrees, Follows, Owns, store_of, buffer_state_of};
     ghost use Rattle.cyc_buffer.specs.Agreement.{blocks_written, is_broken, length_of, token_of};
     ghost use Rattle.cyc_buffer.specs.Agreement.{CanWrite, CanFinish};
     ghost use Rattle.cyc_buffer.specs.Answers.{refusal, error_of, front_view, IsDeviceFault};
@@ -94,8 +94,8 @@ impl<S: BlockStore> Buffer<S> {
             IsFormatRefusal ⟦<S as BlockStore>⟧ store refused.error refused.store) }
     {
         let blocks = store.count();
-        let register = match Register::new(alloc, number, blocks, first_cycle) {
-            Ok(register) => register,
+        let buffer_state = match BufferState::new(alloc, number, blocks, first_cycle) {
+            Ok(buffer_state) => buffer_state,
             Err(_refused) => {
                 let error = FormatError::Memory;
                 return Err(Unformatted { store, error });
@@ -103,7 +103,7 @@ impl<S: BlockStore> Buffer<S> {
         };
         let mut buffer = Buffer {
             store,
-            register,
+            buffer_state,
             stop: 0,
             has_open_head: false,
         };
@@ -123,7 +123,7 @@ impl<S: BlockStore> Buffer<S> {
         // Refused for the first reason, and then nothing is changed; else begun.
         ensures refusal { (trusted : Bool) (h : History) → Agrees trusted self.old h
             → error_of result ≡ refusal h length fresh }
-        ensures refused { OnErr result (register_of self.new ≡ register_of self.old) }
+        ensures refused { OnErr result (buffer_state_of self.new ≡ buffer_state_of self.old) }
         ensures begun { OnOk result (Follows (with_begin class length fresh) self.old self.new) }
         // The open write is this one, of which nothing is written, and its token the history's.
         ensures token { IfOk result (λ write. (trusted : Bool) (h : History)
@@ -142,7 +142,7 @@ impl<S: BlockStore> Buffer<S> {
         // The device isn't called.
         ensures store { store_of self.new ≡ store_of self.old }
     {
-        self.register.begin(class, length, fresh)
+        self.buffer_state.begin(class, length, fresh)
     }
 
     /// Writes the next block of the open write's text, and says whether nothing of it is left.
@@ -161,18 +161,20 @@ impl<S: BlockStore> Buffer<S> {
         ensures device { LeavesDevice self.old result self.new }
         ensures head { has_open_head self.new ≡ has_open_head self.old }
     {
-        if !self.register.can_write(write, text) {
+        if !self.buffer_state.can_write(write, text) {
             return Ok(true);
         }
-        let stamp = self.register.next_stamp(write);
-        prove!(stamp.first < self.register.line.blocks);
+        let stamp = self.buffer_state.next_stamp(write);
+        prove!(stamp.first < self.buffer_state.line.blocks);
         let image = block_image(&stamp, chunk_of(text, stamp.index));
         if self.store.write(stamp.first + stamp.index, &image).is_err() {
-            self.register.mark_broken();
-            let fault = self.register.fault(FaultKind::Write, stamp.article_length);
+            self.buffer_state.mark_broken();
+            let fault = self
+                .buffer_state
+                .fault(FaultKind::Write, stamp.article_length);
             return Err(BufError::Device(fault));
         }
-        Ok(self.register.count_block(write))
+        Ok(self.buffer_state.count_block(write))
     }
 
     /// Finishes the open write, all of which is written: from now on its text is given by the
@@ -189,11 +191,11 @@ impl<S: BlockStore> Buffer<S> {
         // The device isn't called.
         ensures store { store_of self.new ≡ store_of self.old }
     {
-        if !self.register.can_finish(&write) {
+        if !self.buffer_state.can_finish(&write) {
             let Open { token } = write;
             return token;
         }
-        self.register.finish(write)
+        self.buffer_state.finish(write)
     }
 
     /// Abandons the open write. Its space stays lost. Nothing is done to another buffer's.
@@ -206,10 +208,10 @@ impl<S: BlockStore> Buffer<S> {
         // The device isn't called.
         ensures store { store_of self.new ≡ store_of self.old }
     {
-        let owned = self.register.owns(&write);
+        let owned = self.buffer_state.owns(&write);
         let Open { token: _ } = write;
         if owned {
-            self.register.abandon();
+            self.buffer_state.abandon();
         }
     }
 
@@ -226,14 +228,14 @@ impl<S: BlockStore> Buffer<S> {
         ensures held { StaysHeld S.BlockStore (store_of self.old) (store_of self.new) }
         ensures stop { stop_of self.new ≡ stop_of self.old }
     {
-        let block = match self.register.look(token, k) {
+        let block = match self.buffer_state.look(token, k) {
             Look::Block(block) => block,
-            Look::Gone => return Ok(Found::Gone(self.register.front())),
+            Look::Gone => return Ok(Found::Gone(self.buffer_state.front())),
             Look::Unknown => return Ok(Found::Unknown),
         };
         let mut image = [0; BLOCK_OCTETS];
         if self.store.read(block, &mut image).is_err() {
-            let fault = self.register.fault(FaultKind::Read, token.length);
+            let fault = self.buffer_state.fault(FaultKind::Read, token.length);
             return Err(BufError::Device(fault));
         }
         Ok(match take_chunk(&image, token, k, chunk) {
@@ -246,7 +248,7 @@ impl<S: BlockStore> Buffer<S> {
     pub fn front(&self) -> u64
         ensures { (trusted : Bool) (h : History) → Agrees trusted self.now h → result ≡ front_of h }
     {
-        self.register.line.front()
+        self.buffer_state.line.front()
     }
 
     /// The front as a value, which a buffer alone makes.
@@ -254,14 +256,14 @@ impl<S: BlockStore> Buffer<S> {
         ensures { (trusted : Bool) (h : History) → Agrees trusted self.now h
             → result ≡ front_view h.buffer (front_of h) }
     {
-        self.register.front()
+        self.buffer_state.front()
     }
 
     /// The cycle that the newest article is in; the first one where there is none.
     pub fn cycle(&self) -> u32
         ensures { (trusted : Bool) (h : History) → Agrees trusted self.now h → result ≡ cycle_of h }
     {
-        self.register.line.cycle
+        self.buffer_state.line.cycle
     }
 
     /// How many articles were begun in the buffer.
@@ -269,7 +271,7 @@ impl<S: BlockStore> Buffer<S> {
         ensures { (trusted : Bool) (h : History) → Agrees trusted self.now h
             → result ≡ length h.begins }
     {
-        self.register.counts.begun
+        self.buffer_state.counts.begun
     }
 
     /// How many of the articles that were begun in the buffer were finished.
@@ -277,7 +279,7 @@ impl<S: BlockStore> Buffer<S> {
         ensures { (trusted : Bool) (h : History) → Agrees trusted self.now h
             → result ≡ stored_count h.begins }
     {
-        self.register.counts.stored
+        self.buffer_state.counts.stored
     }
 
     /// How many blocks the buffer has.
@@ -286,7 +288,7 @@ impl<S: BlockStore> Buffer<S> {
         ensures history { (trusted : Bool) (h : History) → Agrees trusted self.now h
             → result ≡ h.buffer.blocks }
     {
-        self.register.line.blocks
+        self.buffer_state.line.blocks
     }
 }
 

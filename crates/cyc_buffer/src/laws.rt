@@ -8,7 +8,7 @@ ghost use Rattle.news_terms.specs.Picks.{place_after};
 ghost use Rattle.cyc_token.specs.Token.{token_view};
 ghost use Rattle.cyc_buffer.specs.Agreement.{Agrees, IsOpenAs, CanWrite, CanFinish, token_of};
 ghost use Rattle.cyc_buffer.specs.History.{History, Writing, open_token};
-ghost use Rattle.cyc_buffer.specs.Register.{IsSized};
+ghost use Rattle.cyc_buffer.specs.BufferState.{IsSized};
 
 use crate::{Open, buffer};
 use cyc_block::BlockStore;

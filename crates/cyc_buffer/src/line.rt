@@ -30,7 +30,7 @@ impl Line {
     ghost use Rattle.std.specs.Prelude.{◌≡◌, ◌≤◌, ◌<◌, ◌+◌, ◌^◌, IfSome, IfNone};
     ghost use Rattle.news_terms.specs.Places.{on_line, last_cycle};
     ghost use Rattle.news_terms.specs.Picks.{place_after};
-    ghost use Rattle.cyc_buffer.specs.Register.{line_head, place_view};
+    ghost use Rattle.cyc_buffer.specs.BufferState.{line_head, place_view};
 
     /// The place after the newest article.
     pub(crate) fn front(&self) -> u64

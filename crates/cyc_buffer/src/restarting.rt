@@ -1,23 +1,24 @@
 //! How a buffer is stopped and started again in place.
-ghost use Rattle.std.specs.Prelude.{◌≡◌, ◌≤◌, ◌<◌, ◌+◌, ◌*◌, ℕ, Bool, true, false, length, IfErr, IfOk};
+ghost use Rattle.std.specs.Prelude.{◌≡◌, ◌≤◌, ◌<◌, ◌+◌, ◌*◌, ℕ, Bool, true, false, length, IfErr};
+ghost use Rattle.std.specs.Prelude.{IfOk};
 ghost use Rattle.std.specs.Prelude.{OnErr, OnOk};
 ghost use Rattle.news_terms.specs.HeadBlocks.{Open, head_blocks, head_image as image_of};
 ghost use Rattle.cyc_block.specs.Store.{block_at};
-ghost use Rattle.cyc_buffer.specs.Agreement.{Agrees, Follows, register_of, store_of};
+ghost use Rattle.cyc_buffer.specs.Agreement.{Agrees, Follows, buffer_state_of, store_of};
 ghost use Rattle.cyc_buffer.specs.Head.{LeavesBuffer, has_open_head, is_busy, stop_of};
 ghost use Rattle.cyc_buffer.specs.History.{History};
 ghost use Rattle.cyc_buffer.specs.Marks.{is_marked};
 ghost use Rattle.cyc_buffer.specs.Reads.{IsBlamed};
-ghost use Rattle.cyc_buffer.specs.Register.{Keeps};
+ghost use Rattle.cyc_buffer.specs.BufferState.{Keeps};
 ghost use Rattle.cyc_buffer.specs.Restart.{HaveOther, IsFromWithout, IsRestartRefusal};
-ghost use Rattle.cyc_buffer.specs.Restart.{IsSameRegister};
+ghost use Rattle.cyc_buffer.specs.Restart.{IsSameBufferState};
 ghost use Rattle.cyc_buffer.specs.Starting.{IsOutside, ListsLive, blocks_in};
 ghost use Rattle.cyc_buffer.specs.Stopped.{HoldsStopped, numbers_of};
 
 use crate::answers::{BufError, StartError};
 use crate::buffer::Buffer;
+use crate::buffer_state::BufferState;
 use crate::marks::Marks;
-use crate::register::Register;
 use crate::stopped::read_stopped;
 use cyc_block::{BlockStore, HeadState};
 use cyc_token::Token;
@@ -61,7 +62,7 @@ impl<S: BlockStore> Buffer<S> {
             + blocks_in tokens.items + 1) }
         // Whether it is refused or not, the buffer agrees with what it agreed with.
         ensures same { Follows (λ h. h) self.old self.new }
-        ensures register { register_of self.new ≡ register_of self.old }
+        ensures buffer_state { buffer_state_of self.new ≡ buffer_state_of self.old }
         ensures count { length (S.blocks (store_of self.new))
             ≡ length (S.blocks (store_of self.old)) }
     {
@@ -88,7 +89,7 @@ impl<S: BlockStore> Buffer<S> {
             → ListsLive tokens.items h) }
         ensures cause { S.honest (store_of self.old) → (stop : ℕ) (h : History)
             → HoldsStopped (S.heads (store_of self.old)) (S.blocks (store_of self.old)) stop h
-            → Keeps (register_of self.old) h → IfErr result IsOutside }
+            → Keeps (buffer_state_of self.old) h → IfErr result IsOutside }
         ensures rest { LeavesBuffer self.old self.new }
         ensures calls { IfOk result (λ tokens. S.calls (store_of self.new)
             ≡ S.calls (store_of self.old) + head_blocks (length (S.blocks (store_of self.old)))
@@ -98,22 +99,22 @@ impl<S: BlockStore> Buffer<S> {
         ensures no_failure { OnOk result (S.failures (store_of self.new)
             ≡ S.failures (store_of self.old)) }
     {
-        let line = self.register.line;
+        let line = self.buffer_state.line;
         let stopped = match read_stopped(alloc, &mut self.store, line.number, line.first_cycle) {
             Ok(stopped) => stopped,
             Err(error) => return Err(error),
         };
-        if !self.register.is_same(&stopped.register) {
+        if !self.buffer_state.is_same(&stopped.buffer_state) {
             return Err(StartError::Damaged);
         }
         Ok(stopped.tokens)
     }
 }
 
-impl Register {
+impl BufferState {
     /// Whether the numbers and the marks of first blocks are those of another register.
-    fn is_same(&self, other: &Register) -> bool
-        ensures same { result ≡ true → IsSameRegister self.now other.now }
+    fn is_same(&self, other: &BufferState) -> bool
+        ensures same { result ≡ true → IsSameBufferState self.now other.now }
         // Two registers that agree with a history say the same.
         ensures other { result ≡ false → (h : History) → Keeps self.now h → Keeps other.now h → ⊥ }
     {

@@ -115,7 +115,7 @@ impl<S: BlockStore> Buffer<S> {
                 buffer: Unopened {
                     buffer: Buffer {
                         store,
-                        register: stopped.register,
+                        buffer_state: stopped.buffer_state,
                         stop: stopped.stop,
                         has_open_head: false,
                     },

@@ -6,7 +6,7 @@ ghost use Rattle.cyc_block.specs.Heads.{head_view, state_view};
 ghost use Rattle.cyc_buffer.specs.Marks.{is_marked};
 ghost use Rattle.cyc_buffer.specs.Reads.{StaysHeld, IsBlamed, IsDamageBy, IsRefusedBy, SaysOnly};
 ghost use Rattle.cyc_buffer.specs.Reads.{AreSound, AreBits, HasReadBehind, HasReadAll, HasStarted};
-ghost use Rattle.cyc_buffer.specs.Register.{numbers_in};
+ghost use Rattle.cyc_buffer.specs.BufferState.{numbers_in};
 ghost use Rattle.cyc_buffer.specs.Remembered.{AreWithin, ListsStarts};
 ghost use Rattle.cyc_buffer.specs.Starting.{blocks_in};
 ghost use Rattle.cyc_buffer.specs.Stopped.{IsDamaged};
@@ -14,9 +14,9 @@ ghost use Rattle.cyc_buffer.specs.Stopped.{IsDamaged};
 use crate::answers::StartError;
 use crate::articles::{Stretch, read_articles};
 use crate::bits::{read_bitmap, read_head_octets};
+use crate::buffer_state::{BufferState, Counts};
 use crate::line::Line;
 use crate::marks::Marks;
-use crate::register::{Counts, Register};
 use cyc_block::{BlockStore, HeadNumbers, HeadState, read_head_image};
 use cyc_token::Token;
 use std::alloc::Global;
@@ -24,7 +24,7 @@ use std::alloc::Global;
 /// What was read off a store of the buffer that was stopped on it.
 #[derive(Debug, Drop)]
 pub(crate) struct Stopped {
-    pub(crate) register: Register,
+    pub(crate) buffer_state: BufferState,
     pub(crate) stop: u64,
     pub(crate) tokens: Vec<Token>,
 }
@@ -42,7 +42,7 @@ pub(crate) fn read_stopped<S: BlockStore>(
           number = number;
           blocks = length (S.blocks store.old);
           first_cycle = first_cycle;
-        }) stopped.stop stopped.register stopped.tokens.items) }
+        }) stopped.stop stopped.buffer_state stopped.tokens.items) }
     ensures refused { S.honest store.old → IfErr result (
         IsRefusedBy (S.heads store.old) (S.blocks store.old) (record {
           number = number;
@@ -50,10 +50,10 @@ pub(crate) fn read_stopped<S: BlockStore>(
           first_cycle = first_cycle;
         })) }
     ensures count { IfOk result (λ stopped.
-        stopped.register.line.blocks ≡ length (S.blocks store.old)) }
-    ensures idle { IfOk result (λ stopped. stopped.register.progress ≡ None) }
+        stopped.buffer_state.line.blocks ≡ length (S.blocks store.old)) }
+    ensures idle { IfOk result (λ stopped. stopped.buffer_state.progress ≡ None) }
     ensures listed { IfOk result (λ stopped. ListsStarts 0 (length (S.blocks store.old))
-        (is_marked stopped.register.starts.words.items) stopped.tokens.items) }
+        (is_marked stopped.buffer_state.starts.words.items) stopped.tokens.items) }
     ensures within { IfOk result (λ stopped.
         AreWithin (length (S.blocks store.old)) stopped.tokens.items) }
     ensures calls { IfOk result (λ stopped. S.calls store.new ≡ S.calls store.old
@@ -68,7 +68,7 @@ pub(crate) fn read_stopped<S: BlockStore>(
     let mut kept = Marks::new(alloc, numbers.blocks)?;
     let tokens = read_all(alloc, store, &numbers, &starts, &mut kept)?;
     Ok(Stopped {
-        register: stopped_register(&numbers, starts, kept),
+        buffer_state: stopped_buffer_state(&numbers, starts, kept),
         stop: numbers.stop,
         tokens,
     })
@@ -248,7 +248,7 @@ fn read_behind<S: BlockStore>(
 }
 
 /// The register that sound numbers of a stopped buffer say, with these marks.
-fn stopped_register(numbers: &HeadNumbers, starts: Marks, kept: Marks) -> Register
+fn stopped_buffer_state(numbers: &HeadNumbers, starts: Marks, kept: Marks) -> BufferState
     requires sound { AreSound (head_view numbers.now) }
     requires starts_room { numbers.now.blocks ≤ 64 * length starts.words.items }
     requires kept_room { numbers.now.blocks ≤ 64 * length kept.words.items }
@@ -260,7 +260,7 @@ fn stopped_register(numbers: &HeadNumbers, starts: Marks, kept: Marks) -> Regist
     ensures kept { result.kept ≡ kept }
     ensures progress { result.progress ≡ None }
 {
-    Register {
+    BufferState {
         line: Line {
             number: numbers.number,
             blocks: numbers.blocks,

@@ -6,17 +6,17 @@ ghost use Rattle.news_terms.specs.HeadBlocks.{bitmap_blocks, head_blocks};
 ghost use Rattle.news_terms.specs.HeadBlocks.{bitmap_block as bitmap_of};
 ghost use Rattle.cyc_block.specs.Heads.{state_view};
 ghost use Rattle.cyc_block.specs.Store.{block_at, ChangesOnly};
-ghost use Rattle.cyc_buffer.specs.Agreement.{Agrees, Follows, store_of, register_of};
+ghost use Rattle.cyc_buffer.specs.Agreement.{Agrees, Follows, store_of, buffer_state_of};
 ghost use Rattle.cyc_buffer.specs.History.{History};
 ghost use Rattle.cyc_buffer.specs.Head.{has_open_head, stop_of, is_busy, IsHeadFault, IsInOrder};
 ghost use Rattle.cyc_buffer.specs.Head.{IsStopRefusal, LeavesBuffer, LeavesBlocks};
 ghost use Rattle.cyc_buffer.specs.Marks.{is_told};
-ghost use Rattle.cyc_buffer.specs.Register.{numbers_in};
+ghost use Rattle.cyc_buffer.specs.BufferState.{numbers_in};
 ghost use Rattle.cyc_buffer.specs.Stopped.{HoldsStopped, numbers_of};
 
 use crate::answers::{BufError, FaultKind};
 use crate::buffer::Buffer;
-use crate::register::Register;
+use crate::buffer_state::BufferState;
 use cyc_block::{BlockStore, DeviceFailed, HeadState, head_count, head_image};
 
 /// A buffer that isn't stopped, and why.
@@ -33,7 +33,7 @@ impl<S: BlockStore> Buffer<S> {
     pub fn is_busy(&self) -> bool
         ensures { result ≡ is_busy self.now }
     {
-        self.register.progress.is_some()
+        self.buffer_state.progress.is_some()
     }
 
     /// The buffer's store.
@@ -89,13 +89,13 @@ impl<S: BlockStore> Buffer<S> {
         ensures rest { LeavesBuffer self.old self.new }
         ensures order { S.honest (store_of self.old) → IsInOrder self.old self.new }
     {
-        if self.register.progress.is_some() {
+        if self.buffer_state.progress.is_some() {
             return Err(BufError::Busy);
         }
         // The bitmap has to be on the device first: a head that says closed before it would vouch
         // for it.
-        if write_bitmap(&mut self.store, &self.register).is_err() {
-            return Err(BufError::Device(self.register.fault(FaultKind::Write, 0)));
+        if write_bitmap(&mut self.store, &self.buffer_state).is_err() {
+            return Err(BufError::Device(self.buffer_state.fault(FaultKind::Write, 0)));
         }
         self.write_head(HeadState::Closed, stop)
     }
@@ -104,10 +104,10 @@ impl<S: BlockStore> Buffer<S> {
     pub(crate) fn write_head(&mut self, state: HeadState, stop: u64) -> Result<(), BufError>
         ensures head { S.honest (store_of self.old) → OnOk result
             (block_at (S.heads (store_of self.new)) 0
-            ≡ image_of (numbers_in (register_of self.old) (state_view state) stop)) }
+            ≡ image_of (numbers_in (buffer_state_of self.old) (state_view state) stop)) }
         ensures others { S.honest (store_of self.old)
             → ChangesOnly 0 (S.heads (store_of self.old)) (S.heads (store_of self.new)) }
-        ensures fit { IsHeadBlock (numbers_in (register_of self.old) (state_view state) stop) }
+        ensures fit { IsHeadBlock (numbers_in (buffer_state_of self.old) (state_view state) stop) }
         ensures rest { LeavesBuffer self.old self.new }
         // The device is called once, and failed or not, as the result says.
         ensures calls { S.calls (store_of self.new) ≡ S.calls (store_of self.old) + 1 }
@@ -119,9 +119,9 @@ impl<S: BlockStore> Buffer<S> {
     {
         // Of a store that has been counted it is known how many head blocks it has.
         let _blocks = self.store.count();
-        let image = head_image(&self.register.numbers(state, stop));
+        let image = head_image(&self.buffer_state.numbers(state, stop));
         if self.store.write_head(0, &image).is_err() {
-            return Err(BufError::Device(self.register.fault(FaultKind::Write, 0)));
+            return Err(BufError::Device(self.buffer_state.fault(FaultKind::Write, 0)));
         }
         Ok(())
     }
@@ -143,7 +143,7 @@ impl<S: BlockStore> Buffer<S> {
             ≡ S.failures (store_of self.old)) }
         // Whether it is or not, the buffer is as it was, and the device was called once.
         ensures same { Follows (λ h. h) self.old self.new }
-        ensures register { register_of self.new ≡ register_of self.old }
+        ensures buffer_state { buffer_state_of self.new ≡ buffer_state_of self.old }
         ensures stop { stop_of self.new ≡ stop_of self.old }
         ensures store { LeavesBlocks ⟦<S as BlockStore>⟧ (store_of self.old) (store_of self.new) }
         ensures count { length (S.blocks (store_of self.new))
@@ -161,11 +161,14 @@ impl<S: BlockStore> Buffer<S> {
 }
 
 /// Writes the bitmap of the blocks in which a live finished article begins, as the register says.
-fn write_bitmap<S: BlockStore>(store: &mut S, register: &Register) -> Result<(), DeviceFailed>
-    requires { register.now.line.blocks ≡ length (S.blocks store.old) }
+fn write_bitmap<S: BlockStore>(
+    store: &mut S,
+    buffer_state: &BufferState,
+) -> Result<(), DeviceFailed>
+    requires { buffer_state.now.line.blocks ≡ length (S.blocks store.old) }
     ensures bitmap { S.honest store.old → OnOk result ((i : ℕ)
         → i < bitmap_blocks (length (S.blocks store.old)) → block_at (S.heads store.new) (1 + i)
-        ≡ bitmap_of (is_told register.now.starts.words.items (length (S.blocks store.old))) i) }
+        ≡ bitmap_of (is_told buffer_state.now.starts.words.items (length (S.blocks store.old))) i) }
     ensures first { S.honest store.old
         → block_at (S.heads store.new) 0 ≡ block_at (S.heads store.old) 0 }
     ensures rest { LeavesBlocks ⟦<S as BlockStore>⟧ store.old store.new }
@@ -177,7 +180,7 @@ fn write_bitmap<S: BlockStore>(store: &mut S, register: &Register) -> Result<(),
 {
     let blocks = store.count();
     for i in 0..head_count(blocks) - 1 {
-        let octets = register.starts.bitmap_block(i, blocks);
+        let octets = buffer_state.starts.bitmap_block(i, blocks);
         store.write_head(i + 1, &octets)?;
     }
     Ok(())

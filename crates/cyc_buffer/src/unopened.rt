@@ -2,7 +2,7 @@
 ghost use Rattle.std.specs.Prelude.{◌≡◌, ◌<◌, ◌+◌, true, length, IfErr, IfOk};
 ghost use Rattle.news_terms.specs.HeadBlocks.{Open, head_image as image_of};
 ghost use Rattle.cyc_block.specs.Store.{block_at, ChangesOnly};
-ghost use Rattle.cyc_buffer.specs.Agreement.{Agrees, Follows, store_of, register_of};
+ghost use Rattle.cyc_buffer.specs.Agreement.{Agrees, Follows, store_of, buffer_state_of};
 ghost use Rattle.cyc_buffer.specs.Calls.{ReadsBlock};
 ghost use Rattle.cyc_buffer.specs.Head.{has_open_head, inside, stop_of, LeavesBlocks, LeavesBuffer};
 ghost use Rattle.cyc_buffer.specs.History.{History};
@@ -62,8 +62,8 @@ impl<S: BlockStore> Unopened<S> {
         ensures others { IfOk result (λ buffer. S.honest (store_of (inside self))
             → ChangesOnly 0 (S.heads (store_of (inside self))) (S.heads (store_of buffer))) }
         ensures same { IfOk result (Follows (λ h. h) (inside self)) }
-        ensures register { IfOk result (λ buffer.
-            register_of buffer ≡ register_of (inside self)) }
+        ensures buffer_state { IfOk result (λ buffer.
+            buffer_state_of buffer ≡ buffer_state_of (inside self)) }
         ensures calls { IfOk result (λ buffer.
             S.calls (store_of buffer) ≡ S.calls (store_of (inside self)) + 1) }
         ensures no_failure { IfOk result (λ buffer.

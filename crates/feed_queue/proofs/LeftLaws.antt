@@ -3,7 +3,7 @@ use Rattle.std.proofs.Common.{◌≡◌, ◌∙◌, ap, sym, refl, ◌+◌, ◌-
 use Rattle.std.proofs.Common.{length, drop, min, max, replicate, arith}
 use Rattle.std.proofs.Math.Seq.{drop-append_seam}
 use Rattle.std.proofs.lemmas.List.{length-append, length-replicate}
-use Rattle.history_text.specs.History.{KeptFeed, RingHolds}
+use Rattle.id_history.specs.History.{KeptFeed, RingHolds}
 use Rattle.news_terms.specs.Token.{Token}
 use Rattle.relay_model.specs.Shares.{as_ring}
 use Rattle.relay_model.specs.State.{Feed}

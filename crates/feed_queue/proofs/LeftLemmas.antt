@@ -9,9 +9,9 @@ use Rattle.std.specs.List.{AllByRecursion, AllZip}
 use Rattle.std.specs.Prelude.{slice_get, Some}
 use Rattle.cyc_token.specs.Token.{token_view}
 use Rattle.cyc_token.specs.declared.Token as tokens
-use Rattle.history_text.specs.History.{KeptFeed, RingHolds}
-use Rattle.history_text.specs.Views.{feed_view}
-use Rattle.history_text.specs.declared.kept.KeptFeed as kept
+use Rattle.id_history.specs.History.{KeptFeed, RingHolds}
+use Rattle.id_history.specs.Views.{feed_view}
+use Rattle.id_history.specs.declared.kept.KeptFeed as kept
 use Rattle.feed_queue.specs.declared.rings.Ring.{Ring}
 use Rattle.feed_queue.specs.Feeds.{KeepsFeed, KeepFeeds, ring_size}
 use Rattle.feed_queue.specs.Left.{IsLeft, AreLeft}

@@ -25,7 +25,8 @@ feed_of : Ring → Feed
 feed_of one = record { gained = list_of one; passed = one.passed; taken = one.taken }
 
 -- where the ring begins in a list
-pub begins : (size gained passed waiting : ℕ) → passed ≤ gained → waiting ≡ min size (gained - passed)
+pub begins : (size gained passed waiting : ℕ) → passed ≤ gained
+    → waiting ≡ min size (gained - passed)
     → max passed (gained - size) ≡ gained - waiting
 begins size gained passed waiting within waits = omega (arith, waits)
 

@@ -1,6 +1,6 @@
 -- What is left of the feeds where the relay is closed (docs/PROTOCOL.md, Clean stop and start).
 use Rattle.std.specs.Prelude.{◌≡◌, ℕ, ◌≤◌, List, length, slice_index, slice_get, Some}
-use Rattle.history_text.specs.History.{KeptFeed}
+use Rattle.id_history.specs.History.{KeptFeed}
 use Rattle.news_terms.specs.Ring as terms
 use Rattle.relay_model.specs.Shares.{as_ring}
 use Rattle.relay_model.specs.State.{Feed}

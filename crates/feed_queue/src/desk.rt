@@ -1,6 +1,7 @@
 //! All rings.
 ghost use Rattle.std.specs.Prelude.{◌≡◌, ◌+◌, ◌-◌, ◌^◌, ◌≤◌, ◌<◌, ◌↔◌, ℕ, List, map, slice_index};
-ghost use Rattle.std.specs.Prelude.{Ok, None, ◌++◌, ◌∷◌, [], IfOk, IfSome, IsOk, OnErr, not, nat_eq};
+ghost use Rattle.std.specs.Prelude.{Ok, None, ◌++◌, ◌∷◌, [], IfOk, IfSome, IsOk, OnErr, not};
+ghost use Rattle.std.specs.Prelude.{nat_eq};
 ghost use Rattle.std.specs.Prelude.{vec_capacity, vec_len};
 ghost use Rattle.std.specs.List.{All, AllZip, list_any};
 ghost use Rattle.cyc_token.specs.Token.{token_view};
@@ -13,13 +14,12 @@ ghost use Rattle.feed_queue.specs.Feeds.{KeepsFeeds, CountBelow, HasRoomToCount,
 ghost use Rattle.feed_queue.specs.Feeds.{ring_size, no_feed, with_gained};
 ghost use Rattle.feed_queue.specs.Left.{IsLeft, AreLeft};
 ghost use Rattle.feed_queue.specs.Taking.{IsTaken, AreCounts};
-ghost use Rattle.history_text.specs.History.{FeedFits, RingHolds};
-ghost use Rattle.history_text.specs.Views.{feed_view};
+ghost use Rattle.id_history.specs.History.{FeedFits, RingHolds};
+ghost use Rattle.id_history.specs.Views.{feed_view};
 
 use crate::rings::Ring;
 use cyc_token::Token;
-use history_text::KeptFeed;
-use id_history::Settled;
+use id_history::{KeptFeed, Settled};
 use std::alloc::{AllocError, Global};
 
 /// What is taken of a feed's ring.

@@ -14,7 +14,7 @@ ghost use Rattle.feed_queue.specs.Feeds.{KeepsFeeds, HasRoomToCount, no_feed, ri
 ghost use Rattle.feed_queue.specs.Feeds.{ring_size};
 ghost use Rattle.feed_queue.specs.Left.{IsLeft};
 ghost use Rattle.feed_queue.specs.Permission.{HasFeeds};
-ghost use Rattle.history_text.specs.History.{KeptFeed, RingHolds};
+ghost use Rattle.id_history.specs.History.{KeptFeed, RingHolds};
 
 use crate::FeedDesk;
 use cyc_token::Token;

@@ -3,15 +3,15 @@ ghost use Rattle.std.specs.Prelude.{◌≡◌, ◌+◌, ◌-◌, ◌≤◌, ◌<
 ghost use Rattle.std.specs.Prelude.{IsOk, vec_capacity, vec_len};
 ghost use Rattle.std.specs.List.{AllByRecursion, enumerate_from};
 ghost use Rattle.cyc_token.specs.Token.{token_view};
-ghost use Rattle.history_text.specs.History.{FeedFits};
-ghost use Rattle.history_text.specs.Views.{feed_view};
+ghost use Rattle.id_history.specs.History.{FeedFits};
+ghost use Rattle.id_history.specs.Views.{feed_view};
 ghost use Rattle.news_terms.specs.Token.{IsToken};
 
 use crate::desk::Counts;
 use crate::laws::is_token;
 use circular_buffer::HeapCircularBuffer;
 use cyc_token::Token;
-use history_text::KeptFeed;
+use id_history::KeptFeed;
 use std::alloc::{AllocError, Global};
 
 /// The end of a feed's list, as much of it as fits and isn't taken, with counts of the list.
@@ -37,7 +37,7 @@ impl Ring {
     ghost use Rattle.feed_queue.specs.Feeds.{KeepsFeed, no_feed, with_gained};
     ghost use Rattle.feed_queue.specs.Left.{IsLeft};
     ghost use Rattle.feed_queue.specs.Taking.{AreCounts, item_view};
-    ghost use Rattle.history_text.specs.History.{RingHolds};
+    ghost use Rattle.id_history.specs.History.{RingHolds};
 
     /// The ring of a feed that gained nothing, with room for so many tokens.
     pub(crate) fn new(alloc: Global, size: u32) -> Result<Ring, AllocError>

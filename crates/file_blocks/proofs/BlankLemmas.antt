@@ -4,8 +4,8 @@ use Rattle.std.specs.Prelude.{◌↔◌, IsTrue}
 use Rattle.cyc_block.specs.declared.TheConstants.{BLOCK_OCTETS}
 use Rattle.file_blocks.specs.Blocks.{IsBlank, octets_at}
 
--- Where the first block is of zeros, no buffer was kept just where the first head block is, which was
--- read behind it.
+-- Where the first block is of zeros, no buffer was kept just where the first head block is, which
+-- was read behind it.
 pub blank : (n place : ℕ) (old new : List ℕ) (block head : Bool) → block ≡ true
     → place ≡ n * BLOCK_OCTETS → new ≡ old
     → IsTrue block ↔ All (λ octet. octet ≡ 0) (octets_at old 0)

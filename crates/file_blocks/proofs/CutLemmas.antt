@@ -125,7 +125,8 @@ other_blocks n k place old new h at c j other =
     ∙ get_or-set_other (blocks_of n old) k j (octets_at new place) [] other
 
 -- so many blocks are the same where the octets up to their end are
-pub same_front : (n : ℕ) (old new : List ℕ) → take (n * BLOCK_OCTETS) new ≡ take (n * BLOCK_OCTETS) old
+pub same_front : (n : ℕ) (old new : List ℕ)
+    → take (n * BLOCK_OCTETS) new ≡ take (n * BLOCK_OCTETS) old
     → blocks_of n new ≡ blocks_of n old
 unfolding blocks_of
 same_front zero old new same = refl

@@ -10,7 +10,8 @@ use crate::octets::OctetFile;
 use cyc_block::{BLOCK_OCTETS, BlockStore, DeviceFailed, head_count};
 use std::fs::{File, Files};
 
-/// The first blocks of a file: block k has the 512 octets from 512 k on. Its head blocks follow them.
+/// The first blocks of a file: block k has the 512 octets from 512 k on. Its head blocks follow
+/// them.
 #[derive(Drop)]
 pub struct FileBlocks<F = HostFile> {
     file: F,
@@ -93,8 +94,8 @@ impl FileBlocks<HostFile> {
         FileBlocks::of_held(HeldFile::hold(rt, path)?, n)
     }
 
-    /// The first n blocks of a file that is held, and their head blocks. The file is made longer with
-    /// zeros where it is shorter; octets that it has stay.
+    /// The first n blocks of a file that is held, and their head blocks. The file is made longer
+    /// with zeros where it is shorter; octets that it has stay.
     pub fn of_held(held: HeldFile, n: u32) -> Result<FileBlocks<HostFile>, Unusable>
         ensures count { IfOk result (λ store. count_of store ≡ n) }
         ensures unasked { IfOk result (λ store. asked_of (file_of store) ≡ []) }

@@ -77,8 +77,8 @@ impl HeldFile {
         self.identity == other.identity
     }
 
-    /// The file, which has so many octets afterwards, or more: it is made longer with zeros where it
-    /// is shorter, and is left as it is where it is longer. Its last block of these is tried.
+    /// The file, which has so many octets afterwards, or more: it is made longer with zeros where
+    /// it is shorter, and is left as it is where it is longer. Its last block of these is tried.
     pub fn fit(self, size: u64) -> Result<HostFile, Unusable>
         ensures unasked { IfOk result (λ file. asked_of file ≡ []) }
         ensures same { IfOk result (λ file. identity_of file ≡ held_identity self) }

@@ -10,9 +10,9 @@ use Rattle.std.specs.String.{string_bytes}
 use Rattle.std.proofs.Common.{String, Global}
 use Rattle.cyc_token.specs.Token.{token_view}
 use Rattle.cyc_token.specs.declared.Token as code
-use Rattle.history_text.specs.History.{KeptId, IdFits}
-use Rattle.history_text.specs.Views.{id_view}
-use Rattle.history_text.specs.declared.kept.KeptId as kept
+use Rattle.id_history.specs.History.{KeptId, IdFits}
+use Rattle.id_history.specs.Views.{id_view}
+use Rattle.id_history.specs.declared.kept.KeptId as kept
 use Rattle.id_history.specs.LastingIn.{kept_by, kept_with, kept_of}
 use Rattle.id_history.specs.declared.claims.Entry.{Entry}
 use Rattle.id_history.proofs.LastingJoins.{all_append}

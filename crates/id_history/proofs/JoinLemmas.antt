@@ -48,7 +48,7 @@ AtMost-plus m n most x y z le sums a b = record {
 }
 
 -- a disjunction that fails fails on both sides
-both_fail : (a b : Bool) → (a || b) ≡ false → (a ≡ false) × (b ≡ false)
+pub both_fail : (a b : Bool) → (a || b) ≡ false → (a ≡ false) × (b ≡ false)
 both_fail true b fails = absurd (true≢false fails)
 both_fail false b fails = (refl, fails)
 
@@ -62,20 +62,21 @@ or_nothing true = refl
 or_nothing false = refl
 
 -- an id that isn't among them differs from each
-apart_each : (x : List ℕ) (ys : List (List ℕ)) → is_member bytes_eq ys x ≡ false
+pub apart_each : (x : List ℕ) (ys : List (List ℕ)) → is_member bytes_eq ys x ≡ false
     → AllByRecursion (λ y. bytes_eq x y ≡ false) ys
 apart_each x [] none = tt
 apart_each x (y ∷ ys) none =
     let both = both_fail (bytes_eq x y) (is_member bytes_eq ys x) none in
     (both.0, apart_each x ys both.1)
 
-apart_append : (x : List ℕ) (xs ys : List (List ℕ)) → AllByRecursion (λ y. bytes_eq x y ≡ false) xs
+pub apart_append : (x : List ℕ) (xs ys : List (List ℕ))
+    → AllByRecursion (λ y. bytes_eq x y ≡ false) xs
     → is_member bytes_eq ys x ≡ false → AllByRecursion (λ y. bytes_eq x y ≡ false) (xs ++ ys)
 apart_append x [] ys all none = apart_each x ys none
 apart_append x (first ∷ xs) ys all none = (all.0, apart_append x xs ys all.1 none)
 
 -- the first of a list is in it
-first_member : (x : List ℕ) (xs : List (List ℕ)) → is_member bytes_eq (x ∷ xs) x ≡ true
+pub first_member : (x : List ℕ) (xs : List (List ℕ)) → is_member bytes_eq (x ∷ xs) x ≡ true
 first_member x xs = ap (λ b. b || is_member bytes_eq xs x) (nat_list_eq_equiv.refl x)
 
 -- two lists of ids that share none, each without doubles, have none together

@@ -10,7 +10,7 @@ use Rattle.std.proofs.lemmas.Slice.Eq.{bytes_eq-Decides}
 use Rattle.std.specs.List.{AllByRecursion, IsDistinct}
 use Rattle.std.specs.Set.{is_member}
 use Rattle.std.specs.Str.{bytes_eq}
-use Rattle.history_text.specs.History.{KeptId}
+use Rattle.id_history.specs.History.{KeptId}
 use Rattle.news_terms.specs.Token.{Token}
 use Rattle.relay_model.specs.Claims.{Claim, Unknown}
 use Rattle.relay_model.specs.Run.{shard_of}
@@ -21,7 +21,7 @@ use Rattle.id_history.proofs.JoinLemmas.{Joins, IsDistinct-join, right_holds, be
 use Rattle.id_history.proofs.ShardsLemmas.{in_range}
 
 -- what is remembered isn't unknown
-known : (token : Option Token) (moment : ℕ) → claim_since token moment ≢ Unknown
+pub known : (token : Option Token) (moment : ℕ) → claim_since token moment ≢ Unknown
 known None moment e = cc
 known (Some token) moment e = cc
 
@@ -82,7 +82,7 @@ apart_from : (a b c : Claim) → ((a ≡ Unknown) × (c ≡ b)) ⊎ ((b ≡ Unkn
 apart_from a b c (inl w) left = absurd (left (ap lasting w.0))
 apart_from a b c (inr w) left = ap lasting w.0
 
-left_holds : (a b : Bool) → a ≡ true → (a || b) ≡ true
+pub left_holds : (a b : Bool) → a ≡ true → (a || b) ≡ true
 left_holds a b holds = ap (λ x. x || b) holds
 
 -- what is left of two parts, together

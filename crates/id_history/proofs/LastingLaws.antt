@@ -12,7 +12,7 @@ use Rattle.std.specs.List.Sorted.{IsStrictlySortedBy}
 use Rattle.std.specs.Ordering.{nat_cmp, is_eq, ordering_reverse}
 use Rattle.std.specs.Set.{is_member}
 use Rattle.std.specs.Str.{bytes_eq}
-use Rattle.history_text.specs.History.{KeptId, Rises}
+use Rattle.id_history.specs.History.{KeptId, Rises}
 use Rattle.news_terms.specs.Token.{Token}
 use Rattle.relay_model.specs.Claims.{Claim, Unknown, is_storing, after_restart}
 use Rattle.relay_model.specs.Claims as claim
@@ -21,6 +21,7 @@ use Rattle.id_history.specs.Lasting.{lasting, claim_since, claim_of_kept, ids_of
 use Rattle.id_history.specs.Lasting.{put_all}
 use Rattle.id_history.specs.declared.claims.Shard.{Shard}
 use Rattle.id_history.specs.Shard.{Keeps}
+use Rattle.id_history.proofs.JoinLemmas.{first_member}
 use Rattle.id_history.proofs.LastingJoins.{left_of_member}
 
 -- what a list says of the claims of its ids
@@ -42,9 +43,6 @@ below_others : (x y : List ℕ) (others : List (List ℕ)) → slice_cmp nat_cmp
 below_others x y [] first others = tt
 below_others x y (z ∷ zs) first others =
     (nat_list_cmp_total.trans x y z first others.0, below_others x y zs first others.1)
-
-first_member : (x : List ℕ) (xs : List (List ℕ)) → is_member bytes_eq (x ∷ xs) x ≡ true
-first_member x xs = ap (λ b. b || is_member bytes_eq xs x) (nat_list_eq_equiv.refl x)
 
 -- a claim says token and moment
 same_fate : (t u : Option Token) (m n : ℕ) → claim_since t m ≡ claim_since u n

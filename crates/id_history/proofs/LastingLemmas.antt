@@ -13,9 +13,9 @@ use Rattle.std.specs.Map.{lookup, keys_of}
 use Rattle.std.specs.Set.{is_member}
 use Rattle.std.specs.Str.{bytes_eq}
 use Rattle.std.specs.String.{string_bytes, string_eq}
-use Rattle.history_text.specs.History.{KeptId}
-use Rattle.history_text.specs.Views.{id_view}
-use Rattle.history_text.specs.declared.kept.KeptId as kept
+use Rattle.id_history.specs.History.{KeptId}
+use Rattle.id_history.specs.Views.{id_view}
+use Rattle.id_history.specs.declared.kept.KeptId as kept
 use Rattle.relay_model.specs.Claims.{Claim, Unknown}
 use Rattle.relay_model.specs.Claims as claim
 use Rattle.relay_model.specs.State.{put_id}

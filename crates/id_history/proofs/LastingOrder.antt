@@ -24,9 +24,9 @@ use Rattle.std.specs.Ordering.{nat_cmp, is_lt, is_eq, ordering_reverse}
 use Rattle.std.specs.Str.{bytes_eq}
 use denote.Param.Members.{Mut}
 use denote.Ref.{Bor}
-use Rattle.history_text.specs.History.{KeptId, Rises}
-use Rattle.history_text.specs.Views.{id_view}
-use Rattle.history_text.specs.declared.kept.KeptId as kept
+use Rattle.id_history.specs.History.{KeptId, Rises}
+use Rattle.id_history.specs.Views.{id_view}
+use Rattle.id_history.specs.declared.kept.KeptId as kept
 use Rattle.relay_model.specs.Claims.{Claim}
 use Rattle.id_history.specs.Lasting.{lasting, claim_of_kept, ids_of, HasLasting}
 use Rattle.id_history.specs.Lasting.{AreLasting, GathersLasting}

@@ -1,17 +1,24 @@
+mod Appends
 mod ClaimLemmas
 mod CountLaws
 mod CountLemmas
 mod EachLemmas
 mod ExpiryLemmas
+mod Fields
 mod FitLemmas
-mod JoinLemmas
-mod LastingJoins
+mod Histories
+pub mod JoinLemmas
+pub mod LastingJoins
 mod LastingLaws
 mod LastingLemmas
 mod LastingOrder
+mod Lists
+mod Loop
 mod MarkLemmas
 mod OnlyIdsLemmas
 mod OwnLemmas
 mod RoomLemmas
 mod RoomOfAll
 mod ShardsLemmas
+mod Tests
+mod Tokens

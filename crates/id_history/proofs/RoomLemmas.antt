@@ -10,8 +10,8 @@ use Rattle.std.specs.List.{flat_map}
 use Rattle.std.specs.Iterator.{Yields}
 use Rattle.std.specs.Map.{values_of}
 use Rattle.std.specs.Map.Iter.{TakesFirst}
-use Rattle.history_text.specs.Views.{id_view}
-use Rattle.history_text.specs.declared.kept.KeptId as kept
+use Rattle.id_history.specs.Views.{id_view}
+use Rattle.id_history.specs.declared.kept.KeptId as kept
 use Rattle.relay_model.specs.Claims.{Claim}
 use Rattle.id_history.specs.Counts.{is_stored, is_refused, Numbers}
 use Rattle.id_history.specs.LastingIn.{kept_of, lasting_count}

@@ -5,7 +5,7 @@ use Rattle.std.specs.List.{flat_map, sum_by}
 use Rattle.std.specs.String.{string_bytes}
 use Rattle.cyc_token.specs.Token.{token_view}
 use Rattle.cyc_token.specs.declared.Token as code
-use Rattle.history_text.specs.History.{KeptId}
+use Rattle.id_history.specs.History.{KeptId}
 use Rattle.id_history.specs.declared.claims.Entry.{Entry}
 use Rattle.id_history.specs.declared.claims.Entry.TheVariants as entry
 use Rattle.id_history.specs.declared.claims.Shard.{Shard}

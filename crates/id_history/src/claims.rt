@@ -10,10 +10,10 @@ ghost use Rattle.id_history.specs.OnlyIds.{OnlyIds};
 
 use crate::counts::Counts;
 use crate::expiry::{is_over, is_passed};
+use crate::kept::KeptId;
 use crate::keys::{id_of, kept, text_of};
 use cyc_buffer::Front;
 use cyc_token::Token;
-use history_text::KeptId;
 use nntp_text::MsgId;
 use std::alloc::{AllocError, Global};
 use std::collections::HashMap;
@@ -159,8 +159,8 @@ impl Shard {
     ghost use Rattle.std.specs.Prelude.{map};
     ghost use Rattle.relay_model.specs.Claims.{after_expire};
     ghost use Rattle.id_history.specs.Counts.{AtMost, CountsOf};
-    ghost use Rattle.history_text.specs.History.{IdFits};
-    ghost use Rattle.history_text.specs.Views.{id_view};
+    ghost use Rattle.id_history.specs.History.{IdFits};
+    ghost use Rattle.id_history.specs.Views.{id_view};
     ghost use Rattle.id_history.specs.Expiry.{passed_view};
     ghost use Rattle.id_history.specs.Lasting.{claim_of_kept, GathersLasting};
     ghost use Rattle.id_history.specs.LastingIn.{lasting_count};

@@ -1,12 +1,12 @@
 //! The texts by which the map of a shard is keyed: those of message-ids.
 ghost use Rattle.std.specs.Prelude.{◌≡◌, None, IfOk, option_map};
 ghost use Rattle.cyc_token.specs.Token.{token_view};
-ghost use Rattle.history_text.specs.History.{IdFits};
-ghost use Rattle.history_text.specs.Views.{id_view};
+ghost use Rattle.id_history.specs.History.{IdFits};
+ghost use Rattle.id_history.specs.Views.{id_view};
 ghost use Rattle.news_terms.specs.MessageId.{id_fault};
 
+use crate::kept::KeptId;
 use cyc_token::Token;
-use history_text::KeptId;
 use nntp_text::MsgId;
 use std::alloc::{AllocError, Global};
 

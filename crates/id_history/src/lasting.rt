@@ -4,8 +4,8 @@ ghost use Rattle.std.specs.Prelude.{vec_len, vec_capacity};
 ghost use Rattle.std.specs.List.{AllByRecursion, IsDistinct};
 ghost use Rattle.std.specs.List.Sorted.{IsPermutation};
 ghost use Rattle.std.specs.Str.{bytes_eq};
-ghost use Rattle.history_text.specs.History.{IdFits, Rises};
-ghost use Rattle.history_text.specs.Views.{id_view};
+ghost use Rattle.id_history.specs.History.{IdFits, Rises};
+ghost use Rattle.id_history.specs.Views.{id_view};
 ghost use Rattle.relay_model.specs.Claims.{Claim};
 ghost use Rattle.id_history.specs.Lasting.{AreLasting, GathersLasting, ids_of, lasting};
 ghost use Rattle.id_history.specs.LastingIn.{lasting_count};
@@ -13,7 +13,7 @@ ghost use Rattle.id_history.specs.Shard.{Keeps};
 
 use crate::claims::Shard;
 use crate::counts::Counts;
-use history_text::KeptId;
+use crate::kept::KeptId;
 use std::alloc::{AllocError, Global};
 use std::hash::RandomState;
 

@@ -1,6 +1,6 @@
 //! Laws of what a shard keeps: each is the contract of an empty body.
 ghost use Rattle.std.specs.Prelude.{◌≡◌, ◌↔◌, ℕ, List, false};
-ghost use Rattle.history_text.specs.History.{KeptId, Rises};
+ghost use Rattle.id_history.specs.History.{KeptId, Rises};
 ghost use Rattle.relay_model.specs.Claims.{Claim, after_restart, is_storing};
 ghost use Rattle.id_history.specs.Counts.{CountsOf};
 ghost use Rattle.id_history.specs.Lasting.{AreLasting, lasting};

@@ -6,17 +6,32 @@
 //! every other id as it was; `expire` goes through all ids, and `entries` and `resume` are what
 //! outlives a stop. `Shards` spreads the ids over sixteen of them by `shard_of`, and says
 //! the same of each call. Neither holds an article or has a clock or a lock.
+//!
+//! The text of relay.hist: what outlives a clean stop besides the buffers (docs/FORMATS.md,
+//! History file). There is one text for each history, and nothing else is read.
+//!
+//! It holds no state, and knows neither files nor clocks.
 #![tactic(auto)]
 
 mod claims;
+mod conditions;
 mod counts;
 mod expiry;
+mod fault;
+mod kept;
 mod keys;
 mod lasting;
 pub mod laws;
+mod reading;
 mod shards;
+pub mod text_laws;
+mod writing;
 
 pub use claims::{Offer, Settled, Shard, Take};
 pub use counts::Counts;
+pub use fault::HistoryError;
+pub use kept::{History, KeptFeed, KeptId, Setting};
 pub use lasting::sort;
+pub use reading::read;
 pub use shards::{SHARD_COUNT, Shards, shard_of};
+pub use writing::write;

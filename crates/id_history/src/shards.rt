@@ -14,10 +14,10 @@ ghost use Rattle.id_history.specs.Expiry.{passed_view};
 
 use crate::claims::{Offer, Settled, Shard, Take};
 use crate::counts::Counts;
+use crate::kept::KeptId;
 use crate::lasting::{reserve, sort};
 use cyc_buffer::Front;
 use cyc_token::Token;
-use history_text::KeptId;
 use nntp_text::MsgId;
 use std::alloc::{AllocError, Global};
 use std::hash::RandomState;
@@ -48,8 +48,8 @@ pub struct Shards {
 }
 
 impl Shards {
-    ghost use Rattle.history_text.specs.Views.{id_view};
-    ghost use Rattle.history_text.specs.History.{IdFits};
+    ghost use Rattle.id_history.specs.Views.{id_view};
+    ghost use Rattle.id_history.specs.History.{IdFits};
     ghost use Rattle.id_history.specs.Lasting.{AreLasting, claim_of_kept, lasting};
     ghost use Rattle.id_history.specs.LastingIn.{all_lasting};
     ghost use Rattle.id_history.specs.Shards.{KeepsAll, EachKeeps};

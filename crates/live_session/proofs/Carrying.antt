@@ -7,7 +7,8 @@ use Rattle.std.specs.Prelude.{is_some, unwrap_or, vec_len}
 use Rattle.std.proofs.lemmas.List.{append-nil, append_assoc, take-append-drop}
 use Rattle.std.proofs.lemmas.Option.{none-some}
 use Rattle.live_session.specs.Carried.{Carried, Carries, CarriesOn, CarriesSame, EndsAs, HeardAs}
-use Rattle.live_session.specs.Carried.{Lasts, LastsOrHeld, Refusal, WrittenAs, finish_of, is_break, is_broken}
+use Rattle.live_session.specs.Carried.{Lasts, LastsOrHeld, Refusal, WrittenAs, finish_of, is_break}
+use Rattle.live_session.specs.Carried.{is_broken}
 use Rattle.live_session.specs.Carried.{part_finish}
 use Rattle.live_session.specs.Going.{parted_after}
 use Rattle.live_session.specs.declared.commands.Command.{Command}

@@ -25,7 +25,8 @@ use Rattle.relay_model.specs.Hears.{Heard, Hears, ReadHeard, goes_on, look_heard
 use Rattle.relay_model.specs.Hears.{outcome_heard, push_heard, slot_heard, take_heard}
 use Rattle.relay_model.specs.Run.{is_reading, is_running}
 use Rattle.relay_model.specs.Shares.{Answer}
-use Rattle.relay_model.specs.State.{Session, Phase, Ready, Owes, Holds, Waits, Fetches, Leaving}
+use Rattle.relay_model.specs.State.{Session, Phase, Ready, AwaitsBlock, Holds, Waits, Fetches}
+use Rattle.relay_model.specs.State.{Leaving}
 use Rattle.relay_model.specs.State.{Ended, Transfer, TakesThis, Has, Job, Asked, in_phase}
 use Rattle.relay_model.specs.State.{with_unread, with_offers}
 use Rattle.relay_model.specs.Terms.{Terms, Reason}
@@ -102,7 +103,7 @@ module _ (before : Session) where
   command_fits w one now (Ihave id) d runs e =
       due_is before (offer_asked one Has id) one (offer_fits one Has id runs) d e
   command_fits w one now (TakeThis id) d runs e =
-      due_is before GoesOn (in_phase one (Owes TakesThis id)) refl d e
+      due_is before GoesOn (in_phase one (AwaitsBlock TakesThis id)) refl d e
   command_fits w one now (Fetch part id) d runs e = due_is before (Looks part id) one runs d e
   command_fits w one now (FetchToken word) d runs e =
       due_is before e.0 one (token_fits one word e.0 e.1 runs) d e.2
@@ -180,7 +181,7 @@ phase_fits : (w : Terms) (one : Session) (now : ℕ) (phase : Phase) (d : Due) �
     → IsDueIn w one now phase d → FitsDue one d.ask d.after
 phase_fits w one now Ready d at e =
     ready_fits w one now (next_line one.unread) d (ap is_running at) e
-phase_fits w one now (Owes transfer id) d at e =
+phase_fits w one now (AwaitsBlock transfer id) d at e =
     owing_fits w one transfer id now (next_block w.max_article one.unread) d e
 phase_fits w one now (Holds id article) d at e =
     due_is one (Takes TakesThis id article) (in_phase one Ready) refl d e

@@ -105,7 +105,7 @@ none_gathered asks.Ends read told gathered plain = refl
 plain_gathers : (ask : Ask) (told : shares.Answer) (phase : model.Phase) (later : List ℕ)
     → reads_block ask ≡ false → Gathers ask told phase later → later ≡ []
 plain_gathers ask told model.Ready later plain is = is
-plain_gathers ask told (model.Owes transfer id) later plain is = is
+plain_gathers ask told (model.AwaitsBlock transfer id) later plain is = is
 plain_gathers ask told (model.Holds id article) later plain is = is
 plain_gathers ask told (model.Waits transfer id) later plain is = is
 plain_gathers ask told (model.Fetches asked token had) later plain (inl none) = none.0
@@ -168,7 +168,8 @@ module _ (s : ℕ) (old : Session) (answer : Answer) (said : List ℕ) (new : Se
       → later ≡ gathered_after d.ask (chunk_in answer) told gathered
   read_after asked token had chunk found later at is tells after =
       after
-      ∙ ap (λ one. gathered_after (asks.Reads asked token had) (Some chunk) one gathered) (sym tells)
+      ∙ ap (λ one. gathered_after (asks.Reads asked token had) (Some chunk) one gathered)
+      (sym tells)
       ∙ ap (λ one. gathered_after (asks.Reads asked token had) (chunk_in one) told gathered)
       (sym is)
       ∙ ap (λ one. gathered_after one (chunk_in answer) told gathered) (sym at)

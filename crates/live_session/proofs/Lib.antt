@@ -2,4 +2,4 @@ pub mod Carrying
 pub mod Closing
 pub mod Hearings
 pub mod Sharings
-pub mod Talks
+pub mod LiveSessions

@@ -24,17 +24,17 @@ use Rattle.id_history.specs.Answers.{offer_view, take_view}
 use Rattle.id_history.specs.declared.claims.Offer.{Offer}
 use Rattle.id_history.specs.declared.claims.Take.{Take}
 use Rattle.id_history.specs.declared.claims.Take.TheVariants as takes
-use Rattle.live_fates.specs.declared.fate.KeptJob.{KeptJob}
-use Rattle.live_seats.specs.Seats.{count_of, end_of, handed_by}
+use Rattle.live_jobs.specs.declared.store_result.KeptJob.{KeptJob}
+use Rattle.live_jobs.specs.Seats.{count_of, end_of, handed_by}
 use Rattle.live_session.proofs.Hearings.{answers_by, none_read, reads_block}
 use Rattle.live_session.specs.Course.{Hands, HandsAfter, IsHeldOnce, IsToldFor, with_job, with_kept}
 use Rattle.live_session.specs.Going.{AnswersBy, AskFits, FoundBy, IsFrontOf, IsReadOf}
 use Rattle.live_session.specs.Going.{KeepsButReads, ReadOf, ReadsFor, Shared, SharesFor, chunk_in}
 use Rattle.live_session.specs.Going.{hands_of, numbers_of}
-use Rattle.live_session.specs.declared.talk.Talk.{Talk}
+use Rattle.live_session.specs.declared.live.LiveSession.{LiveSession}
 use Rattle.live_store.specs.Steps.{IsChunkOf, IsFoundGone, IsFoundIn, IsReadFault}
 use Rattle.live_store.specs.Tied.{text_in}
-use Rattle.live_store.specs.declared.record.Archive.{Ghosts}
+use Rattle.live_store.specs.declared.record.StorePremises.{Ghosts}
 use Rattle.live_store.specs.declared.writing.entering.Record.{Record}
 use Rattle.news_terms.specs.BlockImage.{chunk_size}
 use Rattle.news_terms.specs.Token.{Token}
@@ -142,7 +142,7 @@ held_once take session phase is once id article holds told =
     by : (p : Phase) → phase_view p ≡ model.Holds id article → holds_article p ≡ true
     by (phases.Holds one other room) e = refl
     by phases.Ready e = cc
-    by (phases.Owes transfer one) e = cc
+    by (phases.AwaitsBlock transfer one) e = cc
     by (phases.Waits transfer one room) e = cc
     by (phases.Fetches reading) e = cc
     by phases.Leaving e = cc
@@ -154,17 +154,17 @@ held_once take session phase is once id article holds told =
     held_by takes.Mine e = cc
     held_by takes.Seen e = cc
 
-module _ {J : Type 0} {g : Ghosts J} (w : Terms) (talk : Talk J g) where
+module _ {J : Type 0} {g : Ghosts J} (w : Terms) (live : LiveSession J g) where
   -- what was asked is answered so
-  pub answered : (honest : Bool) (new : Talk J g) (answer : Answer) (told : shares.Answer)
+  pub answered : (honest : Bool) (new : LiveSession J g) (answer : Answer) (told : shares.Answer)
       (m : model.Session) (d : Due) (gathered : List ℕ) (ask : Ask) → d.ask ≡ ask
       → reads_block ask ≡ false → IsAnswerTo ask gathered answer told
       → IsReadOf new.reads.shown told
       → IsToldFor honest g.register gathered d.ask (chunk_in answer) told
       → IsHeldOnce m.phase told
-      → HandsAfter (end_of talk.seat) ask told (hands_of talk) (hands_of new)
+      → HandsAfter (end_of live.seat) ask told (hands_of live) (hands_of new)
       → Planned w new.session m d gathered (handed answer)
-      → ∥ Shared honest w m d gathered talk answer new ∥₁
+      → ∥ Shared honest w m d gathered live answer new ∥₁
   answered honest new answer told m d gathered ask asked plain is read found held hands planned =
       ∣ record {
         told = told;
@@ -173,15 +173,15 @@ module _ {J : Type 0} {g : Ghosts J} (w : Terms) (talk : Talk J g) where
         read = λ trusted. read;
         found = found;
         held = held;
-        hands = subst (λ a. HandsAfter (end_of talk.seat) a told (hands_of talk) (hands_of new))
+        hands = subst (λ a. HandsAfter (end_of live.seat) a told (hands_of live) (hands_of new))
             (sym asked) hands;
         planned = planned;
       } ∣₁
 
-  pub no_memory : (step : Step) (new : Talk J g) → SharesFor w step talk answers.Memory new
+  pub no_memory : (step : Step) (new : LiveSession J g) → SharesFor w step live answers.Memory new
   no_memory step new honest trust m d gathered planned is fits some = absurd (some refl)
 
-  pub nothing : SharesFor w steps.Nothing talk answers.Nothing talk
+  pub nothing : SharesFor w steps.Nothing live answers.Nothing live
   nothing honest trust m d gathered planned is fits some = ∣ record {
     told = shares.Nothing;
     answers = answers_by honest d.ask gathered answers.Nothing shares.Nothing
@@ -189,61 +189,61 @@ module _ {J : Type 0} {g : Ghosts J} (w : Terms) (talk : Talk J g) where
     read = λ trusted. tt;
     found = tt;
     held = λ id article holds held. cc;
-    hands = none_handed (end_of talk.seat) d.ask (hands_of talk) is;
+    hands = none_handed (end_of live.seat) d.ask (hands_of live) is;
     planned = planned;
   } ∣₁
 
   pub offered : (id : List ℕ) (offer : Offer)
-      → SharesFor w (steps.Offer id) talk (answers.Offer offer) talk
+      → SharesFor w (steps.Offer id) live (answers.Offer offer) live
   offered id offer honest trust m d gathered planned is fits some =
-      answered honest talk (answers.Offer offer) (shares.ToOffer (offer_view offer)) m d gathered
+      answered honest live (answers.Offer offer) (shares.ToOffer (offer_view offer)) m d gathered
       (asks.Offers is.0 id) is.1 refl (offer, refl, refl) tt tt (λ held article holds e. cc) refl
       planned
 
   pub looked : (id : List ℕ) (token : Option codes.Token)
-      → SharesFor w (steps.Look id) talk (answers.Look token) talk
+      → SharesFor w (steps.Look id) live (answers.Look token) live
   looked id token honest trust m d gathered planned is fits some =
-      answered honest talk (answers.Look token) (shares.ToLook (option_map token_view token)) m d
+      answered honest live (answers.Look token) (shares.ToLook (option_map token_view token)) m d
       gathered (asks.Looks is.0 id) is.1 refl (token, refl, refl) tt tt
       (λ held article holds e. cc) refl planned
 
   pub queued : (feed most : ℕ) (taken : Taken) → length taken.items.items ≤ most
-      → SharesFor w (steps.TakeQueue feed most) talk (answers.Queue taken) talk
+      → SharesFor w (steps.TakeQueue feed most) live (answers.Queue taken) live
   queued feed most taken few honest trust m d gathered planned is fits some =
-      answered honest talk (answers.Queue taken)
+      answered honest live (answers.Queue taken)
       (shares.ToTakeQueue taken.missed (map item_view taken.items.items)) m d gathered
       (asks.TakesQueue feed most) is refl (taken, refl, few, refl) tt tt
       (λ held article holds e. cc) refl planned
 
-  pub refused : (id : List ℕ) → SharesFor w (steps.Refuse id) talk answers.Nothing talk
+  pub refused : (id : List ℕ) → SharesFor w (steps.Refuse id) live answers.Nothing live
   refused id honest trust m d gathered planned is fits some =
-      answered honest talk answers.Nothing shares.Nothing m d gathered (asks.Refuses is.0 id) is.1
+      answered honest live answers.Nothing shares.Nothing m d gathered (asks.Refuses is.0 id) is.1
       refl refl tt tt (λ held article holds e. cc) refl planned
 
   -- who holds an article isn't answered that another session stores one
   pub taken_up : (id : List ℕ) (take : Take)
-      → (holds_article talk.session.phase ≡ true → take ≢ takes.Held)
-      → SharesFor w (steps.Take id) talk (answers.Take take) talk
+      → (holds_article live.session.phase ≡ true → take ≢ takes.Held)
+      → SharesFor w (steps.Take id) live (answers.Take take) live
   taken_up id take once honest trust m d gathered planned is fits some =
-      answered honest talk (answers.Take take) (shares.ToTake (take_view take)) m d gathered
+      answered honest live (answers.Take take) (shares.ToTake (take_view take)) m d gathered
       (asks.Takes is.0 id is.1) is.2 refl (take, refl, refl) tt tt
-      (held_once take talk.session m.phase
+      (held_once take live.session m.phase
       (ap (λ (one : model.Session). one.phase) planned.stands.is) once) refl planned
 
-  pub released : (id : List ℕ) → SharesFor w (steps.Release id) talk answers.Nothing talk
+  pub released : (id : List ℕ) → SharesFor w (steps.Release id) live answers.Nothing live
   released id honest trust m d gathered planned is fits some =
-      answered honest talk answers.Nothing shares.Nothing m d gathered (asks.Releases id) is refl
+      answered honest live answers.Nothing shares.Nothing m d gathered (asks.Releases id) is refl
       refl tt tt (λ held article holds e. cc) refl planned
 
-  pub was_read : (token : codes.Token) (k : ℕ) (chunk : Chunk) (new : Talk J g)
-      → KeepsButReads talk new
+  pub was_read : (token : codes.Token) (k : ℕ) (chunk : Chunk) (new : LiveSession J g)
+      → KeepsButReads live new
       → ((honest : Bool) → (honest ≡ true → g.trusted ≡ true)
-      → ReadsFor honest g.register (token_view token) k talk.reads.shown chunk new.reads.shown)
-      → SharesFor w (steps.Read token k) talk (answers.Chunk chunk) new
+      → ReadsFor honest g.register (token_view token) k live.reads.shown chunk new.reads.shown)
+      → SharesFor w (steps.Read token k) live (answers.Chunk chunk) new
   was_read token k chunk new keeps reads honest trust m d gathered planned is fits some =
       let ask = asks.Reads is.0 (token_view token) k in
       ∥∥₁_map (reads honest trust is.0 gathered (λ trusted.
-      subst (λ a. AskFits talk.reads.shown a gathered) is.1 (fits trusted)))
+      subst (λ a. AskFits live.reads.shown a gathered) is.1 (fits trusted)))
       (λ one. record {
         told = shares.ToRead one.found;
         answers = subst (λ a. AnswersBy honest a gathered (answers.Chunk chunk)
@@ -253,20 +253,20 @@ module _ {J : Type 0} {g : Ghosts J} (w : Terms) (talk : Talk J g) where
         found = subst (λ a. IsToldFor honest g.register gathered a (Some chunk)
             (shares.ToRead one.found)) (sym is.1) one.under;
         held = λ id article holds held. cc;
-        hands = subst (λ a. HandsAfter (end_of talk.seat) a (shares.ToRead one.found)
-            (hands_of talk) (hands_of new)) (sym is.1) keeps.hands;
+        hands = subst (λ a. HandsAfter (end_of live.seat) a (shares.ToRead one.found)
+            (hands_of live) (hands_of new)) (sym is.1) keeps.hands;
         planned = subst (λ s. Planned w s m d gathered false) (sym keeps.session) planned;
       })
 
   -- a job is pushed by one who hands it over
-  pub pushed : (group : ℕ) (job : Job) (new : Talk J g)
-      → HandsOver talk.session (Some job) new.session
+  pub pushed : (group : ℕ) (job : Job) (new : LiveSession J g)
+      → HandsOver live.session (Some job) new.session
       → handed_by new.seat
-      ≡ slice_set (handed_by talk.seat) group (slice_index_or (handed_by talk.seat) group []
-      ++ record { end = end_of talk.seat; number = count_of talk.seat; job = job } ∷ [])
-      → count_of new.seat ≡ count_of talk.seat + 1
-      → numbers_of new.kept.items ≡ numbers_of talk.kept.items
-      → SharesFor w (steps.Push group) talk (answers.Pushed true) new
+      ≡ slice_set (handed_by live.seat) group (slice_index_or (handed_by live.seat) group []
+      ++ record { end = end_of live.seat; number = count_of live.seat; job = job } ∷ [])
+      → count_of new.seat ≡ count_of live.seat + 1
+      → numbers_of new.kept.items ≡ numbers_of live.kept.items
+      → SharesFor w (steps.Push group) live (answers.Pushed true) new
   pushed group job new over jobs count kept honest trust m d gathered planned is fits some =
       let gives = over w m d gathered is.0 planned is.1 in
       let same : job ≡ gives.one = ap (λ o. job_or o job) gives.result_is in
@@ -276,47 +276,48 @@ module _ {J : Type 0} {g : Ghosts J} (w : Terms) (talk : Talk J g) where
       (asks.Pushes is.0) is.1 refl (true, refl, refl) tt tt (λ held article holds e. cc) (
         gives.one,
         gives.job_is,
-        hands_are (hands_of new) (with_job (end_of talk.seat) gives.one (hands_of talk))
-            (subst (λ at. handed_by new.seat ≡ slice_set (handed_by talk.seat) at
-            (slice_index_or (handed_by talk.seat) at []
+        hands_are (hands_of new) (with_job (end_of live.seat) gives.one (hands_of live))
+            (subst (λ at. handed_by new.seat ≡ slice_set (handed_by live.seat) at
+            (slice_index_or (handed_by live.seat) at []
             ++ record {
-              end = end_of talk.seat;
-              number = count_of talk.seat;
+              end = end_of live.seat;
+              number = count_of live.seat;
               job = gives.one;
             } ∷ []))
             here
-            (subst (λ one. handed_by new.seat ≡ slice_set (handed_by talk.seat) group
-            (slice_index_or (handed_by talk.seat) group []
-            ++ record { end = end_of talk.seat; number = count_of talk.seat; job = one } ∷ []))
+            (subst (λ one. handed_by new.seat ≡ slice_set (handed_by live.seat) group
+            (slice_index_or (handed_by live.seat) group []
+            ++ record { end = end_of live.seat; number = count_of live.seat; job = one } ∷ []))
             same jobs))
             count kept,
       )
       gives.planned
 
   -- no job is in the hand of a session that planned no push
-  pub none_in_hand : (group : ℕ) (new : Talk J g) → HandsOver talk.session None new.session
-      → SharesFor w (steps.Push group) talk (answers.Pushed false) new
+  pub none_in_hand : (group : ℕ) (new : LiveSession J g) → HandsOver live.session None new.session
+      → SharesFor w (steps.Push group) live (answers.Pushed false) new
   none_in_hand group new over honest trust m d gathered planned is fits some =
       let gives = over w m d gathered is.0 planned is.1 in
       absurd (none-some gives.one gives.result_is)
 
   -- the job stays in the session's hand
-  pub not_pushed : (group : ℕ) → SharesFor w (steps.Push group) talk (answers.Pushed false) talk
+  pub not_pushed : (group : ℕ) → SharesFor w (steps.Push group) live (answers.Pushed false) live
   not_pushed group honest trust m d gathered planned is fits some =
-      answered honest talk (answers.Pushed false) (shares.ToPush false) m d gathered
+      answered honest live (answers.Pushed false) (shares.ToPush false) m d gathered
       (asks.Pushes is.0) is.1 refl (false, refl, refl) tt tt (λ held article holds e. cc) refl
       planned
 
   -- nothing is in the slot
-  pub slot_empty : SharesFor w steps.Slot talk (answers.Slot None) talk
+  pub slot_empty : SharesFor w steps.Slot live (answers.Slot None) live
   slot_empty honest trust m d gathered planned is fits some =
-      answered honest talk (answers.Slot None) (shares.InSlot None) m d gathered
+      answered honest live (answers.Slot None) (shares.InSlot None) m d gathered
       (asks.LooksInSlot is.0 is.1) is.2 refl (None, refl, refl) tt tt (λ held article holds e. cc)
       refl planned
 
   -- the job failed
-  pub slot_failed : (new : Talk J g) → new.session ≡ talk.session → hands_of new ≡ hands_of talk
-      → SharesFor w steps.Slot talk (answers.Slot (Some outcomes.Failed)) new
+  pub slot_failed : (new : LiveSession J g) → new.session ≡ live.session
+      → hands_of new ≡ hands_of live
+      → SharesFor w steps.Slot live (answers.Slot (Some outcomes.Failed)) new
   slot_failed new session hands honest trust m d gathered planned is fits some =
       answered honest new (answers.Slot (Some outcomes.Failed))
       (shares.InSlot (Some world.HasFailed)) m d gathered (asks.LooksInSlot is.0 is.1) is.2 refl
@@ -325,17 +326,17 @@ module _ {J : Type 0} {g : Ghosts J} (w : Terms) (talk : Talk J g) where
       (subst (λ s. Planned w s m d gathered false) (sym session) planned)
 
   -- the job is kept, and its receipt joins the others
-  pub slot_kept : (new : Talk J g) (one : KeptJob J g) → new.session ≡ talk.session
-      → handed_by new.seat ≡ handed_by talk.seat → count_of new.seat ≡ count_of talk.seat
-      → new.kept.items ≡ talk.kept.items ++ one ∷ [] → one.number ≡ count_of talk.seat - 1
-      → SharesFor w steps.Slot talk (answers.Slot (Some outcomes.Kept)) new
+  pub slot_kept : (new : LiveSession J g) (one : KeptJob J g) → new.session ≡ live.session
+      → handed_by new.seat ≡ handed_by live.seat → count_of new.seat ≡ count_of live.seat
+      → new.kept.items ≡ live.kept.items ++ one ∷ [] → one.number ≡ count_of live.seat - 1
+      → SharesFor w steps.Slot live (answers.Slot (Some outcomes.Kept)) new
   slot_kept new one session jobs count kept number honest trust m d gathered planned is fits some =
       answered honest new (answers.Slot (Some outcomes.Kept)) (shares.InSlot (Some world.IsKept))
       m d gathered (asks.LooksInSlot is.0 is.1) is.2 refl (Some outcomes.Kept, refl, refl) tt tt
       (λ held article holds e. cc)
-      (hands_are (hands_of new) (with_kept (hands_of talk)) jobs count
-      (ap (λ l. numbers_of l) kept ∙ map-append (λ (k : KeptJob J g). k.number) talk.kept.items
-      (one ∷ []) ∙ ap (λ n. numbers_of talk.kept.items ++ n ∷ []) number))
+      (hands_are (hands_of new) (with_kept (hands_of live)) jobs count
+      (ap (λ l. numbers_of l) kept ∙ map-append (λ (k : KeptJob J g). k.number) live.kept.items
+      (one ∷ []) ∙ ap (λ n. numbers_of live.kept.items ++ n ∷ []) number))
       (subst (λ s. Planned w s m d gathered false) (sym session) planned)
 
 -- what was found of a block, where that is no text

@@ -7,10 +7,10 @@ use Rattle.boxcar.specs.Table.{Shelves}
 use Rattle.live_session.specs.Course.{Course, Hands, IsClosed, Point, greeted}
 use Rattle.live_session.specs.Going.{Going, parted_after}
 use Rattle.live_session.specs.declared.commands.Command.{Command}
-use Rattle.live_session.specs.declared.talk.Talk.{Talk}
+use Rattle.live_session.specs.declared.live.LiveSession.{LiveSession}
 use Rattle.live_session.specs.declared.wire.Finish.{Finish}
 use Rattle.live_session.specs.declared.wire.Finish.TheVariants as finishes
-use Rattle.live_store.specs.declared.record.Archive.{Ghosts}
+use Rattle.live_store.specs.declared.record.StorePremises.{Ghosts}
 use Rattle.news_terms.specs.Reply.{Greeting, reply_text}
 use Rattle.peer_session.specs.Session.{NewStands}
 use Rattle.peer_session.specs.declared.session.Session.{Session}
@@ -107,20 +107,20 @@ pub record Carries (c : Carried) (came replies : List ℕ) (parted : Option (Lis
 -- The session of a thread is on its course, and the connection has carried what it heard and said;
 -- before it, the reader had read and the writer had written this.
 pub record Serves {J : Type 0} {g : Ghosts J} (honest : Bool) (w : Terms) (s end : ℕ)
-    (first : Point) (read written : List ℕ) (talk : Talk J g) (c : Carried) : Type 0 where
+    (first : Point) (read written : List ℕ) (live : LiveSession J g) (c : Carried) : Type 0 where
   pub at : Point
-  pub going : Going honest w s end first talk at
+  pub going : Going honest w s end first live at
   pub carries : Carries c (read ++ at.heard) (written ++ at.said) at.parted
 
 -- what was served up to here is served further; of honest stores something is said where the
--- archive is trusted
-abbrev pub ServesOn : {J : Type 0} {g : Ghosts J} → Terms → Talk J g → Talk J g
+-- stores are trusted
+abbrev pub ServesOn : {J : Type 0} {g : Ghosts J} → Terms → LiveSession J g → LiveSession J g
     → (old new : Carried) → Type 0
-ServesOn {J} {g} w talk talk' old new =
+ServesOn {J} {g} w live live' old new =
     (honest : Bool) → (honest ≡ true → g.trusted ≡ true)
     → (s end : ℕ) (first : Point) (read written : List ℕ)
-    → ∥ Serves honest w s end first read written talk old ∥₁
-    → ∥ Serves honest w s end first read written talk' new ∥₁
+    → ∥ Serves honest w s end first read written live old ∥₁
+    → ∥ Serves honest w s end first read written live' new ∥₁
 
 -- the connection carried this further: these octets came, and this was said, of which the last
 -- reply is one where the session leaves

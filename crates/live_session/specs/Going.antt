@@ -6,16 +6,16 @@ use Rattle.article_fetch.specs.Fetch.{Fetch, FoundAs}
 use Rattle.article_fetch.specs.Given.{given}
 use Rattle.article_fetch.specs.declared.chunk.Chunk.{Chunk}
 use Rattle.boxcar.specs.Table.{Shelves, Where}
-use Rattle.live_fates.specs.declared.fate.KeptJob.{KeptJob}
-use Rattle.live_seats.specs.Seats.{count_of, end_of, handed_by}
+use Rattle.live_jobs.specs.declared.store_result.KeptJob.{KeptJob}
+use Rattle.live_jobs.specs.Seats.{count_of, end_of, handed_by}
 use Rattle.live_session.specs.Course.{Course, Hands, HandsAfter, HearsBy, IsFoundUnder, IsHeldOnce}
 use Rattle.live_session.specs.Course.{IsToldFor, Point, gathered_after}
-use Rattle.live_seats.specs.declared.session.SessionSeat.{SessionSeat}
-use Rattle.live_session.specs.declared.talk.Talk.{Talk}
-use Rattle.live_session.specs.declared.talk.Turned.{Turned}
-use Rattle.live_session.specs.declared.talk.Turned.TheVariants as turned
+use Rattle.live_jobs.specs.declared.session.SessionSeat.{SessionSeat}
+use Rattle.live_session.specs.declared.live.LiveSession.{LiveSession}
+use Rattle.live_session.specs.declared.live.Turned.{Turned}
+use Rattle.live_session.specs.declared.live.Turned.TheVariants as turned
 use Rattle.live_store.specs.Tied.{text_in}
-use Rattle.live_store.specs.declared.record.Archive.{Ghosts}
+use Rattle.live_store.specs.declared.record.StorePremises.{Ghosts}
 use Rattle.live_store.specs.declared.writing.entering.Record.{Record}
 use Rattle.news_terms.specs.BlockImage.{chunk_size}
 use Rattle.news_terms.specs.Token.{Token}
@@ -47,8 +47,8 @@ hands_at seat kept =
     record { jobs = handed_by seat; count = count_of seat; kept = numbers_of kept }
 
 -- the same of the end of a session
-abbrev pub hands_of : {J : Type 0} {g : Ghosts J} → Talk J g → Hands
-hands_of talk = hands_at talk.seat talk.kept.items
+abbrev pub hands_of : {J : Type 0} {g : Ghosts J} → LiveSession J g → Hands
+hands_of live = hands_at live.seat live.kept.items
 
 -- a fetch that has had no Turn has gathered nothing; else it has the front of the text of the
 -- record that its reads are of
@@ -65,13 +65,13 @@ FrontFits shown phase gathered =
 
 -- the session of the thread, of this number and end, came to this point from the first one
 pub record Going {J : Type 0} {g : Ghosts J} (honest : Bool) (w : Terms) (s end : ℕ)
-    (first : Point) (talk : Talk J g) (p : Point) : Type 0 where
+    (first : Point) (live : LiveSession J g) (p : Point) : Type 0 where
   pub course : Course honest g.register w s end first p
-  pub stands : Stands w talk.session p.session p.gathered
-  pub front : honest ≡ true → FrontFits talk.reads.shown p.session.phase p.gathered
-  pub hands : p.hands ≡ hands_of talk
-  pub number : talk.number ≡ s
-  pub end_is : end_of talk.seat ≡ end
+  pub stands : Stands w live.session p.session p.gathered
+  pub front : honest ≡ true → FrontFits live.reads.shown p.session.phase p.gathered
+  pub hands : p.hands ≡ hands_of live
+  pub number : live.number ≡ s
+  pub end_is : end_of live.seat ≡ end
 
 -- an article that is read is the text of the record that the reads are of
 abbrev pub IsReadOf : Option (Where Record) → shares.Answer → Type 0
@@ -139,7 +139,7 @@ chunk_in (answers.Slot outcome) = None
 
 -- the step was done, and is answered as the definitions say
 pub record Shared {J : Type 0} {g : Ghosts J} (honest : Bool) (w : Terms) (m : model.Session)
-    (d : Due) (gathered : List ℕ) (old : Talk J g) (answer : Answer) (new : Talk J g)
+    (d : Due) (gathered : List ℕ) (old : LiveSession J g) (answer : Answer) (new : LiveSession J g)
     : Type 0 where
   pub told : shares.Answer
   pub answers : AnswersBy honest d.ask gathered answer told
@@ -150,7 +150,8 @@ pub record Shared {J : Type 0} {g : Ghosts J} (honest : Bool) (w : Terms) (m : m
   pub planned : Planned w new.session m d gathered (handed answer)
 
 -- the step that a session planned is done, unless memory was refused
-abbrev pub SharesFor : {J : Type 0} {g : Ghosts J} → Terms → Step → Talk J g → Answer → Talk J g
+abbrev pub SharesFor : {J : Type 0} {g : Ghosts J} → Terms → Step → LiveSession J g → Answer
+    → LiveSession J g
     → Type 0
 SharesFor {J} {g} w step old answer new =
     (honest : Bool) → (honest ≡ true → g.trusted ≡ true)
@@ -160,24 +161,24 @@ SharesFor {J} {g} w step old answer new =
     → ∥ Shared honest w m d gathered old answer new ∥₁
 
 -- nothing has changed that anybody can see
-pub record StaysSame {J : Type 0} {g : Ghosts J} (old new : Talk J g) : Type 0 where
+pub record StaysSame {J : Type 0} {g : Ghosts J} (old new : LiveSession J g) : Type 0 where
   pub session : new.session ≡ old.session
   pub reads : new.reads.shown ≡ old.reads.shown
   pub hands : hands_of new ≡ hands_of old
 
 -- session number and end stay
-pub record KeepsPlace {J : Type 0} {g : Ghosts J} (old new : Talk J g) : Type 0 where
+pub record KeepsPlace {J : Type 0} {g : Ghosts J} (old new : LiveSession J g) : Type 0 where
   pub number : new.number ≡ old.number
   pub end_is : end_of new.seat ≡ end_of old.seat
 
 -- nothing but the reads has changed
-pub record KeepsButReads {J : Type 0} {g : Ghosts J} (old new : Talk J g) : Type 0 where
+pub record KeepsButReads {J : Type 0} {g : Ghosts J} (old new : LiveSession J g) : Type 0 where
   pub session : new.session ≡ old.session
   pub hands : hands_of new ≡ hands_of old
   pub place : KeepsPlace old new
 
 -- nothing but the session has changed
-pub record KeepsButSession {J : Type 0} {g : Ghosts J} (old new : Talk J g) : Type 0 where
+pub record KeepsButSession {J : Type 0} {g : Ghosts J} (old new : LiveSession J g) : Type 0 where
   pub reads : new.reads.shown ≡ old.reads.shown
   pub hands : hands_of new ≡ hands_of old
   pub place : KeepsPlace old new
@@ -195,7 +196,8 @@ pub record HeardFor (honest : Bool) (w : Terms) (s : ℕ) (d : Due) (gathered : 
   pub gathers : honest ≡ true → Gathers d.ask told heard.session.phase later
 
 -- the session heard an answer that isn't want of memory
-abbrev pub HearsAnswer : {J : Type 0} {g : Ghosts J} → Talk J g → Answer → List ℕ → Talk J g
+abbrev pub HearsAnswer : {J : Type 0} {g : Ghosts J} → LiveSession J g → Answer → List ℕ
+    → LiveSession J g
     → Type 0
 HearsAnswer old answer said new =
     (honest : Bool) (w : Terms) (m : model.Session) (d : Due) (gathered : List ℕ)
@@ -205,7 +207,8 @@ HearsAnswer old answer said new =
     → HeardFor honest w old.number d gathered answer told said new.session
 
 -- what was planned is planned no more, and nothing was said
-pub record LetsGo {J : Type 0} {g : Ghosts J} (old : Talk J g) (said : List ℕ) (new : Talk J g)
+pub record LetsGo {J : Type 0} {g : Ghosts J} (old : LiveSession J g) (said : List ℕ)
+    (new : LiveSession J g)
     : Type 0 where
   pub forgets : Forgets old.session new.session
   pub silent : said ≡ []
@@ -225,16 +228,17 @@ parted_after parted true (octet ∷ octets) = Some (octet ∷ octets)
 
 -- the session went on to another point: it heard nothing new, and this is what it said
 pub record WentTo {J : Type 0} {g : Ghosts J} (honest : Bool) (w : Terms) (s end : ℕ)
-    (first p : Point) (said : List ℕ) (talk : Talk J g) : Type 0 where
+    (first p : Point) (said : List ℕ) (live : LiveSession J g) : Type 0 where
   pub at : Point
-  pub going : Going honest w s end first talk at
+  pub going : Going honest w s end first live at
   pub heard : at.heard ≡ p.heard
   pub said_is : at.said ≡ p.said ++ said
-  pub parted : at.parted ≡ parted_after p.parted (has_parted talk.session) said
+  pub parted : at.parted ≡ parted_after p.parted (has_parted live.session) said
 
 -- wherever the session was on its course, it went on; of honest stores something is said where the
--- archive is trusted
-abbrev pub WentOn : {J : Type 0} {g : Ghosts J} → Terms → Talk J g → List ℕ → Talk J g → Type 0
+-- stores are trusted
+abbrev pub WentOn : {J : Type 0} {g : Ghosts J} → Terms → LiveSession J g → List ℕ
+    → LiveSession J g → Type 0
 WentOn {J} {g} w old said new =
     (honest : Bool) → (honest ≡ true → g.trusted ≡ true)
     → (s end : ℕ) (first p : Point) → Going honest w s end first old p

@@ -5,16 +5,16 @@
 
 mod commands;
 mod counts;
+mod live;
 mod pushing;
 mod serve;
 mod shares;
 mod sharing;
-mod talk;
 mod turn;
 mod wire;
 
 pub use commands::Command;
+pub use live::SessionContext;
 pub use serve::{Served, serve_session};
 pub use shares::{Clock, Gate, JobTold, Shares};
-pub use talk::Hall;
 pub use wire::Finish;

@@ -1,7 +1,7 @@
 //! A session is served over a connection.
 ghost use Rattle.std.specs.Prelude.{◌≡◌, ◌≤◌, ◌^◌, true, false, IfOk, None};
 ghost use Rattle.article_verdict.specs.Config.{terms_of};
-ghost use Rattle.live_seats.specs.Seats.{IsSeatOf, count_of, end_of};
+ghost use Rattle.live_jobs.specs.Seats.{IsSeatOf, count_of, end_of};
 ghost use Rattle.live_session.specs.Carried.{Begins, Carried, CarriesSame, IsFormed, IsServed};
 ghost use Rattle.live_session.specs.Carried.{Lasts, LastsOrHeld, Refusal, ServesOn, carried};
 ghost use Rattle.live_session.specs.Counts.{most_turns, turns_in};
@@ -13,13 +13,12 @@ ghost use Rattle.relay_model.specs.Terms.{Terms};
 
 use crate::commands::{Command, Commands};
 use crate::counts::Counts;
+use crate::live::{LiveSession, SessionContext, Turned};
 use crate::shares::{Clock, Gate, Shares};
-use crate::talk::{Hall, Talk, Turned};
 use crate::turn::turn;
 use crate::wire::{Finish, Wire, flush, put, stop};
-use live_fates::KeptJob;
-use live_seats::SessionSeat;
-use live_store::{Archive, OneRecord};
+use live_jobs::{KeptJob, SessionSeat};
+use live_store::{OneRecord, StorePremises};
 use live_wire::{Hears, Says, Tally};
 use nntp_text::{Reply, reply_bytes};
 use peer_session::Session;
@@ -45,7 +44,7 @@ const WAITING: usize = 65_536;
 /// What is left of a session that was served: its end's seat, the jobs of it that were answered
 /// kept, how it ended, the two sides of its connection, and what it said and read in numbers.
 #[derive(Drop)]
-pub struct Served<J: Archive, H: Hears, W: Says> {
+pub struct Served<J: StorePremises, H: Hears, W: Says> {
     pub seat: SessionSeat,
     pub kept: Vec<KeptJob<J>>,
     pub finish: Finish,
@@ -62,11 +61,19 @@ pub struct Served<J: Archive, H: Hears, W: Says> {
 /// ones do: its job is handed over, and its open offers end, however often it is refused memory for
 /// that. Where the end has handed over 2^62 jobs or more, the connection is broken before its
 /// greeting (docs/PROTOCOL.md, Threads).
-pub fn serve_session<S: Shares<J, R>, C: Clock, G: Gate<R>, J: Archive, H: Hears, W: Says, R: Wait>(
+pub fn serve_session<
+    S: Shares<J, R>,
+    C: Clock,
+    G: Gate<R>,
+    J: StorePremises,
+    H: Hears,
+    W: Says,
+    R: Wait,
+>(
     rt: &R,
     alloc: Global,
     hasher: RandomState,
-    hall: &Hall<S, C, G>,
+    context: &SessionContext<S, C, G>,
     seat: SessionSeat,
     kept: Vec<KeptJob<J>>,
     number: u64,
@@ -74,15 +81,15 @@ pub fn serve_session<S: Shares<J, R>, C: Clock, G: Gate<R>, J: Archive, H: Hears
     reader: H,
     writer: W,
 ) -> Served<J, H, W>
-    requires register { hall.now.register.now ≡ J.register }
-    requires seat { IsSeatOf hall.now.lanes.now seat }
-    ensures seat { IsSeatOf hall.now.lanes.now result.seat }
+    requires register { context.now.register.now ≡ J.register }
+    requires seat { IsSeatOf context.now.channels.now seat }
+    ensures seat { IsSeatOf context.now.channels.now result.seat }
     ensures end { end_of result.seat ≡ end_of seat }
-    ensures served { J.trusted ≡ true → ∥ IsServed J.register (terms_of hall.now.config.now)
+    ensures served { J.trusted ≡ true → ∥ IsServed J.register (terms_of context.now.config.now)
         number (end_of seat) peer (hands_at seat kept.items) (H.heard reader) (W.said writer)
         result.finish (hands_at result.seat result.kept.items) (H.heard result.reader)
         (W.said result.writer) ∥₁ }
-    ensures formed { ∥ IsFormed J.register (terms_of hall.now.config.now)
+    ensures formed { ∥ IsFormed J.register (terms_of context.now.config.now)
         number (end_of seat) peer (hands_at seat kept.items) (H.heard reader) (W.said writer)
         result.finish (hands_at result.seat result.kept.items) (H.heard result.reader)
         (W.said result.writer) ∥₁ }
@@ -91,7 +98,7 @@ pub fn serve_session<S: Shares<J, R>, C: Clock, G: Gate<R>, J: Archive, H: Hears
     // It is ended for its turns alone where it has had them all.
     ensures spent { result.finish ≡ finishes.TurnsSpent → result.turns ≡ most_turns }
     // It is held only where the gate said no to a command.
-    ensures held { result.finish ≡ finishes.Held → Refusal (G.refuses hall.now.gate.now) }
+    ensures held { result.finish ≡ finishes.Held → Refusal (G.refuses context.now.gate.now) }
 {
     if seat.handed() >= MOST_JOBS {
         return Served {
@@ -104,7 +111,7 @@ pub fn serve_session<S: Shares<J, R>, C: Clock, G: Gate<R>, J: Archive, H: Hears
             turns: 0,
         };
     }
-    let opened = match open(alloc, hasher, hall.config, peer) {
+    let opened = match open(alloc, hasher, context.config, peer) {
         Ok(opened) => opened,
         Err(_) => {
             return Served {
@@ -118,7 +125,7 @@ pub fn serve_session<S: Shares<J, R>, C: Clock, G: Gate<R>, J: Archive, H: Hears
             };
         }
     };
-    let mut talk = Talk {
+    let mut live = LiveSession {
         number,
         session: opened.session,
         reads: OneRecord::new(),
@@ -133,15 +140,15 @@ pub fn serve_session<S: Shares<J, R>, C: Clock, G: Gate<R>, J: Archive, H: Hears
         finish: None,
     };
     let mut counts = Counts::of(peer);
-    converse(rt, alloc, hall, &mut talk, &mut wire, &mut counts);
-    break_off(&mut talk);
-    leave(rt, alloc, hall, &mut talk, &mut wire, &mut counts);
+    converse(rt, alloc, context, &mut live, &mut wire, &mut counts);
+    break_off(&mut live);
+    leave(rt, alloc, context, &mut live, &mut wire, &mut counts);
     flush(&mut wire);
     stop(&mut wire, Finish::TurnsSpent);
-    counts.tell(rt, hall.gate);
+    counts.tell(rt, context.gate);
     Served {
-        seat: talk.seat,
-        kept: talk.kept,
+        seat: live.seat,
+        kept: live.kept,
         finish: wire.finish.unwrap_or(Finish::Broken),
         reader: wire.reader,
         writer: wire.writer,
@@ -180,67 +187,67 @@ fn open(
 }
 
 /// Turns, reads and writes, until the connection has ended or the session has had all its turns.
-fn converse<S: Shares<J, R>, C: Clock, G: Gate<R>, J: Archive, H: Hears, W: Says, R: Wait>(
+fn converse<S: Shares<J, R>, C: Clock, G: Gate<R>, J: StorePremises, H: Hears, W: Says, R: Wait>(
     rt: &R,
     alloc: Global,
-    hall: &Hall<S, C, G>,
-    talk: &mut Talk<J>,
+    context: &SessionContext<S, C, G>,
+    live: &mut LiveSession<J>,
     wire: &mut Wire<H, W>,
     counts: &mut Counts,
 )
-    requires register { hall.now.register.now ≡ J.register }
-    requires seat { IsSeatOf hall.now.lanes.now talk.old.seat }
+    requires register { context.now.register.now ≡ J.register }
+    requires seat { IsSeatOf context.now.channels.now live.old.seat }
     requires none { turns_in counts.old ≡ 0 }
-    ensures seat { IsSeatOf hall.now.lanes.now talk.new.seat }
-    ensures end { end_of talk.new.seat ≡ end_of talk.old.seat }
-    ensures served { ServesOn (terms_of hall.now.config.now) talk.old talk.new
+    ensures seat { IsSeatOf context.now.channels.now live.new.seat }
+    ensures end { end_of live.new.seat ≡ end_of live.old.seat }
+    ensures served { ServesOn (terms_of context.now.config.now) live.old live.new
         (carried (H.heard wire.old.reader) (W.said wire.old.writer) wire.old.outbox wire.old.finish)
         (carried (H.heard wire.new.reader) (W.said wire.new.writer)
         wire.new.outbox wire.new.finish) }
-    ensures ends { LastsOrHeld (G.refuses hall.now.gate.now) wire.old.finish wire.new.finish }
+    ensures ends { LastsOrHeld (G.refuses context.now.gate.now) wire.old.finish wire.new.finish }
     ensures turns { wire.new.finish ≡ None → turns_in counts.new ≡ most_turns }
 {
-    let mut commands = Commands::of(talk.number);
+    let mut commands = Commands::of(live.number);
     for _ in 0..TURNS {
         if wire.finish.is_some() {
             break;
         }
         counts.turn();
-        round(rt, alloc, hall, talk, wire, &mut commands, counts);
+        round(rt, alloc, context, live, wire, &mut commands, counts);
     }
 }
 
 /// One turn with its reply; where none is due, what waits is written, and the session reads.
-fn round<S: Shares<J, R>, C: Clock, G: Gate<R>, J: Archive, H: Hears, W: Says, R: Wait>(
+fn round<S: Shares<J, R>, C: Clock, G: Gate<R>, J: StorePremises, H: Hears, W: Says, R: Wait>(
     rt: &R,
     alloc: Global,
-    hall: &Hall<S, C, G>,
-    talk: &mut Talk<J>,
+    context: &SessionContext<S, C, G>,
+    live: &mut LiveSession<J>,
     wire: &mut Wire<H, W>,
     commands: &mut Commands,
     counts: &mut Counts,
 )
-    requires register { hall.now.register.now ≡ J.register }
-    requires seat { IsSeatOf hall.now.lanes.now talk.old.seat }
-    ensures seat { IsSeatOf hall.now.lanes.now talk.new.seat }
-    ensures end { end_of talk.new.seat ≡ end_of talk.old.seat }
-    ensures served { ServesOn (terms_of hall.now.config.now) talk.old talk.new
+    requires register { context.now.register.now ≡ J.register }
+    requires seat { IsSeatOf context.now.channels.now live.old.seat }
+    ensures seat { IsSeatOf context.now.channels.now live.new.seat }
+    ensures end { end_of live.new.seat ≡ end_of live.old.seat }
+    ensures served { ServesOn (terms_of context.now.config.now) live.old live.new
         (carried (H.heard wire.old.reader) (W.said wire.old.writer) wire.old.outbox wire.old.finish)
         (carried (H.heard wire.new.reader) (W.said wire.new.writer)
         wire.new.outbox wire.new.finish) }
-    ensures ends { LastsOrHeld (G.refuses hall.now.gate.now) wire.old.finish wire.new.finish }
+    ensures ends { LastsOrHeld (G.refuses context.now.gate.now) wire.old.finish wire.new.finish }
     ensures turns { turns_in counts.new ≡ turns_in counts.old }
 {
-    match turn(rt, alloc, hall, talk, commands) {
+    match turn(rt, alloc, context, live, commands) {
         Turned::Says(said) => {
             counts.say(&said);
-            put(wire, said, talk.session.has_parted());
-            write_on(rt, hall, wire, commands.newest());
+            put(wire, said, live.session.has_parted());
+            write_on(rt, context, wire, commands.newest());
         }
         Turned::Rests => {
-            counts.tell(rt, hall.gate);
+            counts.tell(rt, context.gate);
             flush(wire);
-            receive(talk, wire, counts);
+            receive(live, wire, counts);
         }
         Turned::Held => stop(wire, Finish::Held),
         Turned::Memory => {
@@ -254,7 +261,7 @@ fn round<S: Shares<J, R>, C: Clock, G: Gate<R>, J: Archive, H: Hears, W: Says, R
 /// told of the newest command then.
 fn write_on<S, C, G: Gate<R>, H: Hears, W: Says, R>(
     rt: &R,
-    hall: &Hall<S, C, G>,
+    context: &SessionContext<S, C, G>,
     wire: &mut Wire<H, W>,
     newest: Option<Command>,
 )
@@ -264,11 +271,11 @@ fn write_on<S, C, G: Gate<R>, H: Hears, W: Says, R>(
         wire.new.outbox wire.new.finish) }
     ensures ends { Lasts wire.old.finish wire.new.finish }
 {
-    if hall.gate.is_one_by_one() {
+    if context.gate.is_one_by_one() {
         if !wire.outbox.is_empty() {
             flush(wire);
             if let Some(command) = newest {
-                hall.gate.leave(rt, command);
+                context.gate.leave(rt, command);
             }
         }
         return;
@@ -280,27 +287,27 @@ fn write_on<S, C, G: Gate<R>, H: Hears, W: Says, R>(
 
 /// Reads once, where the session reads. The connection is broken where the input has ended or
 /// fails, or there is no memory for what came.
-fn receive<J: Archive, H: Hears, W: Says>(
-    talk: &mut Talk<J>,
+fn receive<J: StorePremises, H: Hears, W: Says>(
+    live: &mut LiveSession<J>,
     wire: &mut Wire<H, W>,
     counts: &mut Counts,
 )
-    ensures seat { talk.new.seat ≡ talk.old.seat }
-    ensures served { (w : Terms) → ServesOn w talk.old talk.new
+    ensures seat { live.new.seat ≡ live.old.seat }
+    ensures served { (w : Terms) → ServesOn w live.old live.new
         (carried (H.heard wire.old.reader) (W.said wire.old.writer) wire.old.outbox wire.old.finish)
         (carried (H.heard wire.new.reader) (W.said wire.new.writer)
         wire.new.outbox wire.new.finish) }
     ensures ends { Lasts wire.old.finish wire.new.finish }
     ensures turns { turns_in counts.new ≡ turns_in counts.old }
 {
-    if wire.finish.is_some() || !talk.session.is_reading() {
+    if wire.finish.is_some() || !live.session.is_reading() {
         return;
     }
     match wire.reader.hear(&mut wire.piece) {
         Ok(0) => wire.finish = Some(Finish::Broken),
         Ok(n) => {
             counts.read(n);
-            match talk.session.feed(&wire.piece[..n]) {
+            match live.session.feed(&wire.piece[..n]) {
                 Ok(()) => {}
                 Err(_) => wire.finish = Some(Finish::Broken),
             }
@@ -315,60 +322,60 @@ fn receive<J: Archive, H: Hears, W: Says>(
 
 /// Turns of a session that leaves, until it is closed: its job is handed over and its open offers
 /// end, since an id that stays offered is lost to every peer. What it still says is to be written.
-fn leave<S: Shares<J, R>, C: Clock, G: Gate<R>, J: Archive, H: Hears, W: Says, R: Wait>(
+fn leave<S: Shares<J, R>, C: Clock, G: Gate<R>, J: StorePremises, H: Hears, W: Says, R: Wait>(
     rt: &R,
     alloc: Global,
-    hall: &Hall<S, C, G>,
-    talk: &mut Talk<J>,
+    context: &SessionContext<S, C, G>,
+    live: &mut LiveSession<J>,
     wire: &mut Wire<H, W>,
     counts: &mut Counts,
 )
-    requires register { hall.now.register.now ≡ J.register }
-    requires seat { IsSeatOf hall.now.lanes.now talk.old.seat }
-    ensures seat { IsSeatOf hall.now.lanes.now talk.new.seat }
-    ensures end { end_of talk.new.seat ≡ end_of talk.old.seat }
-    ensures served { ServesOn (terms_of hall.now.config.now) talk.old talk.new
+    requires register { context.now.register.now ≡ J.register }
+    requires seat { IsSeatOf context.now.channels.now live.old.seat }
+    ensures seat { IsSeatOf context.now.channels.now live.new.seat }
+    ensures end { end_of live.new.seat ≡ end_of live.old.seat }
+    ensures served { ServesOn (terms_of context.now.config.now) live.old live.new
         (carried (H.heard wire.old.reader) (W.said wire.old.writer) wire.old.outbox wire.old.finish)
         (carried (H.heard wire.new.reader) (W.said wire.new.writer)
         wire.new.outbox wire.new.finish) }
-    ensures closed { is_running (session_view talk.new.session).phase ≡ false }
+    ensures closed { is_running (session_view live.new.session).phase ≡ false }
     ensures ends { Lasts wire.old.finish wire.new.finish }
     ensures turns { turns_in counts.new ≡ turns_in counts.old }
 {
     for _ in rt.forever() {
-        if !talk.session.is_running() {
+        if !live.session.is_running() {
             return;
         }
-        last_turn(rt, alloc, hall, talk, wire, counts);
+        last_turn(rt, alloc, context, live, wire, counts);
     }
     unreachable!()
 }
 
 /// One turn of a session that leaves. Where it is refused memory it gives way.
-fn last_turn<S: Shares<J, R>, C: Clock, G: Gate<R>, J: Archive, H: Hears, W: Says, R: Wait>(
+fn last_turn<S: Shares<J, R>, C: Clock, G: Gate<R>, J: StorePremises, H: Hears, W: Says, R: Wait>(
     rt: &R,
     alloc: Global,
-    hall: &Hall<S, C, G>,
-    talk: &mut Talk<J>,
+    context: &SessionContext<S, C, G>,
+    live: &mut LiveSession<J>,
     wire: &mut Wire<H, W>,
     counts: &mut Counts,
 )
-    requires register { hall.now.register.now ≡ J.register }
-    requires seat { IsSeatOf hall.now.lanes.now talk.old.seat }
-    ensures seat { IsSeatOf hall.now.lanes.now talk.new.seat }
-    ensures end { end_of talk.new.seat ≡ end_of talk.old.seat }
-    ensures served { ServesOn (terms_of hall.now.config.now) talk.old talk.new
+    requires register { context.now.register.now ≡ J.register }
+    requires seat { IsSeatOf context.now.channels.now live.old.seat }
+    ensures seat { IsSeatOf context.now.channels.now live.new.seat }
+    ensures end { end_of live.new.seat ≡ end_of live.old.seat }
+    ensures served { ServesOn (terms_of context.now.config.now) live.old live.new
         (carried (H.heard wire.old.reader) (W.said wire.old.writer) wire.old.outbox wire.old.finish)
         (carried (H.heard wire.new.reader) (W.said wire.new.writer)
         wire.new.outbox wire.new.finish) }
     ensures ends { Lasts wire.old.finish wire.new.finish }
     ensures turns { turns_in counts.new ≡ turns_in counts.old }
 {
-    let mut commands = Commands::of(talk.number);
-    match turn(rt, alloc, hall, talk, &mut commands) {
+    let mut commands = Commands::of(live.number);
+    match turn(rt, alloc, context, live, &mut commands) {
         Turned::Says(said) => {
             counts.say(&said);
-            put(wire, said, talk.session.has_parted());
+            put(wire, said, live.session.has_parted());
         }
         Turned::Rests => {}
         Turned::Held => {}
@@ -377,11 +384,11 @@ fn last_turn<S: Shares<J, R>, C: Clock, G: Gate<R>, J: Archive, H: Hears, W: Say
 }
 
 /// A session that still reads breaks off.
-fn break_off<J: Archive>(talk: &mut Talk<J>)
-    ensures seat { talk.new.seat ≡ talk.old.seat }
-    ensures gone { (w : Terms) (c : Carried) → ServesOn w talk.old talk.new c c }
+fn break_off<J: StorePremises>(live: &mut LiveSession<J>)
+    ensures seat { live.new.seat ≡ live.old.seat }
+    ensures gone { (w : Terms) (c : Carried) → ServesOn w live.old live.new c c }
 {
-    if talk.session.is_reading() {
-        talk.session.break_off();
+    if live.session.is_reading() {
+        live.session.break_off();
     }
 }

@@ -14,15 +14,15 @@ use cyc_buffer::{Fault, Found};
 use cyc_token::Token;
 use feed_queue::Taken;
 use id_history::{Offer, Take};
-use live_fates::{KeptJob, Told};
-use live_store::{Archive, OneRecord, Register};
+use live_jobs::{JobAnswer, KeptJob};
+use live_store::{ArticleLog, OneRecord, StorePremises};
 use live_wire::Tally;
 use nntp_text::MsgId;
 use std::alloc::{AllocError, Global};
 
 /// What sessions share with each other and with the writers: each call is one step under one lock
 /// (docs/PROTOCOL.md, Threads).
-pub trait Shares<J: Archive, R> {
+pub trait Shares<J: StorePremises, R> {
     /// The id is offered to the session (`Shards::offer` of its shard).
     fn offer(&self, rt: &R, id: &MsgId, session: u64) -> Result<Offer, AllocError>;
 
@@ -52,7 +52,7 @@ pub trait Shares<J: Archive, R> {
     fn read(
         &self,
         rt: &R,
-        register: &Register,
+        register: &ArticleLog,
         reads: &mut OneRecord<J>,
         token: &Token,
         k: u32,
@@ -77,9 +77,9 @@ pub trait Shares<J: Archive, R> {
 
 /// What a writer told of a job, with the number of the job that was looked for.
 #[derive(Drop)]
-pub struct JobTold<J: Archive> {
+pub struct JobTold<J: StorePremises> {
     pub number: u64,
-    pub told: Told<J>,
+    pub told: JobAnswer<J>,
 }
 
 /// A clock: seconds since the first of 1970, within the limits.
@@ -110,8 +110,8 @@ pub trait Gate<R> {
     /// A session of a peer begins.
     fn opened(&self, _rt: &R, _peer: usize, _session: u64) {}
 
-    /// A session of a peer has said and read this much more: it is told before the session waits for
-    /// its peer, and once it has ended.
+    /// A session of a peer has said and read this much more: it is told before the session waits
+    /// for its peer, and once it has ended.
     fn counted(&self, _rt: &R, _peer: usize, _more: &Tally) {}
 
     /// A session of a peer has ended so, after so many seconds; it said and read this in all.

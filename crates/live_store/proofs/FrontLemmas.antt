@@ -8,10 +8,10 @@ use Rattle.cyc_token.specs.declared.Token as codes
 use Rattle.cyc_buffer.specs.Agreement.{token_of}
 use Rattle.cyc_buffer.specs.History.{Article, Begin, History, head_of, front_of, finished_at}
 use Rattle.cyc_buffer.specs.Progress.{start_of}
-use Rattle.cyc_buffer.specs.Register.{Keeps}
-use Rattle.cyc_buffer.specs.declared.register.Open.{Open}
-use Rattle.cyc_buffer.specs.declared.register.Progress.{Progress}
-use Rattle.cyc_buffer.specs.declared.register.Register.{Register}
+use Rattle.cyc_buffer.specs.BufferState.{Keeps}
+use Rattle.cyc_buffer.specs.declared.buffer_state.Open.{Open}
+use Rattle.cyc_buffer.specs.declared.buffer_state.Progress.{Progress}
+use Rattle.cyc_buffer.specs.declared.buffer_state.BufferState.{BufferState}
 use Rattle.cyc_buffer.proofs.Places.{placed}
 use Rattle.cyc_buffer.proofs.Finished.{Lies, lies}
 
@@ -54,13 +54,13 @@ begun_before buffer begins cycle first article l = elim l.before [
 ]
 
 -- the head lies within the buffer
-pub head_within : (r : Register) (h : History) → Keeps r h
+pub head_within : (r : BufferState) (h : History) → Keeps r h
     → (head_of h.buffer.blocks h.begins).used ≤ h.buffer.blocks
 head_within r h keeps =
     omega (arith, r.line.within, keeps.used, ap (λ (b : Buffer). b.blocks) keeps.buffer)
 
 -- the first block of the open write is within the buffer
-pub first_within : (r : Register) (p : Progress) (write : Open) → r.progress ≡ Some p
+pub first_within : (r : BufferState) (p : Progress) (write : Open) → r.progress ≡ Some p
     → p.token ≡ write.token
     → (token_of write).first < r.line.blocks
 first_within r p write is the_open = omega (
@@ -109,7 +109,7 @@ overwrites buffer earlier b cycle first article some l here live =
     ]
 
 -- an article that is live after a begin was so before
-pub lived : (r : Register) (h : History) (b : Begin) (cycle first : ℕ) (article : Article)
+pub lived : (r : BufferState) (h : History) (b : Begin) (cycle first : ℕ) (article : Article)
     → Keeps r h → finished_at h.buffer h.begins cycle first ≡ Some article
     → IsLive h.buffer.blocks (front_at h.buffer (head_of h.buffer.blocks (b ∷ h.begins)))
     (on_line h.buffer.blocks cycle first)

@@ -1,10 +1,11 @@
 pub mod FetchLemmas
 pub mod FrontLemmas
 pub mod NumberLemmas
-pub mod TiedLemmas
 pub mod OpenLemmas
 pub mod ReadBackLemmas
 pub mod ReadLemmas
+pub mod Spans
 pub mod StartLemmas
 pub mod StartedLemmas
 pub mod StopLemmas
+pub mod TiedLemmas

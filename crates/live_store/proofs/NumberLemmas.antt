@@ -13,10 +13,10 @@ use Rattle.cyc_buffer.specs.Agreement.{Continues, ContinuesIn, length_of, token_
 use Rattle.cyc_buffer.specs.History.{Article, Begin, History, Writing, token_at}
 use Rattle.cyc_buffer.specs.History.{with_begin, with_finish}
 use Rattle.cyc_buffer.specs.Progress.{IsTheOpen, written_of}
-use Rattle.cyc_buffer.specs.Register.{Keeps, Writes, IsSized}
-use Rattle.cyc_buffer.specs.declared.register.Open.{Open}
-use Rattle.cyc_buffer.specs.declared.register.Progress.{Progress}
-use Rattle.cyc_buffer.specs.declared.register.Register.{Register}
+use Rattle.cyc_buffer.specs.BufferState.{Keeps, Writes, IsSized}
+use Rattle.cyc_buffer.specs.declared.buffer_state.Open.{Open}
+use Rattle.cyc_buffer.specs.declared.buffer_state.Progress.{Progress}
+use Rattle.cyc_buffer.specs.declared.buffer_state.BufferState.{BufferState}
 use Rattle.cyc_buffer.proofs.Finished.{was_finished, lies, at_parts, same_some}
 use Rattle.cyc_buffer.proofs.Finishing.{newest, place, finished_now, whole_text, history_of}
 use Rattle.cyc_buffer.proofs.Finishing.{old_history}
@@ -25,6 +25,7 @@ use Rattle.live_store.specs.Tied.{AreNumbered, AreShown, HasRecord, IsWrittenAs,
 use Rattle.live_store.specs.Tied.{token_in, text_in}
 use Rattle.live_store.proofs.FrontLemmas.{lived, overwrites, first_within}
 
+-- equal numbers aren't one below the other
 pub apart : {a b : ℕ} → a ≡ b → (a < b) ⊎ (b < a) → ⊥
 apart e (inl h) = omega (arith, e, h)
 apart e (inr h) = omega (arith, e, h)
@@ -49,7 +50,7 @@ shown_set register numbers i shown within shows all = λ block other is.
     shown_at register numbers i shown block other within shows all (cases_order block i) is
 
 -- after a begin each live finished article has its number
-pub numbered_begin : (trusted : Bool) (register : Shelves) (r : Register) (h : History)
+pub numbered_begin : (trusted : Bool) (register : Shelves) (r : BufferState) (h : History)
     (class octets : ℕ) (fresh : Bool) (numbers : List (Option (Where Record)))
     → Keeps r h → AreNumbered trusted register h numbers
     → AreNumbered trusted register (with_begin class octets fresh h) numbers
@@ -74,7 +75,8 @@ all_written h p w write shown writes the_open all long continues =
 module _ (trusted : Bool) (register : Shelves) (h : History) (write : Open) (shown : Where Record)
     (numbers : List (Option (Where Record)))
     (is : IsWrittenAs register write shown) (begun : Continues (text_in shown) h)
-    (numbered : AreNumbered trusted register h numbers) (room : length numbers ≡ h.buffer.blocks) where
+    (numbered : AreNumbered trusted register h numbers)
+    (room : length numbers ≡ h.buffer.blocks) where
   -- as many octets as the write has
   long : length (text_in shown) ≡ length_of write
   long = is.octets ∙ sym (ap (λ (t : Token). t.length) is.named)
@@ -82,7 +84,7 @@ module _ (trusted : Bool) (register : Shelves) (h : History) (write : Open) (sho
   abbrev after : List (Option (Where Record))
   after = set numbers (token_of write).first (Some shown)
 
-  numbered_by : (r : Register) (p : Option Progress) (o : Option Writing) → h.writing ≡ o
+  numbered_by : (r : BufferState) (p : Option Progress) (o : Option Writing) → h.writing ≡ o
       → r.progress ≡ p → Keeps r h
       → Writes h p o → IsTheOpen write p → written_of p ≡ size_of (length_of write)
       → ContinuesIn (text_in shown) o
@@ -138,13 +140,14 @@ module _ (trusted : Bool) (register : Shelves) (h : History) (write : Open) (sho
           | inr o ↦ subst (HasRecord trusted register h.buffer cycle first article)
               (sym (get_or-set_other numbers (token_of write).first first (Some shown) None
               (λ e. apart e o)))
-              (subst (λ (k : History). AreNumbered trusted register k numbers) h_is numbered cycle first
+              (subst (λ (k : History). AreNumbered trusted register k numbers) h_is
+              numbered cycle first
               article q live)
         ]
       ])
 
   -- after a finish each live finished article has its number
-  pub numbered_finish : (r : Register) → Keeps r h → IsTheOpen write r.progress
+  pub numbered_finish : (r : BufferState) → Keeps r h → IsTheOpen write r.progress
       → written_of r.progress ≡ size_of (length_of write)
       → AreNumbered trusted register (with_finish h) after
   numbered_finish r keeps the_open all =

@@ -26,17 +26,18 @@ use Rattle.cyc_buffer.specs.declared.answers.BufError.TheVariants as errors
 use Rattle.cyc_buffer.specs.declared.answers.Fault.{Fault}
 use Rattle.cyc_buffer.specs.declared.answers.FaultKind.{FaultKind}
 use Rattle.cyc_buffer.specs.declared.buffer.Buffer.{Buffer}
-use Rattle.cyc_buffer.specs.declared.register.Open.{Open}
-use Rattle.cyc_buffer.specs.declared.register.Progress.{Progress}
+use Rattle.cyc_buffer.specs.declared.buffer_state.Open.{Open}
+use Rattle.cyc_buffer.specs.declared.buffer_state.Progress.{Progress}
 use Rattle.cyc_buffer.proofs.Finished.{same_some}
-use Rattle.live_store.specs.declared.beside.Beside.{Beside}
+use Rattle.live_store.specs.declared.open_write.OpenWrite.{OpenWrite}
 use Rattle.live_store.specs.declared.writing.entering.Record.{Record}
 use Rattle.live_store.specs.Tied.{Tied, HasNumber, IsNamed, token_in, text_in}
 use Rattle.live_store.specs.Steps.{IsDevice, IsBeginFault, CanWriteFor, CanFinishFor}
 use Rattle.live_store.specs.Steps.{WritesRecord, after_write}
 use Rattle.live_store.specs.declared.numbered.NumberedBuffer.{NumberedBuffer}
-use Rattle.live_store.specs.declared.record.Archive as archives
-use Rattle.live_store.proofs.TiedLemmas.{place_of_write, beside_of, named, named_again, tied_next}
+use Rattle.live_store.specs.declared.record.StorePremises as store_premises
+use Rattle.live_store.proofs.TiedLemmas.{place_of_write, open_write_of, named, named_again}
+use Rattle.live_store.proofs.TiedLemmas.{tied_next}
 use Rattle.live_store.proofs.TiedLemmas.{tied_failed, tied_finish, continues_as}
 
 -- two values that one is found to be are the same
@@ -60,7 +61,7 @@ owns_prop write (Some p) = hlevel props
 pub no_prop : IsProp ⊥
 no_prop x y = absurd x
 
-token_by : (register : Shelves) (b : Beside) (shown : Where Record)
+token_by : (register : Shelves) (b : OpenWrite) (shown : Where Record)
     (o : Option (Where Record)) → HasNumber register b o
     → IsNamed b.write o shown → token_view (token_of b.write) ≡ token_in shown
 token_by register b shown None number same = ap token_view (sym same)
@@ -68,11 +69,11 @@ token_by register b shown (Some own) number same =
     number.named ∙ ap (λ (r : Record). token_view r.token.value) same.1
 
 module _ {S : Type 0} {g : Ghosts S} (register : Shelves) (trusted : Bool) (buffer : Buffer S g)
-    (b : Beside) (numbers : List (Option (Where Record)))
+    (b : OpenWrite) (numbers : List (Option (Where Record)))
     (tied : ∥ Tied trusted register buffer (Some b) numbers ∥₁) where
   -- what stands beside a buffer is its open write
   pub owns_of : Owns buffer b.write
-  owns_of = ∥∥₁_elim tied (owns_prop b.write buffer.register.progress) (λ t. t.open_write.owns)
+  owns_of = ∥∥₁_elim tied (owns_prop b.write buffer.buffer_state.progress) (λ t. t.own_write.owns)
 
   -- its first block has a place for a number
   pub place_of_first : (token_of b.write).first < length numbers
@@ -89,7 +90,7 @@ module _ {S : Type 0} {g : Ghosts S} (register : Shelves) (trusted : Bool) (buff
       by_case (Some w) is =
           let one : IsProp (Shows register w) = hlevel (props, le_prop) in
           ∥∥₁_elim tied one
-          (λ t. subst (λ o. IfSome o (λ w. Shows register w)) is t.open_write.shown)
+          (λ t. subst (λ o. IfSome o (λ w. Shows register w)) is t.own_write.shown)
 
   -- where no write of a block failed, it is known how far it has come
   unbroken_of : b.broken ≡ false
@@ -97,7 +98,7 @@ module _ {S : Type 0} {g : Ghosts S} (register : Shelves) (trusted : Bool) (buff
   unbroken_of unbroken =
       let both : IsProp ((is_broken buffer ≡ false) × (b.written ≡ blocks_written buffer)) =
       hlevel (props, le_prop) in
-      ∥∥₁_elim tied both (λ t. let w = t.open_write.whole unbroken in (w.unbroken, w.written))
+      ∥∥₁_elim tied both (λ t. let w = t.own_write.whole unbroken in (w.unbroken, w.written))
 
   -- the record that it is named by has its token
   pub named_token : (shown : Where Record) → b.broken ≡ false → IsNamed b.write b.shown shown
@@ -105,7 +106,7 @@ module _ {S : Type 0} {g : Ghosts S} (register : Shelves) (trusted : Bool) (buff
   named_token shown unbroken same =
       let one : IsProp (token_view (token_of b.write) ≡ token_in shown) = hlevel props in
       ∥∥₁_elim tied one
-      (λ t. token_by register b shown b.shown (t.open_write.whole unbroken).number same)
+      (λ t. token_by register b shown b.shown (t.own_write.whole unbroken).number same)
 
   -- what can be written for a record can be written
   pub can_write : (shown : Where Record) → CanWriteFor b shown
@@ -134,10 +135,10 @@ module _ {S : Type 0} {g : Ghosts S} (register : Shelves) (trusted : Bool) (buff
     pub tied_written : (last : Bool) → CanWriteFor b shown → Shows register shown
         → WritesNext buffer b.write (text_in shown) (Ok last) new
         → LeavesDevice buffer (Ok last) new → AddsNoStart buffer new
-        → ∥ Tied trusted register new (Some (beside_of b.write shown (b.written + 1) false))
+        → ∥ Tied trusted register new (Some (open_write_of b.write shown (b.written + 1) false))
         numbers ∥₁
     tied_written last can shows w device adds = ∥∥₁_map tied (λ t.
-        let whole = t.open_write.whole can.unbroken in
+        let whole = t.own_write.whole can.unbroken in
         tied_next register trusted buffer new numbers b shown (b.written + 1) t
         (named register buffer b shown whole can.named shows can.octets)
         (continues_as register buffer b shown numbers can.unbroken whole can.named)
@@ -147,7 +148,7 @@ module _ {S : Type 0} {g : Ghosts S} (register : Shelves) (trusted : Bool) (buff
     pub tied_broken : (e : BufError) → Shows register shown
         → WritesNext buffer b.write (text_in shown) (Err e) new
         → LeavesDevice {X = Bool} buffer (Err e) new → AddsNoStart buffer new
-        → ∥ Tied trusted register new (Some (beside_of b.write shown b.written true)) numbers ∥₁
+        → ∥ Tied trusted register new (Some (open_write_of b.write shown b.written true)) numbers ∥₁
     tied_broken e shows w device adds = ∥∥₁_map tied (λ t.
         tied_failed register trusted buffer new numbers b shown shows t w.broken w.owned adds
         device.blocks)
@@ -159,20 +160,20 @@ module _ {S : Type 0} {g : Ghosts S} (register : Shelves) (trusted : Bool) (buff
         → ∥ Tied trusted register new None
         (set numbers (token_of b.write).first (Some shown)) ∥₁
     tied_finished can shows follows idle adds store = ∥∥₁_map tied (λ t.
-        let whole = t.open_write.whole can.unbroken in
+        let whole = t.own_write.whole can.unbroken in
         tied_finish register trusted buffer new b numbers shown t
         (named_again register b shown b.shown can.begun whole.number can.named shows)
         (continues_as register buffer b shown numbers can.unbroken whole can.named)
         (sym whole.written ∙ can.written) follows idle adds store)
 
-module _ {S : Type 0} {s : Ghosts S} {J : Type 0} {j : archives.Ghosts J}
-    (old new : NumberedBuffer S J s j) (b : Beside) (stood : old.beside ≡ Some b)
+module _ {S : Type 0} {s : Ghosts S} {J : Type 0} {j : store_premises.Ghosts J}
+    (old new : NumberedBuffer S J s j) (b : OpenWrite) (stood : old.open_write ≡ Some b)
     (shown : Where Record) (text : List ℕ) (same : text ≡ text_in shown)
     (own : CanWriteFor b shown) where
   -- what is written of an open write is written for the record
   pub writes_record : (r : Result Bool BufError)
       → (CanWrite old.buffer b.write text → WritesNext old.buffer b.write text r new.buffer)
-      → LeavesDevice old.buffer r new.buffer → new.beside ≡ Some (after_write shown r b)
+      → LeavesDevice old.buffer r new.buffer → new.open_write ≡ Some (after_write shown r b)
       → new.numbers.items ≡ old.numbers.items → WritesRecord old shown text r new
   writes_record r writes device stands numbers =
       let tied = subst (λ o. ∥ Tied j.trusted j.register old.buffer o old.numbers.items ∥₁) stood
@@ -180,7 +181,7 @@ module _ {S : Type 0} {s : Ghosts S} {J : Type 0} {j : archives.Ghosts J}
       let can = subst (λ x. CanWrite old.buffer b.write x) (sym same)
       (can_write j.register j.trusted old.buffer b old.numbers.items tied shown own) in
       record {
-        beside = b;
+        open_write = b;
         stood = stood;
         own = own;
         named = named_token j.register j.trusted old.buffer b old.numbers.items tied shown
@@ -196,7 +197,7 @@ module _ {S : Type 0} {s : Ghosts S} {J : Type 0} {j : archives.Ghosts J}
   pub writes_failed : (e : BufError) (f : Fault) → e ≡ errors.Device f
       → (CanWrite old.buffer b.write text → WritesNext old.buffer b.write text (Err e) new.buffer)
       → LeavesDevice {X = Bool} old.buffer (Err e) new.buffer
-      → new.beside ≡ Some (beside_of b.write shown b.written true)
+      → new.open_write ≡ Some (open_write_of b.write shown b.written true)
       → new.numbers.items ≡ old.numbers.items
       → WritesRecord old shown text (Err (errors.Device f)) new
   writes_failed e f is writes device stands numbers =

@@ -23,7 +23,7 @@ use Rattle.cyc_buffer.specs.Calls.{ReadsBlock}
 use Rattle.cyc_buffer.specs.History.{History, front_of, text_under}
 use Rattle.cyc_buffer.specs.Head.{stop_of}
 use Rattle.cyc_buffer.specs.Reads.{StaysHeld}
-use Rattle.cyc_buffer.specs.Register.{Keeps}
+use Rattle.cyc_buffer.specs.BufferState.{Keeps}
 use Rattle.cyc_buffer.specs.Stopped.{IsLiveToken}
 use Rattle.cyc_buffer.specs.declared.answers.BufError.{BufError}
 use Rattle.cyc_buffer.specs.declared.answers.Found.{Found}
@@ -32,7 +32,7 @@ use Rattle.cyc_buffer.specs.declared.answers.Front.{Front}
 use Rattle.cyc_buffer.specs.declared.answers.StartError.{StartError}
 use Rattle.cyc_buffer.specs.declared.answers.StartError.TheVariants as errors
 use Rattle.cyc_buffer.specs.declared.buffer.Buffer.{Buffer}
-use Rattle.cyc_buffer.specs.declared.register.Register.{Register}
+use Rattle.cyc_buffer.specs.declared.buffer_state.BufferState.{BufferState}
 use Rattle.cyc_buffer.proofs.Finished.{lies}
 use Rattle.cyc_buffer.proofs.Reading.{is_under}
 use Rattle.cyc_buffer.proofs.Refusals.{held_on}
@@ -46,7 +46,7 @@ neither false b one other = other
 neither true b one other = absurd (true≢false one)
 
 -- the numbers don't decide of a live article's block
-live_numbers : (r : Register) (h : History) (token : Token) (k : ℕ) → Keeps r h
+live_numbers : (r : BufferState) (h : History) (token : Token) (k : ℕ) → Keeps r h
     → (live : IsLiveToken h token) → k < size_of token.length
     → by_numbers h.buffer (front_of h) token k ≡ None
 live_numbers r h token k keeps live inside =
@@ -74,7 +74,7 @@ live_numbers r h token k keeps live inside =
     (front_of h)))) None (le-ltb (place + blocks) (front_of h) live.live.here)
 
 -- the answer to a read of a live article's block is its chunk
-pub live_answer : (r : Register) (h : History) (token : Token) (k : ℕ) → Keeps r h
+pub live_answer : (r : BufferState) (h : History) (token : Token) (k : ℕ) → Keeps r h
     → (live : IsLiveToken h token) → k < size_of token.length
     → answer h token k ≡ Chunk (chunk k live.article.text)
 live_answer r h token k keeps live inside =
@@ -89,7 +89,7 @@ module _ {S : Type 0} {g : Ghosts S} (old new : Buffer S g) (token : codes.Token
   shown : (f : Found) → ReadsBlock old token k before (Ok f) after new
       → answers.Shows f after (Chunk (chunk k live.article.text))
   shown f reads = subst (answers.Shows f after)
-      (live_answer old.register h (token_view token) k agrees.keeps live inside)
+      (live_answer old.buffer_state h (token_view token) k agrees.keeps live inside)
       (reads.found h agrees)
 
   -- a chunk is that of the article's text
@@ -115,7 +115,7 @@ module _ {S : Type 0} {g : Ghosts S} where
   pub merely_none : (b : Buffer S g) → IsMerelyRead b b
   merely_none b = record {
     same = λ trusted h agrees. agrees;
-    register = refl;
+    buffer_state = refl;
     opened = refl;
     stop = refl;
     held = record {
@@ -130,7 +130,7 @@ module _ {S : Type 0} {g : Ghosts S} where
   pub merely_next : (a b c : Buffer S g) → IsMerelyRead a b → IsMerelyRead b c → IsMerelyRead a c
   merely_next a b c one other = record {
     same = λ trusted h agrees. other.same trusted h (one.same trusted h agrees);
-    register = other.register ∙ one.register;
+    buffer_state = other.buffer_state ∙ one.buffer_state;
     opened = other.opened ∙ one.opened;
     stop = other.stop ∙ one.stop;
     held = held_on g (store_of a) (store_of b) (store_of c) one.held other.held;
@@ -143,7 +143,7 @@ module _ {S : Type 0} {g : Ghosts S} where
       → IsMerelyRead a b
   merely_read a b token k before after result reads held stop = record {
     same = reads.same;
-    register = reads.register;
+    buffer_state = reads.buffer_state;
     opened = reads.opened;
     stop = stop;
     held = held;

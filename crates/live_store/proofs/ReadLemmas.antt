@@ -32,7 +32,7 @@ use Rattle.cyc_buffer.specs.declared.buffer.Buffer.{Buffer}
 use Rattle.cyc_buffer.proofs.Numbers.{undecided, no_chunk}
 use Rattle.cyc_buffer.proofs.Places.{chosen}
 use Rattle.cyc_buffer.proofs.Reading.{under}
-use Rattle.live_store.specs.declared.beside.Beside.{Beside}
+use Rattle.live_store.specs.declared.open_write.OpenWrite.{OpenWrite}
 use Rattle.live_store.specs.declared.writing.entering.Record.{Record}
 use Rattle.live_store.specs.Tied.{Tied, IsKnown, HasRecord, IsFirstAt, number_at, token_in, text_in}
 use Rattle.live_store.specs.Steps.{IsChunkOf, IsGoneBy, IsReadFault}
@@ -119,7 +119,7 @@ numbers_gone buffer front token k passed e =
     ]
 
 module _ {S : Type 0} {g : Ghosts S} (register : Shelves) (trusted : Bool)
-    (old : Buffer S g) (b : Option Beside) (numbers : List (Option (Where Record)))
+    (old : Buffer S g) (b : Option OpenWrite) (numbers : List (Option (Where Record)))
     (tied : ∥ Tied trusted register old b numbers ∥₁) (token : codes.Token) where
   -- where a chunk is read, over any store, a number stands at the article's first block
   pub read_numbered : IsAtStart old token → number_at numbers token.first ≡ None → ⊥
@@ -134,7 +134,7 @@ module _ {S : Type 0} {g : Ghosts S} (register : Shelves) (trusted : Bool)
       ∥∥₁_elim tied one (λ t. t.shown token.first w at)
 
 module _ {S : Type 0} {g : Ghosts S} (register : Shelves) (trusted : Bool)
-    (old : Buffer S g) (b : Option Beside) (numbers : List (Option (Where Record)))
+    (old : Buffer S g) (b : Option OpenWrite) (numbers : List (Option (Where Record)))
     (tied : ∥ Tied trusted register old b numbers ∥₁) (token : codes.Token)
     (new : Buffer S g) (k : ℕ) (before after : List ℕ) where
   -- a chunk that is read is that of the record at the article's first block

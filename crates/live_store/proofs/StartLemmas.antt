@@ -1,5 +1,5 @@
 -- The numbers of the articles of a buffer that was started.
-use Rattle.std.proofs.Common.{◌≡◌, ◌∙◌, ℕ, suc, ◌+◌, ◌<◌, ◌⊎◌, inl, inr, refl, sym, ap}
+use Rattle.std.proofs.Common.{◌≡◌, ◌∙◌, ℕ, suc, ◌+◌, ◌<◌, inl, inr, refl, sym, ap}
 use Rattle.std.proofs.Common.{subst, arith, Bool, true, List, length, set, Option, Some}
 use Rattle.std.proofs.Common.{slice_index_or, nat_lt}
 use Rattle.std.proofs.Math.Nat.{mul-le-mul_right}
@@ -10,25 +10,22 @@ use Rattle.std.specs.Prelude.{None}
 use Rattle.boxcar.specs.Table.{Shelves, Where, Shows}
 use Rattle.cyc_buffer.proofs.Finished.{lies, same_some}
 use Rattle.cyc_buffer.specs.History.{Article, History, finished_at, front_of}
-use Rattle.cyc_buffer.specs.Register.{Keeps}
+use Rattle.cyc_buffer.specs.BufferState.{Keeps}
 use Rattle.cyc_buffer.specs.Starting.{ListsLive}
 use Rattle.cyc_buffer.specs.Stopped.{IsLiveToken}
-use Rattle.cyc_buffer.specs.declared.register.Register.{Register}
+use Rattle.cyc_buffer.specs.declared.buffer_state.BufferState.{BufferState}
 use Rattle.cyc_token.specs.Token.{token_view}
 use Rattle.cyc_token.specs.declared.Token as codes
 use Rattle.live_store.specs.Started.{AreNumberedTo, HaveFirsts, IsTextOfLive, IsThere, code_token}
 use Rattle.live_store.specs.Tied.{AreNumbered, HasRecord, number_at, named_in, text_in}
 use Rattle.live_store.specs.declared.writing.entering.Record.{Record}
+use Rattle.live_store.proofs.NumberLemmas.{apart}
 use Rattle.live_store.proofs.TiedLemmas.{number_set}
 use Rattle.news_terms.specs.Places.{IsLive, on_line}
 
 -- a token of zeros
 abbrev pub none_token : codes.Token
 none_token = record { class = 0; buffer = 0; cycle = 0; first = 0; length = 0 }
-
-apart : {a b : ℕ} → a ≡ b → (a < b) ⊎ (b < a) → ⊥
-apart e (inl l) = omega (arith, e, l)
-apart e (inr g) = omega (arith, e, g)
 
 -- two articles that are live at one block are of one cycle
 later_cycle : (blocks front first c d : ℕ) → c < d → IsLive blocks front (on_line blocks c first)
@@ -70,7 +67,7 @@ own_token h token live = λ i. record {
 }
 
 -- its article begins in the buffer
-pub first_of_live : (r : Register) (h : History) (token : codes.Token) → Keeps r h
+pub first_of_live : (r : BufferState) (h : History) (token : codes.Token) → Keeps r h
     → IsLiveToken h (token_view token) → token.first < h.buffer.blocks
 first_of_live r h token keeps live =
     let l = lies h.buffer h.begins token.cycle token.first live.article keeps.sizes live.finished
@@ -175,7 +172,8 @@ numbered_item trusted register h tokens items n d shown numbers same inside list
     ∙ ap (λ (xs : List codes.Token). slice_index_or xs n (slice_index_or items n d)) same)
     numbered
 
--- with the number of one token's record more, each token so far has one at its article's first block
+-- with the number of one token's record more, each token so far has one at its article's first
+-- block
 pub firsts_item : (tokens items : List codes.Token) (n : ℕ) (d : codes.Token)
     (shown : Where Record) (numbers : List (Option (Where Record)))
     → items ≡ tokens → n < length items

@@ -6,7 +6,7 @@ use Rattle.std.specs.Prelude.{IsSomeAnd}
 use Rattle.boxcar.specs.Table.{Shelves, Where}
 use Rattle.news_terms.specs.Places as places
 use Rattle.cyc_block.specs.declared.store.BlockStore.{Ghosts}
-use Rattle.cyc_buffer.specs.Agreement.{Agrees, Follows, register_of, store_of}
+use Rattle.cyc_buffer.specs.Agreement.{Agrees, Follows, buffer_state_of, store_of}
 use Rattle.cyc_buffer.specs.Head.{is_busy}
 use Rattle.cyc_buffer.specs.History.{History}
 use Rattle.cyc_buffer.specs.Marks.{is_marked}
@@ -23,7 +23,7 @@ use Rattle.live_store.specs.Started.{WasStopped}
 use Rattle.live_store.specs.Tied.{AreNumbered, AreShown, HaveNumbers, IsFirstAt, IsKnown, Tied}
 use Rattle.live_store.specs.Tied.{number_at}
 use Rattle.live_store.specs.declared.writing.entering.Record.{Record}
-use Rattle.cyc_buffer.specs.declared.register.Register.{Register}
+use Rattle.cyc_buffer.specs.declared.buffer_state.BufferState.{BufferState}
 use Rattle.live_store.proofs.TiedLemmas.{tied_same}
 
 -- what is refused from without isn't damaged
@@ -102,9 +102,9 @@ module _ {S : Type 0} {g : Ghosts S} (register : Shelves) (trusted : Bool) (old 
           → (trusts ≡ true → IsKnown register new None numbers)
           → Tied trusts register new None numbers
       tied_with trusts known = record {
-        open_write = ap (λ (r : Register). is_some r.progress) read.register ∙ idle;
+        own_write = ap (λ (r : BufferState). is_some r.progress) read.buffer_state ∙ idle;
         started = λ block inside marked. has block inside
-            (sym (ap (λ (r : Register). is_marked r.starts.words.items block) read.register)
+            (sym (ap (λ (r : BufferState). is_marked r.starts.words.items block) read.buffer_state)
             ∙ marked);
         shown = shown;
         places = room ∙ sym read.held.count;
@@ -123,7 +123,7 @@ module _ {S : Type 0} {g : Ghosts S} (register : Shelves) (trusted : Bool) (old 
 
   -- where nothing stands beside it, what agrees with the same histories has it too
   pub tied_idle : ∥ Tied trusted register old None numbers ∥₁ → Follows (λ h. h) old new
-      → register_of new ≡ register_of old
+      → buffer_state_of new ≡ buffer_state_of old
       → length (g.blocks (store_of new)) ≡ length (g.blocks (store_of old))
       → ∥ Tied trusted register new None numbers ∥₁
   tied_idle tied follows same count = ∥∥₁_map tied (λ t.

@@ -14,40 +14,40 @@ use Rattle.cyc_buffer.specs.Stopped.{HoldsStopped}
 use Rattle.cyc_buffer.specs.declared.buffer.Buffer.{Buffer}
 use Rattle.live_store.specs.Started.{AreSaidAgain, ShutWith}
 use Rattle.live_store.specs.Tied.{HasRecord, Tied, article_token}
-use Rattle.live_store.specs.declared.beside.Beside.{Beside}
+use Rattle.live_store.specs.declared.open_write.OpenWrite.{OpenWrite}
 use Rattle.live_store.specs.declared.writing.entering.Record.{Record}
 use Rattle.live_store.proofs.OpenLemmas.{no_prop}
-use Rattle.live_store.proofs.TiedLemmas.{busy_beside}
+use Rattle.live_store.proofs.TiedLemmas.{busy_open_write}
 
 -- what is tied is so after it was taken apart
 pub parts_tied : {S : Type 0} {g : Ghosts S} (register : Shelves) (trusted : Bool)
-    (buffer one : Buffer S g) (beside other : Option Beside)
+    (buffer one : Buffer S g) (open_write other : Option OpenWrite)
     (numbers others : List (Option (Where Record)))
-    → one ≡ buffer → other ≡ beside → others ≡ numbers
-    → ∥ Tied trusted register buffer beside numbers ∥₁
+    → one ≡ buffer → other ≡ open_write → others ≡ numbers
+    → ∥ Tied trusted register buffer open_write numbers ∥₁
     → ∥ Tied trusted register one other others ∥₁
-parts_tied register trusted buffer one beside other numbers others a b c tied =
+parts_tied register trusted buffer one open_write other numbers others a b c tied =
     subst (λ x. ∥ Tied trusted register x other others ∥₁) (sym a)
     (subst (λ x. ∥ Tied trusted register buffer x others ∥₁) (sym b)
-    (subst (λ x. ∥ Tied trusted register buffer beside x ∥₁) (sym c) tied))
+    (subst (λ x. ∥ Tied trusted register buffer open_write x ∥₁) (sym c) tied))
 
 module _ {S : Type 0} {g : Ghosts S} (register : Shelves) (trusted : Bool) (buffer : Buffer S g)
     (numbers : List (Option (Where Record))) where
   -- it is busy just where something stands beside it
-  pub busy_is : (b : Option Beside) → ∥ Tied trusted register buffer b numbers ∥₁
+  pub busy_is : (b : Option OpenWrite) → ∥ Tied trusted register buffer b numbers ∥₁
       → is_some b ≡ is_busy buffer
-  busy_is None tied = ∥∥₁_elim tied (hlevel props) (λ t. sym t.open_write)
+  busy_is None tied = ∥∥₁_elim tied (hlevel props) (λ t. sym t.own_write)
   busy_is (Some b) tied = ∥∥₁_elim tied (hlevel props)
-      (λ t. sym (busy_beside register trusted buffer b numbers t))
+      (λ t. sym (busy_open_write register trusted buffer b numbers t))
 
   -- what has an open write beside it isn't stopped
-  pub never_shut : (b : Beside) → ∥ Tied trusted register buffer (Some b) numbers ∥₁
+  pub never_shut : (b : OpenWrite) → ∥ Tied trusted register buffer (Some b) numbers ∥₁
       → (is_busy buffer ≡ true → ⊥) → ⊥
   never_shut b tied refused = ∥∥₁_elim tied no_prop
-      (λ t. refused (busy_beside register trusted buffer b numbers t))
+      (λ t. refused (busy_open_write register trusted buffer b numbers t))
 
   -- what is stopped holds the texts of records
-  pub shut_with : (b : Option Beside) (stop : ℕ) (store : S)
+  pub shut_with : (b : Option OpenWrite) (stop : ℕ) (store : S)
       → ∥ Tied trusted register buffer b numbers ∥₁
       → ((h : History) → Agrees true buffer h
       → HoldsStopped (g.heads store) (g.blocks store) stop h)

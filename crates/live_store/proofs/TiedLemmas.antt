@@ -15,23 +15,23 @@ use Rattle.cyc_token.specs.declared.Token as codes
 use Rattle.cyc_block.specs.declared.store.BlockStore.{Ghosts}
 use Rattle.cyc_buffer.specs.Agreement.{Agrees, Holds, Follows, Owns, Continues, ContinuesIn}
 use Rattle.cyc_buffer.specs.Agreement.{blocks_written, is_broken, token_of, length_of, store_of}
-use Rattle.cyc_buffer.specs.Agreement.{register_of}
+use Rattle.cyc_buffer.specs.Agreement.{buffer_state_of}
 use Rattle.cyc_buffer.specs.Head.{is_busy}
 use Rattle.cyc_buffer.specs.History.{History, Writing, new_history, with_begin}
 use Rattle.cyc_buffer.specs.History.{with_block, with_failure, with_finish, without_write, changed}
 use Rattle.cyc_buffer.specs.History.{with_next_block}
 use Rattle.cyc_buffer.specs.Progress.{IsTheOpen, has_failed, written_of}
 use Rattle.cyc_buffer.specs.Marks.{is_marked}
-use Rattle.cyc_buffer.specs.Register.{Keeps, Writes}
+use Rattle.cyc_buffer.specs.BufferState.{Keeps, Writes}
 use Rattle.cyc_buffer.specs.Remembered.{AddsNoStart, AddsStart, is_start}
 use Rattle.cyc_buffer.specs.declared.buffer.Buffer.{Buffer}
-use Rattle.cyc_buffer.specs.declared.register.Open.{Open}
-use Rattle.cyc_buffer.specs.declared.register.Progress.{Progress}
-use Rattle.cyc_buffer.specs.declared.register.Register.{Register}
+use Rattle.cyc_buffer.specs.declared.buffer_state.Open.{Open}
+use Rattle.cyc_buffer.specs.declared.buffer_state.Progress.{Progress}
+use Rattle.cyc_buffer.specs.declared.buffer_state.BufferState.{BufferState}
 use Rattle.cyc_buffer.proofs.Finished.{none_is_none}
-use Rattle.live_store.specs.declared.beside.Beside.{Beside}
+use Rattle.live_store.specs.declared.open_write.OpenWrite.{OpenWrite}
 use Rattle.live_store.specs.declared.writing.entering.Record.{Record}
-use Rattle.live_store.specs.Tied.{Tied, IsWhole, IsBeside, IsNamed, IsWrittenAs, HasNumber}
+use Rattle.live_store.specs.Tied.{Tied, IsWhole, IsOpenWrite, IsNamed, IsWrittenAs, HasNumber}
 use Rattle.live_store.specs.Tied.{IsKnown, IsFirstAt, HaveNumbers, AreShown, number_at, text_in}
 use Rattle.live_store.proofs.FrontLemmas.{first_within}
 use Rattle.live_store.proofs.NumberLemmas.{apart, numbered_begin, numbered_finish, shown_set}
@@ -59,11 +59,12 @@ continues_next text (Some w) =
     ∙ take_min (chunk_size * (w.blocks + 1)) text
 
 -- what stands beside a buffer, of these parts
-abbrev pub beside_of : Open → (shown : Where Record) → (written : ℕ) → Bool → Beside
-beside_of write shown written broken =
+abbrev pub open_write_of : Open → (shown : Where Record) → (written : ℕ) → Bool → OpenWrite
+open_write_of write shown written broken =
     record { write = write; shown = Some shown; written = written; broken = broken }
 
-pub no_number : (n block : ℕ) (shown : Where Record) → number_at (replicate n None) block ≡ Some shown
+pub no_number : (n block : ℕ) (shown : Where Record)
+    → number_at (replicate n None) block ≡ Some shown
     → ⊥
 no_number zero block shown e = none_is_none e
 no_number (suc n) zero shown e = none_is_none e
@@ -122,7 +123,7 @@ module _ {S : Type 0} {g : Ghosts S} (register : Shelves) (trusted : Bool) where
       → numbers ≡ replicate (length (g.blocks store)) None
       → Tied trusted register buffer None numbers
   tied_new number first_cycle store buffer numbers honest agrees unmarked idle count none = record {
-    open_write = idle;
+    own_write = idle;
     started = λ block inside marked. absurd (true≢false (sym marked ∙ unmarked block));
     shown = none_shown register (length (g.blocks store)) numbers none;
     places = ap length none ∙ length-replicate (length (g.blocks store)) None ∙ sym count;
@@ -140,15 +141,15 @@ module _ {S : Type 0} {g : Ghosts S} (register : Shelves) (trusted : Bool) where
 
   module _ (old new : Buffer S g) (numbers : List (Option (Where Record))) where
     -- where memory is the same, so is what stands beside it
-    beside_same : register_of new ≡ register_of old → (b : Option Beside)
-        → IsBeside register old b → IsBeside register new b
-    beside_same same None is = ap (λ (r : Register). is_some r.progress) same ∙ is
-    beside_same same (Some b) is = record {
-      owns = subst (λ (r : Register). IsTheOpen b.write r.progress) (sym same) is.owns;
+    open_write_same : buffer_state_of new ≡ buffer_state_of old → (b : Option OpenWrite)
+        → IsOpenWrite register old b → IsOpenWrite register new b
+    open_write_same same None is = ap (λ (r : BufferState). is_some r.progress) same ∙ is
+    open_write_same same (Some b) is = record {
+      owns = subst (λ (r : BufferState). IsTheOpen b.write r.progress) (sym same) is.owns;
       shown = is.shown;
       whole = λ e. let w = is.whole e in record {
-        unbroken = ap (λ (r : Register). has_failed r.progress) same ∙ w.unbroken;
-        written = w.written ∙ sym (ap (λ (r : Register). written_of r.progress) same);
+        unbroken = ap (λ (r : BufferState). has_failed r.progress) same ∙ w.unbroken;
+        written = w.written ∙ sym (ap (λ (r : BufferState). written_of r.progress) same);
         number = w.number;
       };
     }
@@ -157,17 +158,17 @@ module _ {S : Type 0} {g : Ghosts S} (register : Shelves) (trusted : Bool) where
     still_started : AddsNoStart old new → HaveNumbers old numbers → HaveNumbers new numbers
     still_started adds has block inside marked = has block inside (adds block marked)
 
-    same_starts : register_of new ≡ register_of old → AddsNoStart old new
+    same_starts : buffer_state_of new ≡ buffer_state_of old → AddsNoStart old new
     same_starts same block marked =
-        sym (ap (λ (r : Register). is_marked r.starts.words.items block) same) ∙ marked
+        sym (ap (λ (r : BufferState). is_marked r.starts.words.items block) same) ∙ marked
 
     -- after a read
-    pub tied_same : (b : Option Beside) → Tied trusted register old b numbers
-        → Follows (λ h. h) old new → register_of new ≡ register_of old
+    pub tied_same : (b : Option OpenWrite) → Tied trusted register old b numbers
+        → Follows (λ h. h) old new → buffer_state_of new ≡ buffer_state_of old
         → length (g.blocks (store_of new)) ≡ length (g.blocks (store_of old))
         → Tied trusted register new b numbers
     tied_same b t follows same count = record {
-      open_write = beside_same same b t.open_write;
+      own_write = open_write_same same b t.own_write;
       started = still_started (same_starts same) t.started;
       shown = t.shown;
       places = t.places ∙ sym count;
@@ -180,25 +181,25 @@ module _ {S : Type 0} {g : Ghosts S} (register : Shelves) (trusted : Bool) where
     }
 
     -- after a begin that was refused
-    pub tied_kept : (b : Option Beside) → Tied trusted register old b numbers
-        → register_of new ≡ register_of old → store_of new ≡ store_of old
+    pub tied_kept : (b : Option OpenWrite) → Tied trusted register old b numbers
+        → buffer_state_of new ≡ buffer_state_of old → store_of new ≡ store_of old
         → Tied trusted register new b numbers
     tied_kept b t same store = tied_same b t (λ trust h a. record {
-      keeps = subst (λ (r : Register). Keeps r h) (sym same) a.keeps;
+      keeps = subst (λ (r : BufferState). Keeps r h) (sym same) a.keeps;
       honest = λ e. subst g.honest (sym store) (a.honest e);
-      holds = λ e. subst (λ (r : Register). Holds (g.blocks (store_of new)) r h) (sym same)
-          (subst (λ (x : S). Holds (g.blocks x) (register_of old) h) (sym store) (a.holds e));
+      holds = λ e. subst (λ (r : BufferState). Holds (g.blocks (store_of new)) r h) (sym same)
+          (subst (λ (x : S). Holds (g.blocks x) (buffer_state_of old) h) (sym store) (a.holds e));
     }) same (ap (λ (x : S). length (g.blocks x)) store)
 
     -- after a begin
-    pub tied_begin : (b : Option Beside) (class octets : ℕ) (fresh : Bool) (write : Open)
+    pub tied_begin : (b : Option OpenWrite) (class octets : ℕ) (fresh : Bool) (write : Open)
         → Tied trusted register old b numbers → Follows (with_begin class octets fresh) old new
         → Owns new write → blocks_written new ≡ 0 → is_broken new ≡ false
         → AddsNoStart old new → store_of new ≡ store_of old
         → Tied trusted register new
         (Some (record { write = write; shown = None; written = 0; broken = false })) numbers
     tied_begin b class octets fresh write t follows owns none whole adds store = record {
-      open_write = record {
+      own_write = record {
         owns = owns;
         shown = tt;
         whole = λ _. record { unbroken = whole; written = sym none; number = refl };
@@ -210,13 +211,14 @@ module _ {S : Type 0} {g : Ghosts S} (register : Shelves) (trusted : Bool) where
         history = with_begin class octets fresh k.history;
         agrees = follows true k.history k.agrees;
         begun = λ _. tt;
-        numbered = numbered_begin true register old.register k.history class octets fresh numbers
+        numbered = numbered_begin true register old.buffer_state k.history class
+            octets fresh numbers
             k.agrees.keeps k.numbered;
       };
     }
 
     -- after one more block
-    pub tied_next : (b : Beside) (shown : Where Record) (written : ℕ)
+    pub tied_next : (b : OpenWrite) (shown : Where Record) (written : ℕ)
         → (t : Tied trusted register old (Some b) numbers)
         → IsWrittenAs register b.write shown
         → ((k : IsKnown register old (Some b) numbers) → Continues (text_in shown) k.history)
@@ -225,9 +227,9 @@ module _ {S : Type 0} {g : Ghosts S} (register : Shelves) (trusted : Bool) where
         → Owns new b.write → is_broken new ≡ false → written ≡ blocks_written new
         → AddsNoStart old new
         → length (g.blocks (store_of new)) ≡ length (g.blocks (store_of old))
-        → Tied trusted register new (Some (beside_of b.write shown written false)) numbers
+        → Tied trusted register new (Some (open_write_of b.write shown written false)) numbers
     tied_next b shown written t number continues follows owns whole counted adds count = record {
-      open_write = record {
+      own_write = record {
         owns = owns;
         shown = number.shows;
         whole = λ _. record { unbroken = whole; written = counted; number = number };
@@ -244,13 +246,13 @@ module _ {S : Type 0} {g : Ghosts S} (register : Shelves) (trusted : Bool) where
     }
 
     -- after the device failed
-    pub tied_failed : (b : Beside) (shown : Where Record) → Shows register shown
+    pub tied_failed : (b : OpenWrite) (shown : Where Record) → Shows register shown
         → Tied trusted register old (Some b) numbers
         → Follows with_failure old new → Owns new b.write → AddsNoStart old new
         → length (g.blocks (store_of new)) ≡ length (g.blocks (store_of old))
-        → Tied trusted register new (Some (beside_of b.write shown b.written true)) numbers
+        → Tied trusted register new (Some (open_write_of b.write shown b.written true)) numbers
     tied_failed b shown shows t follows owns adds count = record {
-      open_write = record { owns = owns; shown = shows; whole = λ e. absurd (true≢false e) };
+      own_write = record { owns = owns; shown = shows; whole = λ e. absurd (true≢false e) };
       started = still_started adds t.started;
       shown = t.shown;
       places = t.places ∙ sym count;
@@ -263,11 +265,11 @@ module _ {S : Type 0} {g : Ghosts S} (register : Shelves) (trusted : Bool) where
     }
 
     -- after the write was abandoned
-    pub tied_abandon : (b : Beside) → Tied trusted register old (Some b) numbers
+    pub tied_abandon : (b : OpenWrite) → Tied trusted register old (Some b) numbers
         → Follows without_write old new → is_busy new ≡ false → AddsNoStart old new
         → store_of new ≡ store_of old → Tied trusted register new None numbers
     tied_abandon b t follows idle adds store = record {
-      open_write = idle;
+      own_write = idle;
       started = still_started adds t.started;
       shown = t.shown;
       places = t.places ∙ sym (ap (λ (x : S). length (g.blocks x)) store);
@@ -280,22 +282,24 @@ module _ {S : Type 0} {g : Ghosts S} (register : Shelves) (trusted : Bool) where
     }
 
   -- the open write's first block has a place for a number
-  pub place_of_write : (buffer : Buffer S g) (b : Beside) (numbers : List (Option (Where Record)))
+  pub place_of_write
+      : (buffer : Buffer S g) (b : OpenWrite) (numbers : List (Option (Where Record)))
       → Tied trusted register buffer (Some b) numbers → (token_of b.write).first < length numbers
-  place_of_write buffer b numbers t = by_progress buffer.register.progress refl t.open_write.owns
+  place_of_write buffer b numbers t =
+      by_progress buffer.buffer_state.progress refl t.own_write.owns
     where
-      by_progress : (o : Option Progress) → buffer.register.progress ≡ o → IsTheOpen b.write o
+      by_progress : (o : Option Progress) → buffer.buffer_state.progress ≡ o → IsTheOpen b.write o
           → (token_of b.write).first < length numbers
       by_progress None is owns = absurd owns
       by_progress (Some p) is owns = omega (
         arith,
-        first_within buffer.register p b.write is owns,
+        first_within buffer.buffer_state p b.write is owns,
         t.places,
         buffer.counted,
       )
 
   -- after a finish
-  pub tied_finish : (old new : Buffer S g) (b : Beside) (numbers : List (Option (Where Record)))
+  pub tied_finish : (old new : Buffer S g) (b : OpenWrite) (numbers : List (Option (Where Record)))
       (shown : Where Record)
       → (t : Tied trusted register old (Some b) numbers)
       → IsWrittenAs register b.write shown
@@ -309,7 +313,7 @@ module _ {S : Type 0} {g : Ghosts S} (register : Shelves) (trusted : Bool) where
       let first = (token_of b.write).first in
       let named : IsFirstAt first shown = sym (ap (λ (x : Token). x.first) number.named) in
       record {
-        open_write = idle;
+        own_write = idle;
         started = λ block inside marked. number_set numbers first shown within named block
             (is_start old block) (adds block marked)
             (λ was. t.started block
@@ -325,17 +329,19 @@ module _ {S : Type 0} {g : Ghosts S} (register : Shelves) (trusted : Bool) where
               (continues k) k.numbered
               (t.places ∙ sym old.counted
               ∙ sym (ap (λ (x : places.Buffer). x.blocks) k.agrees.keeps.buffer))
-              old.register k.agrees.keeps t.open_write.owns all;
+              old.buffer_state k.agrees.keeps t.own_write.owns all;
         };
       }
 
   -- what has an open write beside it is busy
-  pub busy_beside : (buffer : Buffer S g) (b : Beside) (numbers : List (Option (Where Record)))
+  pub busy_open_write
+      : (buffer : Buffer S g) (b : OpenWrite) (numbers : List (Option (Where Record)))
       → Tied trusted register buffer (Some b) numbers → is_busy buffer ≡ true
-  busy_beside buffer b numbers t = busy_by b.write buffer.register.progress t.open_write.owns
+  busy_open_write buffer b numbers t =
+      busy_by b.write buffer.buffer_state.progress t.own_write.owns
 
 -- the record that an open write is named by is the one that is written
-pub named : {S : Type 0} {g : Ghosts S} (register : Shelves) (buffer : Buffer S g) (b : Beside)
+pub named : {S : Type 0} {g : Ghosts S} (register : Shelves) (buffer : Buffer S g) (b : OpenWrite)
     (shown : Where Record)
     → IsWhole register buffer b → IsNamed b.write b.shown shown
     → Shows register shown → length (text_in shown) ≡ length_of b.write
@@ -357,7 +363,7 @@ named register buffer b shown whole same shows long = named_by b.shown whole.num
     }
 
 -- the record that an open write has the number of is the one that is written
-pub named_again : (register : Shelves) (b : Beside) (shown : Where Record)
+pub named_again : (register : Shelves) (b : OpenWrite) (shown : Where Record)
     (o : Option (Where Record)) → is_none o ≡ false
     → HasNumber register b o → IsNamed b.write o shown → Shows register shown
     → IsWrittenAs register b.write shown
@@ -365,12 +371,13 @@ named_again register b shown None some number same shows = absurd (true≢false 
 named_again register b shown (Some own) some number same shows = record {
   shows = shows;
   named = number.named ∙ ap (λ (r : Record). token_view r.token.value) same.1;
-  octets = subst (λ (r : Record). length r.text.value.items ≡ r.token.value.length) same.1 number.octets;
+  octets = subst (λ (r : Record). length r.text.value.items ≡ r.token.value.length)
+      same.1 number.octets;
 }
 
 -- what is written is what the text of the record that an open write is named by begins with
 pub continues_as : {S : Type 0} {g : Ghosts S} (register : Shelves) (buffer : Buffer S g)
-    (b : Beside) (shown : Where Record) (numbers : List (Option (Where Record)))
+    (b : OpenWrite) (shown : Where Record) (numbers : List (Option (Where Record)))
     → b.broken ≡ false → IsWhole register buffer b → IsNamed b.write b.shown shown
     → (k : IsKnown register buffer (Some b) numbers) → Continues (text_in shown) k.history
 continues_as register buffer b shown numbers unbroken whole same k =
@@ -379,7 +386,7 @@ continues_as register buffer b shown numbers unbroken whole same k =
     by_number : (o : Option (Where Record)) → HasNumber register b o → IsNamed b.write o shown
         → IfSome o (λ w. Continues (text_in w) k.history) → Continues (text_in shown) k.history
     by_number None none same begun = none_continues k.history (text_in shown)
-        buffer.register.progress k.history.writing k.agrees.keeps.writing
+        buffer.buffer_state.progress k.history.writing k.agrees.keeps.writing
         (sym whole.written ∙ none)
     by_number (Some own) number same begun =
         subst (λ (r : Record). Continues r.text.value.items k.history) same.1 begun

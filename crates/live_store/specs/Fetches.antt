@@ -5,7 +5,7 @@ use Rattle.live_store.specs.declared.fetched.Fetched.{Fetched}
 use Rattle.live_store.specs.declared.fetched.Fetched.TheVariants as fetched
 use Rattle.live_store.specs.declared.fetched.Rest.{Rest}
 use Rattle.live_store.specs.declared.fetched.Rest.TheVariants as rests
-use Rattle.live_store.specs.declared.record.Archive.{Ghosts}
+use Rattle.live_store.specs.declared.record.StorePremises.{Ghosts}
 use Rattle.live_store.specs.declared.writing.entering.Record.{Record}
 use Rattle.live_store.specs.Steps.{IsGoneBy, IsReadFault}
 use Rattle.live_store.specs.Tied.{token_in, text_in}

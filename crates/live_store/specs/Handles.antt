@@ -6,7 +6,7 @@ use Rattle.cyc_buffer.specs.declared.answers.BufError.TheVariants as errors
 use Rattle.cyc_buffer.specs.declared.answers.Fault.{Fault}
 use Rattle.cyc_token.specs.declared.Token.{Token}
 use Rattle.live_store.specs.declared.steps.entered.Entered.{Entered}
-use Rattle.live_store.specs.declared.steps.handles.Mixed.{Mixed}
+use Rattle.live_store.specs.declared.steps.handles.Conflict.{Conflict}
 use Rattle.live_store.specs.declared.writing.entering.Begun.{Begun}
 use Rattle.live_store.specs.declared.writing.entering.Record.{Record}
 
@@ -22,8 +22,8 @@ begun_fresh begun = begun.fresh
 abbrev pub shown_of : Entered → Where Record
 shown_of entered = entered.shown
 
--- what a begin that is refused so comes to: the fault that is told, or that all is mixed up
-abbrev pub IsRefusedAs : BufError → Result Fault Mixed → Type 0
+-- what a begin that is refused so comes to: the fault that is told, or that all is in conflict
+abbrev pub IsRefusedAs : BufError → Result Fault Conflict → Type 0
 IsRefusedAs errors.TooBig told = IsErr told
 IsRefusedAs (errors.Worn fault) told = told ≡ Ok fault
 IsRefusedAs errors.Busy told = IsErr told

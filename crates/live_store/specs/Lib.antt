@@ -1,5 +1,6 @@
 pub mod Fetches
 pub mod Handles
+pub mod Places
 pub mod Started
 pub mod Steps
 pub mod Stores

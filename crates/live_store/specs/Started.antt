@@ -5,7 +5,7 @@ use Rattle.article_parse.specs.declared.faults.ArtError.{ArtError}
 use Rattle.article_parse.specs.declared.faults.ArtError.TheVariants as faults
 use Rattle.boxcar.specs.Table.{Shelves, Where, Shows}
 use Rattle.cyc_block.specs.declared.store.BlockStore.{Ghosts}
-use Rattle.cyc_buffer.specs.Agreement.{Agrees, Follows, register_of, store_of}
+use Rattle.cyc_buffer.specs.Agreement.{Agrees, Follows, buffer_state_of, store_of}
 use Rattle.cyc_buffer.specs.Head.{has_open_head, stop_of}
 use Rattle.cyc_buffer.specs.History.{History, Article, finished_at, front_of}
 use Rattle.cyc_buffer.specs.Reads.{StaysHeld}
@@ -16,7 +16,7 @@ use Rattle.cyc_buffer.specs.declared.answers.StartError.TheVariants as errors
 use Rattle.cyc_buffer.specs.declared.buffer.Buffer.{Buffer}
 use Rattle.cyc_buffer.specs.declared.unopened.Unopened.{Unopened}
 use Rattle.cyc_token.specs.declared.Token as codes
-use Rattle.live_store.specs.declared.record.Archive as archives
+use Rattle.live_store.specs.declared.record.StorePremises as store_premises
 use Rattle.live_store.specs.declared.unopened.UnopenedNumbered.{UnopenedNumbered}
 use Rattle.live_store.specs.declared.writing.entering.Record.{Record}
 use Rattle.live_store.specs.Tied.{AreNumbered, HasRecord, IsFirstAt, number_at, text_in, token_in}
@@ -73,7 +73,7 @@ HaveFirsts tokens count numbers = (j : ℕ) (d : codes.Token) → j < count → 
 -- memory or on its device.
 pub record IsMerelyRead {S : Type 0} {g : Ghosts S} (old new : Buffer S g) : Type 0 where
   pub same : Follows (λ h. h) old new
-  pub register : register_of new ≡ register_of old
+  pub buffer_state : buffer_state_of new ≡ buffer_state_of old
   pub opened : has_open_head new ≡ has_open_head old
   pub stop : stop_of new ≡ stop_of old
   pub held : StaysHeld g (store_of old) (store_of new)
@@ -114,14 +114,15 @@ pub record IsStartable (heads blocks : List (List ℕ)) (buffer : places.Buffer)
   pub tokens : List codes.Token
   pub starts : Starts heads blocks buffer stop tokens
 
--- nothing is wrong with the buffer, and it is said to be damaged: a text of it is no article
+-- nothing is wrong with the buffer, and yet it is said to be damaged
 pub record IsTextFault (heads blocks : List (List ℕ)) (buffer : places.Buffer) (e : StartError)
     : Type 0 where
   pub damaged : e ≡ errors.Damaged
   pub stop : ℕ
   pub startable : IsStartable heads blocks buffer stop
 
--- why a start is refused: for what is wrong with the buffer, from without, or for a text
+-- why a start is refused: for what is wrong with the buffer, from without, or as damaged where
+-- nothing is wrong with the buffer, as a text that is no article is
 abbrev pub IsRefusedFor : (heads blocks : List (List ℕ)) → places.Buffer → StartError → Type 0
 IsRefusedFor heads blocks buffer e =
     IsReason heads blocks buffer e ⊎ IsTextFault heads blocks buffer e
@@ -163,11 +164,11 @@ AreSaidAgain before after token (Some old) None = ⊥
 AreSaidAgain before after token (Some old) (Some new) = IsSaidAgain before after token old new
 
 -- the started buffer, before its head is open
-abbrev pub unopened_in : {S : Type 0} {s : Ghosts S} {J : Type 0} {j : archives.Ghosts J}
+abbrev pub unopened_in : {S : Type 0} {s : Ghosts S} {J : Type 0} {j : store_premises.Ghosts J}
     → UnopenedNumbered S J s j → Unopened S s
 unopened_in numbered = numbered.buffer
 
 -- the numbers that stand at its blocks
-abbrev pub numbers_on : {S : Type 0} {s : Ghosts S} {J : Type 0} {j : archives.Ghosts J}
+abbrev pub numbers_on : {S : Type 0} {s : Ghosts S} {J : Type 0} {j : store_premises.Ghosts J}
     → UnopenedNumbered S J s j → List (Option (Where Record))
 numbers_on numbered = numbered.numbers.items

@@ -19,9 +19,9 @@ use Rattle.live_store.specs.declared.answers.Reading.{Reading}
 use Rattle.live_store.specs.declared.answers.Reading.TheVariants as readings
 use Rattle.live_store.specs.declared.answers.WriteFault.{WriteFault}
 use Rattle.live_store.specs.declared.answers.WriteFault.TheVariants as writes
-use Rattle.live_store.specs.declared.beside.Beside.{Beside}
+use Rattle.live_store.specs.declared.open_write.OpenWrite.{OpenWrite}
 use Rattle.live_store.specs.declared.numbered.NumberedBuffer.{NumberedBuffer}
-use Rattle.live_store.specs.declared.record.Archive as archives
+use Rattle.live_store.specs.declared.record.StorePremises as store_premises
 use Rattle.live_store.specs.declared.writing.entering.Record.{Record}
 use Rattle.live_store.specs.Tied.{token_in, text_in, number_at, IsNamed, IsSameRecord}
 use Rattle.news_terms.specs.BlockImage.{chunk, chunk_size}
@@ -29,22 +29,22 @@ use Rattle.news_terms.specs.Places.{IsGone, size_of, on_line}
 use Rattle.news_terms.specs.Token.{Token}
 
 -- the buffer that lies under the lock
-abbrev pub buffer_of : {S : Type 0} {s : Ghosts S} {J : Type 0} {j : archives.Ghosts J}
+abbrev pub buffer_of : {S : Type 0} {s : Ghosts S} {J : Type 0} {j : store_premises.Ghosts J}
     → NumberedBuffer S J s j → Buffer S s
 buffer_of numbered = numbered.buffer
 
 -- what stands beside it
-abbrev pub beside_of : {S : Type 0} {s : Ghosts S} {J : Type 0} {j : archives.Ghosts J}
-    → NumberedBuffer S J s j → Option Beside
-beside_of numbered = numbered.beside
+abbrev pub open_write_of : {S : Type 0} {s : Ghosts S} {J : Type 0} {j : store_premises.Ghosts J}
+    → NumberedBuffer S J s j → Option OpenWrite
+open_write_of numbered = numbered.open_write
 
 -- the numbers that stand at its blocks
-abbrev pub numbers_of : {S : Type 0} {s : Ghosts S} {J : Type 0} {j : archives.Ghosts J}
+abbrev pub numbers_of : {S : Type 0} {s : Ghosts S} {J : Type 0} {j : store_premises.Ghosts J}
     → NumberedBuffer S J s j → List (Option (Where Record))
 numbers_of numbered = numbered.numbers.items
 
 -- a write that is begun under this token: it has no number yet, and no block of it is written
-pub record IsBegunAs (token : codes.Token) (b : Beside) : Type 0 where
+pub record IsBegunAs (token : codes.Token) (b : OpenWrite) : Type 0 where
   pub named : token_of b.write ≡ token
   pub unnumbered : b.shown ≡ None
   pub none_written : b.written ≡ 0
@@ -52,7 +52,7 @@ pub record IsBegunAs (token : codes.Token) (b : Beside) : Type 0 where
 
 -- the next block of an open write can be written for a record: no write of a block failed, it is
 -- the record's, a block of it is left, and the record's text is as long as the article
-pub record CanWriteFor (b : Beside) (shown : Where Record) : Type 0 where
+pub record CanWriteFor (b : OpenWrite) (shown : Where Record) : Type 0 where
   pub unbroken : b.broken ≡ false
   pub named : IsNamed b.write b.shown shown
   pub left : b.written < size_of (length_of b.write)
@@ -60,19 +60,19 @@ pub record CanWriteFor (b : Beside) (shown : Where Record) : Type 0 where
 
 -- an open write can be finished for a record: no write of a block failed, it has the record's
 -- number, and all of it is written
-pub record CanFinishFor (b : Beside) (shown : Where Record) : Type 0 where
+pub record CanFinishFor (b : OpenWrite) (shown : Where Record) : Type 0 where
   pub unbroken : b.broken ≡ false
   pub begun : is_none b.shown ≡ false
   pub named : IsNamed b.write b.shown shown
   pub written : b.written ≡ size_of (length_of b.write)
 
 -- the open write is the record's
-abbrev pub IsOfWrite : Beside → Where Record → Type 0
+abbrev pub IsOfWrite : OpenWrite → Where Record → Type 0
 IsOfWrite b shown = IsNamed b.write b.shown shown
 
 -- what stands beside a buffer after the write of a block: the same write with the record's number,
 -- of which one more block is written, or of which a write has failed
-abbrev pub after_write : Where Record → Result Bool BufError → Beside → Beside
+abbrev pub after_write : Where Record → Result Bool BufError → OpenWrite → OpenWrite
 after_write shown (Ok last) b =
     record { write = b.write; shown = Some shown; written = b.written + 1; broken = false }
 after_write shown (Err e) b =
@@ -80,29 +80,30 @@ after_write shown (Err e) b =
 
 -- the open write is the record's by its number and has its token, and the next block of the text is
 -- written for it, or the device fails; either way it stays open
-pub record WritesRecord {S : Type 0} {s : Ghosts S} {J : Type 0} {j : archives.Ghosts J}
+pub record WritesRecord {S : Type 0} {s : Ghosts S} {J : Type 0} {j : store_premises.Ghosts J}
     (old : NumberedBuffer S J s j) (shown : Where Record) (text : List ℕ)
     (result : Result Bool BufError) (new : NumberedBuffer S J s j)
     : Type 0 where
-  pub beside : Beside
-  pub stood : beside_of old ≡ Some beside
-  pub own : CanWriteFor beside shown
-  pub named : token_view (token_of beside.write) ≡ token_in shown
-  pub can : CanWrite (buffer_of old) beside.write text
-  pub writes : WritesNext (buffer_of old) beside.write text result (buffer_of new)
+  pub open_write : OpenWrite
+  pub stood : open_write_of old ≡ Some open_write
+  pub own : CanWriteFor open_write shown
+  pub named : token_view (token_of open_write.write) ≡ token_in shown
+  pub can : CanWrite (buffer_of old) open_write.write text
+  pub writes : WritesNext (buffer_of old) open_write.write text result (buffer_of new)
   pub device : LeavesDevice (buffer_of old) result (buffer_of new)
-  pub stands : beside_of new ≡ Some (after_write shown result beside)
+  pub stands : open_write_of new ≡ Some (after_write shown result open_write)
   pub numbers : numbers_of new ≡ numbers_of old
 
--- the record's next block is written, or the device fails; or the write is mixed up, and nothing
+-- the record's next block is written, or the device fails; or the write is in conflict, and nothing
 -- is changed
-abbrev pub WritesOrMixed : {S : Type 0} {s : Ghosts S} {J : Type 0} {j : archives.Ghosts J}
+abbrev pub WritesOrConflicts
+    : {S : Type 0} {s : Ghosts S} {J : Type 0} {j : store_premises.Ghosts J}
     (old : NumberedBuffer S J s j) (shown : Where Record) (text : List ℕ) → Result Bool WriteFault
     → (new : NumberedBuffer S J s j) → Type 0
-WritesOrMixed old shown text (Ok last) new = WritesRecord old shown text (Ok last) new
-WritesOrMixed old shown text (Err (writes.Device fault)) new =
+WritesOrConflicts old shown text (Ok last) new = WritesRecord old shown text (Ok last) new
+WritesOrConflicts old shown text (Err (writes.Device fault)) new =
     WritesRecord old shown text (Err (errors.Device fault)) new
-WritesOrMixed old shown text (Err (writes.Mixed mixed)) new = new ≡ old
+WritesOrConflicts old shown text (Err (writes.Conflict conflict)) new = new ≡ old
 
 -- the fault is the device's at a write of an article of so many octets
 abbrev pub IsWriteFaultOf : (octets : ℕ) → Fault → Type 0
@@ -111,12 +112,12 @@ IsWriteFaultOf octets fault = (fault.kind ≡ kinds.Write) × (fault.length ≡ 
 -- the fault that the write of a block carries, where it does, is of the text
 abbrev pub IsWriteFault : (text : List ℕ) → WriteFault → Type 0
 IsWriteFault text (writes.Device fault) = IsWriteFaultOf (length text) fault
-IsWriteFault text (writes.Mixed mixed) = Unit {0}
+IsWriteFault text (writes.Conflict conflict) = Unit {0}
 
 -- the open write isn't the record's, or no further block of it can be written
-abbrev pub IsMixedUp : WriteFault → Type 0
-IsMixedUp (writes.Device fault) = ⊥
-IsMixedUp (writes.Mixed mixed) = Unit {0}
+abbrev pub IsConflict : WriteFault → Type 0
+IsConflict (writes.Device fault) = ⊥
+IsConflict (writes.Conflict conflict) = Unit {0}
 
 -- a begin of an article of so many octets isn't refused by the device, and the fault that a worn
 -- buffer carries is of it

@@ -6,7 +6,7 @@ use Rattle.cyc_buffer.specs.declared.answers.FaultKind.TheVariants as kinds
 use Rattle.cyc_token.specs.declared.Token as codes
 use Rattle.live_store.specs.declared.answers.WriteFault.{WriteFault}
 use Rattle.live_store.specs.declared.answers.WriteFault.TheVariants as writes
-use Rattle.live_store.specs.declared.record.Archive.{Ghosts}
+use Rattle.live_store.specs.declared.record.StorePremises.{Ghosts}
 use Rattle.live_store.specs.declared.writing.entering.Record.{Record}
 use Rattle.live_store.specs.declared.stored.Receipt.{Receipt}
 use Rattle.live_store.specs.declared.stored.Stored.{Stored}
@@ -33,15 +33,15 @@ abbrev pub IsStored : {J : Type 0} {g : Ghosts J} → (class : ℕ) → (text : 
     → Type 0
 IsStored class text (stored.Kept finished) = IsTextOf class text finished.receipt.shown
 IsStored class text (stored.Failed fault) = IsStoreFault text fault
-IsStored class text (stored.Mixed mixed) = Unit {0}
+IsStored class text (stored.Conflict conflict) = Unit {0}
 
 -- what is kept was begun with this flag
 abbrev pub IsBegunWith : {J : Type 0} {g : Ghosts J} → (fresh : Bool) → Stored J g → Type 0
 IsBegunWith fresh (stored.Kept finished) = fresh_in finished.receipt.shown ≡ fresh
 IsBegunWith fresh (stored.Failed fault) = Unit {0}
-IsBegunWith fresh (stored.Mixed mixed) = Unit {0}
+IsBegunWith fresh (stored.Conflict conflict) = Unit {0}
 
 -- what is told of a write that is given up: the device's fault where it failed
 abbrev pub IsGivenUp : {J : Type 0} {g : Ghosts J} → WriteFault → Stored J g → Type 0
 IsGivenUp (writes.Device fault) result = result ≡ stored.Failed fault
-IsGivenUp (writes.Mixed mixed) result = result ≡ stored.Mixed mixed
+IsGivenUp (writes.Conflict conflict) result = result ≡ stored.Conflict conflict

@@ -10,10 +10,10 @@ use Rattle.cyc_buffer.specs.Head.{is_busy}
 use Rattle.cyc_buffer.specs.History.{History, Article, finished_at, front_of}
 use Rattle.cyc_buffer.specs.Remembered.{is_start}
 use Rattle.cyc_buffer.specs.declared.buffer.Buffer.{Buffer}
-use Rattle.cyc_buffer.specs.declared.register.Open.{Open}
+use Rattle.cyc_buffer.specs.declared.buffer_state.Open.{Open}
 use Rattle.cyc_token.specs.Token.{token_view}
 use Rattle.cyc_token.specs.declared.Token as codes
-use Rattle.live_store.specs.declared.beside.Beside.{Beside}
+use Rattle.live_store.specs.declared.open_write.OpenWrite.{OpenWrite}
 use Rattle.live_store.specs.declared.writing.entering.Record.{Record}
 use Rattle.news_terms.specs.Places as places
 use Rattle.news_terms.specs.Places.{IsLive, on_line}
@@ -88,13 +88,13 @@ pub record IsWrittenAs (register : Shelves) (write : Open) (shown : Where Record
   pub octets : length (text_in shown) ≡ (token_in shown).length
 
 -- the number beside an open write is its record's; before one stands there nothing is written
-abbrev pub HasNumber : Shelves → Beside → Option (Where Record) → Type 0
+abbrev pub HasNumber : Shelves → OpenWrite → Option (Where Record) → Type 0
 HasNumber register b None = b.written ≡ 0
 HasNumber register b (Some shown) = IsWrittenAs register b.write shown
 
 -- no write of a block of it failed, and what stands beside it says how far it has come
 pub record IsWhole {S : Type 0} {g : Ghosts S} (register : Shelves) (buffer : Buffer S g)
-    (b : Beside)
+    (b : OpenWrite)
     : Type 0 where
   pub unbroken : is_broken buffer ≡ false
   pub written : b.written ≡ blocks_written buffer
@@ -108,16 +108,17 @@ IsNamed write (Some own) shown = IsSameRecord own shown
 
 -- what stands beside a buffer is its open write
 pub record IsOpen {S : Type 0} {g : Ghosts S} (register : Shelves) (buffer : Buffer S g)
-    (b : Beside)
+    (b : OpenWrite)
     : Type 0 where
   pub owns : Owns buffer b.write
   pub shown : IfSome b.shown (λ shown. Shows register shown)
   pub whole : b.broken ≡ false → IsWhole register buffer b
 
 -- what stands beside a buffer is its open write, and where nothing stands there none is open
-abbrev pub IsBeside : {S : Type 0} {g : Ghosts S} → Shelves → Buffer S g → Option Beside → Type 0
-IsBeside register buffer None = is_busy buffer ≡ false
-IsBeside register buffer (Some b) = IsOpen register buffer b
+abbrev pub IsOpenWrite : {S : Type 0} {g : Ghosts S} → Shelves → Buffer S g
+    → Option OpenWrite → Type 0
+IsOpenWrite register buffer None = is_busy buffer ≡ false
+IsOpenWrite register buffer (Some b) = IsOpen register buffer b
 
 -- the article of the record of this number begins at the block
 abbrev pub IsFirstAt : (block : ℕ) → Where Record → Type 0
@@ -132,29 +133,30 @@ HaveNumbers buffer numbers = (block : ℕ) → block < length numbers → is_sta
 
 -- what is written of the history's open write is what the text begins with of the record whose
 -- number stands beside it, where no write of a block failed
-abbrev pub IsBegunBeside : History → Option Beside → Type 0
-IsBegunBeside h None = Unit {0}
-IsBegunBeside h (Some b) = b.broken ≡ false → IfSome b.shown (λ shown. Continues (text_in shown) h)
+abbrev pub IsBegunOpenWrite : History → Option OpenWrite → Type 0
+IsBegunOpenWrite h None = Unit {0}
+IsBegunOpenWrite h (Some b) = b.broken ≡ false
+    → IfSome b.shown (λ shown. Continues (text_in shown) h)
 
 -- The buffer, whose store is honest, agrees with a history, in which each live finished article has
 -- its record's number at its first block.
 pub record IsKnown {S : Type 0} {g : Ghosts S} (register : Shelves) (buffer : Buffer S g)
-    (beside : Option Beside) (numbers : List (Option (Where Record)))
+    (open_write : Option OpenWrite) (numbers : List (Option (Where Record)))
     : Type 0 where
   pub history : History
   pub agrees : Agrees true buffer history
-  pub begun : IsBegunBeside history beside
+  pub begun : IsBegunOpenWrite history open_write
   pub numbered : AreNumbered true register history numbers
 
 -- What stands beside the buffer is its open write, and at its blocks there stand the numbers of the
--- articles that begin there, whatever its store holds. Where the store is trusted a history is known
--- that the buffer agrees with; where it isn't there may be none, as after a start of what nobody
--- stopped.
+-- articles that begin there, whatever its store holds. Where the store is trusted a history is
+-- known that the buffer agrees with; where it isn't there may be none, as after a start of what
+-- nobody stopped.
 pub record Tied {S : Type 0} {g : Ghosts S} (trusted : Bool) (register : Shelves)
-    (buffer : Buffer S g) (beside : Option Beside) (numbers : List (Option (Where Record)))
+    (buffer : Buffer S g) (open_write : Option OpenWrite) (numbers : List (Option (Where Record)))
     : Type 0 where
-  pub open_write : IsBeside register buffer beside
+  pub own_write : IsOpenWrite register buffer open_write
   pub started : HaveNumbers buffer numbers
   pub shown : AreShown register numbers
   pub places : length numbers ≡ length (g.blocks (store_of buffer))
-  pub known : trusted ≡ true → IsKnown register buffer beside numbers
+  pub known : trusted ≡ true → IsKnown register buffer open_write numbers

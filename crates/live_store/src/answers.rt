@@ -1,13 +1,13 @@
 //! What the steps under a buffer's lock answer.
-use crate::record::Shown;
-use crate::steps::Mixed;
+use crate::record::RecordNumber;
+use crate::steps::Conflict;
 use cyc_buffer::{Fault, Front};
 
 /// Why a block was not written, in the order of trial.
 #[derive(Debug, Drop)]
 pub enum WriteFault {
     /// The open write isn't the record's, or no further block of it can be written.
-    Mixed(Mixed),
+    Conflict(Conflict),
     /// The device failed.
     Device(Fault),
 }
@@ -16,7 +16,7 @@ pub enum WriteFault {
 #[derive(Drop)]
 pub enum Reading {
     /// So many octets at the front of the slice are the chunk, of the record of this number.
-    Chunk(usize, Shown),
+    Chunk(usize, RecordNumber),
     /// The article was overwritten: this front has passed it.
     Gone(Front),
     /// Nothing was finished under the token, or it has no such chunk.

@@ -3,21 +3,21 @@ ghost use Rattle.std.specs.Prelude.{◌≡◌, true};
 ghost use Rattle.boxcar.specs.Table.{Shows};
 ghost use Rattle.live_store.specs.Tied.{text_in};
 
-use crate::record::{Archive, Register, Shown};
+use crate::record::{ArticleLog, RecordNumber, StorePremises};
 use cyc_buffer::{Fault, Front};
 use std::marker::PhantomData;
 
 /// A whole text that was fetched, with the number of its record.
 #[derive(Drop)]
-pub struct Text<J: Archive> {
+pub struct Text<J: StorePremises> {
     pub(crate) octets: Vec<u8>,
-    pub(crate) shown: Shown,
+    pub(crate) shown: RecordNumber,
     pub(crate) of: PhantomData<J>,
     ghost here: { Shows J.register shown },
     ghost whole: { J.trusted ≡ true → octets.items ≡ text_in shown },
 }
 
-impl<J: Archive> Text<J> {
+impl<J: StorePremises> Text<J> {
     /// The octets.
     pub fn octets(&self) -> &[u8]
         ensures { result.now ≡ self.now.octets.items }
@@ -35,7 +35,7 @@ impl<J: Archive> Text<J> {
 
 /// What a fetch found.
 #[derive(Drop)]
-pub enum Fetched<J: Archive> {
+pub enum Fetched<J: StorePremises> {
     /// The text of the record of this number, whole.
     Whole(Text<J>),
     /// The article was overwritten: this front has passed it.
@@ -48,7 +48,7 @@ pub enum Fetched<J: Archive> {
 
 /// What the blocks after the first one gave.
 #[derive(Drop)]
-pub(crate) enum Rest<J: Archive> {
+pub(crate) enum Rest<J: StorePremises> {
     /// All of the text.
     All(Vec<u8>),
     /// The answer of the fetch.
@@ -56,7 +56,7 @@ pub(crate) enum Rest<J: Archive> {
 }
 
 /// What was fetched is what the holder of the number had entered, in any thread.
-pub fn same_text<J: Archive>(register: &Register, text: &Text<J>, shown: &Shown)
+pub fn same_text<J: StorePremises>(register: &ArticleLog, text: &Text<J>, shown: &RecordNumber)
     requires register { register.now ≡ J.register }
     requires shown { Shows J.register shown.now }
     requires number { text.now.shown.index ≡ shown.now.index }

@@ -9,7 +9,7 @@ use crate::answers::Reading;
 use crate::fetched::{Fetched, Rest, Text};
 use crate::numbered::NumberedBuffer;
 use crate::reading::read_block;
-use crate::record::{Archive, Register, Shown};
+use crate::record::{ArticleLog, RecordNumber, StorePremises};
 use cyc_block::{BlockStore, CHUNK_OCTETS};
 use cyc_buffer::size_of;
 use cyc_token::Token;
@@ -19,11 +19,11 @@ use std::sync::{Mutex, Wait};
 
 /// Fetches the text under a token out of the buffer of its number, one block at a time. Its memory
 /// is taken once the first block is found, so none is for a token under which nothing is stored.
-pub fn fetch<S: BlockStore, J: Archive, R: Wait>(
+pub fn fetch<S: BlockStore, J: StorePremises, R: Wait>(
     rt: &R,
     alloc: Global,
     buffers: &Vec<Mutex<NumberedBuffer<S, J>>>,
-    register: &Register,
+    register: &ArticleLog,
     token: &Token,
 ) -> Result<Fetched<J>, AllocError>
     requires { register.now ≡ J.register }
@@ -49,12 +49,12 @@ pub fn fetch<S: BlockStore, J: Archive, R: Wait>(
 }
 
 /// Reads the blocks after the first one, each of the record of this number.
-fn rest<S: BlockStore, J: Archive, R: Wait>(
+fn rest<S: BlockStore, J: StorePremises, R: Wait>(
     rt: &R,
     buffer: &Mutex<NumberedBuffer<S, J>>,
-    register: &Register,
+    register: &ArticleLog,
     token: &Token,
-    shown: &Shown,
+    shown: &RecordNumber,
     mut text: Vec<u8>,
 ) -> Result<Rest<J>, AllocError>
     requires register { register.now ≡ J.register }
@@ -76,7 +76,7 @@ fn rest<S: BlockStore, J: Archive, R: Wait>(
 }
 
 /// A text of which all blocks were read.
-fn whole<J: Archive>(octets: Vec<u8>, shown: Shown) -> Text<J>
+fn whole<J: StorePremises>(octets: Vec<u8>, shown: RecordNumber) -> Text<J>
     requires here { Shows J.register shown }
     requires whole { J.trusted ≡ true → octets.items ≡ text_in shown }
     ensures { result.shown ≡ shown }

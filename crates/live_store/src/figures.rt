@@ -2,20 +2,20 @@
 ghost use Rattle.std.specs.Prelude.{◌≡◌, IfOk, None, replicate};
 
 use crate::numbered::NumberedBuffer;
-use crate::record::{Archive, Shown};
+use crate::record::{RecordNumber, StorePremises};
 use cyc_block::BlockStore;
 use cyc_buffer::{Buffer, FormatError, Front, Unformatted};
 use std::alloc::{AllocError, Global};
 use std::marker::PhantomData;
 
-impl<S: BlockStore, J: Archive> NumberedBuffer<S, J> {
+impl<S: BlockStore, J: StorePremises> NumberedBuffer<S, J> {
     ghost use Rattle.std.specs.Prelude.{◌≡◌, ◌+◌, Bool, true, length, IfErr};
     ghost use Rattle.cyc_buffer.specs.Agreement.{Agrees, store_of};
     ghost use Rattle.cyc_buffer.specs.Answers.{front_view};
     ghost use Rattle.cyc_buffer.specs.Head.{LeavesBlocks, IsFormatRefusal};
     ghost use Rattle.cyc_buffer.specs.History.{History, new_history, front_of, cycle_of};
     ghost use Rattle.cyc_buffer.specs.History.{stored_count};
-    ghost use Rattle.live_store.specs.Steps.{buffer_of, beside_of, numbers_of};
+    ghost use Rattle.live_store.specs.Steps.{buffer_of, open_write_of, numbers_of};
 
     /// A buffer over all blocks of a store, in which nothing was begun yet. All memory is taken
     /// here: beside the buffer's own, 16 octets for each block.
@@ -32,7 +32,7 @@ impl<S: BlockStore, J: Archive> NumberedBuffer<S, J> {
               blocks = length (S.blocks store);
               first_cycle = first_cycle;
             }))) }
-        ensures free { IfOk result (λ numbered. beside_of numbered ≡ None) }
+        ensures free { IfOk result (λ numbered. open_write_of numbered ≡ None) }
         ensures numbers { IfOk result (λ numbered. numbers_of numbered
             ≡ replicate (length (S.blocks store)) None) }
         // The device is called once, for head block 0.
@@ -59,7 +59,7 @@ impl<S: BlockStore, J: Archive> NumberedBuffer<S, J> {
         };
         Ok(NumberedBuffer {
             buffer,
-            beside: None,
+            open_write: None,
             numbers,
             of: PhantomData,
         })
@@ -115,7 +115,10 @@ impl<S: BlockStore, J: Archive> NumberedBuffer<S, J> {
 }
 
 /// No number for each block.
-pub(crate) fn no_numbers(alloc: Global, blocks: u32) -> Result<Vec<Option<Shown>>, AllocError>
+pub(crate) fn no_numbers(
+    alloc: Global,
+    blocks: u32,
+) -> Result<Vec<Option<RecordNumber>>, AllocError>
     ensures { IfOk result (λ numbers. numbers.items ≡ replicate blocks None) }
 {
     let mut numbers = Vec::with_capacity(alloc, blocks as usize)?;

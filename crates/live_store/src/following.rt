@@ -5,7 +5,7 @@ ghost use Rattle.boxcar.specs.Table.{Shows};
 use crate::answers::Reading;
 use crate::numbered::NumberedBuffer;
 use crate::reading::read_block;
-use crate::record::{Archive, Register, Shown};
+use crate::record::{ArticleLog, RecordNumber, StorePremises};
 use cyc_block::{BlockStore, CHUNK_OCTETS};
 use cyc_buffer::{Fault, Found};
 use cyc_token::Token;
@@ -15,13 +15,13 @@ use std::sync::{Mutex, Wait};
 /// The record that the reads of one article are of: none before the first chunk, and from then on
 /// always the same.
 #[derive(Drop)]
-pub struct OneRecord<J: Archive> {
-    pub(crate) shown: Option<Shown>,
+pub struct OneRecord<J: StorePremises> {
+    pub(crate) shown: Option<RecordNumber>,
     pub(crate) of: PhantomData<J>,
     ghost here: { ForSome shown (λ w. Shows J.register w) },
 }
 
-impl<J: Archive> OneRecord<J> {
+impl<J: StorePremises> OneRecord<J> {
     ghost use Rattle.std.specs.Prelude.{◌≡◌, true, None, Some, IfOk, IfErr, IfSome};
     ghost use Rattle.cyc_buffer.specs.Answers.{HasRoom};
     ghost use Rattle.cyc_token.specs.Token.{token_view};
@@ -43,7 +43,7 @@ impl<J: Archive> OneRecord<J> {
         &mut self,
         rt: &R,
         buffer: &Mutex<NumberedBuffer<S, J>>,
-        register: &Register,
+        register: &ArticleLog,
         token: &Token,
         k: u32,
         chunk: &mut [u8; CHUNK_OCTETS],

@@ -3,18 +3,27 @@
 //! A writer stores a text and others fetch it, in any threads: each step takes the lock of one
 //! buffer for one call of it. A text that is fetched is that of the record of its number, and a
 //! record never changes under its number.
+//!
+//! A register: values that each get a number of their own for good, in any threads.
+//!
+//! Who has a number shows by eight octets that the value stands under it: what ties the two takes
+//! no octets at run time.
 #![tactic(auto)]
 
 mod answers;
-mod beside;
+mod buckets;
+mod entry_number;
 mod fetched;
 mod fetching;
 mod figures;
 mod following;
 pub mod laws;
 mod numbered;
+mod open_write;
+mod places;
 mod reading;
 mod record;
+mod register;
 mod starting;
 mod steps;
 mod stopping;
@@ -28,8 +37,8 @@ pub use fetching::fetch;
 pub use following::OneRecord;
 pub use numbered::NumberedBuffer;
 pub use reading::read_block;
-pub use record::{Archive, Register, Shown};
-pub use steps::{Entered, Mixed};
+pub use record::{ArticleLog, RecordNumber, StorePremises};
+pub use steps::{Conflict, Entered};
 pub use stopping::Unshut;
 pub use stored::{Finished, Receipt, Stored};
 pub use unopened::UnopenedNumbered;

@@ -8,7 +8,7 @@ ghost use Rattle.live_store.specs.Tied.{IsSameRecord};
 
 use crate::answers::Reading;
 use crate::numbered::NumberedBuffer;
-use crate::record::{Archive, Register, Shown};
+use crate::record::{ArticleLog, RecordNumber, StorePremises};
 use cyc_block::{BlockStore, CHUNK_OCTETS};
 use cyc_buffer::Fault;
 use cyc_token::Token;
@@ -16,13 +16,13 @@ use std::sync::{Mutex, Wait};
 
 /// Reads block k of the article under a token, of the record of this number where one is given: a
 /// chunk of another record's is Unknown. The lock is held for this block alone.
-pub fn read_block<S: BlockStore, J: Archive, R: Wait>(
+pub fn read_block<S: BlockStore, J: StorePremises, R: Wait>(
     rt: &R,
     buffer: &Mutex<NumberedBuffer<S, J>>,
-    register: &Register,
+    register: &ArticleLog,
     token: &Token,
     k: u32,
-    own: Option<&Shown>,
+    own: Option<&RecordNumber>,
     chunk: &mut [u8; CHUNK_OCTETS],
 ) -> Result<Reading, Fault>
     requires register { register.now ≡ J.register }
@@ -50,7 +50,7 @@ pub fn read_block<S: BlockStore, J: Archive, R: Wait>(
 }
 
 /// Whether two numbers are one, and so of one record.
-fn is_same(register: &Register, a: &Shown, b: &Shown) -> bool
+fn is_same(register: &ArticleLog, a: &RecordNumber, b: &RecordNumber) -> bool
     requires { Shows register.now a.now × Shows register.now b.now }
     ensures { result ≡ true → IsSameRecord a.now b.now }
 {

@@ -4,17 +4,17 @@ use std::marker::Brand;
 use std::mem::size_of;
 
 // What the README says of the memory of a number.
-const _: () = prove!(size_of::<Option<Shown>>() == 16);
+const _: () = prove!(size_of::<Option<RecordNumber>>() == 16);
 
 /// The register of a relay: a record never changes under its number, and none is ever taken out.
-pub type Register = live_register::Register<Record>;
+pub type ArticleLog = crate::register::Register<Record>;
 
 /// A record's number, with what shows that the register holds the record under it.
-pub type Shown = live_register::Shown<Record>;
+pub type RecordNumber = crate::entry_number::EntryNumber<Record>;
 
 /// Which register the numbers are of, whether the stores are promised to be honest, and which
 /// buffers a group has.
-pub trait Archive {
+pub trait StorePremises {
     ghost use Rattle.std.specs.Prelude.{Bool, ℕ};
     ghost use Rattle.boxcar.specs.Table.{Shelves};
 
@@ -26,7 +26,7 @@ pub trait Archive {
     ghost holds: { ℕ → ℕ → Bool };
 }
 
-impl Archive for Brand {
+impl StorePremises for Brand {
     ghost use Rattle.std.specs.Prelude.{[], false};
 
     ghost register = { record { tag = []; buckets = [] } };

@@ -12,7 +12,7 @@ ghost use Rattle.live_store.specs.Tied.{AreNumbered, AreShown};
 
 use crate::figures::no_numbers;
 use crate::numbered::NumberedBuffer;
-use crate::record::{Archive, Register, Shown};
+use crate::record::{ArticleLog, RecordNumber, StorePremises};
 use crate::unopened::UnopenedNumbered;
 use crate::writing::enter_articles;
 use cyc_block::BlockStore;
@@ -22,17 +22,17 @@ use std::alloc::Global;
 use std::marker::PhantomData;
 use std::sync::Wait;
 
-impl<S: BlockStore, J: Archive> UnopenedNumbered<S, J> {
+impl<S: BlockStore, J: StorePremises> UnopenedNumbered<S, J> {
     ghost use Rattle.std.specs.Prelude.{◌≡◌, ◌<◌, ◌+◌, true, None, length, IfErr, IfOk};
     ghost use Rattle.news_terms.specs.HeadBlocks.{Open, head_image as image_of};
     ghost use Rattle.cyc_block.specs.Store.{block_at, ChangesOnly};
-    ghost use Rattle.cyc_buffer.specs.Agreement.{Agrees, Follows, store_of, register_of};
+    ghost use Rattle.cyc_buffer.specs.Agreement.{Agrees, Follows, store_of, buffer_state_of};
     ghost use Rattle.cyc_buffer.specs.Head.{has_open_head, inside, stop_of, LeavesBlocks};
     ghost use Rattle.cyc_buffer.specs.Head.{LeavesBuffer};
     ghost use Rattle.cyc_buffer.specs.History.{History};
     ghost use Rattle.cyc_buffer.specs.Stopped.{numbers_of as head_of};
     ghost use Rattle.live_store.specs.Started.{unopened_in, numbers_on};
-    ghost use Rattle.live_store.specs.Steps.{buffer_of, beside_of, numbers_of};
+    ghost use Rattle.live_store.specs.Steps.{buffer_of, open_write_of, numbers_of};
 
     /// The buffer, to be looked at.
     pub fn buffer(&self) -> &Buffer<S>
@@ -63,8 +63,8 @@ impl<S: BlockStore, J: Archive> UnopenedNumbered<S, J> {
         ensures same { IfOk result (λ numbered.
             Follows (λ h. h) (inside (unopened_in self)) (buffer_of numbered)) }
         ensures register { IfOk result (λ numbered.
-            register_of (buffer_of numbered) ≡ register_of (inside (unopened_in self))) }
-        ensures free { IfOk result (λ numbered. beside_of numbered ≡ None) }
+            buffer_state_of (buffer_of numbered) ≡ buffer_state_of (inside (unopened_in self))) }
+        ensures free { IfOk result (λ numbered. open_write_of numbered ≡ None) }
         ensures numbers { IfOk result (λ numbered. numbers_of numbered ≡ numbers_on self) }
         // The device is called once, and fails where the head isn't open.
         ensures calls { IfOk result (λ numbered. S.calls (store_of (buffer_of numbered))
@@ -91,7 +91,7 @@ impl<S: BlockStore, J: Archive> UnopenedNumbered<S, J> {
         match buffer.open() {
             Ok(buffer) => Ok(NumberedBuffer {
                 buffer,
-                beside: None,
+                open_write: None,
                 numbers,
                 of: PhantomData,
             }),
@@ -104,7 +104,7 @@ impl<S: BlockStore, J: Archive> UnopenedNumbered<S, J> {
     }
 }
 
-impl<S: BlockStore, J: Archive> NumberedBuffer<S, J> {
+impl<S: BlockStore, J: StorePremises> NumberedBuffer<S, J> {
     ghost use Rattle.std.specs.Prelude.{◌≡◌, ℕ, Bool, true, false, length, IfErr, IfOk};
     ghost use Rattle.cyc_buffer.specs.Agreement.{Agrees, store_of};
     ghost use Rattle.cyc_buffer.specs.Head.{has_open_head, inside, is_busy, stop_of};
@@ -125,7 +125,7 @@ impl<S: BlockStore, J: Archive> NumberedBuffer<S, J> {
     pub fn start<R: Wait>(
         rt: &R,
         alloc: Global,
-        register: &Register,
+        register: &ArticleLog,
         store: S,
         number: u8,
         first_cycle: u32,
@@ -133,11 +133,12 @@ impl<S: BlockStore, J: Archive> NumberedBuffer<S, J> {
         requires register { register.now ≡ J.register }
         // What is trusted is honest, and was stopped.
         requires honest { J.trusted ≡ true → S.honest store }
-        requires stopped { J.trusted ≡ true → ∥ WasStopped (S.heads store) (S.blocks store) (record {
-          number = number;
-          blocks = length (S.blocks store);
-          first_cycle = first_cycle;
-        }) ∥₁ }
+        requires stopped { J.trusted ≡ true
+            → ∥ WasStopped (S.heads store) (S.blocks store) (record {
+              number = number;
+              blocks = length (S.blocks store);
+              first_cycle = first_cycle;
+            }) ∥₁ }
         // A store that holds a buffer as stopped gives it back, with each history that it holds:
         // each live article has its record's number at its first block.
         ensures agrees { S.honest store → IfOk result (λ made. (stop : ℕ) (h : History)
@@ -208,7 +209,7 @@ impl<S: BlockStore, J: Archive> NumberedBuffer<S, J> {
     pub fn read_back<R: Wait>(
         rt: &R,
         alloc: Global,
-        register: &Register,
+        register: &ArticleLog,
         started: Started<S>,
     ) -> Result<UnopenedNumbered<S, J>, Refused<S>>
         requires register { register.now ≡ J.register }
@@ -264,10 +265,10 @@ impl<S: BlockStore, J: Archive> NumberedBuffer<S, J> {
 fn numbers_of_articles<S: BlockStore, R: Wait>(
     rt: &R,
     alloc: Global,
-    register: &Register,
+    register: &ArticleLog,
     buffer: &mut Unopened<S>,
     tokens: &Vec<Token>,
-) -> Result<Vec<Option<Shown>>, StartError>
+) -> Result<Vec<Option<RecordNumber>>, StartError>
     requires within { AreWithin (length (S.blocks (store_of (inside buffer.old))))
         tokens.now.items }
     ensures numbered { IfOk result (λ numbers. (trusted : Bool) (h : History)

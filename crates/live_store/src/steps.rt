@@ -7,9 +7,9 @@ ghost use Rattle.live_store.specs.Steps.{CanWriteFor, CanFinishFor, IsOfWrite, I
 ghost use Rattle.cyc_buffer.specs.declared.answers.BufError.TheVariants as errors;
 
 use crate::answers::{Reading, WriteFault};
-use crate::beside::Beside;
 use crate::numbered::NumberedBuffer;
-use crate::record::{Archive, Register, Shown};
+use crate::open_write::OpenWrite;
+use crate::record::{ArticleLog, RecordNumber, StorePremises};
 use crate::stored::{Finished, Receipt};
 use crate::writing::Begun;
 use cyc_block::{BlockStore, CHUNK_OCTETS};
@@ -21,25 +21,25 @@ mod entered;
 mod handles;
 
 pub use entered::Entered;
-pub use handles::Mixed;
+pub use handles::Conflict;
 pub(crate) use handles::{octets_of, refused};
 
-impl<S: BlockStore, J: Archive> NumberedBuffer<S, J> {
+impl<S: BlockStore, J: StorePremises> NumberedBuffer<S, J> {
     ghost use Rattle.std.specs.Prelude.{◌≡◌, ◌≤◌, ◌<◌, Bool, true, None, Some, Ok, Err, IfOk};
     ghost use Rattle.std.specs.Prelude.{OnOk, OnErr, IfErr, IsSomeAnd, slice_set};
     ghost use Rattle.boxcar.specs.Table.{Shows};
     ghost use Rattle.cyc_token.specs.Token.{token_view};
-    ghost use Rattle.cyc_buffer.specs.Agreement.{Agrees, Follows, register_of, store_of};
+    ghost use Rattle.cyc_buffer.specs.Agreement.{Agrees, Follows, buffer_state_of, store_of};
     ghost use Rattle.cyc_buffer.specs.Answers.{refusal, error_of};
     ghost use Rattle.cyc_buffer.specs.Calls.{ReadsBlock};
     ghost use Rattle.cyc_buffer.specs.History.{History, with_begin, with_finish, without_write};
     ghost use Rattle.cyc_buffer.specs.History.{open_token};
     ghost use Rattle.live_store.specs.Tied.{text_in, token_in};
-    ghost use Rattle.live_store.specs.Steps.{buffer_of, beside_of, numbers_of, IsBegunAs};
-    ghost use Rattle.live_store.specs.Steps.{WritesOrMixed, CanWriteFor, IsNumberedAt};
+    ghost use Rattle.live_store.specs.Steps.{buffer_of, open_write_of, numbers_of, IsBegunAs};
+    ghost use Rattle.live_store.specs.Steps.{WritesOrConflicts, CanWriteFor, IsNumberedAt};
     ghost use Rattle.live_store.specs.Steps.{CanFinishFor, IsOfWrite, IsReading, IsPassed};
     ghost use Rattle.live_store.specs.Steps.{IsReadFault, HasOctets, IsShown, IsBeginFault};
-    ghost use Rattle.live_store.specs.Steps.{IsWriteFault, as_found, IsMixedUp};
+    ghost use Rattle.live_store.specs.Steps.{IsWriteFault, as_found, IsConflict};
     ghost use Rattle.live_store.specs.Handles.{begun_token, begun_fresh, shown_of};
     ghost use Rattle.live_store.specs.Stores.{receipt_token};
 
@@ -51,7 +51,7 @@ impl<S: BlockStore, J: Archive> NumberedBuffer<S, J> {
         ensures refusal { (trusted : Bool) (h : History) → Agrees trusted (buffer_of self.old) h
             → error_of result ≡ refusal h length fresh }
         ensures refused { OnErr result
-            (register_of (buffer_of self.new) ≡ register_of (buffer_of self.old)) }
+            (buffer_state_of (buffer_of self.new) ≡ buffer_state_of (buffer_of self.old)) }
         ensures begun { OnOk result
             (Follows (with_begin class length fresh) (buffer_of self.old) (buffer_of self.new)) }
         // The token is the history's.
@@ -64,10 +64,10 @@ impl<S: BlockStore, J: Archive> NumberedBuffer<S, J> {
         ensures fresh { IfOk result (λ begun. begun_fresh begun ≡ fresh) }
         ensures fault { IfErr result (IsBeginFault length) }
         // It is begun where none was open, and stands beside the buffer from now on.
-        ensures free { OnOk result (beside_of self.old ≡ None) }
-        ensures beside { IfOk result (λ begun. IsSomeAnd (beside_of self.new)
+        ensures free { OnOk result (open_write_of self.old ≡ None) }
+        ensures open_write { IfOk result (λ begun. IsSomeAnd (open_write_of self.new)
             (IsBegunAs (begun_token begun))) }
-        ensures kept { OnErr result (beside_of self.new ≡ beside_of self.old) }
+        ensures kept { OnErr result (open_write_of self.new ≡ open_write_of self.old) }
         ensures numbers { numbers_of self.new ≡ numbers_of self.old }
         // The device isn't called.
         ensures store { store_of (buffer_of self.new) ≡ store_of (buffer_of self.old) }
@@ -77,13 +77,13 @@ impl<S: BlockStore, J: Archive> NumberedBuffer<S, J> {
             Err(error) => return Err(error),
         };
         let token = write.token();
-        let beside = Beside {
+        let open_write = OpenWrite {
             write,
             shown: None,
             written: 0,
             broken: false,
         };
-        match self.beside.replace(beside) {
+        match self.open_write.replace(open_write) {
             None => Ok(Begun::new(token, fresh)),
             Some(_) => unreachable!(),
         }
@@ -93,40 +93,41 @@ impl<S: BlockStore, J: Archive> NumberedBuffer<S, J> {
     /// whether nothing of it is left. After Device the write can only be abandoned.
     pub fn write_next(
         &mut self,
-        register: &Register,
+        register: &ArticleLog,
         entered: &Entered,
         text: &[u8],
     ) -> Result<bool, WriteFault>
         requires register { register.now ≡ J.register }
         requires shown { Shows J.register (shown_of entered.now) }
         requires text { text.now ≡ text_in (shown_of entered.now) }
-        ensures writes { WritesOrMixed self.old (shown_of entered.now) text.now result self.new }
+        ensures writes { WritesOrConflicts self.old (shown_of entered.now) text.now
+            result self.new }
         ensures fault { IfErr result (IsWriteFault text.now) }
-        // Mixed says that no block can be written for the record.
-        ensures mixed { IfErr result (λ e. IsMixedUp e
-            → IsSomeAnd (beside_of self.old) (λ b. CanWriteFor b (shown_of entered.now)) → ⊥) }
+        // Conflict says that no block can be written for the record.
+        ensures conflict { IfErr result (λ e. IsConflict e
+            → IsSomeAnd (open_write_of self.old) (λ b. CanWriteFor b (shown_of entered.now)) → ⊥) }
     {
-        let Some(beside) = &self.beside else {
-            return Err(WriteFault::Mixed(Mixed(())));
+        let Some(open_write) = &self.open_write else {
+            return Err(WriteFault::Conflict(Conflict(())));
         };
-        if !can_write(register, beside, entered, text.len()) {
-            return Err(WriteFault::Mixed(Mixed(())));
+        if !can_write(register, open_write, entered, text.len()) {
+            return Err(WriteFault::Conflict(Conflict(())));
         }
         let Some(
-            Beside {
+            OpenWrite {
                 write,
                 shown: _,
                 written,
                 broken: _,
             },
-        ) = self.beside.take()
+        ) = self.open_write.take()
         else {
             unreachable!()
         };
         match self.buffer.write_next(&write, text) {
             Ok(last) => {
                 put(
-                    &mut self.beside,
+                    &mut self.open_write,
                     write,
                     entered.shown.again(),
                     written + 1,
@@ -136,7 +137,7 @@ impl<S: BlockStore, J: Archive> NumberedBuffer<S, J> {
             }
             Err(error) => {
                 put(
-                    &mut self.beside,
+                    &mut self.open_write,
                     write,
                     entered.shown.again(),
                     written,
@@ -151,9 +152,9 @@ impl<S: BlockStore, J: Archive> NumberedBuffer<S, J> {
     /// record's text is given by the token. What can't be finished is given back.
     pub fn finish(
         &mut self,
-        register: &Register,
+        register: &ArticleLog,
         entered: Entered,
-    ) -> Result<Finished<J>, (Mixed, Entered)>
+    ) -> Result<Finished<J>, (Conflict, Entered)>
         requires register { register.now ≡ J.register }
         requires shown { Shows J.register (shown_of entered) }
         ensures named { IfOk result (λ finished. finished.receipt.shown ≡ shown_of entered) }
@@ -161,35 +162,35 @@ impl<S: BlockStore, J: Archive> NumberedBuffer<S, J> {
             (Follows with_finish (buffer_of self.old) (buffer_of self.new)) }
         // It was the record's, all of it written, and nothing stands beside the buffer any more.
         ensures own { OnOk result
-            (IsSomeAnd (beside_of self.old) (λ b. CanFinishFor b (shown_of entered))) }
-        ensures closed { OnOk result (beside_of self.new ≡ None) }
+            (IsSomeAnd (open_write_of self.old) (λ b. CanFinishFor b (shown_of entered))) }
+        ensures closed { OnOk result (open_write_of self.new ≡ None) }
         // The record's number stands at the article's first block; the other numbers stay.
         ensures numbers { IfOk result (λ finished. numbers_of self.new
             ≡ slice_set (numbers_of self.old) (receipt_token finished.receipt).first
             (Some (shown_of entered))) }
-        // Mixed says that it can't be finished for the record, and nothing is changed.
-        ensures mixed { OnErr result
-            (IsSomeAnd (beside_of self.old) (λ b. CanFinishFor b (shown_of entered)) → ⊥) }
+        // Conflict says that it can't be finished for the record, and nothing is changed.
+        ensures conflict { OnErr result
+            (IsSomeAnd (open_write_of self.old) (λ b. CanFinishFor b (shown_of entered)) → ⊥) }
         ensures refused { OnErr result (self.new ≡ self.old) }
         ensures back { IfErr result (λ back. back.1 ≡ entered) }
         // The device isn't called.
         ensures store { store_of (buffer_of self.new) ≡ store_of (buffer_of self.old) }
     {
-        let Some(beside) = &self.beside else {
-            return Err((Mixed(()), entered));
+        let Some(open_write) = &self.open_write else {
+            return Err((Conflict(()), entered));
         };
-        if !can_finish(register, beside, &entered) {
-            return Err((Mixed(()), entered));
+        if !can_finish(register, open_write, &entered) {
+            return Err((Conflict(()), entered));
         }
         let Entered { token: _, shown } = entered;
         let Some(
-            Beside {
+            OpenWrite {
                 write,
                 shown: _,
                 written: _,
                 broken: _,
             },
-        ) = self.beside.take()
+        ) = self.open_write.take()
         else {
             unreachable!()
         };
@@ -203,39 +204,39 @@ impl<S: BlockStore, J: Archive> NumberedBuffer<S, J> {
     }
 
     /// Abandons the open write, where it is the record's. Its space stays lost.
-    pub fn abandon(&mut self, register: &Register, entered: Entered) -> Result<(), Mixed>
+    pub fn abandon(&mut self, register: &ArticleLog, entered: Entered) -> Result<(), Conflict>
         requires register { register.now ≡ J.register }
         requires shown { Shows J.register (shown_of entered) }
         ensures abandoned { OnOk result
             (Follows without_write (buffer_of self.old) (buffer_of self.new)) }
         // It was the record's, and nothing stands beside the buffer any more.
         ensures own { OnOk result
-            (IsSomeAnd (beside_of self.old) (λ b. IsOfWrite b (shown_of entered))) }
-        ensures closed { OnOk result (beside_of self.new ≡ None) }
+            (IsSomeAnd (open_write_of self.old) (λ b. IsOfWrite b (shown_of entered))) }
+        ensures closed { OnOk result (open_write_of self.new ≡ None) }
         ensures numbers { numbers_of self.new ≡ numbers_of self.old }
-        // Mixed says that the open write isn't the record's, and nothing is changed.
-        ensures mixed { OnErr result
-            (IsSomeAnd (beside_of self.old) (λ b. IsOfWrite b (shown_of entered)) → ⊥) }
+        // Conflict says that the open write isn't the record's, and nothing is changed.
+        ensures conflict { OnErr result
+            (IsSomeAnd (open_write_of self.old) (λ b. IsOfWrite b (shown_of entered)) → ⊥) }
         ensures refused { OnErr result (self.new ≡ self.old) }
         // The device isn't called.
         ensures store { store_of (buffer_of self.new) ≡ store_of (buffer_of self.old) }
     {
-        let named = match &self.beside {
-            Some(beside) => is_named(register, beside, &entered),
+        let named = match &self.open_write {
+            Some(open_write) => is_named(register, open_write, &entered),
             None => false,
         };
         let Entered { token: _, shown: _ } = entered;
         if !named {
-            return Err(Mixed(()));
+            return Err(Conflict(()));
         }
         let Some(
-            Beside {
+            OpenWrite {
                 write,
                 shown: _,
                 written: _,
                 broken: _,
             },
-        ) = self.beside.take()
+        ) = self.open_write.take()
         else {
             unreachable!()
         };
@@ -263,7 +264,7 @@ impl<S: BlockStore, J: Archive> NumberedBuffer<S, J> {
         // It is the buffer's own read: what is found, the slice, the buffer after and its device.
         ensures reads { ReadsBlock (buffer_of self.old) token.now k chunk.old (as_found result)
             chunk.new (buffer_of self.new) }
-        ensures beside { beside_of self.new ≡ beside_of self.old }
+        ensures open_write { open_write_of self.new ≡ open_write_of self.old }
         ensures numbers { numbers_of self.new ≡ numbers_of self.old }
     {
         match self.buffer.read_block(token, k, chunk) {
@@ -279,7 +280,7 @@ impl<S: BlockStore, J: Archive> NumberedBuffer<S, J> {
 }
 
 /// The number that stands at a block.
-fn number_at(numbers: &Vec<Option<Shown>>, block: u32) -> Option<Shown>
+fn number_at(numbers: &Vec<Option<RecordNumber>>, block: u32) -> Option<RecordNumber>
     ensures { result ≡ slice_index_or numbers.now.items block None }
 {
     match numbers.get(block as usize) {
@@ -301,12 +302,18 @@ fn device_fault(error: BufError) -> Fault
 }
 
 /// Puts an open write beside its buffer, where none is.
-fn put(beside: &mut Option<Beside>, write: Open, shown: Shown, written: u32, broken: bool)
-    requires { beside.old ≡ None }
-    ensures { beside.new
+fn put(
+    open_write: &mut Option<OpenWrite>,
+    write: Open,
+    shown: RecordNumber,
+    written: u32,
+    broken: bool,
+)
+    requires { open_write.old ≡ None }
+    ensures { open_write.new
         ≡ Some (record { write = write; shown = Some shown; written = written; broken = broken }) }
 {
-    let before = beside.replace(Beside {
+    let before = open_write.replace(OpenWrite {
         write,
         shown: Some(shown),
         written,
@@ -320,40 +327,45 @@ fn put(beside: &mut Option<Beside>, write: Open, shown: Shown, written: u32, bro
 
 /// Whether the next block of an open write can be written for a record, whose text has so many
 /// octets.
-fn can_write(register: &Register, beside: &Beside, entered: &Entered, octets: usize) -> bool
+fn can_write(
+    register: &ArticleLog,
+    open_write: &OpenWrite,
+    entered: &Entered,
+    octets: usize,
+) -> bool
     requires shown { Shows register.now (shown_of entered.now) }
-    requires own { IfSome beside.now.shown (λ w. Shows register.now w) }
+    requires own { IfSome open_write.now.shown (λ w. Shows register.now w) }
     requires octets { octets ≡ length (text_in (shown_of entered.now)) }
-    ensures { IsTrue result ↔ CanWriteFor beside.now (shown_of entered.now) }
+    ensures { IsTrue result ↔ CanWriteFor open_write.now (shown_of entered.now) }
 {
-    let length = beside.write.length();
-    !beside.broken
-        && is_named(register, beside, entered)
-        && beside.written < size_of(length)
+    let length = open_write.write.length();
+    !open_write.broken
+        && is_named(register, open_write, entered)
+        && open_write.written < size_of(length)
         && octets == length as usize
 }
 
 /// Whether an open write can be finished for a record.
-fn can_finish(register: &Register, beside: &Beside, entered: &Entered) -> bool
+fn can_finish(register: &ArticleLog, open_write: &OpenWrite, entered: &Entered) -> bool
     requires shown { Shows register.now (shown_of entered.now) }
-    requires own { IfSome beside.now.shown (λ w. Shows register.now w) }
-    ensures { IsTrue result ↔ CanFinishFor beside.now (shown_of entered.now) }
+    requires own { IfSome open_write.now.shown (λ w. Shows register.now w) }
+    ensures { IsTrue result ↔ CanFinishFor open_write.now (shown_of entered.now) }
 {
-    !beside.broken
-        && beside.shown.is_some()
-        && is_named(register, beside, entered)
-        && beside.written == size_of(beside.write.length())
+    !open_write.broken
+        && open_write.shown.is_some()
+        && is_named(register, open_write, entered)
+        && open_write.written == size_of(open_write.write.length())
 }
 
 /// Whether an open write is the record's: it has the record's number, or has none yet and has the
 /// record's token.
-fn is_named(register: &Register, beside: &Beside, entered: &Entered) -> bool
+fn is_named(register: &ArticleLog, open_write: &OpenWrite, entered: &Entered) -> bool
     requires shown { Shows register.now (shown_of entered.now) }
-    requires own { IfSome beside.now.shown (λ w. Shows register.now w) }
-    ensures { IsTrue result ↔ IsOfWrite beside.now (shown_of entered.now) }
+    requires own { IfSome open_write.now.shown (λ w. Shows register.now w) }
+    ensures { IsTrue result ↔ IsOfWrite open_write.now (shown_of entered.now) }
 {
-    match &beside.shown {
-        None => entered.token == beside.write.token(),
+    match &open_write.shown {
+        None => entered.token == open_write.write.token(),
         Some(own) => {
             if own.index() != entered.shown.index() {
                 return false;

@@ -1,20 +1,20 @@
 //! How a buffer is stopped.
-use crate::beside::Beside;
 use crate::numbered::NumberedBuffer;
-use crate::record::Archive;
+use crate::open_write::OpenWrite;
+use crate::record::StorePremises;
 use cyc_block::BlockStore;
 use cyc_buffer::{BufError, Unstopped};
 use std::marker::PhantomData;
 
 /// A buffer that isn't stopped, and why.
-pub struct Unshut<S: BlockStore, J: Archive> {
+pub struct Unshut<S: BlockStore, J: StorePremises> {
     /// The buffer, as it was, though its head blocks may say anything.
     pub buffer: NumberedBuffer<S, J>,
     /// A write is open, or the device failed.
     pub error: BufError,
 }
 
-impl<S: BlockStore, J: Archive> NumberedBuffer<S, J> {
+impl<S: BlockStore, J: StorePremises> NumberedBuffer<S, J> {
     ghost use Rattle.std.specs.Prelude.{◌≡◌, ◌+◌, true, None, is_some, length, IfErr, IfOk, OnOk};
     ghost use Rattle.news_terms.specs.HeadBlocks.{head_blocks};
     ghost use Rattle.cyc_buffer.specs.Agreement.{Agrees, Follows, store_of};
@@ -22,29 +22,29 @@ impl<S: BlockStore, J: Archive> NumberedBuffer<S, J> {
     ghost use Rattle.cyc_buffer.specs.History.{History};
     ghost use Rattle.cyc_buffer.specs.Stopped.{HoldsStopped};
     ghost use Rattle.live_store.specs.Started.{ShutWith};
-    ghost use Rattle.live_store.specs.Steps.{buffer_of, beside_of, numbers_of};
+    ghost use Rattle.live_store.specs.Steps.{buffer_of, open_write_of, numbers_of};
 
     /// Whether a write is open, as long as which it can't be stopped.
     pub fn is_busy(&self) -> bool
-        ensures beside { result ≡ is_some (beside_of self.now) }
+        ensures open_write { result ≡ is_some (open_write_of self.now) }
         ensures busy { result ≡ is_busy (buffer_of self.now) }
     {
-        self.beside.is_some()
+        self.open_write.is_some()
     }
 
     /// The buffer's store.
     pub fn into_store(self) -> S
         ensures { result ≡ store_of (buffer_of self) }
     {
-        let (buffer, beside, _numbers) = self.into_parts();
+        let (buffer, open_write, _numbers) = self.into_parts();
         if let Some(
-            Beside {
+            OpenWrite {
                 write,
                 shown: _,
                 written: _,
                 broken: _,
             },
-        ) = beside
+        ) = open_write
         {
             let _token = write.into_token();
         }
@@ -53,8 +53,8 @@ impl<S: BlockStore, J: Archive> NumberedBuffer<S, J> {
 
     /// Says on the device what the buffer is, and gives the store.
     pub fn shut(self, stop: u64) -> Result<S, Unshut<S, J>>
-        // The store holds the buffer, as stopped under this number, with each history, and of one of
-        // these each live text is that of a record.
+        // The store holds the buffer, as stopped under this number, with each history, and of one
+        // of these each live text is that of a record.
         ensures held { IfOk result (λ store. (h : History) → Agrees true (buffer_of self) h
             → HoldsStopped (S.heads store) (S.blocks store) stop h) }
         ensures known { IfOk result (λ store. J.trusted ≡ true
@@ -70,7 +70,7 @@ impl<S: BlockStore, J: Archive> NumberedBuffer<S, J> {
         ensures no_failure { IfOk result (λ store.
             S.failures store ≡ S.failures (store_of (buffer_of self))) }
         // Refused while a write is open, and else only where the device failed.
-        ensures free { OnOk result (beside_of self ≡ None) }
+        ensures free { OnOk result (open_write_of self ≡ None) }
         ensures refusal { IfErr result (λ refused. IsStopRefusal (buffer_of self) refused.error
             (buffer_of refused.buffer)) }
         // Refused, the buffer is as it was; where head block 0 is another, the bitmap is there.
@@ -80,14 +80,14 @@ impl<S: BlockStore, J: Archive> NumberedBuffer<S, J> {
             LeavesBuffer (buffer_of self) (buffer_of refused.buffer)) }
         ensures order { IfErr result (λ refused. S.honest (store_of (buffer_of self))
             → IsInOrder (buffer_of self) (buffer_of refused.buffer)) }
-        ensures beside { IfErr result (λ refused.
-            beside_of refused.buffer ≡ beside_of self) }
+        ensures open_write { IfErr result (λ refused.
+            open_write_of refused.buffer ≡ open_write_of self) }
         ensures numbers { IfErr result (λ refused.
             numbers_of refused.buffer ≡ numbers_of self) }
     {
-        let (buffer, beside, numbers) = self.into_parts();
+        let (buffer, open_write, numbers) = self.into_parts();
         match buffer.shut(stop) {
-            Ok(store) => match beside {
+            Ok(store) => match open_write {
                 None => Ok(store),
                 Some(_) => unreachable!(),
             },
@@ -96,7 +96,7 @@ impl<S: BlockStore, J: Archive> NumberedBuffer<S, J> {
                 Err(Unshut {
                     buffer: NumberedBuffer {
                         buffer,
-                        beside,
+                        open_write,
                         numbers,
                         of: PhantomData,
                     },

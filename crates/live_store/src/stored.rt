@@ -3,8 +3,8 @@ ghost use Rattle.std.specs.Prelude.{◌≡◌};
 ghost use Rattle.boxcar.specs.Table.{Shows};
 ghost use Rattle.live_store.specs.Tied.{named_in};
 
-use crate::record::{Archive, Shown};
-use crate::steps::Mixed;
+use crate::record::{RecordNumber, StorePremises};
+use crate::steps::Conflict;
 use cyc_buffer::Fault;
 use cyc_token::Token;
 use std::marker::{Brand, PhantomData};
@@ -12,8 +12,8 @@ use std::mem::size_of;
 
 /// That a text is stored: its record's number. For contracts its token is the record's.
 #[derive(Drop)]
-pub struct Receipt<J: Archive> {
-    pub(crate) shown: Shown,
+pub struct Receipt<J: StorePremises> {
+    pub(crate) shown: RecordNumber,
     pub(crate) of: PhantomData<J>,
     ghost here: { Shows J.register shown },
 }
@@ -21,7 +21,7 @@ pub struct Receipt<J: Archive> {
 // What the README says of the memory of a receipt.
 const _: () = prove!(size_of::<Receipt<Brand>>() == 8);
 
-impl<J: Archive> Receipt<J> {
+impl<J: StorePremises> Receipt<J> {
     /// The number of the record.
     pub fn number(&self) -> usize
         ensures { result ≡ self.now.shown.index }
@@ -40,7 +40,7 @@ impl<J: Archive> Receipt<J> {
     }
 
     /// What shows the record.
-    pub fn shown(&self) -> &Shown
+    pub fn shown(&self) -> &RecordNumber
         ensures { result.now ≡ self.now.shown }
     {
         &self.shown
@@ -49,14 +49,14 @@ impl<J: Archive> Receipt<J> {
 
 /// What a finish gives: the receipt of the text, and its token at run time.
 #[derive(Drop)]
-pub struct Finished<J: Archive> {
+pub struct Finished<J: StorePremises> {
     pub(crate) token: Token,
     pub(crate) receipt: Receipt<J>,
     // The token is the receipt's.
     ghost same: { named_in receipt.shown ≡ token },
 }
 
-impl<J: Archive> Finished<J> {
+impl<J: StorePremises> Finished<J> {
     ghost use Rattle.std.specs.Prelude.{◌≡◌};
     ghost use Rattle.live_store.specs.Tied.{named_in};
 
@@ -84,12 +84,12 @@ impl<J: Archive> Finished<J> {
 
 /// How the storing of a text ended.
 #[derive(Drop)]
-pub enum Stored<J: Archive> {
+pub enum Stored<J: StorePremises> {
     /// The text is stored.
     Kept(Finished<J>),
     /// The device failed, or the buffer has no further cycle.
     Failed(Fault),
     /// The buffer is not this writer's alone, or the text is none for it: another write was open
     /// or came between, or it has no octets or more than a buffer holds.
-    Mixed(Mixed),
+    Conflict(Conflict),
 }

@@ -9,7 +9,7 @@ ghost use Rattle.news_terms.specs.ArticleTexts.{IsArticle};
 
 use crate::answers::WriteFault;
 use crate::numbered::NumberedBuffer;
-use crate::record::{Archive, Register};
+use crate::record::{ArticleLog, StorePremises};
 use crate::steps::{Entered, octets_of, refused};
 use crate::stored::Stored;
 use cyc_block::{BlockStore, CHUNK_OCTETS};
@@ -25,10 +25,10 @@ pub(crate) use reading_back::enter_articles;
 /// is written, and the buffer finishes it. Each step of the buffer takes the lock anew. Where
 /// memory is refused to the register, the same step is tried again. What was begun is finished or
 /// abandoned, whatever comes.
-pub fn store<S: BlockStore, J: Archive, R: Wait>(
+pub fn store<S: BlockStore, J: StorePremises, R: Wait>(
     rt: &R,
     buffer: &Mutex<NumberedBuffer<S, J>>,
-    register: &Register,
+    register: &ArticleLog,
     class: u8,
     fresh: bool,
     text: &Vec<u8>,
@@ -40,14 +40,14 @@ pub fn store<S: BlockStore, J: Archive, R: Wait>(
 {
     let octets = match octets_of(text) {
         Ok(octets) => octets,
-        Err(mixed) => return Stored::Mixed(mixed),
+        Err(conflict) => return Stored::Conflict(conflict),
     };
     let answer = buffer.lock(rt).begin(class, octets, fresh);
     let begun = match answer {
         Ok(begun) => begun,
         Err(error) => match refused(error) {
             Ok(fault) => return Stored::Failed(fault),
-            Err(mixed) => return Stored::Mixed(mixed),
+            Err(conflict) => return Stored::Conflict(conflict),
         },
     };
     let entered = Record::enter(rt, register, begun, text);
@@ -57,17 +57,23 @@ pub fn store<S: BlockStore, J: Archive, R: Wait>(
     let finished = buffer.lock(rt).finish(register, entered);
     match finished {
         Ok(finished) => Stored::Kept(finished),
-        Err((mixed, entered)) => {
-            give_up(rt, buffer, register, entered, WriteFault::Mixed(mixed))
+        Err((conflict, entered)) => {
+            give_up(
+                rt,
+                buffer,
+                register,
+                entered,
+                WriteFault::Conflict(conflict),
+            )
         }
     }
 }
 
 /// Writes all blocks of a record's text, each under the lock.
-fn write_all<S: BlockStore, J: Archive, R: Wait>(
+fn write_all<S: BlockStore, J: StorePremises, R: Wait>(
     rt: &R,
     buffer: &Mutex<NumberedBuffer<S, J>>,
-    register: &Register,
+    register: &ArticleLog,
     entered: &Entered,
     text: &Vec<u8>,
 ) -> Result<(), WriteFault>
@@ -85,10 +91,10 @@ fn write_all<S: BlockStore, J: Archive, R: Wait>(
 }
 
 /// Abandons a record's write, and tells why.
-fn give_up<S: BlockStore, J: Archive, R: Wait>(
+fn give_up<S: BlockStore, J: StorePremises, R: Wait>(
     rt: &R,
     buffer: &Mutex<NumberedBuffer<S, J>>,
-    register: &Register,
+    register: &ArticleLog,
     entered: Entered,
     fault: WriteFault,
 ) -> Stored<J>
@@ -96,9 +102,9 @@ fn give_up<S: BlockStore, J: Archive, R: Wait>(
     requires shown { Shows J.register (shown_of entered) }
     ensures { IsGivenUp fault result }
 {
-    let _mixed = buffer.lock(rt).abandon(register, entered);
+    let _conflict = buffer.lock(rt).abandon(register, entered);
     match fault {
-        WriteFault::Mixed(mixed) => Stored::Mixed(mixed),
+        WriteFault::Conflict(conflict) => Stored::Conflict(conflict),
         WriteFault::Device(fault) => Stored::Failed(fault),
     }
 }

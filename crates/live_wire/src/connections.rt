@@ -2,7 +2,7 @@
 ghost use Rattle.std.specs.Prelude.{◌≡◌, [], IfSome};
 ghost use Rattle.live_wire.specs.Wire.{left_in};
 
-use crate::wire::{Ear, Hears, Mouth, Says};
+use crate::wire::{Hears, RecordingReader, RecordingWriter, Says};
 use std::io::{Read, Write};
 use std::vec::IntoIter;
 
@@ -47,16 +47,16 @@ impl<H: Read + Drop, W: Write + Drop, R> Connections<R> for Given<H, W> {
     ghost use Rattle.std.specs.Prelude.{◌≡◌, [], IfSome};
     ghost use Rattle.live_wire.specs.Wire.{GivesFirst, heard_by, left_in, said_by};
 
-    type Reader = Ear<H>;
+    type Reader = RecordingReader<H>;
 
-    type Writer = Mouth<W>;
+    type Writer = RecordingWriter<W>;
 
     /// The first of those that are left.
-    fn next_one(&mut self, rt: &R) -> Option<(Ear<H>, Mouth<W>)>
+    fn next_one(&mut self, rt: &R) -> Option<(RecordingReader<H>, RecordingWriter<W>)>
         ensures new { IfSome result (λ pair. (heard_by pair.0 ≡ []) × (said_by pair.1 ≡ [])) }
         ensures first { GivesFirst (left_in self.old) result (left_in self.new) }
     {
         let (reader, writer) = self.left.next()?;
-        Some((Ear::new(reader), Mouth::new(writer)))
+        Some((RecordingReader::new(reader), RecordingWriter::new(writer)))
     }
 }

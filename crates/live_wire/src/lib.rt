@@ -4,12 +4,23 @@
 //!
 //! A read or a write is one call of the reader or writer below. The lists of all octets are there
 //! for contracts alone, and take no memory.
+//!
+//! The ports on which peers connect (docs/PROTOCOL.md, `serve`): one for each peer, whose
+//! connections are served one after the other, until all are told to stop.
 #![tactic(auto)]
 
 mod connections;
+mod line;
+mod port;
+mod stop;
 mod tally;
+#[cfg(test)]
+mod tests;
 mod wire;
 
 pub use connections::{Connections, Given};
+pub use line::Line;
+pub use port::Port;
+pub use stop::Stop;
 pub use tally::Tally;
-pub use wire::{Ear, Hears, Mouth, Says, say_all};
+pub use wire::{Hears, RecordingReader, RecordingWriter, Says, say_all};

@@ -50,17 +50,17 @@ pub trait Says {
 
 /// Any reader of std.
 #[derive(Drop)]
-pub struct Ear<R: Read> {
+pub struct RecordingReader<R: Read> {
     reader: R,
     heard: Log<Vec<u8>, usize>,
 }
 
-impl<R: Read> Ear<R> {
+impl<R: Read> RecordingReader<R> {
     /// A reader of which nothing was read.
-    pub fn new(reader: R) -> Ear<R>
+    pub fn new(reader: R) -> RecordingReader<R>
         ensures { (heard_of result.heard.items ≡ []) × (result.reader ≡ reader) }
     {
-        Ear {
+        RecordingReader {
             reader,
             heard: Log::new(),
         }
@@ -74,7 +74,7 @@ impl<R: Read> Ear<R> {
     }
 }
 
-impl<R: Read> Hears for Ear<R> {
+impl<R: Read> Hears for RecordingReader<R> {
     ghost heard = { λ e. heard_of e.heard.items };
 
     ghost left = { λ e. R.remaining e.reader };
@@ -92,17 +92,17 @@ impl<R: Read> Hears for Ear<R> {
 
 /// Any writer of std.
 #[derive(Drop)]
-pub struct Mouth<W: Write> {
+pub struct RecordingWriter<W: Write> {
     writer: W,
     said: Log<Vec<u8>, (usize, usize)>,
 }
 
-impl<W: Write> Mouth<W> {
+impl<W: Write> RecordingWriter<W> {
     /// A writer to which nothing was written.
-    pub fn new(writer: W) -> Mouth<W>
+    pub fn new(writer: W) -> RecordingWriter<W>
         ensures { (said_of result.said.items ≡ []) × (result.writer ≡ writer) }
     {
-        Mouth {
+        RecordingWriter {
             writer,
             said: Log::new(),
         }
@@ -116,7 +116,7 @@ impl<W: Write> Mouth<W> {
     }
 }
 
-impl<W: Write> Says for Mouth<W> {
+impl<W: Write> Says for RecordingWriter<W> {
     ghost said = { λ m. said_of m.said.items };
 
     ghost held = { λ m. W.contents m.writer };

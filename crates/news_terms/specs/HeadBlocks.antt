@@ -1,5 +1,5 @@
--- Head blocks: what a stopped buffer leaves on its device of itself, a block of numbers and a bitmap
--- of the blocks in which a live finished article begins (docs/FORMATS.md, Head blocks).
+-- Head blocks: what a stopped buffer leaves on its device of itself, a block of numbers and a
+-- bitmap of the blocks in which a live finished article begins (docs/FORMATS.md, Head blocks).
 use Rattle.std.specs.Prelude.{ℕ, zero, suc, ◌+◌, ◌-◌, ◌*◌, ◌/◌, ◌%◌, ◌^◌, ◌<◌, ◌≤◌, ◌==◌, Bool}
 use Rattle.std.specs.Prelude.{List, [], ◌∷◌, ◌++◌, get_or, replicate, codes}
 use Rattle.std.specs.Prelude.{if◌then◌else◌}

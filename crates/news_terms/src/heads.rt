@@ -33,8 +33,8 @@ pub fn one_bitmap()
         → a (4096 * i + j) ≡ b (4096 * i + j) }
 {}
 
-/// A buffer of eight blocks, stopped under number 1 after one article of one block; numbers of which
-/// each octet is another; and the greatest numbers.
+/// A buffer of eight blocks, stopped under number 1 after one article of one block; numbers of
+/// which each octet is another; and the greatest numbers.
 pub fn head_examples()
     ensures head { head_image (record {
       state = Closed;

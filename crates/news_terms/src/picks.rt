@@ -51,8 +51,8 @@ pub fn positions_pick()
         (pick_of group begun size) size }
 {}
 
-/// Where buffers are filled one after the other, the blocks used of the current buffer's own run are
-/// those of the group's position: its front less its cycle's first place.
+/// Where buffers are filled one after the other, the blocks used of the current buffer's own run
+/// are those of the group's position: its front less its cycle's first place.
 pub fn positions_are_fronts()
     ensures { (group : Group) (begun : List ℕ) → group.mode ≡ Sequential
         → All (FitsGroup group) begun → (buffer : Buffer)

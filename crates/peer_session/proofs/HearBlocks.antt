@@ -25,7 +25,7 @@ use Rattle.peer_session.proofs.HearCommon.{by_due, has_other, heard_of, IsPlanne
 pub refuses : (s : ℕ) (old new : Session) (answer : Answer) (said : List ℕ)
     (planned : CodePlanned) (read : ℕ) (room : Room) → IsPlanned old (todos.Refuse room) read
     → ((transfer : Transfer) (id : List ℕ) → answer ≡ answers.Nothing
-    → old.phase ≡ phases.Owes transfer (Some id) → HeardIs said (with_planned old planned)
+    → old.phase ≡ phases.AwaitsBlock transfer (Some id) → HeardIs said (with_planned old planned)
     (says (block_passed read old id) (hears.rejected (transfer_view transfer) id)) new)
     → Heeds s old answer said new
 refuses s old new answer said planned read room todo arm = λ w m d gathered told h.
@@ -43,7 +43,7 @@ pub takes : (s : ℕ) (old new : Session) (answer : Answer) (said : List ℕ)
     (planned : CodePlanned) (read : ℕ) (copy : List ℕ) (article : Accepted) (room : Room)
     → IsPlanned old (todos.Take copy article room) read
     → ((transfer : Transfer) (told : Take) → answer ≡ answers.Take told
-    → old.phase ≡ phases.Owes transfer (Some copy) → HeardIs said (with_planned old planned)
+    → old.phase ≡ phases.AwaitsBlock transfer (Some copy) → HeardIs said (with_planned old planned)
     (take_heard s (block_passed read old copy) (transfer_view transfer) copy
     (article_view article) (take_view told)) new)
     → Heeds s old answer said new

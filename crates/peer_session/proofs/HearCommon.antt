@@ -23,7 +23,7 @@ use Rattle.peer_session.specs.declared.steps.Answer.{Answer}
 -- a session that has only begun to fetch has gathered nothing
 none_gathered : (phase : Phase) → HasReadNone phase → [] ≡ gathered_of phase
 none_gathered phases.Ready h = refl
-none_gathered (phases.Owes transfer id) h = refl
+none_gathered (phases.AwaitsBlock transfer id) h = refl
 none_gathered (phases.Holds id article room) h = refl
 none_gathered (phases.Waits transfer id room) h = refl
 none_gathered (phases.Fetches reading) h = sym h.0
@@ -34,7 +34,7 @@ none_gathered phases.Ended h = refl
 gathers_none : (ask : Ask) (told : shares.Answer) (phase : Phase) → HasReadNone phase
     → Gathers ask told (phase_view phase) []
 gathers_none ask told phases.Ready h = refl
-gathers_none ask told (phases.Owes transfer id) h = refl
+gathers_none ask told (phases.AwaitsBlock transfer id) h = refl
 gathers_none ask told (phases.Holds id article room) h = refl
 gathers_none ask told (phases.Waits transfer id room) h = refl
 gathers_none ask told (phases.Fetches reading) h = inl (refl, h.1)

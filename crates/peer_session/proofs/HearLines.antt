@@ -25,12 +25,12 @@ use Rattle.peer_session.proofs.HearCommon.{by_due, has_other, heard_of, IsPlanne
 pub owes : (s : ℕ) (old new : Session) (answer : Answer) (said : List ℕ) (planned : CodePlanned)
     (read : ℕ) (id : Option (List ℕ)) → IsPlanned old (todos.Owe id) read
     → (answer ≡ answers.Nothing → HeardIs said (with_planned old planned)
-    (silent (in_phase (passed read old) (model.Owes model.TakesThis id))) new)
+    (silent (in_phase (passed read old) (model.AwaitsBlock model.TakesThis id))) new)
     → Heeds s old answer said new
 owes s old new answer said planned read id todo arm = λ w m d gathered told h.
     let had = has_other w old m d gathered answer (todos.Owe id) read todo (λ e. cc) h in
     let due : Due =
-    due_as asks.GoesOn (in_phase (passed read old) (model.Owes model.TakesThis id)) in
+    due_as asks.GoesOn (in_phase (passed read old) (model.AwaitsBlock model.TakesThis id)) in
     by_due w s d due gathered answer told said new had.due_is
     (λ is. heard_of w s due told said (with_planned old planned) new (silent due.after) refl
     (arm is) had.stands.limit)

@@ -1,3 +1,4 @@
+pub mod ChainLemmas
 mod GivenReads
 mod HearBlocks
 mod HearCommon
@@ -5,9 +6,11 @@ mod HearFetches
 mod HearLeaving
 mod HearLines
 mod HearWaiting
+pub mod PlaceLemmas
 mod PlanBlocks
 mod PlanCommon
 mod PlanFetches
 mod PlanLeaving
 mod PlanLines
 mod PlanWaiting
+pub mod TableLemmas

@@ -10,7 +10,8 @@ use Rattle.relay_model.specs.State as model
 use Rattle.relay_model.specs.State.{in_phase, with_unread}
 use Rattle.relay_model.specs.Terms.{Terms}
 use Rattle.stream_cut.specs.Stream.{AwaitsEnd, ShowsBlock, Stream, shown_lines}
-use Rattle.peer_session.specs.Asking.{IsJudged, IsOwedAsked, IsSaying, OwesBlock, TextAt, next_text}
+use Rattle.peer_session.specs.Asking.{IsJudged, IsOwedAsked, IsSaying, IsAwaitingBlock, TextAt}
+use Rattle.peer_session.specs.Asking.{next_text}
 use Rattle.peer_session.specs.Asking.{IsAccepted, IsRefused}
 use Rattle.peer_session.specs.Planning.{PlanFor, Plans, block_passed}
 use Rattle.peer_session.specs.Session.{HasAll, HasReadNone, gathered_of, passed, phase_view}
@@ -27,7 +28,7 @@ use Rattle.peer_session.proofs.PlanCommon.{all_kept, plan_of, stands_so, with_st
 -- what is due of a session that owes a block
 pub due_where_owing : (w : Terms) (session : Session) (now : ℕ) (transfer : Transfer)
     (id : Option (List ℕ)) (next : NextBlock) (d : Due)
-    → session.phase ≡ phases.Owes transfer id → session.cutter.limit ≡ w.max_article
+    → session.phase ≡ phases.AwaitsBlock transfer id → session.cutter.limit ≡ w.max_article
     → next_block session.cutter.limit session.cutter.unread ≡ next
     → IsDueWhereOwing w (session_view session) now (transfer_view transfer) id next d
     → IsDue w (session_view session) now d
@@ -38,7 +39,7 @@ due_where_owing w session now transfer id next d owes limit is due =
 
 -- where no block is whole nothing is due
 pub rests_owing : (w : Terms) (old : Session) (now : ℕ) (stream : Stream)
-    → OwesBlock old.phase → AwaitsEnd old.cutter stream
+    → IsAwaitingBlock old.phase → AwaitsEnd old.cutter stream
     → Plans w old now (record { todo = todos.Rest; read = 0; step = steps.Nothing })
     (with_stream old stream)
 rests_owing w old now stream owes waits =
@@ -73,7 +74,7 @@ of_text w m now transfer id (Some text) rest d due = due
 -- what is due of a session that owes a block, where one is whole
 due_of_block : (w : Terms) (session : Session) (now read : ℕ) (transfer : Transfer)
     (id : Option (List ℕ)) (text : Option (List ℕ)) (d : Due)
-    → session.phase ≡ phases.Owes transfer id → session.cutter.limit ≡ w.max_article
+    → session.phase ≡ phases.AwaitsBlock transfer id → session.cutter.limit ≡ w.max_article
     → TextAt read text session.cutter
     → IsDueOfBlock w (passed read session) now (transfer_view transfer) id text d
     → IsDue w (session_view session) now d
@@ -84,7 +85,7 @@ due_of_block w session now read transfer id text d owes limit text_at due =
 
 -- the block of a TAKETHIS that named no message-id
 plans_syntax : (w : Terms) (session : Session) (now read : ℕ) (transfer : Transfer)
-    (text : Option (List ℕ)) (one : Todo × Step) → session.phase ≡ phases.Owes transfer None
+    (text : Option (List ℕ)) (one : Todo × Step) → session.phase ≡ phases.AwaitsBlock transfer None
     → TextAt read text session.cutter → IsSaying SyntaxError one
     → Plans w session now (record { todo = one.0; read = read; step = one.1 }) session
 plans_syntax w session now read transfer text one owes text_at saying =
@@ -103,7 +104,7 @@ plans_syntax w session now read transfer text one owes text_at saying =
 -- the block of an id, judged
 plans_judged : (w : Terms) (session : Session) (now read : ℕ) (transfer : Transfer)
     (id : List ℕ) (text : Option (List ℕ)) (one : Todo × Step)
-    → session.phase ≡ phases.Owes transfer (Some id) → TextAt read text session.cutter
+    → session.phase ≡ phases.AwaitsBlock transfer (Some id) → TextAt read text session.cutter
     → IsJudged w session.peer now id text one
     → Plans w session now (record { todo = one.0; read = read; step = one.1 }) session
 plans_judged w session now read transfer id text one owes text_at
@@ -139,7 +140,7 @@ plans_judged w session now read transfer id text one owes text_at
 -- the block that is owed
 pub plans_owed : (w : Terms) (session : Session) (now read : ℕ) (transfer : Transfer)
     (id : Option (List ℕ)) (text : Option (List ℕ)) (one : Todo × Step)
-    → session.phase ≡ phases.Owes transfer id → TextAt read text session.cutter
+    → session.phase ≡ phases.AwaitsBlock transfer id → TextAt read text session.cutter
     → IsOwedAsked w session.peer now id text one
     → Plans w session now (record { todo = one.0; read = read; step = one.1 }) session
 plans_owed w session now read transfer None text one owes text_at asked =

@@ -83,7 +83,7 @@ left_asked w now session asked reply one due leaving read ready =
 pub owed_asked : (w : Terms) (now : ℕ) (session : Session) (id : Option (List ℕ))
     → IsAskedBy w now session (Ok (commands.TakeThis id)) (todos.Owe id, steps.Nothing)
 owed_asked w now session id read ready = record {
-  due = due_as asks.GoesOn (in_phase (passed read session) (model.Owes model.TakesThis id));
+  due = due_as asks.GoesOn (in_phase (passed read session) (model.AwaitsBlock model.TakesThis id));
   is_due = refl;
   due_is = refl;
   fits = tt;

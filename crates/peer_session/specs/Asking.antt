@@ -81,8 +81,9 @@ pub data IsFetching (word : List ℕ) (one : Todo × Step) : Type 0 where
       → IsFetching word one
 
 -- a block is owed
-abbrev pub OwesBlock : Phase → Type 0
-OwesBlock phase = (transfer : Transfer) × (id : Option (List ℕ)) × (phase ≡ phases.Owes transfer id)
+abbrev pub IsAwaitingBlock : Phase → Type 0
+IsAwaitingBlock phase = (transfer : Transfer) × (id : Option (List ℕ))
+    × (phase ≡ phases.AwaitsBlock transfer id)
 
 -- what stands at the front of a stream is a block with this text, None where it is oversize
 abbrev pub next_text : Option (List ℕ) → List ℕ → blocks.NextBlock
@@ -123,9 +124,9 @@ pub record Owed (read : ℕ) (old : Session) (id : List ℕ) (new : Session) : T
 abbrev pub TakesOwed : ℕ → Session → Option (Transfer × List ℕ) → Session → Type 0
 TakesOwed read old None new =
     (new ≡ old)
-    × ((transfer : Transfer) (id : List ℕ) → ¬ (old.phase ≡ phases.Owes transfer (Some id)))
+    × ((transfer : Transfer) (id : List ℕ) → ¬ (old.phase ≡ phases.AwaitsBlock transfer (Some id)))
 TakesOwed read old (Some owed) new =
-    (old.phase ≡ phases.Owes owed.0 (Some owed.1))
+    (old.phase ≡ phases.AwaitsBlock owed.0 (Some owed.1))
     × Owed read old owed.1 new
 
 -- the held article of this id is tried again

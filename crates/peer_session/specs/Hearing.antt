@@ -21,7 +21,7 @@ use Rattle.peer_session.specs.declared.steps.Answer.{Answer}
 -- was told
 abbrev pub Gathers : Ask → shares.Answer → model.Phase → List ℕ → Type 0
 Gathers ask told model.Ready later = later ≡ []
-Gathers ask told (model.Owes transfer id) later = later ≡ []
+Gathers ask told (model.AwaitsBlock transfer id) later = later ≡ []
 Gathers ask told (model.Holds id article) later = later ≡ []
 Gathers ask told (model.Waits transfer id) later = later ≡ []
 Gathers ask told (model.Fetches asked token had) later =

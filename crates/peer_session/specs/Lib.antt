@@ -1,7 +1,10 @@
 pub mod Answers
 pub mod Asking
+pub mod Chains
 pub mod Given
 pub mod Hearing
+pub mod Places
 pub mod Planning
 pub mod Said
 pub mod Session
+pub mod Table

@@ -33,7 +33,7 @@ block_passed read session id =
 abbrev pub DueIs : Todo → (read : ℕ) → Session → Due → Type 0
 DueIs todos.Rest read session d = d ≡ due_as asks.Rests (session_view session)
 DueIs (todos.Owe id) read session d =
-    d ≡ due_as asks.GoesOn (in_phase (passed read session) (model.Owes model.TakesThis id))
+    d ≡ due_as asks.GoesOn (in_phase (passed read session) (model.AwaitsBlock model.TakesThis id))
 DueIs (todos.Say octets) read session d =
     (reply : Reply) × IsReply octets.items reply
     × (d ≡ due_as (asks.Says reply) (in_phase (passed read session) model.Ready))
@@ -59,10 +59,10 @@ DueIs todos.ReadOn read session d =
 DueIs (todos.Queue room) read session d =
     (feed : ℕ) × (d ≡ due_as (asks.TakesQueue feed room.items) (passed read session))
 DueIs (todos.Refuse room) read session d =
-    (transfer : Transfer) × (id : List ℕ) × (session.phase ≡ phases.Owes transfer (Some id))
+    (transfer : Transfer) × (id : List ℕ) × (session.phase ≡ phases.AwaitsBlock transfer (Some id))
     × (d ≡ due_as (asks.Refuses (transfer_view transfer) id) (block_passed read session id))
 DueIs (todos.Take copy article room) read session d =
-    (transfer : Transfer) × (session.phase ≡ phases.Owes transfer (Some copy))
+    (transfer : Transfer) × (session.phase ≡ phases.AwaitsBlock transfer (Some copy))
     × (d ≡ due_as (asks.Takes (transfer_view transfer) copy (article_view article))
     (block_passed read session copy))
 DueIs (todos.TakeHeld copy) read session d =

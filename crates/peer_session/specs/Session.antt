@@ -33,7 +33,7 @@ transfer_view transfers.Has = model.Has
 -- what a session does next
 abbrev pub phase_view : Phase → model.Phase
 phase_view phases.Ready = model.Ready
-phase_view (phases.Owes transfer id) = model.Owes (transfer_view transfer) id
+phase_view (phases.AwaitsBlock transfer id) = model.AwaitsBlock (transfer_view transfer) id
 phase_view (phases.Holds id article room) = model.Holds id (article_view article)
 phase_view (phases.Waits transfer id room) = model.Waits (transfer_view transfer) id
 phase_view (phases.Fetches reading) = model.Fetches reading.asked reading.token reading.had
@@ -54,7 +54,7 @@ session_view session =
 -- the octets that an open fetch has gathered
 abbrev pub gathered_of : Phase → List ℕ
 gathered_of phases.Ready = []
-gathered_of (phases.Owes transfer id) = []
+gathered_of (phases.AwaitsBlock transfer id) = []
 gathered_of (phases.Holds id article room) = []
 gathered_of (phases.Waits transfer id room) = []
 gathered_of (phases.Fetches reading) = reading.gathered
@@ -64,7 +64,7 @@ gathered_of phases.Ended = []
 -- where a command comes next, no unread octet was dropped
 abbrev pub HasAll : Phase → (dropped : ℕ) → Type 0
 HasAll phases.Ready dropped = dropped ≡ 0
-HasAll (phases.Owes transfer id) dropped = Unit {0}
+HasAll (phases.AwaitsBlock transfer id) dropped = Unit {0}
 HasAll (phases.Holds id article room) dropped = dropped ≡ 0
 HasAll (phases.Waits transfer id room) dropped = dropped ≡ 0
 HasAll (phases.Fetches reading) dropped = dropped ≡ 0
@@ -74,7 +74,7 @@ HasAll phases.Ended dropped = Unit {0}
 -- a fetch of this phase has only begun: it has read nothing
 abbrev pub HasReadNone : Phase → Type 0
 HasReadNone phases.Ready = Unit {0}
-HasReadNone (phases.Owes transfer id) = Unit {0}
+HasReadNone (phases.AwaitsBlock transfer id) = Unit {0}
 HasReadNone (phases.Holds id article room) = Unit {0}
 HasReadNone (phases.Waits transfer id room) = Unit {0}
 HasReadNone (phases.Fetches reading) = (reading.gathered ≡ []) × (reading.had ≡ 0)
@@ -101,7 +101,7 @@ LeavesFree None offers = offers ≡ []
 -- prepared for it, or has nothing left to give up.
 abbrev pub PlansFree : Phase → Stream → Option Job → List (List ℕ) → Type 0
 PlansFree phases.Ready stream hand offers = next_line stream.unread ≡ Incomplete
-PlansFree (phases.Owes transfer id) stream hand offers =
+PlansFree (phases.AwaitsBlock transfer id) stream hand offers =
     next_block stream.limit stream.unread ≡ Unfinished
 PlansFree (phases.Holds id article room) stream hand offers = ⊥
 PlansFree (phases.Waits transfer id room) stream hand offers = Unit {0}
@@ -124,7 +124,7 @@ StandsAsBefore old new =
 -- it has said its last reply
 abbrev pub leaves : Phase → Bool
 leaves phases.Ready = false
-leaves (phases.Owes transfer id) = false
+leaves (phases.AwaitsBlock transfer id) = false
 leaves (phases.Holds id article room) = false
 leaves (phases.Waits transfer id room) = false
 leaves (phases.Fetches reading) = false
@@ -137,7 +137,7 @@ has_parted session = leaves session.phase
 -- it reads a command next
 abbrev pub reads_command : Phase → Bool
 reads_command phases.Ready = true
-reads_command (phases.Owes transfer id) = false
+reads_command (phases.AwaitsBlock transfer id) = false
 reads_command (phases.Holds id article room) = false
 reads_command (phases.Waits transfer id room) = false
 reads_command (phases.Fetches reading) = false
@@ -147,7 +147,7 @@ reads_command phases.Ended = false
 -- it holds an accepted article while another session stores one of its id
 abbrev pub holds_article : Phase → Bool
 holds_article phases.Ready = false
-holds_article (phases.Owes transfer id) = false
+holds_article (phases.AwaitsBlock transfer id) = false
 holds_article (phases.Holds id article room) = true
 holds_article (phases.Waits transfer id room) = false
 holds_article (phases.Fetches reading) = false

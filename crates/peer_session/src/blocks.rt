@@ -10,7 +10,8 @@ ghost use Rattle.relay_model.specs.Hears as hears;
 ghost use Rattle.relay_model.specs.Hears.{says, take_heard};
 ghost use Rattle.relay_model.specs.Terms.{last_moment};
 ghost use Rattle.stream_cut.specs.Stream.{ShowsBlock};
-ghost use Rattle.peer_session.specs.Asking.{IsJudged, IsOwedAsked, OwesBlock, TakesOwed, TextAt};
+ghost use Rattle.peer_session.specs.Asking.{IsJudged, IsOwedAsked, IsAwaitingBlock, TakesOwed};
+ghost use Rattle.peer_session.specs.Asking.{TextAt};
 ghost use Rattle.peer_session.specs.Hearing.{HeardIs};
 ghost use Rattle.peer_session.specs.Planning.{Plans, block_passed};
 ghost use Rattle.peer_session.specs.Session.{HasAll, IsBounded, StandsAsBefore, session_view};
@@ -33,7 +34,7 @@ use stream_cut::{FoundBlock, unstuff};
 impl Session {
     /// What is due where a block is owed: nothing until one is whole.
     pub(crate) fn block_due(&mut self, config: &Config, now: u64) -> Result<Due, AllocError>
-        requires { OwesBlock self.old.phase }
+        requires { IsAwaitingBlock self.old.phase }
         ensures due { IfOk result (λ due. Plans (terms_of config.now) self.old now due self.new) }
         ensures err { OnErr result (StandsAsBefore self.old self.new) }
         ensures free { next_block self.old.cutter.limit self.old.cutter.unread ≡ Unfinished
@@ -56,7 +57,7 @@ impl Session {
         octets: usize,
         dots: usize,
     ) -> Result<Due, AllocError>
-        requires owes { OwesBlock self.now.phase }
+        requires owes { IsAwaitingBlock self.now.phase }
         requires shown { ShowsBlock self.now.cutter octets dots }
         ensures { IfOk result (λ due. Plans (terms_of config.now) self.now now due self.now) }
     {
@@ -76,12 +77,12 @@ impl Session {
         read: usize,
         text: Option<&[u8]>,
     ) -> Result<Due, AllocError>
-        requires owes { OwesBlock self.now.phase }
+        requires owes { IsAwaitingBlock self.now.phase }
         requires text { TextAt read (option_copied text) self.now.cutter }
         ensures { IfOk result (λ due. Plans (terms_of config.now) self.now now due self.now) }
     {
         match &self.phase {
-            Phase::Owes(_, id) => {
+            Phase::AwaitsBlock(_, id) => {
                 let (todo, step) = self.owed_asked(config, now, id, text)?;
                 Ok(Due { todo, read, step })
             }
@@ -133,7 +134,7 @@ impl Session {
         ensures { TakesOwed read self.old result self.new }
     {
         match mem::replace(&mut self.phase, Phase::Ready) {
-            Phase::Owes(transfer, Some(id)) => {
+            Phase::AwaitsBlock(transfer, Some(id)) => {
                 self.cutter.pass(read);
                 self.offers.close(&id);
                 Some((transfer, id))
@@ -148,7 +149,7 @@ impl Session {
     /// The answer to a refusal.
     pub(crate) fn hear_refused(&mut self, read: usize, room: Room, answer: Answer) -> Vec<u8>
         ensures heard { (transfer : Transfer) (id : MsgId) → answer ≡ Answer.Nothing
-            → self.old.phase ≡ Phase.Owes transfer (Some id)
+            → self.old.phase ≡ Phase.AwaitsBlock transfer (Some id)
             → HeardIs result.items self.old (says (block_passed read self.old id)
             (hears.rejected (transfer_view transfer) id)) self.new }
         ensures memory { answer ≡ Answer.Memory → self.new ≡ self.old }
@@ -173,7 +174,7 @@ impl Session {
         answer: Answer,
     ) -> Vec<u8>
         ensures heard { (transfer : Transfer) (told : Take) → answer ≡ Answer.Take told
-            → self.old.phase ≡ Phase.Owes transfer (Some copy)
+            → self.old.phase ≡ Phase.AwaitsBlock transfer (Some copy)
             → HeardIs result.items self.old (take_heard number (block_passed read self.old copy)
             (transfer_view transfer) copy (article_view article) (take_view told)) self.new }
         ensures memory { answer ≡ Answer.Memory → self.new ≡ self.old }

@@ -7,12 +7,12 @@ ghost use Rattle.peer_session.specs.Asking.{IsLeavingAsked};
 ghost use Rattle.peer_session.specs.Hearing.{HeardIs};
 ghost use Rattle.peer_session.specs.Session.{LeavesFree, session_view};
 
+use crate::offers::OpenOffers;
 use crate::phase::{Due, Phase, Todo};
 use crate::session::Session;
 use crate::steps::{Answer, Step};
 use crate::waiting::push_due;
 use buffer_group::Job;
-use open_offers::OpenOffers;
 use std::alloc::{AllocError, Global};
 
 /// What is due where a session leaves: the job in hand is pushed, then the oldest open offer ends,

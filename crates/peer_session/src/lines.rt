@@ -212,7 +212,7 @@ impl Session {
                 match told {
                     Offer::Wanted => {
                         self.offers.open(id);
-                        self.phase = Phase::Owes(Transfer::Has, Some(copy));
+                        self.phase = Phase::AwaitsBlock(Transfer::Has, Some(copy));
                         room.say(&Reply::IhaveSend)
                     }
                     Offer::Later => self.decline(&id, room, &Reply::IhaveLater),

@@ -21,7 +21,7 @@ pub(crate) enum Phase {
     /// It reads a command.
     Ready,
     /// It owes the block of this command; `None` where its argument was no message-id.
-    Owes(Transfer, Option<MsgId>),
+    AwaitsBlock(Transfer, Option<MsgId>),
     /// It holds an accepted article while another session stores one of its id.
     Holds(MsgId, Accepted, Room),
     /// Its job in hand is pushed, then it waits for the outcome of its article.

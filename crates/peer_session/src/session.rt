@@ -7,7 +7,7 @@ ghost use Rattle.relay_model.specs.Run as run;
 ghost use Rattle.relay_model.specs.State as model;
 ghost use Rattle.relay_model.specs.State.{in_phase};
 ghost use Rattle.relay_model.specs.Terms.{last_moment};
-ghost use Rattle.peer_session.specs.Asking.{OwesBlock};
+ghost use Rattle.peer_session.specs.Asking.{IsAwaitingBlock};
 ghost use Rattle.peer_session.specs.Given.{HeedsRead};
 ghost use Rattle.peer_session.specs.Hearing.{Forgets, HeardIs, Heeds};
 ghost use Rattle.peer_session.specs.Planning.{DueGiven, HandsOver, Plans, rests};
@@ -20,12 +20,12 @@ ghost use Rattle.peer_session.specs.declared.steps.Answer.TheVariants as answers
 
 use crate::fetches::reading_due;
 use crate::leaving::leaving_due;
+use crate::offers::OpenOffers;
 use crate::phase::{Due, Phase, Planned, Todo, Transfer};
 use crate::steps::{Answer, Step};
 use crate::waiting::{held_due, waiting_due};
 use buffer_group::Job;
 use nntp_text::MsgId;
-use open_offers::OpenOffers;
 use relay_conf::Config;
 use std::alloc::{AllocError, Global};
 use std::hash::RandomState;
@@ -145,7 +145,7 @@ impl Session {
         ensures err { OnErr result (StandsAsBefore self.old self.new) }
         ensures free { PlansFree self.old.phase self.old.cutter self.old.hand self.old.offers
             → IsOk result }
-        ensures bounded { OwesBlock self.old.phase → IsBounded self.new.cutter }
+        ensures bounded { IsAwaitingBlock self.old.phase → IsBounded self.new.cutter }
     {
         let due = self.due(config, now)?;
         self.planned = Planned {
@@ -162,11 +162,11 @@ impl Session {
         ensures err { OnErr result (StandsAsBefore self.old self.new) }
         ensures free { PlansFree self.old.phase self.old.cutter self.old.hand self.old.offers
             → IsOk result }
-        ensures bounded { OwesBlock self.old.phase → IsBounded self.new.cutter }
+        ensures bounded { IsAwaitingBlock self.old.phase → IsBounded self.new.cutter }
     {
         match &mut self.phase {
             Phase::Ready => self.line_due(config, now),
-            Phase::Owes(_, _) => self.block_due(config, now),
+            Phase::AwaitsBlock(_, _) => self.block_due(config, now),
             Phase::Holds(id, _, _) => held_due(self.alloc, id),
             Phase::Waits(_, _, _) => Ok(waiting_due(&self.hand)),
             Phase::Fetches(reading) => reading_due(reading),
@@ -220,12 +220,12 @@ impl Session {
     fn hear_owed(&mut self, read: usize, id: Option<MsgId>, answer: Answer) -> Vec<u8>
         ensures heard { answer ≡ answers.Nothing
             → HeardIs result.items self.old (silent (in_phase (passed read self.old)
-            (model.Owes model.TakesThis id))) self.new }
+            (model.AwaitsBlock model.TakesThis id))) self.new }
         ensures memory { answer ≡ answers.Memory → self.new ≡ self.old }
     {
         if let Answer::Nothing = answer {
             self.cutter.pass(read);
-            self.phase = Phase::Owes(Transfer::TakesThis, id);
+            self.phase = Phase::AwaitsBlock(Transfer::TakesThis, id);
         }
         Vec::new(self.alloc)
     }

@@ -1,9 +1,10 @@
-//! Benchmarks: how fast the crates of texts and settings are, and how fast the whole relay is over
-//! blocks in memory, with one thread. They promise nothing and are no tests; with no words the
-//! program does nothing.
+//! Benchmarks: how fast the crates of texts and settings are, how fast the whole relay is over
+//! blocks in memory, with one thread, and what a stop and a start take. They promise nothing and
+//! are no tests; with no words the program does nothing.
 #![tactic(auto)]
 
 mod events;
+mod history;
 mod loads;
 mod relay;
 mod work;
@@ -24,8 +25,8 @@ fn main(rt: HostRuntime) -> ExitCode {
     }
 }
 
-/// Does what the words ask. A word with a colon names a load of the relay, any other a work on
-/// texts. Without words nothing is asked.
+/// Does what the words ask. A word with a colon names a load of the relay, `history` is a stop and
+/// a start, any other word a work on texts. Without words nothing is asked.
 fn run(rt: &HostRuntime) -> io::Result<()> {
     let mut words = env::args(rt)?;
     let _program = words.next();
@@ -34,8 +35,22 @@ fn run(rt: &HostRuntime) -> io::Result<()> {
     };
     if word.contains(':') {
         serve_all(rt, word, words)
+    } else if word.as_str() == "history" {
+        keep_all(rt, words)
     } else {
         time_all(rt, word.as_str(), words)
+    }
+}
+
+/// Goes through a stop and a start with as many message-ids as the next word says.
+fn keep_all(rt: &HostRuntime, words: Args) -> io::Result<()> {
+    let mut words = words;
+    let Some(word) = words.next() else {
+        return Err(unknown());
+    };
+    match word.as_str().parse::<u32>() {
+        Ok(count) => history::time(rt, count),
+        Err(_) => Err(unknown()),
     }
 }
 
@@ -72,8 +87,8 @@ fn unknown() -> io::Error {
     io::Error::from(io::ErrorKind::InvalidInput)
 }
 
-/// Times the work of this name. The words are the number that it needs, how often it is done on each
-/// text, and the files of the texts.
+/// Times the work of this name. The words are the number that it needs, how often it is done on
+/// each text, and the files of the texts.
 fn time_all(rt: &HostRuntime, name: &str, words: Args) -> io::Result<()> {
     let mut words = words;
     let job = Job {

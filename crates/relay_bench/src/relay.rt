@@ -160,11 +160,11 @@ fn config(alloc: Global) -> Option<Config> {
     };
     let Config {
         buffers,
-        methods,
+        storage_entries,
         relay,
     } = k1;
     if ring.groups.len() != buffers.groups.len() {
         return None;
     }
-    Some(Config::new(ring, methods, relay))
+    Some(Config::new(ring, storage_entries, relay))
 }

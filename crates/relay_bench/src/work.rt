@@ -6,7 +6,7 @@ use std::alloc::Global;
 use std::io;
 use std::io::ErrorKind;
 use std::time::Instant;
-use stream_cut::{CutError, Cutter, stuff};
+use stream_cut::{CutError, Cutter, FoundBlock, stuff};
 use uwild::Expr;
 
 /// The octets of a block's text, at most.
@@ -22,6 +22,8 @@ pub enum Work {
     Lines,
     /// Blocks are.
     Blocks,
+    /// Blocks are found in it, as a session finds them, and passed.
+    Find,
     /// It is stuffed as a block.
     Stuff,
     /// It is read as an article.
@@ -54,9 +56,10 @@ pub struct Job {
 }
 
 /// The words that name work. Any other names the first.
-static WORDS: [(&str, Work); 13] = [
+static WORDS: [(&str, Work); 14] = [
     ("lines", Work::Lines),
     ("blocks", Work::Blocks),
+    ("find", Work::Find),
     ("stuff", Work::Stuff),
     ("parse", Work::Parse),
     ("groups", Work::Groups),
@@ -109,8 +112,7 @@ fn whole(rt: &HostRuntime, job: Job, text: &[u8]) -> io::Result<f64> {
 /// Does work on the whole text; false where it can't be done.
 fn is_done(alloc: Global, job: Job, text: &[u8]) -> bool {
     match job.work {
-        Work::Lines => cut(alloc, text, job.number, false).is_ok(),
-        Work::Blocks => cut(alloc, text, job.number, true).is_ok(),
+        Work::Lines | Work::Blocks | Work::Find => cut(alloc, text, job).is_ok(),
         Work::Stuff => stuff(alloc, text).is_ok(),
         Work::Parse => Article::parse(alloc, text).is_ok(),
         Work::Expression => Expr::parse(alloc, text).is_ok(),
@@ -172,13 +174,13 @@ fn judging(rt: &HostRuntime, pattern: &[u8], count: usize) -> io::Result<f64> {
     since(rt, start)
 }
 
-/// Cuts the whole stream, which comes in pieces of this many octets.
-fn cut(alloc: Global, stream: &[u8], piece: usize, blocks: bool) -> Result<(), CutError> {
+/// Cuts the whole stream, which comes in pieces of so many octets.
+fn cut(alloc: Global, stream: &[u8], job: Job) -> Result<(), CutError> {
     let mut cutter = Cutter::new(alloc, MAX_BLOCK);
-    for octets in stream.chunks(piece.max(1)) {
+    for octets in stream.chunks(job.number.max(1)) {
         cutter.feed(octets)?;
         for _ in 0..u64::MAX {
-            if !cut_one(&mut cutter, blocks)? {
+            if !cut_one(&mut cutter, job.work)? {
                 break;
             }
         }
@@ -186,13 +188,32 @@ fn cut(alloc: Global, stream: &[u8], piece: usize, blocks: bool) -> Result<(), C
     Ok(())
 }
 
-/// Cuts a block or a line; false where none is whole, and where a line would begin in a block.
-fn cut_one(cutter: &mut Cutter, blocks: bool) -> Result<bool, CutError> {
-    if blocks {
-        return Ok(cutter.block()?.is_some());
+/// Cuts a block or a line, or passes a block; false where none is whole, and where a line would
+/// begin in a block.
+fn cut_one(cutter: &mut Cutter, work: Work) -> Result<bool, CutError> {
+    match work {
+        Work::Blocks => Ok(cutter.block()?.is_some()),
+        Work::Find => Ok(pass_block(cutter)),
+        _ => {
+            if cutter.is_passing() {
+                return Ok(false);
+            }
+            Ok(cutter.line()?.is_some())
+        }
     }
-    if cutter.is_passing() {
-        return Ok(false);
+}
+
+/// Passes a block that is found as it lies there; false where none is whole.
+fn pass_block(cutter: &mut Cutter) -> bool {
+    match cutter.find_block() {
+        FoundBlock::Whole { octets, dots: _ } => {
+            cutter.pass(octets.saturating_add(3));
+            true
+        }
+        FoundBlock::Oversize(read) => {
+            cutter.pass(read);
+            true
+        }
+        FoundBlock::Unfinished => false,
     }
-    Ok(cutter.line()?.is_some())
 }

@@ -34,7 +34,7 @@ pub never_unwritten : (folder : List ℕ) → HasError folder Unwritten → ⊥
 never_unwritten folder (in_cycbuff fails) = no_file_fails_so folder files.Cycbuff CycbuffReads fails
 never_unwritten folder (in_storage buffers said fails) =
     no_file_fails_so folder files.Storage (StorageReads buffers) fails
-never_unwritten folder (in_relay buffers methods said stored fails) =
+never_unwritten folder (in_relay buffers storage_entries said stored fails) =
     no_file_fails_so folder files.Relay RelayGives fails
 
 -- A writer that isn't called holds what it held.

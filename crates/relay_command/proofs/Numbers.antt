@@ -13,7 +13,8 @@ use Rattle.relay_command.specs.Numbers.{number_of}
 pub number_read : {E : Type 0} (gives : List ℕ → Result ℕ E → Type 0) (text : List ℕ)
     (given : Option ℕ) → ((r : Result ℕ E) → gives text r → ParsesUnsigned 32 10 text r)
     → ReadsOne gives text given → given ≡ number_of text
-number_read {E} gives text given parses reads = go (is_unsigned_in 0 4294967295 text) refl given reads
+number_read {E} gives text given parses reads =
+    go (is_unsigned_in 0 4294967295 text) refl given reads
   where
     go : (b : Bool) → is_unsigned_in 0 4294967295 text ≡ b → (o : Option ℕ) → ReadsOne gives text o
         → o ≡ number_of text

@@ -2,7 +2,7 @@
 use Rattle.std.proofs.Common.{ℕ, Bool, List, Option, Result, refl}
 use denote.Ref.{Bor, MutBor}
 use Rattle.relay_conf.specs.declared.settings.Config.{Config}
-use Rattle.serve_terms.specs.declared.fault.ServeError.{ServeError}
+use Rattle.relay_report.specs.declared.fault.ServeError.{ServeError}
 use Rattle.relay_command.specs.Serving.{Handed}
 
 -- What `post` says of a call is what the call was handed, and its answer.

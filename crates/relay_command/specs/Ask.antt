@@ -8,7 +8,7 @@ use Rattle.std.specs.Io.KnownBytes.{Appends, Keeps}
 use Rattle.std.specs.declared.io.Error as io
 use Rattle.std.specs.declared.io.ErrorKind.{ErrorKind}
 use Rattle.std.specs.declared.io.ErrorKind.TheVariants.{ConnectionRefused, NotFound, OutOfMemory}
-use Rattle.relay_drill.specs.Written.{GainsFront}
+use Rattle.relay_report.specs.Written.{GainsFront}
 use Rattle.relay_command.specs.declared.ask.AskError.{AskError}
 use Rattle.relay_command.specs.declared.ask.AskError.TheVariants.{Memory, Unserved, Unusable}
 use Rattle.relay_command.specs.declared.ask.AskError.TheVariants.{Unwritten}

@@ -14,8 +14,8 @@ use Rattle.relay_conf.specs.declared.config.TheConstants.{K1_CYCBUFF, K1_STORAGE
 use Rattle.relay_conf.specs.declared.settings.Buffers.{Buffers}
 use Rattle.relay_conf.specs.declared.faults.ConfError.{ConfError}
 use Rattle.relay_conf.specs.declared.faults.ConfError.TheVariants as errors
-use Rattle.relay_conf.specs.declared.settings.Method.{Method}
-use Rattle.relay_drill.specs.Written.{GainsFront}
+use Rattle.relay_conf.specs.declared.settings.StorageEntry.{StorageEntry}
+use Rattle.relay_report.specs.Written.{GainsFront}
 use Rattle.relay_drill.specs.declared.fault.DrillError.{DrillError}
 use Rattle.relay_drill.specs.declared.fault.DrillError.TheVariants as drill
 use Rattle.relay_command.specs.declared.load.CheckError.{CheckError}
@@ -94,13 +94,14 @@ abbrev pub CycbuffReads : Result Buffers ConfError → (lines : List (List ℕ))
 CycbuffReads result lines = ConfGives buffers_view result (cycbuff_of lines)
 
 -- what the reader of storage.conf gives of lines, over these buffers
-abbrev pub StorageReads : Buffers → Result (Vec Method) ConfError → (lines : List (List ℕ)) → Type 0
+abbrev pub StorageReads : Buffers → Result (Vec StorageEntry) ConfError
+    → (lines : List (List ℕ)) → Type 0
 StorageReads buffers result lines = StorageGives result (buffers_view buffers).groups lines
 
 -- the configuration is what the three files of a folder say
 pub record IsIn (folder : List ℕ) (config : Config) : Type 0 where
   pub cycbuff : Says folder files.Cycbuff CycbuffReads config.buffers
-  pub storage : Says folder files.Storage (StorageReads config.buffers) config.methods
+  pub storage : Says folder files.Storage (StorageReads config.buffers) config.storage_entries
   pub relay : Says folder files.Relay RelayGives config.relay
 
 -- the first of the three files of a folder that is at fault has this error
@@ -108,9 +109,9 @@ pub data HasError (folder : List ℕ) (error : CheckError) : Type 0 where
   in_cycbuff : Fails folder files.Cycbuff CycbuffReads error → HasError folder error
   in_storage : (buffers : Buffers) → Says folder files.Cycbuff CycbuffReads buffers
       → Fails folder files.Storage (StorageReads buffers) error → HasError folder error
-  in_relay : (buffers : Buffers) (methods : Vec Method)
+  in_relay : (buffers : Buffers) (storage_entries : Vec StorageEntry)
       → Says folder files.Cycbuff CycbuffReads buffers
-      → Says folder files.Storage (StorageReads buffers) methods
+      → Says folder files.Storage (StorageReads buffers) storage_entries
       → Fails folder files.Relay RelayGives error → HasError folder error
 
 -- the answer is the configuration in a folder, or its error
@@ -125,7 +126,7 @@ counted config =
     codes "ok: "
     ++ decimal (vec_len config.buffers.buffers) ++ codes " buffers, "
     ++ decimal (vec_len config.buffers.groups) ++ codes " groups, "
-    ++ decimal (vec_len config.methods) ++ codes " classes, "
+    ++ decimal (vec_len config.storage_entries) ++ codes " classes, "
     ++ decimal (vec_len config.relay.peers) ++ codes " peers, "
     ++ decimal (vec_len config.relay.feeds) ++ codes " feeds\n"
 

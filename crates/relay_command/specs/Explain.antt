@@ -3,7 +3,7 @@ use Rattle.std.specs.Prelude.{◌≡◌, ◌⊎◌, ◌==◌, ℕ, List, ◌++�
 use Rattle.std.specs.Prelude.{None, Some, Result, Ok, Err, if◌then◌else◌}
 use Rattle.std.specs.Io.KnownBytes.{Appends, Keeps}
 use Rattle.relay_conf.specs.declared.settings.Config.{Config}
-use Rattle.relay_drill.specs.Written.{GainsFront}
+use Rattle.relay_report.specs.Written.{GainsFront}
 use Rattle.relay_explain.specs.Choice.{choice_text}
 use Rattle.relay_explain.specs.Explained.{explained}
 use Rattle.relay_explain.specs.declared.found.Found.{Found}

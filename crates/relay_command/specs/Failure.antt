@@ -25,8 +25,8 @@ use Rattle.relay_command.specs.declared.failure.Failure.TheVariants.{Unwritten}
 use Rattle.relay_command.specs.declared.failure.Unbegun.TheVariants as unbegun
 use Rattle.relay_command.specs.declared.failure.Unbegun as begin
 use Rattle.relay_command.specs.declared.token.TokenFault.TheVariants as token
-use Rattle.serve_terms.specs.Text as serving
-use Rattle.serve_terms.specs.declared.fault.ServeError.TheVariants as serve
+use Rattle.relay_report.specs.ServeText as serving
+use Rattle.relay_report.specs.declared.fault.ServeError.TheVariants as serve
 
 -- why the words can't be had: memory ran out, or one is no UTF-8 (docs/PROTOCOL.md, Statuses)
 abbrev pub unbegun_as : io.ErrorKind → begin.Unbegun

@@ -19,8 +19,8 @@ use Rattle.relay_command.specs.declared.ask.Request.TheVariants.{Stop, Report}
 use Rattle.relay_command.specs.declared.failure.Failure.{Failure}
 use Rattle.relay_command.specs.declared.failure.Failure.TheVariants.{Words, Check, Drill, Serve}
 use Rattle.relay_command.specs.declared.failure.Failure.TheVariants.{Token, Ask}
-use Rattle.serve_terms.specs.Serve.{ServeGives}
-use Rattle.serve_terms.specs.declared.fault.ServeError.{ServeError}
+use Rattle.relay_report.specs.Serve.{ServeGives}
+use Rattle.relay_report.specs.declared.fault.ServeError.{ServeError}
 
 -- what a script of this name answers with a configuration; `input` is what standard input has
 pub data DrillsScript (config : Config) (script : List ℕ) (result : Result (Unit {0}) DrillError)

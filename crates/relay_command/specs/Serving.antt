@@ -2,7 +2,7 @@
 use Rattle.std.specs.Prelude.{◌≡◌, ℕ, Bool, List, Option, Result}
 use denote.Ref.{Bor, MutBor}
 use Rattle.relay_conf.specs.declared.settings.Config.{Config}
-use Rattle.serve_terms.specs.declared.fault.ServeError.{ServeError}
+use Rattle.relay_report.specs.declared.fault.ServeError.{ServeError}
 
 -- what serving may come to: of a configuration, the folder of its files, the number of connections
 -- after which each port ends, and whether all buffers are formatted, how it answers, with what was

@@ -28,7 +28,7 @@ FileGivesBoth folder file reads (Err error) = Fails folder file reads error
 -- the configuration is what these texts say, and they are of the three files of a folder
 pub record IsSaidIn (folder : List ℕ) (config : Config) (sources : Sources) : Type 0 where
   pub cycbuff : SaysBy folder files.Cycbuff CycbuffReads config.buffers sources.cycbuff.items
-  pub storage : SaysBy folder files.Storage (StorageReads config.buffers) config.methods
+  pub storage : SaysBy folder files.Storage (StorageReads config.buffers) config.storage_entries
       sources.storage.items
   pub relay : SaysBy folder files.Relay RelayGives config.relay sources.relay.items
 

@@ -5,7 +5,7 @@ use Rattle.news_terms.specs.Token.{Token, IsToken, token_text}
 use Rattle.cyc_token.specs.Faults.{HasOtherLength, LacksMarks, HasOtherDigit, HasLowerCase}
 use Rattle.cyc_token.specs.declared.text.TokenError.{TokenError}
 use Rattle.cyc_token.specs.declared.text.TokenError.TheVariants as errors
-use Rattle.relay_drill.specs.Written.{GainsFront}
+use Rattle.relay_report.specs.Written.{GainsFront}
 use Rattle.relay_command.specs.declared.token.TokenFault.{TokenFault}
 use Rattle.relay_command.specs.declared.token.TokenFault.TheVariants.{Length, Marks, Digit}
 use Rattle.relay_command.specs.declared.token.TokenFault.TheVariants.{LowerCase, Unwritten}

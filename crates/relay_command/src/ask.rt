@@ -4,7 +4,7 @@ ghost use Rattle.relay_command.specs.Ask.{Answered, IsUnheard, IsUnserved, ask_t
 ghost use Rattle.relay_command.specs.Run.{AsksFolder};
 
 use crate::failure::Failure;
-use relay_drill::put;
+use relay_report::put;
 use std::alloc::Global;
 use std::error::Error;
 use std::fmt::{Display, Formatter};

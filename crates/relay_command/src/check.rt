@@ -1,11 +1,11 @@
 //! Saying what a configuration has (docs/PROTOCOL.md, Program).
-ghost use Rattle.relay_drill.specs.Written.{Writes};
+ghost use Rattle.relay_report.specs.Written.{Writes};
 ghost use Rattle.relay_command.specs.Check.{CheckGives, counted};
 
 use crate::load::{CheckError, load};
 use itoa::Buffer;
 use relay_conf::Config;
-use relay_drill::{Unwritten, put_all};
+use relay_report::{Unwritten, put_all};
 use std::alloc::Global;
 use std::fs::Files;
 use std::io::Write;
@@ -46,7 +46,7 @@ fn print_counts<W: Write>(writer: &mut W, config: &Config) -> Result<(), Unwritt
             b" buffers, ",
             groups.format(config.buffers.groups.len()).as_bytes(),
             b" groups, ",
-            classes.format(config.methods.len()).as_bytes(),
+            classes.format(config.storage_entries.len()).as_bytes(),
             b" classes, ",
             peers.format(config.relay.peers.len()).as_bytes(),
             b" peers, ",

@@ -10,8 +10,8 @@ use crate::load::{CheckError, ConfFile};
 use crate::look::look_at_files;
 use crate::question::Question;
 use crate::sources::load_both;
-use relay_drill::put;
 use relay_explain::{explain, explain_choice};
+use relay_report::put;
 use std::alloc::Global;
 use std::error::Error;
 use std::fmt;
@@ -19,8 +19,8 @@ use std::fmt::{Display, Formatter};
 use std::fs::Files;
 use std::io::Write;
 
-/// Why a configuration is not explained. Its text is what the program prints: what `check` tells, and
-/// below it the fault in words.
+/// Why a configuration is not explained. Its text is what the program prints: what `check` tells,
+/// and below it the fault in words.
 #[derive(Debug, Drop)]
 pub struct Unexplained {
     pub error: CheckError,
@@ -111,8 +111,8 @@ pub(crate) fn explain_folder<R: Files, W: Write>(
     }
 }
 
-/// Writes what the configuration in a folder does, or the built-in one where the folder is `K1`; or,
-/// where that is asked, where an article goes by it.
+/// Writes what the configuration in a folder does, or the built-in one where the folder is `K1`;
+/// or, where that is asked, where an article goes by it.
 fn explain_in<R: Files, W: Write>(
     rt: &R,
     alloc: Global,

@@ -12,7 +12,7 @@ use crate::token::TokenFault;
 use crate::version::tell_version;
 use clap::error::ErrorKind;
 use relay_drill::DrillError;
-use serve_terms::ServeError;
+use relay_report::ServeError;
 use std::fmt::{Display, Formatter};
 use std::io::Write;
 use std::process::ExitCode;

@@ -9,8 +9,8 @@ ghost use Rattle.relay_command.specs.declared.load.ConfFile.TheVariants as files
 
 use crate::file::read_file;
 use relay_conf::{
-    Buffers, ConfError, Config, K1_CYCBUFF, K1_RELAY, K1_STORAGE, Method, Relay, read_cycbuff,
-    read_relay, read_storage,
+    Buffers, ConfError, Config, K1_CYCBUFF, K1_RELAY, K1_STORAGE, Relay, StorageEntry,
+    read_cycbuff, read_relay, read_storage,
 };
 use relay_drill::DrillError;
 use std::alloc::{AllocError, Global};
@@ -120,12 +120,12 @@ pub fn load<R: Files>(rt: &R, alloc: Global, folder: &str) -> Result<Config, Che
         Ok(buffers) => buffers,
         Err(error) => return Err(error),
     };
-    let methods = match load_storage(rt, alloc, folder, &buffers) {
-        Ok(methods) => methods,
+    let storage_entries = match load_storage(rt, alloc, folder, &buffers) {
+        Ok(storage_entries) => storage_entries,
         Err(error) => return Err(error),
     };
     match load_relay(rt, alloc, folder) {
-        Ok(relay) => Ok(Config::new(buffers, methods, relay)),
+        Ok(relay) => Ok(Config::new(buffers, storage_entries, relay)),
         Err(error) => Err(error),
     }
 }
@@ -147,12 +147,12 @@ fn load_storage<R: Files>(
     alloc: Global,
     folder: &str,
     buffers: &Buffers,
-) -> Result<Vec<Method>, CheckError>
+) -> Result<Vec<StorageEntry>, CheckError>
     ensures { FileGives folder.now files.Storage (StorageReads buffers.now) result }
 {
     let text = text_of(rt, alloc, folder, ConfFile::Storage)?;
     match read_storage(alloc, &text, buffers) {
-        Ok(methods) => Ok(methods),
+        Ok(storage_entries) => Ok(storage_entries),
         Err(error) => Err(CheckError::of(ConfFile::Storage, error)),
     }
 }

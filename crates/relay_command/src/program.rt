@@ -8,7 +8,7 @@ ghost use Rattle.relay_command.specs.Failure.{unbegun_as};
 ghost use Rattle.relay_command.specs.Gathered.{RunsGathered};
 ghost use Rattle.relay_command.specs.Run.{DrillsFolder, DrillsScript, Performs, RunGives};
 ghost use Rattle.relay_command.specs.Serving.{Handed};
-ghost use Rattle.serve_terms.specs.Serve.{AnswersRightly};
+ghost use Rattle.relay_report.specs.Serve.{AnswersRightly};
 ghost use Rattle.relay_command.specs.declared.failure.Failure.TheVariants as failures;
 ghost use Rattle.relay_command.specs.declared.failure.Unbegun.TheVariants as begin;
 
@@ -24,7 +24,7 @@ use crate::serve::serve_in;
 use crate::token::tell;
 use relay_conf::Config;
 use relay_drill::{DrillError, drill};
-use serve_terms::ServeError;
+use relay_report::ServeError;
 use std::alloc::Global;
 use std::env::{Args, Env};
 use std::fs::Files;

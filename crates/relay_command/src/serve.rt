@@ -1,12 +1,12 @@
 //! Serving a relay with the configuration in a folder (docs/PROTOCOL.md, `serve`).
 ghost use Rattle.relay_command.specs.Run.{ServesFolder};
 ghost use Rattle.relay_command.specs.Serving.{Handed};
-ghost use Rattle.serve_terms.specs.Serve.{AnswersRightly};
+ghost use Rattle.relay_report.specs.Serve.{AnswersRightly};
 
 use crate::failure::Failure;
 use crate::load::load;
 use relay_conf::Config;
-use serve_terms::ServeError;
+use relay_report::ServeError;
 use std::alloc::Global;
 use std::fs::Files;
 use std::io::Write;

@@ -5,7 +5,7 @@ ghost use Rattle.relay_command.specs.Sources.{FileGivesBoth, LoadGivesBoth};
 ghost use Rattle.relay_command.specs.declared.load.ConfFile.TheVariants as files;
 
 use crate::load::{CheckError, ConfFile, text_of};
-use relay_conf::{Buffers, Config, Method, Relay, read_cycbuff, read_relay, read_storage};
+use relay_conf::{Buffers, Config, Relay, StorageEntry, read_cycbuff, read_relay, read_storage};
 use relay_explain::Sources;
 use std::alloc::Global;
 use std::fs::Files;
@@ -23,13 +23,13 @@ pub(crate) fn load_both<R: Files>(
         Ok(both) => both,
         Err(error) => return Err(error),
     };
-    let (methods, storage) = match storage_in(rt, alloc, folder, &buffers) {
+    let (storage_entries, storage) = match storage_in(rt, alloc, folder, &buffers) {
         Ok(both) => both,
         Err(error) => return Err(error),
     };
     match relay_in(rt, alloc, folder) {
         Ok((settings, relay)) => Ok((
-            Config::new(buffers, methods, settings),
+            Config::new(buffers, storage_entries, settings),
             Sources {
                 cycbuff,
                 storage,
@@ -61,12 +61,12 @@ fn storage_in<R: Files>(
     alloc: Global,
     folder: &str,
     buffers: &Buffers,
-) -> Result<(Vec<Method>, Vec<u8>), CheckError>
+) -> Result<(Vec<StorageEntry>, Vec<u8>), CheckError>
     ensures { FileGivesBoth folder.now files.Storage (StorageReads buffers.now) result }
 {
     let text = text_of(rt, alloc, folder, ConfFile::Storage)?;
     match read_storage(alloc, &text, buffers) {
-        Ok(methods) => Ok((methods, text)),
+        Ok(storage_entries) => Ok((storage_entries, text)),
         Err(error) => Err(CheckError::of(ConfFile::Storage, error)),
     }
 }

@@ -1,13 +1,13 @@
 //! What the text of a token stands for (docs/PROTOCOL.md, Program; docs/FORMATS.md, Tokens).
 ghost use Rattle.std.specs.Prelude.{◌≡◌, Some};
 ghost use Rattle.cyc_token.specs.Token.{token_view};
-ghost use Rattle.relay_drill.specs.Written.{Writes};
+ghost use Rattle.relay_report.specs.Written.{Writes};
 ghost use Rattle.relay_command.specs.Tell.{TellGives, fault_view};
 ghost use Rattle.relay_command.specs.Tell as terms;
 
 use cyc_token::{Token, TokenError};
 use itoa::Buffer;
-use relay_drill::{Unwritten, put_all};
+use relay_report::{Unwritten, put_all};
 use std::error::Error;
 use std::fmt;
 use std::fmt::{Display, Formatter};

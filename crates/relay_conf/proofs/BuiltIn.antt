@@ -7,7 +7,7 @@ use Rattle.relay_conf.specs.declared.settings.Buffers.{Buffers}
 use Rattle.relay_conf.specs.declared.faults.ConfError.{ConfError}
 use Rattle.relay_conf.specs.declared.faults.ConfError.TheVariants.{Memory, Faulty}
 use Rattle.relay_conf.specs.declared.settings.Relay.{Relay}
-use Rattle.relay_conf.specs.declared.settings.Method.{Method}
+use Rattle.relay_conf.specs.declared.settings.StorageEntry.{StorageEntry}
 use Rattle.relay_conf.specs.Cycbuff.{CycbuffSettings, cycbuff_of}
 use Rattle.relay_conf.specs.Faults.{ConfGives}
 use Rattle.relay_conf.specs.K1.{k1_buffers, every_newsgroup, k1_entries, k1_relay}
@@ -105,26 +105,28 @@ storage_has_entries = record {
 }
 
 -- Over the buffers of K1 they are read over its groups.
-over_k1 : (result : Result (Vec Method) ConfError) (known : CycbuffSettings) → known ≡ k1_buffers
+over_k1 : (result : Result (Vec StorageEntry) ConfError) (known : CycbuffSettings)
+    → known ≡ k1_buffers
     → StorageGives result known.groups storage_lines
     → StorageGives result k1_buffers.groups storage_lines
 over_k1 result known same h =
     subst (λ (known : CycbuffSettings). StorageGives result known.groups storage_lines) same h
 
 -- What is read of them are the entries of K1,
-pub entries_are_k1 : (result : Result (Vec Method) ConfError) (known : CycbuffSettings)
+pub entries_are_k1 : (result : Result (Vec StorageEntry) ConfError) (known : CycbuffSettings)
     → known ≡ k1_buffers → StorageGives result known.groups storage_lines
-    → IfOk result (λ methods. map entry_view methods.items ≡ k1_entries)
-entries_are_k1 (Ok methods) known same h =
-    one_list k1_buffers.groups storage_lines (map entry_view methods.items) k1_entries
-    (over_k1 (Ok methods) known same h) storage_has_entries
+    → IfOk result (λ storage_entries. map entry_view storage_entries.items ≡ k1_entries)
+entries_are_k1 (Ok storage_entries) known same h =
+    one_list k1_buffers.groups storage_lines (map entry_view storage_entries.items) k1_entries
+    (over_k1 (Ok storage_entries) known same h) storage_has_entries
 entries_are_k1 (Err error) known same h = tt
 
 -- unless memory ran out.
-pub entries_fail_by_memory : (result : Result (Vec Method) ConfError) (known : CycbuffSettings)
+pub entries_fail_by_memory
+    : (result : Result (Vec StorageEntry) ConfError) (known : CycbuffSettings)
     → known ≡ k1_buffers → StorageGives result known.groups storage_lines
     → IfErr result (λ error. error ≡ Memory)
-entries_fail_by_memory (Ok methods) known same h = tt
+entries_fail_by_memory (Ok storage_entries) known same h = tt
 entries_fail_by_memory (Err Memory) known same h = refl
 entries_fail_by_memory (Err (Faulty fault)) known same h =
     absurd (entries_without_fault k1_buffers.groups storage_lines k1_entries fault

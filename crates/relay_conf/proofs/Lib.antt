@@ -3,6 +3,7 @@ pub mod CycbuffReadings
 pub mod EachReading
 pub mod EachRelay
 pub mod EachStorage
+pub mod Entries
 pub mod FaultlessLines
 pub mod FileLines
 pub mod FirstFaults

@@ -195,7 +195,8 @@ octets_given (Ok (PeerLine name identity port)) n is e = cc
 octets_given (Ok (ConnectionsLine name connections)) n is e = cc
 octets_given (Ok (FeedLine name ring expression)) n is e = cc
 
-pub cutoff_given : (one : SaidLine) (n : ℕ) → Is_ranged one → cutoff_of one ≡ Some n → n ≤ 4000000000
+pub cutoff_given : (one : SaidLine) (n : ℕ) → Is_ranged one → cutoff_of one ≡ Some n
+    → n ≤ 4000000000
 cutoff_given (Err fault) n is e = cc
 cutoff_given (Ok Skipped) n is e = cc
 cutoff_given (Ok (Own identity)) n is e = cc

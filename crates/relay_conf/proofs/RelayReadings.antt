@@ -287,7 +287,8 @@ feeds_are_numbered peers (Ok (Remember seconds) ∷ said) = feeds_are_numbered p
 feeds_are_numbered peers (Ok (Patience seconds) ∷ said) = feeds_are_numbered peers said
 feeds_are_numbered peers (Ok (Bind address) ∷ said) = feeds_are_numbered peers said
 feeds_are_numbered peers (Ok (PeerLine name identity port) ∷ said) = feeds_are_numbered peers said
-feeds_are_numbered peers (Ok (ConnectionsLine name connections) ∷ said) = feeds_are_numbered peers said
+feeds_are_numbered peers (Ok (ConnectionsLine name connections) ∷ said) =
+    feeds_are_numbered peers said
 feeds_are_numbered peers (Ok (FeedLine name ring expression) ∷ said) =
     let feed : Feed =
     record { peer = peer_number peers name; ring = ring; expression = expression } in

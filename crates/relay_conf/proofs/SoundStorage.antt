@@ -14,7 +14,7 @@ use Rattle.news_terms.specs.StorageClass.{Entry}
 use Rattle.relay_conf.specs.declared.faults.ConfError.{ConfError}
 use Rattle.relay_conf.specs.declared.faults.Fault.{Fault}
 use Rattle.relay_conf.specs.declared.settings.Buffers.{Buffers}
-use Rattle.relay_conf.specs.declared.settings.Method.{Method}
+use Rattle.relay_conf.specs.declared.settings.StorageEntry.{StorageEntry}
 use Rattle.relay_conf.specs.declared.storage_lines.Place.{Place}
 use Rattle.relay_conf.specs.Cycbuff.{Group}
 use Rattle.relay_conf.specs.Faults.{first_fault, whole_fault}
@@ -174,22 +174,27 @@ entries_go groups lines entries h =
     (all_name_groups groups said late.0))
 
 -- So does each entry that is read.
-pub methods_go : (buffers : Buffers) (methods : Vec Method) (lines : List (List ℕ))
-    → StorageGives (Ok methods) (buffers_view buffers).groups lines
-    → All (λ (method : Method). method.group < length buffers.groups.items) methods.items
-methods_go buffers methods lines h k d within =
+pub storage_entries_go
+    : (buffers : Buffers) (storage_entries : Vec StorageEntry) (lines : List (List ℕ))
+    → StorageGives (Ok storage_entries) (buffers_view buffers).groups lines
+    → All (λ (storage_entry : StorageEntry). storage_entry.group < length buffers.groups.items)
+    storage_entries.items
+storage_entries_go buffers storage_entries lines h k d within =
     let groups = (buffers_view buffers).groups in
-    let all = entries_go groups lines (map entry_view methods.items) h in
-    let there = all k (entry_view d) (omega (arith, within, length-map methods.items entry_view)) in
-    let same = get_or-map entry_view methods.items k d (entry_view d) within in
-    let less : (get_or methods.items k d).group < length groups =
+    let all = entries_go groups lines (map entry_view storage_entries.items) h in
+    let there = all k (entry_view d)
+    (omega (arith, within, length-map storage_entries.items entry_view)) in
+    let same = get_or-map entry_view storage_entries.items k d (entry_view d) within in
+    let less : (get_or storage_entries.items k d).group < length groups =
     subst (λ (entry : Entry). entry.group < length groups) same there in
     omega (arith, less, length-map buffers.groups.items group_view)
 
 -- So does each, where entries are read.
-pub methods_go_if : (buffers : Buffers) (result : Result (Vec Method) ConfError)
+pub storage_entries_go_if : (buffers : Buffers) (result : Result (Vec StorageEntry) ConfError)
     (lines : List (List ℕ)) → StorageGives result (buffers_view buffers).groups lines
-    → IfOk result (λ methods.
-    All (λ (method : Method). method.group < length buffers.groups.items) methods.items)
-methods_go_if buffers (Ok methods) lines h = methods_go buffers methods lines h
-methods_go_if buffers (Err error) lines h = tt
+    → IfOk result (λ storage_entries.
+    All (λ (storage_entry : StorageEntry). storage_entry.group < length buffers.groups.items)
+    storage_entries.items)
+storage_entries_go_if buffers (Ok storage_entries) lines h =
+    storage_entries_go buffers storage_entries lines h
+storage_entries_go_if buffers (Err error) lines h = tt

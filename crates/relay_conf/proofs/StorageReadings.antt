@@ -16,7 +16,7 @@ use Rattle.relay_conf.specs.declared.storage_lines.Place.TheVariants.{Outside}
 use Rattle.relay_conf.specs.declared.storage_lines.Sizes.{Sizes}
 use Rattle.relay_conf.specs.Cycbuff.{Group}
 use Rattle.relay_conf.specs.declared.faults.ConfError.{ConfError}
-use Rattle.relay_conf.specs.declared.settings.Method.{Method}
+use Rattle.relay_conf.specs.declared.settings.StorageEntry.{StorageEntry}
 use Rattle.std.specs.Global.{Vec}
 use Rattle.relay_conf.specs.Drafts.{StepGives, IsDrawnFrom, late_or}
 use Rattle.relay_conf.specs.Expressions.{ExpressionGives}
@@ -333,13 +333,15 @@ no_draft groups d e =
 
 -- What the draft says is what its lines say.
 pub storage_gives : (groups : List Group) (lines : List (List ℕ)) (d : StorageDraft)
-    (result : Result (Vec Method) ConfError)
+    (result : Result (Vec StorageEntry) ConfError)
     → IsDrawnFrom LineSays (early_fault groups) (IsDraftOf groups) lines d
-    → ConfGives (λ (methods : Vec Method). map entry_view methods.items) result
+    → ConfGives (λ (storage_entries : Vec StorageEntry). map entry_view storage_entries.items)
+    result
     (draft_said (draft_view d))
     → StorageGives result groups lines
 storage_gives groups lines d result from gives =
-    let view : Vec Method → List Entry = λ methods. map entry_view methods.items in
+    let view : Vec StorageEntry
+    → List Entry = λ storage_entries. map entry_view storage_entries.items in
     draft_answers view LineSays (early_fault groups) (IsDraftOf groups) (storage_said groups) lines
     d result from
     (λ said none of. subst (ConfGives view result) (sym (said_over said none of)) gives)

@@ -56,5 +56,5 @@ k1_relay =
 -- the configuration is K1 (docs/FORMATS.md, K1)
 pub record IsK1 (config : Config) : Type 0 where
   pub buffers : buffers_view config.buffers ≡ k1_buffers
-  pub entries : map entry_view config.methods.items ≡ k1_entries
+  pub entries : map entry_view config.storage_entries.items ≡ k1_entries
   pub relay : relay_view config.relay ≡ k1_relay

@@ -47,7 +47,7 @@ abbrev pub draft_view : StorageDraft → Reading
 draft_view d =
     record {
       groups = (buffers_view d.buffers.now).groups;
-      entries = map entry_view d.methods.items;
+      entries = map entry_view d.storage_entries.items;
       place = d.place;
       stand = stand_view d.entry;
       late = d.late;

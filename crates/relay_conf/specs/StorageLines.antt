@@ -59,7 +59,8 @@ method_line (Some three) =
 -- what a line outside an entry says, without white space at its ends (docs/FORMATS.md,
 -- Configuration)
 abbrev pub outside_line : (trimmed : List ℕ) → RawLine
-outside_line line = if is_skipped line then Ok Skipped else method_line (three_of (words line))
+outside_line line =
+    if is_skipped line then Ok Skipped else method_line (three_of (words line))
 
 -- A LINE INSIDE AN ENTRY OF CNFS
 

@@ -6,7 +6,7 @@ use Rattle.relay_conf.specs.declared.faults.LineFault.{LineFault}
 use Rattle.relay_conf.specs.declared.faults.ConfError.{ConfError}
 use Rattle.relay_conf.specs.declared.storage_lines.Line.{Line}
 use Rattle.relay_conf.specs.declared.storage_lines.Line.TheVariants as lines
-use Rattle.relay_conf.specs.declared.settings.Method.{Method}
+use Rattle.relay_conf.specs.declared.settings.StorageEntry.{StorageEntry}
 use Rattle.std.specs.Global.{Vec}
 use Rattle.relay_conf.specs.Cycbuff.{Group}
 use Rattle.relay_conf.specs.LineByLine.{SayTogether, HaveFault, LinesGive}
@@ -43,8 +43,9 @@ HasFault groups lines fault =
     HaveFault LineSays (early_fault groups) (storage_said groups) lines fault
 
 -- the answer is what the lines of storage.conf say over these groups, unless memory ran out
-abbrev pub StorageGives : Result (Vec Method) ConfError → List Group → (lines : List (List ℕ))
+abbrev pub StorageGives : Result (Vec StorageEntry) ConfError → List Group → (lines : List (List ℕ))
     → Type 0
 StorageGives result groups lines =
-    LinesGive (λ (methods : Vec Method). map entry_view methods.items) LineSays (early_fault groups)
+    LinesGive (λ (storage_entries : Vec StorageEntry). map entry_view storage_entries.items)
+    LineSays (early_fault groups)
     (storage_said groups) result lines

@@ -8,7 +8,7 @@ ghost use Rattle.relay_conf.specs.Storage.{entry_view};
 use crate::cycbuff::read_cycbuff;
 use crate::faults::ConfError;
 use crate::relay::read_relay;
-use crate::settings::{Buffers, Config, Method, Relay};
+use crate::settings::{Buffers, Config, Relay, StorageEntry};
 use crate::storage::read_storage;
 use std::alloc::Global;
 
@@ -31,11 +31,13 @@ fn k1_buffers(alloc: Global) -> Result<Buffers, ConfError>
 }
 
 /// The entries of K1, over its groups.
-fn k1_methods(alloc: Global, buffers: &Buffers) -> Result<Vec<Method>, ConfError>
+fn k1_storage_entries(alloc: Global, buffers: &Buffers) -> Result<Vec<StorageEntry>, ConfError>
     requires { buffers_view buffers.now ≡ terms.k1_buffers }
-    ensures gives { IfOk result (λ methods. map entry_view methods.items ≡ terms.k1_entries) }
-    ensures grouped { IfOk result (λ methods.
-        All (λ method. method.group < length buffers.now.groups.items) methods.items) }
+    ensures gives { IfOk result (λ storage_entries.
+        map entry_view storage_entries.items ≡ terms.k1_entries) }
+    ensures grouped { IfOk result (λ storage_entries.
+        All (λ storage_entry. storage_entry.group < length buffers.now.groups.items)
+        storage_entries.items) }
     ensures memory { IfErr result (λ error. error ≡ ConfError.Memory) }
 {
     read_storage(alloc, K1_STORAGE, buffers)
@@ -53,15 +55,16 @@ impl Config {
     ghost use Rattle.relay_conf.specs.K1.{IsK1};
 
     /// The configuration of these settings, where each entry goes to one of the groups.
-    pub fn new(buffers: Buffers, methods: Vec<Method>, relay: Relay) -> Config
-        requires { All (λ method. method.group < length buffers.groups.items) methods.items }
+    pub fn new(buffers: Buffers, storage_entries: Vec<StorageEntry>, relay: Relay) -> Config
+        requires { All (λ storage_entry. storage_entry.group < length buffers.groups.items)
+            storage_entries.items }
         ensures buffers { result.buffers ≡ buffers }
-        ensures methods { result.methods ≡ methods }
+        ensures storage_entries { result.storage_entries ≡ storage_entries }
         ensures relay { result.relay ≡ relay }
     {
         Config {
             buffers,
-            methods,
+            storage_entries,
             relay,
         }
     }
@@ -72,8 +75,8 @@ impl Config {
         ensures memory { IfErr result (λ error. error ≡ ConfError.Memory) }
     {
         let buffers = k1_buffers(alloc)?;
-        let methods = k1_methods(alloc, &buffers)?;
+        let storage_entries = k1_storage_entries(alloc, &buffers)?;
         let relay = k1_relay(alloc)?;
-        Ok(Config::new(buffers, methods, relay))
+        Ok(Config::new(buffers, storage_entries, relay))
     }
 }

@@ -149,7 +149,8 @@ pub fn relay_is_sound(relay: &Relay)
 
 /// A token has room for the class of each entry, and its group is one of the groups.
 pub fn entries_are_sound(config: &Config)
-    ensures classes { All (λ entry. entry.class < 2 ^ 8) (map entry_view config.now.methods.items) }
+    ensures classes { All (λ entry. entry.class < 2 ^ 8)
+        (map entry_view config.now.storage_entries.items) }
     ensures groups { All (λ entry. entry.group < length (places_of_groups config.now.buffers))
-        (map entry_view config.now.methods.items) }
+        (map entry_view config.now.storage_entries.items) }
 {}

@@ -1,7 +1,11 @@
 //! The configuration of the relay: its three files, read from their texts (docs/FORMATS.md,
 //! Configuration).
+//!
+//! The choice of a storage class: which entry of storage.conf an article falls to (docs/FORMATS.md,
+//! Configuration).
 #![tactic(auto)]
 
+mod choice;
 mod config;
 mod cycbuff;
 mod cycbuff_lines;
@@ -19,10 +23,11 @@ mod storage;
 mod storage_lines;
 mod words;
 
+pub use choice::choose;
 pub use config::{K1_CYCBUFF, K1_RELAY, K1_STORAGE};
 pub use cycbuff::{BufferConf, GroupConf, Mode, read_cycbuff};
 pub use faults::{ConfError, Fault, LineFault};
 pub use line_words::Octets;
 pub use relay::{Feed, Peer, read_relay};
-pub use settings::{Buffers, Config, Method, Relay};
+pub use settings::{Buffers, Config, Relay, StorageEntry};
 pub use storage::read_storage;

@@ -29,7 +29,7 @@ pub struct Buffers {
 /// An entry of storage.conf: the articles that it takes, their class, and the number of the group
 /// of buffers that they go to. Sizes are in octets, both ends included; no upper limit is `None`.
 #[derive(Debug, Drop)]
-pub struct Method {
+pub struct StorageEntry {
     pub class: u8,
     pub newsgroups: Expr,
     pub group: u16,
@@ -73,8 +73,8 @@ pub struct Relay {
 #[derive(Debug, Drop)]
 pub struct Config {
     pub buffers: Buffers,
-    pub methods: Vec<Method>,
+    pub storage_entries: Vec<StorageEntry>,
     pub relay: Relay,
-    pub ghost grouped: { All (λ method. method.group < length buffers.groups.items)
-        methods.items },
+    pub ghost grouped: { All (λ storage_entry. storage_entry.group < length buffers.groups.items)
+        storage_entries.items },
 }

@@ -20,7 +20,7 @@ use crate::drafts::{LineByLine, read_lines, set_once};
 use crate::expressions::expression_of;
 use crate::faults::{ConfError, Fault, LineFault, Refusal};
 use crate::lines::lines_of;
-use crate::settings::{Buffers, Method};
+use crate::settings::{Buffers, StorageEntry};
 use crate::storage_lines::{Line, Place, Sizes, storage_line};
 use std::alloc::Global;
 use std::mem;
@@ -33,7 +33,11 @@ const EVERY_SIZE: Sizes = Sizes {
 };
 
 /// Reads the text of storage.conf, over the groups of cycbuff.conf.
-pub fn read_storage(alloc: Global, text: &[u8], buffers: &Buffers) -> Result<Vec<Method>, ConfError>
+pub fn read_storage(
+    alloc: Global,
+    text: &[u8],
+    buffers: &Buffers,
+) -> Result<Vec<StorageEntry>, ConfError>
     ensures { StorageGives result (buffers_view buffers.now).groups (lines_of text.now) }
 {
     let lines = lines_of(alloc, text)?;
@@ -46,7 +50,7 @@ pub fn read_storage(alloc: Global, text: &[u8], buffers: &Buffers) -> Result<Vec
 pub(crate) struct StorageDraft<'a> {
     /// What cycbuff.conf says.
     buffers: &'a Buffers,
-    methods: Vec<Method>,
+    storage_entries: Vec<StorageEntry>,
     /// Where the next line stands.
     place: Place,
     /// What is said of the open entry.
@@ -111,7 +115,7 @@ impl<'a> StorageDraft<'a> {
     {
         StorageDraft {
             buffers,
-            methods: Vec::new(alloc),
+            storage_entries: Vec::new(alloc),
             place: Place::Outside,
             entry: OpenEntry::new(),
             late: None,
@@ -158,7 +162,7 @@ impl<'a> StorageDraft<'a> {
         ensures entries { OnOk result (draft_view self.new ≡ closed (draft_view self.old)) }
     {
         let entry = mem::replace(&mut self.entry, OpenEntry::new());
-        self.methods.push(method_of(entry)?)?;
+        self.storage_entries.push(storage_entry_of(entry)?)?;
         self.place = Place::Outside;
         Ok(())
     }
@@ -211,10 +215,10 @@ impl<'a> StorageDraft<'a> {
 }
 
 /// The entry whose lines are read.
-fn method_of(entry: OpenEntry) -> Result<Method, Refusal>
+fn storage_entry_of(entry: OpenEntry) -> Result<StorageEntry, Refusal>
     ensures fault { LineGives result (terms.line_fault (stand_view entry) (Ok Closes)) }
-    ensures entry { IfOk result (λ method.
-        entry_view method ≡ terms.entry_of (stand_view entry)) }
+    ensures entry { IfOk result (λ storage_entry.
+        entry_view storage_entry ≡ terms.entry_of (stand_view entry)) }
 {
     let OpenEntry {
         class,
@@ -227,7 +231,7 @@ fn method_of(entry: OpenEntry) -> Result<Method, Refusal>
         return Err(Refusal::Faulty(Fault::Syntax));
     };
     let sizes = sizes.unwrap_or(EVERY_SIZE);
-    Ok(Method {
+    Ok(StorageEntry {
         class,
         newsgroups,
         group,
@@ -255,13 +259,13 @@ fn place_of_group(groups: &[GroupConf], name: &[u8]) -> usize
 }
 
 /// The entries, or the first fault that is looked for after the last line.
-fn finished(draft: StorageDraft<'_>) -> Result<Vec<Method>, ConfError>
-    ensures { ConfGives (λ methods. map entry_view methods.items) result
+fn finished(draft: StorageDraft<'_>) -> Result<Vec<StorageEntry>, ConfError>
+    ensures { ConfGives (λ storage_entries. map entry_view storage_entries.items) result
         (draft_said (draft_view draft.entry)) }
 {
     let StorageDraft {
         buffers: _,
-        methods,
+        storage_entries,
         place,
         entry: _,
         late,
@@ -274,6 +278,6 @@ fn finished(draft: StorageDraft<'_>) -> Result<Vec<Method>, ConfError>
     }
     match late {
         Some(fault) => Err(ConfError::Faulty(fault)),
-        None => Ok(methods),
+        None => Ok(storage_entries),
     }
 }

@@ -33,8 +33,8 @@ use Rattle.relay_model.specs.State.{Feed, put_at, put_id}
 use Rattle.relay_model.specs.Terms.{Terms}
 use Rattle.relay_model.specs.World as world
 use Rattle.relay_model.specs.World.{World, with_claim}
-use Rattle.relay_peers.specs.Peers.{peer_at}
-use Rattle.relay_peers.specs.declared.peers.Peer.{Peer}
+use Rattle.relay_core.specs.Peers.{peer_at}
+use Rattle.relay_core.specs.declared.peers.Peer.{Peer}
 use Rattle.relay_core.proofs.Feeds.{ring_at, few_items}
 use Rattle.relay_core.specs.Agreement.{AgreesBut, PeerIs, ring_sizes}
 use Rattle.relay_core.specs.Sharing.{AskFits, Gives, LeavesAll, SharesStep}
@@ -103,10 +103,10 @@ module _ {S : Type 0} {g : Ghosts S} (n now : ℕ) (old : System S g) (peer : Pe
           newest = but.core.newest;
           claims = keeps;
           count = but.core.count;
-          lanes = but.core.lanes;
+          group_writers = but.core.group_writers;
           desk = but.core.desk;
           expirer = but.core.expirer;
-          shelf = but.core.shelf;
+          buffer_set = but.core.buffer_set;
         };
         peers = but.peers;
       }
@@ -251,10 +251,10 @@ module _ {S : Type 0} {g : Ghosts S} (n now : ℕ) (old : System S g) (peer : Pe
               newest = but.core.newest;
               claims = but.core.claims;
               count = but.core.count;
-              lanes = but.core.lanes;
+              group_writers = but.core.group_writers;
               desk = kept;
               expirer = but.core.expirer;
-              shelf = but.core.shelf;
+              buffer_set = but.core.buffer_set;
             };
             peers = but.peers;
           };
@@ -279,10 +279,10 @@ module _ {S : Type 0} {g : Ghosts S} (n now : ℕ) (old : System S g) (peer : Pe
               newest = but.core.newest;
               claims = but.core.claims;
               count = but.core.count;
-              lanes = but.core.lanes;
+              group_writers = but.core.group_writers;
               desk = but.core.desk;
               expirer = but.core.expirer;
-              shelf = but.core.shelf;
+              buffer_set = but.core.buffer_set;
             };
             peers = λ s differ.
                 let Q : Option world.Outcome → Type 0 = λ told. PeerIs true w x.state.kept
@@ -316,10 +316,10 @@ module _ {S : Type 0} {g : Ghosts S} (n now : ℕ) (old : System S g) (peer : Pe
                 newest = but.core.newest;
                 claims = keeps x.state.claim but.core.claims;
                 count = but.core.count;
-                lanes = but.core.lanes;
+                group_writers = but.core.group_writers;
                 desk = but.core.desk;
                 expirer = but.core.expirer;
-                shelf = but.core.shelf;
+                buffer_set = but.core.buffer_set;
               };
               peers = but.peers;
             };

@@ -21,24 +21,24 @@ use Rattle.relay_model.specs.Claims.{Unknown}
 use Rattle.relay_model.specs.Terms.{FeedTerms, Terms}
 use Rattle.relay_model.specs.World as world
 use Rattle.relay_model.specs.World.{empty_world}
-use Rattle.relay_peers.specs.Peers.{NoPeers, peer_at}
-use Rattle.relay_peers.specs.declared.peers.Peer.{Peer}
-use Rattle.relay_core.specs.Agreement.{AgreesBy, LaneIs, PeerIs}
+use Rattle.relay_core.specs.Peers.{NoPeers, peer_at}
+use Rattle.relay_core.specs.declared.peers.Peer.{Peer}
+use Rattle.relay_core.specs.Agreement.{AgreesBy, GroupWriterIs, PeerIs}
 use Rattle.relay_core.specs.Beginning.{AreIdle, BeginsOver, IsIdle}
 use Rattle.relay_core.specs.Expiring.{expirer_view}
 use Rattle.relay_core.specs.Stopping.{stop_of}
-use Rattle.relay_core.specs.declared.system.Lane.{Lane}
+use Rattle.relay_core.specs.declared.system.GroupWriter.{GroupWriter}
 use Rattle.relay_core.specs.declared.system.System.{System}
 
--- idle lanes have no jobs, and neither have groups that aren't there
-pub idle_lanes : (lanes : List Lane) → All IsIdle lanes → (h : ℕ)
-    → LaneIs (slice_get lanes h) [] world.Idle
-idle_lanes [] idle h = (refl, refl)
-idle_lanes (lane ∷ lanes) idle zero =
-    let one = idle zero lane (omega arith) in
+-- idle group writers have no jobs, and neither have groups that aren't there
+pub idle_group_writers : (group_writers : List GroupWriter) → All IsIdle group_writers → (h : ℕ)
+    → GroupWriterIs (slice_get group_writers h) [] world.Idle
+idle_group_writers [] idle h = (refl, refl)
+idle_group_writers (group_writer ∷ group_writers) idle zero =
+    let one = idle zero group_writer (omega arith) in
     (ap (map job_view) (sym one.none), ap (writer_view token_of) (sym one.idle))
-idle_lanes (lane ∷ lanes) idle (suc h) =
-    idle_lanes lanes (λ k d within. idle (suc k) d (omega (arith, within))) h
+idle_group_writers (group_writer ∷ group_writers) idle (suc h) =
+    idle_group_writers group_writers (λ k d within. idle (suc k) d (omega (arith, within))) h
 
 -- there are as many groups as the configuration has
 pub groups_count : (config : Config)
@@ -67,10 +67,10 @@ module _ {S : Type 0} {g : Ghosts S} (system : System S g) (config : Config) (st
         → NoPeers system.peers
         → KeepsAll system.shards (λ id. Unknown)
         → KeepsFeeds system.desk (map ring_size config.relay.feeds.items) (λ f. no_feed)
-        → AreIdle (length config.buffers.groups.items) system.lanes.items
-        → KeepsNothing config.buffers stores system.shelf
+        → AreIdle (length config.buffers.groups.items) system.group_writers.items
+        → KeepsNothing config.buffers stores system.buffer_set
         → expirer_view system.expirer ≡ world.Reading [] → BeginsOver config stores system
-    begins same newest stop peers claims feeds lanes texts expirer =
+    begins same newest stop peers claims feeds group_writers texts expirer =
         let w : Terms = terms_of config in
         record {
           config_is = same;
@@ -82,17 +82,17 @@ module _ {S : Type 0} {g : Ghosts S} (system : System S g) (config : Config) (st
                 core = record {
                   newest = sym newest;
                   claims = claims;
-                  count = lanes.count_is ∙ sym (groups_count config);
-                  lanes = idle_lanes system.lanes.items lanes.each;
+                  count = group_writers.count_is ∙ sym (groups_count config);
+                  group_writers = idle_group_writers system.group_writers.items group_writers.each;
                   desk = subst (λ (sizes : List ℕ). KeepsFeeds system.desk sizes (λ f. no_feed))
                       (rings_are config.relay.feeds.items) feeds;
                   expirer = sym expirer;
-                  shelf = texts trusted honest w refl refl;
+                  buffer_set = texts trusted honest w refl refl;
                 };
                 peers = λ s. nobody trusted w (peer_at system.peers s) (peers s);
                 well = empty_well w failures;
               });
-          laned = lanes.count_is ∙ sym (groups_count config)
+          laned = group_writers.count_is ∙ sym (groups_count config)
               ∙ ap (λ (c : Config). length (terms_of c).groups) (sym same);
           stop_is = stop;
         }

@@ -1,4 +1,4 @@
--- What was read of a block is what the shelf found.
+-- What was read of a block is what the buffer set found.
 use Rattle.std.proofs.Common.{◌≡◌, ℕ, true, List, Ok, Err, refl, sym, ap, subst, ◌∙◌}
 use Rattle.std.specs.Prelude.{Result}
 use Rattle.article_fetch.specs.Chunks.{chunk_view}
@@ -6,7 +6,7 @@ use Rattle.article_fetch.specs.declared.chunk.Chunk.{Chunk}
 use Rattle.article_fetch.specs.declared.chunk.Chunk.TheVariants as chunks
 use Rattle.block_shelf.specs.Reading.{BlockRead, IsFoundOf, ReadsOn}
 use Rattle.block_shelf.specs.Reading as blocks
-use Rattle.block_shelf.specs.declared.shelf.Shelf.{Shelf}
+use Rattle.block_shelf.specs.declared.buffer_set.BufferSet.{BufferSet}
 use Rattle.cyc_block.specs.declared.store.BlockStore.{Ghosts}
 use Rattle.cyc_buffer.specs.declared.answers.BufError.{BufError}
 use Rattle.cyc_buffer.specs.declared.answers.Fault.{Fault}
@@ -38,13 +38,13 @@ chunk_is w σ token k found.Unknown slice (fetches.Article text) is = absurd is
 chunk_is w σ token k found.Unknown slice fetches.Gone is = absurd is
 chunk_is w σ token k found.Unknown slice fetches.NotRead is = absurd is
 
-module _ {S : Type 0} {g : Ghosts S} (token : Token) (k : ℕ) (old : Shelf S g)
-    (result : Result Found BufError) (slice : List ℕ) (new : Shelf S g) where
+module _ {S : Type 0} {g : Ghosts S} (token : Token) (k : ℕ) (old : BufferSet S g)
+    (result : Result Found BufError) (slice : List ℕ) (new : BufferSet S g) where
   -- the chunk by what a read gives
   abbrev chunk_by : Result Found BufError → Chunk
   chunk_by one = chunk_view (read_view one) slice
 
-  -- a chunk is what the shelf's read gave
+  -- a chunk is what the buffer set's read gave
   pub chunk_read : (read : Chunk) → read ≡ chunk_by result
       → ReadsOn token k old result slice new → ReadsChunk token k old read new
   chunk_read read shows reads w σ openings failures keeps within =

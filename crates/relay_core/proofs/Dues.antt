@@ -103,7 +103,7 @@ in_this : (w : Terms) (s : Session) (now : ℕ) (d : Due) (phase : model.Phase)
     → s.phase ≡ phase → IsDueIn w s now phase d → AsksRead d.ask → d.after.phase ≡ model.Ready
 in_this w s now d model.Ready at is reads =
     where_ready w s now d at (next_line s.unread) is reads
-in_this w s now d (model.Owes transfer id) at is reads =
+in_this w s now d (model.AwaitsBlock transfer id) at is reads =
     where_owing w s now d transfer id (next_block w.max_article s.unread) is reads
 in_this w s now d (model.Holds id article) at is reads = is_ready d _ _ refl is
 in_this w s now d (model.Waits transfer id) at is reads =

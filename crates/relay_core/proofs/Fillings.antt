@@ -1,6 +1,7 @@
 -- How far buffers are filled, one after the other, and what a configuration asks of a history.
 use Rattle.std.proofs.Common.{◌≡◌, ◌∙◌, ◌<◌, ◌≤◌, ◌+◌, ◌++◌, ℕ, List, [], ◌∷◌, Option, None, Some}
-use Rattle.std.proofs.Common.{refl, sym, ap, arith, length, map, take, get_or, slice_get, append-nil}
+use Rattle.std.proofs.Common.{refl, sym, ap, arith, length, map, take, get_or, slice_get}
+use Rattle.std.proofs.Common.{append-nil}
 use Rattle.std.proofs.Common.{Bool, true, false, leb, ltb, not}
 use Rattle.std.proofs.lemmas.Bool.{le-leb, ltb-false, ltb-true}
 use Rattle.std.proofs.lemmas.Bool.Decides.{nat_tests}
@@ -11,7 +12,7 @@ use Rattle.std.proofs.lemmas.Option.{get_or_from_slice_get, none-some, same_Some
 use Rattle.std.proofs.lemmas.Option.{slice_get-map, slice_get_past, slice_get_within}
 use Rattle.std.specs.List.{enumerate_from}
 use Rattle.std.specs.Prelude.{option_map}
-use Rattle.block_shelf.proofs.NewShelf.{members_more, numbered_view}
+use Rattle.block_shelf.proofs.NewBufferSet.{members_more, numbered_view}
 use Rattle.block_shelf.specs.Filling.{members}
 use Rattle.block_shelf.specs.Figures.{figures_view}
 use Rattle.block_shelf.specs.declared.figures.BufferFigures.{BufferFigures}

@@ -148,9 +148,9 @@ module _ {S : Type 0} {g : Ghosts S} (s : System S g) (shard now : ℕ) where
             newest = agrees.core.newest;
             claims = one.keeps;
             count = agrees.core.count;
-            lanes = agrees.core.lanes;
+            group_writers = agrees.core.group_writers;
             desk = agrees.core.desk;
-            shelf = agrees.core.shelf;
+            buffer_set = agrees.core.buffer_set;
             expirer = one.expirer_is;
           };
           peers = agrees.peers;
@@ -182,7 +182,7 @@ module _ {S : Type 0} {g : Ghosts S} (s : System S g) (shard now : ℕ) where
       expires s.shards expirer within early (λ x agrees.
       let P : Option Buffer → Type 0 = λ o. IsFrontAt w x.state o answer in
       by_buffer x agrees.core.claims next_buffer refl
-      (subst P next_is (next true x.state _ x.work.failures agrees.core.shelf)))
+      (subst P next_is (next true x.state _ x.work.failures agrees.core.buffer_set)))
     where
       by_buffer : (x : World) → KeepsAll s.shards x.state.claim → (o : Option Buffer)
           → next_buffer ≡ o → IsFrontAt w x.state o answer → Expires x s.shards expirer
@@ -227,7 +227,7 @@ module _ {S : Type 0} {g : Ghosts S} (s : System S g) (shard now : ℕ) where
       (expires new.shards new.expirer within early (λ x agrees.
       let P : Option Buffer → Type 0 = λ o. IsFrontAt w x.state o answer in
       let none : next_buffer ≡ None = no_buffer w x.state next_buffer answer
-      (subst P next_is (next true x.state _ x.work.failures agrees.core.shelf)) is in
+      (subst P next_is (next true x.state _ x.work.failures agrees.core.buffer_set)) is in
       forgets new 15 x done agrees
       (ap (λ (stage : Stage). expired w x shard now (stage_view fronts stage)) reading
       ∙ ap (λ (o : Option Buffer). reads_front w x shard now fronts o) none)))

@@ -8,8 +8,9 @@ mod Forgetting
 mod Found
 mod Hearing
 pub mod Idleness
-mod Lanes
+mod GroupWriters
 mod Marks
+mod PeerLemmas
 mod Pushing
 mod Queues
 mod ReadArm

@@ -20,19 +20,20 @@ use Rattle.relay_model.specs.Shares as shares
 use Rattle.relay_model.specs.Shares.{Pushing}
 use Rattle.relay_model.specs.State as model
 use Rattle.relay_model.specs.Terms.{Terms}
-use Rattle.relay_peers.specs.declared.peers.Peer.{Peer}
-use Rattle.relay_core.proofs.Lanes.{lane_at, lanes_put}
-use Rattle.relay_core.specs.Agreement.{LaneIs}
+use Rattle.relay_core.specs.declared.peers.Peer.{Peer}
+use Rattle.relay_core.proofs.GroupWriters.{group_writer_at, group_writers_put}
+use Rattle.relay_core.specs.Agreement.{GroupWriterIs}
 use Rattle.relay_core.specs.Queues.{jobs_of}
 use Rattle.relay_core.specs.Sharing.{AskFits, Gives, SharesStep}
 use Rattle.relay_core.specs.declared.queue.Queue.{Queue}
-use Rattle.relay_core.specs.declared.system.Lane.{Lane}
+use Rattle.relay_core.specs.declared.system.GroupWriter.{GroupWriter}
 use Rattle.relay_core.specs.declared.system.System.{System}
 
--- a lane's queue has as many jobs as that of the definitions
-queue_length : (lane : Lane) (q : List model.Job) → q ≡ map job_view (jobs_of lane.queue)
-    → length q ≡ length (jobs_of lane.queue)
-queue_length lane q e = ap length e ∙ length-map (jobs_of lane.queue) job_view
+-- a group writer's queue has as many jobs as that of the definitions
+queue_length : (group_writer : GroupWriter) (q : List model.Job)
+    → q ≡ map job_view (jobs_of group_writer.queue)
+    → length q ≡ length (jobs_of group_writer.queue)
+queue_length group_writer q e = ap length e ∙ length-map (jobs_of group_writer.queue) job_view
 
 same_job : (a b : Job) → Some a ≡ Some b → a ≡ b
 same_job a b e = cc
@@ -43,16 +44,18 @@ module _ {S : Type 0} {g : Ghosts S} (group : ℕ) (old : System S g) (peer : Pe
     w = terms_of old.config
 
     -- there is no room
-    pub full_push : (lane : Lane) → group < length old.lanes.items
-        → lane ≡ get_or old.lanes.items group lane → nat_le 64 (length (jobs_of lane.queue)) ≡ true
+    pub full_push : (group_writer : GroupWriter) → group < length old.group_writers.items
+        → group_writer ≡ get_or old.group_writers.items group group_writer
+        → nat_le 64 (length (jobs_of group_writer.queue)) ≡ true
         → SharesStep n now (steps.Push group) old peer (answers.Pushed false) old peer
-    full_push lane inside at full = λ x m d gathered but slot fits planned asked some.
+    full_push group_writer inside at full = λ x m d gathered but slot fits planned asked some.
         let job = asked.0 in
-        let here : LaneIs (Some lane) (x.work.queue group) (x.work.writer group) =
-        lane_at old.lanes.items group lane _ _ inside at (but.core.lanes group) in
-        let size : length (x.work.queue job.article.group) ≡ length (jobs_of lane.queue) =
+        let here : GroupWriterIs (Some group_writer) (x.work.queue group) (x.work.writer group) =
+        group_writer_at old.group_writers.items group group_writer _ _
+        inside at (but.core.group_writers group) in
+        let size : length (x.work.queue job.article.group) ≡ length (jobs_of group_writer.queue) =
         ap (λ h. length (x.work.queue h)) asked.2
-        ∙ queue_length lane (x.work.queue group) here.0 in
+        ∙ queue_length group_writer (x.work.queue group) here.0 in
         let none : nat_lt (length (x.work.queue job.article.group)) 64 ≡ false =
         grind (arith, nat_tests) in
         let P : Ask → Type 0 = λ ask. Gives w n now ask gathered x (answers.Pushed false) old
@@ -78,32 +81,39 @@ module _ {S : Type 0} {g : Ghosts S} (group : ℕ) (old : System S g) (peer : Pe
         let over = hands w m d gathered asked.0 planned asked.1 in
         absurd (let bad : Some over.one ≡ None = sym over.result_is ∙ none in cc)
 
-    -- the job joins its lane
-    pub job_pushed : (lane : Lane) (session : Session) (result : Option Job) (job : Job)
-        (queue : Queue) → group < length old.lanes.items
-        → lane ≡ get_or old.lanes.items group lane
-        → nat_le 64 (length (jobs_of lane.queue)) ≡ false → HandsOver peer.session result session
-        → result ≡ Some job → jobs_of queue ≡ jobs_of lane.queue ++ job ∷ []
+    -- the job joins its group writer
+    pub job_pushed
+        : (group_writer : GroupWriter) (session : Session) (result : Option Job) (job : Job)
+        (queue : Queue) → group < length old.group_writers.items
+        → group_writer ≡ get_or old.group_writers.items group group_writer
+        → nat_le 64 (length (jobs_of group_writer.queue)) ≡ false
+        → HandsOver peer.session result session
+        → result ≡ Some job → jobs_of queue ≡ jobs_of group_writer.queue ++ job ∷ []
         → SharesStep n now (steps.Push group) old peer (answers.Pushed true)
         (record old {
-          lanes = with_item old.lanes group (record { queue = queue; writer = lane.writer });
+          group_writers =
+              with_item old.group_writers group
+              (record { queue = queue; writer = group_writer.writer });
         })
         (record peer { session = session })
-    job_pushed lane session result job queue inside at room hands is joins =
+    job_pushed group_writer session result job queue inside at room hands is joins =
         λ x m d gathered but slot fits planned asked some.
         let one = asked.0 in
         let over = hands w m d gathered one planned asked.1 in
         let same : job_view job ≡ one =
         ap job_view (same_job job over.one (sym is ∙ over.result_is)) ∙ over.job_is in
-        let here : LaneIs (Some lane) (x.work.queue group) (x.work.writer group) =
-        lane_at old.lanes.items group lane _ _ inside at (but.core.lanes group) in
-        let size : length (x.work.queue one.article.group) ≡ length (jobs_of lane.queue) =
+        let here : GroupWriterIs (Some group_writer) (x.work.queue group) (x.work.writer group) =
+        group_writer_at old.group_writers.items group group_writer _ _
+        inside at (but.core.group_writers group) in
+        let size : length (x.work.queue one.article.group) ≡ length (jobs_of group_writer.queue) =
         ap (λ h. length (x.work.queue h)) asked.2
-        ∙ queue_length lane (x.work.queue group) here.0 in
+        ∙ queue_length group_writer (x.work.queue group) here.0 in
         let has_room : nat_lt (length (x.work.queue one.article.group)) 64 ≡ true =
         grind (arith, nat_tests) in
         let new : System S g = record old {
-          lanes = with_item old.lanes group (record { queue = queue; writer = lane.writer });
+          group_writers =
+              with_item old.group_writers group
+              (record { queue = queue; writer = group_writer.writer });
         } in
         let P : Ask → Type 0 = λ ask. Gives w n now ask gathered x (answers.Pushed true) new
         peer.slot in
@@ -113,8 +123,8 @@ module _ {S : Type 0} {g : Ghosts S} (group : ℕ) (old : System S g) (peer : Pe
         subst G asked.2 (put_at_here x.work.queue one.article.group _ one.article.group refl
         ∙ ap (λ h. x.work.queue h ++ one ∷ []) asked.2
         ∙ ap (λ q. q ++ one ∷ []) here.0
-        ∙ ap (λ j. map job_view (jobs_of lane.queue) ++ j ∷ []) (sym same)
-        ∙ sym (map-append job_view (jobs_of lane.queue) (job ∷ []))
+        ∙ ap (λ j. map job_view (jobs_of group_writer.queue) ++ j ∷ []) (sym same)
+        ∙ sym (map-append job_view (jobs_of group_writer.queue) (job ∷ []))
         ∙ ap (λ js. map job_view js) (sym joins)) in (
           subst P (sym asked.1) (record {
             told = shares.ToPush true;
@@ -126,15 +136,17 @@ module _ {S : Type 0} {g : Ghosts S} (group : ℕ) (old : System S g) (peer : Pe
               core = record {
                 newest = but.core.newest;
                 claims = but.core.claims;
-                count = length-set old.lanes.items group _ ∙ but.core.count;
-                lanes = lanes_put old.lanes.items group _ x.work.queue y.work.queue x.work.writer
+                count = length-set old.group_writers.items group _ ∙ but.core.count;
+                group_writers =
+                    group_writers_put old.group_writers.items group _ x.work.queue
+                    y.work.queue x.work.writer
                     x.work.writer inside (joined, here.1)
                     (λ h differ. put_at_there x.work.queue one.article.group _ h
                     (λ e. differ (e ∙ asked.2)))
-                    (λ h differ. refl) but.core.lanes;
+                    (λ h differ. refl) but.core.group_writers;
                 desk = but.core.desk;
                 expirer = but.core.expirer;
-                shelf = but.core.shelf;
+                buffer_set = but.core.buffer_set;
               };
               peers = but.peers;
             };
@@ -143,12 +155,12 @@ module _ {S : Type 0} {g : Ghosts S} (group : ℕ) (old : System S g) (peer : Pe
           over.planned,
         )
 
-    -- a group that has no lane: no job goes there
-    pub past_push : length old.lanes.items ≤ group
+    -- a group that has no group writer: no job goes there
+    pub past_push : length old.group_writers.items ≤ group
         → SharesStep n now (steps.Push group) old peer (answers.Pushed false) old peer
     past_push past = λ x m d gathered but slot fits planned asked some.
         let inside : asked.0.article.group < length w.groups =
         subst (λ (ask : Ask). AskFits w x ask gathered) asked.1 fits in
-        let count : length old.lanes.items ≡ length w.groups = but.core.count in
+        let count : length old.group_writers.items ≡ length w.groups = but.core.count in
         let same : asked.0.article.group ≡ group = asked.2 in
         absurd (omega arith)

@@ -1,4 +1,4 @@
--- A pop, an answer, and the writer out of its lane and back.
+-- A pop, an answer, and the writer out of its group writer and back.
 use Rattle.std.proofs.Common.{◌≡◌, ◌<◌, ◌≤◌, ℕ, true, false, List, Option, None}
 use Rattle.std.proofs.Common.{Some, Vec, refl, sym, ap, subst, ◌∙◌, arith}
 use Rattle.std.proofs.Math.ListN.{length-set, set}
@@ -12,7 +12,7 @@ use Rattle.article_verdict.specs.Config.{terms_of}
 use Rattle.block_shelf.specs.Calls.{token_of}
 use Rattle.block_shelf.specs.Keeping.{KeepsTexts}
 use Rattle.block_shelf.specs.Openings.{Opening}
-use Rattle.block_shelf.specs.declared.shelf.Begun.{Begun}
+use Rattle.block_shelf.specs.declared.buffer_set.Begun.{Begun}
 use Rattle.buffer_group.specs.Jobs.{job_view}
 use Rattle.buffer_group.specs.Writers.{writer_view}
 use Rattle.buffer_group.specs.declared.job.Job.{Job}
@@ -34,13 +34,13 @@ use Rattle.relay_model.specs.World as world
 use Rattle.relay_model.specs.World.{World}
 use Rattle.relay_model.specs.Writers as writers
 use Rattle.relay_model.specs.Writers.{popped, answered}
-use Rattle.relay_peers.specs.Peers.{TellsPeer, peer_at, with_slot}
-use Rattle.relay_peers.specs.declared.peers.Peer.{Peer}
-use Rattle.relay_peers.specs.declared.peers.Peers.{Peers}
-use Rattle.relay_core.proofs.Lanes.{get_other, get_same, lane_at, same_or_other}
+use Rattle.relay_core.specs.Peers.{TellsPeer, peer_at, with_slot}
+use Rattle.relay_core.specs.declared.peers.Peer.{Peer}
+use Rattle.relay_core.specs.declared.peers.Peers.{Peers}
+use Rattle.relay_core.proofs.GroupWriters.{get_other, get_same, group_writer_at, same_or_other}
 use Rattle.relay_core.proofs.Turning.{refused}
-use Rattle.relay_core.proofs.Writers.{lanes_same, openings_stay}
-use Rattle.relay_core.specs.Agreement.{AgreesBy, LaneIs, PeerIs}
+use Rattle.relay_core.proofs.Writers.{group_writers_same, openings_stay}
+use Rattle.relay_core.specs.Agreement.{AgreesBy, GroupWriterIs, PeerIs}
 use Rattle.relay_core.specs.Openings.{opening_of}
 use Rattle.relay_core.specs.Queues.{IsPopped, jobs_of}
 use Rattle.relay_core.specs.Sharing.{KeepsFrame}
@@ -49,15 +49,16 @@ use Rattle.relay_core.specs.Writing.{Advances, WriterOut, outcome_writer}
 use Rattle.relay_core.specs.declared.event.CoreError.TheVariants as faults
 use Rattle.relay_core.specs.declared.event.Output.TheVariants as outputs
 use Rattle.relay_core.specs.declared.queue.Queue.{Queue}
-use Rattle.relay_core.specs.declared.system.Lane.{Lane}
+use Rattle.relay_core.specs.declared.system.GroupWriter.{GroupWriter}
 use Rattle.relay_core.specs.declared.system.System.{System}
 
 some_is : {A : Type 0} → (a b : A) → Some a ≡ Some b → a ≡ b
 some_is a b e = cc
 
--- a lane of the code is within its list
-pub inside_of : (lanes : Vec Lane Global) (h : ℕ) → h < vec_len lanes → h < length lanes.items
-inside_of lanes h within = subst (λ (k : ℕ). h < k) lanes.ok.0 within
+-- a group writer of the code is within its list
+pub inside_of : (group_writers : Vec GroupWriter Global) (h : ℕ) → h < vec_len group_writers
+    → h < length group_writers.items
+inside_of group_writers h within = subst (λ (k : ℕ). h < k) group_writers.ok.0 within
 
 -- what an outcome leaves of a peer
 told_here : (w : Terms) (kept : List Kept) (at : Option Peer) (session : Option model.Session)
@@ -81,79 +82,87 @@ module _ {S : Type 0} {g : Ghosts S} (h now : ℕ) (old : System S g) where
   w = terms_of old.config
 
   -- the oldest job is taken
-  pub popped_one : (lane : Lane) (job : Job) (queue : Queue) → h < length old.lanes.items
-      → lane ≡ get_or old.lanes.items h lane
-      → IsPopped (jobs_of lane.queue) (Some job) (jobs_of queue)
+  pub popped_one : (group_writer : GroupWriter) (job : Job) (queue : Queue)
+      → h < length old.group_writers.items
+      → group_writer ≡ get_or old.group_writers.items h group_writer
+      → IsPopped (jobs_of group_writer.queue) (Some job) (jobs_of queue)
       → Advances h now code.Idle old (code.Popped job) (record old {
-        lanes = with_item old.lanes h (record { queue = queue; writer = lane.writer });
+        group_writers =
+            with_item old.group_writers h (record { queue = queue; writer = group_writer.writer });
       })
-  popped_one lane job queue inside at pops = λ x out well.
-      let there : slice_get old.lanes.items h ≡ Some lane =
-      slice_get-get_or old.lanes.items h lane inside ∙ ap Some (sym at) in
+  popped_one group_writer job queue inside at pops = λ x out well.
+      let there : slice_get old.group_writers.items h ≡ Some group_writer =
+      slice_get-get_or old.group_writers.items h group_writer inside ∙ ap Some (sym at) in
       let rest : List model.Job = map job_view (jobs_of queue) in
-      let one : Lane = record { queue = queue; writer = lane.writer } in
+      let one : GroupWriter = record { queue = queue; writer = group_writer.writer } in
       let u : world.Writer = world.Popped (job_view job) in
-      let T : (ℕ → Option Opening) → Type 0 = λ o. KeepsTexts true old.shelf w x.state.begun
+      let T : (ℕ → Option Opening) → Type 0 = λ o. KeepsTexts true old.buffer_set w x.state.begun
       x.state.kept o x.work.failures in
       record {
         after = popped x h (job_view job) rest;
         writes = writers.Pops (job_view job) rest out.writer_is
-            (out.queue lane there ∙ ap (λ js. map job_view js) pops) refl;
+            (out.queue group_writer there ∙ ap (λ js. map job_view js) pops) refl;
         out = record {
           newest = out.newest;
           claims = out.claims;
-          count = length-set old.lanes.items h one ∙ out.count;
+          count = length-set old.group_writers.items h one ∙ out.count;
           queue = λ other at'.
               put_at_here x.work.queue h rest h refl
-              ∙ ap (λ (l : Lane). map job_view (jobs_of l.queue))
-              (some_is one other (sym (get_same old.lanes.items h one inside) ∙ at'));
+              ∙ ap (λ (l : GroupWriter). map job_view (jobs_of l.queue))
+              (some_is one other (sym (get_same old.group_writers.items h one inside) ∙ at'));
           writer_is = put_at_here x.work.writer h u h refl;
-          lanes = λ k differ.
-              let P : Option Lane → Type 0 = λ o. LaneIs o (put_at x.work.queue h rest k)
+          group_writers = λ k differ.
+              let P : Option GroupWriter
+              → Type 0 = λ o. GroupWriterIs o (put_at x.work.queue h rest k)
               (put_at x.work.writer h u k) in
-              let Q : List model.Job → Type 0 = λ q. LaneIs (slice_get old.lanes.items k) q
+              let Q : List model.Job
+              → Type 0 = λ q. GroupWriterIs (slice_get old.group_writers.items k) q
               (put_at x.work.writer h u k) in
-              subst P (sym (get_other old.lanes.items h one k differ))
+              subst P (sym (get_other old.group_writers.items h one k differ))
               (subst Q (sym (put_at_there x.work.queue h rest k differ))
-              (lanes_same w h code.Idle old x out u k differ));
+              (group_writers_same w h code.Idle old x out u k differ));
           desk = out.desk;
           expirer = out.expirer;
-          shelf = subst T (openings_stay x.work.writer h u (ap opening_of out.writer_is))
-              out.shelf;
+          buffer_set = subst T (openings_stay x.work.writer h u (ap opening_of out.writer_is))
+              out.buffer_set;
           peers = out.peers;
         };
       }
 
   -- no job waits
-  pub none_popped : (lane : Lane) (queue : Queue) → h < length old.lanes.items
-      → lane ≡ get_or old.lanes.items h lane
-      → IsPopped (jobs_of lane.queue) None (jobs_of queue)
+  pub none_popped : (group_writer : GroupWriter) (queue : Queue)
+      → h < length old.group_writers.items
+      → group_writer ≡ get_or old.group_writers.items h group_writer
+      → IsPopped (jobs_of group_writer.queue) None (jobs_of queue)
       → Advances h now code.Idle old code.Idle (record old {
-        lanes = with_item old.lanes h (record { queue = queue; writer = lane.writer });
+        group_writers =
+            with_item old.group_writers h (record { queue = queue; writer = group_writer.writer });
       })
-  none_popped lane queue inside at pops = λ x out well.
-      let there : slice_get old.lanes.items h ≡ Some lane =
-      slice_get-get_or old.lanes.items h lane inside ∙ ap Some (sym at) in
-      let one : Lane = record { queue = queue; writer = lane.writer } in
+  none_popped group_writer queue inside at pops = λ x out well.
+      let there : slice_get old.group_writers.items h ≡ Some group_writer =
+      slice_get-get_or old.group_writers.items h group_writer inside ∙ ap Some (sym at) in
+      let one : GroupWriter = record { queue = queue; writer = group_writer.writer } in
       record {
         after = x;
         writes = writers.NoJob out.writer_is
-            (out.queue lane there ∙ ap (λ js. map job_view js) pops.0) refl;
+            (out.queue group_writer there ∙ ap (λ js. map job_view js) pops.0) refl;
         out = record {
           newest = out.newest;
           claims = out.claims;
-          count = length-set old.lanes.items h one ∙ out.count;
+          count = length-set old.group_writers.items h one ∙ out.count;
           queue = λ other at'.
-              out.queue lane there ∙ ap (λ js. map job_view js) (pops.0 ∙ sym pops.1)
-              ∙ ap (λ (l : Lane). map job_view (jobs_of l.queue))
-              (some_is one other (sym (get_same old.lanes.items h one inside) ∙ at'));
+              out.queue group_writer there ∙ ap (λ js. map job_view js) (pops.0 ∙ sym pops.1)
+              ∙ ap (λ (l : GroupWriter). map job_view (jobs_of l.queue))
+              (some_is one other (sym (get_same old.group_writers.items h one inside) ∙ at'));
           writer_is = out.writer_is;
-          lanes = λ k differ.
-              let P : Option Lane → Type 0 = λ o. LaneIs o (x.work.queue k) (x.work.writer k) in
-              subst P (sym (get_other old.lanes.items h one k differ)) (out.lanes k differ);
+          group_writers = λ k differ.
+              let P : Option GroupWriter
+              → Type 0 = λ o. GroupWriterIs o (x.work.queue k) (x.work.writer k) in
+              subst P (sym (get_other old.group_writers.items h one k differ))
+              (out.group_writers k differ);
           desk = out.desk;
           expirer = out.expirer;
-          shelf = out.shelf;
+          buffer_set = out.buffer_set;
           peers = out.peers;
         };
       }
@@ -164,7 +173,7 @@ module _ {S : Type 0} {g : Ghosts S} (h now : ℕ) (old : System S g) where
       → WriterOut w h code.Idle (record old { peers = peers })
       (answered x h s (outcome_view outcome))
   told_out s outcome v x peers tells none out =
-      let T : (ℕ → Option Opening) → Type 0 = λ o. KeepsTexts true old.shelf w x.state.begun
+      let T : (ℕ → Option Opening) → Type 0 = λ o. KeepsTexts true old.buffer_set w x.state.begun
       x.state.kept o x.work.failures in
       let told = put_at x.work.slot s (Some (outcome_view outcome)) in
       record {
@@ -173,11 +182,11 @@ module _ {S : Type 0} {g : Ghosts S} (h now : ℕ) (old : System S g) where
         count = out.count;
         queue = out.queue;
         writer_is = put_at_here x.work.writer h world.Idle h refl;
-        lanes = lanes_same w h v old x out world.Idle;
+        group_writers = group_writers_same w h v old x out world.Idle;
         desk = out.desk;
         expirer = out.expirer;
-        shelf = subst T (openings_stay x.work.writer h world.Idle
-            (ap opening_of out.writer_is ∙ none)) out.shelf;
+        buffer_set = subst T (openings_stay x.work.writer h world.Idle
+            (ap opening_of out.writer_is ∙ none)) out.buffer_set;
         peers = λ k. same_or_other k s
             (λ same.
             let P : ℕ → Type 0 = λ i. PeerIs true w x.state.kept (peer_at peers i)
@@ -225,65 +234,77 @@ module _ {S : Type 0} {g : Ghosts S} where
       let P : Writer Begun → Type 0 = λ z. Advances h now z old v' new in
       subst P (sym e) advances
 
-  -- the writer is taken out of its lane
-  taken_out : (w : Terms) (h : ℕ) (old : System S g) (x : World) (lane idle : Lane)
-      → h < length old.lanes.items → lane ≡ get_or old.lanes.items h lane
-      → idle.queue ≡ lane.queue → AgreesBy true w old x
-      → WriterOut w h lane.writer (record old { lanes = with_item old.lanes h idle }) x
-  taken_out w h old x lane idle inside at same agrees =
-      let here : LaneIs (Some lane) (x.work.queue h) (x.work.writer h) =
-      lane_at old.lanes.items h lane _ _ inside at (agrees.core.lanes h) in
+  -- the writer is taken out of its group writer
+  taken_out : (w : Terms) (h : ℕ) (old : System S g) (x : World) (group_writer idle : GroupWriter)
+      → h < length old.group_writers.items
+      → group_writer ≡ get_or old.group_writers.items h group_writer
+      → idle.queue ≡ group_writer.queue → AgreesBy true w old x
+      → WriterOut w h group_writer.writer
+      (record old { group_writers = with_item old.group_writers h idle }) x
+  taken_out w h old x group_writer idle inside at same agrees =
+      let here : GroupWriterIs (Some group_writer) (x.work.queue h) (x.work.writer h) =
+      group_writer_at old.group_writers.items h group_writer _ _
+      inside at (agrees.core.group_writers h) in
       record {
         newest = agrees.core.newest;
         claims = agrees.core.claims;
-        count = length-set old.lanes.items h idle ∙ agrees.core.count;
+        count = length-set old.group_writers.items h idle ∙ agrees.core.count;
         queue = λ other at'.
             here.0 ∙ ap (λ q. map job_view (jobs_of q)) (sym same)
-            ∙ ap (λ (l : Lane). map job_view (jobs_of l.queue))
-            (some_is idle other (sym (get_same old.lanes.items h idle inside) ∙ at'));
+            ∙ ap (λ (l : GroupWriter). map job_view (jobs_of l.queue))
+            (some_is idle other (sym (get_same old.group_writers.items h idle inside) ∙ at'));
         writer_is = here.1;
-        lanes = λ k differ.
-            let P : Option Lane → Type 0 = λ o. LaneIs o (x.work.queue k) (x.work.writer k) in
-            subst P (sym (get_other old.lanes.items h idle k differ)) (agrees.core.lanes k);
+        group_writers = λ k differ.
+            let P : Option GroupWriter
+            → Type 0 = λ o. GroupWriterIs o (x.work.queue k) (x.work.writer k) in
+            subst P (sym (get_other old.group_writers.items h idle k differ))
+            (agrees.core.group_writers k);
         desk = agrees.core.desk;
         expirer = agrees.core.expirer;
-        shelf = agrees.core.shelf;
+        buffer_set = agrees.core.buffer_set;
         peers = agrees.peers;
       }
 
-  -- the writer is taken out of its lane, goes on, and is put back
-  pub written : (h now : ℕ) (old : System S g) (lane idle : Lane) (advanced : System S g)
-      (writer : Writer Begun) (last done : Lane) → h < length old.lanes.items
-      → now ≤ last_moment → lane ≡ get_or old.lanes.items h lane → idle.queue ≡ lane.queue
-      → Advances h now lane.writer (record old { lanes = with_item old.lanes h idle }) writer
+  -- the writer is taken out of its group writer, goes on, and is put back
+  pub written : (h now : ℕ) (old : System S g) (group_writer idle : GroupWriter)
+      (advanced : System S g)
+      (writer : Writer Begun) (last done : GroupWriter) → h < length old.group_writers.items
+      → now ≤ last_moment → group_writer ≡ get_or old.group_writers.items h group_writer
+      → idle.queue ≡ group_writer.queue
+      → Advances h now group_writer.writer
+      (record old { group_writers = with_item old.group_writers h idle }) writer
       advanced
-      → KeepsFrame (record old { lanes = with_item old.lanes h idle }) advanced
-      → last ≡ get_or advanced.lanes.items h last → done.queue ≡ last.queue
+      → KeepsFrame (record old { group_writers = with_item old.group_writers h idle }) advanced
+      → last ≡ get_or advanced.group_writers.items h last → done.queue ≡ last.queue
       → done.writer ≡ writer
       → Steps (run.Write h now) old outputs.Quiet
-      (record advanced { lanes = with_item advanced.lanes h done })
-  written h now old lane idle advanced writer last done inside in_time at same advances frame at'
+      (record advanced { group_writers = with_item advanced.group_writers h done })
+  written h now old group_writer idle advanced writer last done inside in_time at same
+      advances frame at'
       same' is = λ x agrees.
       let w : Terms = terms_of old.config in
-      let a = advances x (taken_out w h old x lane idle inside at same agrees) agrees.well in
+      let a = advances x
+      (taken_out w h old x group_writer idle inside at same agrees) agrees.well in
       let out = a.out in
-      let count : length advanced.lanes.items ≡ length old.lanes.items =
-      frame.lanes ∙ length-set old.lanes.items h idle in
-      let inside' : h < length advanced.lanes.items =
+      let count : length advanced.group_writers.items ≡ length old.group_writers.items =
+      frame.group_writers ∙ length-set old.group_writers.items h idle in
+      let inside' : h < length advanced.group_writers.items =
       subst (λ (k : ℕ). h < k) (sym count) inside in
-      let there : slice_get advanced.lanes.items h ≡ Some last =
-      slice_get-get_or advanced.lanes.items h last inside' ∙ ap Some (sym at') in
+      let there : slice_get advanced.group_writers.items h ≡ Some last =
+      slice_get-get_or advanced.group_writers.items h last inside' ∙ ap Some (sym at') in
       let one : nat_lt h (length w.groups) ≡ true =
-      let e : length old.lanes.items ≡ length w.groups = agrees.core.count in
+      let e : length old.group_writers.items ≡ length w.groups = agrees.core.count in
       grind (arith, nat_tests) in
       let other : nat_le now last_moment ≡ true = grind (arith, nat_tests) in
       let open_one : refusal w x.state (run.Write h now) ≡ None =
       λ i. first_of_two (one i) world.NoGroup (other i) world.BadMoment in
       let step : run.Step w x (run.Write h now) world.Quiet a.after =
       run.IsDone open_one (refl, a.writes) in
-      let new : System S g = record advanced { lanes = with_item advanced.lanes h done } in
+      let new : System S g =
+      record advanced { group_writers = with_item advanced.group_writers h done } in
       let C : Config → Type 0 = λ c. AgreesBy true (terms_of c) new a.after in
-      let P : ℕ → Type 0 = λ k. LaneIs (slice_get (set advanced.lanes.items h done) k)
+      let P : ℕ → Type 0 =
+      λ k. GroupWriterIs (slice_get (set advanced.group_writers.items h done) k)
       (a.after.work.queue k) (a.after.work.writer k) in
       record {
         after = a.after;
@@ -291,23 +312,24 @@ module _ {S : Type 0} {g : Ghosts S} where
           core = record {
             newest = out.newest;
             claims = out.claims;
-            count = length-set advanced.lanes.items h done ∙ out.count;
-            lanes = λ k. same_or_other k h
+            count = length-set advanced.group_writers.items h done ∙ out.count;
+            group_writers = λ k. same_or_other k h
                 (λ here.
-                let Q : Option Lane → Type 0 = λ o. LaneIs o (a.after.work.queue h)
+                let Q : Option GroupWriter → Type 0 = λ o. GroupWriterIs o (a.after.work.queue h)
                 (a.after.work.writer h) in
-                subst P (sym here) (subst Q (sym (get_same advanced.lanes.items h done inside')) (
+                subst P (sym here)
+                (subst Q (sym (get_same advanced.group_writers.items h done inside')) (
                   out.queue last there ∙ ap (λ q. map job_view (jobs_of q)) (sym same'),
                   out.writer_is ∙ ap (writer_view token_of) (sym is),
                 )))
                 (λ differ.
-                let Q : Option Lane → Type 0 = λ o. LaneIs o (a.after.work.queue k)
+                let Q : Option GroupWriter → Type 0 = λ o. GroupWriterIs o (a.after.work.queue k)
                 (a.after.work.writer k) in
-                subst Q (sym (get_other advanced.lanes.items h done k differ))
-                (out.lanes k differ));
+                subst Q (sym (get_other advanced.group_writers.items h done k differ))
+                (out.group_writers k differ));
             desk = out.desk;
             expirer = out.expirer;
-            shelf = out.shelf;
+            buffer_set = out.buffer_set;
           };
           peers = out.peers;
           well = step_well w x a.after (run.Write h now) world.Quiet (are_sound old.config)
@@ -317,19 +339,22 @@ module _ {S : Type 0} {g : Ghosts S} where
       }
 
   -- there is no such group
-  pub no_group : (s : System S g) (h now : ℕ) → length s.lanes.items ≤ h
+  pub no_group : (s : System S g) (h now : ℕ) → length s.group_writers.items ≤ h
       → Steps (run.Write h now) s (outputs.Refused faults.NoGroup) s
   no_group s h now past = refused (run.Write h now) faults.NoGroup s (λ x agrees.
-      let e : length s.lanes.items ≡ length (terms_of s.config).groups = agrees.core.count in
+      let e : length s.group_writers.items ≡ length (terms_of s.config).groups =
+      agrees.core.count in
       let none : nat_lt h (length (terms_of s.config).groups) ≡ false =
       grind (arith, nat_tests) in
       ap (λ b. first_of_two b world.NoGroup (nat_le now last_moment) world.BadMoment) none)
 
   -- it is too late
-  pub late_write : (s : System S g) (h now : ℕ) → h < length s.lanes.items → last_moment < now
+  pub late_write : (s : System S g) (h now : ℕ) → h < length s.group_writers.items
+      → last_moment < now
       → Steps (run.Write h now) s (outputs.Refused faults.BadMoment) s
   late_write s h now within late = refused (run.Write h now) faults.BadMoment s (λ x agrees.
-      let e : length s.lanes.items ≡ length (terms_of s.config).groups = agrees.core.count in
+      let e : length s.group_writers.items ≡ length (terms_of s.config).groups =
+      agrees.core.count in
       let one : nat_lt h (length (terms_of s.config).groups) ≡ true =
       grind (arith, nat_tests) in
       let past : nat_le now last_moment ≡ false = grind (arith, nat_tests) in

@@ -7,7 +7,7 @@ use Rattle.article_fetch.specs.declared.chunk.Chunk.{Chunk}
 use Rattle.article_fetch.specs.declared.chunk.Chunk.TheVariants as chunks
 use Rattle.article_verdict.specs.Config.{terms_of}
 use Rattle.block_shelf.specs.Keeping.{KeepsTexts}
-use Rattle.block_shelf.specs.declared.shelf.Shelf.{Shelf}
+use Rattle.block_shelf.specs.declared.buffer_set.BufferSet.{BufferSet}
 use Rattle.cyc_block.specs.declared.store.BlockStore.{Ghosts}
 use Rattle.cyc_token.specs.Token.{token_view}
 use Rattle.cyc_token.specs.declared.Token.{Token}
@@ -28,7 +28,7 @@ use Rattle.relay_model.specs.State as model
 use Rattle.relay_model.specs.State.{Kept, State}
 use Rattle.relay_model.specs.Terms.{Terms}
 use Rattle.relay_model.specs.World.{World, with_failures}
-use Rattle.relay_peers.specs.declared.peers.Peer.{Peer}
+use Rattle.relay_core.specs.declared.peers.Peer.{Peer}
 use Rattle.relay_core.proofs.Found.{IsRight, found_whole, kept_right, same_text}
 use Rattle.relay_core.specs.Agreement.{AgreesBut, IsFront, HasNone, HasSome, SlotIs}
 use Rattle.relay_core.specs.Openings.{openings}
@@ -99,31 +99,32 @@ module _ {S : Type 0} {g : Ghosts S} (n now : ℕ) (old : System S g) (peer : Pe
   abbrev w : Terms
   w = terms_of old.config
 
-  -- all agrees after a read, which leaves the shelf with these counts of failures
-  read_but : (x : World) (new : Shelf S g) (later : ℕ → ℕ) → AgreesBut true w n old x
+  -- all agrees after a read, which leaves the buffer set with these counts of failures
+  read_but : (x : World) (new : BufferSet S g) (later : ℕ → ℕ) → AgreesBut true w n old x
       → KeepsTexts true new w x.state.begun x.state.kept (openings x.work.writer) later
-      → AgreesBut true w n (record old { shelf = new }) (with_failures x later)
+      → AgreesBut true w n (record old { buffer_set = new }) (with_failures x later)
   read_but x new later but keeps =
       record {
         core = record {
           newest = but.core.newest;
           claims = but.core.claims;
           count = but.core.count;
-          lanes = but.core.lanes;
+          group_writers = but.core.group_writers;
           desk = but.core.desk;
           expirer = but.core.expirer;
-          shelf = keeps;
+          buffer_set = keeps;
         };
         peers = but.peers;
       }
 
   -- what a read gives, whatever came of it
   read_gives : (asked : model.Asked) (token : terms.Token) (k : ℕ) (gathered : List ℕ) (x : World)
-      (read : Chunk) (new : Shelf S g) → AgreesBut true w n old x → SlotIs peer.slot (x.work.slot n)
+      (read : Chunk) (new : BufferSet S g) → AgreesBut true w n old x
+      → SlotIs peer.slot (x.work.slot n)
       → All IsKeptRight x.state.kept → IsFront x.state.kept token k gathered
       → ChunkRead w x.state (openings x.work.writer) x.work.failures token k read new
       → Gives w n now (asks.Reads asked token k) gathered x (answers.Chunk read)
-      (record old { shelf = new }) peer.slot
+      (record old { buffer_set = new }) peer.slot
   read_gives asked token k gathered x read new but slot right front (HasFound keeps is) =
       record {
         told = shares.ToRead (fetched w x.state token);
@@ -164,18 +165,19 @@ module _ {S : Type 0} {g : Ghosts S} (n now : ℕ) (old : System S g) (peer : Pe
       }
 
   -- a block is read
-  pub read_shared : (token : Token) (k : ℕ) (read : Chunk) (new : Shelf S g)
-      → ReadsChunk (token_view token) k old.shelf read new
+  pub read_shared : (token : Token) (k : ℕ) (read : Chunk) (new : BufferSet S g)
+      → ReadsChunk (token_view token) k old.buffer_set read new
       → (step : Step) → step ≡ steps.Read token k
-      → SharesStep n now step old peer (answers.Chunk read) (record old { shelf = new }) peer
+      → SharesStep n now step old peer (answers.Chunk read) (record old { buffer_set = new }) peer
   read_shared token k read new reads step e =
       λ x m d gathered but slot fits planned asked some.
       let one = subst (λ (s : Step). IsStepOf s d.ask) e asked in
       let fit = subst (λ (ask : Ask). AskFits w x ask gathered) one.1 fits in
       let P : Ask → Type 0 = λ ask. Gives w n now ask gathered x (answers.Chunk read)
-      (record old { shelf = new }) peer.slot in (
+      (record old { buffer_set = new }) peer.slot in (
         subst P (sym one.1) (read_gives one.0 (token_view token) k gathered x read new but slot
-            fit.1 fit.0 (reads w x.state (openings x.work.writer) x.work.failures but.core.shelf
+            fit.1 fit.0 (reads w x.state (openings x.work.writer) x.work.failures
+            but.core.buffer_set
             (block_left x.state.kept (token_view token) k gathered fit.0))),
         planned,
       )

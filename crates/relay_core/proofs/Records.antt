@@ -1,4 +1,5 @@
--- What a history tells of a world that is well fits the configuration, and isn't ahead of its stores.
+-- What a history tells of a world that is well fits the configuration, and isn't ahead of its
+-- stores.
 use Rattle.std.proofs.Common.{◌≡◌, ◌∙◌, ◌<◌, ◌≤◌, ◌-◌, ◌+◌, ◌==◌, ◌||◌, ℕ, suc, Bool}
 use Rattle.std.proofs.Common.{true, false, List, [], ◌∷◌, Option, None, Some, All, refl, sym, ap}
 use Rattle.std.proofs.Common.{subst, length, map, drop, min, arith, slice_get, not, sum_by}
@@ -16,12 +17,12 @@ use Rattle.std.specs.List.{AllByRecursion, AllZip, enumerate_from, list_any, pos
 use Rattle.std.specs.Prelude.{IfSome, nat_lt, option_map, slice_index}
 use Rattle.article_verdict.proofs.SoundTerms.{are_sound}
 use Rattle.article_verdict.specs.Config.{terms_of}
-use Rattle.block_shelf.proofs.NewShelf.{numbered_view}
+use Rattle.block_shelf.proofs.NewBufferSet.{numbered_view}
 use Rattle.feed_queue.specs.Feeds.{ring_size}
 use Rattle.feed_queue.specs.Left.{AreLeft, IsLeft}
-use Rattle.history_text.specs.History.{FeedHolds, Holds, IdHolds, IsThere, KeptFeed, KeptId}
-use Rattle.history_text.specs.History.{RingHolds}
-use Rattle.history_text.specs.History as texts
+use Rattle.id_history.specs.History.{FeedHolds, Holds, IdHolds, IsThere, KeptFeed, KeptId}
+use Rattle.id_history.specs.History.{RingHolds}
+use Rattle.id_history.specs.History as texts
 use Rattle.id_history.specs.Lasting.{AreLasting, claim_of_kept, claim_since, lasting}
 use Rattle.news_terms.specs.Places.{Buffer, Group, Interleave, Sequential, Mode}
 use Rattle.news_terms.specs.Positions.{position_by, position_of}

@@ -12,8 +12,8 @@ use Rattle.relay_model.specs.Terms.{last_moment}
 use Rattle.relay_model.specs.World as world
 use Rattle.relay_model.specs.World.{Fault, World}
 use Rattle.relay_core.specs.Agreement.{Agrees}
-use Rattle.relay_core.specs.Refusals.{IsInOrder, IsLaned, RefusesRightly, seen}
-use Rattle.relay_peers.specs.Peers.{session_at}
+use Rattle.relay_core.specs.Refusals.{IsInOrder, HasGroupWriters, RefusesRightly, seen}
+use Rattle.relay_core.specs.Peers.{session_at}
 use Rattle.relay_core.specs.Turns.{IsMemoryAlone}
 use Rattle.relay_core.specs.Views.{fault_view, output_view}
 use Rattle.relay_core.specs.declared.event.CoreError.{CoreError}
@@ -39,7 +39,7 @@ module _ {S : Type 0} {g : Ghosts S} (s : System S g) where
 
   -- an event is refused for the first reason
   pub refused_first : (event : Event) (error : CoreError)
-      → (IsLaned s → reason event ≡ Some (fault_view error))
+      → (HasGroupWriters s → reason event ≡ Some (fault_view error))
       → RefusesRightly event s (outputs.Refused error) s
   refused_first event error why =
       record {
@@ -52,7 +52,7 @@ module _ {S : Type 0} {g : Ghosts S} (s : System S g) where
 
   -- an event isn't refused, or for want of memory alone, and that only where it takes memory
   pub refused_last : (event : Event) (output : Output) (new : System S g)
-      → (IsLaned s → reason event ≡ None) → IsMemoryAlone output
+      → (HasGroupWriters s → reason event ≡ None) → IsMemoryAlone output
       → (output ≡ outputs.Refused faults.Memory → takes_memory event ≡ true)
       → (output ≡ outputs.Refused faults.Memory → (trusted : Bool) (x : World)
       → Agrees trusted s x → Agrees trusted new x)
@@ -70,7 +70,7 @@ module _ {S : Type 0} {g : Ghosts S} (s : System S g) where
 
   -- an event that is done
   pub not_refused : (event : Event) (output : Output) (new : System S g)
-      → (IsLaned s → reason event ≡ None)
+      → (HasGroupWriters s → reason event ≡ None)
       → ((fault : Fault) → output_view output ≡ world.Refuses fault → ⊥)
       → RefusesRightly event s output new
   not_refused event output new none done =
@@ -83,7 +83,7 @@ module _ {S : Type 0} {g : Ghosts S} (s : System S g) where
       }
 
   -- memory was wanted
-  pub memory_wanted : (event : Event) (new : System S g) → (IsLaned s → reason event ≡ None)
+  pub memory_wanted : (event : Event) (new : System S g) → (HasGroupWriters s → reason event ≡ None)
       → takes_memory event ≡ true
       → ((trusted : Bool) (x : World) → Agrees trusted s x → Agrees trusted new x)
       → RefusesRightly event s (outputs.Refused faults.Memory) new
@@ -116,28 +116,30 @@ module _ {S : Type 0} {g : Ghosts S} (s : System S g) where
       λ i. first_of_two (e i) world.NoSession (f i) world.BadMoment
 
   -- those of a Write
-  pub no_group : (h now : ℕ) → length s.lanes.items ≤ h → IsLaned s
+  pub no_group : (h now : ℕ) → length s.group_writers.items ≤ h → HasGroupWriters s
       → reason (run.Write h now) ≡ Some world.NoGroup
   no_group h now past laned =
       let f : nat_lt h (length (terms_of s.config).groups) ≡ false =
-      let e : length s.lanes.items ≡ length (terms_of s.config).groups = laned in
+      let e : length s.group_writers.items ≡ length (terms_of s.config).groups = laned in
       grind (arith, nat_tests) in
       ap (λ b. first_of_two b world.NoGroup (nat_le now last_moment) world.BadMoment) f
 
-  pub late_write : (h now : ℕ) → h < length s.lanes.items → last_moment < now → IsLaned s
+  pub late_write : (h now : ℕ) → h < length s.group_writers.items → last_moment < now
+      → HasGroupWriters s
       → reason (run.Write h now) ≡ Some world.BadMoment
   late_write h now within late laned =
       let e : nat_lt h (length (terms_of s.config).groups) ≡ true =
-      let l : length s.lanes.items ≡ length (terms_of s.config).groups = laned in
+      let l : length s.group_writers.items ≡ length (terms_of s.config).groups = laned in
       grind (arith, nat_tests) in
       let f : nat_le now last_moment ≡ false = grind (arith, nat_tests) in
       λ i. first_of_two (e i) world.NoGroup (f i) world.BadMoment
 
-  pub write_open : (h now : ℕ) → h < length s.lanes.items → now ≤ last_moment → IsLaned s
+  pub write_open : (h now : ℕ) → h < length s.group_writers.items → now ≤ last_moment
+      → HasGroupWriters s
       → reason (run.Write h now) ≡ None
   write_open h now within early laned =
       let e : nat_lt h (length (terms_of s.config).groups) ≡ true =
-      let l : length s.lanes.items ≡ length (terms_of s.config).groups = laned in
+      let l : length s.group_writers.items ≡ length (terms_of s.config).groups = laned in
       grind (arith, nat_tests) in
       let f : nat_le now last_moment ≡ true = grind (arith, nat_tests) in
       λ i. first_of_two (e i) world.NoGroup (f i) world.BadMoment

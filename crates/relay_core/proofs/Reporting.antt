@@ -9,7 +9,7 @@ use Rattle.std.specs.List.{enumerate_from}
 use Rattle.std.specs.Prelude.{get_or, length, map, option_map, slice_get, slice_index, take}
 use Rattle.std.specs.Prelude.{Option}
 use Rattle.article_verdict.specs.Config.{terms_of}
-use Rattle.block_shelf.proofs.NewShelf.{numbered_view}
+use Rattle.block_shelf.proofs.NewBufferSet.{numbered_view}
 use Rattle.block_shelf.specs.Figures.{figures_view}
 use Rattle.block_shelf.specs.Keeping.{KeepsTexts}
 use Rattle.block_shelf.specs.Openings.{Opening}
@@ -30,12 +30,12 @@ use Rattle.relay_model.specs.Terms.{FeedTerms, Terms}
 use Rattle.relay_model.specs.World.{World}
 use Rattle.relay_core.proofs.Feeds.{ring_at}
 use Rattle.relay_core.specs.Agreement.{Agrees, ring_sizes}
-use Rattle.relay_core.specs.Figures.{buffer_view, feed_figures_view, feed_view, name_of}
-use Rattle.relay_core.specs.Figures.{named_buffer, named_buffers, named_feed, named_feeds}
+use Rattle.relay_report.specs.Figures.{buffer_view, feed_figures_view, feed_view, name_of}
+use Rattle.relay_report.specs.Figures.{named_buffer, named_buffers, named_feed, named_feeds}
 use Rattle.relay_core.specs.Openings.{openings}
-use Rattle.relay_core.specs.declared.figures.FeedFigures.{FeedFigures}
-use Rattle.relay_core.specs.declared.figures.NamedBuffer as code
-use Rattle.relay_core.specs.declared.figures.NamedFeed as code_feed
+use Rattle.relay_report.specs.declared.figures.FeedFigures.{FeedFigures}
+use Rattle.relay_report.specs.declared.figures.NamedBuffer as code
+use Rattle.relay_report.specs.declared.figures.NamedFeed as code_feed
 use Rattle.relay_core.specs.declared.system.System.{System}
 
 -- what is made of each of a list with its number, as far as one more of it
@@ -58,7 +58,7 @@ numbered_all f xs i past =
     let long = length-map (enumerate_from 0 xs) f ∙ length-enumerate_from 0 xs in
     take_all i (map f (enumerate_from 0 xs)) (omega (arith, long, past))
 
--- what a shelf tells of a buffer that is there
+-- what a buffer set tells of a buffer that is there
 abbrev pub TellsFigures : (w : Terms) → State → (n : ℕ) → Option BufferFigures → Type 0
 TellsFigures w σ n told =
     option_map figures_view told ≡ option_map (buffer_figures w σ) (slice_get w.buffers n)
@@ -68,7 +68,7 @@ told_at : {S : Type 0} {g : Ghosts S} (trusted : Bool) (system : System S g) (x 
     → Agrees trusted system x → (n : ℕ) (conf : BufferConf) (told : Option BufferFigures)
     → n < length system.config.buffers.buffers.items
     → ((trusted : Bool) (w : Terms) (σ : State) (openings : ℕ → Option Opening)
-    (failures : ℕ → ℕ) → KeepsTexts trusted system.shelf w σ.begun σ.kept openings failures
+    (failures : ℕ → ℕ) → KeepsTexts trusted system.buffer_set w σ.begun σ.kept openings failures
     → TellsFigures w σ n told)
     → option_map figures_view told
     ≡ Some (buffer_figures (terms_of system.config) x.state
@@ -76,7 +76,7 @@ told_at : {S : Type 0} {g : Ghosts S} (trusted : Bool) (system : System S g) (x 
 told_at trusted system x agrees n conf told within tells =
     let w : Terms = terms_of system.config in
     let all : List BufferConf = system.config.buffers.buffers.items in
-    tells trusted w x.state (openings x.work.writer) x.work.failures agrees.core.shelf
+    tells trusted w x.state (openings x.work.writer) x.work.failures agrees.core.buffer_set
     ∙ ap (option_map (buffer_figures w x.state))
     (numbered_view all n
     ∙ ap (option_map (λ (one : BufferConf). numbered_buffer (n, one)))
@@ -88,7 +88,7 @@ pub buffer_joins : {S : Type 0} {g : Ghosts S} (trusted : Bool) (system : System
     → n < length system.config.buffers.buffers.items
     → conf ≡ get_or system.config.buffers.buffers.items n conf
     → ((trusted : Bool) (w : Terms) (σ : State) (openings : ℕ → Option Opening)
-    (failures : ℕ → ℕ) → KeepsTexts trusted system.shelf w σ.begun σ.kept openings failures
+    (failures : ℕ → ℕ) → KeepsTexts trusted system.buffer_set w σ.begun σ.kept openings failures
     → TellsFigures w σ n (Some figures))
     → (name : List ℕ) → name ≡ conf.name → (named more : List code.NamedBuffer)
     → more ≡ named ++ record { name = name; figures = figures } ∷ []
@@ -111,7 +111,7 @@ pub buffer_there : {S : Type 0} {g : Ghosts S} (trusted : Bool) (system : System
     → Agrees trusted system x → (n : ℕ) (conf : BufferConf)
     → n < length system.config.buffers.buffers.items
     → ((trusted : Bool) (w : Terms) (σ : State) (openings : ℕ → Option Opening)
-    (failures : ℕ → ℕ) → KeepsTexts trusted system.shelf w σ.begun σ.kept openings failures
+    (failures : ℕ → ℕ) → KeepsTexts trusted system.buffer_set w σ.begun σ.kept openings failures
     → TellsFigures w σ n None) → ⊥
 buffer_there trusted system x agrees n conf within tells =
     let told = told_at trusted system x agrees n conf None within tells in cc (told)

@@ -6,13 +6,13 @@ use Rattle.article_verdict.proofs.SoundTerms.{are_sound}
 use Rattle.article_verdict.specs.Config.{terms_of}
 use Rattle.block_shelf.specs.Keeping.{KeepsTexts}
 use Rattle.block_shelf.specs.Openings.{Opening}
-use Rattle.block_shelf.specs.declared.shelf.Shelf.{Shelf}
+use Rattle.block_shelf.specs.declared.buffer_set.BufferSet.{BufferSet}
 use Rattle.cyc_block.specs.declared.store.BlockStore.{Ghosts}
 use Rattle.feed_queue.specs.Feeds.{KeepsFeeds, ring_size}
 use Rattle.feed_queue.specs.Left.{AreLeft}
-use Rattle.history_text.specs.History as texts
-use Rattle.history_text.specs.declared.fault.HistoryError.{HistoryError}
-use Rattle.history_text.specs.declared.fault.HistoryError.TheVariants as errors
+use Rattle.id_history.specs.History as texts
+use Rattle.id_history.specs.declared.fault.HistoryError.{HistoryError}
+use Rattle.id_history.specs.declared.fault.HistoryError.TheVariants as errors
 use Rattle.id_history.specs.Lasting.{AreLasting}
 use Rattle.id_history.specs.Mark.{mark_of}
 use Rattle.id_history.specs.Shards.{KeepsAll}
@@ -23,9 +23,9 @@ use Rattle.relay_model.specs.Run.{restarted}
 use Rattle.relay_model.specs.Terms.{Terms}
 use Rattle.relay_model.specs.World as world
 use Rattle.relay_model.specs.World.{World, with_failures}
-use Rattle.relay_peers.specs.Peers.{NoPeers, peer_at}
-use Rattle.relay_peers.specs.declared.peers.Peers.{Peers}
-use Rattle.relay_core.proofs.Beginnings.{idle_lanes, rings_are}
+use Rattle.relay_core.specs.Peers.{NoPeers, peer_at}
+use Rattle.relay_core.specs.declared.peers.Peers.{Peers}
+use Rattle.relay_core.proofs.Beginnings.{idle_group_writers, rings_are}
 use Rattle.relay_core.proofs.Records.{record_holds}
 use Rattle.relay_core.proofs.Starts.{nobody}
 use Rattle.relay_core.proofs.Stops.{closed_texts, lasting_is, nothing_open}
@@ -85,7 +85,7 @@ module _ {S : Type 0} {g : Ghosts S} (s : System S g) where
   pub rereads : (stop : ℕ) (text : List ℕ) (kept : texts.Kept) (desks : Desks)
       → TellsHistory s stop text
       → ((one : texts.Kept) → Reads s.config text one → kept ≡ one)
-      → AreOf s.config kept (length s.lanes.items) desks → IsReread s desks
+      → AreOf s.config kept (length s.group_writers.items) desks → IsReread s desks
   rereads stop text kept desks tells one_text of =
       record {
         claims = λ trusted x agrees idle.
@@ -110,7 +110,7 @@ module _ {S : Type 0} {g : Ghosts S} (s : System S g) where
             (sym (rings_are s.config.relay.feeds.items))
             (subst (λ (k : texts.Kept). AreLeft k.feeds (ring_sizes w) x.state.feed) (sym is)
             told.history.feeds)));
-        lanes = of.lanes;
+        group_writers = of.group_writers;
         expirer = of.expirer;
       }
 
@@ -141,31 +141,31 @@ module _ {S : Type 0} {g : Ghosts S} (s : System S g) where
       → Steps run.Restart s (outputs.Refused faults.NotRestarted) s
   never none = λ x agrees. absurd (none true x agrees)
 
-  -- what a restart of the shelf leaves, done or not
+  -- what a restart of the buffer set leaves, done or not
   leaves : (trusted : Bool) (x : World) (result : Result (Unit {0}) RestartFault)
-      (shelf : Shelf S g) → Agrees trusted s x → TellsIdle s.shards true
-      → KeepsOn s.shelf result shelf
-      → StaysKept trusted w x.state.begun x.state.kept x.work.failures result shelf
-  leaves trusted x result shelf agrees idle keeps =
+      (buffer_set : BufferSet S g) → Agrees trusted s x → TellsIdle s.shards true
+      → KeepsOn s.buffer_set result buffer_set
+      → StaysKept trusted w x.state.begun x.state.kept x.work.failures result buffer_set
+  leaves trusted x result buffer_set agrees idle keeps =
       keeps trusted w x.state.begun x.state.kept x.work.failures
       (closed_texts s trusted x agrees (idle x.state.claim agrees.core.claims))
 
   -- the relay agrees with the world with these failures
   agrees_later : (trusted : Bool) (x : World) (result : Result (Unit {0}) RestartFault)
-      (shelf : Shelf S g) → Agrees trusted s x → TellsIdle s.shards true
-      → (stays : StaysKept trusted w x.state.begun x.state.kept x.work.failures result shelf)
-      → Agrees trusted (record s { shelf = shelf }) (with_failures x stays.later)
-  agrees_later trusted x result shelf agrees idle stays =
-      let T : (ℕ → Option Opening) → Type 0 = λ all. KeepsTexts trusted shelf w x.state.begun
+      (buffer_set : BufferSet S g) → Agrees trusted s x → TellsIdle s.shards true
+      → (stays : StaysKept trusted w x.state.begun x.state.kept x.work.failures result buffer_set)
+      → Agrees trusted (record s { buffer_set = buffer_set }) (with_failures x stays.later)
+  agrees_later trusted x result buffer_set agrees idle stays =
+      let T : (ℕ → Option Opening) → Type 0 = λ all. KeepsTexts trusted buffer_set w x.state.begun
       x.state.kept all stays.later in
       record {
         core = record {
           newest = agrees.core.newest;
           claims = agrees.core.claims;
           count = agrees.core.count;
-          lanes = agrees.core.lanes;
+          group_writers = agrees.core.group_writers;
           desk = agrees.core.desk;
-          shelf = subst T (sym (nothing_open w x (idle x.state.claim agrees.core.claims)
+          buffer_set = subst T (sym (nothing_open w x (idle x.state.claim agrees.core.claims)
               agrees.well)) stays.keeps;
           expirer = agrees.core.expirer;
         };
@@ -177,49 +177,52 @@ module _ {S : Type 0} {g : Ghosts S} (s : System S g) where
 
   -- a buffer isn't restarted
   pub refused_there : (result : Result (Unit {0}) RestartFault) (fault : RestartFault)
-      (shelf : Shelf S g) → TellsIdle s.shards true → KeepsOn s.shelf result shelf
+      (buffer_set : BufferSet S g) → TellsIdle s.shards true
+      → KeepsOn s.buffer_set result buffer_set
       → result ≡ Err fault
-      → Steps run.Restart s (outputs.Refused (refused_as fault)) (record s { shelf = shelf })
-  refused_there result restarts.Memory shelf idle keeps is = λ x agrees.
-      let stays = leaves true x result shelf agrees idle keeps in
+      → Steps run.Restart s (outputs.Refused (refused_as fault))
+      (record s { buffer_set = buffer_set })
+  refused_there result restarts.Memory buffer_set idle keeps is = λ x agrees.
+      let stays = leaves true x result buffer_set agrees idle keeps in
       record {
         after = with_failures x stays.later;
-        agrees = agrees_later true x result shelf agrees idle stays;
+        agrees = agrees_later true x result buffer_set agrees idle stays;
         is_step = run.IsDone refl (run.HasNoRoom stays.later stays.rises refl refl);
       }
-  refused_there result restarts.Busy shelf idle keeps is = λ x agrees.
-      absurd ((leaves true x result shelf agrees idle keeps).free is)
-  refused_there result (restarts.Failed number) shelf idle keeps is = λ x agrees.
-      let stays = leaves true x result shelf agrees idle keeps in
+  refused_there result restarts.Busy buffer_set idle keeps is = λ x agrees.
+      absurd ((leaves true x result buffer_set agrees idle keeps).free is)
+  refused_there result (restarts.Failed number) buffer_set idle keeps is = λ x agrees.
+      let stays = leaves true x result buffer_set agrees idle keeps in
       let at = stays.failed number is refl in
       record {
         after = with_failures x stays.later;
-        agrees = agrees_later true x result shelf agrees idle stays;
+        agrees = agrees_later true x result buffer_set agrees idle stays;
         is_step = run.IsDone refl (run.HasNot number at.buffer stays.later at.there
             (idle x.state.claim agrees.core.claims) at.failed refl refl);
       }
 
   -- it is done
-  pub done : (result : Result (Unit {0}) RestartFault) (shelf : Shelf S g) (desks : Desks)
-      (stop : ℕ) (new : System S g) → TellsIdle s.shards true → KeepsOn s.shelf result shelf
-      → IsReread s desks → BeginsAgain desks stop (record s { shelf = shelf }) new
+  pub done : (result : Result (Unit {0}) RestartFault) (buffer_set : BufferSet S g) (desks : Desks)
+      (stop : ℕ) (new : System S g) → TellsIdle s.shards true
+      → KeepsOn s.buffer_set result buffer_set
+      → IsReread s desks → BeginsAgain desks stop (record s { buffer_set = buffer_set }) new
       → Steps run.Restart s outputs.Quiet new
-  done result shelf desks stop new idle keeps is again =
+  done result buffer_set desks stop new idle keeps is again =
       subst (λ (t : System S g). Steps run.Restart s outputs.Quiet t) (sym again.rest)
       (goes new.peers again.nobody)
     where
       goes : (peers : Peers) → NoPeers peers
           → Steps run.Restart s outputs.Quiet (record s {
-            shelf = shelf;
+            buffer_set = buffer_set;
             peers = peers;
             shards = desks.shards;
             desk = desks.desk;
-            lanes = desks.lanes;
+            group_writers = desks.group_writers;
             expirer = desks.expirer;
             stop = stop;
           })
       goes peers none = λ x agrees.
-          let stays = leaves true x result shelf agrees idle keeps in
+          let stays = leaves true x result buffer_set agrees idle keeps in
           let idles = idle x.state.claim agrees.core.claims in
           let step : run.Step w x run.Restart world.Quiet (restarted x stays.later) =
           run.IsDone refl (run.IsDone stays.later idles stays.rises refl refl) in
@@ -229,13 +232,14 @@ module _ {S : Type 0} {g : Ghosts S} (s : System S g) where
               core = record {
                 newest = agrees.core.newest;
                 claims = is.claims true x agrees idles;
-                count = is.lanes.count_is ∙ agrees.core.count;
-                lanes = idle_lanes desks.lanes.items is.lanes.each;
+                count = is.group_writers.count_is ∙ agrees.core.count;
+                group_writers = idle_group_writers desks.group_writers.items is.group_writers.each;
                 desk = is.desk true x agrees;
-                shelf = stays.keeps;
+                buffer_set = stays.keeps;
                 expirer = sym is.expirer;
               };
-              peers = λ n. nobody true w x.state.kept (peer_at peers n) (x.state.session n) (none n);
+              peers = λ n. nobody true w x.state.kept (peer_at peers n)
+                  (x.state.session n) (none n);
               well = step_well w x (restarted x stays.later) run.Restart world.Quiet
                   (are_sound s.config) agrees.well step;
             };
@@ -283,19 +287,20 @@ module _ {S : Type 0} {g : Ghosts S} (s : System S g) where
         stop = λ is. absurd (cc);
       }
 
-  -- the shelf that is left keeps all
-  pub later_of : (result : Result (Unit {0}) RestartFault) (shelf : Shelf S g)
-      → TellsIdle s.shards true → KeepsOn s.shelf result shelf → (trusted : Bool) (x : World)
-      → Agrees trusted s x → AgreesLater trusted (record s { shelf = shelf }) x
-  later_of result shelf idle keeps trusted x agrees =
-      let stays = leaves trusted x result shelf agrees idle keeps in
+  -- the buffer set that is left keeps all
+  pub later_of : (result : Result (Unit {0}) RestartFault) (buffer_set : BufferSet S g)
+      → TellsIdle s.shards true → KeepsOn s.buffer_set result buffer_set
+      → (trusted : Bool) (x : World)
+      → Agrees trusted s x → AgreesLater trusted (record s { buffer_set = buffer_set }) x
+  later_of result buffer_set idle keeps trusted x agrees =
+      let stays = leaves trusted x result buffer_set agrees idle keeps in
       record {
         later = stays.later;
         rises = stays.rises;
-        agrees = agrees_later trusted x result shelf agrees idle stays;
+        agrees = agrees_later trusted x result buffer_set agrees idle stays;
       }
 
-  -- a refusal of the shelf is one of a Restart, and not that it isn't idle
+  -- a refusal of the buffer set is one of a Restart, and not that it isn't idle
   of_restart : (fault : RestartFault) → IsOfRestart (fault_view (refused_as fault))
   of_restart restarts.Memory = tt
   of_restart restarts.Busy = tt
@@ -306,13 +311,16 @@ module _ {S : Type 0} {g : Ghosts S} (s : System S g) where
   not_idle restarts.Busy e = cc
   not_idle (restarts.Failed number) e = cc
 
-  -- one that is refused by the shelf
+  -- one that is refused by the buffer set
   pub rightly_there : (result : Result (Unit {0}) RestartFault) (fault : RestartFault)
-      (shelf : Shelf S g) → TellsIdle s.shards true → KeepsOn s.shelf result shelf
-      → RestartsRightly s (outputs.Refused (refused_as fault)) (record s { shelf = shelf })
-  rightly_there result fault shelf idle keeps =
-      rightly_refused (refused_as fault) (record s { shelf = shelf }) idle (of_restart fault)
-      (not_idle fault) refl (later_of result shelf idle keeps)
+      (buffer_set : BufferSet S g) → TellsIdle s.shards true
+      → KeepsOn s.buffer_set result buffer_set
+      → RestartsRightly s (outputs.Refused (refused_as fault))
+      (record s { buffer_set = buffer_set })
+  rightly_there result fault buffer_set idle keeps =
+      rightly_refused (refused_as fault) (record s { buffer_set = buffer_set }) idle
+      (of_restart fault)
+      (not_idle fault) refl (later_of result buffer_set idle keeps)
 
   -- nothing has failed
   pub later_none : (trusted : Bool) (x : World) → Agrees trusted s x → AgreesLater trusted s x

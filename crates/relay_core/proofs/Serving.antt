@@ -30,7 +30,7 @@ use Rattle.relay_model.specs.State.{Kept}
 use Rattle.relay_model.specs.Terms.{Terms}
 use Rattle.relay_model.specs.World as world
 use Rattle.relay_model.specs.World.{World}
-use Rattle.relay_peers.specs.declared.peers.Peer.{Peer}
+use Rattle.relay_core.specs.declared.peers.Peer.{Peer}
 use Rattle.relay_core.proofs.Dues.{after_read}
 use Rattle.relay_core.proofs.Found.{found_whole}
 use Rattle.relay_core.specs.Agreement.{IsFront, HasNone, HasSome, IsGathered}
@@ -179,7 +179,8 @@ fronts_after w x n now m d told y heard later due shares hears (model.Fetches as
     (more_left w x n now m d told y heard asked token some.0 had some.1 due some.2 some.3 hears
     at))) gathers
 fronts_after w x n now m d told y heard later due shares hears model.Ready at gathers = gathers
-fronts_after w x n now m d told y heard later due shares hears (model.Owes transfer id) at gathers =
+fronts_after w x n now m d told y heard later due shares hears
+    (model.AwaitsBlock transfer id) at gathers =
     gathers
 fronts_after w x n now m d told y heard later due shares hears (model.Holds id article) at gathers =
     gathers

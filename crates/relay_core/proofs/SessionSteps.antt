@@ -21,13 +21,13 @@ use Rattle.relay_model.specs.State.{in_phase, with_unread}
 use Rattle.relay_model.specs.Terms.{Terms}
 use Rattle.relay_model.specs.World as world
 use Rattle.relay_model.specs.World.{World, with_session}
-use Rattle.relay_peers.specs.Peers.{GivesPeer, SamePeers, TakesPeer, peer_at}
-use Rattle.relay_peers.specs.declared.peers.Peer.{Peer}
-use Rattle.relay_peers.specs.declared.peers.Peers.{Peers}
+use Rattle.relay_core.specs.Peers.{GivesPeer, SamePeers, TakesPeer, peer_at}
+use Rattle.relay_core.specs.declared.peers.Peer.{Peer}
+use Rattle.relay_core.specs.declared.peers.Peers.{Peers}
 use Rattle.relay_core.proofs.Turning.{but_one, core_with_peers, is_there_as, lent_is, peers_after}
 use Rattle.relay_core.proofs.Turning.{peers_again, refused, runs_as}
 use Rattle.relay_core.specs.Agreement.{Agrees, PeerIs, PeerStands}
-use Rattle.relay_peers.specs.Peers.{session_at}
+use Rattle.relay_core.specs.Peers.{session_at}
 use Rattle.relay_core.specs.Steps.{Steps}
 use Rattle.relay_core.specs.Turns.{IsBack}
 use Rattle.relay_core.specs.Views.{output_view}
@@ -75,10 +75,10 @@ module _ {S : Type 0} {g : Ghosts S} (s : System S g) (n : ℕ) where
             newest = but.core.newest;
             claims = but.core.claims;
             count = but.core.count;
-            lanes = but.core.lanes;
+            group_writers = but.core.group_writers;
             desk = but.core.desk;
             expirer = but.core.expirer;
-            shelf = but.core.shelf;
+            buffer_set = but.core.buffer_set;
           };
           peers = peers_after true w n peer' lent back x.state.kept x.state.session x.work.slot
               c.next (IsBack still gives) c.stands but.peers;
@@ -259,10 +259,10 @@ module _ {S : Type 0} {g : Ghosts S} (s : System S g) (n : ℕ) where
             newest = refl;
             claims = agrees.core.claims;
             count = agrees.core.count;
-            lanes = agrees.core.lanes;
+            group_writers = agrees.core.group_writers;
             desk = agrees.core.desk;
             expirer = agrees.core.expirer;
-            shelf = agrees.core.shelf;
+            buffer_set = agrees.core.buffer_set;
           };
           peers = peers_after true w n (record { session = session; slot = None }) s.peers peers
               x.state.kept x.state.session x.work.slot (new_session peer) (IsBack runs gives)

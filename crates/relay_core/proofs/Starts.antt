@@ -1,5 +1,6 @@
 -- A relay that is started from what a stop left.
-use Rattle.std.proofs.Common.{◌≡◌, ◌∙◌, ◌≢◌, ℕ, Bool, true, false, List, [], ◌∷◌, Option, None, Some}
+use Rattle.std.proofs.Common.{◌≡◌, ◌∙◌, ◌≢◌, ℕ, Bool, true, false, List, [], ◌∷◌, Option, None}
+use Rattle.std.proofs.Common.{Some}
 use Rattle.std.proofs.Common.{refl, sym, ap, subst, length, map, slice_get, true≢false}
 use Rattle.std.proofs.lemmas.Option.{none-some}
 use Rattle.std.specs.Prelude.{option_map}
@@ -10,10 +11,10 @@ use Rattle.cyc_block.specs.declared.store.BlockStore.{Ghosts}
 use Rattle.feed_queue.specs.Feeds.{KeepsFeeds, ring_size}
 use Rattle.feed_queue.specs.Left.{AreLeft}
 use Rattle.feed_queue.specs.declared.desk.FeedDesk.{FeedDesk}
-use Rattle.history_text.specs.History.{Holds, KeptFeed, RingHolds}
-use Rattle.history_text.specs.History as texts
-use Rattle.history_text.specs.declared.fault.HistoryError.{HistoryError}
-use Rattle.history_text.specs.declared.fault.HistoryError.TheVariants as errors
+use Rattle.id_history.specs.History.{Holds, KeptFeed, RingHolds}
+use Rattle.id_history.specs.History as texts
+use Rattle.id_history.specs.declared.fault.HistoryError.{HistoryError}
+use Rattle.id_history.specs.declared.fault.HistoryError.TheVariants as errors
 use Rattle.id_history.specs.Lasting.{AreLasting, claim_of_kept, lasting}
 use Rattle.id_history.specs.Mark.{mark_of}
 use Rattle.id_history.specs.Shards.{KeepsAll}
@@ -29,16 +30,17 @@ use Rattle.relay_model.specs.State.{in_phase}
 use Rattle.relay_model.specs.Terms.{FeedTerms, Terms}
 use Rattle.relay_model.specs.World as world
 use Rattle.relay_model.specs.World.{World}
-use Rattle.relay_peers.specs.Peers.{NoPeers, peer_at}
-use Rattle.relay_peers.specs.declared.peers.Peer.{Peer}
-use Rattle.relay_core.proofs.Beginnings.{groups_count, idle_lanes, rings_are}
+use Rattle.relay_core.specs.Peers.{NoPeers, peer_at}
+use Rattle.relay_core.specs.declared.peers.Peer.{Peer}
+use Rattle.relay_core.proofs.Beginnings.{groups_count, idle_group_writers, rings_are}
 use Rattle.relay_core.proofs.Records.{lasts_again, record_behind, record_holds, weaker}
 use Rattle.relay_core.proofs.Stops.{IsIdle, ended_gone, lasting_is}
-use Rattle.relay_core.specs.Agreement.{Agrees, AgreesBy, LaneIs, PeerIs, ring_sizes}
+use Rattle.relay_core.specs.Agreement.{Agrees, AgreesBy, GroupWriterIs, PeerIs, ring_sizes}
 use Rattle.relay_core.specs.Ahead.{TellsFilled, filled_of, filled_view, is_ahead}
 use Rattle.relay_core.specs.Desks.{AreOf, Reads, setting_of}
 use Rattle.relay_core.specs.Expiring.{expirer_view}
-use Rattle.relay_core.specs.Starting.{IsAheadAs, IsRefusedRightly, IsStartRefusal, StartsOver, unread_as}
+use Rattle.relay_core.specs.Starting.{IsAheadAs, IsRefusedRightly, IsStartRefusal, StartsOver}
+use Rattle.relay_core.specs.Starting.{unread_as}
 use Rattle.relay_core.specs.Starting as reasons
 use Rattle.relay_core.specs.Stopping.{IsHistory, IsShut, Tells, stop_of}
 use Rattle.block_shelf.specs.Each.{AreEach}
@@ -49,13 +51,13 @@ use Rattle.block_shelf.specs.Starting.{IsHeldBy, IsUnwritten, KeepsHeld}
 use Rattle.block_shelf.specs.Heads as heads
 use Rattle.block_shelf.specs.Starting as shelves
 use Rattle.block_shelf.specs.Heads.{KeepsOpened}
-use Rattle.block_shelf.specs.Starting.{IsStartedShelf, WillKeepHeld}
+use Rattle.block_shelf.specs.Starting.{IsStartedBufferSet, WillKeepHeld}
 use Rattle.relay_core.specs.declared.ahead.Filled as code
 use Rattle.relay_core.specs.declared.desks.Desks.{Desks}
 use Rattle.block_shelf.specs.declared.starting.StopFault.TheVariants as faults
 use Rattle.block_shelf.specs.declared.starting.Unstarted.{Unstarted}
-use Rattle.block_shelf.specs.declared.opening.UnopenedShelf.{UnopenedShelf}
-use Rattle.relay_core.specs.declared.system.Lane.{Lane}
+use Rattle.block_shelf.specs.declared.opening.UnopenedBufferSet.{UnopenedBufferSet}
+use Rattle.relay_core.specs.declared.system.GroupWriter.{GroupWriter}
 use Rattle.relay_core.specs.declared.system.System.{System}
 
 -- the sizes of the rings are those of the configuration, also by the terms of another
@@ -75,7 +77,8 @@ nobody trusted v kept at o none =
     subst (λ (p : Option Peer). PeerIs trusted v kept p after None) (sym none) (ended_gone o)
 
 -- the history of a world is that of the world after a start too
-pub again : (config : Config) (w : Terms) → HasSameStore w (terms_of config) → (stop : ℕ) (x : World)
+pub again : (config : Config) (w : Terms) → HasSameStore w (terms_of config)
+    → (stop : ℕ) (x : World)
     (failures : ℕ → ℕ) (kept : texts.Kept) → IsHistory w stop x.state kept
     → ArePositions (terms_of config).groups x.state.begun kept.positions
     × AreLeft kept.feeds (map ring_size config.relay.feeds.items) x.state.feed
@@ -134,7 +137,8 @@ module _ {S : Type 0} {g : Ghosts S} (config : Config) (stores : List S) where
   -- the stores hold the same by the terms of the configuration
   pub held_by : (w : Terms) → HasSameStore w (terms_of config) → (stop : ℕ) (x : World)
       → HoldsTexts g stores stop w x.state.begun x.state.kept x.work.failures
-      → IsHeldBy g config.buffers stores stop (terms_of config) x.state.begun x.state.kept x.work.failures
+      → IsHeldBy g config.buffers stores stop (terms_of config) x.state.begun x.state.kept
+      x.work.failures
   held_by w store stop x holds =
       let P : List Buffer → List Group → Type 0 = λ bs gs. HoldsTexts g stores stop
       (record (terms_of config) { buffers = bs; groups = gs }) x.state.begun x.state.kept
@@ -151,7 +155,8 @@ module _ {S : Type 0} {g : Ghosts S} (config : Config) (stores : List S) where
             })),
       )
 
-  module _ (text : List ℕ) (w : Terms) (stop : ℕ) (x : World) (store : HasSameStore w (terms_of config))
+  module _ (text : List ℕ) (w : Terms) (stop : ℕ) (x : World)
+      (store : HasSameStore w (terms_of config))
       (shut : IsShut g w stop stores text x) where
     abbrev told : Tells w stop x.state text
     told = shut.tells
@@ -179,22 +184,25 @@ module _ {S : Type 0} {g : Ghosts S} (config : Config) (stores : List S) where
 
   -- the parts start, and the whole with them
   pub starts : (system : System S g) (text : List ℕ) (kept : texts.Kept)
-      (unopened : UnopenedShelf S g) (desks : Desks) → system.config ≡ config
+      (unopened : UnopenedBufferSet S g) (desks : Desks) → system.config ≡ config
       → Reads config text kept
       → ((one : texts.Kept) → Reads config text one → kept ≡ one)
-      → IsAheadAs g config stores kept false → IsStartedShelf stores kept.stop unopened
-      → IsOpened unopened system.shelf → stop_of system ≡ kept.stop
+      → IsAheadAs g config stores kept false → IsStartedBufferSet stores kept.stop unopened
+      → IsOpened unopened system.buffer_set → stop_of system ≡ kept.stop
       → system.newest ≡ Some kept.newest → NoPeers system.peers
       → AreOf config kept (length config.buffers.groups.items) desks
-      → system.shards ≡ desks.shards → system.desk ≡ desks.desk → system.lanes ≡ desks.lanes
+      → system.shards ≡ desks.shards → system.desk ≡ desks.desk
+      → system.group_writers ≡ desks.group_writers
       → system.expirer ≡ desks.expirer
       → WillKeepHeld config.buffers stores kept.stop kept.positions unopened
-      → KeepsOpened unopened system.shelf → StartsOver {g = g} config stores text system
+      → KeepsOpened unopened system.buffer_set → StartsOver {g = g} config stores text system
   starts system text kept unopened desks same reads one_text behind is_started opened stop newest
-      peers of shards_are desk_is lanes_are expirer_is held opens =
+      peers of shards_are desk_is group_writers_are expirer_is held opens =
       record {
         config_is = same;
-        laned = ap length (ap (λ (lanes : Vec Lane). lanes.items) lanes_are) ∙ of.lanes.count_is
+        laned = ap length
+            (ap (λ (group_writers : Vec GroupWriter). group_writers.items) group_writers_are)
+            ∙ of.group_writers.count_is
             ∙ sym (groups_count config)
             ∙ ap (λ (c : Config). length (terms_of c).groups) (sym same);
         history = kept;
@@ -219,7 +227,8 @@ module _ {S : Type 0} {g : Ghosts S} (config : Config) (stores : List S) where
             subst C (sym same) (record {
               core = record {
                 newest = ap Some (sym history.newest) ∙ sym newest;
-                claims = subst (λ (all : Shards). KeepsAll all (started x x.work.failures).state.claim)
+                claims = subst
+                    (λ (all : Shards). KeepsAll all (started x x.work.failures).state.claim)
                     (sym shards_are)
                     (record {
                       agrees = λ id none.
@@ -227,22 +236,28 @@ module _ {S : Type 0} {g : Ghosts S} (config : Config) (stores : List S) where
                           ∙ ap mark_of (lasts_again (x.state.claim id)
                           ∙ lasting_is (x.state.claim id) (shut.idle id));
                     });
-                count = ap length (ap (λ (lanes : Vec Lane). lanes.items) lanes_are)
-                    ∙ of.lanes.count_is ∙ sym (groups_count config);
-                lanes = subst (λ (lanes : Vec Lane). (h : ℕ)
-                    → LaneIs (slice_get lanes.items h) [] world.Idle) (sym lanes_are)
-                    (idle_lanes desks.lanes.items of.lanes.each);
-                desk = subst (λ (desk : FeedDesk). KeepsFeeds desk (ring_sizes (terms_of config)) x.state.feed)
+                count = ap length
+                    (ap (λ (group_writers : Vec GroupWriter). group_writers.items)
+                    group_writers_are)
+                    ∙ of.group_writers.count_is ∙ sym (groups_count config);
+                group_writers = subst (λ (group_writers : Vec GroupWriter). (h : ℕ)
+                    → GroupWriterIs (slice_get group_writers.items h) [] world.Idle)
+                    (sym group_writers_are)
+                    (idle_group_writers desks.group_writers.items of.group_writers.each);
+                desk = subst
+                    (λ (desk : FeedDesk).
+                    KeepsFeeds desk (ring_sizes (terms_of config)) x.state.feed)
                     (sym desk_is)
                     (subst (λ ns. KeepsFeeds desks.desk ns x.state.feed)
                     (rings_are config.relay.feeds.items) (of.desk x.state.feed parts.1));
-                shelf = opens (terms_of config) x.state.begun x.state.kept x.work.failures
+                buffer_set = opens (terms_of config) x.state.begun x.state.kept x.work.failures
                     (held (terms_of config) x.state.begun x.state.kept x.work.failures
-                    (held_by w store kept.stop x (subst N (sym history.stop_is) shut.shelf))
+                    (held_by w store kept.stop x (subst N (sym history.stop_is) shut.buffer_set))
                     parts.0);
                 expirer = sym (ap expirer_view expirer_is ∙ of.expirer);
               };
-              peers = λ s. nobody true (terms_of config) x.state.kept (peer_at system.peers s) (x.state.session s)
+              peers = λ s. nobody true (terms_of config) x.state.kept (peer_at system.peers s)
+                  (x.state.session s)
                   (peers s);
               well = started_is_well text w at x store shut;
             });
@@ -295,13 +310,15 @@ module _ {S : Type 0} {g : Ghosts S} (config : Config) (stores : List S) where
       -- and so is its stop
       shut_at : (w : Terms) (stop : ℕ) (x : World) (store : HasSameStore w (terms_of config))
           (shut : IsShut g w stop stores text x)
-          → IsHeldBy g config.buffers stores kept.stop (terms_of config) x.state.begun x.state.kept x.work.failures
+          → IsHeldBy g config.buffers stores kept.stop (terms_of config) x.state.begun x.state.kept
+          x.work.failures
       shut_at w stop x store shut =
           let at : kept.stop ≡ stop =
           ap (λ (one : texts.Kept). one.stop) (same_text w stop x store shut)
           ∙ shut.tells.history.stop_is in
-          subst (λ n. IsHeldBy g config.buffers stores n (terms_of config) x.state.begun x.state.kept
-          x.work.failures) (sym at) (held_by w store stop x shut.shelf)
+          subst (λ n. IsHeldBy g config.buffers stores n (terms_of config)
+          x.state.begun x.state.kept
+          x.work.failures) (sym at) (held_by w store stop x shut.buffer_set)
 
       -- a buffer isn't started
       pub not_started : shelves.IsUnstarted g stores kept.stop refused
@@ -311,10 +328,12 @@ module _ {S : Type 0} {g : Ghosts S} (config : Config) (stores : List S) where
           record {
             reason = reasons.IsUnstarted kept reads refusal;
             cause = λ w stop x store shut.
-                cause (terms_of config) x.state.begun x.state.kept x.work.failures (shut_at w stop x store shut);
+                cause (terms_of config) x.state.begun x.state.kept x.work.failures
+                (shut_at w stop x store shut);
           }
 
-      module _ (shelf : UnopenedShelf S g) (is_started : IsStartedShelf stores kept.stop shelf)
+      module _ (buffer_set : UnopenedBufferSet S g)
+          (is_started : IsStartedBufferSet stores kept.stop buffer_set)
         where
           -- the history is ahead
           pub ahead : IsAheadAs g config stores kept true → refused.error ≡ faults.Ahead
@@ -322,29 +341,33 @@ module _ {S : Type 0} {g : Ghosts S} (config : Config) (stores : List S) where
               → IsRefusedRightly g config stores text refused
           ahead is error of_none unwritten =
               record {
-                reason = reasons.IsAhead kept reads shelf is_started is error of_none unwritten;
+                reason = reasons.IsAhead kept reads buffer_set is_started is error
+                    of_none unwritten;
                 cause = λ w stop x store shut.
                     absurd (true≢false (sym (is (terms_of config) x.state x.work.failures
                     (shut_at w stop x store shut))
-                    ∙ ap (is_ahead (filled_of (terms_of config) x.state)) (same_text w stop x store shut)
+                    ∙ ap (is_ahead (filled_of (terms_of config) x.state))
+                    (same_text w stop x store shut)
                     ∙ shut_behind text w stop x store shut));
               }
 
           -- a head isn't opened
-          pub not_opened : IsAheadAs g config stores kept false → heads.IsUnopened shelf refused
+          pub not_opened : IsAheadAs g config stores kept false
+              → heads.IsUnopened buffer_set refused
               → IsRefusedRightly g config stores text refused
           not_opened behind is =
               record {
-                reason = reasons.IsUnopened kept reads shelf is_started behind is;
+                reason = reasons.IsUnopened kept reads buffer_set is_started behind is;
                 cause = λ w stop x store shut. subst IsFromOutside (sym is.device) tt;
               }
 
   -- whether a history is ahead is told of how far the buffers are filled
-  pub ahead_as : (kept : texts.Kept) (shelf : UnopenedShelf S g) (filled : List code.Filled)
-      (answer : Bool) → TellsFilled config.buffers shelf filled
-      → KeepsHeld config.buffers stores kept.stop shelf
+  pub ahead_as
+      : (kept : texts.Kept) (buffer_set : UnopenedBufferSet S g) (filled : List code.Filled)
+      (answer : Bool) → TellsFilled config.buffers buffer_set filled
+      → KeepsHeld config.buffers stores kept.stop buffer_set
       → answer ≡ is_ahead (map filled_view filled) kept → IsAheadAs g config stores kept answer
-  ahead_as kept shelf filled answer tells keeps is = λ w σ failures held.
+  ahead_as kept buffer_set filled answer tells keeps is = λ w σ failures held.
       ap (λ fs. is_ahead fs kept)
       (sym (tells w σ failures held.0 (keeps w σ.begun σ.kept failures held)))
       ∙ sym is

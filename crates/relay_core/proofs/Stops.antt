@@ -1,6 +1,7 @@
 -- A relay that is closed: nothing is open in it, and its history is that of each world.
 use Rattle.std.proofs.Common.{◌≡◌, ◌∙◌, ◌<◌, ◌≤◌, ◌+◌, ◌++◌, ℕ, Bool, true, false, List, [], ◌∷◌}
-use Rattle.std.proofs.Common.{Option, None, Some, refl, sym, ap, subst, true≢false, length, map, arith}
+use Rattle.std.proofs.Common.{Option, None, Some, refl, sym, ap, subst, true≢false, length, map}
+use Rattle.std.proofs.Common.{arith}
 use Rattle.std.proofs.Common.{◌⊎◌, ◌^◌, inl, inr, slice_get, All}
 use Rattle.std.proofs.lemmas.List.{length-append, length-map, map_push}
 use Rattle.std.proofs.lemmas.List.Elements.{All-push}
@@ -15,10 +16,10 @@ use Rattle.feed_queue.specs.Feeds.{KeepsFeeds, ring_count}
 use Rattle.feed_queue.specs.Permission.{feed_view as conf_view}
 use Rattle.feed_queue.specs.declared.desk.FeedDesk.{FeedDesk}
 use Rattle.feed_queue.specs.Left.{AreLeft, IsLeft}
-use Rattle.history_text.specs.History.{FeedFits, Fits, KeptFeed, history_octets}
-use Rattle.history_text.specs.History as texts
-use Rattle.history_text.specs.Views.{feed_view}
-use Rattle.history_text.specs.declared.kept.KeptFeed as code
+use Rattle.id_history.specs.History.{FeedFits, Fits, KeptFeed, history_octets}
+use Rattle.id_history.specs.History as texts
+use Rattle.id_history.specs.Views.{feed_view}
+use Rattle.id_history.specs.declared.kept.KeptFeed as code
 use Rattle.id_history.specs.Lasting.{AreLasting, lasting}
 use Rattle.id_history.specs.Shards.{KeepsAll}
 use Rattle.relay_conf.proofs.ListPlaces.{at_pushed}
@@ -35,8 +36,9 @@ use Rattle.relay_model.specs.World.{World}
 use Rattle.relay_core.specs.Agreement.{Agrees, IsGone, ring_sizes}
 use Rattle.relay_core.specs.Idle.{TellsIdle}
 use Rattle.relay_core.specs.Openings.{opening_of, openings}
-use Rattle.relay_core.specs.Stopping.{ComesBack, IsFromShelf, Shuts, TellsHistory, next_stop, stop_of}
-use Rattle.block_shelf.specs.Stopping.{HoldsKept, IsBusyShelf, TellsPositions}
+use Rattle.relay_core.specs.Stopping.{ComesBack, IsFromBufferSet, Shuts, TellsHistory, next_stop}
+use Rattle.relay_core.specs.Stopping.{stop_of}
+use Rattle.block_shelf.specs.Stopping.{HoldsKept, IsBusyBufferSet, TellsPositions}
 use Rattle.relay_core.specs.declared.stopped.Stopped.{Stopped}
 use Rattle.relay_core.specs.declared.stopped.Unstopped.{Unstopped}
 use Rattle.relay_core.specs.declared.stopped.Unstopped.TheVariants as unstoppeds
@@ -172,29 +174,31 @@ module _ {S : Type 0} {g : Ghosts S} (old : System S g) where
       → IsIdle x
   at_rest idle trusted x agrees = idle x.state.claim agrees.core.claims
 
-  -- and the shelf keeps all without an open write
+  -- and the buffer set keeps all without an open write
   pub closed_texts : (trusted : Bool) (x : World) → Agrees trusted old x → IsIdle x
-      → KeepsTexts trusted old.shelf w x.state.begun x.state.kept (λ h. None) x.work.failures
+      → KeepsTexts trusted old.buffer_set w x.state.begun x.state.kept (λ h. None) x.work.failures
   closed_texts trusted x agrees none =
-      let T : (ℕ → Option Opening) → Type 0 = λ all. KeepsTexts trusted old.shelf w x.state.begun
+      let T : (ℕ → Option Opening)
+      → Type 0 = λ all. KeepsTexts trusted old.buffer_set w x.state.begun
       x.state.kept all x.work.failures in
-      subst T (nothing_open w x none agrees.well) agrees.core.shelf
+      subst T (nothing_open w x none agrees.well) agrees.core.buffer_set
 
   -- a relay that is closed holds each world with which it agreed
   pub shuts : (stop : ℕ) (stores : List S) (text : List ℕ) → stop ≡ next_stop (stop_of old)
-      → TellsIdle old.shards true → TellsHistory old stop text → HoldsKept stop old.shelf stores
+      → TellsIdle old.shards true → TellsHistory old stop text
+      → HoldsKept stop old.buffer_set stores
       → Shuts old stores text
   shuts stop stores text is idle tells holds =
       let none = at_rest idle in
       let T : ℕ → Type 0 = λ n. TellsHistory old n text in
-      let H : ℕ → Type 0 = λ n. HoldsKept n old.shelf stores in
+      let H : ℕ → Type 0 = λ n. HoldsKept n old.buffer_set stores in
       let told = subst T is tells in
       record {
         rest = none;
         told = told;
         holds = λ x agrees. record {
           tells = told true x agrees;
-          shelf = subst H is holds w x.state.begun x.state.kept x.work.failures
+          buffer_set = subst H is holds w x.state.begun x.state.kept x.work.failures
               (closed_texts true x agrees (none true x agrees));
           idle = none true x agrees;
           well = agrees.well;
@@ -202,7 +206,8 @@ module _ {S : Type 0} {g : Ghosts S} (old : System S g) where
       }
 
   -- where nothing is being stored no write is open
-  pub not_busy : TellsIdle old.shards true → IsBusyShelf old.shelf → (trusted : Bool) (x : World)
+  pub not_busy : TellsIdle old.shards true → IsBusyBufferSet old.buffer_set
+      → (trusted : Bool) (x : World)
       → Agrees trusted old x → ⊥
   not_busy idle busy trusted x agrees =
       busy.writing trusted w x.state.begun x.state.kept x.work.failures
@@ -211,7 +216,7 @@ module _ {S : Type 0} {g : Ghosts S} (old : System S g) where
   -- the history that is made of the parts is that of each world
   pub tells_of : (stop : ℕ) (text : List ℕ) (kept : texts.Kept) → Fits kept
       → text ≡ history_octets kept → kept.stop ≡ stop → kept.newest ≡ newest_kept old.newest
-      → TellsPositions old.shelf kept.positions
+      → TellsPositions old.buffer_set kept.positions
       → ((feed : ℕ → model.Feed) → KeepsFeeds old.desk (ring_sizes w) feed
       → AreLeft kept.feeds (ring_sizes w) feed)
       → ((claim : List ℕ → Claim) → KeepsAll old.shards claim → AreLasting kept.ids claim)
@@ -225,16 +230,16 @@ module _ {S : Type 0} {g : Ghosts S} (old : System S g) where
           stop_is = stops;
           newest = newest ∙ ap newest_kept (sym agrees.core.newest);
           positions = positions trusted w x.state.begun x.state.kept (openings x.work.writer)
-              x.work.failures agrees.core.shelf;
+              x.work.failures agrees.core.buffer_set;
           feeds = feeds x.state.feed agrees.core.desk;
           ids = ids x.state.claim agrees.core.claims;
         };
       }
 
-  -- what closing answers, by the shelf
+  -- what closing answers, by the buffer set
   pub shuts_all : (stop : ℕ) (text : List ℕ) (result : Result (Stopped S) (Unstopped S g))
       → stop ≡ next_stop (stop_of old) → TellsIdle old.shards true → TellsHistory old stop text
-      → IfOk result (λ shut. HoldsKept stop old.shelf shut.stores.items)
+      → IfOk result (λ shut. HoldsKept stop old.buffer_set shut.stores.items)
       → IfOk result (λ shut. shut.history.items ≡ text)
       → IfOk result (λ shut. Shuts old shut.stores.items shut.history.items)
   shuts_all stop text (Ok shut) is idle tells holds same =
@@ -243,7 +248,7 @@ module _ {S : Type 0} {g : Ghosts S} (old : System S g) where
   shuts_all stop text (Err back) is idle tells holds same = tt
 
   pub back_all : (result : Result (Stopped S) (Unstopped S g)) → TellsIdle old.shards true
-      → IfErr result (IsFromShelf old) → IfErr result (ComesBack old)
+      → IfErr result (IsFromBufferSet old) → IfErr result (ComesBack old)
   back_all (Ok shut) idle from = tt
   back_all (Err (unstoppeds.NotIdle back)) idle from =
       (from.0, λ trusted x agrees. absurd (not_busy idle from.1 trusted x agrees))

@@ -17,13 +17,13 @@ use Rattle.relay_model.specs.State.{Kept, put_at}
 use Rattle.relay_model.specs.Terms.{Terms, last_moment}
 use Rattle.relay_model.specs.World as world
 use Rattle.relay_model.specs.World.{World, with_session}
-use Rattle.relay_peers.specs.Peers.{HasPlace, TakesPeer, peer_at}
-use Rattle.relay_peers.specs.declared.peers.Peer.{Peer}
-use Rattle.relay_peers.specs.declared.peers.Peers.{Peers}
-use Rattle.relay_core.proofs.Lanes.{same_or_other}
+use Rattle.relay_core.specs.Peers.{HasPlace, TakesPeer, peer_at}
+use Rattle.relay_core.specs.declared.peers.Peer.{Peer}
+use Rattle.relay_core.specs.declared.peers.Peers.{Peers}
+use Rattle.relay_core.proofs.GroupWriters.{same_or_other}
 use Rattle.relay_core.specs.Agreement.{Agrees, AgreesBut, AgreesBy, Core, IsGone, PeerIs}
 use Rattle.relay_core.specs.Agreement.{PeerStands}
-use Rattle.relay_peers.specs.Peers.{session_at}
+use Rattle.relay_core.specs.Peers.{session_at}
 use Rattle.relay_core.specs.Steps.{Steps}
 use Rattle.relay_core.specs.Turns.{Serves, StandsStill, TakesBack, IsBack, IsLetGo}
 use Rattle.relay_core.specs.Turns.{PutsBack}
@@ -53,7 +53,7 @@ is_there_as test ends trusted w kept (Some peer) session slot is =
 -- a phase that doesn't run is the last
 not_running : (phase : model.Phase) → is_running phase ≡ false → phase ≡ model.Ended
 not_running model.Ready h = cc
-not_running (model.Owes transfer id) h = cc
+not_running (model.AwaitsBlock transfer id) h = cc
 not_running (model.Holds id article) h = cc
 not_running (model.Waits transfer id) h = cc
 not_running (model.Fetches asked token had) h = cc
@@ -180,10 +180,10 @@ module _ {S : Type 0} {g : Ghosts S} where
         newest = core.newest;
         claims = core.claims;
         count = core.count;
-        lanes = core.lanes;
+        group_writers = core.group_writers;
         desk = core.desk;
         expirer = core.expirer;
-        shelf = core.shelf;
+        buffer_set = core.buffer_set;
       }
 
   -- with one peer taken out, all others are the sessions
@@ -300,10 +300,10 @@ module _ {S : Type 0} {g : Ghosts S} where
             newest = turn.agrees.core.newest;
             claims = turn.agrees.core.claims;
             count = turn.agrees.core.count;
-            lanes = turn.agrees.core.lanes;
+            group_writers = turn.agrees.core.group_writers;
             desk = turn.agrees.core.desk;
             expirer = turn.agrees.core.expirer;
-            shelf = turn.agrees.core.shelf;
+            buffer_set = turn.agrees.core.buffer_set;
           };
           peers = peers_after true w n peer' new.peers back turn.between.state.kept
               turn.between.state.session turn.between.work.slot turn.session gives turn.stands

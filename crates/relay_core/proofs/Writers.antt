@@ -1,12 +1,12 @@
--- The writer of a group, taken out of its lane.
+-- The writer of a group, taken out of its group writer.
 use Rattle.std.proofs.Common.{◌≡◌, ◌≢◌, ℕ, Bool, true, false, Option, refl}
 use Rattle.std.proofs.Common.{sym, ap, subst, ◌∙◌}
 use Rattle.std.specs.Prelude.{nat_eq, slice_get, if◌then◌else◌}
 use Rattle.block_shelf.specs.Calls.{token_of}
 use Rattle.block_shelf.specs.Keeping.{KeepsTexts}
 use Rattle.block_shelf.specs.Openings.{Opening}
-use Rattle.block_shelf.specs.declared.shelf.Begun.{Begun}
-use Rattle.block_shelf.specs.declared.shelf.Shelf.{Shelf}
+use Rattle.block_shelf.specs.declared.buffer_set.Begun.{Begun}
+use Rattle.block_shelf.specs.declared.buffer_set.BufferSet.{BufferSet}
 use Rattle.buffer_group.specs.Writers.{writer_view}
 use Rattle.buffer_group.specs.declared.writer.Writer.{Writer}
 use Rattle.cyc_block.specs.declared.store.BlockStore.{Ghosts}
@@ -21,9 +21,9 @@ use Rattle.relay_model.specs.Terms.{Terms}
 use Rattle.relay_model.specs.World as world
 use Rattle.relay_model.specs.World.{World, with_failures}
 use Rattle.relay_model.specs.Writers.{writer_at}
-use Rattle.relay_peers.specs.Peers.{peer_at}
-use Rattle.relay_core.proofs.Lanes.{same_or_other}
-use Rattle.relay_core.specs.Agreement.{LaneIs, PeerIs, ring_sizes}
+use Rattle.relay_core.specs.Peers.{peer_at}
+use Rattle.relay_core.proofs.GroupWriters.{same_or_other}
+use Rattle.relay_core.specs.Agreement.{GroupWriterIs, PeerIs, ring_sizes}
 use Rattle.relay_core.specs.Openings.{opening_of, openings}
 use Rattle.relay_core.specs.Writing.{WriterOut}
 use Rattle.relay_core.specs.declared.system.System.{System}
@@ -56,50 +56,52 @@ openings_stay writer h v is =
 
 module _ {S : Type 0} {g : Ghosts S} (w : Terms) (h : ℕ) (v : Writer Begun) (old : System S g)
     (x : World) (out : WriterOut w h v old x) where
-  -- all other lanes stay
-  pub lanes_same : (u : world.Writer) (k : ℕ) → k ≢ h
-      → LaneIs (slice_get old.lanes.items k) (x.work.queue k) (put_at x.work.writer h u k)
-  lanes_same u k differ =
-      let P : world.Writer → Type 0 = λ z. LaneIs (slice_get old.lanes.items k)
+  -- all other group writers stay
+  pub group_writers_same : (u : world.Writer) (k : ℕ) → k ≢ h
+      → GroupWriterIs (slice_get old.group_writers.items k) (x.work.queue k)
+      (put_at x.work.writer h u k)
+  group_writers_same u k differ =
+      let P : world.Writer → Type 0 = λ z. GroupWriterIs (slice_get old.group_writers.items k)
       (x.work.queue k) z in
-      subst P (sym (put_at_there x.work.writer h u k differ)) (out.lanes k differ)
+      subst P (sym (put_at_there x.work.writer h u k differ)) (out.group_writers k differ)
 
   -- the writer is another, and parts and state are such
   pub moved : (v' : Writer Begun) (u : world.Writer) (σ : State) (failures : ℕ → ℕ)
-      (shards : Shards) (desk : FeedDesk) (shelf : Shelf S g) → u ≡ writer_view token_of v'
+      (shards : Shards) (desk : FeedDesk) (buffer_set : BufferSet S g) → u ≡ writer_view token_of v'
       → σ.newest ≡ x.state.newest → KeepsAll shards σ.claim
       → KeepsFeeds desk (ring_sizes w) σ.feed
-      → KeepsTexts true shelf w σ.begun σ.kept
+      → KeepsTexts true buffer_set w σ.begun σ.kept
       (put_at (openings x.work.writer) h (opening_of u)) failures
       → ((s : ℕ) → PeerIs true w σ.kept (peer_at old.peers s) (σ.session s) (x.work.slot s))
-      → WriterOut w h v' (record old { shards = shards; desk = desk; shelf = shelf })
+      → WriterOut w h v' (record old { shards = shards; desk = desk; buffer_set = buffer_set })
       (with_failures (writer_at x σ h u) failures)
-  moved v' u σ failures shards desk shelf is newest claims feeds texts peers =
+  moved v' u σ failures shards desk buffer_set is newest claims feeds texts peers =
       record {
         newest = newest ∙ out.newest;
         claims = claims;
         count = out.count;
         queue = out.queue;
         writer_is = put_at_here x.work.writer h u h refl ∙ is;
-        lanes = lanes_same u;
+        group_writers = group_writers_same u;
         desk = feeds;
         expirer = out.expirer;
-        shelf =
-            let P : (ℕ → Option Opening) → Type 0 = λ all. KeepsTexts true shelf w σ.begun σ.kept
+        buffer_set =
+            let P : (ℕ → Option Opening)
+            → Type 0 = λ all. KeepsTexts true buffer_set w σ.begun σ.kept
             all failures in
             subst P (sym (openings_put x.work.writer h u)) texts;
         peers = peers;
       }
 
   -- where the open write stays as it is
-  pub same_opening : (shelf : Shelf S g) (o : Option Opening)
+  pub same_opening : (buffer_set : BufferSet S g) (o : Option Opening)
       → opening_of (writer_view token_of v) ≡ o
-      → KeepsTexts true shelf w x.state.begun x.state.kept (openings x.work.writer)
+      → KeepsTexts true buffer_set w x.state.begun x.state.kept (openings x.work.writer)
       x.work.failures
-      → KeepsTexts true shelf w x.state.begun x.state.kept
+      → KeepsTexts true buffer_set w x.state.begun x.state.kept
       (put_at (openings x.work.writer) h o) x.work.failures
-  same_opening shelf o is keeps =
-      let P : (ℕ → Option Opening) → Type 0 = λ all. KeepsTexts true shelf w x.state.begun
+  same_opening buffer_set o is keeps =
+      let P : (ℕ → Option Opening) → Type 0 = λ all. KeepsTexts true buffer_set w x.state.begun
       x.state.kept all x.work.failures in
       subst P (sym (put_same (openings x.work.writer) h o (ap opening_of out.writer_is ∙ is)))
       keeps

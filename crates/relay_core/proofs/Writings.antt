@@ -8,8 +8,8 @@ use Rattle.block_shelf.specs.Calls.{AbandonsOn, BeginsOn, CanBegin, FinishesOn, 
 use Rattle.block_shelf.specs.Calls.{token_of}
 use Rattle.block_shelf.specs.Keeping.{KeepsTexts}
 use Rattle.block_shelf.specs.Openings.{IsBroken, IsOpen}
-use Rattle.block_shelf.specs.declared.shelf.Begun.{Begun}
-use Rattle.block_shelf.specs.declared.shelf.Shelf.{Shelf}
+use Rattle.block_shelf.specs.declared.buffer_set.Begun.{Begun}
+use Rattle.block_shelf.specs.declared.buffer_set.BufferSet.{BufferSet}
 use Rattle.buffer_group.specs.Jobs.{article_view, job_view}
 use Rattle.buffer_group.specs.declared.job.Job.{Job}
 use Rattle.buffer_group.specs.declared.writer.Writer.TheVariants as code
@@ -37,8 +37,8 @@ use Rattle.relay_model.specs.World as world
 use Rattle.relay_model.specs.World.{World, with_failures}
 use Rattle.relay_model.specs.Writers as writers
 use Rattle.relay_model.specs.Writers.{IsHopeless, gaining, staged, with_stage, writer_at}
-use Rattle.relay_peers.specs.Peers.{peer_at}
-use Rattle.relay_peers.specs.declared.peers.Peer.{Peer}
+use Rattle.relay_core.specs.Peers.{peer_at}
+use Rattle.relay_core.specs.declared.peers.Peer.{Peer}
 use Rattle.relay_core.proofs.Marks.{forgotten_is, keeps_staged, room_to_count, settled_is}
 use Rattle.relay_core.proofs.Marks.{storing_is}
 use Rattle.relay_core.proofs.Writers.{is_at, moved, same_opening}
@@ -59,7 +59,7 @@ gathered_stays : (kept more : List Kept) (phase : model.Phase) (gathered : List 
 gathered_stays kept more (model.Fetches asked token had) gathered h =
     front_stays kept more token had gathered h
 gathered_stays kept more model.Ready gathered h = h
-gathered_stays kept more (model.Owes transfer id) gathered h = h
+gathered_stays kept more (model.AwaitsBlock transfer id) gathered h = h
 gathered_stays kept more (model.Holds id article) gathered h = h
 gathered_stays kept more (model.Waits transfer id) gathered h = h
 gathered_stays kept more model.Leaving gathered h = h
@@ -111,20 +111,22 @@ module _ {S : Type 0} {g : Ghosts S} (h now : ℕ) (job : Job) (old : System S g
       }
 
   -- the job is begun
-  pub begun_one : (b : Begun) (shelf : Shelf S g)
-      → BeginsOn job.article.group job.article.class (length job.article.text) old.shelf (Some b)
-      shelf
-      → Advances h now (code.Popped job) old (code.Writing job b 0) (record old { shelf = shelf })
-  begun_one b shelf begins = λ x out well.
+  pub begun_one : (b : Begun) (buffer_set : BufferSet S g)
+      → BeginsOn job.article.group job.article.class (length job.article.text)
+      old.buffer_set (Some b)
+      buffer_set
+      → Advances h now (code.Popped job) old (code.Writing job b 0)
+      (record old { buffer_set = buffer_set })
+  begun_one b buffer_set begins = λ x out well.
       let at = is_at w h (code.Popped job) old x out well in
       let r = begins true w x.state.begun x.state.kept (openings x.work.writer) x.work.failures
-      out.shelf (can_begin x out well at.0 at.1) in
+      out.buffer_set (can_begin x out well at.0 at.1) in
       let token = token_of b in
       let σ : State = record (with_stage x.state (job_view job) (claims.Begun token)) {
         begun = put_at x.state.begun job.article.group
             (x.state.begun job.article.group ++ size ∷ []);
       } in
-      let Q : ℕ → Type 0 = λ k. KeepsTexts true shelf w σ.begun x.state.kept
+      let Q : ℕ → Type 0 = λ k. KeepsTexts true buffer_set w σ.begun x.state.kept
       (put_at (openings x.work.writer) k (Some (IsOpen token job.article.text 0)))
       x.work.failures in
       record {
@@ -138,7 +140,7 @@ module _ {S : Type 0} {g : Ghosts S} (h now : ℕ) (job : Job) (old : System S g
           after = refl;
         }) refl;
         out = moved w h (code.Popped job) old x out (code.Writing job b 0)
-            (world.Writing (job_view job) token 0) σ x.work.failures old.shards old.desk shelf
+            (world.Writing (job_view job) token 0) σ x.work.failures old.shards old.desk buffer_set
             refl refl
             (keeps_staged old.shards x.state.claim job.id job.session (article_view job.article)
             claims.Waiting (claims.Begun token) out.claims at.1)
@@ -146,15 +148,15 @@ module _ {S : Type 0} {g : Ghosts S} (h now : ℕ) (job : Job) (old : System S g
       }
 
   -- no token has room for the cycle
-  pub worn_one : (shelf : Shelf S g)
-      → BeginsOn job.article.group job.article.class (length job.article.text) old.shelf None
-      shelf
+  pub worn_one : (buffer_set : BufferSet S g)
+      → BeginsOn job.article.group job.article.class (length job.article.text) old.buffer_set None
+      buffer_set
       → Advances h now (code.Popped job) old (code.Failed job None)
-      (record old { shelf = shelf })
-  worn_one shelf begins = λ x out well.
+      (record old { buffer_set = buffer_set })
+  worn_one buffer_set begins = λ x out well.
       let at = is_at w h (code.Popped job) old x out well in
       let r = begins true w x.state.begun x.state.kept (openings x.work.writer) x.work.failures
-      out.shelf (can_begin x out well at.0 at.1) in
+      out.buffer_set (can_begin x out well at.0 at.1) in
       record {
         after = writer_at x x.state h (world.Failed (job_view job) None);
         writes = writers.FindsWorn (job_view job) out.writer_is (record {
@@ -164,38 +166,41 @@ module _ {S : Type 0} {g : Ghosts S} (h now : ℕ) (job : Job) (old : System S g
           past = r.2.0;
         }) refl;
         out = moved w h (code.Popped job) old x out (code.Failed job None)
-            (world.Failed (job_view job) None) x.state x.work.failures old.shards old.desk shelf
+            (world.Failed (job_view job) None) x.state x.work.failures old.shards
+            old.desk buffer_set
             refl refl out.claims out.desk
-            (same_opening w h (code.Popped job) old x out shelf None refl r.2.1) out.peers;
+            (same_opening w h (code.Popped job) old x out buffer_set None refl r.2.1) out.peers;
       }
 
   -- a block is written
-  pub block_written : (b : Begun) (written : ℕ) (last : Bool) (shelf : Shelf S g)
-      → written < size → WritesOn (token_of b) job.article.text old.shelf (Ok last) shelf
+  pub block_written : (b : Begun) (written : ℕ) (last : Bool) (buffer_set : BufferSet S g)
+      → written < size → WritesOn (token_of b) job.article.text old.buffer_set (Ok last) buffer_set
       → Advances h now (code.Writing job b written) old (code.Writing job b (written + 1))
-      (record old { shelf = shelf })
-  block_written b written last shelf left writes = λ x out well.
+      (record old { buffer_set = buffer_set })
+  block_written b written last buffer_set left writes = λ x out well.
       let r = writes true w x.state.begun x.state.kept (openings x.work.writer) x.work.failures
-      out.shelf h written (ap opening_of out.writer_is) left in
+      out.buffer_set h written (ap opening_of out.writer_is) left in
       let u : world.Writer = world.Writing (job_view job) (token_of b) (written + 1) in
       record {
         after = with_failures (writer_at x x.state h u) x.work.failures;
         writes = writers.WritesBlock (job_view job) (token_of b) written x.work.failures
             out.writer_is left (λ k. omega arith) refl;
         out = moved w h (code.Writing job b written) old x out
-            (code.Writing job b (written + 1)) u x.state x.work.failures old.shards old.desk shelf
+            (code.Writing job b (written + 1)) u x.state x.work.failures old.shards
+            old.desk buffer_set
             refl refl out.claims out.desk r.0.1 out.peers;
       }
 
   -- the write of a block failed
-  pub block_failed : (b : Begun) (written : ℕ) (fault : BufError) (shelf : Shelf S g)
-      → written < size → WritesOn (token_of b) job.article.text old.shelf (Err fault) shelf
+  pub block_failed : (b : Begun) (written : ℕ) (fault : BufError) (buffer_set : BufferSet S g)
+      → written < size
+      → WritesOn (token_of b) job.article.text old.buffer_set (Err fault) buffer_set
       → Advances h now (code.Writing job b written) old (code.Failed job (Some b))
-      (record old { shelf = shelf })
-  block_failed b written fault shelf left writes = λ x out well.
+      (record old { buffer_set = buffer_set })
+  block_failed b written fault buffer_set left writes = λ x out well.
       let at = is_at w h (code.Writing job b written) old x out well in
       let r = (writes true w x.state.begun x.state.kept (openings x.work.writer) x.work.failures
-      out.shelf h written (ap opening_of out.writer_is) left).0.1 in
+      out.buffer_set h written (ap opening_of out.writer_is) left).0.1 in
       let σ : State = with_stage x.state (job_view job) claims.Failed in
       let u : world.Writer = world.Failed (job_view job) (Some (token_of b)) in
       record {
@@ -203,18 +208,19 @@ module _ {S : Type 0} {g : Ghosts S} (h now : ℕ) (job : Job) (old : System S g
         writes = writers.FailsToWrite (job_view job) (token_of b) written r.0 σ out.writer_is left
             r.1 (record { begun = at.1; after = refl }) refl;
         out = moved w h (code.Writing job b written) old x out (code.Failed job (Some b)) u σ r.0
-            old.shards old.desk shelf refl refl
+            old.shards old.desk buffer_set refl refl
             (keeps_staged old.shards x.state.claim job.id job.session (article_view job.article)
             (claims.Begun (token_of b)) claims.Failed out.claims at.1)
             out.desk r.2 out.peers;
       }
 
   -- all blocks are written
-  pub finished_one : (b : Begun) (written : ℕ) (token : Token) (shelf : Shelf S g)
-      → size ≤ written → token_view token ≡ token_of b → FinishesOn (token_of b) old.shelf shelf
+  pub finished_one : (b : Begun) (written : ℕ) (token : Token) (buffer_set : BufferSet S g)
+      → size ≤ written → token_view token ≡ token_of b
+      → FinishesOn (token_of b) old.buffer_set buffer_set
       → Advances h now (code.Writing job b written) old (code.Finished job token)
-      (record old { shelf = shelf })
-  finished_one b written token shelf full named finishes = λ x out well.
+      (record old { buffer_set = buffer_set })
+  finished_one b written token buffer_set full named finishes = λ x out well.
       let at = is_at w h (code.Writing job b written) old x out well in
       let all : written ≡ size = omega (arith, at.2) in
       let one : Kept =
@@ -223,7 +229,7 @@ module _ {S : Type 0} {g : Ghosts S} (h now : ℕ) (job : Job) (old : System S g
         kept = x.state.kept ++ one ∷ [];
       } in
       let texts = finishes true w x.state.begun x.state.kept (openings x.work.writer)
-      x.work.failures out.shelf h job.article.text job.id
+      x.work.failures out.buffer_set h job.article.text job.id
       (ap opening_of out.writer_is
       ∙ ap (λ k. Some (IsOpen (token_of b) job.article.text k)) all) in
       let u : world.Writer = world.Finished (job_view job) (token_of b) in
@@ -232,7 +238,7 @@ module _ {S : Type 0} {g : Ghosts S} (h now : ℕ) (job : Job) (old : System S g
         writes = writers.HasStored (job_view job) (token_of b) written σ out.writer_is all
             (record { begun = at.1; after = refl }) refl;
         out = moved w h (code.Writing job b written) old x out (code.Finished job token) u σ
-            x.work.failures old.shards old.desk shelf
+            x.work.failures old.shards old.desk buffer_set
             (ap (world.Finished (job_view job)) (sym named)) refl
             (keeps_staged old.shards x.state.claim job.id job.session (article_view job.article)
             (claims.Begun (token_of b)) (claims.Whole (token_of b)) out.claims at.1)
@@ -274,14 +280,15 @@ module _ {S : Type 0} {g : Ghosts S} (h now : ℕ) (job : Job) (old : System S g
         writes = writers.Settles (job_view job) (token_view token) σ out.writer_is
             (record { whole = at.1; after = refl }) refl;
         out = moved w h (code.Finished job token) old x out (code.Settled job.session)
-            (world.Settled job.session) σ x.work.failures shards desk old.shelf refl refl
+            (world.Settled job.session) σ x.work.failures shards desk old.buffer_set refl refl
             (subst P (ap (λ k. claims.after_settle job.session (token_view token) k
             (x.state.claim job.id)) moment
             ∙ settled_is job.session now (token_view token) (article_view job.article)
             (claims.Whole (token_view token)) (x.state.claim job.id) at.1)
             (changes x.state.claim out.claims))
             (subst R same_feeds (subst Q named (posts (ring_sizes w) x.state.feed room out.desk)))
-            (same_opening w h (code.Finished job token) old x out old.shelf None refl out.shelf)
+            (same_opening w h (code.Finished job token) old x out old.buffer_set None refl
+            out.buffer_set)
             out.peers;
       }
 
@@ -299,18 +306,20 @@ module _ {S : Type 0} {g : Ghosts S} (h now : ℕ) (job : Job) (old : System S g
       (x.state.claim job.id) at.1 in cc)
 
   -- the open write is abandoned
-  pub closed_one : (b : Begun) (shelf : Shelf S g) → AbandonsOn (token_of b) old.shelf shelf
+  pub closed_one : (b : Begun) (buffer_set : BufferSet S g)
+      → AbandonsOn (token_of b) old.buffer_set buffer_set
       → Advances h now (code.Failed job (Some b)) old (code.Failed job None)
-      (record old { shelf = shelf })
-  closed_one b shelf abandons = λ x out well.
+      (record old { buffer_set = buffer_set })
+  closed_one b buffer_set abandons = λ x out well.
       record {
         after = writer_at x x.state h (world.Failed (job_view job) None);
         writes = writers.Closes (job_view job) (token_of b) out.writer_is refl;
         out = moved w h (code.Failed job (Some b)) old x out (code.Failed job None)
-            (world.Failed (job_view job) None) x.state x.work.failures old.shards old.desk shelf
+            (world.Failed (job_view job) None) x.state x.work.failures old.shards
+            old.desk buffer_set
             refl refl out.claims out.desk
             (abandons true w x.state.begun x.state.kept (openings x.work.writer) x.work.failures
-            out.shelf h (IsBroken (token_of b)) (ap opening_of out.writer_is) refl)
+            out.buffer_set h (IsBroken (token_of b)) (ap opening_of out.writer_is) refl)
             out.peers;
       }
 
@@ -329,10 +338,11 @@ module _ {S : Type 0} {g : Ghosts S} (h now : ℕ) (job : Job) (old : System S g
         writes = writers.Forgets (job_view job) σ out.writer_is
             (record { hopeless = at.1; after = refl }) refl;
         out = moved w h (code.Failed job None) old x out (code.Forgotten job.session)
-            (world.Forgotten job.session) σ x.work.failures shards old.desk old.shelf refl refl
+            (world.Forgotten job.session) σ x.work.failures shards old.desk old.buffer_set refl refl
             (subst P (hopeless_is w x.state (job_view job) at.1)
             (changes x.state.claim out.claims))
             out.desk
-            (same_opening w h (code.Failed job None) old x out old.shelf None refl out.shelf)
+            (same_opening w h (code.Failed job None) old x out old.buffer_set None refl
+            out.buffer_set)
             out.peers;
       }

@@ -22,12 +22,12 @@ use Rattle.relay_model.specs.State.{Kept}
 use Rattle.relay_model.specs.Terms.{Terms, FeedTerms}
 use Rattle.relay_model.specs.World as world
 use Rattle.relay_model.specs.World.{World}
-use Rattle.relay_peers.specs.Peers.{peer_at}
-use Rattle.relay_peers.specs.declared.peers.Peer.{Peer}
+use Rattle.relay_core.specs.Peers.{peer_at}
+use Rattle.relay_core.specs.declared.peers.Peer.{Peer}
 use Rattle.relay_core.specs.Expiring.{expirer_view}
 use Rattle.relay_core.specs.Openings.{openings}
 use Rattle.relay_core.specs.Queues.{jobs_of}
-use Rattle.relay_core.specs.declared.system.Lane.{Lane}
+use Rattle.relay_core.specs.declared.system.GroupWriter.{GroupWriter}
 use Rattle.relay_core.specs.declared.system.System.{System}
 
 -- what an open fetch has gathered of the text that is whole under its token
@@ -42,7 +42,7 @@ pub data IsFront (kept : List Kept) (token : Token) (had : ℕ) (gathered : List
 -- what a session in this phase has gathered
 abbrev pub IsGathered : List Kept → model.Phase → List ℕ → Type 0
 IsGathered kept model.Ready gathered = gathered ≡ []
-IsGathered kept (model.Owes transfer id) gathered = gathered ≡ []
+IsGathered kept (model.AwaitsBlock transfer id) gathered = gathered ≡ []
 IsGathered kept (model.Holds id article) gathered = gathered ≡ []
 IsGathered kept (model.Waits transfer id) gathered = gathered ≡ []
 IsGathered kept (model.Fetches asked token had) gathered = IsFront kept token had gathered
@@ -76,11 +76,12 @@ PeerIs trusted w kept (Some peer) session slot =
     (m : model.Session) × (session ≡ Some m) × PeerStands trusted w kept peer m slot
     × (is_running m.phase ≡ true)
 
--- the lane has these jobs waiting, and this writer; a group that isn't there has neither
-abbrev pub LaneIs : Option Lane → List model.Job → world.Writer → Type 0
-LaneIs None queue writer = (queue ≡ []) × (writer ≡ world.Idle)
-LaneIs (Some lane) queue writer =
-    (queue ≡ map job_view (jobs_of lane.queue)) × (writer ≡ writer_view token_of lane.writer)
+-- the group writer has these jobs waiting, and this writer; a group that isn't there has neither
+abbrev pub GroupWriterIs : Option GroupWriter → List model.Job → world.Writer → Type 0
+GroupWriterIs None queue writer = (queue ≡ []) × (writer ≡ world.Idle)
+GroupWriterIs (Some group_writer) queue writer =
+    (queue ≡ map job_view (jobs_of group_writer.queue))
+    × (writer ≡ writer_view token_of group_writer.writer)
 
 -- how many tokens the ring of each feed has room for
 abbrev pub ring_sizes : Terms → List ℕ
@@ -92,11 +93,11 @@ pub record Core {S : Type 0} {g : Ghosts S} (trusted : Bool) (w : Terms) (system
     : Type 0 where
   pub newest : x.state.newest ≡ system.newest
   pub claims : KeepsAll system.shards x.state.claim
-  pub count : length system.lanes.items ≡ length w.groups
-  pub lanes : (h : ℕ)
-      → LaneIs (slice_get system.lanes.items h) (x.work.queue h) (x.work.writer h)
+  pub count : length system.group_writers.items ≡ length w.groups
+  pub group_writers : (h : ℕ)
+      → GroupWriterIs (slice_get system.group_writers.items h) (x.work.queue h) (x.work.writer h)
   pub desk : KeepsFeeds system.desk (ring_sizes w) x.state.feed
-  pub shelf : KeepsTexts trusted system.shelf w x.state.begun x.state.kept
+  pub buffer_set : KeepsTexts trusted system.buffer_set w x.state.begun x.state.kept
       (openings x.work.writer) x.work.failures
   pub expirer : x.work.expirer ≡ expirer_view system.expirer
 

@@ -3,8 +3,8 @@ use Rattle.std.specs.Prelude.{◌≡◌, ◌||◌, ℕ, Bool, false, List, map, 
 use Rattle.std.specs.Prelude.{Option, None, Some}
 use Rattle.std.specs.List.{list_any}
 use Rattle.cyc_block.specs.declared.store.BlockStore.{Ghosts}
-use Rattle.history_text.specs.History as texts
-use Rattle.history_text.specs.History.{KeptFeed, KeptId}
+use Rattle.id_history.specs.History as texts
+use Rattle.id_history.specs.History.{KeptFeed, KeptId}
 use Rattle.news_terms.specs.Places.{Buffer, on_line}
 use Rattle.news_terms.specs.Token.{Token}
 use Rattle.relay_conf.specs.Settings.{places_of_buffers}
@@ -15,7 +15,7 @@ use Rattle.relay_model.specs.State.{State}
 use Rattle.relay_model.specs.Terms.{Terms}
 use Rattle.block_shelf.specs.Starting.{HoldsStarted}
 use Rattle.relay_core.specs.declared.ahead.Filled as code
-use Rattle.block_shelf.specs.declared.opening.UnopenedShelf.{UnopenedShelf}
+use Rattle.block_shelf.specs.declared.opening.UnopenedBufferSet.{UnopenedBufferSet}
 
 -- how far a buffer is filled: its blocks, its front, and how many articles are stored in it
 pub record Filled : Type 0 where
@@ -71,8 +71,8 @@ is_ahead filled kept =
 abbrev pub filled_view : code.Filled → Filled
 filled_view one = record { blocks = one.blocks; front = one.front; stored = one.stored }
 
--- so far the buffers are filled in each state that the started shelf holds
-abbrev pub TellsFilled : {S : Type 0} {g : Ghosts S} → Buffers → UnopenedShelf S g
+-- so far the buffers are filled in each state that the started buffer set holds
+abbrev pub TellsFilled : {S : Type 0} {g : Ghosts S} → Buffers → UnopenedBufferSet S g
     → List code.Filled → Type 0
 TellsFilled settings unopened filled =
     (w : Terms) (σ : State) (failures : ℕ → ℕ) → w.buffers ≡ places_of_buffers settings

@@ -10,13 +10,13 @@ use Rattle.relay_core.specs.Agreement.{Agrees}
 use Rattle.relay_core.specs.declared.system.System.{System}
 
 -- from here call number k of the store of this buffer fails, where there is such a buffer; the
--- shelf keeps what it kept, no device is called, and nothing but the shelf is another
+-- buffer set keeps what it kept, no device is called, and nothing but the buffer set is another
 pub record Arms {S : Type 0} {g : Ghosts (FailAt S)} (buffer k : ℕ) (old new : System (FailAt S) g)
     : Type 0 where
-  pub shelf : shelves.Arms buffer k old.shelf new.shelf
-  pub kept : KeepsAll old.shelf new.shelf
-  pub calls : CallsNone old.shelf new.shelf
-  pub rest : new ≡ record old { shelf = new.shelf }
+  pub buffer_set : shelves.Arms buffer k old.buffer_set new.buffer_set
+  pub kept : KeepsAll old.buffer_set new.buffer_set
+  pub calls : CallsNone old.buffer_set new.buffer_set
+  pub rest : new ≡ record old { buffer_set = new.buffer_set }
 
 -- the relay agrees with each world with which it agreed, whether its stores are trusted or not
 abbrev pub AgreesStill : {S : Type 0} {g : Ghosts S} → (old new : System S g) → Type 0

@@ -7,20 +7,20 @@ use Rattle.relay_conf.specs.declared.settings.Config.{Config}
 use Rattle.relay_model.specs.World.{empty_world}
 use Rattle.relay_core.specs.Agreement.{Agrees}
 use Rattle.relay_core.specs.Queues.{jobs_of}
-use Rattle.relay_core.specs.Refusals.{IsLaned}
+use Rattle.relay_core.specs.Refusals.{HasGroupWriters}
 use Rattle.relay_core.specs.Stopping.{stop_of}
-use Rattle.relay_core.specs.declared.system.Lane.{Lane}
+use Rattle.relay_core.specs.declared.system.GroupWriter.{GroupWriter}
 use Rattle.relay_core.specs.declared.system.System.{System}
 
--- a lane without jobs
-pub record IsIdle (lane : Lane) : Type 0 where
-  pub none : jobs_of lane.queue ≡ []
-  pub idle : lane.writer ≡ writers.Idle
+-- a group writer without jobs
+pub record IsIdle (group_writer : GroupWriter) : Type 0 where
+  pub none : jobs_of group_writer.queue ≡ []
+  pub idle : group_writer.writer ≡ writers.Idle
 
--- so many lanes without jobs
-pub record AreIdle (count : ℕ) (lanes : List Lane) : Type 0 where
-  pub count_is : length lanes ≡ count
-  pub each : All IsIdle lanes
+-- so many group writers without jobs
+pub record AreIdle (count : ℕ) (group_writers : List GroupWriter) : Type 0 where
+  pub count_is : length group_writers ≡ count
+  pub each : All IsIdle group_writers
 
 -- The relay of this configuration over these stores agrees with the empty world, in which each
 -- device has failed as often as it had.
@@ -30,6 +30,6 @@ pub record BeginsOver {S : Type 0} {g : Ghosts S} (config : Config) (stores : Li
   pub config_is : system.config ≡ config
   pub agrees : (trusted : Bool) → (trusted ≡ true → All g.honest stores)
       → Agrees trusted system (empty_world (failures_in g stores))
-  pub laned : IsLaned system
+  pub laned : HasGroupWriters system
   -- there was no stop yet
   pub stop_is : stop_of system ≡ 0

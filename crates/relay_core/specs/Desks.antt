@@ -1,10 +1,10 @@
--- What is kept in memory beside the shelf, as a start makes it of a history (docs/PROTOCOL.md, Clean
--- stop and start).
+-- What is kept in memory beside the buffer set, as a start makes it of a history (docs/PROTOCOL.md,
+-- Clean stop and start).
 use Rattle.std.specs.Prelude.{◌≡◌, ◌≤◌, ℕ, List, [], map, length}
 use Rattle.feed_queue.specs.Feeds.{KeepsFeeds, ring_size}
 use Rattle.feed_queue.specs.Left.{AreLeft}
-use Rattle.history_text.specs.History as texts
-use Rattle.history_text.specs.History.{Fits, Holds, history_octets}
+use Rattle.id_history.specs.History as texts
+use Rattle.id_history.specs.History.{Fits, Holds, history_octets}
 use Rattle.id_history.specs.Lasting.{AreLasting, lasting}
 use Rattle.id_history.specs.Shards.{KeepsAll}
 use Rattle.relay_conf.specs.Settings.{places_of_groups}
@@ -37,13 +37,14 @@ pub record Reads (config : Config) (text : List ℕ) (kept : texts.Kept) : Type 
   pub holds : Holds (setting_of config) kept
   pub text_is : text ≡ history_octets kept
 
--- They are made of this history: the ids have what was left of their claims, the rings what was left
--- of their feeds, and there are so many lanes without jobs. Nothing was read of the fronts.
+-- They are made of this history: the ids have what was left of their claims, the rings what was
+-- left of their feeds, and there are so many group writers without jobs. Nothing was read of the
+-- fronts.
 pub record AreOf (config : Config) (kept : texts.Kept) (count : ℕ) (desks : Desks) : Type 0 where
   pub claims : (claim : List ℕ → Claim) → AreLasting kept.ids claim
       → KeepsAll desks.shards (λ id. lasting (claim id))
   pub desk : (feed : ℕ → Feed)
       → AreLeft kept.feeds (map ring_size config.relay.feeds.items) feed
       → KeepsFeeds desks.desk (map ring_size config.relay.feeds.items) feed
-  pub lanes : AreIdle count desks.lanes.items
+  pub group_writers : AreIdle count desks.group_writers.items
   pub expirer : expirer_view desks.expirer ≡ world.Reading []

@@ -35,7 +35,7 @@ expirer_view expirer = stage_view (map passed_view (fronts_of expirer)) expirer.
 abbrev pub IsNextFront : {S : Type 0} {g : Ghosts S} → System S g → Option Front → Type 0
 IsNextFront system answer =
     (trusted : Bool) (σ : State) (openings : ℕ → Option Opening) (failures : ℕ → ℕ)
-    → KeepsTexts trusted system.shelf (terms_of system.config) σ.begun σ.kept openings failures
+    → KeepsTexts trusted system.buffer_set (terms_of system.config) σ.begun σ.kept openings failures
     → IsFrontAt (terms_of system.config) σ
     (slice_get (terms_of system.config).buffers (length (fronts_of system.expirer))) answer
 

@@ -11,4 +11,5 @@ IsIdleAs claims false = (id : List ℕ) × (is_storing (claims id) ≡ true)
 
 -- the answer says of all claims that the shards keep whether an id is being stored
 abbrev pub TellsIdle : Shards → Bool → Type 0
-TellsIdle shards answer = (claims : List ℕ → Claim) → KeepsAll shards claims → IsIdleAs claims answer
+TellsIdle shards answer = (claims : List ℕ → Claim) → KeepsAll shards claims
+    → IsIdleAs claims answer

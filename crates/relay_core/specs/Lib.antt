@@ -7,6 +7,7 @@ pub mod Expiring
 pub mod Figures
 pub mod Idle
 pub mod Openings
+pub mod Peers
 pub mod Queues
 pub mod Reading
 pub mod Refusals

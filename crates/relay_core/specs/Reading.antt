@@ -7,7 +7,7 @@ use Rattle.block_shelf.specs.Calls.{IsFaultAt}
 use Rattle.block_shelf.specs.Keeping.{KeepsTexts}
 use Rattle.block_shelf.specs.Openings.{Opening}
 use Rattle.block_shelf.specs.Reading.{IsFrontFor}
-use Rattle.block_shelf.specs.declared.shelf.Shelf.{Shelf}
+use Rattle.block_shelf.specs.declared.buffer_set.BufferSet.{BufferSet}
 use Rattle.cyc_block.specs.declared.store.BlockStore.{Ghosts}
 use Rattle.cyc_buffer.specs.declared.answers.BufError.{BufError}
 use Rattle.cyc_buffer.specs.declared.answers.BufError.TheVariants as errors
@@ -43,7 +43,7 @@ IsChunkOf w σ token k other found = ⊥
 -- the token's article
 pub data ChunkRead {S : Type 0} {g : Ghosts S} (w : Terms) (σ : State)
     (openings : ℕ → Option Opening) (failures : ℕ → ℕ) (token : Token) (k : ℕ) (read : Chunk)
-    (new : Shelf S g)
+    (new : BufferSet S g)
     : Type 0 where
   HasFound : KeepsTexts true new w σ.begun σ.kept openings failures
       → IsChunkOf w σ token k read (fetched w σ token)
@@ -55,8 +55,8 @@ pub data ChunkRead {S : Type 0} {g : Ghosts S} (w : Terms) (σ : State)
       → ChunkRead w σ openings failures token k read new
 
 -- block k of what lies under a token is read; the article has a block k, or k is 0
-abbrev pub ReadsChunk : {S : Type 0} {g : Ghosts S} → Token → (k : ℕ) → (old : Shelf S g)
-    → Chunk → (new : Shelf S g) → Type 0
+abbrev pub ReadsChunk : {S : Type 0} {g : Ghosts S} → Token → (k : ℕ) → (old : BufferSet S g)
+    → Chunk → (new : BufferSet S g) → Type 0
 ReadsChunk token k old read new =
     (w : Terms) (σ : State) (openings : ℕ → Option Opening) (failures : ℕ → ℕ)
     → KeepsTexts true old w σ.begun σ.kept openings failures

@@ -5,7 +5,7 @@ use Rattle.cyc_block.specs.declared.store.BlockStore.{Ghosts}
 use Rattle.relay_model.specs.Run.{Event, refusal, takes_memory}
 use Rattle.relay_model.specs.State.{State, empty_state}
 use Rattle.relay_model.specs.World.{Fault, Memory, Refuses, World}
-use Rattle.relay_peers.specs.Peers.{session_at}
+use Rattle.relay_core.specs.Peers.{session_at}
 use Rattle.relay_core.specs.Agreement.{Agrees}
 use Rattle.relay_core.specs.Views.{output_view}
 use Rattle.relay_core.specs.declared.event.Output.{Output}
@@ -16,9 +16,9 @@ abbrev pub seen : {S : Type 0} {g : Ghosts S} → System S g → State
 seen system =
     record empty_state { session = session_at system.peers; newest = system.newest }
 
--- each group has its lane
-abbrev pub IsLaned : {S : Type 0} {g : Ghosts S} → System S g → Type 0
-IsLaned system = length system.lanes.items ≡ length (terms_of system.config).groups
+-- each group has its group writer
+abbrev pub HasGroupWriters : {S : Type 0} {g : Ghosts S} → System S g → Type 0
+HasGroupWriters system = length system.group_writers.items ≡ length (terms_of system.config).groups
 
 -- the first reason to refuse the event is answered; where there is none, no other refusal is than
 -- want of memory, and that only where the event takes memory
@@ -33,9 +33,9 @@ IsInOrder event None output =
 pub record RefusesRightly {S : Type 0} {g : Ghosts S} (event : Event) (old : System S g)
     (output : Output) (new : System S g)
     : Type 0 where
-  pub order : IsLaned old
+  pub order : HasGroupWriters old
       → IsInOrder event (refusal (terms_of old.config) (seen old) event) output
-  pub same : IsLaned old → (fault : Fault)
+  pub same : HasGroupWriters old → (fault : Fault)
       → refusal (terms_of old.config) (seen old) event ≡ Some fault → new ≡ old
   pub kept : (fault : Fault) → output_view output ≡ Refuses fault → (trusted : Bool) (x : World)
       → Agrees trusted old x → Agrees trusted new x

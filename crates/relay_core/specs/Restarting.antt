@@ -6,14 +6,14 @@ use Rattle.block_shelf.specs.declared.restarting.RestartFault.{RestartFault}
 use Rattle.block_shelf.specs.declared.restarting.RestartFault.TheVariants as restarts
 use Rattle.cyc_block.specs.declared.store.BlockStore.{Ghosts}
 use Rattle.feed_queue.specs.Feeds.{KeepsFeeds}
-use Rattle.history_text.specs.declared.fault.HistoryError.{HistoryError}
-use Rattle.history_text.specs.declared.fault.HistoryError.TheVariants as errors
+use Rattle.id_history.specs.declared.fault.HistoryError.{HistoryError}
+use Rattle.id_history.specs.declared.fault.HistoryError.TheVariants as errors
 use Rattle.id_history.specs.Shards.{KeepsAll}
 use Rattle.relay_model.specs.Claims.{Claim, after_restart, is_storing}
 use Rattle.relay_model.specs.Run as run
 use Rattle.relay_model.specs.World as world
 use Rattle.relay_model.specs.World.{Fault, Refuses, Rises, World, with_failures}
-use Rattle.relay_peers.specs.Peers.{NoPeers}
+use Rattle.relay_core.specs.Peers.{NoPeers}
 use Rattle.relay_core.specs.Agreement.{Agrees, ring_sizes}
 use Rattle.relay_core.specs.Beginning.{AreIdle}
 use Rattle.relay_core.specs.Expiring.{expirer_view}
@@ -49,8 +49,8 @@ pub record AgreesLater {S : Type 0} {g : Ghosts S} (trusted : Bool) (system : Sy
 
 -- A Restart is refused as not idle exactly where an id is being stored, whatever the stores do, and
 -- then nothing changes at all. Otherwise it may be refused for want of memory, or as not restarted,
--- and then no more is seen to change than how often devices have failed. The number of the stop rises
--- exactly where it isn't refused.
+-- and then no more is seen to change than how often devices have failed. The number of the stop
+-- rises exactly where it isn't refused.
 pub record RestartsRightly {S : Type 0} {g : Ghosts S} (old : System S g) (output : Output)
     (new : System S g)
     : Type 0 where
@@ -77,13 +77,13 @@ RefusedAs (run.Expire shard now) old output new =
     RefusesRightly (run.Expire shard now) old output new
 RefusedAs run.Restart old output new = RestartsRightly old output new
 
--- what it is refused as, where the shelf isn't restarted
+-- what it is refused as, where the buffer set isn't restarted
 abbrev pub refused_as : RestartFault → CoreError
 refused_as restarts.Memory = faults.Memory
 refused_as restarts.Busy = faults.NotRestarted
 refused_as (restarts.Failed number) = faults.NotRestarted
 
--- what is kept in memory beside the shelf, as a Restart leaves it of each world that the relay
+-- what is kept in memory beside the buffer set, as a Restart leaves it of each world that the relay
 -- agrees with
 pub record IsReread {S : Type 0} {g : Ghosts S} (old : System S g) (desks : Desks) : Type 0 where
   pub claims : (trusted : Bool) (x : World) → Agrees trusted old x
@@ -91,7 +91,7 @@ pub record IsReread {S : Type 0} {g : Ghosts S} (old : System S g) (desks : Desk
       → KeepsAll desks.shards (λ id. after_restart (x.state.claim id))
   pub desk : (trusted : Bool) (x : World) → Agrees trusted old x
       → KeepsFeeds desks.desk (ring_sizes (terms_of old.config)) x.state.feed
-  pub lanes : AreIdle (length old.lanes.items) desks.lanes.items
+  pub group_writers : AreIdle (length old.group_writers.items) desks.group_writers.items
   pub expirer : expirer_view desks.expirer ≡ world.Reading []
 
 -- the text of a relay that agrees with a world is that of a history of its configuration
@@ -108,7 +108,7 @@ pub record BeginsAgain {S : Type 0} {g : Ghosts S} (desks : Desks) (stop : ℕ)
     peers = new.peers;
     shards = desks.shards;
     desk = desks.desk;
-    lanes = desks.lanes;
+    group_writers = desks.group_writers;
     expirer = desks.expirer;
     stop = stop;
   }

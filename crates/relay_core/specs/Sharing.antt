@@ -17,14 +17,14 @@ use Rattle.relay_model.specs.Shares.{Shares}
 use Rattle.relay_model.specs.State as model
 use Rattle.relay_model.specs.Terms.{Terms}
 use Rattle.relay_model.specs.World.{World}
-use Rattle.relay_peers.specs.declared.peers.Peer.{Peer}
+use Rattle.relay_core.specs.declared.peers.Peer.{Peer}
 use Rattle.relay_core.specs.Agreement.{AgreesBut, IsFront, SlotIs}
 use Rattle.relay_core.specs.declared.system.System.{System}
 
--- the configuration stays, and there are as many lanes
+-- the configuration stays, and there are as many group writers
 pub record KeepsFrame {S : Type 0} {g : Ghosts S} (old new : System S g) : Type 0 where
   pub config : new.config ≡ old.config
-  pub lanes : length new.lanes.items ≡ length old.lanes.items
+  pub group_writers : length new.group_writers.items ≡ length old.group_writers.items
 
 -- what is asked can be done here: a job's group and a feed are there; a fetch goes on from what it
 -- has gathered, and all that is whole is an article

@@ -2,9 +2,9 @@
 use Rattle.std.specs.Prelude.{◌≡◌, ℕ, Bool, true, false, List, Some, None}
 use Rattle.article_verdict.specs.Config.{terms_of}
 use Rattle.cyc_block.specs.declared.store.BlockStore.{Ghosts}
-use Rattle.history_text.specs.History as texts
-use Rattle.history_text.specs.declared.fault.HistoryError.{HistoryError}
-use Rattle.history_text.specs.declared.fault.HistoryError.TheVariants as errors
+use Rattle.id_history.specs.History as texts
+use Rattle.id_history.specs.declared.fault.HistoryError.{HistoryError}
+use Rattle.id_history.specs.declared.fault.HistoryError.TheVariants as errors
 use Rattle.relay_conf.specs.declared.settings.Config.{Config}
 use Rattle.relay_facts.specs.Started.{HasSameStore, started}
 use Rattle.relay_model.specs.State.{State}
@@ -13,14 +13,14 @@ use Rattle.relay_model.specs.World.{World}
 use Rattle.relay_core.specs.Agreement.{Agrees}
 use Rattle.relay_core.specs.Ahead.{filled_of, is_ahead}
 use Rattle.relay_core.specs.Desks.{Reads}
-use Rattle.relay_core.specs.Refusals.{IsLaned}
+use Rattle.relay_core.specs.Refusals.{HasGroupWriters}
 use Rattle.relay_core.specs.Stopping.{IsShut, stop_of}
 use Rattle.block_shelf.specs.Each.{AreEach}
-use Rattle.block_shelf.specs.Starting.{IsFromOutside, IsHeldBy, IsStartedShelf, IsUnwritten}
+use Rattle.block_shelf.specs.Starting.{IsFromOutside, IsHeldBy, IsStartedBufferSet, IsUnwritten}
 use Rattle.block_shelf.specs.Heads.{IsOpened}
 use Rattle.block_shelf.specs.Heads as heads
 use Rattle.block_shelf.specs.Starting as shelves
-use Rattle.block_shelf.specs.declared.opening.UnopenedShelf.{UnopenedShelf}
+use Rattle.block_shelf.specs.declared.opening.UnopenedBufferSet.{UnopenedBufferSet}
 use Rattle.relay_core.specs.declared.stopped.NotStarted.{NotStarted}
 use Rattle.relay_core.specs.declared.stopped.NotStarted.TheVariants as nots
 use Rattle.block_shelf.specs.declared.starting.StopFault.{StopFault}
@@ -44,13 +44,13 @@ pub record StartsOver {S : Type 0} {g : Ghosts S} (config : Config) (stores : Li
     (text : List ℕ) (system : System S g)
     : Type 0 where
   pub config_is : system.config ≡ config
-  pub laned : IsLaned system
+  pub laned : HasGroupWriters system
   pub history : texts.Kept
   pub reads : Reads config text history
   pub behind : IsAheadAs g config stores history false
-  pub unopened : UnopenedShelf S g
-  pub from_stores : IsStartedShelf stores history.stop unopened
-  pub opened : IsOpened unopened system.shelf
+  pub unopened : UnopenedBufferSet S g
+  pub from_stores : IsStartedBufferSet stores history.stop unopened
+  pub opened : IsOpened unopened system.buffer_set
   pub stop_is : stop_of system ≡ history.stop
   pub newest_is : system.newest ≡ Some history.newest
   pub agrees : (w : Terms) (stop : ℕ) (x : World) → HasSameStore w (terms_of config)
@@ -74,18 +74,18 @@ pub data IsStartRefusal {S : Type 0} (g : Ghosts S) (config : Config) (stores : 
       → IsStartRefusal g config stores text refused
   -- all are, but the history is ahead of them; all stores are unwritten
   IsAhead : (history : texts.Kept) → Reads config text history
-      → (shelf : UnopenedShelf S g) → IsStartedShelf stores history.stop shelf
+      → (buffer_set : UnopenedBufferSet S g) → IsStartedBufferSet stores history.stop buffer_set
       → IsAheadAs g config stores history true → refused.error ≡ faults.Ahead
       → refused.buffer ≡ None → AreEach (IsUnwritten g None) stores refused.stores.items
       → IsStartRefusal g config stores text refused
   -- it isn't, but the device of a buffer failed while its head was opened
   IsUnopened : (history : texts.Kept) → Reads config text history
-      → (shelf : UnopenedShelf S g) → IsStartedShelf stores history.stop shelf
-      → IsAheadAs g config stores history false → heads.IsUnopened shelf refused
+      → (buffer_set : UnopenedBufferSet S g) → IsStartedBufferSet stores history.stop buffer_set
+      → IsAheadAs g config stores history false → heads.IsUnopened buffer_set refused
       → IsStartRefusal g config stores text refused
 
--- what a relay was shut to, with its buffers, groups and feeds, is refused for want of memory or for
--- a device that failed alone
+-- what a relay was shut to, with its buffers, groups and feeds, is refused for want of memory or
+-- for a device that failed alone
 abbrev pub HasCauseFor : {S : Type 0} (g : Ghosts S) → Config → (stores : List S)
     → (text : List ℕ) → Unstarted S → Type 0
 HasCauseFor g config stores text refused =

@@ -1,15 +1,15 @@
--- A clean stop of the relay: what its history tells, and what stores and text hold (docs/PROTOCOL.md,
--- Clean stop and start).
+-- A clean stop of the relay: what its history tells, and what stores and text hold
+-- (docs/PROTOCOL.md, Clean stop and start).
 use Rattle.std.specs.Prelude.{◌≡◌, ◌+◌, ◌-◌, ◌^◌, ℕ, Bool, true, false, List, map, nat_lt, ◌<◌}
 use Rattle.std.specs.Prelude.{if◌then◌else◌, length, All}
 use Rattle.article_verdict.specs.Config.{terms_of}
 use Rattle.cyc_block.specs.declared.store.BlockStore.{Ghosts}
 use Rattle.feed_queue.specs.Feeds.{KeepsFeeds}
 use Rattle.feed_queue.specs.Left.{AreLeft}
-use Rattle.history_text.specs.History as texts
-use Rattle.history_text.specs.History.{Fits, history_octets}
-use Rattle.history_text.specs.Views.{feed_view}
-use Rattle.history_text.specs.declared.kept.KeptFeed.{KeptFeed}
+use Rattle.id_history.specs.History as texts
+use Rattle.id_history.specs.History.{Fits, history_octets}
+use Rattle.id_history.specs.Views.{feed_view}
+use Rattle.id_history.specs.declared.kept.KeptFeed.{KeptFeed}
 use Rattle.id_history.specs.Lasting.{AreLasting}
 use Rattle.relay_facts.specs.Started.{newest_kept}
 use Rattle.relay_model.specs.Claims.{is_storing}
@@ -18,7 +18,7 @@ use Rattle.relay_model.specs.State.{State, Feed}
 use Rattle.relay_model.specs.Terms.{Terms}
 use Rattle.relay_model.specs.World.{World}
 use Rattle.relay_core.specs.Agreement.{Agrees, ring_sizes}
-use Rattle.block_shelf.specs.Stopping.{ArePositions, HoldsTexts, IsBusyShelf, IsShutPartly}
+use Rattle.block_shelf.specs.Stopping.{ArePositions, HoldsTexts, IsBusyBufferSet, IsShutPartly}
 use Rattle.relay_core.specs.declared.stopped.Unstopped.{Unstopped}
 use Rattle.relay_core.specs.declared.stopped.Unstopped.TheVariants as unstoppeds
 use Rattle.relay_core.specs.declared.system.System.{System}
@@ -53,7 +53,7 @@ pub record IsShut {S : Type 0} (g : Ghosts S) (w : Terms) (stop : ℕ) (stores :
     (text : List ℕ) (x : World)
     : Type 0 where
   pub tells : Tells w stop x.state text
-  pub shelf : HoldsTexts g stores stop w x.state.begun x.state.kept x.work.failures
+  pub buffer_set : HoldsTexts g stores stop w x.state.begun x.state.kept x.work.failures
   pub idle : (id : List ℕ) → is_storing (x.state.claim id) ≡ false
   pub well : IsWell w x
 
@@ -75,8 +75,8 @@ IsAtRest system =
     (trusted : Bool) (x : World) → Agrees trusted system x → (id : List ℕ)
     → is_storing (x.state.claim id) ≡ false
 
--- What closing gives holds each world that the relay agreed with, at the next stop; over stores that
--- aren't trusted the text alone does.
+-- What closing gives holds each world that the relay agreed with, at the next stop; over stores
+-- that aren't trusted the text alone does.
 pub record Shuts {S : Type 0} {g : Ghosts S} (old : System S g) (stores : List S)
     (text : List ℕ)
     : Type 0 where
@@ -91,13 +91,14 @@ abbrev pub ComesBack : {S : Type 0} {g : Ghosts S} → System S g → Unstopped 
 ComesBack old (unstoppeds.NotIdle back) = (back ≡ old) × IsStoring old
 ComesBack old (unstoppeds.Memory back) = (back ≡ old) × IsAtRest old
 ComesBack old (unstoppeds.Device number stores) =
-    IsAtRest old × IsShutPartly old.shelf number stores.items
+    IsAtRest old × IsShutPartly old.buffer_set number stores.items
 
--- the same by the shelf alone
-abbrev pub IsFromShelf : {S : Type 0} {g : Ghosts S} → System S g → Unstopped S g → Type 0
-IsFromShelf old (unstoppeds.NotIdle back) = (back ≡ old) × IsBusyShelf old.shelf
-IsFromShelf old (unstoppeds.Memory back) = back ≡ old
-IsFromShelf old (unstoppeds.Device number stores) = IsShutPartly old.shelf number stores.items
+-- the same by the buffer set alone
+abbrev pub IsFromBufferSet : {S : Type 0} {g : Ghosts S} → System S g → Unstopped S g → Type 0
+IsFromBufferSet old (unstoppeds.NotIdle back) = (back ≡ old) × IsBusyBufferSet old.buffer_set
+IsFromBufferSet old (unstoppeds.Memory back) = back ≡ old
+IsFromBufferSet old (unstoppeds.Device number stores) =
+    IsShutPartly old.buffer_set number stores.items
 
 -- this is left of the feeds that the relay's desk keeps
 abbrev pub AreKeptFeeds : {S : Type 0} {g : Ghosts S} → System S g → List KeptFeed → Type 0

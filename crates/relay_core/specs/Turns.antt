@@ -17,9 +17,9 @@ use Rattle.relay_model.specs.Shares as shares
 use Rattle.relay_model.specs.State as model
 use Rattle.relay_model.specs.Terms.{Terms}
 use Rattle.relay_model.specs.World.{Fault, Refuses, World, with_session, output_of}
-use Rattle.relay_peers.specs.Peers.{ClosesPeer, GivesPeer}
-use Rattle.relay_peers.specs.declared.peers.Peer.{Peer}
-use Rattle.relay_peers.specs.declared.peers.Peers.{Peers}
+use Rattle.relay_core.specs.Peers.{ClosesPeer, GivesPeer}
+use Rattle.relay_core.specs.declared.peers.Peer.{Peer}
+use Rattle.relay_core.specs.declared.peers.Peers.{Peers}
 use Rattle.relay_core.specs.Agreement.{AgreesBut, PeerStands}
 use Rattle.relay_core.specs.Views.{output_view}
 use Rattle.relay_core.specs.declared.event.CoreError.TheVariants as faults

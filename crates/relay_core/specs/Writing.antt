@@ -1,9 +1,9 @@
--- What a Write does with the writer of its group taken out of the lane.
+-- What a Write does with the writer of its group taken out of the group writer.
 use Rattle.std.specs.Prelude.{◌≡◌, ◌≢◌, ℕ, true, length, map, slice_get, Some}
 use Rattle.article_verdict.specs.Config.{terms_of}
 use Rattle.block_shelf.specs.Calls.{token_of}
 use Rattle.block_shelf.specs.Keeping.{KeepsTexts}
-use Rattle.block_shelf.specs.declared.shelf.Begun.{Begun}
+use Rattle.block_shelf.specs.declared.buffer_set.Begun.{Begun}
 use Rattle.buffer_group.specs.Jobs.{job_view}
 use Rattle.buffer_group.specs.Writers.{writer_view}
 use Rattle.buffer_group.specs.declared.writer.Writer.{Writer}
@@ -17,28 +17,29 @@ use Rattle.relay_model.specs.Invariants.{IsWell}
 use Rattle.relay_model.specs.Terms.{Terms}
 use Rattle.relay_model.specs.World.{World}
 use Rattle.relay_model.specs.Writers.{Writes}
-use Rattle.relay_peers.specs.Peers.{peer_at}
-use Rattle.relay_core.specs.Agreement.{LaneIs, PeerIs, ring_sizes}
+use Rattle.relay_core.specs.Peers.{peer_at}
+use Rattle.relay_core.specs.Agreement.{GroupWriterIs, PeerIs, ring_sizes}
 use Rattle.relay_core.specs.Expiring.{expirer_view}
 use Rattle.relay_core.specs.Openings.{openings}
 use Rattle.relay_core.specs.Queues.{jobs_of}
-use Rattle.relay_core.specs.declared.system.Lane.{Lane}
+use Rattle.relay_core.specs.declared.system.GroupWriter.{GroupWriter}
 use Rattle.relay_core.specs.declared.system.System.{System}
 
--- all agrees, but that the writer of group h was taken out of its lane, and is this one
+-- all agrees, but that the writer of group h was taken out of its group writer, and is this one
 pub record WriterOut {S : Type 0} {g : Ghosts S} (w : Terms) (h : ℕ) (writer : Writer Begun)
     (system : System S g) (x : World)
     : Type 0 where
   pub newest : x.state.newest ≡ system.newest
   pub claims : KeepsAll system.shards x.state.claim
-  pub count : length system.lanes.items ≡ length w.groups
-  pub queue : (lane : Lane) → slice_get system.lanes.items h ≡ Some lane
-      → x.work.queue h ≡ map job_view (jobs_of lane.queue)
+  pub count : length system.group_writers.items ≡ length w.groups
+  pub queue : (group_writer : GroupWriter) → slice_get system.group_writers.items h
+      ≡ Some group_writer
+      → x.work.queue h ≡ map job_view (jobs_of group_writer.queue)
   pub writer_is : x.work.writer h ≡ writer_view token_of writer
-  pub lanes : (k : ℕ) → k ≢ h
-      → LaneIs (slice_get system.lanes.items k) (x.work.queue k) (x.work.writer k)
+  pub group_writers : (k : ℕ) → k ≢ h
+      → GroupWriterIs (slice_get system.group_writers.items k) (x.work.queue k) (x.work.writer k)
   pub desk : KeepsFeeds system.desk (ring_sizes w) x.state.feed
-  pub shelf : KeepsTexts true system.shelf w x.state.begun x.state.kept
+  pub buffer_set : KeepsTexts true system.buffer_set w x.state.begun x.state.kept
       (openings x.work.writer) x.work.failures
   pub expirer : x.work.expirer ≡ expirer_view system.expirer
   pub peers : (s : ℕ) → PeerIs true w x.state.kept (peer_at system.peers s)

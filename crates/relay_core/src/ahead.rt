@@ -2,15 +2,15 @@
 ghost use Rattle.std.specs.Prelude.{◌≡◌, IfOk, map, nat_lt};
 ghost use Rattle.std.specs.List.{list_any};
 ghost use Rattle.cyc_token.specs.Token.{token_view};
-ghost use Rattle.history_text.specs.Views.{feed_view, history_view, id_view};
+ghost use Rattle.id_history.specs.Views.{feed_view, history_view, id_view};
 ghost use Rattle.news_terms.specs.Places.{on_line};
 ghost use Rattle.relay_core.specs.Ahead.{TellsFilled, all_stored, filled_view, is_ahead};
 ghost use Rattle.relay_core.specs.Ahead.{is_feed_ahead, is_id_ahead, is_unbegun};
 
-use block_shelf::UnopenedShelf;
+use block_shelf::UnopenedBufferSet;
 use cyc_block::BlockStore;
 use cyc_token::Token;
-use history_text::{History, KeptFeed, KeptId};
+use id_history::{History, KeptFeed, KeptId};
 use relay_conf::Buffers;
 use std::alloc::{AllocError, Global};
 
@@ -25,11 +25,11 @@ pub struct Filled {
     pub stored: u64,
 }
 
-/// How far the buffers of a started shelf are filled, in the order of their numbers.
+/// How far the buffers of a started buffer set are filled, in the order of their numbers.
 pub(crate) fn all_filled<S: BlockStore + Drop>(
     alloc: Global,
     settings: &Buffers,
-    unopened: &UnopenedShelf<S>,
+    unopened: &UnopenedBufferSet<S>,
 ) -> Result<Vec<Filled>, AllocError>
     ensures { IfOk result (λ filled. TellsFilled settings.now unopened.now filled.items) }
 {

@@ -15,6 +15,6 @@ impl<S: BlockStore> System<FailAt<S>> {
         ensures agrees { AgreesStill self.old self.new }
         ensures frame { KeepsFrame self.old self.new }
     {
-        self.shelf.arm(buffer, k);
+        self.buffer_set.arm(buffer, k);
     }
 }

@@ -4,15 +4,15 @@ ghost use Rattle.block_shelf.specs.Filling.{IsBeginRefusal};
 ghost use Rattle.relay_core.specs.Beginning.{AreIdle, BeginsOver};
 
 use crate::expiring::Expirer;
+use crate::peers::Peers;
 use crate::queue::Queue;
-use crate::system::{Lane, System};
-use block_shelf::{BeginError, Shelf, unbegun};
+use crate::system::{GroupWriter, System};
+use block_shelf::{BeginError, BufferSet, unbegun};
 use buffer_group::Writer;
 use cyc_block::BlockStore;
 use feed_queue::FeedDesk;
 use id_history::Shards;
 use relay_conf::Config;
-use relay_peers::Peers;
 use std::alloc::{AllocError, Global};
 use std::hash::RandomState;
 use std::random::RandomSource;
@@ -38,9 +38,9 @@ impl<S: BlockStore> System<S> {
         let shards = Shards::new(rt, alloc)?;
         let desk = FeedDesk::new(alloc, &config.relay.feeds)?;
         let expirer = Expirer::new(alloc)?;
-        let lanes = new_lanes(alloc, config.buffers.groups.len())?;
-        let shelf = match Shelf::new(alloc, &config.buffers, stores) {
-            Ok(shelf) => shelf,
+        let group_writers = new_group_writers(alloc, config.buffers.groups.len())?;
+        let buffer_set = match BufferSet::new(alloc, &config.buffers, stores) {
+            Ok(buffer_set) => buffer_set,
             Err(error) => return Err(unbegun(error)),
         };
         Ok(System {
@@ -51,24 +51,24 @@ impl<S: BlockStore> System<S> {
             peers: Peers::new(alloc, hasher),
             shards,
             desk,
-            shelf,
-            lanes,
+            buffer_set,
+            group_writers,
             expirer,
             stop: 0,
         })
     }
 }
 
-/// So many lanes, without jobs.
-pub(crate) fn new_lanes(alloc: Global, count: usize) -> Result<Vec<Lane>, AllocError>
-    ensures { IfOk result (λ lanes. AreIdle count lanes.items) }
+/// So many group writers, without jobs.
+pub(crate) fn new_group_writers(alloc: Global, count: usize) -> Result<Vec<GroupWriter>, AllocError>
+    ensures { IfOk result (λ group_writers. AreIdle count group_writers.items) }
 {
-    let mut lanes = Vec::with_capacity(alloc, count)?;
+    let mut group_writers = Vec::with_capacity(alloc, count)?;
     for _ in 0..count {
-        lanes.push_reserved(Lane {
+        group_writers.push_reserved(GroupWriter {
             queue: Queue::new(alloc)?,
             writer: Writer::Idle,
         });
     }
-    Ok(lanes)
+    Ok(group_writers)
 }

@@ -1,36 +1,35 @@
-//! What is kept in memory beside the shelf, as a start makes it of a history.
+//! What is kept in memory beside the buffer set, as a start makes it of a history.
 ghost use Rattle.std.specs.Prelude.{◌≡◌, ℕ, IfErr, IfOk, OnErr, length, map};
 ghost use Rattle.std.specs.List.{AllZip};
 ghost use Rattle.feed_queue.specs.Feeds.{ring_size};
-ghost use Rattle.history_text.specs.History.{RingHolds};
-ghost use Rattle.history_text.specs.Views.{feed_view, history_view, setting_view};
-ghost use Rattle.history_text.specs.declared.fault.HistoryError.TheVariants as errors;
+ghost use Rattle.id_history.specs.History.{RingHolds};
+ghost use Rattle.id_history.specs.Views.{feed_view, history_view, setting_view};
+ghost use Rattle.id_history.specs.declared.fault.HistoryError.TheVariants as errors;
 ghost use Rattle.relay_conf.specs.Settings.{places_of_groups};
 ghost use Rattle.relay_conf.specs.Places.{group_over, group_view, numbered_buffers};
 ghost use Rattle.relay_core.specs.Desks.{AreOf, Reads, members_of, setting_of};
-ghost use Rattle.history_text.specs.History as texts;
+ghost use Rattle.id_history.specs.History as texts;
 
-use crate::beginning::new_lanes;
+use crate::beginning::new_group_writers;
 use crate::expiring::Expirer;
-use crate::system::Lane;
+use crate::system::GroupWriter;
 use feed_queue::FeedDesk;
-use history_text::{History, HistoryError, Setting, read};
-use id_history::Shards;
+use id_history::{History, HistoryError, Setting, Shards, read};
 use relay_conf::{Buffers, Config, GroupConf};
 use std::alloc::{AllocError, Global};
 use std::hash::RandomState;
 
-/// What is kept in memory beside the shelf.
+/// What is kept in memory beside the buffer set.
 #[derive(Drop)]
 pub(crate) struct Desks {
     pub(crate) shards: Shards,
     pub(crate) desk: FeedDesk,
-    pub(crate) lanes: Vec<Lane>,
+    pub(crate) group_writers: Vec<GroupWriter>,
     pub(crate) expirer: Expirer,
 }
 
 impl Desks {
-    /// What is made of a history, with so many lanes. No token is posted.
+    /// What is made of a history, with so many group writers. No token is posted.
     pub(crate) fn resume(
         alloc: Global,
         hasher: RandomState,
@@ -45,12 +44,12 @@ impl Desks {
         let History { feeds, ids, .. } = history;
         let desk = FeedDesk::resume(alloc, &config.relay.feeds, &feeds)?;
         let shards = Shards::resume(alloc, hasher, ids)?;
-        let lanes = new_lanes(alloc, count)?;
+        let group_writers = new_group_writers(alloc, count)?;
         let expirer = Expirer::new(alloc)?;
         Ok(Desks {
             shards,
             desk,
-            lanes,
+            group_writers,
             expirer,
         })
     }

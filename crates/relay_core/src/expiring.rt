@@ -123,7 +123,7 @@ impl<S: BlockStore> System<S> {
         if read >= BUFFER_LIMIT {
             return None;
         }
-        self.shelf.front(read as u8)
+        self.buffer_set.front(read as u8)
     }
 
     /// Forgets in a shard, with the fronts that were read; so many more Expires do so.

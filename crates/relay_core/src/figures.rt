@@ -4,57 +4,21 @@ ghost use Rattle.std.specs.Prelude.{◌≡◌, ◌+◌, ◌≤◌, ℕ};
 ghost use Rattle.feed_queue.specs.Taking.{AreCounts};
 ghost use Rattle.relay_model.specs.Figures as model;
 ghost use Rattle.relay_model.specs.State.{Feed};
-ghost use Rattle.relay_core.specs.Figures.{feed_figures_view};
+ghost use Rattle.relay_report.specs.Figures.{feed_figures_view};
 
 use crate::system::System;
-use block_shelf::BufferFigures;
 use cyc_block::BlockStore;
 use feed_queue::Counts as FeedCounts;
-use id_history::Counts;
 use line_words::Octets;
+use relay_report::{FeedFigures, Figures, NamedBuffer, NamedFeed};
 use std::alloc::AllocError;
-
-/// A buffer's name, with its figures.
-#[derive(Debug, Drop)]
-pub struct NamedBuffer {
-    pub name: Octets,
-    pub figures: BufferFigures,
-}
-
-/// The figures of a feed, in tokens.
-#[derive(Clone, Copy, Debug, PartialEq, Eq)]
-pub struct FeedFigures {
-    /// How many wait in the feed's ring.
-    pub waiting: u64,
-    /// How many the feed ever gained.
-    pub gained: u64,
-    /// How many of them were overwritten before they were taken.
-    pub overwritten: u64,
-}
-
-/// The name of a feed's peer, with the feed's figures.
-#[derive(Debug, Drop)]
-pub struct NamedFeed {
-    pub peer: Octets,
-    pub figures: FeedFigures,
-}
-
-/// The figures of a relay.
-#[derive(Debug, Drop)]
-pub struct Figures {
-    /// Of each buffer, in the order of the configuration.
-    pub buffers: Vec<NamedBuffer>,
-    /// Of each feed, in the order of the configuration.
-    pub feeds: Vec<NamedFeed>,
-    /// How many message-ids are known, by kind.
-    pub ids: Counts,
-}
 
 impl<S: BlockStore> System<S> {
     ghost use Rattle.std.specs.Prelude.{Bool, IfOk, map};
     ghost use Rattle.relay_core.specs.Agreement.{Agrees};
-    ghost use Rattle.relay_core.specs.Figures.{AreFigures, buffer_view, config_of, feed_view};
-    ghost use Rattle.relay_core.specs.Figures.{named_buffers, named_feeds};
+    ghost use Rattle.relay_core.specs.Figures.{config_of};
+    ghost use Rattle.relay_report.specs.Figures.{AreFigures, buffer_view, feed_view};
+    ghost use Rattle.relay_report.specs.Figures.{named_buffers, named_feeds};
     ghost use Rattle.relay_model.specs.World.{World};
 
     /// The figures of the relay as it is. The error is want of memory for the lists and the names.
@@ -77,7 +41,7 @@ impl<S: BlockStore> System<S> {
         let buffers = &self.config.buffers.buffers;
         let mut named = Vec::with_capacity(self.alloc, buffers.len())?;
         for (number, buffer) in buffers.iter().enumerate() {
-            if let Some(figures) = self.shelf.figures(number as u8) {
+            if let Some(figures) = self.buffer_set.figures(number as u8) {
                 let name = Octets::copied(self.alloc, buffer.name.as_slice())?;
                 named.push_reserved(NamedBuffer { name, figures });
             }

@@ -4,17 +4,21 @@ ghost use Rattle.std.specs.Prelude.{◌≡◌};
 ghost use Rattle.relay_core.specs.Reading.{ReadsChunk, read_view};
 
 use article_fetch::Chunk;
-use block_shelf::Shelf;
+use block_shelf::BufferSet;
 use cyc_block::{BlockStore, CHUNK_OCTETS};
 use cyc_buffer::{BufError, Fault, Found};
 use cyc_token::Token;
 
 /// Reads block k of the article under a token.
-pub(crate) fn read_chunk<S: BlockStore>(shelf: &mut Shelf<S>, token: &Token, k: u32) -> Chunk
-    ensures { ReadsChunk (token_view token.now) k shelf.old result shelf.new }
+pub(crate) fn read_chunk<S: BlockStore>(
+    buffer_set: &mut BufferSet<S>,
+    token: &Token,
+    k: u32,
+) -> Chunk
+    ensures { ReadsChunk (token_view token.now) k buffer_set.old result buffer_set.new }
 {
     let mut octets = [0; CHUNK_OCTETS];
-    let found = shelf.read(token, k, &mut octets);
+    let found = buffer_set.read(token, k, &mut octets);
     Chunk::of_read(found_or_fault(found), octets)
 }
 

@@ -6,11 +6,11 @@ ghost use Rattle.relay_core.specs.Restarting.{refused_as};
 use crate::desks::{Desks, read_history};
 use crate::event::{CoreError, Output};
 use crate::idle::is_idle;
+use crate::peers::Peers;
 use crate::system::System;
 use block_shelf::RestartFault;
 use cyc_block::BlockStore;
-use history_text::HistoryError;
-use relay_peers::Peers;
+use id_history::HistoryError;
 
 impl<S: BlockStore> System<S> {
     ghost use Rattle.std.specs.Prelude.{IfErr, IfOk};
@@ -37,7 +37,7 @@ impl<S: BlockStore> System<S> {
             Err(HistoryError::Memory) => return Output::Refused(CoreError::Memory),
             Err(HistoryError::BadHistory) => return Output::Refused(CoreError::NotRestarted),
         };
-        match self.shelf.restart(self.alloc, stop) {
+        match self.buffer_set.restart(self.alloc, stop) {
             Ok(()) => {
                 self.begin_again(desks, stop);
                 Output::Quiet
@@ -46,8 +46,8 @@ impl<S: BlockStore> System<S> {
         }
     }
 
-    /// What is kept beside the shelf, written as the text of its history at this stop, and read
-    /// back.
+    /// What is kept beside the buffer set, written as the text of its history at this stop, and
+    /// read back.
     fn reread(&self, stop: u64) -> Result<Desks, HistoryError>
         ensures reread { IfOk result (IsReread self.now) }
         ensures unread { IfErr result (IsUnread self.now) }
@@ -62,7 +62,7 @@ impl<S: BlockStore> System<S> {
             self.hasher,
             &self.config,
             history,
-            self.lanes.len(),
+            self.group_writers.len(),
         )?;
         Ok(desks)
     }
@@ -74,19 +74,19 @@ impl<S: BlockStore> System<S> {
         let Desks {
             shards,
             desk,
-            lanes,
+            group_writers,
             expirer,
         } = desks;
         self.peers = Peers::new(self.alloc, self.hasher);
         self.shards = shards;
         self.desk = desk;
-        self.lanes = lanes;
+        self.group_writers = group_writers;
         self.expirer = expirer;
         self.stop = stop;
     }
 }
 
-/// What a Restart is refused as, where the shelf isn't restarted.
+/// What a Restart is refused as, where the buffer set isn't restarted.
 fn refused_as(fault: RestartFault) -> CoreError
     ensures { result ≡ refused_as fault }
 {

@@ -1,9 +1,9 @@
 //! The step of what is shared that a Turn takes: one call of one part.
+use crate::peers::Peer;
 use crate::reading::read_chunk;
 use crate::system::System;
 use cyc_block::BlockStore;
 use peer_session::{Answer, Step};
-use relay_peers::Peer;
 
 impl<S: BlockStore> System<S> {
     ghost use Rattle.std.specs.Prelude.{◌≡◌, ℕ};
@@ -27,7 +27,7 @@ impl<S: BlockStore> System<S> {
                 Err(_) => Answer::Memory,
             },
             Step::Look(id) => Answer::Look(self.shards.look(&id)),
-            Step::Read(token, k) => Answer::Chunk(read_chunk(&mut self.shelf, &token, k)),
+            Step::Read(token, k) => Answer::Chunk(read_chunk(&mut self.buffer_set, &token, k)),
             Step::TakeQueue(feed, most) => self.take_queue(feed, most),
             Step::Refuse(id) => match self.shards.refuse(&id, number, now) {
                 Ok(()) => Answer::Nothing,
@@ -74,15 +74,15 @@ impl<S: BlockStore> System<S> {
         ensures frame { KeepsFrame self.old self.new }
         ensures peers { self.new.peers ≡ self.old.peers }
     {
-        if group >= self.lanes.len() {
+        if group >= self.group_writers.len() {
             return Answer::Pushed(false);
         }
-        if self.lanes[group].queue.is_full() {
+        if self.group_writers[group].queue.is_full() {
             return Answer::Pushed(false);
         }
         match peer.session.hand_over() {
             Some(job) => {
-                self.lanes[group].queue.push(job);
+                self.group_writers[group].queue.push(job);
                 Answer::Pushed(true)
             }
             None => Answer::Pushed(false),

@@ -4,13 +4,13 @@ ghost use Rattle.relay_core.specs.Starting.{unread_as};
 
 use crate::ahead::{all_filled, is_ahead};
 use crate::desks::{Desks, read_history};
+use crate::peers::Peers;
 use crate::stopped::NotStarted;
 use crate::system::System;
 use block_shelf::{StopFault, Unstarted, start};
 use cyc_block::BlockStore;
-use history_text::HistoryError;
+use id_history::HistoryError;
 use relay_conf::Config;
-use relay_peers::Peers;
 use std::alloc::Global;
 use std::hash::RandomState;
 use std::random::RandomSource;
@@ -19,10 +19,10 @@ impl<S: BlockStore + Drop> System<S> {
     ghost use Rattle.std.specs.Prelude.{◌≡◌, IfErr, IfOk, length, map};
     ghost use Rattle.relay_core.specs.Starting.{IsNotStarted, IsRefusedRightly, StartsOver};
 
-    /// The relay over the stores of one that was closed, the i-th for buffer i, from the text of its
-    /// history. It is refused in the order of StopFault; want of memory may come in place of each.
-    /// All stores come back then, unwritten but for a Device of the last: their heads are opened
-    /// once all else is done.
+    /// The relay over the stores of one that was closed, the i-th for buffer i, from the text of
+    /// its history. It is refused in the order of StopFault; want of memory may come in place of
+    /// each. All stores come back then, unwritten but for a Device of the last: their heads are
+    /// opened once all else is done.
     pub fn start(
         rt: &impl RandomSource,
         alloc: Global,
@@ -56,7 +56,8 @@ impl<S: BlockStore + Drop> System<S> {
         requires { map (λ store. length (S.blocks store)) stores.items
             ≡ map (λ buffer. buffer.blocks) config.buffers.buffers.items }
         ensures started { IfOk result (StartsOver config stores.items text.now) }
-        ensures refused { IfErr result (IsRefusedRightly S.BlockStore config stores.items text.now) }
+        ensures refused { IfErr result
+            (IsRefusedRightly S.BlockStore config stores.items text.now) }
     {
         // A text that can't be read refuses before a store is called.
         let history = match read_history(alloc, &config, text) {
@@ -88,14 +89,14 @@ impl<S: BlockStore + Drop> System<S> {
             Err(_) => return Err(refused(unopened.into_stores(), StopFault::Memory)),
         };
         // No head is opened before all memory is taken: what is refused until here is unwritten.
-        let shelf = match unopened.open() {
-            Ok(shelf) => shelf,
+        let buffer_set = match unopened.open() {
+            Ok(buffer_set) => buffer_set,
             Err(unstarted) => return Err(unstarted),
         };
         let Desks {
             shards,
             desk,
-            lanes,
+            group_writers,
             expirer,
         } = desks;
         Ok(System {
@@ -106,8 +107,8 @@ impl<S: BlockStore + Drop> System<S> {
             peers: Peers::new(alloc, hasher),
             shards,
             desk,
-            shelf,
-            lanes,
+            buffer_set,
+            group_writers,
             expirer,
             stop,
         })

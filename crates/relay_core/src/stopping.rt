@@ -7,7 +7,7 @@ use crate::stopped::{Stopped, Unstopped};
 use crate::system::System;
 use block_shelf::Unshut;
 use cyc_block::BlockStore;
-use history_text::{History, KeptFeed, write};
+use id_history::{History, KeptFeed, write};
 use std::alloc::AllocError;
 
 /// The groups that there can be.
@@ -15,7 +15,7 @@ const GROUP_LIMIT: usize = 256;
 
 impl<S: BlockStore> System<S> {
     ghost use Rattle.std.specs.Prelude.{◌≡◌, IfErr, IfOk};
-    ghost use Rattle.relay_core.specs.Stopping.{AreKeptFeeds, ComesBack, HaveRoom, IsFromShelf};
+    ghost use Rattle.relay_core.specs.Stopping.{AreKeptFeeds, ComesBack, HaveRoom, IsFromBufferSet};
     ghost use Rattle.relay_core.specs.Stopping.{Shuts, TellsHistory, next_stop, stop_of};
     ghost use Rattle.block_shelf.specs.Stopping.{HoldsKept};
 
@@ -44,9 +44,9 @@ impl<S: BlockStore> System<S> {
     fn shut_with(self, stop: u64, history: Vec<u8>) -> Result<Stopped<S>, Unstopped<S>>
     where
         S: Drop,
-        ensures shut { IfOk result (λ shut. HoldsKept stop self.shelf shut.stores.items) }
+        ensures shut { IfOk result (λ shut. HoldsKept stop self.buffer_set shut.stores.items) }
         ensures history { IfOk result (λ shut. shut.history.items ≡ history.items) }
-        ensures back { IfErr result (IsFromShelf self) }
+        ensures back { IfErr result (IsFromBufferSet self) }
     {
         let System {
             alloc,
@@ -56,15 +56,15 @@ impl<S: BlockStore> System<S> {
             peers,
             shards,
             desk,
-            shelf,
-            lanes,
+            buffer_set,
+            group_writers,
             expirer,
             stop: last,
         } = self;
-        match shelf.shut(alloc, stop) {
+        match buffer_set.shut(alloc, stop) {
             Ok(stores) => Ok(Stopped { stores, history }),
             Err(Unshut::Device(number, stores)) => Err(Unstopped::Device(number, stores)),
-            Err(Unshut::Busy(shelf)) => Err(Unstopped::NotIdle(System {
+            Err(Unshut::Busy(buffer_set)) => Err(Unstopped::NotIdle(System {
                 alloc,
                 config,
                 hasher,
@@ -72,12 +72,12 @@ impl<S: BlockStore> System<S> {
                 peers,
                 shards,
                 desk,
-                shelf,
-                lanes,
+                buffer_set,
+                group_writers,
                 expirer,
                 stop: last,
             })),
-            Err(Unshut::Memory(shelf)) => Err(Unstopped::Memory(System {
+            Err(Unshut::Memory(buffer_set)) => Err(Unstopped::Memory(System {
                 alloc,
                 config,
                 hasher,
@@ -85,8 +85,8 @@ impl<S: BlockStore> System<S> {
                 peers,
                 shards,
                 desk,
-                shelf,
-                lanes,
+                buffer_set,
+                group_writers,
                 expirer,
                 stop: last,
             })),
@@ -104,7 +104,7 @@ impl<S: BlockStore> System<S> {
     pub(crate) fn text(&self, stop: u64) -> Result<Vec<u8>, AllocError>
         ensures { IfOk result (λ text. TellsHistory self.now stop text.items) }
     {
-        let positions = self.shelf.positions(self.alloc)?;
+        let positions = self.buffer_set.positions(self.alloc)?;
         // There are no more groups.
         if positions.len() > GROUP_LIMIT {
             return Err(AllocError);

@@ -1,13 +1,13 @@
 //! The relay: its parts, and how it begins.
 use crate::expiring::Expirer;
+use crate::peers::Peers;
 use crate::queue::Queue;
-use block_shelf::{Begun, Shelf};
+use block_shelf::{Begun, BufferSet};
 use buffer_group::Writer;
 use cyc_block::BlockStore;
 use feed_queue::FeedDesk;
 use id_history::Shards;
 use relay_conf::Config;
-use relay_peers::Peers;
 use std::alloc::Global;
 use std::hash::RandomState;
 
@@ -16,14 +16,14 @@ pub(crate) const LAST_MOMENT: u64 = 253_370_764_799;
 
 /// A group's jobs that wait, and how far its writer is.
 #[derive(Debug)]
-pub(crate) struct Lane {
+pub(crate) struct GroupWriter {
     pub(crate) queue: Queue,
     pub(crate) writer: Writer<Begun>,
 }
 
-impl Drop for Lane {
+impl Drop for GroupWriter {
     fn drop(self) {
-        let Lane {
+        let GroupWriter {
             queue: _queue,
             writer,
         } = self;
@@ -59,8 +59,8 @@ pub struct System<S: BlockStore> {
     pub(crate) peers: Peers,
     pub(crate) shards: Shards,
     pub(crate) desk: FeedDesk,
-    pub(crate) shelf: Shelf<S>,
-    pub(crate) lanes: Vec<Lane>,
+    pub(crate) buffer_set: BufferSet<S>,
+    pub(crate) group_writers: Vec<GroupWriter>,
     pub(crate) expirer: Expirer,
     /// The number of the last stop; before the first it is 0.
     pub(crate) stop: u64,

@@ -3,15 +3,15 @@ ghost use Rattle.std.specs.Prelude.{◌≤◌};
 ghost use Rattle.peer_session.specs.Session.{session_view};
 ghost use Rattle.relay_core.specs.Turns.{HearsMemory, HeardAs, PutsBack};
 ghost use Rattle.relay_model.specs.Run.{is_running};
-ghost use Rattle.relay_peers.specs.Peers.{HasPlace};
+ghost use Rattle.relay_core.specs.Peers.{HasPlace};
 ghost use Rattle.relay_model.specs.Terms.{last_moment};
 
 use crate::event::{CoreError, Output};
+use crate::peers::{Peer, Peers};
 use crate::system::{LAST_MOMENT, System};
 use cyc_block::BlockStore;
 use line_words::Octets;
 use peer_session::{Answer, Session};
-use relay_peers::{Peer, Peers};
 
 impl<S: BlockStore> System<S> {
     ghost use Rattle.std.specs.Prelude.{◌≡◌, ◌≤◌};

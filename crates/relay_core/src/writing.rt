@@ -23,21 +23,21 @@ impl<S: BlockStore> System<S> {
         ensures refused { RefusesRightly (run.Write group now) self.old result self.new }
         ensures frame { KeepsFrame self.old self.new }
     {
-        if group >= self.lanes.len() {
+        if group >= self.group_writers.len() {
             return Output::Refused(CoreError::NoGroup);
         }
         if now > LAST_MOMENT {
             return Output::Refused(CoreError::BadMoment);
         }
-        let taken = mem::replace(&mut self.lanes[group].writer, Writer::Idle);
+        let taken = mem::replace(&mut self.group_writers[group].writer, Writer::Idle);
         let writer = self.advance(group, taken, now);
-        let_go(mem::replace(&mut self.lanes[group].writer, writer));
+        let_go(mem::replace(&mut self.group_writers[group].writer, writer));
         Output::Quiet
     }
 
-    /// What the writer of a group does, taken out of its lane.
+    /// What the writer of a group does, taken out of its group writer.
     fn advance(&mut self, group: usize, writer: Writer<Begun>, now: u64) -> Writer<Begun>
-        requires { group < vec_len self.old.lanes }
+        requires { group < vec_len self.old.group_writers }
         ensures advances { Advances group now writer self.old result self.new }
         ensures frame { KeepsFrame self.old self.new }
     {
@@ -57,12 +57,12 @@ impl<S: BlockStore> System<S> {
 
     /// It takes the oldest job of its queue, if there is one.
     fn pop(&mut self, group: usize) -> Writer<Begun>
-        requires { group < vec_len self.old.lanes }
+        requires { group < vec_len self.old.group_writers }
         ensures advances { (now : ℕ)
             → Advances group now writers.Idle self.old result self.new }
         ensures frame { KeepsFrame self.old self.new }
     {
-        match self.lanes[group].queue.pop() {
+        match self.group_writers[group].queue.pop() {
             Some(job) => Writer::Popped(job),
             None => Writer::Idle,
         }
@@ -76,7 +76,7 @@ impl<S: BlockStore> System<S> {
     {
         let length = job.article.length();
         match self
-            .shelf
+            .buffer_set
             .begin(job.article.group, job.article.class, length)
         {
             Some(begun) => Writer::Writing(job, begun, 0),
@@ -91,10 +91,13 @@ impl<S: BlockStore> System<S> {
         ensures frame { KeepsFrame self.old self.new }
     {
         if written >= job.article.blocks() {
-            let token = self.shelf.finish(begun);
+            let token = self.buffer_set.finish(begun);
             return Writer::Finished(job, token);
         }
-        match self.shelf.write_next(&begun, job.article.text.as_slice()) {
+        match self
+            .buffer_set
+            .write_next(&begun, job.article.text.as_slice())
+        {
             Ok(_last) => Writer::Writing(job, begun, written + 1),
             Err(_fault) => Writer::Failed(job, Some(begun)),
         }
@@ -121,7 +124,7 @@ impl<S: BlockStore> System<S> {
             → Advances group now (writers.Failed job (Some begun)) self.old result self.new }
         ensures frame { KeepsFrame self.old self.new }
     {
-        self.shelf.abandon(begun);
+        self.buffer_set.abandon(begun);
         Writer::Failed(job, None)
     }
 

@@ -19,7 +19,7 @@ use Rattle.relay_drill.specs.Todo.{Todo}
 use Rattle.relay_drill.specs.declared.fault.DrillError.{DrillError}
 use Rattle.relay_drill.specs.declared.fault.DrillError.TheVariants as faults
 use Rattle.relay_drill.proofs.Plays.{plays_on}
-use Rattle.relay_drill.proofs.Prints.{appends_both, appends_none}
+use Rattle.relay_report.proofs.Writes.{appends_both, appends_none}
 
 -- the text of told and of those that follow is written in two steps
 both_gained : (first second : List Told) (before mid after : Option (List ℕ))
@@ -60,7 +60,8 @@ error_gives error (Err passed) done halted broken is e gives =
 module _ {S : Type 0} {g : Ghosts S} where
   -- Something was passed over without an event, by a relay that agrees with the same worlds.
   pub goes_past : (a b : Todo) (old new : System S g) (held : Option (List ℕ))
-      → ((config : Config) (x : World) → Under config old x → Under config new x × Plays config a x [] [] x b)
+      → ((config : Config) (x : World) → Under config old x → Under config new x
+      × Plays config a x [] [] x b)
       → Goes a b old new held held
   goes_past a b old new held past config x under =
       let same = past config x under in

@@ -32,8 +32,7 @@ use Rattle.relay_drill.specs.declared.fault.DrillError.TheVariants.{Unseeded, De
 use Rattle.relay_drill.specs.declared.fault.DrillError.TheVariants as faults
 use Rattle.relay_drill.specs.declared.line.Line as code
 use Rattle.relay_drill.proofs.Courses.{gives_map}
-use Rattle.relay_drill.proofs.Prints.{appends_none}
-use Rattle.relay_drill.proofs.Writes.{keeps_same}
+use Rattle.relay_report.proofs.Writes.{appends_none, keeps_same}
 
 -- What holds of every text holds of a script that is known.
 if_known : (script : Option (List ℕ)) (P : List ℕ → Type 0) → ((text : List ℕ) → P text)

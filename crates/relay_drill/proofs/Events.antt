@@ -14,15 +14,16 @@ use Rattle.relay_core.specs.declared.system.System.{System}
 use Rattle.relay_model.specs.Run as run
 use Rattle.relay_model.specs.Run.{Step, is_running, is_there}
 use Rattle.relay_model.specs.World.{World, Output}
-use Rattle.relay_report.specs.Report.{Reports, ReportsOn}
+use Rattle.relay_report.specs.Report.{ReportsOn}
+use Rattle.relay_drill.specs.Reporting.{Reports}
 use Rattle.relay_drill.specs.Play.{Plays, Rests, HasDone, HasTurned, IsClosed, HasOpened}
 use Rattle.relay_drill.specs.Play.{HasNotOpened, HasRestarted, HasReported, is_refused}
 use Rattle.relay_drill.specs.Print.{Told, Answered, Restarted, Reported, printed_all, told_text}
 use Rattle.relay_drill.specs.Progress.{Breaks, Goes, Under}
 use Rattle.relay_drill.specs.Todo.{Todo, Next, TurnOf, Restarting, Report, Opening}
-use Rattle.relay_drill.specs.Written.{GainsFront}
+use Rattle.relay_report.specs.Written.{GainsFront}
 use Rattle.relay_drill.proofs.Courses.{goes_past}
-use Rattle.relay_drill.proofs.Prints.{appends_none}
+use Rattle.relay_report.proofs.Writes.{appends_none}
 
 -- the text of one thing
 one_gained : (one : Told) (before after : Option (List ℕ)) → Appends before after (told_text one)

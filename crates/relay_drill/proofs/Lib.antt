@@ -7,4 +7,3 @@ pub mod Plays
 pub mod Prints
 pub mod Scripts
 pub mod Todos
-pub mod Writes

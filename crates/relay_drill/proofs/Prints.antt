@@ -1,7 +1,7 @@
 -- What is printed line by line, and what a writer holds after one thing and another.
 use Rattle.std.proofs.Common.{◌≡◌, ℕ, ◌<◌, Bool, true, false, List, [], ◌∷◌, ◌++◌, ◌==◌, length}
 use Rattle.std.proofs.Common.{Option, Some, None, refl, sym, ap, ◌∙◌, arith, append_assoc}
-use Rattle.std.proofs.Common.{append-nil}
+use Rattle.std.proofs.Common.{append-nil, subst}
 use Rattle.std.proofs.lemmas.Option.{none-some}
 use Rattle.std.specs.Prelude.{◌&&◌}
 use Rattle.std.specs.Option.{unwrap_or, option_map}
@@ -9,6 +9,8 @@ use Rattle.std.specs.Io.KnownBytes.{Appends}
 use Rattle.news_terms.specs.Lines.{first_line}
 use Rattle.news_terms.proofs.LineLemmas.{first_line_ends, first_line_goes, map_some}
 use Rattle.relay_drill.specs.Print.{lines_of, session_line, session_lines}
+use Rattle.relay_report.specs.Written.{GainsFront}
+use Rattle.relay_report.proofs.Writes.{front_within}
 
 -- The octets that a line and a rest are equal to have that line and that rest.
 some_parts : (p : List ℕ × List ℕ) (line rest : List ℕ) → Some p ≡ Some (line, rest)
@@ -59,20 +61,6 @@ lines_of-none (a ∷ b ∷ cs) some e = by_test (a == 13 && b == 10) refl (lines
         let joined = after (omega arith) nothing in
         rw (t, joined) refl
 
--- A writer that gains one text and then another gains both.
-pub appends_both : (old mid new : Option (List ℕ)) (first second : List ℕ) → Appends old mid first
-    → Appends mid new second → Appends old new (first ++ second)
-appends_both None mid new first second a b = tt
-appends_both (Some xs) None new first second a b = absurd a
-appends_both (Some xs) (Some ys) None first second a b = absurd b
-appends_both (Some xs) (Some ys) (Some zs) first second a b =
-    rw (b, a) (append_assoc xs first second)
-
--- A writer that gains nothing holds what it held.
-pub appends_none : (old : Option (List ℕ)) → Appends old old []
-appends_none None = tt
-appends_none (Some xs) = simp append-nil
-
 -- Where one more line was printed, what is left is what follows it.
 pub one_more_line : (session : ℕ) (octets done left line rest : List ℕ)
     → session_lines session octets ≡ done ++ session_lines session left
@@ -84,3 +72,17 @@ one_more_line session octets done left line rest e cut =
     ++ session_lines session rest = rw cut refl in
     e ∙ ap (λ (text : List ℕ). done ++ text) next
     ∙ sym (append_assoc done (session_line session line) (session_lines session rest))
+
+-- A front of one more line is a front of all lines.
+pub front_of_lines : (session : ℕ) (octets done left line rest : List ℕ)
+    (old mid new : Option (List ℕ))
+    → session_lines session octets ≡ done ++ session_lines session left
+    → lines_of left ≡ line ∷ lines_of rest → Appends old mid done
+    → GainsFront (session_line session line) mid new
+    → GainsFront (session_lines session octets) old new
+front_of_lines session octets done left line rest old mid new e cut a f =
+    let next : session_lines session left ≡ session_line session line
+    ++ session_lines session rest = rw cut refl in
+    let P : List ℕ → Type 0 = λ text. GainsFront text old new in
+    subst P (sym (e ∙ ap (λ (text : List ℕ). done ++ text) next))
+    (front_within old mid new done (session_line session line) (session_lines session rest) a f)

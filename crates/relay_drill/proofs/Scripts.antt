@@ -4,7 +4,8 @@ use Rattle.std.proofs.Common.{None, Option, refl, sym, ap, append_assoc, ◌∙�
 use Rattle.std.specs.Option.{option_map}
 use Rattle.relay_drill.specs.Fault.{LineGives, line_view}
 use Rattle.relay_drill.specs.declared.line.Line as code
-use Rattle.relay_drill.specs.Script.{Keyword, Line, Names, keyword_of, line_before, line_of, line_with}
+use Rattle.relay_drill.specs.Script.{Keyword, Line, Names, keyword_of, line_before, line_of}
+use Rattle.relay_drill.specs.Script.{line_with}
 use Rattle.relay_drill.specs.Script.{script_from}
 use Rattle.line_words.specs.Parts.{parts}
 use Rattle.line_words.specs.Comments.{is_skipped}

@@ -62,7 +62,8 @@ pub line_next : (groups at : ℕ) (lines : List Line) (line : Line) (stand : Sta
     → lines_ask groups (map line_view (drop at lines)) stand ≡ line_asks groups (line_view line)
     stand (lines_ask groups (map line_view (drop (at + 1) lines)))
 line_next groups at lines line stand h is =
-    rw (← is) at (at_drop_more (λ left. lines_ask groups (map line_view left) stand) lines at line h)
+    rw (← is) at (at_drop_more (λ left. lines_ask groups (map line_view left) stand)
+    lines at line h)
 
 -- No line is left.
 pub line_last : (groups at : ℕ) (lines : List Line) (stand : Stand) → length lines ≤ at
@@ -76,7 +77,8 @@ pub piece_next : (session size mid : ℕ) (rest piece after : List ℕ) (more : 
     → after ≡ drop mid rest → bring_each session (pieces_in (length rest) size rest) more ≡ Next
     (Bytes session piece) (bring_each session (pieces_in (length after) size after) more)
 piece_next session size mid rest piece after more some h m p a =
-    ap (λ pieces. bring_each session pieces more) (next_pieces size mid rest piece after some h m p a)
+    ap (λ pieces. bring_each session pieces more)
+    (next_pieces size mid rest piece after some h m p a)
 
 -- No piece is left.
 pub piece_last : (session size : ℕ) (rest : List ℕ) (more : Todo) → length rest ≡ 0

@@ -59,8 +59,8 @@ ScriptBreaks config script before after =
     × Broke config (asked_by config lines) first_world before after
 
 -- what the answer says of the script and of what the writer held before and holds after; that the
--- relay wasn't seeded, or a device of its failed before, is said of a script without a bad line alone,
--- and nothing was written
+-- relay wasn't seeded, or a device of its failed before, is said of a script without a bad line
+-- alone, and nothing was written
 abbrev pub DrillGives : Config → Result (Unit {0}) DrillError → Option (List ℕ)
     → Option (List ℕ) → Option (List ℕ) → Type 0
 DrillGives config (Ok done) script before after =

@@ -3,9 +3,9 @@ pub mod Fault
 pub mod Play
 pub mod Print
 pub mod Progress
+pub mod Reporting
 pub mod Script
 pub mod Stores
 pub mod Text
 pub mod Todo
 pub mod Words
-pub mod Written

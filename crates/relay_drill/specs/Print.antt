@@ -52,8 +52,8 @@ restart_text (Sent session octets) = printed (Sent session octets)
 restart_text (Ended session octets) = printed (Ended session octets)
 restart_text (Refuses fault) = printed (Refuses fault)
 
--- what a drill tells: what an event is answered, what a Restart is, or the report of the relay as it
--- is
+-- what a drill tells: what an event is answered, what a Restart is, or the report of the relay as
+-- it is
 pub data Told : Type 0 where
   Answered : (output : Output) → Told
   Restarted : (output : Output) → Told

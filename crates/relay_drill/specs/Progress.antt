@@ -15,7 +15,7 @@ use Rattle.relay_drill.specs.Play.{Plays}
 use Rattle.relay_drill.specs.Print.{Told, printed_all, told_text}
 use Rattle.relay_drill.specs.Todo as todo
 use Rattle.relay_drill.specs.Todo.{Todo}
-use Rattle.relay_drill.specs.Written.{GainsFront}
+use Rattle.relay_report.specs.Written.{GainsFront}
 
 -- the relay has this configuration, and agrees with this world
 pub record Under {S : Type 0} {g : Ghosts S} (config : Config) (relay : System S g) (x : World)

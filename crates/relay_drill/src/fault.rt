@@ -3,7 +3,7 @@ ghost use Rattle.std.specs.Prelude.{◌≡◌, Some};
 ghost use Rattle.relay_drill.specs.Text.{text_of};
 ghost use Rattle.relay_drill.specs.declared.fault.DrillError.TheVariants as faults;
 
-use crate::written::Unwritten;
+use relay_report::Unwritten;
 use std::alloc::{AllocError, AllocFailed};
 use std::error::Error;
 use std::fmt;

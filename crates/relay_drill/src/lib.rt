@@ -10,11 +10,10 @@ pub mod laws;
 mod line;
 mod play;
 mod print;
+mod report;
 mod script;
 mod whole;
 mod words;
-mod written;
 
 pub use fault::DrillError;
 pub use whole::{drill, drill_failing, read_all};
-pub use written::{Unwritten, put, put_all};

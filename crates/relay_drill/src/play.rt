@@ -13,11 +13,11 @@ ghost use Rattle.relay_drill.specs.Todo.{write_each};
 use crate::fault::DrillError;
 use crate::line::{Line, PieceSize};
 use crate::print::{print, print_restart};
-use crate::written::put;
+use crate::report::report;
 use cyc_block::{FailAt, MemoryBlocks};
 use line_words::Octets;
 use relay_core::{Event, Output, System};
-use relay_report::report;
+use relay_report::put;
 use std::alloc::Global;
 use std::io::Write;
 

@@ -4,12 +4,12 @@ ghost use Rattle.relay_core.specs.Views.{fault_view, output_view};
 ghost use Rattle.relay_drill.specs.Print as terms;
 ghost use Rattle.relay_drill.specs.Print.{lines_of, printed, restart_text, session_line};
 ghost use Rattle.relay_drill.specs.Print.{session_lines};
-ghost use Rattle.relay_drill.specs.Written.{Writes};
+ghost use Rattle.relay_report.specs.Written.{Writes};
 
-use crate::written::{Unwritten, put, put_all};
 use itoa::Buffer;
 use memchr::memmem;
 use relay_core::{CoreError, Output};
+use relay_report::{Unwritten, put, put_all};
 use std::io::Write;
 
 /// Prints an output.

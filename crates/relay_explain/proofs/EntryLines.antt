@@ -1,6 +1,7 @@
 -- The lines that begin entries, one line more.
 use Rattle.std.proofs.Common.{◌≡◌, ◌∙◌, ◌≤◌, ◌<◌, ◌+◌, ap, ap₂, sym, zero-add, refl, arith, ℕ}
-use Rattle.std.proofs.Common.{true, false, List, [], ◌∷◌, ◌++◌, length, map, take, codes, append-nil}
+use Rattle.std.proofs.Common.{true, false, List, [], ◌∷◌, ◌++◌, length, map, take, codes}
+use Rattle.std.proofs.Common.{append-nil}
 use Rattle.std.proofs.Math.ListN.{get_or}
 use Rattle.std.proofs.lemmas.List.{get_or-map, length-map, take_all, take_more}
 use Rattle.std.proofs.lemmas.List.Elements.{filter_map-append}
@@ -26,7 +27,8 @@ one_more : (lines : List (Bor (List ℕ))) (k : ℕ) (d : Bor (List ℕ)) → k 
 one_more lines k d there =
     let all = enumerate_from 0 (read lines) in
     let line : List ℕ = (get_or lines k d).now in
-    let within : k < length (read lines) = omega (arith, there, length-map lines (λ line. line.now)) in
+    let within : k < length (read lines) =
+    omega (arith, there, length-map lines (λ line. line.now)) in
     let listed : k < length all = omega (arith, within, length-enumerate_from 0 (read lines)) in
     let one : get_or all k (k, line) ≡ (k, line) =
     get_or-enumerate_from 0 (read lines) k (k, line) within

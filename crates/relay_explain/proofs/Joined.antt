@@ -1,5 +1,6 @@
 -- Texts one behind the other, and one more.
-use Rattle.std.proofs.Common.{◌≡◌, ◌∙◌, ap, sym, List, ℕ, [], ◌∷◌, ◌++◌, map, take, ◌<◌, ◌+◌, length}
+use Rattle.std.proofs.Common.{◌≡◌, ◌∙◌, ap, sym, List, ℕ, [], ◌∷◌, ◌++◌, map, take, ◌<◌, ◌+◌}
+use Rattle.std.proofs.Common.{length}
 use Rattle.std.proofs.Common.{append_assoc, Bor}
 use Rattle.std.proofs.Math.ListN.{get_or}
 use Rattle.std.proofs.lemmas.List.{take_more, map-append}

@@ -10,7 +10,7 @@ use Rattle.news_terms.specs.Pattern.{matches, permits, verdict}
 use Rattle.news_terms.specs.StorageClass.{is_at_most, takes, takes_groups, takes_size}
 use Rattle.news_terms.proofs.ExpressionReadings.{one_expression}
 use Rattle.relay_conf.specs.Storage.{entry_view}
-use Rattle.relay_conf.specs.declared.settings.Method.{Method}
+use Rattle.relay_conf.specs.declared.settings.StorageEntry.{StorageEntry}
 use Rattle.relay_explain.specs.Entries.{IsSpelled, Said, covers_newsgroups, covers_sizes}
 use Rattle.relay_explain.specs.Entries.{is_limit_within, shadows}
 
@@ -33,7 +33,7 @@ within (Some limit) (Some other) size w m =
     le-leb size other (omega (arith, leb-true limit other w, leb-true size limit m))
 
 -- An entry that covers another's sizes takes each size that the other takes.
-sizes : (first other : Method) (size : ℕ) → covers_sizes first other ≡ true
+sizes : (first other : StorageEntry) (size : ℕ) → covers_sizes first other ≡ true
     → takes_size (entry_view other) size ≡ true → takes_size (entry_view first) size ≡ true
 sizes first other size covers taken =
     let c = and_parts _ _ covers in

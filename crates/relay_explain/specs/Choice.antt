@@ -3,7 +3,7 @@ use Rattle.std.specs.Prelude.{ℕ, List, ◌++◌, codes, decimal, map, slice_ge
 use Rattle.std.specs.Prelude.{option_map}
 use Rattle.line_words.specs.Parts.{parts}
 use Rattle.news_terms.specs.StorageClass.{chosen_entry}
-use Rattle.store_class.specs.Choice.{given}
+use Rattle.relay_conf.specs.Choice.{given}
 use Rattle.relay_conf.specs.Storage.{entry_view}
 use Rattle.relay_conf.specs.declared.cycbuff.BufferConf.{BufferConf}
 use Rattle.relay_conf.specs.declared.cycbuff.GroupConf.{GroupConf}
@@ -29,4 +29,4 @@ abbrev pub choice_text : Config → (newsgroups : List ℕ) → (size : ℕ) →
 choice_text config newsgroups size =
     newsgroups ++ codes ", " ++ decimal size ++ codes " octets: "
     ++ taken_text config (option_map given
-    (chosen_entry (map entry_view config.methods.items) (parts 44 newsgroups) size))
+    (chosen_entry (map entry_view config.storage_entries.items) (parts 44 newsgroups) size))

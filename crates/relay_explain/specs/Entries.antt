@@ -10,7 +10,7 @@ use Rattle.news_terms.specs.Pattern.{IsExpressionText}
 use Rattle.relay_conf.specs.StorageLines.{key_and_value}
 use Rattle.relay_conf.specs.declared.cycbuff.GroupConf.{GroupConf}
 use Rattle.relay_conf.specs.declared.settings.Config.{Config}
-use Rattle.relay_conf.specs.declared.settings.Method.{Method}
+use Rattle.relay_conf.specs.declared.settings.StorageEntry.{StorageEntry}
 use Rattle.relay_explain.specs.Buffers.{largest_stored}
 use Rattle.relay_explain.specs.Lines.{begins, odd_line, told_line, words_in}
 use Rattle.relay_explain.specs.Patterns.{pattern_odds}
@@ -49,10 +49,10 @@ pub record Said : Type 0 where
   pub number : ℕ
   pub line : ℕ
   pub newsgroups : List ℕ
-  pub entry : Method
+  pub entry : StorageEntry
 
 -- the entry of this number, as the lines say it
-abbrev pub said_entry : (lines : List (List ℕ)) → ℕ × Method → Said
+abbrev pub said_entry : (lines : List (List ℕ)) → ℕ × StorageEntry → Said
 said_entry lines one =
     let line = unwrap_or (slice_get (entry_lines lines) one.0) 0 in
     record {
@@ -64,7 +64,7 @@ said_entry lines one =
 
 -- all entries, as the lines say them
 abbrev pub said_entries : Config → (lines : List (List ℕ)) → List Said
-said_entries config lines = map (said_entry lines) (enumerate_from 0 config.methods.items)
+said_entries config lines = map (said_entry lines) (enumerate_from 0 config.storage_entries.items)
 
 -- the text of an entry's expression is that expression
 abbrev pub IsSpelled : Said → Type 0
@@ -77,7 +77,7 @@ is_limit_within None (Some other) = false
 is_limit_within (Some limit) (Some other) = nat_le limit other
 
 -- an entry takes each size that the other takes
-abbrev pub covers_sizes : (entry other : Method) → Bool
+abbrev pub covers_sizes : (entry other : StorageEntry) → Bool
 covers_sizes entry other =
     nat_le entry.smallest other.smallest && is_limit_within other.largest entry.largest
 
@@ -127,7 +127,7 @@ entry_told config said =
     ++ group_name (slice_get config.buffers.groups.items said.entry.group)
 
 -- no size that an article may have is taken
-unfoldable pub takes_no_size : (largest_stored : ℕ) → Method → Bool
+unfoldable pub takes_no_size : (largest_stored : ℕ) → StorageEntry → Bool
 takes_no_size largest_stored entry =
     nat_lt largest_stored entry.smallest
     || not (is_limit_within (Some entry.smallest) entry.largest)

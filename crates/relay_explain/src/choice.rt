@@ -8,9 +8,8 @@ use crate::groups::group_told;
 use crate::text::put;
 use itoa::Buffer;
 use line_words::cut;
-use relay_conf::{BufferConf, Config, GroupConf};
+use relay_conf::{BufferConf, Config, GroupConf, choose};
 use std::alloc::{AllocError, Global};
-use store_class::choose;
 
 /// The text of where an article goes of these newsgroups, with commas between them, and of so many
 /// octets as it is stored: its class, its group and the buffers of that, or that it is refused.
@@ -39,7 +38,7 @@ pub fn explain_choice(
         alloc,
         &mut text,
         config,
-        choose(&config.methods, &groups, size),
+        choose(&config.storage_entries, &groups, size),
     )?;
     Ok(text)
 }

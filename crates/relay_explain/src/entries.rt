@@ -9,7 +9,7 @@ use crate::patterns::put_pattern_odds;
 use crate::rows::{Row, rows_of};
 use crate::text::{put, put_line, put_odd};
 use itoa::Buffer;
-use relay_conf::{Config, Method};
+use relay_conf::{Config, StorageEntry};
 use std::alloc::{AllocError, Global};
 
 /// The file in which entries are said.
@@ -26,7 +26,7 @@ pub(crate) fn put_entries(
     ensures { OnOk result (text.new.items ≡ text.old.items
         ++ terms.entries_text config.now (map (λ line. line.now) lines.now)) }
 {
-    let rows = rows_of(alloc, &config.methods, lines)?;
+    let rows = rows_of(alloc, &config.storage_entries, lines)?;
     put_rows(alloc, text, config, &rows)?;
     put_no_entries(text, &rows)
 }
@@ -167,7 +167,7 @@ fn group_name(config: &Config, group: u16) -> &[u8]
 
 /// Whether no size is taken that an article may have.
 #[tactic(auto, unfolding(crate::specs::Entries::takes_no_size))]
-fn takes_no_size(largest_stored: u64, entry: &Method) -> bool
+fn takes_no_size(largest_stored: u64, entry: &StorageEntry) -> bool
     ensures { result ≡ terms.takes_no_size largest_stored entry.now }
 {
     largest_stored < entry.smallest || !is_limit_within(Some(entry.smallest), entry.largest)
@@ -216,7 +216,7 @@ fn shadows(row: &Row<'_>, other: &Row<'_>) -> bool
 }
 
 /// Whether an entry takes each size that the other takes.
-fn covers_sizes(entry: &Method, other: &Method) -> bool
+fn covers_sizes(entry: &StorageEntry, other: &StorageEntry) -> bool
     ensures { result ≡ terms.covers_sizes entry.now other.now }
 {
     entry.smallest <= other.smallest && is_limit_within(other.largest, entry.largest)

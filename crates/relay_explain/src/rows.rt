@@ -7,7 +7,7 @@ ghost use Rattle.relay_explain.specs.Entries as terms;
 
 use crate::lines::has_word;
 use line_words::trim;
-use relay_conf::Method;
+use relay_conf::StorageEntry;
 use std::alloc::{AllocError, Global};
 use std::marker::Model;
 
@@ -18,7 +18,7 @@ pub(crate) struct Row<'a> {
     pub(crate) number: usize,
     pub(crate) line: usize,
     pub(crate) newsgroups: &'a [u8],
-    pub(crate) entry: &'a Method,
+    pub(crate) entry: &'a StorageEntry,
 }
 
 impl<'a> Model for Row<'a> {
@@ -37,16 +37,16 @@ impl<'a> Model for Row<'a> {
 /// All entries, as the lines say them.
 pub(crate) fn rows_of<'a>(
     alloc: Global,
-    methods: &'a [Method],
+    storage_entries: &'a [StorageEntry],
     lines: &[&'a [u8]],
 ) -> Result<Vec<Row<'a>>, AllocError>
     ensures { IfOk result (λ rows. rows.items
         ≡ map (terms.said_entry (map (λ line. line.now) lines.now))
-        (enumerate_from 0 methods.now)) }
+        (enumerate_from 0 storage_entries.now)) }
 {
     let begins = entry_lines(alloc, lines)?;
     let mut rows = Vec::new(alloc);
-    for (place, entry) in methods.iter().enumerate() {
+    for (place, entry) in storage_entries.iter().enumerate() {
         let line = number_at(&begins, place);
         rows.push(Row {
             number: place + 1,

@@ -1,6 +1,7 @@
 -- How a step that neither begins nor ends a write changes a claim: it stays, or nothing is begun
 -- for it before and after, and its moment is one that there is, or what was stored is forgotten.
-use Rattle.std.proofs.Common.{◌≡◌, ◌∙◌, ℕ, ◌+◌, ◌≤◌, ◌==◌, ◌&&◌, nat_le, Bool, true, false, List, Option}
+use Rattle.std.proofs.Common.{◌≡◌, ◌∙◌, ℕ, ◌+◌, ◌≤◌, ◌==◌, ◌&&◌, nat_le, Bool, true, false, List}
+use Rattle.std.proofs.Common.{Option}
 use Rattle.std.proofs.Common.{None}
 use Rattle.std.proofs.Common.{Some, if◌then◌else◌, refl, sym, ap, subst, true≢false}
 use Rattle.news_terms.specs.Token.{Token}

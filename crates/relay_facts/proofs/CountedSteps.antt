@@ -162,7 +162,8 @@ turn_counted w x s now output x' turns counted =
 front_counted : (w : Terms) (x : World) (shard now : ℕ) (fronts : List Passed)
     (next : Option Buffer) → IsCounted w x → IsCounted w (reads_front w x shard now fronts next)
 front_counted w x shard now fronts None counted =
-    counted_still w x (forgotten w x shard now fronts 15) (λ g. refl) refl refl (λ f. refl) (λ g. refl)
+    counted_still w x (forgotten w x shard now fronts 15) (λ g. refl) refl refl
+    (λ f. refl) (λ g. refl)
     counted
 front_counted w x shard now fronts (Some buffer) counted =
     counted_still w x (reads_front w x shard now fronts (Some buffer)) (λ g. refl) refl refl

@@ -243,7 +243,8 @@ write_counted w x g now x' (FailsToWrite job token written failures τ has left 
     let next = Failed job (Some token) in
     subst (IsCounted w) (sym e)
     (subst (λ ρ. IsCounted w (with_failures (writer_at x ρ g next) failures)) (sym fails.after)
-    (writer_counted w x _ g next (λ h. refl) refl refl (λ f. refl) (λ h. refl) zero-le zero-le counted))
+    (writer_counted w x _ g next (λ h. refl) refl refl (λ f. refl) (λ h. refl) zero-le
+    zero-le counted))
 write_counted w x g now x' (HasStored job token written τ has all stores e) orderly counted =
     subst (IsCounted w) (sym e)
     (finished_counted w x g job token written τ has stores orderly counted)
@@ -257,7 +258,8 @@ write_counted w x g now x' (Forgets job τ has abandons e) orderly counted =
     let next = Forgotten job.session in
     subst (IsCounted w) (sym e)
     (subst (λ ρ. IsCounted w (writer_at x ρ g next)) (sym abandons.after)
-    (writer_counted w x _ g next (λ h. refl) refl refl (λ f. refl) (λ h. refl) zero-le zero-le counted))
+    (writer_counted w x _ g next (λ h. refl) refl refl (λ f. refl) (λ h. refl) zero-le
+    zero-le counted))
 write_counted w x g now x' (TellsKept s has e) orderly counted =
     subst (IsCounted w) (sym e)
     (writer_counted w x (answered x g s IsKept) g Idle (λ h. refl) refl refl (λ f. refl) (λ h. refl)

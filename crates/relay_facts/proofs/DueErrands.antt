@@ -17,7 +17,8 @@ use Rattle.relay_model.specs.Asks.{or_push, leaving_due, without_offer}
 use Rattle.relay_model.specs.Awaited.{IsFree, Errand}
 use Rattle.relay_model.specs.Awaited.{WaitsFor, Awaits}
 use Rattle.relay_model.specs.Claims.{Accepted}
-use Rattle.relay_model.specs.State.{Session, Phase, Ready, Owes, Holds, Waits, Fetches, Leaving}
+use Rattle.relay_model.specs.State.{Session, Phase, Ready, AwaitsBlock, Holds, Waits, Fetches}
+use Rattle.relay_model.specs.State.{Leaving}
 use Rattle.relay_model.specs.State.{Ended, Transfer, TakesThis, Has, Job, in_phase}
 use Rattle.relay_model.specs.State.{with_unread, with_offers}
 use Rattle.relay_model.specs.Terms.{Terms, Reason}
@@ -79,7 +80,7 @@ command_asks w x s one a free now (Check id) d e =
 command_asks w x s one a free now (Ihave id) d e =
     due_is x s one (offer_asked one Has id) a (offer_asks x s one Has id free) d e
 command_asks w x s one a free now (TakeThis id) d e =
-    due_is x s (in_phase one (Owes TakesThis id)) GoesOn free tt d e
+    due_is x s (in_phase one (AwaitsBlock TakesThis id)) GoesOn free tt d e
 command_asks w x s one a free now (Fetch part id) d e = due_is x s one (Looks part id) a free d e
 command_asks w x s one a free now (FetchToken word) d e =
     due_is x s one e.0 a (token_asks x s word e.0 free e.1) d e.2
@@ -163,7 +164,7 @@ pub phase_asks : (w : Terms) (x : World) (s : ℕ) (old : Session) → Awaits x 
     → (d : Due) → IsDueIn w old now phase d → DueAwaits x s d
 phase_asks w x s old a now Ready is d e =
     ready_asks w x s old a (subst (Awaits x s) is a) now (next_line old.unread) d e
-phase_asks w x s old a now (Owes transfer id) is d e =
+phase_asks w x s old a now (AwaitsBlock transfer id) is d e =
     owing_asks w x s old a (subst (Awaits x s) is a) transfer id now
     (next_block w.max_article old.unread) d e
 phase_asks w x s old a now (Holds id article) is d e =

@@ -1,5 +1,6 @@
 -- What is due in a Turn: the session goes on as it may, and an article that is taken is sound.
-use Rattle.std.proofs.Common.{◌≡◌, ◌∙◌, ◌<◌, ℕ, true, false, List, [], ◌∷◌, length, Option, None, Some}
+use Rattle.std.proofs.Common.{◌≡◌, ◌∙◌, ◌<◌, ℕ, true, false, List, [], ◌∷◌, length, Option, None}
+use Rattle.std.proofs.Common.{Some}
 use Rattle.std.proofs.Common.{Result, Ok, Err, refl, sym, ap, subst}
 use Rattle.std.proofs.lemmas.Bool.{cond_both}
 use Rattle.std.proofs.lemmas.Option.{none-some}
@@ -19,7 +20,8 @@ use Rattle.relay_model.specs.Claims.{Accepted}
 use Rattle.relay_model.specs.Invariants.{IsSoundArticle, held, may_carry}
 use Rattle.relay_model.specs.Judging.{Judges}
 use Rattle.relay_model.specs.Run.{is_running}
-use Rattle.relay_model.specs.State.{Session, Phase, Ready, Owes, Holds, Waits, Fetches, Leaving}
+use Rattle.relay_model.specs.State.{Session, Phase, Ready, AwaitsBlock, Holds, Waits, Fetches}
+use Rattle.relay_model.specs.State.{Leaving}
 use Rattle.relay_model.specs.State.{Ended, Transfer, TakesThis, Has, Job, in_phase, with_unread}
 use Rattle.relay_model.specs.State.{with_offers}
 use Rattle.relay_model.specs.Terms.{Terms, Reason}
@@ -118,8 +120,8 @@ command_fits w old s f none now (Check id) d e =
 command_fits w old s f none now (Ihave id) d e =
     due_is w old s (offer_asked s Has id) f (offer_fits w s Has id none) d e
 command_fits w old s f none now (TakeThis id) d e =
-    due_is w old (in_phase s (Owes TakesThis id)) GoesOn
-    (in_idle_phase w old s (Owes TakesThis id) f none refl) tt d e
+    due_is w old (in_phase s (AwaitsBlock TakesThis id)) GoesOn
+    (in_idle_phase w old s (AwaitsBlock TakesThis id) f none refl) tt d e
 command_fits w old s f none now (Fetch part id) d e = due_is w old s (Looks part id) f none d e
 command_fits w old s f none now (FetchToken word) d e =
     due_is w old s e.0 f (token_fits w s word e.0 none e.1) d e.2
@@ -214,7 +216,7 @@ phase_fits : (w : Terms) → IsSound w → (old : Session) → IsFit w old → F
     → old.phase ≡ phase → (d : Due) → IsDueIn w old now phase d → DueFits w old d
 phase_fits w sound old fit f now Ready is d e =
     ready_fits w old f (fit.carries (ap may_carry is)) now (next_line old.unread) d e
-phase_fits w sound old fit f now (Owes transfer id) is d e =
+phase_fits w sound old fit f now (AwaitsBlock transfer id) is d e =
     owing_fits w sound old f (fit.carries (ap may_carry is)) fit.peer transfer id now
     (next_block w.max_article old.unread) d e
 phase_fits w sound old fit f now (Holds id article) is d e =

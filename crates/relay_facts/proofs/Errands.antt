@@ -5,7 +5,8 @@ use Rattle.std.proofs.lemmas.Bool.{eqb-true, eqb-false}
 use Rattle.std.proofs.lemmas.Option.{none-some, same_Some}
 use Rattle.relay_model.specs.Awaited.{told_by, IsStoredFor, IsFree, Errand, NoErrand, BeingStored}
 use Rattle.relay_model.specs.Awaited.{ToBeTold, IsInSlot, Awaits, IsAwaited}
-use Rattle.relay_model.specs.State.{Session, Phase, Ready, Owes, Holds, Waits, Fetches, Leaving}
+use Rattle.relay_model.specs.State.{Session, Phase, Ready, AwaitsBlock, Holds, Waits, Fetches}
+use Rattle.relay_model.specs.State.{Leaving}
 use Rattle.relay_model.specs.State.{Ended, put_at}
 use Rattle.relay_model.specs.World.{World}
 use Rattle.relay_facts.proofs.Puts.{put_at_both}
@@ -74,7 +75,7 @@ errand_on x y s same (IsInSlot outcome slot none untold) =
 pub awaits_on : (x y : World) (s : ℕ) → SameErrand x y s → (phase : Phase) → Awaits x s phase
     → Awaits y s phase
 awaits_on x y s same Ready a = free_on x y s same a
-awaits_on x y s same (Owes transfer id) a = free_on x y s same a
+awaits_on x y s same (AwaitsBlock transfer id) a = free_on x y s same a
 awaits_on x y s same (Holds id article) a = free_on x y s same a
 awaits_on x y s same (Waits transfer id) a = record {
   errand = errand_on x y s same a.errand;
@@ -88,7 +89,7 @@ awaits_on x y s same Ended a = errand_on x y s same a
 -- whatever its phase, one thing at most is on its way
 pub errand_of : (x : World) (s : ℕ) (phase : Phase) → Awaits x s phase → Errand x s
 errand_of x s Ready a = NoErrand a
-errand_of x s (Owes transfer id) a = NoErrand a
+errand_of x s (AwaitsBlock transfer id) a = NoErrand a
 errand_of x s (Holds id article) a = NoErrand a
 errand_of x s (Waits transfer id) a = a.errand
 errand_of x s (Fetches asked token had) a = NoErrand a
@@ -108,7 +109,7 @@ pub awaits_next : (x y : World) (s : ℕ) (phase : Phase) → Awaits x s phase �
     → Errand y s
     → (IsFree y s → ⊥) → ((id : List ℕ) → IsStoredFor y s id → ⊥) → Awaits y s phase
 awaits_next x y s Ready a busy errand some none = absurd (busy a)
-awaits_next x y s (Owes transfer id) a busy errand some none = absurd (busy a)
+awaits_next x y s (AwaitsBlock transfer id) a busy errand some none = absurd (busy a)
 awaits_next x y s (Holds id article) a busy errand some none = absurd (busy a)
 awaits_next x y s (Waits transfer id) a busy errand some none =
     record { errand = errand; some = some; own = λ other o. absurd (none other o) }

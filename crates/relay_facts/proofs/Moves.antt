@@ -23,7 +23,8 @@ use Rattle.relay_model.specs.Shares.{ring_of, after_take_of, pushed, untold}
 use Rattle.relay_model.specs.State.{State, Session, Job, Feed}
 use Rattle.relay_model.specs.Terms.{Terms, queue_limit, last_moment}
 use Rattle.relay_model.specs.World.{World, Output, Expirer, Forgetting, with_claim}
-use Rattle.relay_model.specs.World.{with_session, with_failures, Fault, NoSession, NoGroup, BadMoment}
+use Rattle.relay_model.specs.World.{with_session, with_failures, Fault, NoSession, NoGroup}
+use Rattle.relay_model.specs.World.{BadMoment}
 use Rattle.relay_model.specs.World as world
 use Rattle.relay_model.specs.Writers.{Begins, Stores, Fails, Accepts, Abandons, Writes, NoJob, Pops}
 use Rattle.relay_model.specs.Writers.{HasBegun, FindsWorn, WritesBlock, FailsToWrite, HasStored}
@@ -138,7 +139,8 @@ shared_same w x s now timed (Offers transfer id) answer y e =
     moved x.state y (with_claim x id (after_offer s (x.state.claim id))) e.1
     (claim_changes x id (after_offer s (x.state.claim id)) (offer_goes s (x.state.claim id)))
 shared_same w x s now timed (Looks part id) answer y e = moved x.state y x e.1 (same_store x.state)
-shared_same w x s now timed (Reads asked token had) answer y reads = reading_same w x token answer y reads
+shared_same w x s now timed (Reads asked token had) answer y reads =
+    reading_same w x token answer y reads
 shared_same w x s now timed (TakesQueue feed most) answer y e =
     moved x.state y (queue_taken x (ring_of (slice_get w.feeds feed)) feed most) e.1
     (queue_same x (ring_of (slice_get w.feeds feed)) feed most)

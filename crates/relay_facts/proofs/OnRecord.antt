@@ -5,7 +5,8 @@ use Rattle.std.proofs.lemmas.Bool.{cond_both}
 use Rattle.std.proofs.lemmas.List.Elements.{All-nil, All-push, All-weaker}
 use Rattle.std.specs.List.{list_any}
 use Rattle.news_terms.specs.Token.{Token}
-use Rattle.relay_model.specs.Claims.{Accepted, Claim, Unknown, Storing, Stored, Begun, Failed, Whole}
+use Rattle.relay_model.specs.Claims.{Accepted, Claim, Unknown, Storing, Stored, Begun, Failed}
+use Rattle.relay_model.specs.Claims.{Whole}
 use Rattle.relay_model.specs.Invariants.{IsSized}
 use Rattle.relay_model.specs.OnRecord.{IsOnRecord, IsTimed, IsBelow, HasText}
 use Rattle.relay_model.specs.Run.{Event, Step}
@@ -15,7 +16,8 @@ use Rattle.relay_model.specs.World.{World, Output, empty_world}
 use Rattle.relay_model.specs.Writers.{Begins, Accepts, gaining, token_at}
 use Rattle.relay_facts.specs.Sound.{IsSound}
 use Rattle.relay_facts.proofs.BelowFronts.{below_rises, new_below}
-use Rattle.relay_facts.proofs.ClaimMoves.{ClaimGoes, goes_timed, goes_begun, goes_whole, goes_stored}
+use Rattle.relay_facts.proofs.ClaimMoves.{ClaimGoes, goes_timed, goes_begun, goes_whole}
+use Rattle.relay_facts.proofs.ClaimMoves.{goes_stored}
 use Rattle.relay_facts.proofs.Moves.{Moves, goes_gained, step_moves}
 use Rattle.relay_facts.proofs.Moves as moves
 use Rattle.relay_facts.proofs.Puts.{put_id_both}

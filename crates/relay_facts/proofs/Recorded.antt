@@ -1,6 +1,7 @@
--- What follows from what is on record: each token that is stored or gained is below the front of its
--- buffer, and no feed gained more than is stored.
-use Rattle.std.proofs.Common.{◌≡◌, ◌∙◌, ℕ, ◌+◌, ◌≤◌, ◌==◌, Bool, true, false, List, [], ◌∷◌, All, find}
+-- What follows from what is on record: each token that is stored or gained is below the front of
+-- its buffer, and no feed gained more than is stored.
+use Rattle.std.proofs.Common.{◌≡◌, ◌∙◌, ℕ, ◌+◌, ◌≤◌, ◌==◌, Bool, true, false, List, [], ◌∷◌, All}
+use Rattle.std.proofs.Common.{find}
 use Rattle.std.proofs.Common.{cond, count_by, length, sum_by, slice_get, Some, option_map}
 use Rattle.std.proofs.Common.{if◌then◌else◌, refl, sym, ap, subst, arith, zero-le}
 use Rattle.std.proofs.Common.{eq-eqb}

@@ -1,6 +1,7 @@
 -- No more of a feed is taken than is past taking, and no more is than it gained: each move keeps
 -- that.
-use Rattle.std.proofs.Common.{◌≡◌, ◌∙◌, ℕ, ◌+◌, ◌-◌, nat_eq, List, [], ◌∷◌, ◌++◌, length, take, drop}
+use Rattle.std.proofs.Common.{◌≡◌, ◌∙◌, ℕ, ◌+◌, ◌-◌, nat_eq, List, [], ◌∷◌, ◌++◌, length, take}
+use Rattle.std.proofs.Common.{drop}
 use Rattle.std.proofs.Common.{sym, ap, subst, arith, length-append, length-drop}
 use Rattle.std.specs.Prelude.{max, min}
 use Rattle.std.specs.List.{list_any}

@@ -98,10 +98,12 @@ follows_orderly w x y s old next there follows leaves orderly = record {
 pub taken_orderly : (w : Terms) (x : World) (s : ℕ) (old next : Session) (id : List ℕ)
     (article : Accepted)
     → x.state.session s ≡ Some old → is_running old.phase ≡ true → IsFree x.state id
-    → old.hand ≡ None → next.peer ≡ old.peer → next.hand ≡ Some (job_of s id article) → may_carry next.phase ≡ true
+    → old.hand ≡ None → next.peer ≡ old.peer → next.hand ≡ Some (job_of s id article)
+    → may_carry next.phase ≡ true
     → held next.phase ≡ None → IsSoundArticle w article → IsOrderly w x
     → IsOrderly w (taken x s id article next)
-taken_orderly w x s old next id article there runs free empty peer hand carries holds sound orderly =
+taken_orderly w x s old next id article there runs free empty peer hand carries holds
+    sound orderly =
     let after = taken x s id article next in record {
       numbered = numbered_put w x.state after.state s old next there runs peer (λ n. refl) refl
           orderly.numbered;

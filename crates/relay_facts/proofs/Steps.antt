@@ -1,5 +1,6 @@
 -- Each step from a world in order leads to one.
-use Rattle.std.proofs.Common.{◌≡◌, ◌∙◌, ◌-◌, ◌++◌, ℕ, nat_lt, nat_le, Bool, true, false, List, [], ◌∷◌}
+use Rattle.std.proofs.Common.{◌≡◌, ◌∙◌, ◌-◌, ◌++◌, ℕ, nat_lt, nat_le, Bool, true, false, List, []}
+use Rattle.std.proofs.Common.{◌∷◌}
 use Rattle.std.proofs.Common.{length, Option, None, Some, refl, sym, ap, subst, if◌then◌else◌}
 use Rattle.std.proofs.lemmas.Bool.{ltb-true}
 use Rattle.std.proofs.lemmas.Option.{none-some}
@@ -13,7 +14,8 @@ use Rattle.relay_model.specs.Run.{HasNot, refusal, is_taken, expired, reads_fron
 use Rattle.relay_model.specs.Run.{expirer_at, passed_of, restarted, first_of_two, is_there}
 use Rattle.relay_model.specs.Run.{is_reading, is_running}
 use Rattle.relay_model.specs.Run as run
-use Rattle.relay_model.specs.State.{Session, Phase, Ready, Owes, Holds, Waits, Fetches, Leaving}
+use Rattle.relay_model.specs.State.{Session, Phase, Ready, AwaitsBlock, Holds, Waits, Fetches}
+use Rattle.relay_model.specs.State.{Leaving}
 use Rattle.relay_model.specs.State.{Ended}
 use Rattle.relay_model.specs.Terms.{Terms, last_moment}
 use Rattle.relay_model.specs.World.{World, Output, Expirer, Reading, Forgetting, NoPeer}
@@ -144,7 +146,7 @@ reads_runs o session there free =
     by_phase : (phase : Phase) → (if is_reading phase then None else Some NoSession) ≡ None
         → is_running phase ≡ true
     by_phase Ready e = refl
-    by_phase (Owes transfer id) e = refl
+    by_phase (AwaitsBlock transfer id) e = refl
     by_phase (Holds id article) e = refl
     by_phase (Waits transfer id) e = refl
     by_phase (Fetches asked token had) e = refl

@@ -19,7 +19,8 @@ use Rattle.relay_facts.proofs.Orderly.{IsOrderly}
 use Rattle.relay_model.specs.Run.{Turns, is_running}
 use Rattle.relay_model.specs.Shares.{Answer, ToPush, Shares, Reading, IsFound, HasNotRead, Pushing}
 use Rattle.relay_model.specs.Shares.{queue_taken, ring_of, pushed, untold}
-use Rattle.relay_model.specs.State.{Session, Ready, Owes, Holds, Waits, Fetches, Leaving, Ended}
+use Rattle.relay_model.specs.State.{Session, Ready, AwaitsBlock, Holds, Waits, Fetches, Leaving}
+use Rattle.relay_model.specs.State.{Ended}
 use Rattle.relay_model.specs.State.{Transfer, TakesThis, Has, Asked, OfId, Job, in_phase}
 use Rattle.relay_model.specs.State.{with_offers}
 use Rattle.relay_model.specs.Terms.{Terms, queue_limit}
@@ -99,7 +100,7 @@ offer_follows : (w : Terms) (old after : Session) (transfer : Transfer) (id : Li
 offer_follows w old after TakesThis id Wanted f none =
     with_others w old after after.unread (with_offer after.offers id) f
 offer_follows w old after Has id Wanted f none =
-    in_idle_phase w old (with_offers after (with_offer after.offers id)) (Owes Has (Some id))
+    in_idle_phase w old (with_offers after (with_offer after.offers id)) (AwaitsBlock Has (Some id))
     (with_others w old after after.unread (with_offer after.offers id) f) none refl
 offer_follows w old after transfer id Later f none =
     with_others w old after after.unread (without_offer after.offers id) f

@@ -22,7 +22,8 @@ use Rattle.relay_model.specs.Fetches.{Fetched}
 use Rattle.relay_model.specs.Hears.{Heard, Hears, ReadHeard, goes_on, offer_heard, look_heard}
 use Rattle.relay_model.specs.Hears.{take_heard, outcome_heard, slot_heard, push_heard}
 use Rattle.relay_model.specs.Shares.{Answer, ToLook}
-use Rattle.relay_model.specs.State.{Session, Phase, Ready, Owes, Holds, Waits, Fetches, Leaving}
+use Rattle.relay_model.specs.State.{Session, Phase, Ready, AwaitsBlock, Holds, Waits, Fetches}
+use Rattle.relay_model.specs.State.{Leaving}
 use Rattle.relay_model.specs.State.{Ended, Transfer, TakesThis, Has, Job, Asked, OfId, OfToken}
 use Rattle.relay_model.specs.State.{in_phase, with_unread, with_offers}
 use Rattle.relay_model.specs.Terms.{Terms, Reason}
@@ -36,7 +37,7 @@ by_id OfToken token = None
 -- the token that a session in this phase fetches by message-id
 abbrev pub fetching : Phase → Option Token
 fetching Ready = None
-fetching (Owes transfer id) = None
+fetching (AwaitsBlock transfer id) = None
 fetching (Holds id article) = None
 fetching (Waits transfer id) = None
 fetching (Fetches asked token had) = by_id asked token
@@ -98,7 +99,7 @@ command_reads : (w : Terms) (p : Phase) (s : Session) → fetching s.phase ≡ N
 command_reads w p s none now (Check id) d e = due_none p _ s d none (offer_none s TakesThis id) e
 command_reads w p s none now (Ihave id) d e = due_none p _ s d none (offer_none s Has id) e
 command_reads w p s none now (TakeThis id) d e =
-    due_none p GoesOn (in_phase s (Owes TakesThis id)) d refl refl e
+    due_none p GoesOn (in_phase s (AwaitsBlock TakesThis id)) d refl refl e
 command_reads w p s none now (Fetch part id) d e = due_none p (Looks part id) s d none refl e
 command_reads w p s none now (FetchToken word) d e =
     due_none p e.0 s d none (token_none word e.0 e.1) e.2
@@ -172,8 +173,8 @@ phase_reads : (w : Terms) (s : Session) (now : ℕ) (p : Phase) → s.phase ≡ 
     → IsDueIn w s now p d → Due_reads p d
 phase_reads w s now Ready is d e =
     ready_reads w Ready s (ap fetching is) now (next_line s.unread) d e
-phase_reads w s now (Owes transfer id) is d e =
-    owing_reads w (Owes transfer id) s (ap fetching is) now transfer id
+phase_reads w s now (AwaitsBlock transfer id) is d e =
+    owing_reads w (AwaitsBlock transfer id) s (ap fetching is) now transfer id
     (next_block w.max_article s.unread) d e
 phase_reads w s now (Holds id article) is d e =
     due_none (Holds id article) _ (in_phase s Ready) d refl refl e

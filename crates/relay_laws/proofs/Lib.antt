@@ -1,11 +1,14 @@
 pub mod AcceptedOnce
 pub mod Accepting
+mod Articles
 pub mod BelowFronts
 pub mod BufferFigures
 pub mod Counted
 pub mod Counts
 pub mod Cuts
+mod Dues
 pub mod Expirers
+mod FailedReads
 pub mod FeedFigures
 pub mod FetchPhases
 pub mod Forgotten
@@ -15,6 +18,7 @@ pub mod Gone
 pub mod JobsTold
 pub mod Judgements
 pub mod KnownTokens
+mod Moments
 pub mod OfferDues
 pub mod OfferSteps
 pub mod OfferTurns
@@ -29,14 +33,21 @@ pub mod OpenSteps
 pub mod OpenWrites
 pub mod OwnFeeds
 pub mod Permitted
+mod Playing
+mod Premises
 pub mod ReadFronts
 pub mod Reasons
+mod Recording
 pub mod Remembered
+mod RingArticles
 pub mod Runs
 pub mod RunsOfJobs
 pub mod Sessions
 pub mod Settling
 pub mod StoredOnce
 pub mod Tests
+mod Turning
+mod Unstored
 pub mod WriterSteps
 pub mod WritesLeft
+mod Writing

@@ -15,7 +15,8 @@ use Rattle.relay_model.specs.Asks.{TokenAsked, IsRead, IsNone, IsDue, IsDueIn, I
 use Rattle.relay_model.specs.Asks.{IsDueOfLine, IsDueWhereReady, IsDueOfBlock, IsDueWhereOwing}
 use Rattle.relay_model.specs.Asks.{judged_asked, or_push, leaving_due, without_offer}
 use Rattle.relay_model.specs.Claims.{Accepted}
-use Rattle.relay_model.specs.State.{Session, Phase, Ready, Owes, Holds, Waits, Fetches, Leaving}
+use Rattle.relay_model.specs.State.{Session, Phase, Ready, AwaitsBlock, Holds, Waits, Fetches}
+use Rattle.relay_model.specs.State.{Leaving}
 use Rattle.relay_model.specs.State.{Ended, Transfer, TakesThis, Has, Job, in_phase, with_unread}
 use Rattle.relay_model.specs.State.{with_offers}
 use Rattle.relay_model.specs.Terms.{Terms, Reason}
@@ -74,7 +75,7 @@ command_offers w one now (Check id) d e =
 command_offers w one now (Ihave id) d e =
     due_is one.offers (offer_asked one Has id) one (offer_offers one Has id) d e
 command_offers w one now (TakeThis id) d e =
-    due_is one.offers GoesOn (in_phase one (Owes TakesThis id)) refl d e
+    due_is one.offers GoesOn (in_phase one (AwaitsBlock TakesThis id)) refl d e
 command_offers w one now (Fetch part id) d e = due_is one.offers (Looks part id) one refl d e
 command_offers w one now (FetchToken word) d e =
     due_is one.offers e.0 one (token_offers one.offers word e.0 e.1) d e.2
@@ -152,7 +153,7 @@ leaving_offers one None (id ∷ offers) is d e =
 phase_offers : (w : Terms) (one : Session) (now : ℕ) (phase : Phase) (d : Due)
     → IsDueIn w one now phase d → DueOffers one.offers d.ask d.after.offers
 phase_offers w one now Ready d e = ready_offers w one now (next_line one.unread) d e
-phase_offers w one now (Owes transfer id) d e =
+phase_offers w one now (AwaitsBlock transfer id) d e =
     owing_offers w one transfer id now (next_block w.max_article one.unread) d e
 phase_offers w one now (Holds id article) d e =
     due_is one.offers (Takes TakesThis id article) (in_phase one Ready) (inr refl) d e

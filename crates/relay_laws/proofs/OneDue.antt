@@ -12,7 +12,8 @@ use Rattle.cyc_token.proofs.Texts.{one_spelling}
 use Rattle.relay_model.specs.Asks.{Ask, Says, Reads, Due, due_as, TokenAsked, IsRead, IsNone}
 use Rattle.relay_model.specs.Asks.{IsDue, IsDueIn, IsDueOfCommand, IsDueOfLine, IsDueWhereReady}
 use Rattle.relay_model.specs.Asks.{IsDueOfBlock, IsDueWhereOwing, judged_asked, without_offer}
-use Rattle.relay_model.specs.State.{Session, Phase, Ready, Owes, Holds, Waits, Fetches, Leaving}
+use Rattle.relay_model.specs.State.{Session, Phase, Ready, AwaitsBlock, Holds, Waits, Fetches}
+use Rattle.relay_model.specs.State.{Leaving}
 use Rattle.relay_model.specs.State.{Ended, Transfer, OfToken, in_phase, with_unread, with_offers}
 use Rattle.relay_model.specs.Terms.{Terms}
 use Rattle.relay_laws.proofs.Judgements.{one_judgement}
@@ -91,7 +92,7 @@ in_each_phase : (w : Terms) (session : Session) (now : ℕ) (phase : Phase) (a b
     → IsDueIn w session now phase a → IsDueIn w session now phase b → a ≡ b
 in_each_phase w session now Ready a b one other =
     where_ready w session now (next_line session.unread) a b one other
-in_each_phase w session now (Owes transfer id) a b one other =
+in_each_phase w session now (AwaitsBlock transfer id) a b one other =
     where_owing w session now transfer id (next_block w.max_article session.unread) a b one other
 in_each_phase w session now (Holds id article) a b one other = one ∙ sym other
 in_each_phase w session now (Waits transfer id) a b one other = one ∙ sym other

@@ -18,7 +18,8 @@ use Rattle.relay_model.specs.Writers.{Forgets}
 use Rattle.relay_model.specs.Writers.{TellsKept, TellsFailed}
 use Rattle.relay_facts.proofs.Puts.{put_at_both}
 use Rattle.relay_laws.specs.Opens.{open_write}
-use Rattle.relay_facts.proofs.Moves.{SameStore, same_store, moved, turn_same, expired_same, is_timed}
+use Rattle.relay_facts.proofs.Moves.{SameStore, same_store, moved, turn_same, expired_same}
+use Rattle.relay_facts.proofs.Moves.{is_timed}
 use Rattle.relay_laws.proofs.WriterSteps.{writers, turn_writers, expired_writers}
 
 -- a write that is open was open before

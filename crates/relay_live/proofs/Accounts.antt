@@ -4,32 +4,33 @@ use Rattle.std.proofs.Common.{◌+◌, refl, sym, ◌∙◌, subst, arith}
 use Rattle.std.specs.Prelude.{slice_get}
 use Rattle.std.proofs.lemmas.List.{map-append}
 use Rattle.job_queue.specs.declared.parcel.Handed.{Handed}
-use Rattle.live_fates.specs.declared.fate.KeptJob.{KeptJob}
-use Rattle.live_seats.specs.Started.{no_jobs}
-use Rattle.live_seats.specs.declared.lane.Lane.{Lane}
-use Rattle.live_store.specs.declared.record.Archive.{Ghosts}
+use Rattle.live_jobs.specs.declared.store_result.KeptJob.{KeptJob}
+use Rattle.live_jobs.specs.Started.{no_jobs}
+use Rattle.live_jobs.specs.declared.channel.JobChannel.{JobChannel}
+use Rattle.live_store.specs.declared.record.StorePremises.{Ghosts}
 use Rattle.relay_live.specs.Sessions.{Accounted, IsNothing, Sessions, NoneYet}
 use Rattle.relay_model.specs.Terms.{Terms}
 
 some_is : {X : Type 0} (x y : X) → Some x ≡ Some y → x ≡ y
 some_is x y e = cc
 
-nothing : (lanes : List Lane) → IsNothing (no_jobs lanes)
+nothing : (channels : List JobChannel) → IsNothing (no_jobs channels)
 nothing [] g list at = absurd (cc)
-nothing (lane ∷ lanes) zero list at = sym (some_is [] list at)
-nothing (lane ∷ lanes) (suc g) list at = nothing lanes g list at
+nothing (channel ∷ channels) zero list at = sym (some_is [] list at)
+nothing (channel ∷ channels) (suc g) list at = nothing channels g list at
 
 -- an end that has handed nothing over and kept nothing has its accounts right
 pub new_accounts : {J : Type 0} {g : Ghosts J} (trusted : Bool) (w : Terms) (end peer count : ℕ)
-    (lanes : List Lane) (jobs : List (List Handed)) (kept : List (KeptJob J g)) → count ≡ 0
-    → jobs ≡ no_jobs lanes → kept ≡ [] → Accounted trusted w end peer count jobs kept
-new_accounts {J} {g} trusted w end peer count lanes jobs kept unused none empty honest trust =
+    (channels : List JobChannel) (jobs : List (List Handed)) (kept : List (KeptJob J g)) → count ≡ 0
+    → jobs ≡ no_jobs channels → kept ≡ [] → Accounted trusted w end peer count jobs kept
+new_accounts {J} {g} trusted w end peer count channels jobs kept unused none empty honest trust =
     ∣ subst (λ (x : (List (List Handed) × ℕ) × List (KeptJob J g)).
     Sessions honest g.register w end peer (record {
       jobs = x.0.0;
       count = x.0.1;
       kept = map (λ k. k.number) x.1;
-    })) (λ i. ((sym none i, sym unused i), sym empty i)) (NoneYet (no_jobs lanes) (nothing lanes)) ∣₁
+    })) (λ i. ((sym none i, sym unused i), sym empty i))
+    (NoneYet (no_jobs channels) (nothing channels)) ∣₁
 
 module _ {X Y : Type 0} (f : X → Y) where
   pub at_map : (xs : List X) (k : ℕ) (x : X) → slice_get xs k ≡ Some x

@@ -7,24 +7,24 @@ use Rattle.std.proofs.lemmas.List.FromFn.{length-enumerate_from}
 use Rattle.std.proofs.lemmas.Option.{slice_get-map, slice_get_within}
 use Rattle.std.specs.List.{All, enumerate_from}
 use Rattle.article_verdict.specs.Config.{terms_of}
-use Rattle.block_shelf.proofs.NewShelf.{new_said, same_count}
-use Rattle.block_shelf.proofs.ShelfReads.{some_there}
+use Rattle.block_shelf.proofs.NewBufferSet.{new_said, same_count}
+use Rattle.block_shelf.proofs.BufferSetReads.{some_there}
 use Rattle.block_shelf.proofs.Starts.{buffer_is}
 use Rattle.block_shelf.specs.Each.{AreEach}
-use Rattle.block_shelf.specs.Filling.{AreNewRacks, failures_in}
+use Rattle.block_shelf.specs.Filling.{AreNewPlacedGroups, failures_in}
 use Rattle.block_shelf.specs.Keeping.{HasBuffer}
-use Rattle.block_shelf.specs.Starting.{BuffersKeep, RacksKeep}
-use Rattle.block_shelf.specs.declared.shelf.Rack.{Rack}
+use Rattle.block_shelf.specs.Starting.{BuffersKeep, PlacedGroupsKeep}
+use Rattle.block_shelf.specs.declared.buffer_set.PlacedGroup.{PlacedGroup}
 use Rattle.cyc_block.specs.declared.store.BlockStore as blocks
 use Rattle.cyc_buffer.specs.Agreement.{Agrees}
 use Rattle.cyc_buffer.specs.History.{new_history}
 use Rattle.feed_queue.specs.Feeds.{KeepsFeeds, no_feed, ring_size}
 use Rattle.feed_queue.specs.Permission.{feed_view}
 use Rattle.id_history.specs.Shards.{EachKeeps}
-use Rattle.live_settle.specs.Desks.{desk_of}
+use Rattle.live_jobs.specs.Desks.{desk_of}
 use Rattle.live_store.specs.Steps.{buffer_of}
 use Rattle.live_store.specs.declared.numbered.NumberedBuffer.{NumberedBuffer}
-use Rattle.live_store.specs.declared.record.Archive as archives
+use Rattle.live_store.specs.declared.record.StorePremises as store_premises
 use Rattle.news_terms.specs.Fronts.{FitsGroup}
 use Rattle.news_terms.specs.Places as places
 use Rattle.relay_conf.proofs.ListPlaces.{holds_at}
@@ -47,7 +47,7 @@ buffers_count settings =
     length-map (enumerate_from 0 settings.buffers.items) numbered_buffer
     ∙ length-enumerate_from 0 settings.buffers.items
 
-module _ {S J : Type 0} {s : blocks.Ghosts S} {j : archives.Ghosts J} (config : Config)
+module _ {S J : Type 0} {s : blocks.Ghosts S} {j : store_premises.Ghosts J} (config : Config)
     (stores : List S) (buffers : List (NumberedBuffer S J s j))
     (sized : map (λ store. length (s.blocks store)) stores
     ≡ map (λ (conf : BufferConf). conf.blocks) config.buffers.buffers.items)
@@ -68,7 +68,8 @@ module _ {S J : Type 0} {s : blocks.Ghosts S} {j : archives.Ghosts J} (config : 
   -- the buffer at each place keeps that nothing was begun
   new_buffer : (b : ℕ) (buffer : places.Buffer)
       → slice_get (places_of_buffers config.buffers) b ≡ Some buffer
-      → HasBuffer true (map buffer_of buffers) (places_of_groups config.buffers) (λ h. []) [] (λ h. None)
+      → HasBuffer true (map buffer_of buffers) (places_of_groups config.buffers)
+      (λ h. []) [] (λ h. None)
       (failures_in s stores) b buffer
   new_buffer b buffer at =
       let one = store_there b buffer at in
@@ -106,29 +107,31 @@ module _ {S J : Type 0} {s : blocks.Ghosts S} {j : archives.Ghosts J} (config : 
     buffers = new_buffer;
   }
 
--- the racks keep that nothing was begun
-pub new_racks : (config : Config) (racks : List Rack)
-    → length racks ≡ length config.buffers.groups.items
-    → AreNewRacks (places_of_groups config.buffers) racks
-    → RacksKeep racks (terms_of config) (λ h. [])
-new_racks config racks count are = record {
+-- the placed groups keep that nothing was begun
+pub new_placed_groups : (config : Config) (placed_groups : List PlacedGroup)
+    → length placed_groups ≡ length config.buffers.groups.items
+    → AreNewPlacedGroups (places_of_groups config.buffers) placed_groups
+    → PlacedGroupsKeep placed_groups (terms_of config) (λ h. [])
+new_placed_groups config placed_groups count are = record {
   count = count ∙ sym (groups_count config);
   each = λ h group at. are h group at;
 }
 
 -- so the parts keep the empty state
-pub keeps_nothing : {S J L : Type 0} {s : blocks.Ghosts S} {j : archives.Ghosts J} (config : Config)
+pub keeps_nothing : {S J L : Type 0} {s : blocks.Ghosts S} {j : store_premises.Ghosts J}
+    (config : Config)
     (stores : List S) (alone : Alone S J L s j)
     → map (λ store. length (s.blocks store)) stores
     ≡ map (λ (conf : BufferConf). conf.blocks) config.buffers.buffers.items
     → AreEach IsNewOver stores alone.buffers.items
     → EachKeeps alone.shards.items (λ id. Unknown)
     → KeepsFeeds (desk_of alone.desk) (map ring_size config.relay.feeds.items) (λ f. no_feed)
-    → AreNewRacks (places_of_groups config.buffers) alone.racks.items
-    → length alone.racks.items ≡ length config.buffers.groups.items → newest_in alone ≡ 0
+    → AreNewPlacedGroups (places_of_groups config.buffers) alone.placed_groups.items
+    → length alone.placed_groups.items ≡ length config.buffers.groups.items → newest_in alone ≡ 0
     → alone.feeds ≡ length config.relay.feeds.items → All s.honest stores
     → KeepsState (terms_of config) alone empty_state (failures_in s stores)
-keeps_nothing config stores alone sized over claims feeds racks rack_count newest feed_count honest =
+keeps_nothing config stores alone sized over claims feeds placed_groups placed_group_count newest
+    feed_count honest =
     record {
       beside = record {
         newest = newest;
@@ -137,7 +140,8 @@ keeps_nothing config stores alone sized over claims feeds racks rack_count newes
             (rings_are config.relay.feeds.items) feeds;
         feed_count = feed_count ∙ sym (length-map config.relay.feeds.items feed_view);
         sound = config.buffers.sound;
-        racks = new_racks config alone.racks.items rack_count racks;
+        placed_groups =
+            new_placed_groups config alone.placed_groups.items placed_group_count placed_groups;
       };
       buffers = new_buffers config stores alone.buffers.items sized over honest;
     }

@@ -2,9 +2,9 @@
 use Rattle.std.proofs.Common.{◌≡◌, ◌∙◌, ℕ, List, [], ◌∷◌, ◌++◌, length, Some, refl, sym, subst}
 use Rattle.std.specs.Prelude.{slice_get}
 use Rattle.cyc_block.specs.declared.store.BlockStore.{Ghosts}
-use Rattle.block_shelf.specs.Filling.{IsRefusalOver, IsShelfRefusal}
-use Rattle.block_shelf.specs.declared.filling.ShelfError.{ShelfError}
-use Rattle.block_shelf.specs.declared.filling.ShelfError.TheVariants as errors
+use Rattle.block_shelf.specs.Filling.{IsRefusalOver, IsBufferSetRefusal}
+use Rattle.block_shelf.specs.declared.filling.BufferSetError.{BufferSetError}
+use Rattle.block_shelf.specs.declared.filling.BufferSetError.TheVariants as errors
 
 -- behind the front of a list stands the next item
 next_behind : {X : Type 0} (front : List X) (x : X) (rest : List X)
@@ -14,8 +14,8 @@ next_behind (y ∷ front) x rest = next_behind front x rest
 
 -- the number of a store is how many stand before it
 pub blamed_at : {S : Type 0} (g : Ghosts S) (front : List S) (store : S) (rest stores : List S)
-    (number : ℕ) (error : ShelfError S) → front ++ store ∷ rest ≡ stores → number ≡ length front
-    → IsRefusalOver g store number error → IsShelfRefusal g stores error
+    (number : ℕ) (error : BufferSetError S) → front ++ store ∷ rest ≡ stores → number ≡ length front
+    → IsRefusalOver g store number error → IsBufferSetRefusal g stores error
 blamed_at g front store rest stores number errors.Memory all at refusal = tt
 blamed_at g front store rest stores number (errors.Device of left) all at refusal = record {
   before = store;

@@ -1,61 +1,36 @@
 -- What is left of the claims of shards that each have ids of their own alone, shard after shard.
-use Rattle.std.proofs.Common.{◌≡◌, ◌≢◌, ◌∙◌, ◌+◌, ◌<◌, ◌≤◌, ◌⊎◌, ◌||◌, ◌==◌, ap, sym, refl, subst}
-use Rattle.std.proofs.Common.{Bool, true, false, List, ℕ, [], ◌∷◌, ◌++◌, inl, inr, length, arith, map}
-use Rattle.std.proofs.Common.{Option, None, Some, cond, slice_index_or}
+use Rattle.std.proofs.Common.{◌≡◌, ◌≢◌, ◌∙◌, ◌+◌, ◌<◌, ◌≤◌, ◌⊎◌, ◌==◌, ap, sym, refl, subst}
+use Rattle.std.proofs.Common.{Bool, true, false, List, ℕ, [], ◌∷◌, ◌++◌, inl, inr, length, arith}
+use Rattle.std.proofs.Common.{map}
+use Rattle.std.proofs.Common.{cond, slice_index_or}
 use Rattle.std.proofs.Math.Dec.{ltb}
-use Rattle.std.proofs.lemmas.Bool.{cases_Bool, le-ltb, lt-ltb, ltb-true, ltb-false, true≢false}
-use Rattle.std.proofs.lemmas.Bool.{false≢true, eqb-false, eqb-true}
+use Rattle.std.proofs.lemmas.Bool.{cases_Bool, le-ltb, lt-ltb, ltb-true, ltb-false}
+use Rattle.std.proofs.lemmas.Bool.{eqb-false, eqb-true}
 use Rattle.std.proofs.lemmas.List.{map-append}
 use Rattle.std.proofs.lemmas.List.Elements.{All-from_recursion, recursion_from_All}
 use Rattle.std.proofs.lemmas.List.Folds.{list_any-append}
 use Rattle.std.proofs.lemmas.List.Sorted.{IsPermutation-map, All-permutation, Contains-permutation}
 use Rattle.std.proofs.lemmas.Map.Made.{is_member-Decides}
 use Rattle.std.proofs.lemmas.Slice.Eq.{bytes_eq-Decides}
-use Rattle.std.specs.Cmp.Lexicographic.{nat_list_eq_equiv}
 use Rattle.std.specs.List.{AllByRecursion, IsDistinct}
 use Rattle.std.specs.List.Sorted.{IsPermutation}
 use Rattle.std.specs.Set.{is_member}
 use Rattle.std.specs.Str.{bytes_eq}
-use Rattle.history_text.specs.History.{KeptId, Rises}
-use Rattle.history_text.specs.Views.{id_view}
-use Rattle.history_text.specs.declared.kept.KeptId as kept
+use Rattle.id_history.proofs.JoinLemmas.{apart_append, first_member, right_holds}
+use Rattle.id_history.proofs.LastingJoins.{all_append, known, left_holds, left_of_member}
+use Rattle.id_history.specs.History.{KeptId, Rises}
+use Rattle.id_history.specs.Views.{id_view}
+use Rattle.id_history.specs.declared.kept.KeptId as kept
 use Rattle.id_history.specs.Lasting.{AreLasting, GathersLasting, HasLasting, claim_of_kept}
-use Rattle.id_history.specs.Lasting.{claim_since, ids_of, lasting}
+use Rattle.id_history.specs.Lasting.{ids_of, lasting}
 use Rattle.id_history.specs.Shard.{Keeps}
 use Rattle.id_history.specs.Shards.{EachKeeps, claims_at}
 use Rattle.id_history.specs.declared.claims.Shard.{Shard}
-use Rattle.news_terms.specs.Token.{Token}
 use Rattle.relay_live.proofs.Rest.{other_claim, own_claim, shard_within}
 use Rattle.relay_model.specs.Claims.{Claim, Unknown}
 use Rattle.relay_model.specs.Run.{shard_of}
 
 -- TWO LISTS OF IDS THAT SHARE NONE
-
-both_fail : (a b : Bool) → (a || b) ≡ false → (a ≡ false) × (b ≡ false)
-both_fail true b fails = absurd (true≢false fails)
-both_fail false b fails = (refl, fails)
-
-left_holds : (a b : Bool) → a ≡ true → (a || b) ≡ true
-left_holds a b holds = ap (λ x. x || b) holds
-
-right_holds : (a b : Bool) → b ≡ true → (a || b) ≡ true
-right_holds true b holds = refl
-right_holds false b holds = holds
-
-apart_each : (x : List ℕ) (ys : List (List ℕ)) → is_member bytes_eq ys x ≡ false
-    → AllByRecursion (λ y. bytes_eq x y ≡ false) ys
-apart_each x [] none = tt
-apart_each x (y ∷ ys) none =
-    let both = both_fail (bytes_eq x y) (is_member bytes_eq ys x) none in
-    (both.0, apart_each x ys both.1)
-
-apart_append : (x : List ℕ) (xs ys : List (List ℕ)) → AllByRecursion (λ y. bytes_eq x y ≡ false) xs
-    → is_member bytes_eq ys x ≡ false → AllByRecursion (λ y. bytes_eq x y ≡ false) (xs ++ ys)
-apart_append x [] ys all none = apart_each x ys none
-apart_append x (first ∷ xs) ys all none = (all.0, apart_append x xs ys all.1 none)
-
-first_member : (x : List ℕ) (xs : List (List ℕ)) → is_member bytes_eq (x ∷ xs) x ≡ true
-first_member x xs = ap (λ b. b || is_member bytes_eq xs x) (nat_list_eq_equiv.refl x)
 
 -- each without doubles, they have none together
 distinct_join : (xs ys : List (List ℕ)) → IsDistinct bytes_eq xs → IsDistinct bytes_eq ys
@@ -70,24 +45,6 @@ distinct_join (x ∷ xs) ys one two share = (
 
 -- WHAT IS LEFT OF TWO PARTS
 
--- what is remembered isn't unknown
-known : (token : Option Token) (moment : ℕ) → claim_since token moment ≢ Unknown
-known None moment e = cc
-known (Some token) moment e = cc
-
--- of an id that is among them something is left
-left_of_member : (claims : List ℕ → Claim) (id : List ℕ) (entries : List KeptId)
-    → AllByRecursion (λ (one : KeptId). claim_of_kept one ≡ lasting (claims one.id)) entries
-    → is_member bytes_eq (ids_of entries) id ≡ true → lasting (claims id) ≢ Unknown
-left_of_member claims id [] each among none = absurd (false≢true among)
-left_of_member claims id (one ∷ others) each among none =
-    elim (cases_Bool (bytes_eq id one.id)) [
-      | inl same ↦ known one.token one.moment (each.0
-          ∙ ap (λ i. lasting (claims i)) (sym ((bytes_eq-Decides id one.id).0 same)) ∙ none)
-      | inr apart ↦ left_of_member claims id others each.1
-          (sym (ap (λ b. b || is_member bytes_eq (ids_of others) id) apart) ∙ among) none
-    ]
-
 -- claims of which the listed ids have as much left agree with the list alike
 each_same : (a c : List ℕ → Claim)
     → ((id : List ℕ) → lasting (a id) ≢ Unknown → lasting (a id) ≡ lasting (c id))
@@ -99,11 +56,6 @@ each_same a c same (one ∷ others) each = (
   each.0 ∙ same one.id (λ none. known one.token one.moment (each.0 ∙ none)),
   each_same a c same others each.1,
 )
-
-all_append : (P : KeptId → Type 0) (xs ys : List KeptId) → AllByRecursion P xs
-    → AllByRecursion P ys → AllByRecursion P (xs ++ ys)
-all_append P [] ys first second = second
-all_append P (x ∷ xs) ys first second = (first.0, all_append P xs ys first.1 second)
 
 -- each id is unknown in one of two parts, and its claim is that of the other
 record Joins (a b c : List ℕ → Claim) : Type 0 where
@@ -169,7 +121,8 @@ past_below n claims id past = ap (λ b. cond b (claims id) Unknown) (le-ltb (sha
 -- the next shard has the ids of its own alone
 joins_next : (n : ℕ) (claims : List ℕ → Claim)
     → Joins (below n claims) (claims_at n claims) (below (n + 1) claims)
-joins_next n claims = record { either = λ id. by id (shard_of id == n) refl (ltb (shard_of id) n) refl }
+joins_next n claims =
+    record { either = λ id. by id (shard_of id == n) refl (ltb (shard_of id) n) refl }
   where
     by : (id : List ℕ) (same : Bool) → (shard_of id == n) ≡ same → (less : Bool)
         → ltb (shard_of id) n ≡ less
@@ -193,7 +146,8 @@ joins_next n claims = record { either = λ id. by id (shard_of id == n) refl (lt
         let over = ltb-false (shard_of id) n l in
         inr (
           other_claim claims n id apart,
-          past_below (n + 1) claims id (omega (arith, over, apart)) ∙ sym (past_below n claims id over),
+          past_below (n + 1) claims id (omega (arith, over, apart))
+              ∙ sym (past_below n claims id over),
         )
 
 -- what is left of the ids of the first shards

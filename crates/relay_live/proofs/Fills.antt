@@ -6,7 +6,7 @@ use Rattle.std.proofs.lemmas.List.{length-map, map_push, take_all, take_more}
 use Rattle.std.proofs.lemmas.Option.{get_or_from_slice_get, same_Some, slice_get-map}
 use Rattle.std.proofs.lemmas.Option.{slice_get_within}
 use Rattle.block_shelf.proofs.Reported.{figures_agree}
-use Rattle.block_shelf.proofs.ShelfReads.{some_there}
+use Rattle.block_shelf.proofs.BufferSetReads.{some_there}
 use Rattle.block_shelf.specs.Starting.{BuffersKeep, buffers_inside}
 use Rattle.cyc_block.specs.declared.store.BlockStore as blocks
 use Rattle.cyc_buffer.specs.Agreement.{Agrees}

@@ -2,9 +2,9 @@
 use Rattle.std.proofs.Common.{◌≤◌, ◌^◌, ℕ, List, [], ◌∷◌, arith, length, map}
 use Rattle.std.specs.List.{AllZip}
 use Rattle.feed_queue.specs.Feeds.{ring_size}
-use Rattle.history_text.specs.History as texts
-use Rattle.history_text.specs.History.{FeedHolds, Holds, KeptFeed}
-use Rattle.live_settle.specs.Posting.{most_gained}
+use Rattle.id_history.specs.History as texts
+use Rattle.id_history.specs.History.{FeedHolds, Holds, KeptFeed}
+use Rattle.live_jobs.specs.Posting.{most_gained}
 use Rattle.relay_conf.specs.declared.settings.Config.{Config}
 use Rattle.relay_core.specs.Desks.{setting_of}
 

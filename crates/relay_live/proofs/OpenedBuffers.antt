@@ -17,7 +17,7 @@ use Rattle.cyc_buffer.specs.declared.buffer.Buffer.{Buffer}
 use Rattle.live_store.specs.Started.{unopened_in}
 use Rattle.live_store.specs.Steps.{buffer_of}
 use Rattle.live_store.specs.declared.numbered.NumberedBuffer.{NumberedBuffer}
-use Rattle.live_store.specs.declared.record.Archive as archives
+use Rattle.live_store.specs.declared.record.StorePremises as store_premises
 use Rattle.live_store.specs.declared.unopened.UnopenedNumbered.{UnopenedNumbered}
 use Rattle.relay_conf.proofs.ListPlaces.{mapped_at}
 use Rattle.relay_live.proofs.Each.{both_mapped, each_joined, first_unmapped}
@@ -26,7 +26,7 @@ use Rattle.relay_live.specs.Starting.{IsStartedOver, IsUnopened}
 use Rattle.relay_model.specs.State.{Kept}
 use Rattle.relay_model.specs.Terms.{Terms}
 
-module _ {S J : Type 0} {s : blocks.Ghosts S} {j : archives.Ghosts J}
+module _ {S J : Type 0} {s : blocks.Ghosts S} {j : store_premises.Ghosts J}
     (before : List (UnopenedNumbered S J s j)) (one : UnopenedNumbered S J s j) where
   -- what is said of the buffers before and one more, of all
   joined : (place : ℕ) (stores : List S)
@@ -48,7 +48,8 @@ module _ {S J : Type 0} {s : blocks.Ghosts S} {j : archives.Ghosts J}
 
   -- a buffer behind one whose device failed gives its store
   pub failed_behind : (place : ℕ) (stores : List S)
-      → (place < length before) × AreEach (heads.IsLeftUnopened place) (map unopened_in before) stores
+      → (place < length before)
+      × AreEach (heads.IsLeftUnopened place) (map unopened_in before) stores
       → (place < length (before ++ one ∷ []))
       × AreEach (heads.IsLeftUnopened place) (map unopened_in (before ++ one ∷ []))
       (stores ++ store_of (inside (unopened_in one)) ∷ [])
@@ -83,7 +84,8 @@ module _ {S J : Type 0} {s : blocks.Ghosts S} {j : archives.Ghosts J}
       none (is ∙ sym (length-map buffers buffer_of)) fails))
 
 -- where a head isn't opened, the stores are left so
-pub not_opened : {S J : Type 0} {s : blocks.Ghosts S} {j : archives.Ghosts J} (stores : List S)
+pub not_opened : {S J : Type 0} {s : blocks.Ghosts S} {j : store_premises.Ghosts J}
+    (stores : List S)
     (stop : ℕ) (buffers : List (UnopenedNumbered S J s j)) (refused : Unstarted S)
     → AreStarted stores stop buffers → IsHeadFailed (map unopened_in buffers) refused
     → IsUnopened s stores refused
@@ -117,7 +119,7 @@ not_opened {S} {J} {s} {j} stores stop buffers refused are failed = record {
 }
 
 -- the opened buffers keep what the started ones did
-pub opened_keep : {S J : Type 0} {s : blocks.Ghosts S} {j : archives.Ghosts J}
+pub opened_keep : {S J : Type 0} {s : blocks.Ghosts S} {j : store_premises.Ghosts J}
     (unopened : List (UnopenedNumbered S J s j)) (buffers : List (NumberedBuffer S J s j))
     → AreEach IsOpenedFrom unopened buffers → (w : Terms) (begun : ℕ → List ℕ) (kept : List Kept)
     (failures : ℕ → ℕ)
@@ -135,7 +137,8 @@ opened_keep {S} {J} {s} unopened buffers are w begun kept failures keeps = recor
       let one = mapped_at inside (map unopened_in unopened) b had.code had.there in
       let two = mapped_at unopened_in unopened b one.0 one.1 in
       let now = are.each b two.0 two.1 in
-      let was : KeepsBuffer true (inside (unopened_in two.0)) w.groups begun kept (λ h. None) failures
+      let was : KeepsBuffer true (inside (unopened_in two.0)) w.groups begun kept
+      (λ h. None) failures
       buffer =
       subst (λ each. KeepsBuffer true each w.groups begun kept (λ h. None) failures buffer)
       (sym (ap inside two.2 ∙ one.2)) had.keeps in

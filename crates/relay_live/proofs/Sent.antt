@@ -1,11 +1,11 @@
 -- What goes from thread to thread.
 use denote.RattleType.{RattleType}
 use denote.Param.Send.{IsSend, sendable}
-use Rattle.live_fates.specs.contracts.fate.Fate as fate
+use Rattle.live_jobs.specs.contracts.store_result.StoreResult as store_result
 use Rattle.cyc_buffer.proofs.answers.Fault.TheSendSync as faults
-use Rattle.live_settle.specs.contracts.desk.both.Posted as posted
+use Rattle.live_jobs.specs.contracts.desk.both.Posted as posted
 use Rattle.live_store.proofs.stored.Receipt.TheSendSync as receipts
-use Rattle.live_store.specs.declared.record.Archive.{Ghosts}
+use Rattle.live_store.specs.declared.record.StorePremises.{Ghosts}
 use Rattle.std.specs.contracts.snapshot.Snapshot.{the_row}
 
 -- a snapshot owns nothing, so any thread may have it
@@ -24,8 +24,8 @@ posted_field_send : IsSend (posted.the_field).row
 posted_field_send = search (sendable, snapshot_send, posted_send) depth 14
 
 -- so what became of a job may go to any thread, with all that stands in it
-pub fate_send : (T : RattleType) (g : Ghosts T.Denot) → IsSend (fate.the_row T g)
-fate_send T g =
+pub store_result_send : (T : RattleType) (g : Ghosts T.Denot) → IsSend (store_result.the_row T g)
+store_result_send T g =
     search (
       sendable,
       posted_send,

@@ -8,7 +8,7 @@ use Rattle.live_session.specs.declared.wire.Finish.{Finish}
 use Rattle.relay_live.specs.Sessions.{IsOneMore, Sessions, Then}
 use Rattle.relay_model.specs.Terms.{Terms}
 
--- what was served over honest stores where the archive is trusted, and over any
+-- what was served over honest stores where the stores are trusted, and over any
 pub served_over : (honest trusted : Bool) (register : Shelves) (w : Terms) (s end peer : ℕ)
     (before : Hands) (read written : List ℕ) (finish : Finish) (after : Hands)
     (heard said : List ℕ) → (honest ≡ true → trusted ≡ true)

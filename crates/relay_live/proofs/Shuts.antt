@@ -1,6 +1,7 @@
 -- What the stop of the parts of a relay gives.
 use Rattle.std.proofs.Common.{◌≡◌, ◌∙◌, ◌⊎◌, inl, inr, ℕ, ◌++◌, ◌∷◌, [], true}
-use Rattle.std.proofs.Common.{false, List, length, map, Option, None, Some, ap, arith, refl, slice_get}
+use Rattle.std.proofs.Common.{false, List, length, map, Option, None, Some, ap, arith, refl}
+use Rattle.std.proofs.Common.{slice_get}
 use Rattle.std.proofs.Common.{is_some, option_map, subst, sym, true≢false}
 use Rattle.std.proofs.lemmas.List.{length-map}
 use Rattle.std.proofs.lemmas.Option.{none-some, slice_get-map}
@@ -14,7 +15,7 @@ use Rattle.cyc_buffer.specs.declared.buffer.Buffer.{Buffer}
 use Rattle.live_store.specs.Started.{ShutWith}
 use Rattle.live_store.specs.Steps.{buffer_of}
 use Rattle.live_store.specs.declared.numbered.NumberedBuffer.{NumberedBuffer}
-use Rattle.live_store.specs.declared.record.Archive as archives
+use Rattle.live_store.specs.declared.record.StorePremises as store_premises
 use Rattle.relay_conf.proofs.ListPlaces.{at_pushed}
 use Rattle.relay_core.specs.Stopping.{next_stop}
 use Rattle.relay_live.specs.Alone.{codes_of, stop_in}
@@ -52,7 +53,7 @@ holds_buffers stop codes stores shut w begun kept failures keeps = record {
       };
 }
 
-module _ {S : Type 0} (s : blocks.Ghosts S) {J : Type 0} (j : archives.Ghosts J) (stop : ℕ)
+module _ {S : Type 0} (s : blocks.Ghosts S) {J : Type 0} (j : store_premises.Ghosts J) (stop : ℕ)
     (failed : Option ℕ) (old new : List S) where
   -- of one store more it is known
   pub known_more : (store : S) → new ≡ old ++ store ∷ [] → is_some failed ≡ false
@@ -78,13 +79,14 @@ module _ {S : Type 0} (s : blocks.Ghosts S) {J : Type 0} (j : archives.Ghosts J)
   known_failed (Some place) some e trusted = absurd (some_none place e)
 
 -- of no store anything is said
-pub known_none : {S : Type 0} (s : blocks.Ghosts S) {J : Type 0} (j : archives.Ghosts J) (stop : ℕ)
+pub known_none
+    : {S : Type 0} (s : blocks.Ghosts S) {J : Type 0} (j : store_premises.Ghosts J) (stop : ℕ)
     (failed : Option ℕ) (stores : List S) → stores ≡ [] → AreKnown s j stop failed stores
 known_none s j stop failed stores none e trusted b one there =
     absurd (none-some one (ap (λ items. slice_get items b) (sym none) ∙ there))
 
 -- no write is open in the next buffer, where none is in any
-pub idle_here : {S J : Type 0} {s : blocks.Ghosts S} {j : archives.Ghosts J}
+pub idle_here : {S J : Type 0} {s : blocks.Ghosts S} {j : store_premises.Ghosts J}
     (through left all : List (NumberedBuffer S J s j)) (one : NumberedBuffer S J s j)
     (more : List (NumberedBuffer S J s j)) → through ++ left ≡ all → left ≡ one ∷ more
     → ((b : ℕ) (code : Buffer S s) → slice_get (map buffer_of all) b ≡ Some code
@@ -97,7 +99,8 @@ idle_here through left all one more is next idle =
 
 -- WHAT CLOSING GIVES
 
-module _ {S J L : Type 0} {s : blocks.Ghosts S} {j : archives.Ghosts J} (old : Alone S J L s j)
+module _ {S J L : Type 0} {s : blocks.Ghosts S} {j : store_premises.Ghosts J}
+    (old : Alone S J L s j)
     (rest : IsAtRest old) where
   -- it is closed
   pub shuts : (stop : ℕ) (stores : List S) (text : List ℕ) → stop ≡ next_stop (stop_in old)
@@ -116,7 +119,8 @@ module _ {S J L : Type 0} {s : blocks.Ghosts S} {j : archives.Ghosts J} (old : A
         known = subst K is (shut.1 refl);
         holds = λ w x keeps well. record {
           tells = tells w x.state keeps.beside;
-          shelf = holds_buffers (next_stop (stop_in old)) (codes_of old) stores each w x.state.begun
+          buffer_set =
+              holds_buffers (next_stop (stop_in old)) (codes_of old) stores each w x.state.begun
               x.state.kept x.work.failures keeps.buffers;
           idle = λ id. rest.claims x.state.claim keeps.beside.claims id;
           well = well;

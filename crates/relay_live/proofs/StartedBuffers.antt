@@ -5,7 +5,7 @@ use Rattle.std.proofs.Common.{option_map, true}
 use Rattle.std.proofs.lemmas.List.{length-map, map_push}
 use Rattle.std.proofs.lemmas.Option.{none-some, slice_get-map, slice_get_within}
 use Rattle.block_shelf.proofs.EachLemmas.{comes_from, each_mapped, one_more_each}
-use Rattle.block_shelf.proofs.NewShelf.{pushed_before, pushed_last}
+use Rattle.block_shelf.proofs.NewBufferSet.{pushed_before, pushed_last}
 use Rattle.block_shelf.proofs.Starts.{blamed_here, blamed_nowhere, buffer_is, failed_there}
 use Rattle.block_shelf.proofs.Starts.{other_more, still_earlier, untouched_store}
 use Rattle.block_shelf.specs.Each.{AreEach}
@@ -25,7 +25,7 @@ use Rattle.cyc_buffer.specs.declared.answers.StartError.TheVariants as errors
 use Rattle.cyc_buffer.specs.declared.unopened.Unopened.{Unopened}
 use Rattle.live_store.specs.Started.{AreArticles, IsRefusedFor, IsUnentered, WasStopped}
 use Rattle.live_store.specs.Started.{unopened_in}
-use Rattle.live_store.specs.declared.record.Archive as archives
+use Rattle.live_store.specs.declared.record.StorePremises as store_premises
 use Rattle.live_store.specs.declared.unopened.UnopenedNumbered.{UnopenedNumbered}
 use Rattle.relay_conf.specs.declared.cycbuff.BufferConf.{BufferConf}
 use Rattle.relay_conf.specs.declared.settings.Buffers.{Buffers}
@@ -41,7 +41,7 @@ use Rattle.relay_model.specs.Terms.{Terms}
 abbrev pub CanBe : {S : Type 0} {s : blocks.Ghosts S} → ℕ → S → Unopened S s → Type 0
 CanBe {s = s} b store one = s.honest store → CanStart s b store (stop_of (inside one))
 
-module _ {S J : Type 0} {s : blocks.Ghosts S} {j : archives.Ghosts J} where
+module _ {S J : Type 0} {s : blocks.Ghosts S} {j : store_premises.Ghosts J} where
   pub can_be : (stores : List S) (buffers : List (UnopenedNumbered S J s j))
       → AreEach IsStartedOver stores buffers → AreEach CanBe stores (map unopened_in buffers)
   can_be stores buffers are =
@@ -115,7 +115,7 @@ module _ {S : Type 0} (s : blocks.Ghosts S) (before : List S) (store : S) where
       }
 
   -- the first whose buffer is refused
-  abbrev pub first_refused : {J : Type 0} {j : archives.Ghosts J}
+  abbrev pub first_refused : {J : Type 0} {j : store_premises.Ghosts J}
       (buffers : List (UnopenedNumbered S J s j)) (error : StartError) (refused : S)
       → AreEach IsStartedOver before buffers → StaysHeld s store refused
       → IsBlamed s store refused error
@@ -172,7 +172,8 @@ refused_by s stores stop errors.Damaged back why = (why, refl)
 
 -- a start that was refused
 pub refused_start : {S : Type 0} (s : blocks.Ghosts S) (stores : List S) (stop : ℕ)
-    (fault : StopFault) (number : Option ℕ) (back : List S) → IsTriedRefusal s stores fault number back
+    (fault : StopFault) (number : Option ℕ) (back : List S)
+    → IsTriedRefusal s stores fault number back
     → IsUnstartedBy s stores stop fault number back
 refused_start s stores stop fault number back had =
     subst (λ f. IsUnstartedBy s stores stop f number back) (sym had.1)
@@ -180,7 +181,8 @@ refused_start s stores stop fault number back had =
     (refused_by s stores stop had.0 back had.2.0))
 
 -- a start that was mixed
-pub mixed_start : {S J : Type 0} {s : blocks.Ghosts S} {j : archives.Ghosts J} (stores : List S)
+pub mixed_start : {S J : Type 0} {s : blocks.Ghosts S} {j : store_premises.Ghosts J}
+    (stores : List S)
     (stop : ℕ) (buffers : List (UnopenedNumbered S J s j)) (room back : List S) (number : ℕ)
     → AreEach IsStartedOver stores buffers → room ≡ []
     → IsFirstOther stop (map unopened_in buffers) (Some number) → back ≡ room ++ stores_of buffers
@@ -206,7 +208,7 @@ mixed_start {S} {J} {s} {j} stores stop buffers room back number are none first 
     )
 
 -- the started buffers keep what the stores held
-pub buffers_keep : {S J : Type 0} {s : blocks.Ghosts S} {j : archives.Ghosts J}
+pub buffers_keep : {S J : Type 0} {s : blocks.Ghosts S} {j : store_premises.Ghosts J}
     (settings : Buffers) (stores : List S)
     → map (λ store. length (s.blocks store)) stores
     ≡ map (λ (conf : BufferConf). conf.blocks) settings.buffers.items
@@ -242,12 +244,13 @@ buffers_keep {s = s} settings stores sized buffers are stop w begun kept failure
 }
 
 -- where none was refused, the next store is that of the next buffer
-pub next_stopped : {S J : Type 0} {s : blocks.Ghosts S} {j : archives.Ghosts J} (stop : ℕ)
+pub next_stopped : {S J : Type 0} {s : blocks.Ghosts S} {j : store_premises.Ghosts J} (stop : ℕ)
     (before : List S) (store : S) (state : Starting S J s j) → HasTried stop before state
     → (j.trusted ≡ true
     → ∥ WasStopped (s.heads store) (s.blocks store) (buffer_over s (length before) store) ∥₁)
     → IsNextStopped store state
-next_stopped {s = s} stop before store (states.Started buffers stores mixed) had stopped = λ trusted.
+next_stopped {s = s} stop before store (states.Started buffers stores mixed) had stopped =
+    λ trusted.
     subst (λ n. ∥ WasStopped (s.heads store) (s.blocks store) (buffer_over s n store) ∥₁)
     (sym (buffers.ok.0 ∙ had.0.count)) (stopped trusted)
 next_stopped stop before store (states.Refused stores number error) had stopped = tt

@@ -6,10 +6,11 @@ use Rattle.std.proofs.lemmas.List.{length-map}
 use Rattle.std.proofs.lemmas.Option.{same_Some, slice_get_within}
 use Rattle.article_verdict.specs.Config.{terms_of}
 use Rattle.boxcar.specs.Table.{Shelves}
-use Rattle.block_shelf.proofs.ShelfReads.{some_there}
+use Rattle.block_shelf.proofs.BufferSetReads.{some_there}
 use Rattle.block_shelf.proofs.Starts.{buffer_is, untouched_stores}
 use Rattle.block_shelf.specs.Each.{AreEach}
-use Rattle.block_shelf.specs.Starting.{IsFromOutside, IsHeldBy, IsUnwritten, RacksKeep, buffer_over}
+use Rattle.block_shelf.specs.Starting.{IsFromOutside, IsHeldBy, IsUnwritten, PlacedGroupsKeep}
+use Rattle.block_shelf.specs.Starting.{buffer_over}
 use Rattle.block_shelf.specs.declared.starting.StopFault.{StopFault}
 use Rattle.block_shelf.specs.declared.starting.StopFault.TheVariants as faults
 use Rattle.block_shelf.specs.declared.starting.Unstarted.{Unstarted}
@@ -18,15 +19,15 @@ use Rattle.cyc_buffer.specs.History.{History}
 use Rattle.cyc_buffer.specs.Stopped.{HoldsStopped, numbers_of}
 use Rattle.feed_queue.specs.Feeds.{KeepsFeeds}
 use Rattle.feed_queue.specs.Permission.{feed_view}
-use Rattle.history_text.specs.History as texts
-use Rattle.history_text.specs.declared.fault.HistoryError.{HistoryError}
-use Rattle.history_text.specs.declared.fault.HistoryError.TheVariants as errors
+use Rattle.id_history.specs.History as texts
+use Rattle.id_history.specs.declared.fault.HistoryError.{HistoryError}
+use Rattle.id_history.specs.declared.fault.HistoryError.TheVariants as errors
 use Rattle.id_history.specs.Shards.{EachKeeps}
-use Rattle.live_settle.specs.Desks.{desk_of}
+use Rattle.live_jobs.specs.Desks.{desk_of}
 use Rattle.live_store.proofs.StopLemmas.{article_of}
 use Rattle.live_store.specs.Started.{AreArticles, ShutWith, unopened_in}
 use Rattle.live_store.specs.Tied.{number_at}
-use Rattle.live_store.specs.declared.record.Archive as archives
+use Rattle.live_store.specs.declared.record.StorePremises as store_premises
 use Rattle.live_store.specs.declared.unopened.UnopenedNumbered.{UnopenedNumbered}
 use Rattle.news_terms.specs.HeadBlocks.{Closed, HeadBlock, IsHeadBlock, head_image}
 use Rattle.relay_conf.specs.declared.cycbuff.BufferConf.{BufferConf}
@@ -84,7 +85,7 @@ module _ {S : Type 0} (s : blocks.Ghosts S) (config : Config) (stores : List S)
         subst
         (λ n. IsHeldBy s config.buffers stores n (terms_of config) x.state.begun x.state.kept
         x.work.failures)
-        (sym same_stop) (held_by config stores w store stop x shut.shelf)
+        (sym same_stop) (held_by config stores w store stop x shut.buffer_set)
 
     -- what the store at a place holds
     record IsHeldAt (b : ℕ) (one : S) : Type 0 where
@@ -176,14 +177,15 @@ module _ {S : Type 0} (s : blocks.Ghosts S) (config : Config) (stores : List S)
           refused.stores.items is;
     }
 
-    module _ {J : Type 0} {j : archives.Ghosts J} (buffers : List (UnopenedNumbered S J s j))
+    module _ {J : Type 0} {j : store_premises.Ghosts J} (buffers : List (UnopenedNumbered S J s j))
         (are : AreStarted stores kept.stop buffers) where
       -- the history is ahead
       pub ahead_of : IsAheadAs s config stores kept true → refused.error ≡ faults.Ahead
           → refused.buffer ≡ None → AreEach (IsUnwritten s None) stores refused.stores.items
           → IsRefusedRightly s config stores text refused
       ahead_of is error of_none unwritten = record {
-        reason = reasons.IsAhead kept reads (all_start stores kept.stop buffers are) is error of_none
+        reason = reasons.IsAhead kept reads (all_start stores kept.stop buffers are)
+            is error of_none
             unwritten;
         cause = λ register w stop x store shut known.
             absurd (true≢false (sym (is (terms_of config) x.state x.work.failures
@@ -227,7 +229,7 @@ unread_or_room s config stores text refused errors.BadHistory is of_none same no
 
 -- THE START
 
-module _ {S J : Type 0} {s : blocks.Ghosts S} {j : archives.Ghosts J} (config : Config)
+module _ {S J : Type 0} {s : blocks.Ghosts S} {j : store_premises.Ghosts J} (config : Config)
     (stores : List S)
     (sized : map (λ store. length (s.blocks store)) stores
     ≡ map (λ (conf : BufferConf). conf.blocks) config.buffers.buffers.items) (text : List ℕ)
@@ -246,20 +248,22 @@ module _ {S J : Type 0} {s : blocks.Ghosts S} {j : archives.Ghosts J} (config : 
       ∙ sym is
 
   -- the parts start
-  pub starts : {L : Type 0} (alone : Alone S J L s j) (desks : Desks L) → IsAheadAs s config stores kept false
+  pub starts : {L : Type 0} (alone : Alone S J L s j) (desks : Desks L)
+      → IsAheadAs s config stores kept false
       → AreOf config (map unopened_in buffers) kept desks
       → AreEach IsOpenedFrom buffers alone.buffers.items → alone.shards ≡ desks.shards
-      → alone.desk ≡ desks.desk → alone.racks ≡ desks.racks → alone.last ≡ desks.last
+      → alone.desk ≡ desks.desk → alone.placed_groups ≡ desks.placed_groups
+      → alone.last ≡ desks.last
       → stop_in alone ≡ kept.stop → alone.feeds ≡ length config.relay.feeds.items
       → alone.remember ≡ config.relay.remember → StartsOver config stores text alone
-  starts alone desks behind of opened shards desk racks last stop feeds remembers = record {
+  starts alone desks behind of opened shards desk placed_groups last stop feeds remembers = record {
     history = kept;
     reads = reads;
     behind = behind;
     unopened = buffers;
     from_stores = are;
     opened = opened;
-    rack_count = ap (λ rs. length rs.items) racks ∙ of.rack_count;
+    placed_group_count = ap (λ rs. length rs.items) placed_groups ∙ of.placed_group_count;
     stop_is = stop;
     newest_is = newest;
     feed_count = feeds;
@@ -287,8 +291,11 @@ module _ {S J : Type 0} {s : blocks.Ghosts S} {j : archives.Ghosts J} (config : 
                 (rings_are config.relay.feeds.items) (of.feeds x.state.feed parts.1));
             feed_count = feeds ∙ sym (length-map config.relay.feeds.items feed_view);
             sound = config.buffers.sound;
-            racks = subst (λ rs. RacksKeep rs.items (terms_of config) x.state.begun) (sym racks)
-                (of.racks (terms_of config) x.state.begun x.state.kept x.work.failures refl texts
+            placed_groups =
+                subst (λ rs. PlacedGroupsKeep rs.items (terms_of config) x.state.begun)
+                (sym placed_groups)
+                (of.placed_groups (terms_of config) x.state.begun x.state.kept
+                x.work.failures refl texts
                 parts.0);
           };
           buffers = opened_keep buffers alone.buffers.items opened (terms_of config) x.state.begun

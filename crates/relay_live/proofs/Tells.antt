@@ -3,19 +3,19 @@ use Rattle.std.proofs.Common.{◌≡◌, ◌∙◌, ℕ, List, ap, map, Some, su
 use Rattle.std.proofs.lemmas.List.{length-map}
 use Rattle.block_shelf.proofs.Placed.{few_members}
 use Rattle.block_shelf.specs.Each.{AreEach}
-use Rattle.block_shelf.specs.Starting.{RacksKeep}
+use Rattle.block_shelf.specs.Starting.{PlacedGroupsKeep}
 use Rattle.block_shelf.specs.Stopping.{ArePositions, TellsPosition}
-use Rattle.block_shelf.specs.declared.shelf.Rack.{Rack}
+use Rattle.block_shelf.specs.declared.buffer_set.PlacedGroup.{PlacedGroup}
 use Rattle.cyc_block.specs.declared.store.BlockStore as blocks
 use Rattle.feed_queue.specs.Left.{AreLeft}
-use Rattle.history_text.specs.History.{Fits, history_octets}
-use Rattle.history_text.specs.History as texts
-use Rattle.history_text.specs.Views.{feed_view, id_view}
-use Rattle.history_text.specs.declared.kept.KeptFeed.{KeptFeed}
-use Rattle.history_text.specs.declared.kept.KeptId.{KeptId}
+use Rattle.id_history.specs.History.{Fits, history_octets}
+use Rattle.id_history.specs.History as texts
+use Rattle.id_history.specs.Views.{feed_view, id_view}
+use Rattle.id_history.specs.declared.kept.KeptFeed.{KeptFeed}
+use Rattle.id_history.specs.declared.kept.KeptId.{KeptId}
 use Rattle.id_history.specs.Lasting.{AreLasting}
-use Rattle.live_settle.specs.Desks.{desk_of}
-use Rattle.live_store.specs.declared.record.Archive as archives
+use Rattle.live_jobs.specs.Desks.{desk_of}
+use Rattle.live_store.specs.declared.record.StorePremises as store_premises
 use Rattle.news_terms.specs.Settings.{AreSound}
 use Rattle.relay_core.specs.Agreement.{ring_sizes}
 use Rattle.relay_live.specs.Alone.{newest_in}
@@ -24,11 +24,13 @@ use Rattle.relay_live.specs.Telling.{AreEntries, AreKeptFeeds}
 use Rattle.relay_live.specs.declared.alone.Alone.{Alone}
 use Rattle.relay_model.specs.Terms.{FeedTerms, Terms}
 
--- the positions that racks tell are those of the groups
-pub told_racks : (w : Terms) (begun : ℕ → List ℕ) (racks : List Rack) (positions : List ℕ)
-    → AreSound w.buffers w.groups → RacksKeep racks w begun → AreEach TellsPosition racks positions
+-- the positions that placed groups tell are those of the groups
+pub told_placed_groups : (w : Terms) (begun : ℕ → List ℕ) (placed_groups : List PlacedGroup)
+    (positions : List ℕ)
+    → AreSound w.buffers w.groups → PlacedGroupsKeep placed_groups w begun
+    → AreEach TellsPosition placed_groups positions
     → ArePositions w.groups begun positions
-told_racks w begun racks positions sound keeps told = record {
+told_placed_groups w begun placed_groups positions sound keeps told = record {
   count = told.count ∙ keeps.count;
   each = λ h group at.
       let had = keeps.each h group at in
@@ -39,11 +41,12 @@ told_racks w begun racks positions sound keeps told = record {
 }
 
 -- the history that is made of the parts is that of each state
-pub tells_of : {S J L : Type 0} {s : blocks.Ghosts S} {j : archives.Ghosts J}
+pub tells_of : {S J L : Type 0} {s : blocks.Ghosts S} {j : store_premises.Ghosts J}
     (alone : Alone S J L s j) (stop : ℕ) (text : List ℕ) (kept : texts.Kept)
     (feeds : List KeptFeed) (ids : List KeptId) → Fits kept → text ≡ history_octets kept
     → kept.stop ≡ stop → kept.newest ≡ newest_in alone
-    → AreEach TellsPosition alone.racks.items kept.positions → kept.feeds ≡ map feed_view feeds
+    → AreEach TellsPosition alone.placed_groups.items kept.positions
+    → kept.feeds ≡ map feed_view feeds
     → AreKeptFeeds (desk_of alone.desk) alone.feeds feeds → kept.ids ≡ map id_view ids
     → AreEntries alone.shards.items ids → TellsHistory alone stop text
 tells_of alone stop text kept feeds ids fits written stops newest positions feeds_are feeds_left
@@ -54,7 +57,8 @@ tells_of alone stop text kept feeds ids fits written stops newest positions feed
       history = record {
         stop_is = stops;
         newest = newest ∙ beside.newest;
-        positions = told_racks w σ.begun alone.racks.items kept.positions beside.sound beside.racks
+        positions = told_placed_groups w σ.begun alone.placed_groups.items kept.positions
+            beside.sound beside.placed_groups
             positions;
         feeds = subst (λ fs. AreLeft fs (ring_sizes w) σ.feed) (sym feeds_are)
             (feeds_left (ring_sizes w) σ.feed beside.feeds

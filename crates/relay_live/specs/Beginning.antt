@@ -1,7 +1,7 @@
 -- The parts of a relay before anything has come (docs/PROTOCOL.md, State).
 use Rattle.std.specs.Prelude.{◌≡◌, ◌+◌, ℕ, Bool, true, List, None, length, map, replicate}
 use Rattle.block_shelf.specs.Each.{AreEach}
-use Rattle.block_shelf.specs.Filling.{AreNewRacks, failures_in}
+use Rattle.block_shelf.specs.Filling.{AreNewPlacedGroups, failures_in}
 use Rattle.article_verdict.specs.Config.{terms_of}
 use Rattle.block_shelf.specs.Starting.{buffer_over}
 use Rattle.cyc_block.specs.declared.store.BlockStore as blocks
@@ -10,10 +10,10 @@ use Rattle.cyc_buffer.specs.Head.{LeavesBlocks}
 use Rattle.cyc_buffer.specs.History.{new_history}
 use Rattle.feed_queue.specs.Feeds.{KeepsFeeds, no_feed, ring_size}
 use Rattle.id_history.specs.Shards.{EachKeeps}
-use Rattle.live_settle.specs.Desks.{desk_of}
-use Rattle.live_store.specs.Steps.{beside_of, buffer_of, numbers_of}
+use Rattle.live_jobs.specs.Desks.{desk_of}
+use Rattle.live_store.specs.Steps.{open_write_of, buffer_of, numbers_of}
 use Rattle.live_store.specs.declared.numbered.NumberedBuffer.{NumberedBuffer}
-use Rattle.live_store.specs.declared.record.Archive as archives
+use Rattle.live_store.specs.declared.record.StorePremises as store_premises
 use Rattle.relay_conf.specs.Settings.{places_of_groups}
 use Rattle.relay_conf.specs.declared.settings.Config.{Config}
 use Rattle.relay_live.specs.Alone.{KeepsState, newest_in, stop_in}
@@ -22,9 +22,9 @@ use Rattle.relay_model.specs.Claims.{Unknown}
 use Rattle.relay_model.specs.State.{empty_state}
 use Rattle.std.specs.List.{All}
 
--- The buffer of this number over a store, in which nothing was begun: nothing stands beside it, and no
--- number at a block. The device was called once, for head block 0, and hasn't failed.
-pub record IsNewOver {S J : Type 0} {s : blocks.Ghosts S} {j : archives.Ghosts J} (number : ℕ)
+-- The buffer of this number over a store, in which nothing was begun: nothing stands beside it, and
+-- no number at a block. The device was called once, for head block 0, and hasn't failed.
+pub record IsNewOver {S J : Type 0} {s : blocks.Ghosts S} {j : store_premises.Ghosts J} (number : ℕ)
     (store : S) (numbered : NumberedBuffer S J s j)
     : Type 0 where
   pub agrees : (trusted : Bool) → (trusted ≡ true → s.honest store)
@@ -32,20 +32,21 @@ pub record IsNewOver {S J : Type 0} {s : blocks.Ghosts S} {j : archives.Ghosts J
   pub blocks : LeavesBlocks s store (store_of (buffer_of numbered))
   pub calls : s.calls (store_of (buffer_of numbered)) ≡ s.calls store + 1
   pub failures : s.failures (store_of (buffer_of numbered)) ≡ s.failures store
-  pub free : beside_of numbered ≡ None
+  pub free : open_write_of numbered ≡ None
   pub unnumbered : numbers_of numbered ≡ replicate (length (s.blocks store)) None
 
 -- The parts of a relay of this configuration over these stores, before anything has come: every
--- message-id is unknown, no feed gained anything, nothing was begun in a buffer or a group, no session
--- was drawn, and there was no stop. So over honest stores they keep the empty state, in which each
--- device has failed as often as it had.
-pub record BeginsOver {S J L : Type 0} {s : blocks.Ghosts S} {j : archives.Ghosts J}
+-- message-id is unknown, no feed gained anything, nothing was begun in a buffer or a group, no
+-- session was drawn, and there was no stop. So over honest stores they keep the empty state, in
+-- which each device has failed as often as it had.
+pub record BeginsOver {S J L : Type 0} {s : blocks.Ghosts S} {j : store_premises.Ghosts J}
     (config : Config) (stores : List S) (alone : Alone S J L s j)
     : Type 0 where
   pub claims : EachKeeps alone.shards.items (λ id. Unknown)
-  pub feeds : KeepsFeeds (desk_of alone.desk) (map ring_size config.relay.feeds.items) (λ f. no_feed)
-  pub racks : AreNewRacks (places_of_groups config.buffers) alone.racks.items
-  pub rack_count : length alone.racks.items ≡ length config.buffers.groups.items
+  pub feeds : KeepsFeeds (desk_of alone.desk)
+      (map ring_size config.relay.feeds.items) (λ f. no_feed)
+  pub placed_groups : AreNewPlacedGroups (places_of_groups config.buffers) alone.placed_groups.items
+  pub placed_group_count : length alone.placed_groups.items ≡ length config.buffers.groups.items
   pub buffers : AreEach IsNewOver stores alone.buffers.items
   pub newest : newest_in alone ≡ 0
   pub stop_is : stop_in alone ≡ 0

@@ -1,6 +1,6 @@
 -- What was counted of a run, which only the run itself says.
 use Rattle.std.specs.Prelude.{ℕ}
-use Rattle.live_settle.specs.declared.desk.Posts.{Posts}
+use Rattle.live_jobs.specs.declared.desk.Posts.{Posts}
 use Rattle.relay_live.specs.declared.running.Counted.{Counted}
 
 -- how many jobs the writers kept
@@ -11,10 +11,10 @@ accepted_in counted = counted.accepted
 abbrev pub posted_in : Counted → Posts
 posted_in counted = counted.posted
 
--- how many answers and jobs are strays
-abbrev pub strays_of : Counted → ℕ
-strays_of counted = counted.strays
+-- how many answers and jobs are mismatched receipts
+abbrev pub mismatched_receipts_of : Counted → ℕ
+mismatched_receipts_of counted = counted.mismatched_receipts
 
--- how many kept jobs are doubles
-abbrev pub doubles_of : Counted → ℕ
-doubles_of counted = counted.doubles
+-- how many kept jobs are stored again
+abbrev pub ids_stored_again_of : Counted → ℕ
+ids_stored_again_of counted = counted.ids_stored_again

@@ -1,7 +1,7 @@
 pub mod Alone
 pub mod Beginning
 pub mod Counts
-pub mod Ends
+pub mod PeerServers
 pub mod Figures
 pub mod Holding
 pub mod Locking

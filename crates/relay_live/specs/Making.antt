@@ -1,42 +1,42 @@
 -- What a relay's threads share, by how much of it there is.
 use Rattle.std.specs.Prelude.{ℕ, Option, length}
 use Rattle.cyc_block.specs.declared.store.BlockStore as blocks
-use Rattle.live_store.specs.declared.record.Archive as archives
+use Rattle.live_store.specs.declared.record.StorePremises as store_premises
 use Rattle.relay_live.specs.declared.keeper.Keeper.{Keeper}
-use Rattle.relay_live.specs.declared.lending.Lends as lending
+use Rattle.relay_live.specs.declared.register_ref.RegisterRef as register_ref
 use Rattle.relay_live.specs.declared.shared.Shared.{Shared}
 
 -- how many buffers there are
-abbrev pub buffers_in : {S J L : Type 0} {s : blocks.Ghosts S} {j : archives.Ghosts J}
+abbrev pub buffers_in : {S J L : Type 0} {s : blocks.Ghosts S} {j : store_premises.Ghosts J}
     → Shared S J L s j → ℕ
 buffers_in shared = length shared.buffers.items
 
 -- how many groups there are
-abbrev pub groups_in : {S J L : Type 0} {s : blocks.Ghosts S} {j : archives.Ghosts J}
+abbrev pub groups_in : {S J L : Type 0} {s : blocks.Ghosts S} {j : store_premises.Ghosts J}
     → Shared S J L s j → ℕ
-groups_in shared = length shared.racks.items
+groups_in shared = length shared.placed_groups.items
 
 -- how many feeds there are
-abbrev pub feeds_in : {S J L : Type 0} {s : blocks.Ghosts S} {j : archives.Ghosts J}
+abbrev pub feeds_in : {S J L : Type 0} {s : blocks.Ghosts S} {j : store_premises.Ghosts J}
     → Shared S J L s j → ℕ
 feeds_in shared = shared.feeds
 
 -- for how many seconds ids are remembered, where they aren't for good
-abbrev pub remember_in : {S J L : Type 0} {s : blocks.Ghosts S} {j : archives.Ghosts J}
+abbrev pub remember_in : {S J L : Type 0} {s : blocks.Ghosts S} {j : store_premises.Ghosts J}
     → Shared S J L s j → Option ℕ
 remember_in shared = shared.remember
 
 -- the number of the last stop; before the first it is 0
-abbrev pub last_stop : {S J L : Type 0} {s : blocks.Ghosts S} {j : archives.Ghosts J}
+abbrev pub last_stop : {S J L : Type 0} {s : blocks.Ghosts S} {j : store_premises.Ghosts J}
     → Shared S J L s j → ℕ
 last_stop shared = shared.stop
 
 -- how many ends there are
-abbrev pub ends_in : {S J L : Type 0} {s : blocks.Ghosts S} {j : archives.Ghosts J}
+abbrev pub ends_in : {S J L : Type 0} {s : blocks.Ghosts S} {j : store_premises.Ghosts J}
     → Shared S J L s j → ℕ
 ends_in shared = length shared.slots.items
 
 -- how many ends what stores the jobs can tell what became of theirs
-abbrev pub slots_of : {S J L C Q : Type 0} {s : blocks.Ghosts S} {j : archives.Ghosts J}
-    {q : lending.Ghosts Q} → Keeper S J L C Q s j q → ℕ
+abbrev pub slots_of : {S J L C Q : Type 0} {s : blocks.Ghosts S} {j : store_premises.Ghosts J}
+    {q : register_ref.Ghosts Q} → Keeper S J L C Q s j q → ℕ
 slots_of keeper = ends_in keeper.shared.now

@@ -2,11 +2,11 @@
 use Rattle.std.specs.Prelude.{◌≡◌, ℕ, Bool, true, List, [], length, map, Some, slice_get}
 use Rattle.boxcar.specs.Table.{Shelves}
 use Rattle.job_queue.specs.declared.parcel.Handed.{Handed}
-use Rattle.live_fates.specs.declared.fate.KeptJob.{KeptJob}
+use Rattle.live_jobs.specs.declared.store_result.KeptJob.{KeptJob}
 use Rattle.live_session.specs.Carried.{IsServedBy}
 use Rattle.live_session.specs.Course.{Hands}
 use Rattle.live_session.specs.declared.wire.Finish.{Finish}
-use Rattle.live_store.specs.declared.record.Archive.{Ghosts}
+use Rattle.live_store.specs.declared.record.StorePremises.{Ghosts}
 use Rattle.relay_model.specs.Terms.{Terms}
 
 -- to no group anything was handed over

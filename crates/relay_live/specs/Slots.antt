@@ -1,7 +1,7 @@
 -- What stands in the slot of an end (docs/PROTOCOL.md, Threads).
 use Rattle.std.specs.Prelude.{ℕ, Option, None, Some, nat_lt, ◌==◌, if◌then◌else◌}
-use Rattle.live_fates.specs.declared.fate.Told.{Told}
-use Rattle.live_store.specs.declared.record.Archive.{Ghosts}
+use Rattle.live_jobs.specs.declared.store_result.JobAnswer.{JobAnswer}
+use Rattle.live_store.specs.declared.record.StorePremises.{Ghosts}
 use Rattle.relay_live.specs.declared.slot.Answer.{Answer}
 
 -- after an answer is told: of two answers that of the later job stays
@@ -13,7 +13,7 @@ after_tell (Some held) answer =
 
 -- what who waits for the job of this number is told: the answer of this very job
 abbrev pub told_to : {J : Type 0} {g : Ghosts J} → Option (Answer J g) → (number : ℕ)
-    → Option (Told J g)
+    → Option (JobAnswer J g)
 told_to None number = None
 told_to (Some held) number = if held.number == number then Some held.told else None
 

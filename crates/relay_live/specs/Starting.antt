@@ -7,7 +7,8 @@ use Rattle.block_shelf.specs.Each.{AreEach}
 use Rattle.block_shelf.specs.Heads as heads
 use Rattle.block_shelf.specs.Starting.{CanStart, EarlierStart, IsFirstOther, IsFromOutside}
 use Rattle.block_shelf.specs.Starting.{IsMixedAt, IsUnwritten, buffer_over, failed_at}
-use Rattle.block_shelf.specs.Starting.{BuffersKeep, ResumeRacks, buffers_inside, fault_of_start}
+use Rattle.block_shelf.specs.Starting.{BuffersKeep, ResumePlacedGroups, buffers_inside}
+use Rattle.block_shelf.specs.Starting.{fault_of_start}
 use Rattle.block_shelf.specs.Starting.{number_told}
 use Rattle.block_shelf.specs.declared.starting.StopFault.{StopFault}
 use Rattle.block_shelf.specs.declared.starting.StopFault.TheVariants as faults
@@ -23,16 +24,16 @@ use Rattle.cyc_buffer.specs.declared.answers.StartError.TheVariants as errors
 use Rattle.cyc_buffer.specs.declared.unopened.Unopened.{Unopened}
 use Rattle.feed_queue.specs.Feeds.{KeepsFeeds, ring_size}
 use Rattle.feed_queue.specs.Left.{AreLeft}
-use Rattle.history_text.specs.History as texts
+use Rattle.id_history.specs.History as texts
 use Rattle.id_history.specs.Lasting.{AreLasting, lasting}
 use Rattle.id_history.specs.Shards.{EachKeeps}
-use Rattle.live_settle.specs.Desks.{desk_of}
+use Rattle.live_jobs.specs.Desks.{desk_of}
 use Rattle.live_store.specs.Started.{AreArticles, IsRefusedFor, IsUnentered, WasStopped}
 use Rattle.live_store.specs.Started.{numbers_on, unopened_in}
-use Rattle.live_store.specs.Steps.{beside_of, buffer_of, numbers_of}
+use Rattle.live_store.specs.Steps.{open_write_of, buffer_of, numbers_of}
 use Rattle.live_store.specs.Tied.{AreNumbered}
 use Rattle.live_store.specs.declared.numbered.NumberedBuffer.{NumberedBuffer}
-use Rattle.live_store.specs.declared.record.Archive as archives
+use Rattle.live_store.specs.declared.record.StorePremises as store_premises
 use Rattle.live_store.specs.declared.unopened.UnopenedNumbered.{UnopenedNumbered}
 use Rattle.relay_conf.specs.declared.settings.Config.{Config}
 use Rattle.relay_core.specs.Ahead.{filled_of, filled_view}
@@ -70,9 +71,10 @@ WereStopped {S} s stores =
 -- EACH BUFFER
 
 -- The buffer of this number was started from a store, which is unwritten. Over an honest one it
--- agrees with each history that the store holds as stopped, and the first block of each live article
--- has the number of its record.
-pub record IsStartedOver {S J : Type 0} {s : blocks.Ghosts S} {j : archives.Ghosts J} (number : ℕ)
+-- agrees with each history that the store holds as stopped, and the first block of each live
+-- article has the number of its record.
+pub record IsStartedOver {S J : Type 0} {s : blocks.Ghosts S}
+    {j : store_premises.Ghosts J} (number : ℕ)
     (store : S) (one : UnopenedNumbered S J s j)
     : Type 0 where
   pub agrees : s.honest store → (stop : ℕ) (h : History)
@@ -92,7 +94,8 @@ pub record IsStartedOver {S J : Type 0} {s : blocks.Ghosts S} {j : archives.Ghos
 
 -- the buffers were started from these stores, in their order, all of which were stopped under this
 -- number
-pub record AreStarted {S J : Type 0} {s : blocks.Ghosts S} {j : archives.Ghosts J} (stores : List S)
+pub record AreStarted {S J : Type 0} {s : blocks.Ghosts S} {j : store_premises.Ghosts J}
+    (stores : List S)
     (stop : ℕ) (buffers : List (UnopenedNumbered S J s j))
     : Type 0 where
   pub over : AreEach IsStartedOver stores buffers
@@ -100,20 +103,20 @@ pub record AreStarted {S J : Type 0} {s : blocks.Ghosts S} {j : archives.Ghosts 
 
 -- the buffer is the started one, whose device says, by one call that hasn't failed, that it may
 -- change; nothing stands beside it, and the numbers at its blocks stay
-pub record IsOpenedFrom {S J : Type 0} {s : blocks.Ghosts S} {j : archives.Ghosts J} (b : ℕ)
+pub record IsOpenedFrom {S J : Type 0} {s : blocks.Ghosts S} {j : store_premises.Ghosts J} (b : ℕ)
     (one : UnopenedNumbered S J s j) (numbered : NumberedBuffer S J s j)
     : Type 0 where
   pub buffer : heads.IsOpenedFrom b (unopened_in one) (buffer_of numbered)
-  pub free : beside_of numbered ≡ None
+  pub free : open_write_of numbered ≡ None
   pub numbers : numbers_of numbered ≡ numbers_on one
 
 -- THE RELAY
 
 -- The parts of a relay that was started from stores and text. The text is of a history that isn't
--- ahead of the stores, whose stop and newest session they have; the buffers were started at this stop,
--- and their heads are open. Over what a relay was shut to, with its buffers, groups and feeds, they
--- keep what a Restart makes of the state of each world with which that agreed.
-pub record StartsOver {S J L : Type 0} {s : blocks.Ghosts S} {j : archives.Ghosts J}
+-- ahead of the stores, whose stop and newest session they have; the buffers were started at this
+-- stop, and their heads are open. Over what a relay was shut to, with its buffers, groups and
+-- feeds, they keep what a Restart makes of the state of each world with which that agreed.
+pub record StartsOver {S J L : Type 0} {s : blocks.Ghosts S} {j : store_premises.Ghosts J}
     (config : Config) (stores : List S) (text : List ℕ) (alone : Alone S J L s j)
     : Type 0 where
   pub history : texts.Kept
@@ -122,7 +125,7 @@ pub record StartsOver {S J L : Type 0} {s : blocks.Ghosts S} {j : archives.Ghost
   pub unopened : List (UnopenedNumbered S J s j)
   pub from_stores : AreStarted stores history.stop unopened
   pub opened : AreEach IsOpenedFrom unopened alone.buffers.items
-  pub rack_count : length alone.racks.items ≡ length config.buffers.groups.items
+  pub placed_group_count : length alone.placed_groups.items ≡ length config.buffers.groups.items
   pub stop_is : stop_in alone ≡ history.stop
   pub newest_is : newest_in alone ≡ history.newest
   pub feed_count : alone.feeds ≡ length config.relay.feeds.items
@@ -150,8 +153,8 @@ pub record IsRefusedAt {S : Type 0} (s : blocks.Ghosts S) (stores : List S) (err
   pub earlier : EarlierStart s stores place
   pub back_each : AreEach (IsUnwritten s (failed_at error place)) stores back
 
--- The fault of a buffer is told with its number, in the order of the buffers; then the first that was
--- stopped under another number; memory may be refused in place of each. Nothing is written.
+-- The fault of a buffer is told with its number, in the order of the buffers; then the first that
+-- was stopped under another number; memory may be refused in place of each. Nothing is written.
 abbrev pub IsUnstartedBy : {S : Type 0} → blocks.Ghosts S → (stores : List S) → (stop : ℕ)
     → StopFault → Option ℕ → (back : List S) → Type 0
 IsUnstartedBy s stores stop faults.Memory buffer back =
@@ -179,8 +182,8 @@ abbrev pub AllStart : {S : Type 0} → blocks.Ghosts S → (stores : List S) →
 AllStart {S} s stores stop =
     (b : ℕ) (one : S) → slice_get stores b ≡ Some one → s.honest one → CanStart s b one stop
 
--- A store comes back, where the device of the one at this place failed while its head was opened: it
--- has failed, none before it has, and those behind it are unwritten.
+-- A store comes back, where the device of the one at this place failed while its head was opened:
+-- it has failed, none before it has, and those behind it are unwritten.
 pub record IsLeftUnopened {S : Type 0} (s : blocks.Ghosts S) (place b : ℕ) (old new : S) : Type 0
   where
     pub failed : b ≡ place → s.failures old < s.failures new
@@ -248,7 +251,7 @@ IsNotStarted s config stores text (nots.Refused refused) =
 -- THE SHARED RELAY
 
 -- the text is of a history of this configuration, and the relay goes on from its stop
-pub record HasStopOf {S J L : Type 0} {s : blocks.Ghosts S} {j : archives.Ghosts J}
+pub record HasStopOf {S J L : Type 0} {s : blocks.Ghosts S} {j : store_premises.Ghosts J}
     (config : Config) (text : List ℕ) (shared : Shared S J L s j)
     : Type 0 where
   pub history : texts.Kept
@@ -258,7 +261,7 @@ pub record HasStopOf {S J L : Type 0} {s : blocks.Ghosts S} {j : archives.Ghosts
 -- STEP BY STEP
 
 -- the stores of started buffers
-abbrev pub stores_of : {S J : Type 0} {s : blocks.Ghosts S} {j : archives.Ghosts J}
+abbrev pub stores_of : {S J : Type 0} {s : blocks.Ghosts S} {j : store_premises.Ghosts J}
     → List (UnopenedNumbered S J s j) → List S
 stores_of {S} {J} {s} {j} buffers =
     map (λ (one : UnopenedNumbered S J s j). store_of (inside (unopened_in one))) buffers
@@ -286,9 +289,9 @@ TellsFilled buffers filled =
     → BuffersKeep (buffers_inside buffers) w σ.begun σ.kept failures
     → map filled_view filled ≡ filled_of w σ
 
--- What is made of a history, with racks over started buffers: the ids have what was left of their
--- claims, the rings what was left of their feeds, the groups are at their positions, and the newest
--- session is that of the history.
+-- What is made of a history, with placed groups over started buffers: the ids have what was left of
+-- their claims, the rings what was left of their feeds, the groups are at their positions, and the
+-- newest session is that of the history.
 pub record AreOf {S L : Type 0} {s : blocks.Ghosts S} (config : Config)
     (buffers : List (Unopened S s)) (kept : texts.Kept) (desks : Desks L)
     : Type 0 where
@@ -297,8 +300,9 @@ pub record AreOf {S L : Type 0} {s : blocks.Ghosts S} (config : Config)
   pub feeds : (feed : ℕ → Feed)
       → AreLeft kept.feeds (map ring_size config.relay.feeds.items) feed
       → KeepsFeeds (desk_of desks.desk) (map ring_size config.relay.feeds.items) feed
-  pub racks : ResumeRacks config.buffers kept.positions (buffers_inside buffers) desks.racks.items
-  pub rack_count : length desks.racks.items ≡ length config.buffers.groups.items
+  pub placed_groups : ResumePlacedGroups config.buffers kept.positions (buffers_inside buffers)
+      desks.placed_groups.items
+  pub placed_group_count : length desks.placed_groups.items ≡ length config.buffers.groups.items
   pub newest : last_of desks.last ≡ kept.newest
 
 -- the start of a buffer over these stores is refused for this fault, which is told with its number
@@ -309,7 +313,8 @@ IsTriedRefusal s before fault number back =
     × ((why : IsRefusedAt s before start back) × (number ≡ number_told start why.place))
 
 -- how a start stands after these stores: all their buffers were started, or it was refused
-abbrev pub HasTried : {S J : Type 0} {s : blocks.Ghosts S} {j : archives.Ghosts J} → (stop : ℕ)
+abbrev pub HasTried : {S J : Type 0} {s : blocks.Ghosts S} {j : store_premises.Ghosts J}
+    → (stop : ℕ)
     → (before : List S) → Starting S J s j → Type 0
 HasTried stop before (states.Started buffers stores mixed) =
     AreEach IsStartedOver before buffers.items × (stores.items ≡ [])
@@ -318,7 +323,8 @@ HasTried {s = s} stop before (states.Refused stores number error) =
     IsTriedRefusal s before error number stores.items
 
 -- the next buffer is started behind those that are, or not
-abbrev pub StartsNext : {S J : Type 0} {s : blocks.Ghosts S} {j : archives.Ghosts J} → (stop : ℕ)
+abbrev pub StartsNext : {S J : Type 0} {s : blocks.Ghosts S} {j : store_premises.Ghosts J}
+    → (stop : ℕ)
     → S → List (UnopenedNumbered S J s j) → (room : List S) → (mixed : Option ℕ)
     → Starting S J s j → Type 0
 StartsNext {S} stop store buffers room mixed new =
@@ -327,13 +333,14 @@ StartsNext {S} stop store buffers room mixed new =
     → HasTried stop (before ++ store ∷ []) new
 
 -- the next store is tried, where none before it was refused
-abbrev pub TriesNext : {S J : Type 0} {s : blocks.Ghosts S} {j : archives.Ghosts J} → (stop : ℕ)
+abbrev pub TriesNext : {S J : Type 0} {s : blocks.Ghosts S} {j : store_premises.Ghosts J}
+    → (stop : ℕ)
     → S → (old new : Starting S J s j) → Type 0
 TriesNext {S} stop store old new =
     (before : List S) → HasTried stop before old → HasTried stop (before ++ store ∷ []) new
 
 -- where none was refused, the next store holds the next buffer as it was stopped, if it is trusted
-abbrev pub IsNextStopped : {S J : Type 0} {s : blocks.Ghosts S} {j : archives.Ghosts J} → S
+abbrev pub IsNextStopped : {S J : Type 0} {s : blocks.Ghosts S} {j : store_premises.Ghosts J} → S
     → Starting S J s j → Type 0
 IsNextStopped {s = s} {j} store (states.Started buffers stores mixed) =
     j.trusted ≡ true
@@ -341,19 +348,19 @@ IsNextStopped {s = s} {j} store (states.Started buffers stores mixed) =
 IsNextStopped store (states.Refused stores number error) = Unit {0}
 
 -- how many buffers and stores it has
-abbrev pub tried_count : {S J : Type 0} {s : blocks.Ghosts S} {j : archives.Ghosts J}
+abbrev pub tried_count : {S J : Type 0} {s : blocks.Ghosts S} {j : store_premises.Ghosts J}
     → Starting S J s j → ℕ
 tried_count (states.Started buffers stores mixed) = vec_len buffers + vec_len stores
 tried_count (states.Refused stores number error) = vec_len stores
 
 -- for how many it has room
-abbrev pub tried_room : {S J : Type 0} {s : blocks.Ghosts S} {j : archives.Ghosts J}
+abbrev pub tried_room : {S J : Type 0} {s : blocks.Ghosts S} {j : store_premises.Ghosts J}
     → Starting S J s j → ℕ
 tried_room (states.Started buffers stores mixed) = min (vec_capacity buffers) (vec_capacity stores)
 tried_room (states.Refused stores number error) = vec_capacity stores
 
 -- how an opening stands after these buffers: each is open, or the one at a place has failed
-abbrev pub HasOpened : {S J : Type 0} {s : blocks.Ghosts S} {j : archives.Ghosts J}
+abbrev pub HasOpened : {S J : Type 0} {s : blocks.Ghosts S} {j : store_premises.Ghosts J}
     → (before : List (UnopenedNumbered S J s j)) → Opening S J s j → Type 0
 HasOpened before (openings.Opened buffers room) =
     AreEach IsOpenedFrom before buffers.items × (room.items ≡ [])
@@ -362,20 +369,20 @@ HasOpened before (openings.Failed stores place) =
     × AreEach (heads.IsLeftUnopened place) (map unopened_in before) stores.items
 
 -- the next buffer's head is opened, where none before it has failed
-abbrev pub OpensNext : {S J : Type 0} {s : blocks.Ghosts S} {j : archives.Ghosts J}
+abbrev pub OpensNext : {S J : Type 0} {s : blocks.Ghosts S} {j : store_premises.Ghosts J}
     → UnopenedNumbered S J s j → (old new : Opening S J s j) → Type 0
 OpensNext {S} {J} {s} {j} one old new =
     (before : List (UnopenedNumbered S J s j)) → HasOpened before old
     → HasOpened (before ++ one ∷ []) new
 
 -- how many buffers and stores it has
-abbrev pub opening_count : {S J : Type 0} {s : blocks.Ghosts S} {j : archives.Ghosts J}
+abbrev pub opening_count : {S J : Type 0} {s : blocks.Ghosts S} {j : store_premises.Ghosts J}
     → Opening S J s j → ℕ
 opening_count (openings.Opened buffers room) = vec_len buffers + vec_len room
 opening_count (openings.Failed stores place) = vec_len stores
 
 -- for how many it has room
-abbrev pub opening_room : {S J : Type 0} {s : blocks.Ghosts S} {j : archives.Ghosts J}
+abbrev pub opening_room : {S J : Type 0} {s : blocks.Ghosts S} {j : store_premises.Ghosts J}
     → Opening S J s j → ℕ
 opening_room (openings.Opened buffers room) = min (vec_capacity buffers) (vec_capacity room)
 opening_room (openings.Failed stores place) = vec_capacity stores

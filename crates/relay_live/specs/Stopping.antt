@@ -12,7 +12,7 @@ use Rattle.id_history.specs.Shards.{EachKeeps}
 use Rattle.live_store.specs.Started.{ShutWith}
 use Rattle.live_store.specs.Steps.{buffer_of}
 use Rattle.live_store.specs.declared.numbered.NumberedBuffer.{NumberedBuffer}
-use Rattle.live_store.specs.declared.record.Archive as archives
+use Rattle.live_store.specs.declared.record.StorePremises as store_premises
 use Rattle.relay_core.specs.Stopping.{IsShut, Tells, next_stop}
 use Rattle.relay_live.specs.Alone.{KeepsBeside, KeepsState, codes_of, stop_in}
 use Rattle.relay_live.specs.declared.alone.Alone.{Alone}
@@ -27,8 +27,8 @@ use Rattle.relay_model.specs.State.{State}
 use Rattle.relay_model.specs.Terms.{Terms}
 use Rattle.relay_model.specs.World.{World}
 
--- each store holds a buffer as stopped under this number, each live text of which is that of a record
--- of the register
+-- each store holds a buffer as stopped under this number, each live text of which is that of a
+-- record of the register
 abbrev pub AreShutWith : {S : Type 0} (s : blocks.Ghosts S) → Shelves → (stop : ℕ)
     → (stores : List S) → Type 0
 AreShutWith {S} s register stop stores =
@@ -36,13 +36,13 @@ AreShutWith {S} s register stop stores =
     → ∥ ShutWith register stop (s.heads store) (s.blocks store) ∥₁
 
 -- the text is that of the history of each state that the parts keep, at this stop
-abbrev pub TellsHistory : {S J L : Type 0} {s : blocks.Ghosts S} {j : archives.Ghosts J}
+abbrev pub TellsHistory : {S J L : Type 0} {s : blocks.Ghosts S} {j : store_premises.Ghosts J}
     → Alone S J L s j → (stop : ℕ) → List ℕ → Type 0
 TellsHistory alone stop text =
     (w : Terms) (σ : State) → KeepsBeside w alone σ → Tells w stop σ text
 
 -- no id is being stored, by all claims that the shards keep, and no write is open in a buffer
-pub record IsAtRest {S J L : Type 0} {s : blocks.Ghosts S} {j : archives.Ghosts J}
+pub record IsAtRest {S J L : Type 0} {s : blocks.Ghosts S} {j : store_premises.Ghosts J}
     (alone : Alone S J L s j)
     : Type 0 where
   pub claims : (claims : List ℕ → Claim) → EachKeeps alone.shards.items claims → (id : List ℕ)
@@ -51,7 +51,7 @@ pub record IsAtRest {S J L : Type 0} {s : blocks.Ghosts S} {j : archives.Ghosts 
       → is_busy code ≡ false
 
 -- an id is being stored, by all claims that the shards keep, or a write is open in a buffer
-pub data IsStoring {S J L : Type 0} {s : blocks.Ghosts S} {j : archives.Ghosts J}
+pub data IsStoring {S J L : Type 0} {s : blocks.Ghosts S} {j : store_premises.Ghosts J}
     (alone : Alone S J L s j)
     : Type 0 where
   HasClaim : ((claims : List ℕ → Claim) → EachKeeps alone.shards.items claims
@@ -60,10 +60,10 @@ pub data IsStoring {S J L : Type 0} {s : blocks.Ghosts S} {j : archives.Ghosts J
       → is_busy code ≡ true → IsStoring alone
 
 -- What closing gives, at the next stop. The text tells each state that the parts kept, over any
--- stores. Each store is what the stop of its buffer leaves, in which over an honest one each history is
--- held; where the stores are trusted each live text is that of a record. So stores and text are those
--- of a relay that agreed with a world whose state the parts kept.
-pub record Shuts {S J L : Type 0} {s : blocks.Ghosts S} {j : archives.Ghosts J}
+-- stores. Each store is what the stop of its buffer leaves, in which over an honest one each
+-- history is held; where the stores are trusted each live text is that of a record. So stores and
+-- text are those of a relay that agreed with a world whose state the parts kept.
+pub record Shuts {S J L : Type 0} {s : blocks.Ghosts S} {j : store_premises.Ghosts J}
     (old : Alone S J L s j) (stores : List S) (text : List ℕ)
     : Type 0 where
   pub rest : IsAtRest old
@@ -73,8 +73,9 @@ pub record Shuts {S J L : Type 0} {s : blocks.Ghosts S} {j : archives.Ghosts J}
   pub holds : (w : Terms) (x : World) → KeepsState w old x.state x.work.failures → IsWell w x
       → IsShut s w (next_stop (stop_in old)) stores text x
 
--- the device of the buffer of this number failed; the stores are those of all buffers, in their order
-pub record IsShutPartly {S J L : Type 0} {s : blocks.Ghosts S} {j : archives.Ghosts J}
+-- the device of the buffer of this number failed; the stores are those of all buffers, in their
+-- order
+pub record IsShutPartly {S J L : Type 0} {s : blocks.Ghosts S} {j : store_premises.Ghosts J}
     (old : Alone S J L s j) (number : ℕ) (stores : List S)
     : Type 0 where
   pub place : ℕ
@@ -83,26 +84,28 @@ pub record IsShutPartly {S J L : Type 0} {s : blocks.Ghosts S} {j : archives.Gho
   pub left : AreEach (IsLeftOver place) (codes_of old) stores
 
 -- Why the relay isn't stopped. Where an id is being stored or a write is open, and there alone, it
--- isn't idle and comes back as it was; so it does where memory was refused. Else the device of a buffer
--- has failed.
-abbrev pub ComesBack : {S J L : Type 0} {s : blocks.Ghosts S} {j : archives.Ghosts J}
+-- isn't idle and comes back as it was; so it does where memory was refused. Else the device of a
+-- buffer has failed.
+abbrev pub ComesBack : {S J L : Type 0} {s : blocks.Ghosts S} {j : store_premises.Ghosts J}
     → Alone S J L s j → Unstopped S J L s j → Type 0
 ComesBack old (unstoppeds.NotIdle back) = (back ≡ old) × IsStoring old
 ComesBack old (unstoppeds.Memory back) = (back ≡ old) × IsAtRest old
-ComesBack old (unstoppeds.Device number stores) = IsAtRest old × IsShutPartly old number stores.items
+ComesBack old (unstoppeds.Device number stores) =
+    IsAtRest old × IsShutPartly old number stores.items
 
 -- STEP BY STEP
 
 -- The stores are those of the buffers so far: each is stopped, or the one at a place has failed.
 -- Where none has, each live text in a store is that of a record, if stores are trusted.
-abbrev pub AreKnown : {S : Type 0} (s : blocks.Ghosts S) {J : Type 0} → archives.Ghosts J
+abbrev pub AreKnown : {S : Type 0} (s : blocks.Ghosts S) {J : Type 0} → store_premises.Ghosts J
     → (stop : ℕ) → (failed : Option ℕ) → (stores : List S) → Type 0
 AreKnown s j stop failed stores =
     failed ≡ None → j.trusted ≡ true → AreShutWith s j.register stop stores
 
--- what the stop of all buffers gives: the device of the one of a number has failed, or none, and then
--- each store is what the stop of its buffer leaves, where no write was open
-abbrev pub IsShutAll : {S J : Type 0} {s : blocks.Ghosts S} {j : archives.Ghosts J} → (stop : ℕ)
+-- what the stop of all buffers gives: the device of the one of a number has failed, or none, and
+-- then each store is what the stop of its buffer leaves, where no write was open
+abbrev pub IsShutAll : {S J : Type 0} {s : blocks.Ghosts S} {j : store_premises.Ghosts J}
+    → (stop : ℕ)
     → List (NumberedBuffer S J s j) → (failed : Option ℕ) → (stores : List S) → Type 0
 IsShutAll {S} {J} {s} {j} stop buffers failed stores =
     ((b : ℕ) (code : Buffer S s) → slice_get (map buffer_of buffers) b ≡ Some code
@@ -112,18 +115,18 @@ IsShutAll {S} {J} {s} {j} stop buffers failed stores =
 -- THE SHARED RELAY
 
 -- the other relay has as many buffers, groups, feeds and ends, and remembers as long
-pub record HasAsMany {S J L : Type 0} {s : blocks.Ghosts S} {j : archives.Ghosts J}
+pub record HasAsMany {S J L : Type 0} {s : blocks.Ghosts S} {j : store_premises.Ghosts J}
     (old new : Shared S J L s j)
     : Type 0 where
   pub buffers : length new.buffers.items ≡ length old.buffers.items
-  pub groups : length new.racks.items ≡ length old.racks.items
+  pub groups : length new.placed_groups.items ≡ length old.placed_groups.items
   pub feeds : new.feeds ≡ old.feeds
   pub ends : length new.slots.items ≡ length old.slots.items
   pub remembers : new.remember ≡ old.remember
 
--- a relay that isn't stopped for want of memory or as it isn't idle goes on, as large as it was; where
--- a device failed, it is one of its buffers', and there is a store of each
-abbrev pub IsUnshut : {S J L : Type 0} {s : blocks.Ghosts S} {j : archives.Ghosts J}
+-- a relay that isn't stopped for want of memory or as it isn't idle goes on, as large as it was;
+-- where a device failed, it is one of its buffers', and there is a store of each
+abbrev pub IsUnshut : {S J L : Type 0} {s : blocks.Ghosts S} {j : store_premises.Ghosts J}
     → Shared S J L s j → Unshut S J L s j → Type 0
 IsUnshut old (answers.NotIdle back) = HasAsMany old back
 IsUnshut old (answers.Memory back) = HasAsMany old back

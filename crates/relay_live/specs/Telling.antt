@@ -3,9 +3,9 @@ use Rattle.std.specs.Prelude.{◌≡◌, ℕ, List, length, map}
 use Rattle.feed_queue.specs.Feeds.{KeepsFeeds}
 use Rattle.feed_queue.specs.Left.{AreLeft}
 use Rattle.feed_queue.specs.declared.desk.FeedDesk.{FeedDesk}
-use Rattle.history_text.specs.Views.{feed_view, id_view}
-use Rattle.history_text.specs.declared.kept.KeptFeed.{KeptFeed}
-use Rattle.history_text.specs.declared.kept.KeptId.{KeptId}
+use Rattle.id_history.specs.Views.{feed_view, id_view}
+use Rattle.id_history.specs.declared.kept.KeptFeed.{KeptFeed}
+use Rattle.id_history.specs.declared.kept.KeptId.{KeptId}
 use Rattle.id_history.specs.Lasting.{AreLasting}
 use Rattle.id_history.specs.Shards.{EachKeeps}
 use Rattle.id_history.specs.declared.claims.Shard.{Shard}

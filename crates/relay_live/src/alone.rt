@@ -5,11 +5,11 @@ ghost use Rattle.relay_model.specs.Terms.{shard_count};
 
 use crate::drawing::Last;
 use crate::making::{new_buffers, new_desk, new_shards};
-use block_shelf::{BeginError, Rack, new_racks, unbegun};
+use block_shelf::{BeginError, PlacedGroup, new_placed_groups, unbegun};
 use cyc_block::BlockStore;
 use id_history::Shard;
-use live_settle::CountedDesk;
-use live_store::{Archive, NumberedBuffer};
+use live_jobs::CountedDesk;
+use live_store::{NumberedBuffer, StorePremises};
 use relay_conf::Config;
 use std::alloc::Global;
 use std::random::RandomSource;
@@ -19,13 +19,13 @@ use std::sync::ledger::{Book, Ledger};
 /// groups of the configuration, the number of the session that was drawn last, and that of the last
 /// stop.
 #[derive(Drop)]
-pub(crate) struct Alone<S: BlockStore + Drop, J: Archive, L: Ledger> {
+pub(crate) struct Alone<S: BlockStore + Drop, J: StorePremises, L: Ledger> {
     pub(crate) shards: Vec<Shard>,
     pub(crate) desk: CountedDesk<L>,
     /// How many feeds the desk had when it was made.
     pub(crate) feeds: usize,
     pub(crate) buffers: Vec<NumberedBuffer<S, J>>,
-    pub(crate) racks: Vec<Rack>,
+    pub(crate) placed_groups: Vec<PlacedGroup>,
     pub(crate) last: Last<L>,
     /// The number of the last stop; before the first it is 0.
     pub(crate) stop: u64,
@@ -33,11 +33,11 @@ pub(crate) struct Alone<S: BlockStore + Drop, J: Archive, L: Ledger> {
     pub(crate) remember: Option<u64>,
     ghost sixteen: { length shards.items ≡ shard_count },
     ghost few: { length buffers.items ≤ 256 },
-    ghost few_racks: { length racks.items ≤ 256 },
+    ghost few_placed_groups: { length placed_groups.items ≤ 256 },
     ghost few_feeds: { feeds ≤ 1024 },
 }
 
-impl<S: BlockStore + Drop, J: Archive, L: Ledger> Alone<S, J, L> {
+impl<S: BlockStore + Drop, J: StorePremises, L: Ledger> Alone<S, J, L> {
     ghost use Rattle.std.specs.Prelude.{◌≡◌, true, map, All, IfErr, IfOk};
     ghost use Rattle.block_shelf.specs.Filling.{IsBeginRefusal};
     ghost use Rattle.relay_live.specs.Beginning.{BeginsOver};
@@ -62,7 +62,7 @@ impl<S: BlockStore + Drop, J: Archive, L: Ledger> Alone<S, J, L> {
         let last = Last::new(&book);
         let shards = new_shards(rt, alloc)?;
         let desk = new_desk(alloc, config, book)?;
-        let racks = new_racks(alloc, &config.buffers)?;
+        let placed_groups = new_placed_groups(alloc, &config.buffers)?;
         let buffers = match new_buffers(alloc, stores) {
             Ok(buffers) => buffers,
             Err(error) => return Err(unbegun(error)),
@@ -72,7 +72,7 @@ impl<S: BlockStore + Drop, J: Archive, L: Ledger> Alone<S, J, L> {
             desk,
             feeds: config.relay.feeds.len(),
             buffers,
-            racks,
+            placed_groups,
             last,
             stop: 0,
             remember: config.relay.remember,

@@ -2,7 +2,7 @@
 ghost use Rattle.std.specs.Prelude.{◌≡◌, ◌≢◌, ◌<◌, ◌+◌, ◌^◌, None, IfOk, IfSome};
 ghost use Rattle.id_history.specs.Counts.{AtMost};
 ghost use Rattle.id_history.specs.declared.claims.Take.TheVariants as takes;
-ghost use Rattle.live_settle.specs.Posted.{IsPostOf};
+ghost use Rattle.live_jobs.specs.Posted.{IsPostOf};
 ghost use Rattle.relay_live.specs.Rounds.{fronts_in, shards_in, times_of};
 ghost use Rattle.relay_model.specs.Terms.{shard_count};
 
@@ -10,7 +10,7 @@ use crate::forgetting::Rounds;
 use crossbeam_utils::sync::EventCount;
 use cyc_token::Token;
 use id_history::{Counts, Offer, Shard, Take};
-use live_settle::{CountedDesk, Posted};
+use live_jobs::{CountedDesk, Posted};
 use nntp_text::MsgId;
 use std::alloc::AllocError;
 use std::sync::ledger::{Ledger, Share};
@@ -118,7 +118,7 @@ impl Claims {
         rounds.expire(&mut self.shard.lock(rt));
     }
 
-    /// Settles under this lock and then the desk's (`live_settle::settle`).
+    /// Settles under this lock and then the desk's (`live_jobs::settle`).
     pub(crate) fn settle<L: Ledger, R: Wait>(
         &self,
         rt: &R,
@@ -136,7 +136,7 @@ impl Claims {
         ensures same { result ≡ None → share.new.amount ≡ share.old.amount }
         ensures parts { share.new.parts ≡ share.old.parts }
     {
-        let posted = live_settle::settle(
+        let posted = live_jobs::settle(
             rt,
             &self.shard,
             desk,

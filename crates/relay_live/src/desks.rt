@@ -4,12 +4,11 @@ ghost use Rattle.relay_model.specs.Terms.{shard_count};
 
 use crate::drawing::Last;
 use crate::started::StartedBuffers;
-use block_shelf::{Rack, resume_racks};
+use block_shelf::{PlacedGroup, resume_placed_groups};
 use cyc_block::BlockStore;
-use history_text::History;
-use id_history::{Shard, Shards};
-use live_settle::CountedDesk;
-use live_store::Archive;
+use id_history::{History, Shard, Shards};
+use live_jobs::CountedDesk;
+use live_store::StorePremises;
 use relay_conf::Config;
 use std::alloc::{AllocError, Global};
 use std::hash::RandomState;
@@ -20,21 +19,21 @@ use std::sync::ledger::{Book, Ledger};
 pub(crate) struct Desks<L: Ledger> {
     pub(crate) shards: Vec<Shard>,
     pub(crate) desk: CountedDesk<L>,
-    pub(crate) racks: Vec<Rack>,
+    pub(crate) placed_groups: Vec<PlacedGroup>,
     pub(crate) last: Last<L>,
     ghost sixteen: { length shards.items ≡ shard_count },
 }
 
 impl<L: Ledger> Desks<L> {
     ghost use Rattle.std.specs.Prelude.{◌≡◌, IfOk, map};
-    ghost use Rattle.history_text.specs.History.{Holds};
-    ghost use Rattle.history_text.specs.Views.{history_view};
+    ghost use Rattle.id_history.specs.History.{Holds};
+    ghost use Rattle.id_history.specs.Views.{history_view};
     ghost use Rattle.live_store.specs.Started.{unopened_in};
     ghost use Rattle.relay_core.specs.Desks.{setting_of};
     ghost use Rattle.relay_live.specs.Starting.{AreOf};
 
     /// What is made of a history over started buffers. No token is posted.
-    pub(crate) fn resume<S: BlockStore + Drop, J: Archive>(
+    pub(crate) fn resume<S: BlockStore + Drop, J: StorePremises>(
         alloc: Global,
         hasher: RandomState,
         config: &Config,
@@ -56,13 +55,13 @@ impl<L: Ledger> Desks<L> {
         } = history;
         let last = Last::after(&book, newest);
         let used = started.used(alloc)?;
-        let racks = resume_racks(alloc, &config.buffers, &used, &positions)?;
+        let placed_groups = resume_placed_groups(alloc, &config.buffers, &used, &positions)?;
         let shards = Shards::resume(alloc, hasher, ids)?.into_shards();
         let desk = CountedDesk::resume(alloc, &config.relay.feeds, &feeds, book)?;
         Ok(Desks {
             shards,
             desk,
-            racks,
+            placed_groups,
             last,
         })
     }

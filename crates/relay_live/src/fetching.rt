@@ -4,12 +4,12 @@ ghost use Rattle.std.specs.Prelude.{◌≡◌};
 use crate::shared::Shared;
 use cyc_block::BlockStore;
 use cyc_token::Token;
-use live_store::{Archive, Fetched, Register, fetch};
+use live_store::{ArticleLog, Fetched, StorePremises, fetch};
 use std::alloc::{AllocError, Global};
 use std::sync::Wait;
 use std::sync::ledger::Ledger;
 
-impl<S: BlockStore + Drop, J: Archive, L: Ledger> Shared<S, J, L> {
+impl<S: BlockStore + Drop, J: StorePremises, L: Ledger> Shared<S, J, L> {
     ghost use Rattle.std.specs.Prelude.{IfOk};
     ghost use Rattle.cyc_token.specs.Token.{token_view};
     ghost use Rattle.live_store.specs.Fetches.{IsFetched};
@@ -21,7 +21,7 @@ impl<S: BlockStore + Drop, J: Archive, L: Ledger> Shared<S, J, L> {
         &self,
         rt: &R,
         alloc: Global,
-        register: &Register,
+        register: &ArticleLog,
         token: &Token,
     ) -> Result<Fetched<J>, AllocError>
         requires { register.now ≡ J.register }

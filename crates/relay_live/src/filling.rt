@@ -8,12 +8,12 @@ ghost use Rattle.relay_live.specs.Starting.{TellsFilled, filled_by};
 use crate::started::StartedBuffers;
 use cyc_block::BlockStore;
 use cyc_buffer::Buffer;
-use live_store::Archive;
+use live_store::StorePremises;
 use relay_core::Filled;
 use std::alloc::{AllocError, Global};
 
 /// How far these buffers are filled, in the order of their numbers.
-pub(crate) fn all_filled<S: BlockStore + Drop, J: Archive>(
+pub(crate) fn all_filled<S: BlockStore + Drop, J: StorePremises>(
     alloc: Global,
     started: &StartedBuffers<S, J>,
 ) -> Result<Vec<Filled>, AllocError>

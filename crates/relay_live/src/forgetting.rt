@@ -7,7 +7,7 @@ mod round;
 
 use crate::shared::Shared;
 use cyc_block::BlockStore;
-use live_store::{Archive, NumberedBuffer};
+use live_store::{NumberedBuffer, StorePremises};
 pub use round::Round;
 pub(crate) use round::Rounds;
 use std::sync::ledger::Ledger;
@@ -17,7 +17,7 @@ use std::sync::{Mutex, Wait};
 /// remembered, else nothing: each buffer's front is read under its lock, then what may be forgotten
 /// by these fronts is, in one shard after the other under its lock. It takes no memory. One round
 /// goes at a time, and a second one waits for it.
-pub fn expire_round<S: BlockStore + Drop, J: Archive, L: Ledger, R: Wait>(
+pub fn expire_round<S: BlockStore + Drop, J: StorePremises, L: Ledger, R: Wait>(
     rt: &R,
     shared: &Shared<S, J, L>,
     now: u64,
@@ -31,7 +31,7 @@ pub fn expire_round<S: BlockStore + Drop, J: Archive, L: Ledger, R: Wait>(
 }
 
 /// Goes a round.
-fn go<S: BlockStore + Drop, J: Archive, L: Ledger, R: Wait>(
+fn go<S: BlockStore + Drop, J: StorePremises, L: Ledger, R: Wait>(
     rt: &R,
     shared: &Shared<S, J, L>,
     rounds: &mut Rounds,
@@ -51,7 +51,7 @@ fn go<S: BlockStore + Drop, J: Archive, L: Ledger, R: Wait>(
 }
 
 /// Reads the front of a buffer under its lock.
-fn read_front<S: BlockStore, J: Archive, R: Wait>(
+fn read_front<S: BlockStore, J: StorePremises, R: Wait>(
     rt: &R,
     buffer: &Mutex<NumberedBuffer<S, J>>,
     rounds: &mut Rounds,

@@ -1,13 +1,13 @@
 //! What stores the jobs of the writers.
 ghost use Rattle.std.specs.Prelude.{◌≡◌, ◌<◌, ◌+◌, None, IfSome};
-ghost use Rattle.live_fates.specs.Fates.{is_kept, FitsJob};
-ghost use Rattle.live_seats.specs.Taken.{worth};
-ghost use Rattle.live_settle.specs.Posted.{IsPostOf};
+ghost use Rattle.live_jobs.specs.StoreResults.{is_kept, FitsJob};
+ghost use Rattle.live_jobs.specs.Taken.{worth};
+ghost use Rattle.live_jobs.specs.Posted.{IsPostOf};
 ghost use Rattle.live_store.specs.Stores.{IsStored};
 ghost use Rattle.relay_live.specs.Holding.{has_buffer};
 
 use crate::holding;
-use crate::lending::Lends;
+use crate::register_ref::RegisterRef;
 use crate::shared::Shared;
 use block_shelf::Place;
 use buffer_group::{Accepted, Job};
@@ -15,20 +15,18 @@ use cyc_block::BlockStore;
 use cyc_buffer::FaultKind;
 use cyc_token::Token;
 use job_queue::Handed;
-use live_fates::{Fate, told_of};
-use live_seats::Store;
+use live_jobs::{Posted, Store, StoreResult, answer_of};
 use live_session::Clock;
-use live_settle::Posted;
-use live_store::{Archive, Stored};
+use live_store::{StorePremises, Stored};
 use relay_conf::Buffers;
 use std::sync::Wait;
 use std::sync::ledger::{Ledger, Share};
 use std::thread;
 
-/// What all writers store by: what the threads share, the register of this archive, the buffers'
-/// settings and a clock.
+/// What all writers store by: what the threads share, the register of these store premises, the
+/// buffers' settings and a clock.
 #[derive(Drop)]
-pub struct Keeper<'a, S: BlockStore + Drop, J: Archive, L: Ledger, C: Clock, Q: Lends> {
+pub struct Keeper<'a, S: BlockStore + Drop, J: StorePremises, L: Ledger, C: Clock, Q: RegisterRef> {
     pub(crate) shared: &'a Shared<S, J, L>,
     pub(crate) register: &'a Q,
     settings: &'a Buffers,
@@ -37,7 +35,7 @@ pub struct Keeper<'a, S: BlockStore + Drop, J: Archive, L: Ledger, C: Clock, Q: 
     ghost holds: { J.holds ≡ has_buffer settings.now },
 }
 
-impl<'a, S: BlockStore + Drop, J: Archive, L: Ledger, C: Clock, Q: Lends> Keeper<
+impl<'a, S: BlockStore + Drop, J: StorePremises, L: Ledger, C: Clock, Q: RegisterRef> Keeper<
     'a,
     S,
     J,
@@ -47,7 +45,7 @@ impl<'a, S: BlockStore + Drop, J: Archive, L: Ledger, C: Clock, Q: Lends> Keeper
 > {
     ghost use Rattle.relay_live.specs.Making.{ends_in, slots_of};
 
-    /// What stores into these buffers, of which the archive says which are of a group.
+    /// What stores into these buffers, of which the store premises say which are of a group.
     pub fn new(
         shared: &'a Shared<S, J, L>,
         register: &'a Q,
@@ -72,9 +70,9 @@ impl<'a, S: BlockStore + Drop, J: Archive, L: Ledger, C: Clock, Q: Lends> Keeper
     fn write<R: Wait>(&self, rt: &R, article: &Accepted) -> Option<Stored<J>>
         ensures { IfSome result (IsStored article.now.class article.now.text) }
     {
-        let rack = self.shared.racks.get(usize::from(article.group))?;
+        let placed_group = self.shared.placed_groups.get(usize::from(article.group))?;
         let length = article.length();
-        let picked = rack.lock(rt).pick(length);
+        let picked = placed_group.lock(rt).pick(length);
         let Place { pick, number } = picked?;
         let buffer = self.shared.buffers.get(number)?;
         let text = article.text.as_vec();
@@ -87,7 +85,7 @@ impl<'a, S: BlockStore + Drop, J: Archive, L: Ledger, C: Clock, Q: Lends> Keeper
             text,
         );
         if is_begun(&stored) {
-            rack.lock(rt).begun(&pick, length);
+            placed_group.lock(rt).begun(&pick, length);
         }
         Some(stored)
     }
@@ -135,52 +133,56 @@ impl<'a, S: BlockStore + Drop, J: Archive, L: Ledger, C: Clock, Q: Lends> Keeper
     }
 
     /// The text is stored and the article settled, or given up: then its id is unknown.
-    fn keep<R: Wait>(&self, rt: &R, share: &mut Share<L>, handed: &Handed) -> Fate<J>
+    fn keep<R: Wait>(&self, rt: &R, share: &mut Share<L>, handed: &Handed) -> StoreResult<J>
         requires part { share.old.parts ≡ 1 }
         ensures part { share.new.parts ≡ 1 }
         ensures counted { share.new.amount ≡ share.old.amount + worth (is_kept result) }
         ensures fits { FitsJob J.holds result handed.now }
     {
         let job = &handed.job;
-        let fate = match self.write(rt, &job.article) {
+        let store_result = match self.write(rt, &job.article) {
             Some(Stored::Kept(finished)) => {
                 if let Some(posted) = self.settle(rt, share, job, finished.token()) {
-                    return Fate::Kept(finished.into_receipt(), posted);
+                    return StoreResult::Kept(finished.into_receipt(), posted);
                 }
-                Fate::Mixed
+                StoreResult::Conflict
             }
             Some(Stored::Failed(fault)) => {
                 if holding::has_buffer(self.settings, job.article.group, fault.buffer()) {
-                    Fate::Failed(fault)
+                    StoreResult::Failed(fault)
                 } else {
-                    Fate::Mixed
+                    StoreResult::Conflict
                 }
             }
-            Some(Stored::Mixed(_)) | None => Fate::Mixed,
+            Some(Stored::Conflict(_)) | None => StoreResult::Conflict,
         };
         self.shared.claims(&job.id).forget(rt, &job.id, job.session);
-        fate
+        store_result
     }
 }
 
 /// Whether the text was begun in its buffer.
-fn is_begun<J: Archive>(stored: &Stored<J>) -> bool {
+fn is_begun<J: StorePremises>(stored: &Stored<J>) -> bool {
     match stored {
         Stored::Kept(_) => true,
         Stored::Failed(fault) => fault.kind() == FaultKind::Write,
-        Stored::Mixed(_) => false,
+        Stored::Conflict(_) => false,
     }
 }
 
-impl<'a, S: BlockStore + Drop, J: Archive, L: Ledger, C: Clock, Q: Lends, R: Wait> Store<
-    L,
-    Fate<J>,
-    R,
-> for Keeper<'a, S, J, L, C, Q> {
-    fn store(&self, rt: &R, share: &mut Share<L>, handed: &Handed) -> Fate<J> {
-        let fate = self.keep(rt, share, handed);
+impl<
+    'a,
+    S: BlockStore + Drop,
+    J: StorePremises,
+    L: Ledger,
+    C: Clock,
+    Q: RegisterRef,
+    R: Wait,
+> Store<L, StoreResult<J>, R> for Keeper<'a, S, J, L, C, Q> {
+    fn store(&self, rt: &R, share: &mut Share<L>, handed: &Handed) -> StoreResult<J> {
+        let store_result = self.keep(rt, share, handed);
         self.shared
-            .tell(rt, handed.end, handed.number, told_of(&fate));
-        fate
+            .tell(rt, handed.end, handed.number, answer_of(&store_result));
+        store_result
     }
 }

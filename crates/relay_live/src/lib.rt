@@ -3,7 +3,7 @@
 //! session.
 //!
 //! Each call is one method of what lies under a lock, or settles under two. A `Keeper` stores the
-//! jobs that writers take, sessions go by `Shares`, an `End` serves a peer's connections, and
+//! jobs that writers take, sessions go by `Shares`, a `PeerServer` serves a peer's connections, and
 //! `serve_all` runs all ends and writers in threads of their own. `expire_round` forgets ids.
 #![tactic(auto)]
 
@@ -11,16 +11,16 @@ mod alone;
 mod claims;
 mod desks;
 mod drawing;
-mod end;
 mod fetching;
 mod filling;
 mod forgetting;
 mod holding;
 mod keeper;
-mod lending;
 mod locking;
 mod looking;
 mod making;
+mod peer_server;
+mod register_ref;
 mod running;
 mod shared;
 mod sharing;
@@ -30,10 +30,10 @@ mod starting;
 mod stopping;
 mod telling;
 
-pub use end::End;
 pub use forgetting::{Round, expire_round};
 pub use keeper::Keeper;
-pub use lending::Lends;
-pub use running::{Counted, Door, LiveError, serve_all};
+pub use peer_server::PeerServer;
+pub use register_ref::RegisterRef;
+pub use running::{Counted, LiveError, PeerSource, serve_all};
 pub use shared::{Shared, Unshut};
 pub use slot::{Answer, Slot};

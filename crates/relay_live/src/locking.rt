@@ -5,84 +5,84 @@ ghost use Rattle.relay_live.specs.Locking.{HasLockRoom, HasPartRoom};
 use crate::claims::Claims;
 use crate::forgetting::Rounds;
 use crate::slot::Slot;
-use block_shelf::Rack;
+use block_shelf::PlacedGroup;
 use cyc_block::BlockStore;
 use id_history::{SHARD_COUNT, Shard};
-use live_store::{Archive, NumberedBuffer};
+use live_store::{NumberedBuffer, StorePremises};
 use std::alloc::{AllocError, Global};
 use std::sync::Mutex;
 
 /// Room for the locks of the parts of a relay.
 #[derive(Drop)]
-pub(crate) struct Locks<S: BlockStore + Drop, J: Archive> {
+pub(crate) struct Locks<S: BlockStore + Drop, J: StorePremises> {
     pub(crate) shards: Vec<Claims>,
     pub(crate) buffers: Vec<Mutex<NumberedBuffer<S, J>>>,
-    pub(crate) racks: Vec<Mutex<Rack>>,
+    pub(crate) placed_groups: Vec<Mutex<PlacedGroup>>,
 }
 
 /// Room for the parts themselves.
 #[derive(Drop)]
-pub(crate) struct Parts<S: BlockStore + Drop, J: Archive> {
+pub(crate) struct Parts<S: BlockStore + Drop, J: StorePremises> {
     pub(crate) shards: Vec<Shard>,
     pub(crate) buffers: Vec<NumberedBuffer<S, J>>,
-    pub(crate) racks: Vec<Rack>,
+    pub(crate) placed_groups: Vec<PlacedGroup>,
 }
 
 /// What stands beside the locks of a relay's parts: a slot for each end, and what rounds go by.
 #[derive(Drop)]
-pub(crate) struct Beside<J: Archive> {
+pub(crate) struct SlotsAndRounds<J: StorePremises> {
     pub(crate) slots: Vec<Slot<J>>,
     pub(crate) rounds: Mutex<Rounds>,
 }
 
-impl<S: BlockStore + Drop, J: Archive> Locks<S, J> {
+impl<S: BlockStore + Drop, J: StorePremises> Locks<S, J> {
     /// Room for so many buffers and groups.
     pub(crate) fn new(
         alloc: Global,
         buffers: usize,
-        racks: usize,
+        placed_groups: usize,
     ) -> Result<Locks<S, J>, AllocError>
-        ensures { IfOk result (HasLockRoom buffers racks) }
+        ensures { IfOk result (HasLockRoom buffers placed_groups) }
     {
         let shards = Vec::with_capacity(alloc, SHARD_COUNT)?;
         let buffers = Vec::with_capacity(alloc, buffers)?;
-        let racks = Vec::with_capacity(alloc, racks)?;
+        let placed_groups = Vec::with_capacity(alloc, placed_groups)?;
         Ok(Locks {
             shards,
             buffers,
-            racks,
+            placed_groups,
         })
     }
 }
 
-impl<S: BlockStore + Drop, J: Archive> Parts<S, J> {
+impl<S: BlockStore + Drop, J: StorePremises> Parts<S, J> {
     /// Room for so many buffers and groups.
     pub(crate) fn new(
         alloc: Global,
         buffers: usize,
-        racks: usize,
+        placed_groups: usize,
     ) -> Result<Parts<S, J>, AllocError>
-        ensures { IfOk result (HasPartRoom buffers racks) }
+        ensures { IfOk result (HasPartRoom buffers placed_groups) }
     {
         let shards = Vec::with_capacity(alloc, SHARD_COUNT)?;
         let buffers = Vec::with_capacity(alloc, buffers)?;
-        let racks = Vec::with_capacity(alloc, racks)?;
+        let placed_groups = Vec::with_capacity(alloc, placed_groups)?;
         Ok(Parts {
             shards,
             buffers,
-            racks,
+            placed_groups,
         })
     }
 }
 
-impl<J: Archive> Beside<J> {
+impl<J: StorePremises> SlotsAndRounds<J> {
     /// For so many ends, before the first round.
-    pub(crate) fn new(alloc: Global, ends: usize) -> Result<Beside<J>, AllocError>
-        ensures { IfOk result (λ beside. length beside.slots.items ≡ ends) }
+    pub(crate) fn new(alloc: Global, ends: usize) -> Result<SlotsAndRounds<J>, AllocError>
+        ensures { IfOk result (λ slots_and_rounds. length slots_and_rounds.slots.items ≡ ends) }
     {
         let slots = new_slots(alloc, ends)?;
         let rounds = Rounds::new(alloc)?;
-        Ok(Beside {
+        Ok(SlotsAndRounds {
             slots,
             rounds: Mutex::new(rounds),
         })
@@ -90,7 +90,7 @@ impl<J: Archive> Beside<J> {
 }
 
 /// So many empty slots.
-fn new_slots<J: Archive>(alloc: Global, ends: usize) -> Result<Vec<Slot<J>>, AllocError>
+fn new_slots<J: StorePremises>(alloc: Global, ends: usize) -> Result<Vec<Slot<J>>, AllocError>
     ensures { IfOk result (λ slots. length slots.items ≡ ends) }
 {
     let mut slots = Vec::with_capacity(alloc, ends)?;
@@ -114,7 +114,7 @@ pub(crate) fn lock_shards(shards: Vec<Shard>, room: Vec<Claims>) -> Vec<Claims>
 }
 
 /// The buffers behind their locks.
-pub(crate) fn lock_buffers<S: BlockStore + Drop, J: Archive>(
+pub(crate) fn lock_buffers<S: BlockStore + Drop, J: StorePremises>(
     buffers: Vec<NumberedBuffer<S, J>>,
     room: Vec<Mutex<NumberedBuffer<S, J>>>,
 ) -> Vec<Mutex<NumberedBuffer<S, J>>>
@@ -130,14 +130,17 @@ pub(crate) fn lock_buffers<S: BlockStore + Drop, J: Archive>(
 }
 
 /// The groups behind their locks.
-pub(crate) fn lock_racks(racks: Vec<Rack>, room: Vec<Mutex<Rack>>) -> Vec<Mutex<Rack>>
+pub(crate) fn lock_placed_groups(
+    placed_groups: Vec<PlacedGroup>,
+    room: Vec<Mutex<PlacedGroup>>,
+) -> Vec<Mutex<PlacedGroup>>
     requires none { room.items ≡ [] }
-    requires room { length racks.items ≤ vec_capacity room }
-    ensures { length result.items ≡ length racks.items }
+    requires room { length placed_groups.items ≤ vec_capacity room }
+    ensures { length result.items ≡ length placed_groups.items }
 {
     let mut locks = room;
-    for rack in racks {
-        locks.push_reserved(Mutex::new(rack));
+    for placed_group in placed_groups {
+        locks.push_reserved(Mutex::new(placed_group));
     }
     locks
 }
@@ -156,7 +159,7 @@ pub(crate) fn free_shards(locks: Vec<Claims>, room: Vec<Shard>) -> Vec<Shard>
 }
 
 /// The buffers out of their locks.
-pub(crate) fn free_buffers<S: BlockStore + Drop, J: Archive>(
+pub(crate) fn free_buffers<S: BlockStore + Drop, J: StorePremises>(
     locks: Vec<Mutex<NumberedBuffer<S, J>>>,
     room: Vec<NumberedBuffer<S, J>>,
 ) -> Vec<NumberedBuffer<S, J>>
@@ -172,14 +175,17 @@ pub(crate) fn free_buffers<S: BlockStore + Drop, J: Archive>(
 }
 
 /// The groups out of their locks.
-pub(crate) fn free_racks(locks: Vec<Mutex<Rack>>, room: Vec<Rack>) -> Vec<Rack>
+pub(crate) fn free_placed_groups(
+    locks: Vec<Mutex<PlacedGroup>>,
+    room: Vec<PlacedGroup>,
+) -> Vec<PlacedGroup>
     requires none { room.items ≡ [] }
     requires room { length locks.items ≤ vec_capacity room }
     ensures { length result.items ≡ length locks.items }
 {
-    let mut racks = room;
+    let mut placed_groups = room;
     for lock in locks {
-        racks.push_reserved(lock.into_inner());
+        placed_groups.push_reserved(lock.into_inner());
     }
-    racks
+    placed_groups
 }

@@ -13,11 +13,11 @@ use block_shelf::BufferFigures;
 use cyc_block::BlockStore;
 use feed_queue::Counts as FeedCounts;
 use id_history::Counts;
-use live_store::{Archive, NumberedBuffer};
+use live_store::{NumberedBuffer, StorePremises};
 use std::sync::Wait;
 use std::sync::ledger::Ledger;
 
-impl<S: BlockStore + Drop, J: Archive, L: Ledger> Shared<S, J, L> {
+impl<S: BlockStore + Drop, J: StorePremises, L: Ledger> Shared<S, J, L> {
     ghost use Rattle.std.specs.Prelude.{◌≡◌, ◌≤◌, ◌+◌, ◌↔◌, None, IfSome};
     ghost use Rattle.relay_live.specs.Making.{buffers_in, feeds_in};
 
@@ -58,7 +58,7 @@ impl<S: BlockStore + Drop, J: Archive, L: Ledger> Shared<S, J, L> {
 }
 
 /// The figures of a buffer that is held.
-fn figures_of<S: BlockStore, J: Archive>(buffer: &NumberedBuffer<S, J>) -> BufferFigures
+fn figures_of<S: BlockStore, J: StorePremises>(buffer: &NumberedBuffer<S, J>) -> BufferFigures
     ensures { (trusted : Bool) (h : History) → Agrees trusted (buffer_of buffer.now) h
         → figures_view result ≡ figures_by h }
 {

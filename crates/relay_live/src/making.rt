@@ -1,19 +1,19 @@
 //! The parts of what is shared are made, before anything has come.
 ghost use Rattle.std.specs.Prelude.{◌≡◌, ◌≤◌, true, All, length, map, IfErr, IfOk};
 ghost use Rattle.block_shelf.specs.Each.{AreEach};
-ghost use Rattle.block_shelf.specs.Filling.{IsShelfRefusal};
+ghost use Rattle.block_shelf.specs.Filling.{IsBufferSetRefusal};
 ghost use Rattle.feed_queue.specs.Feeds.{KeepsFeeds, no_feed, ring_size};
 ghost use Rattle.id_history.specs.Shards.{EachKeeps};
-ghost use Rattle.live_settle.specs.Desks.{desk_of};
+ghost use Rattle.live_jobs.specs.Desks.{desk_of};
 ghost use Rattle.relay_live.specs.Beginning.{IsNewOver};
 ghost use Rattle.relay_model.specs.Claims.{Unknown};
 ghost use Rattle.relay_model.specs.Terms.{shard_count};
 
-use block_shelf::{ShelfError, unformatted};
+use block_shelf::{BufferSetError, unformatted};
 use cyc_block::BlockStore;
 use id_history::{Shard, Shards};
-use live_settle::CountedDesk;
-use live_store::{Archive, NumberedBuffer};
+use live_jobs::CountedDesk;
+use live_store::{NumberedBuffer, StorePremises};
 use relay_conf::Config;
 use std::alloc::{AllocError, Global};
 use std::io;
@@ -31,14 +31,14 @@ pub(crate) fn new_shards(rt: &impl RandomSource, alloc: Global) -> io::Result<Ve
 }
 
 /// A buffer over each store, whose number is the store's place, before anything is begun.
-pub(crate) fn new_buffers<S: BlockStore + Drop, J: Archive>(
+pub(crate) fn new_buffers<S: BlockStore + Drop, J: StorePremises>(
     alloc: Global,
     stores: Vec<S>,
-) -> Result<Vec<NumberedBuffer<S, J>>, ShelfError<S>>
+) -> Result<Vec<NumberedBuffer<S, J>>, BufferSetError<S>>
     requires few { length stores.items ≤ 256 }
     requires honest { J.trusted ≡ true → All S.honest stores.items }
     ensures over { IfOk result (λ buffers. AreEach IsNewOver stores.items buffers.items) }
-    ensures refusal { IfErr result (IsShelfRefusal ⟦<S as BlockStore>⟧ stores.items) }
+    ensures refusal { IfErr result (IsBufferSetRefusal ⟦<S as BlockStore>⟧ stores.items) }
 {
     let mut buffers = Vec::with_capacity(alloc, stores.len())?;
     for store in stores {

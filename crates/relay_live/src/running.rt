@@ -1,27 +1,29 @@
 //! A relay in threads, from the first connection to the last seat.
 ghost use Rattle.std.specs.Prelude.{◌≡◌, ◌<◌, ◌^◌, [], length, map, IfOk};
 ghost use Rattle.article_verdict.specs.Config.{terms_of};
-ghost use Rattle.live_fates.specs.Doubles.{doubles_in};
-ghost use Rattle.live_fates.specs.Fates.{FitsJob, is_kept};
-ghost use Rattle.live_fates.specs.Strays.{strays_in};
-ghost use Rattle.live_seats.specs.Gathered.{AllTold, NoneElse, hands_of, kept_by_all};
-ghost use Rattle.live_seats.specs.Started.{AllKept};
-ghost use Rattle.live_settle.specs.Desks.{posts_in};
-ghost use Rattle.relay_live.specs.Counts.{accepted_in, posted_in, strays_of, doubles_of};
-ghost use Rattle.relay_live.specs.Ends.{kept_of, peer_of, terms_at};
+ghost use Rattle.live_jobs.specs.StoredAgain.{ids_stored_again_in};
+ghost use Rattle.live_jobs.specs.StoreResults.{FitsJob, is_kept};
+ghost use Rattle.live_jobs.specs.Mismatches.{mismatched_receipts_in};
+ghost use Rattle.live_jobs.specs.Gathered.{AllTold, NoneElse, hands_of, kept_by_all};
+ghost use Rattle.live_jobs.specs.Started.{AllKept};
+ghost use Rattle.live_jobs.specs.Desks.{posts_in};
+ghost use Rattle.relay_live.specs.Counts.{accepted_in, posted_in, mismatched_receipts_of};
+ghost use Rattle.relay_live.specs.Counts.{ids_stored_again_of};
+ghost use Rattle.relay_live.specs.PeerServers.{kept_of, peer_of, terms_at};
 ghost use Rattle.relay_live.specs.Making.{slots_of};
 ghost use Rattle.relay_live.specs.Sessions.{Accounted, HasLists};
 ghost use Rattle.relay_live.specs.declared.running.LiveError.TheVariants as errors;
 
-use crate::end::End;
 use crate::keeper::Keeper;
-use crate::lending::Lends;
+use crate::peer_server::PeerServer;
+use crate::register_ref::RegisterRef;
 use cyc_block::BlockStore;
-use live_fates::{Fate, doubles, strays};
-use live_seats::{Opened, Seats, SeatsError, close, open_all, serve_seats};
+use live_jobs::{
+    Opened, Posts, Seats, SeatsError, StoreResult, close, ids_stored_again, mismatched_receipts,
+    open_all, serve_seats,
+};
 use live_session::{Clock, Gate};
-use live_settle::Posts;
-use live_store::Archive;
+use live_store::StorePremises;
 use live_wire::Connections;
 use relay_conf::Config;
 use std::alloc::{AllocError, Global};
@@ -52,12 +54,13 @@ impl From<AllocError> for LiveError {
 pub struct Counted {
     accepted: u64,
     posted: Posts,
-    strays: u128,
-    doubles: u128,
+    mismatched_receipts: u128,
+    ids_stored_again: u128,
 }
 
 impl Counted {
-    ghost use Rattle.relay_live.specs.Counts.{accepted_in, posted_in, strays_of, doubles_of};
+    ghost use Rattle.relay_live.specs.Counts.{accepted_in, posted_in, mismatched_receipts_of};
+    ghost use Rattle.relay_live.specs.Counts.{ids_stored_again_of};
 
     /// How many jobs the writers kept.
     pub fn accepted(&self) -> u64
@@ -74,78 +77,96 @@ impl Counted {
     }
 
     /// How many kept answers have another register number than the writer's receipt for the same
-    /// job, and how many jobs are mixed up.
-    pub fn strays(&self) -> u128
-        ensures { result ≡ strays_of self.now }
+    /// job, and how many jobs are in conflict.
+    pub fn mismatched_receipts(&self) -> u128
+        ensures { result ≡ mismatched_receipts_of self.now }
     {
-        self.strays
+        self.mismatched_receipts
     }
 
     /// How many kept jobs there are less their different message-ids.
-    pub fn doubles(&self) -> u128
-        ensures { result ≡ doubles_of self.now }
+    pub fn ids_stored_again(&self) -> u128
+        ensures { result ≡ ids_stored_again_of self.now }
     {
-        self.doubles
+        self.ids_stored_again
     }
 }
 
 /// Where a peer's connections come from: the peer's number in the configuration, and its
 /// connections, one after the other.
 #[derive(Drop)]
-pub struct Door<X> {
+pub struct PeerSource<X> {
     pub peer: usize,
     pub connections: X,
 }
 
-/// An end for each door, in this order, before its first connection.
-fn ends_of<'a, X: Drop, S: BlockStore + Drop, J: Archive, L: Ledger, C: Clock, G, Q: Lends>(
+/// An end for each peer source, in this order, before its first connection.
+fn ends_of<
+    'a,
+    X: Drop,
+    S: BlockStore + Drop,
+    J: StorePremises,
+    L: Ledger,
+    C: Clock,
+    G,
+    Q: RegisterRef,
+>(
     alloc: Global,
     hasher: RandomState,
     keeper: &Keeper<'a, S, J, L, C, Q>,
     config: &'a Config,
     gate: &'a G,
-    doors: Vec<Door<X>>,
-) -> Result<Vec<End<'a, X, S, J, L, C, G, Q>>, AllocError>
+    peer_sources: Vec<PeerSource<X>>,
+) -> Result<Vec<PeerServer<'a, X, S, J, L, C, G, Q>>, AllocError>
     ensures peers { IfOk result (λ ends.
-        map peer_of ends.items ≡ map (λ d. d.peer) doors.items) }
+        map peer_of ends.items ≡ map (λ d. d.peer) peer_sources.items) }
     ensures terms { IfOk result (λ ends.
-        map terms_at ends.items ≡ map (λ d. terms_of config.now) doors.items) }
-    ensures new { IfOk result (λ ends. map kept_of ends.items ≡ map (λ d. []) doors.items) }
+        map terms_at ends.items ≡ map (λ d. terms_of config.now) peer_sources.items) }
+    ensures new { IfOk result (λ ends. map kept_of ends.items ≡ map (λ d. []) peer_sources.items) }
 {
-    let mut ends = Vec::with_capacity(alloc, doors.len())?;
-    for door in doors {
-        ends.push_reserved(End::new(
+    let mut ends = Vec::with_capacity(alloc, peer_sources.len())?;
+    for peer_source in peer_sources {
+        ends.push_reserved(PeerServer::new(
             alloc,
             hasher,
             keeper,
             config,
             gate,
-            door.peer,
-            door.connections,
+            peer_source.peer,
+            peer_source.connections,
         ));
     }
     Ok(ends)
 }
 
-/// The strays of what the ends answered and the writers told.
-fn strays_of<'a, X, S: BlockStore + Drop, J: Archive, L: Ledger, C: Clock, G, Q: Lends>(
+/// The mismatched receipts of what the ends answered and the writers told.
+fn mismatched_receipts_of<
+    'a,
+    X,
+    S: BlockStore + Drop,
+    J: StorePremises,
+    L: Ledger,
+    C: Clock,
+    G,
+    Q: RegisterRef,
+>(
     alloc: Global,
-    seats: &Seats<L, Fate<J>, End<'a, X, S, J, L, C, G, Q>>,
+    seats: &Seats<L, StoreResult<J>, PeerServer<'a, X, S, J, L, C, G, Q>>,
 ) -> Result<u128, AllocError>
-    ensures { IfOk result (λ n. n ≡ strays_in (map kept_of seats.now.services.items)
-        (map (λ w. w.done.items) seats.now.writers.items)) }
+    ensures { IfOk result (λ n. n ≡ mismatched_receipts_in (map kept_of seats.now.services.items)
+        (map (λ w. w.finished.items) seats.now.writers.items)) }
 {
     let mut answers = Vec::with_capacity(alloc, seats.services.len())?;
     let ends = seats.services.as_slice();
     for end in ends {
         answers.push_reserved(end.kept());
     }
-    strays(alloc, answers.as_slice(), seats.writers.as_slice())
+    mismatched_receipts(alloc, answers.as_slice(), seats.writers.as_slice())
 }
 
-/// Serves an end behind each door, one thread for each of them and for each group's writer, until
-/// every end has left and every writer has taken what was handed over to its group
-/// (docs/PROTOCOL.md, Threads 6). There is a slot for each door, where its end is told.
+/// Serves an end behind each peer source, one thread for each of them and for each group's writer,
+/// until every end has left and every writer has taken what was handed over to its group
+/// (docs/PROTOCOL.md, Threads 6). There is a slot for each peer source, where its end is told.
 /// What each writer told of each end is what this end handed over to its group, each job once, in
 /// order, with what became of it; what each end keeps is what its sessions came to. The error is
 /// want of memory, before the threads start or where what came back is counted, or that a thread
@@ -154,11 +175,11 @@ pub fn serve_all<
     'a,
     X: Connections<R> + Drop + Send,
     S: BlockStore + Drop + Send,
-    J: Archive + Send + Sync,
+    J: StorePremises + Send + Sync,
     L: Ledger + Send + Sync,
     C: Clock + Sync,
     G: Gate<R> + Sync,
-    Q: Lends + Sync,
+    Q: RegisterRef + Sync,
     R: Threads + Wait + Sync,
 >(
     rt: &R,
@@ -168,69 +189,77 @@ pub fn serve_all<
     config: &'a Config,
     gate: &'a G,
     groups: usize,
-    doors: Vec<Door<X>>,
+    peer_sources: Vec<PeerSource<X>>,
     all: Share<L>,
-) -> Result<(Seats<L, Fate<J>, End<'a, X, S, J, L, C, G, Q>>, Counted), LiveError>
+) -> Result<
+    (
+        Seats<L, StoreResult<J>, PeerServer<'a, X, S, J, L, C, G, Q>>,
+        Counted,
+    ),
+    LiveError,
+>
 where
     <X as Connections<R>>::Reader: Drop + Send,
     <X as Connections<R>>::Writer: Drop + Send,
     requires parts { (all.parts ≡ groups) × (all.amount ≡ 0) × (L.parts ≡ groups) × (0 < groups) }
-    requires few { length doors.items < 2 ^ 62 }
-    requires slots { slots_of keeper.now ≡ length doors.items }
+    requires few { length peer_sources.items < 2 ^ 62 }
+    requires slots { slots_of keeper.now ≡ length peer_sources.items }
 
-    // The seats that come back are all: one for each door, with a list for each group, and one for
-    // each group.
-    ensures lefts { IfOk result (λ ran. length ran.0.lefts.items ≡ length doors.items) }
+    // The seats that come back are all: one for each peer source, with a list for each group, and
+    // one for each group.
+    ensures lefts { IfOk result (λ ran. length ran.0.lefts.items ≡ length peer_sources.items) }
     ensures lists { IfOk result (λ ran. HasLists groups (hands_of ran.0.lefts.items)) }
     ensures writers { IfOk result (λ ran. length ran.0.writers.items ≡ groups) }
 
     // Of each end each job was told once, in order, with an outcome that fits it, and of no other
     // end anything.
     ensures jobs { IfOk result (λ ran. AllTold (FitsJob J.holds)
-        (map (λ w. w.done.items) ran.0.writers.items) (hands_of ran.0.lefts.items)) }
-    ensures none { IfOk result (λ ran. NoneElse (length doors.items)
-        (map (λ w. w.done.items) ran.0.writers.items)) }
+        (map (λ w. w.finished.items) ran.0.writers.items) (hands_of ran.0.lefts.items)) }
+    ensures none { IfOk result (λ ran. NoneElse (length peer_sources.items)
+        (map (λ w. w.finished.items) ran.0.writers.items)) }
 
-    // Each end that comes back has the peer of its door, and its terms are those of the
+    // Each end that comes back has the peer of its source, and its terms are those of the
     // configuration; what it kept is what its sessions came to by these.
     ensures peers { IfOk result (λ ran.
-        map peer_of ran.0.services.items ≡ map (λ d. d.peer) doors.items) }
+        map peer_of ran.0.services.items ≡ map (λ d. d.peer) peer_sources.items) }
     ensures terms { IfOk result (λ ran.
-        map terms_at ran.0.services.items ≡ map (λ d. terms_of config.now) doors.items) }
+        map terms_at ran.0.services.items ≡ map (λ d. terms_of config.now) peer_sources.items) }
     ensures kept { IfOk result (λ ran. AllKept (λ end number count jobs.
         Accounted J.trusted (terms_at end) number (peer_of end) count jobs (kept_of end))
         (hands_of ran.0.lefts.items) ran.0.services.items) }
 
     ensures accepted { IfOk result (λ ran. accepted_in ran.1
-        ≡ kept_by_all is_kept (map (λ w. w.done.items) ran.0.writers.items)) }
+        ≡ kept_by_all is_kept (map (λ w. w.finished.items) ran.0.writers.items)) }
     ensures posted { IfOk result (λ ran. posts_in (posted_in ran.1) ≡ accepted_in ran.1) }
-    ensures strays { IfOk result (λ ran. strays_of ran.1 ≡ strays_in
-        (map kept_of ran.0.services.items)
-        (map (λ w. w.done.items) ran.0.writers.items)) }
-    ensures doubles { IfOk result (λ ran. doubles_of ran.1
-        ≡ doubles_in (map (λ w. w.done.items) ran.0.writers.items)) }
+    ensures mismatched_receipts { IfOk result (λ ran. mismatched_receipts_of ran.1
+        ≡ mismatched_receipts_in (map kept_of ran.0.services.items)
+        (map (λ w. w.finished.items) ran.0.writers.items)) }
+    ensures ids_stored_again { IfOk result (λ ran. ids_stored_again_of ran.1
+        ≡ ids_stored_again_in (map (λ w. w.finished.items) ran.0.writers.items)) }
 {
-    let ends = ends_of(alloc, hasher, keeper, config, gate, doors)?;
+    let ends = ends_of(alloc, hasher, keeper, config, gate, peer_sources)?;
     let Opened {
-        lanes,
+        channels,
         mut rests,
         plans,
         writers,
-    } = open_all::<L, Fate<J>, End<'a, X, S, J, L, C, G, Q>>(alloc, groups, ends, all)?;
-    let lanes = lanes.as_slice();
-    let mut seats = match serve_seats(rt, lanes, keeper, plans, writers) {
+    } = open_all::<L, StoreResult<J>, PeerServer<'a, X, S, J, L, C, G, Q>>(
+        alloc, groups, ends, all,
+    )?;
+    let channels = channels.as_slice();
+    let mut seats = match serve_seats(rt, channels, keeper, plans, writers) {
         Ok(seats) => seats,
         Err(SeatsError::Memory) => return Err(LiveError::Memory),
         Err(SeatsError::NoThread) => return Err(LiveError::NoThread),
     };
-    let totals = close(rt, lanes, &keeper.shared.desk, &mut rests, &mut seats);
-    let strays = strays_of(alloc, &seats)?;
-    let doubles = doubles(alloc, seats.writers.as_slice())?;
+    let totals = close(rt, channels, &keeper.shared.desk, &mut rests, &mut seats);
+    let mismatched_receipts = mismatched_receipts_of(alloc, &seats)?;
+    let ids_stored_again = ids_stored_again(alloc, seats.writers.as_slice())?;
     let counted = Counted {
         accepted: totals.accepted,
         posted: totals.posted,
-        strays,
-        doubles,
+        mismatched_receipts,
+        ids_stored_again,
     };
     Ok((seats, counted))
 }

@@ -7,16 +7,15 @@ use crate::claims::Claims;
 use crate::drawing::{Number, Numbers};
 use crate::forgetting::Rounds;
 use crate::locking::{
-    Beside, Locks, Parts, free_buffers, free_racks, free_shards, lock_buffers, lock_racks,
-    lock_shards,
+    Locks, Parts, SlotsAndRounds, free_buffers, free_placed_groups, free_shards, lock_buffers,
+    lock_placed_groups, lock_shards,
 };
 use crate::slot::Slot;
 use crate::stopping::Unstopped;
-use block_shelf::{BeginError, Rack, StopFault};
+use block_shelf::{BeginError, PlacedGroup, StopFault};
 use cyc_block::BlockStore;
-use live_fates::Told;
-use live_settle::CountedDesk;
-use live_store::{Archive, NumberedBuffer, Register};
+use live_jobs::{CountedDesk, JobAnswer};
+use live_store::{ArticleLog, NumberedBuffer, StorePremises};
 use nntp_text::MsgId;
 use relay_conf::Config;
 use relay_core::{NotStarted, Stopped, refused};
@@ -29,13 +28,13 @@ use std::sync::{Mutex, Wait};
 /// the buffers and the groups of the configuration, a slot for each end, the number of the last
 /// session.
 #[derive(Drop)]
-pub struct Shared<S: BlockStore + Drop, J: Archive, L: Ledger> {
+pub struct Shared<S: BlockStore + Drop, J: StorePremises, L: Ledger> {
     pub(crate) shards: Vec<Claims>,
     pub(crate) desk: Mutex<CountedDesk<L>>,
     /// How many feeds the desk had when it was made.
     pub(crate) feeds: usize,
     pub(crate) buffers: Vec<Mutex<NumberedBuffer<S, J>>>,
-    pub(crate) racks: Vec<Mutex<Rack>>,
+    pub(crate) placed_groups: Vec<Mutex<PlacedGroup>>,
     pub(crate) slots: Vec<Slot<J>>,
     numbers: Numbers<L>,
     /// The number of the last stop; before the first it is 0.
@@ -46,13 +45,13 @@ pub struct Shared<S: BlockStore + Drop, J: Archive, L: Ledger> {
     pub(crate) rounds: Mutex<Rounds>,
     ghost sixteen: { length shards.items ≡ shard_count },
     ghost few: { length buffers.items ≤ 256 },
-    ghost few_racks: { length racks.items ≤ 256 },
+    ghost few_placed_groups: { length placed_groups.items ≤ 256 },
     ghost few_feeds: { feeds ≤ 1024 },
 }
 
 /// Why a relay isn't stopped, in the order of trial; want of memory comes last before the devices.
 #[derive(Drop)]
-pub enum Unshut<S: BlockStore + Drop, J: Archive, L: Ledger> {
+pub enum Unshut<S: BlockStore + Drop, J: StorePremises, L: Ledger> {
     /// A message-id is being stored, or a write is open in a buffer. The relay goes on, and nothing
     /// was written.
     NotIdle(Shared<S, J, L>),
@@ -63,7 +62,7 @@ pub enum Unshut<S: BlockStore + Drop, J: Archive, L: Ledger> {
     Device(u8, Vec<S>),
 }
 
-impl<S: BlockStore + Drop, J: Archive, L: Ledger> Shared<S, J, L> {
+impl<S: BlockStore + Drop, J: StorePremises, L: Ledger> Shared<S, J, L> {
     ghost use Rattle.std.specs.Prelude.{◌≡◌, true, map, length, All, IfErr, IfOk};
     ghost use Rattle.block_shelf.specs.Filling.{IsBeginRefusal};
     ghost use Rattle.relay_live.specs.Making.{buffers_in, groups_in, feeds_in, ends_in};
@@ -100,21 +99,21 @@ impl<S: BlockStore + Drop, J: Archive, L: Ledger> Shared<S, J, L> {
         ensures refusal { IfErr result (IsBeginRefusal ⟦<S as BlockStore>⟧ stores.items) }
     {
         let locks = Locks::new(alloc, stores.len(), config.buffers.groups.len())?;
-        let beside = Beside::new(alloc, ends)?;
+        let slots_and_rounds = SlotsAndRounds::new(alloc, ends)?;
         let alone = Alone::new(rt, alloc, config, stores, book)?;
-        Ok(Shared::over(alone, locks, beside))
+        Ok(Shared::over(alone, locks, slots_and_rounds))
     }
 
     /// What so many ends share over the stores of a relay that was stopped, the i-th for buffer i,
     /// from the text of its history, with the register's record for each live article. It is
-    /// refused in the order of StopFault, but that a text that can't be read comes before a store is
-    /// called; want of memory may come in place of each. All stores come back then, in their order,
-    /// unwritten but for a Device of the last: the heads are opened once all else is done.
+    /// refused in the order of StopFault, but that a text that can't be read comes before a store
+    /// is called; want of memory may come in place of each. All stores come back then, in their
+    /// order, unwritten but for a Device of the last: the heads are opened once all else is done.
     pub fn start<R: RandomSource + Wait>(
         rt: &R,
         alloc: Global,
         config: &Config,
-        register: &Register,
+        register: &ArticleLog,
         stores: Vec<S>,
         text: &[u8],
         book: Book<L>,
@@ -142,11 +141,11 @@ impl<S: BlockStore + Drop, J: Archive, L: Ledger> Shared<S, J, L> {
         let Ok(locks) = Locks::new(alloc, stores.len(), config.buffers.groups.len()) else {
             return Err(NotStarted::Refused(refused(stores, StopFault::Memory)));
         };
-        let Ok(beside) = Beside::new(alloc, ends) else {
+        let Ok(slots_and_rounds) = SlotsAndRounds::new(alloc, ends) else {
             return Err(NotStarted::Refused(refused(stores, StopFault::Memory)));
         };
         match Alone::start(rt, alloc, config, register, stores, text, book) {
-            Ok(alone) => Ok(Shared::over(alone, locks, beside)),
+            Ok(alone) => Ok(Shared::over(alone, locks, slots_and_rounds)),
             Err(not_started) => Err(not_started),
         }
     }
@@ -154,8 +153,8 @@ impl<S: BlockStore + Drop, J: Archive, L: Ledger> Shared<S, J, L> {
     /// Stops a relay that no thread shares any more: the stores of its buffers, and the text of its
     /// history. Where a message-id is being stored or a write is open it isn't.
     pub fn shut(self, alloc: Global) -> Result<Stopped<S>, Unshut<S, J, L>>
-        // There is a store of each buffer, which holds one as stopped at the next stop; where stores
-        // are trusted, each live text in it is that of a record.
+        // There is a store of each buffer, which holds one as stopped at the next stop; where
+        // stores are trusted, each live text in it is that of a record.
         ensures stores { IfOk result (λ stopped.
             length stopped.stores.items ≡ buffers_in self) }
         ensures known { IfOk result (λ stopped. J.trusted ≡ true → AreShutWith S.BlockStore
@@ -165,14 +164,14 @@ impl<S: BlockStore + Drop, J: Archive, L: Ledger> Shared<S, J, L> {
         let Ok((parts, locks)) = self.room(alloc) else {
             return Err(Unshut::Memory(self));
         };
-        let (alone, beside) = self.into_alone(parts);
+        let (alone, slots_and_rounds) = self.into_alone(parts);
         match alone.shut(alloc) {
             Ok(stopped) => Ok(stopped),
             Err(Unstopped::NotIdle(alone)) => {
-                Err(Unshut::NotIdle(Shared::over(alone, locks, beside)))
+                Err(Unshut::NotIdle(Shared::over(alone, locks, slots_and_rounds)))
             }
             Err(Unstopped::Memory(alone)) => {
-                Err(Unshut::Memory(Shared::over(alone, locks, beside)))
+                Err(Unshut::Memory(Shared::over(alone, locks, slots_and_rounds)))
             }
             Err(Unstopped::Device(number, stores)) => Err(Unshut::Device(number, stores)),
         }
@@ -185,18 +184,23 @@ impl<S: BlockStore + Drop, J: Archive, L: Ledger> Shared<S, J, L> {
         ensures locks { IfOk result (λ room.
             HasLockRoom (buffers_in self.now) (groups_in self.now) room.1) }
     {
-        let parts = Parts::new(alloc, self.buffers.len(), self.racks.len())?;
-        let locks = Locks::new(alloc, self.buffers.len(), self.racks.len())?;
+        let parts = Parts::new(alloc, self.buffers.len(), self.placed_groups.len())?;
+        let locks = Locks::new(alloc, self.buffers.len(), self.placed_groups.len())?;
         Ok((parts, locks))
     }
 
     /// These parts, each behind its lock, put where there is room for them.
-    fn over(alone: Alone<S, J, L>, locks: Locks<S, J>, beside: Beside<J>) -> Shared<S, J, L>
-        requires { HasLockRoom (length alone.buffers.items) (length alone.racks.items) locks }
+    fn over(
+        alone: Alone<S, J, L>,
+        locks: Locks<S, J>,
+        slots_and_rounds: SlotsAndRounds<J>,
+    ) -> Shared<S, J, L>
+        requires { HasLockRoom (length alone.buffers.items)
+            (length alone.placed_groups.items) locks }
         ensures buffers { buffers_in result ≡ length alone.buffers.items }
-        ensures groups { groups_in result ≡ length alone.racks.items }
+        ensures groups { groups_in result ≡ length alone.placed_groups.items }
         ensures feeds { feeds_in result ≡ alone.feeds }
-        ensures ends { ends_in result ≡ length beside.slots.items }
+        ensures ends { ends_in result ≡ length slots_and_rounds.slots.items }
         ensures remember { remember_in result ≡ alone.remember }
         ensures stop { last_stop result ≡ alone.stop }
     {
@@ -205,7 +209,7 @@ impl<S: BlockStore + Drop, J: Archive, L: Ledger> Shared<S, J, L> {
             desk,
             feeds,
             buffers,
-            racks,
+            placed_groups,
             last,
             stop,
             remember,
@@ -215,20 +219,21 @@ impl<S: BlockStore + Drop, J: Archive, L: Ledger> Shared<S, J, L> {
             desk: Mutex::new(desk),
             feeds,
             buffers: lock_buffers(buffers, locks.buffers),
-            racks: lock_racks(racks, locks.racks),
-            slots: beside.slots,
+            placed_groups: lock_placed_groups(placed_groups, locks.placed_groups),
+            slots: slots_and_rounds.slots,
             numbers: Numbers::over(last),
             stop,
             remember,
-            rounds: beside.rounds,
+            rounds: slots_and_rounds.rounds,
         }
     }
 
-    /// Its parts without their locks, put where there is room for them, and what stood beside these.
-    fn into_alone(self, parts: Parts<S, J>) -> (Alone<S, J, L>, Beside<J>)
+    /// Its parts without their locks, put where there is room for them, and what stood beside
+    /// these.
+    fn into_alone(self, parts: Parts<S, J>) -> (Alone<S, J, L>, SlotsAndRounds<J>)
         requires { HasPartRoom (buffers_in self) (groups_in self) parts }
         ensures buffers { length result.0.buffers.items ≡ buffers_in self }
-        ensures groups { length result.0.racks.items ≡ groups_in self }
+        ensures groups { length result.0.placed_groups.items ≡ groups_in self }
         ensures feeds { result.0.feeds ≡ feeds_in self }
         ensures ends { length result.1.slots.items ≡ ends_in self }
         ensures remember { result.0.remember ≡ remember_in self }
@@ -239,7 +244,7 @@ impl<S: BlockStore + Drop, J: Archive, L: Ledger> Shared<S, J, L> {
             desk,
             feeds,
             buffers,
-            racks,
+            placed_groups,
             slots,
             numbers,
             stop,
@@ -251,12 +256,12 @@ impl<S: BlockStore + Drop, J: Archive, L: Ledger> Shared<S, J, L> {
             desk: desk.into_inner(),
             feeds,
             buffers: free_buffers(buffers, parts.buffers),
-            racks: free_racks(racks, parts.racks),
+            placed_groups: free_placed_groups(placed_groups, parts.placed_groups),
             last: numbers.into_last(),
             stop,
             remember,
         };
-        (alone, Beside { slots, rounds })
+        (alone, SlotsAndRounds { slots, rounds })
     }
 
     /// Draws the number of a session: one above the last, from 1 on, none after the greatest.
@@ -270,7 +275,7 @@ impl<S: BlockStore + Drop, J: Archive, L: Ledger> Shared<S, J, L> {
     }
 
     /// Tells an end, where there is one of this number, what became of its job.
-    pub(crate) fn tell<R: Wait>(&self, rt: &R, end: u64, number: u64, told: Told<J>) {
+    pub(crate) fn tell<R: Wait>(&self, rt: &R, end: u64, number: u64, told: JobAnswer<J>) {
         if let Some(slot) = self.slot(end) {
             slot.tell(rt, number, told);
         }

@@ -6,15 +6,15 @@ use cyc_buffer::{Fault, Found};
 use cyc_token::Token;
 use feed_queue::Taken;
 use id_history::{Offer, Take};
-use live_fates::{KeptJob, Told};
+use live_jobs::{JobAnswer, KeptJob};
 use live_session::{JobTold, Shares};
-use live_store::{Archive, OneRecord, Register};
+use live_store::{ArticleLog, OneRecord, StorePremises};
 use nntp_text::MsgId;
 use std::alloc::{AllocError, Global};
 use std::sync::Wait;
 use std::sync::ledger::Ledger;
 
-impl<S: BlockStore + Drop, J: Archive, L: Ledger, R: Wait> Shares<J, R> for Shared<S, J, L> {
+impl<S: BlockStore + Drop, J: StorePremises, L: Ledger, R: Wait> Shares<J, R> for Shared<S, J, L> {
     fn offer(&self, rt: &R, id: &MsgId, session: u64) -> Result<Offer, AllocError> {
         self.claims(id).offer(rt, id, session)
     }
@@ -59,7 +59,7 @@ impl<S: BlockStore + Drop, J: Archive, L: Ledger, R: Wait> Shares<J, R> for Shar
     fn read(
         &self,
         rt: &R,
-        register: &Register,
+        register: &ArticleLog,
         reads: &mut OneRecord<J>,
         token: &Token,
         k: u32,
@@ -74,7 +74,7 @@ impl<S: BlockStore + Drop, J: Archive, L: Ledger, R: Wait> Shares<J, R> for Shar
     fn outcome(&self, rt: &R, end: u64, number: u64, _kept: &Vec<KeptJob<J>>) -> JobTold<J> {
         let told = match self.slot(end) {
             Some(slot) => slot.wait(rt, number),
-            None => Told::Failed,
+            None => JobAnswer::Failed,
         };
         JobTold { number, told }
     }

@@ -3,28 +3,27 @@ ghost use Rattle.std.specs.Prelude.{◌≡◌};
 ghost use Rattle.relay_live.specs.Slots.{after_tell, told_to, left_by};
 
 use crossbeam_utils::sync::EventCount;
-use live_fates::Told;
-use live_seats::LOOKS;
-use live_store::Archive;
+use live_jobs::{JobAnswer, LOOKS};
+use live_store::StorePremises;
 use std::sync::{Mutex, Wait};
 use std::thread;
 
 /// What became of a job, with its number among those of its end.
 #[derive(Drop)]
-pub struct Answer<J: Archive> {
+pub struct Answer<J: StorePremises> {
     pub number: u64,
-    pub told: Told<J>,
+    pub told: JobAnswer<J>,
 }
 
 /// The slot of an end. Writers put answers, the end's session takes the one that it waits for.
 #[derive(Drop)]
-pub struct Slot<J: Archive> {
+pub struct Slot<J: StorePremises> {
     answer: Mutex<Option<Answer<J>>>,
     // Told of each answer that is put.
     filled: EventCount,
 }
 
-impl<J: Archive> Slot<J> {
+impl<J: StorePremises> Slot<J> {
     /// An empty slot.
     pub fn new() -> Slot<J> {
         Slot {
@@ -35,14 +34,14 @@ impl<J: Archive> Slot<J> {
 
     /// Puts what became of the end's job of this number. Where an answer of a later job stands
     /// there nobody waits for this one, and it is dropped.
-    pub fn tell<R: Wait>(&self, rt: &R, number: u64, told: Told<J>) {
+    pub fn tell<R: Wait>(&self, rt: &R, number: u64, told: JobAnswer<J>) {
         put(&mut self.answer.lock(rt), Answer { number, told });
         self.filled.notify_all();
     }
 
     /// Waits until a writer has told what became of the end's job of this number, and takes that.
     /// What earlier jobs were told is dropped.
-    pub fn wait<R: Wait>(&self, rt: &R, number: u64) -> Told<J> {
+    pub fn wait<R: Wait>(&self, rt: &R, number: u64) -> JobAnswer<J> {
         for _ in rt.forever() {
             if let Some(told) = self.take_soon(rt, number) {
                 return told;
@@ -57,12 +56,12 @@ impl<J: Archive> Slot<J> {
     }
 
     // Looks once.
-    fn try_take<R: Wait>(&self, rt: &R, number: u64) -> Option<Told<J>> {
+    fn try_take<R: Wait>(&self, rt: &R, number: u64) -> Option<JobAnswer<J>> {
         take(&mut self.answer.lock(rt), number)
     }
 
     // Looks so often, and gives way between.
-    fn take_soon<R: Wait>(&self, rt: &R, number: u64) -> Option<Told<J>> {
+    fn take_soon<R: Wait>(&self, rt: &R, number: u64) -> Option<JobAnswer<J>> {
         for _ in 0..LOOKS {
             if let Some(told) = self.try_take(rt, number) {
                 return Some(told);
@@ -74,7 +73,7 @@ impl<J: Archive> Slot<J> {
 }
 
 /// Puts an answer where none of a later job stands.
-fn put<J: Archive>(held: &mut Option<Answer<J>>, answer: Answer<J>)
+fn put<J: StorePremises>(held: &mut Option<Answer<J>>, answer: Answer<J>)
     ensures { held.new ≡ after_tell held.old answer }
 {
     match held {
@@ -85,7 +84,7 @@ fn put<J: Archive>(held: &mut Option<Answer<J>>, answer: Answer<J>)
 
 /// Takes the answer of the job of this number. One of an earlier job is dropped, one of a later job
 /// stays.
-fn take<J: Archive>(held: &mut Option<Answer<J>>, number: u64) -> Option<Told<J>>
+fn take<J: StorePremises>(held: &mut Option<Answer<J>>, number: u64) -> Option<JobAnswer<J>>
     ensures told { result ≡ told_to held.old number }
     ensures left { held.new ≡ left_by held.old number }
 {

@@ -14,13 +14,13 @@ ghost use Rattle.relay_live.specs.Starting.{stores_of, tried_room};
 
 use block_shelf::{StopFault, Unstarted, blamed, fault_of, first_other, number_of, used_in};
 use cyc_block::BlockStore;
-use live_store::{Archive, NumberedBuffer, Register, UnopenedNumbered};
+use live_store::{ArticleLog, NumberedBuffer, StorePremises, UnopenedNumbered};
 use std::alloc::{AllocError, Global};
 use std::sync::Wait;
 
 /// Started buffers whose head blocks say closed yet. They begin nothing before those are open.
 #[derive(Drop)]
-pub(crate) struct StartedBuffers<S: BlockStore + Drop, J: Archive> {
+pub(crate) struct StartedBuffers<S: BlockStore + Drop, J: StorePremises> {
     pub(crate) buffers: Vec<UnopenedNumbered<S, J>>,
     /// Room for the buffers once they are open.
     opened: Vec<NumberedBuffer<S, J>>,
@@ -35,7 +35,7 @@ pub(crate) struct StartedBuffers<S: BlockStore + Drop, J: Archive> {
 
 /// The room that a start needs, and an opening after it.
 #[derive(Drop)]
-struct Room<S: BlockStore + Drop, J: Archive> {
+struct Room<S: BlockStore + Drop, J: StorePremises> {
     unopened: Vec<UnopenedNumbered<S, J>>,
     opened: Vec<NumberedBuffer<S, J>>,
     stores: Vec<S>,
@@ -43,7 +43,7 @@ struct Room<S: BlockStore + Drop, J: Archive> {
 
 /// How far a start is.
 #[derive(Drop)]
-enum Starting<S: BlockStore + Drop, J: Archive> {
+enum Starting<S: BlockStore + Drop, J: StorePremises> {
     /// The buffers so far are started; room for their stores, and the number of the first that was
     /// stopped at another stop.
     Started {
@@ -61,7 +61,7 @@ enum Starting<S: BlockStore + Drop, J: Archive> {
 
 /// How far the opening of heads is.
 #[derive(Drop)]
-enum Opening<S: BlockStore + Drop, J: Archive> {
+enum Opening<S: BlockStore + Drop, J: StorePremises> {
     /// The buffers so far are open; room for their stores.
     Opened {
         buffers: Vec<NumberedBuffer<S, J>>,
@@ -77,10 +77,10 @@ enum Opening<S: BlockStore + Drop, J: Archive> {
 /// The buffers that were stopped at this stop over these stores, the i-th buffer i, with the
 /// register's record for each live article. Nothing is written. All memory is taken here, of one
 /// buffer after the other.
-pub(crate) fn start_buffers<S: BlockStore + Drop, J: Archive, R: Wait>(
+pub(crate) fn start_buffers<S: BlockStore + Drop, J: StorePremises, R: Wait>(
     rt: &R,
     alloc: Global,
-    register: &Register,
+    register: &ArticleLog,
     stores: Vec<S>,
     stop: u64,
 ) -> Result<StartedBuffers<S, J>, Unstarted<S>>
@@ -143,7 +143,7 @@ pub(crate) fn start_buffers<S: BlockStore + Drop, J: Archive, R: Wait>(
     }
 }
 
-impl<S: BlockStore + Drop, J: Archive> Room<S, J> {
+impl<S: BlockStore + Drop, J: StorePremises> Room<S, J> {
     /// Room for so many buffers.
     fn new(alloc: Global, count: usize) -> Result<Room<S, J>, AllocError>
         ensures none { IfOk result (λ room. (room.unopened.items ≡ [])
@@ -162,7 +162,7 @@ impl<S: BlockStore + Drop, J: Archive> Room<S, J> {
     }
 }
 
-impl<S: BlockStore + Drop, J: Archive> StartedBuffers<S, J> {
+impl<S: BlockStore + Drop, J: StorePremises> StartedBuffers<S, J> {
     /// Of each buffer the blocks used in its cycle.
     pub(crate) fn used(&self, alloc: Global) -> Result<Vec<u32>, AllocError>
         ensures { IfOk result (λ used.
@@ -220,13 +220,13 @@ impl<S: BlockStore + Drop, J: Archive> StartedBuffers<S, J> {
     }
 }
 
-impl<S: BlockStore + Drop, J: Archive> Starting<S, J> {
+impl<S: BlockStore + Drop, J: StorePremises> Starting<S, J> {
     /// Starts the buffer of the next store, where none before it was refused.
     fn next<R: Wait>(
         self,
         rt: &R,
         alloc: Global,
-        register: &Register,
+        register: &ArticleLog,
         store: S,
         stop: u64,
     ) -> Starting<S, J>
@@ -262,10 +262,10 @@ impl<S: BlockStore + Drop, J: Archive> Starting<S, J> {
 }
 
 /// Starts the buffer of the next store behind those that are started.
-fn next_started<S: BlockStore + Drop, J: Archive, R: Wait>(
+fn next_started<S: BlockStore + Drop, J: StorePremises, R: Wait>(
     rt: &R,
     alloc: Global,
-    register: &Register,
+    register: &ArticleLog,
     store: S,
     stop: u64,
     buffers: Vec<UnopenedNumbered<S, J>>,
@@ -307,7 +307,7 @@ fn next_started<S: BlockStore + Drop, J: Archive, R: Wait>(
     }
 }
 
-impl<S: BlockStore + Drop, J: Archive> Opening<S, J> {
+impl<S: BlockStore + Drop, J: StorePremises> Opening<S, J> {
     /// Opens the head of the next buffer, where none before it has failed.
     fn next(self, unopened: UnopenedNumbered<S, J>) -> Opening<S, J>
         requires { opening_count self < opening_room self }
@@ -337,7 +337,7 @@ impl<S: BlockStore + Drop, J: Archive> Opening<S, J> {
 }
 
 /// The stores of started buffers, put where there is room for them.
-fn give_back<S: BlockStore + Drop, J: Archive>(
+fn give_back<S: BlockStore + Drop, J: StorePremises>(
     buffers: Vec<UnopenedNumbered<S, J>>,
     room: Vec<S>,
 ) -> Vec<S>
@@ -353,7 +353,7 @@ fn give_back<S: BlockStore + Drop, J: Archive>(
 }
 
 /// The stores of buffers, put where there is room for them.
-fn give_up<S: BlockStore + Drop, J: Archive>(
+fn give_up<S: BlockStore + Drop, J: StorePremises>(
     buffers: Vec<NumberedBuffer<S, J>>,
     room: Vec<S>,
 ) -> Vec<S>

@@ -6,7 +6,7 @@ use crate::filling::all_filled;
 use crate::started::start_buffers;
 use block_shelf::{StopFault, Unstarted};
 use cyc_block::BlockStore;
-use live_store::{Archive, Register};
+use live_store::{ArticleLog, StorePremises};
 use relay_conf::Config;
 use relay_core::{NotStarted, is_ahead, read_history, refused, unread};
 use std::alloc::Global;
@@ -15,7 +15,7 @@ use std::random::RandomSource;
 use std::sync::Wait;
 use std::sync::ledger::{Book, Ledger};
 
-impl<S: BlockStore + Drop, J: Archive, L: Ledger> Alone<S, J, L> {
+impl<S: BlockStore + Drop, J: StorePremises, L: Ledger> Alone<S, J, L> {
     ghost use Rattle.std.specs.Prelude.{◌≡◌, true, IfErr, IfOk, All, length, map};
     ghost use Rattle.relay_live.specs.Starting.{IsNotStarted, IsRefusedRightly, StartsOver};
     ghost use Rattle.relay_live.specs.Starting.{WereStopped};
@@ -29,7 +29,7 @@ impl<S: BlockStore + Drop, J: Archive, L: Ledger> Alone<S, J, L> {
         rt: &R,
         alloc: Global,
         config: &Config,
-        register: &Register,
+        register: &ArticleLog,
         stores: Vec<S>,
         text: &[u8],
         book: Book<L>,
@@ -60,7 +60,7 @@ impl<S: BlockStore + Drop, J: Archive, L: Ledger> Alone<S, J, L> {
         alloc: Global,
         hasher: RandomState,
         config: &Config,
-        register: &Register,
+        register: &ArticleLog,
         stores: Vec<S>,
         text: &[u8],
         book: Book<L>,
@@ -106,7 +106,7 @@ impl<S: BlockStore + Drop, J: Archive, L: Ledger> Alone<S, J, L> {
         let Desks {
             shards,
             desk,
-            racks,
+            placed_groups,
             last,
         } = desks;
         Ok(Alone {
@@ -114,7 +114,7 @@ impl<S: BlockStore + Drop, J: Archive, L: Ledger> Alone<S, J, L> {
             desk,
             feeds: config.relay.feeds.len(),
             buffers,
-            racks,
+            placed_groups,
             last,
             stop,
             remember: config.relay.remember,

@@ -7,14 +7,14 @@ ghost use Rattle.relay_live.specs.Stopping.{AreKnown, IsShutAll};
 use crate::alone::Alone;
 use block_shelf::number_of;
 use cyc_block::BlockStore;
-use live_store::{Archive, NumberedBuffer, Unshut};
+use live_store::{NumberedBuffer, StorePremises, Unshut};
 use relay_core::{Stopped, next_stop};
 use std::alloc::Global;
 use std::sync::ledger::Ledger;
 
 /// Why it isn't stopped, in the order of trial; want of memory comes last before the devices.
 #[derive(Drop)]
-pub(crate) enum Unstopped<S: BlockStore + Drop, J: Archive, L: Ledger> {
+pub(crate) enum Unstopped<S: BlockStore + Drop, J: StorePremises, L: Ledger> {
     /// A message-id is being stored, or a write is open in a buffer. The relay is as it was.
     NotIdle(Alone<S, J, L>),
     /// Memory was refused. The relay is as it was, and nothing was written.
@@ -24,7 +24,7 @@ pub(crate) enum Unstopped<S: BlockStore + Drop, J: Archive, L: Ledger> {
     Device(u8, Vec<S>),
 }
 
-impl<S: BlockStore + Drop, J: Archive, L: Ledger> Alone<S, J, L> {
+impl<S: BlockStore + Drop, J: StorePremises, L: Ledger> Alone<S, J, L> {
     ghost use Rattle.std.specs.Prelude.{◌≡◌, true, false, IfErr, IfOk};
     ghost use Rattle.relay_live.specs.Stopping.{ComesBack, IsAtRest, IsStoring, Shuts};
 
@@ -75,7 +75,7 @@ impl<S: BlockStore + Drop, J: Archive, L: Ledger> Alone<S, J, L> {
 
 /// Stops each buffer under this number, until the device of one fails. The number of that one, and
 /// the stores of all in their order, put where there is room for them.
-fn shut_all<S: BlockStore + Drop, J: Archive>(
+fn shut_all<S: BlockStore + Drop, J: StorePremises>(
     buffers: Vec<NumberedBuffer<S, J>>,
     stop: u64,
     room: Vec<S>,
@@ -98,7 +98,7 @@ fn shut_all<S: BlockStore + Drop, J: Archive>(
 
 /// Stops the next buffer where none before it has failed, and puts its store behind those of the
 /// buffers before it. The place of the buffer that has failed.
-fn shut_next<S: BlockStore + Drop, J: Archive>(
+fn shut_next<S: BlockStore + Drop, J: StorePremises>(
     buffer: NumberedBuffer<S, J>,
     stop: u64,
     failed: Option<usize>,
@@ -107,8 +107,8 @@ fn shut_next<S: BlockStore + Drop, J: Archive>(
     requires { vec_len stores.old < vec_capacity stores.old }
     ensures stops { StopsNext stop (buffer_of buffer) failed stores.old.items result
         stores.new.items }
-    ensures known { AreKnown S.BlockStore J.Archive stop failed stores.old.items
-        → AreKnown S.BlockStore J.Archive stop result stores.new.items }
+    ensures known { AreKnown S.BlockStore J.StorePremises stop failed stores.old.items
+        → AreKnown S.BlockStore J.StorePremises stop result stores.new.items }
     ensures count { vec_len stores.new ≡ vec_len stores.old + 1 }
     ensures room { vec_capacity stores.new ≡ vec_capacity stores.old }
 {

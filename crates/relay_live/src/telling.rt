@@ -2,22 +2,21 @@
 ghost use Rattle.std.specs.Prelude.{◌≡◌, ◌≤◌, IfOk, length};
 ghost use Rattle.block_shelf.specs.Each.{AreEach};
 ghost use Rattle.block_shelf.specs.Stopping.{TellsPosition};
-ghost use Rattle.live_settle.specs.Desks.{desk_of};
+ghost use Rattle.live_jobs.specs.Desks.{desk_of};
 ghost use Rattle.relay_core.specs.Stopping.{HaveRoom};
 ghost use Rattle.relay_live.specs.Telling.{AreEntries, AreKeptFeeds};
 ghost use Rattle.relay_model.specs.Terms.{shard_count};
 
 use crate::alone::Alone;
-use block_shelf::Rack;
+use block_shelf::PlacedGroup;
 use cyc_block::BlockStore;
-use history_text::{History, KeptFeed, KeptId, write};
-use id_history::{Shard, sort};
-use live_settle::CountedDesk;
-use live_store::Archive;
+use id_history::{History, KeptFeed, KeptId, Shard, sort, write};
+use live_jobs::CountedDesk;
+use live_store::StorePremises;
 use std::alloc::{AllocError, Global};
 use std::sync::ledger::Ledger;
 
-impl<S: BlockStore + Drop, J: Archive, L: Ledger> Alone<S, J, L> {
+impl<S: BlockStore + Drop, J: StorePremises, L: Ledger> Alone<S, J, L> {
     ghost use Rattle.std.specs.Prelude.{IfOk};
     ghost use Rattle.relay_live.specs.Stopping.{TellsHistory};
 
@@ -25,7 +24,7 @@ impl<S: BlockStore + Drop, J: Archive, L: Ledger> Alone<S, J, L> {
     pub(crate) fn text(&self, alloc: Global, stop: u64) -> Result<Vec<u8>, AllocError>
         ensures { IfOk result (λ text. TellsHistory self.now stop text.items) }
     {
-        let positions = positions_of(alloc, &self.racks)?;
+        let positions = positions_of(alloc, &self.placed_groups)?;
         let feeds = kept_feeds(alloc, &self.desk, self.feeds)?;
         let ids = entries_of(alloc, &self.shards)?;
         let history = History {
@@ -41,12 +40,12 @@ impl<S: BlockStore + Drop, J: Archive, L: Ledger> Alone<S, J, L> {
 }
 
 /// The place of the current buffer of each group in it, counted from 0.
-fn positions_of(alloc: Global, racks: &[Rack]) -> Result<Vec<u32>, AllocError>
-    ensures { IfOk result (λ positions. AreEach TellsPosition racks.now positions.items) }
+fn positions_of(alloc: Global, placed_groups: &[PlacedGroup]) -> Result<Vec<u32>, AllocError>
+    ensures { IfOk result (λ positions. AreEach TellsPosition placed_groups.now positions.items) }
 {
-    let mut positions = Vec::with_capacity(alloc, racks.len())?;
-    for rack in racks {
-        positions.push_reserved(rack.position());
+    let mut positions = Vec::with_capacity(alloc, placed_groups.len())?;
+    for placed_group in placed_groups {
+        positions.push_reserved(placed_group.position());
     }
     Ok(positions)
 }

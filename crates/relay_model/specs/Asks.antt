@@ -17,7 +17,8 @@ use Rattle.news_terms.specs.Stamps.{IsStamp}
 use Rattle.news_terms.specs.Token.{Token, IsToken, token_text}
 use Rattle.relay_model.specs.Claims.{Accepted}
 use Rattle.relay_model.specs.Judging.{Judges}
-use Rattle.relay_model.specs.State.{Session, Phase, Ready, Owes, Holds, Waits, Fetches, Leaving}
+use Rattle.relay_model.specs.State.{Session, Phase, Ready, AwaitsBlock, Holds, Waits, Fetches}
+use Rattle.relay_model.specs.State.{Leaving}
 use Rattle.relay_model.specs.State.{Ended, Transfer, TakesThis, Has, Job, Asked, OfToken, in_phase}
 use Rattle.relay_model.specs.State.{with_unread, with_offers}
 use Rattle.relay_model.specs.Terms.{Terms, FeedTerms, Reason, offer_limit}
@@ -109,7 +110,7 @@ abbrev pub IsDueOfCommand : Terms → Session → ℕ → Command → Due → Ty
 IsDueOfCommand w session now (Check id) d = d ≡ due_as (offer_asked session TakesThis id) session
 IsDueOfCommand w session now (Ihave id) d = d ≡ due_as (offer_asked session Has id) session
 IsDueOfCommand w session now (TakeThis id) d =
-    d ≡ due_as GoesOn (in_phase session (Owes TakesThis id))
+    d ≡ due_as GoesOn (in_phase session (AwaitsBlock TakesThis id))
 IsDueOfCommand w session now (Fetch part id) d = d ≡ due_as (Looks part id) session
 IsDueOfCommand w session now (FetchToken word) d =
     (ask : Ask) × TokenAsked word ask × (d ≡ due_as ask session)
@@ -177,7 +178,7 @@ leaving_due session None (id ∷ offers) = due_as (Releases id) (with_offers ses
 -- what is due in a Turn of a session at this moment, by its phase
 abbrev pub IsDueIn : Terms → Session → ℕ → Phase → Due → Type 0
 IsDueIn w session now Ready d = IsDueWhereReady w session now (next_line session.unread) d
-IsDueIn w session now (Owes transfer id) d =
+IsDueIn w session now (AwaitsBlock transfer id) d =
     IsDueWhereOwing w session now transfer id (next_block w.max_article session.unread) d
 IsDueIn w session now (Holds id article) d =
     d ≡ due_as (Takes TakesThis id article) (in_phase session Ready)

@@ -3,7 +3,8 @@
 -- waits there is one (docs/PROTOCOL.md, Handing over and waiting).
 use Rattle.std.specs.Prelude.{◌≡◌, ℕ, List, Option, None, Some}
 use Rattle.relay_model.specs.Claims.{Accepted, Storing, Stage}
-use Rattle.relay_model.specs.State.{Session, Phase, Ready, Owes, Holds, Waits, Fetches, Leaving}
+use Rattle.relay_model.specs.State.{Session, Phase, Ready, AwaitsBlock, Holds, Waits, Fetches}
+use Rattle.relay_model.specs.State.{Leaving}
 use Rattle.relay_model.specs.State.{Ended}
 use Rattle.relay_model.specs.World.{World, Outcome, Writer, Idle, Popped, Writing, Finished, Failed}
 use Rattle.relay_model.specs.World.{Settled, Forgotten}
@@ -56,7 +57,7 @@ pub record WaitsFor (x : World) (s : ℕ) (id : List ℕ) : Type 0 where
 -- what is on its way from or to a session in this phase
 abbrev pub Awaits : World → ℕ → Phase → Type 0
 Awaits x s Ready = IsFree x s
-Awaits x s (Owes transfer id) = IsFree x s
+Awaits x s (AwaitsBlock transfer id) = IsFree x s
 Awaits x s (Holds id article) = IsFree x s
 Awaits x s (Waits transfer id) = WaitsFor x s id
 Awaits x s (Fetches asked token had) = IsFree x s

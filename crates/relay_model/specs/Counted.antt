@@ -1,7 +1,7 @@
 -- How many articles were begun, stored, accepted and gained, in every world of a run: no more were
 -- accepted than begun, nor than are whole, and no feed gained more than were accepted
--- (docs/PROTOCOL.md, Store and Rings). All that is begun is in a cycle that a token has room for, so
--- these numbers have a bound.
+-- (docs/PROTOCOL.md, Store and Rings). All that is begun is in a cycle that a token has room for,
+-- so these numbers have a bound.
 use Rattle.std.specs.Prelude.{◌≡◌, ℕ, zero, suc, ◌+◌, ◌≤◌, length, All, slice_get, Some}
 use Rattle.news_terms.specs.Places.{Group, Extent, extents, last_cycle}
 use Rattle.relay_model.specs.State.{State}

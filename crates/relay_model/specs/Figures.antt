@@ -15,8 +15,8 @@ pub record BufferFigures : Type 0 where
   pub begun : ℕ
   pub stored : ℕ
 
--- what is reported of a feed, in tokens: how many wait in its ring, how many it gained, and how many
--- of those were overwritten before they were taken
+-- what is reported of a feed, in tokens: how many wait in its ring, how many it gained, and how
+-- many of those were overwritten before they were taken
 pub record FeedFigures : Type 0 where
   pub waiting : ℕ
   pub gained : ℕ

@@ -21,7 +21,8 @@ use Rattle.relay_model.specs.Fetches.{Fetched, Gone, NotKnown, NotRead}
 use Rattle.relay_model.specs.Fetches as fetches
 use Rattle.relay_model.specs.Shares.{Answer, ToOffer, ToLook, ToRead, ToTakeQueue, ToTake, ToPush}
 use Rattle.relay_model.specs.Shares.{InSlot}
-use Rattle.relay_model.specs.State.{Session, Ready, Owes, Holds, Waits, Fetches, Leaving, Ended}
+use Rattle.relay_model.specs.State.{Session, Ready, AwaitsBlock, Holds, Waits, Fetches, Leaving}
+use Rattle.relay_model.specs.State.{Ended}
 use Rattle.relay_model.specs.State.{Transfer, TakesThis, Has, Asked, OfId, OfToken, in_phase}
 use Rattle.relay_model.specs.State.{with_offers}
 use Rattle.relay_model.specs.World.{Outcome, IsKept, HasFailed, Said, Silent, Speaks, Parts}
@@ -47,7 +48,7 @@ parts session reply = record { said = Parts reply; session = in_phase session Le
 abbrev pub wanted : Session → Transfer → List ℕ → Heard
 wanted session TakesThis id = says (with_offers session (with_offer session.offers id)) (SendIt id)
 wanted session Has id =
-    says (in_phase (with_offers session (with_offer session.offers id)) (Owes Has (Some id)))
+    says (in_phase (with_offers session (with_offer session.offers id)) (AwaitsBlock Has (Some id)))
     IhaveSend
 
 -- what is said of an id that is remembered

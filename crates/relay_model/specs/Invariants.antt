@@ -52,7 +52,7 @@ places_of x id s g =
 -- a session in this phase may have a job in its hand
 abbrev pub may_carry : phases.Phase → Bool
 may_carry phases.Ready = false
-may_carry (phases.Owes transfer id) = false
+may_carry (phases.AwaitsBlock transfer id) = false
 may_carry (phases.Holds id article) = false
 may_carry (phases.Waits transfer id) = true
 may_carry (phases.Fetches asked token had) = false
@@ -105,7 +105,7 @@ pub record IsSoundArticle (w : Terms) (accepted : Accepted) : Type 0 where
 -- the article that a session in this phase holds
 abbrev pub held : phases.Phase → Option Accepted
 held phases.Ready = None
-held (phases.Owes transfer id) = None
+held (phases.AwaitsBlock transfer id) = None
 held (phases.Holds id article) = Some article
 held (phases.Waits transfer id) = None
 held (phases.Fetches asked token had) = None

@@ -1,6 +1,6 @@
--- What holds of all that a stop writes down and a start reads back (docs/PROTOCOL.md, Clean stop and
--- start), in every world of a run: so that no start of what was shut finds a moment, a token or a
--- number that can't be.
+-- What holds of all that a stop writes down and a start reads back (docs/PROTOCOL.md, Clean stop
+-- and start), in every world of a run: so that no start of what was shut finds a moment, a token or
+-- a number that can't be.
 use Rattle.std.specs.Prelude.{◌≡◌, ℕ, ◌+◌, ◌≤◌, ◌<◌, List, All, length, Some}
 use Rattle.news_terms.specs.Places.{Buffer, on_line, size_of}
 use Rattle.news_terms.specs.Token.{Token, IsToken}

@@ -10,7 +10,8 @@ use Rattle.relay_model.specs.Claims.{Claim, Passed, after_expire, after_restart,
 use Rattle.relay_model.specs.Fetches.{front_of}
 use Rattle.relay_model.specs.Hears.{Heard, Hears}
 use Rattle.relay_model.specs.Shares.{Answer, Shares}
-use Rattle.relay_model.specs.State.{State, Session, Phase, Ready, Owes, Holds, Waits, Fetches}
+use Rattle.relay_model.specs.State.{State, Session, Phase, Ready, AwaitsBlock, Holds, Waits}
+use Rattle.relay_model.specs.State.{Fetches}
 use Rattle.relay_model.specs.State.{Leaving, Ended, put_at, in_phase, with_unread}
 use Rattle.relay_model.specs.Terms.{Terms, last_moment, shard_count}
 use Rattle.relay_model.specs.World.{World, Expirer, Reading, Forgetting, Idle, Output, Quiet, Sent}
@@ -40,7 +41,7 @@ pub data Event : Type 0 where
 -- a session in this phase has Turns
 abbrev pub is_running : Phase → Bool
 is_running Ready = true
-is_running (Owes transfer id) = true
+is_running (AwaitsBlock transfer id) = true
 is_running (Holds id article) = true
 is_running (Waits transfer id) = true
 is_running (Fetches asked token had) = true
@@ -50,7 +51,7 @@ is_running Ended = false
 -- a session in this phase reads
 abbrev pub is_reading : Phase → Bool
 is_reading Ready = true
-is_reading (Owes transfer id) = true
+is_reading (AwaitsBlock transfer id) = true
 is_reading (Holds id article) = true
 is_reading (Waits transfer id) = true
 is_reading (Fetches asked token had) = true

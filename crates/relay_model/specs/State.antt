@@ -40,7 +40,7 @@ pub data Phase : Type 0 where
   -- it reads a command
   Ready : Phase
   -- it owes the block of this command; None where its argument was no message-id
-  Owes : (transfer : Transfer) (id : Option (List ℕ)) → Phase
+  AwaitsBlock : (transfer : Transfer) (id : Option (List ℕ)) → Phase
   -- it holds an accepted article while another session stores one of its id
   Holds : (id : List ℕ) (article : Accepted) → Phase
   -- its job in hand is pushed, then it waits for the outcome of its article

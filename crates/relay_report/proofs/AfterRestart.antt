@@ -12,7 +12,8 @@ use Rattle.article_verdict.specs.Config.{terms_of}
 use Rattle.id_history.specs.Counts.{CountsOf, is_known, is_offered, is_refused, is_stored}
 use Rattle.id_history.specs.declared.counts.Counts.{Counts}
 use Rattle.relay_conf.specs.declared.settings.Config.{Config}
-use Rattle.relay_model.specs.Claims.{Claim, Unknown, Offered, Storing, Stored, Refused, after_restart}
+use Rattle.relay_model.specs.Claims.{Claim, Unknown, Offered, Storing, Stored, Refused}
+use Rattle.relay_model.specs.Claims.{after_restart}
 use Rattle.relay_model.specs.Claims.{is_storing}
 use Rattle.relay_model.specs.Run.{Restart, Restarts, Step, IsRefused, WantsMemory, IsDone, IsBusy}
 use Rattle.relay_model.specs.Run.{HasNoRoom, HasNot}
@@ -149,12 +150,14 @@ counts_again claims ids counted = record {
         (λ id passes. known_by test none (after_restart (claims id)) passes) counted.ids)
 
 -- what was reported is reported behind a Restart that was done, with none offered
-restart_done : (config : Config) (x y : World) (text : List ℕ) (reports : ReportsOn config x.state text)
+restart_done
+    : (config : Config) (x y : World) (text : List ℕ) (reports : ReportsOn config x.state text)
     → Restarts (terms_of config) x Quiet y
     → ReportsOn config y.state (text_after_restart config x.state reports.ids)
 restart_done config x y text reports (IsBusy id busy said e) = absurd (cc)
 restart_done config x y text reports (HasNoRoom failures rises said e) = absurd (cc)
-restart_done config x y text reports (HasNot i buffer failures there idle failed said e) = absurd (cc)
+restart_done config x y text reports (HasNot i buffer failures there idle failed said e) =
+    absurd (cc)
 restart_done config x y text reports (run.IsDone failures idle rises said e) =
     subst (λ (z : World). ReportsOn config z.state (text_after_restart config x.state reports.ids))
     (sym e)

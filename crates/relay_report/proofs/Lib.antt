@@ -1,1 +1,2 @@
 pub mod AfterRestart
+pub mod Writes

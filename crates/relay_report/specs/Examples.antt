@@ -1,7 +1,7 @@
 -- The worked reports (docs/FORMATS.md, Report): what is reported, and its text.
 use Rattle.std.specs.Prelude.{ℕ, List, ◌++◌, codes}
 use Rattle.id_history.specs.declared.counts.Counts.{Counts}
-use Rattle.relay_core.specs.Figures.{NamedBuffer, NamedFeed}
+use Rattle.relay_report.specs.Figures.{NamedBuffer, NamedFeed}
 
 -- the buffer A in its cycle 0, with so many blocks behind its front, and as many articles of a
 -- block each begun and stored

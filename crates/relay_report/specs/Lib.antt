@@ -1,4 +1,10 @@
 pub mod Examples
+pub mod Figures
+pub mod Keeping
+pub mod Reasons
 pub mod Report
+pub mod Serve
+pub mod ServeText
 pub mod Text
 pub mod Totals
+pub mod Written

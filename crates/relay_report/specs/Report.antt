@@ -1,16 +1,12 @@
 -- What is reported of a relay (docs/FORMATS.md, Report).
-use Rattle.std.specs.Prelude.{◌≡◌, ℕ, Bool, List, map}
-use Rattle.cyc_block.specs.declared.store.BlockStore.{Ghosts}
+use Rattle.std.specs.Prelude.{◌≡◌, ℕ, List, map}
 use Rattle.id_history.specs.Counts.{CountsOf}
 use Rattle.id_history.specs.declared.counts.Counts.{Counts}
 use Rattle.relay_conf.specs.declared.settings.Config.{Config}
-use Rattle.relay_core.specs.Agreement.{Agrees}
-use Rattle.relay_core.specs.Figures.{buffer_view, config_of, feed_view, named_buffers}
-use Rattle.relay_core.specs.Figures.{named_feeds}
-use Rattle.relay_core.specs.declared.figures.Figures.{Figures}
-use Rattle.relay_core.specs.declared.system.System.{System}
+use Rattle.relay_report.specs.Figures.{buffer_view, feed_view, named_buffers}
+use Rattle.relay_report.specs.Figures.{named_feeds}
+use Rattle.relay_report.specs.declared.figures.Figures.{Figures}
 use Rattle.relay_model.specs.State.{State}
-use Rattle.relay_model.specs.World.{World}
 use Rattle.relay_report.specs.Text.{report_text}
 
 -- the text of these figures
@@ -30,9 +26,3 @@ pub record ReportsOn (config : Config) (σ : State) (text : List ℕ) : Type 0 w
 abbrev pub text_after_restart : Config → State → Counts → List ℕ
 text_after_restart config σ ids =
     report_text (named_buffers config σ) (named_feeds config σ) (record ids { offered = 0 })
-
--- the text reports each state that the relay agrees with
-abbrev pub Reports : {S : Type 0} {g : Ghosts S} → System S g → List ℕ → Type 0
-Reports system text =
-    (trusted : Bool) (x : World) → Agrees trusted system x
-    → ReportsOn (config_of system) x.state text

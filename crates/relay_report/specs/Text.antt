@@ -2,7 +2,7 @@
 use Rattle.std.specs.Prelude.{ℕ, ◌-◌, List, ◌++◌, codes, decimal, flat_map, length}
 use Rattle.std.specs.Prelude.{replicate}
 use Rattle.id_history.specs.declared.counts.Counts.{Counts}
-use Rattle.relay_core.specs.Figures.{NamedBuffer, NamedFeed}
+use Rattle.relay_report.specs.Figures.{NamedBuffer, NamedFeed}
 
 -- so many spaces
 abbrev pub spaces : ℕ → List ℕ

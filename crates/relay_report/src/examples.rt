@@ -1,6 +1,6 @@
 //! The worked reports (docs/FORMATS.md, Report), computed.
 ghost use Rattle.std.specs.Prelude.{◌≡◌, ◌∷◌, [], codes, decimal, length, map};
-ghost use Rattle.relay_core.specs.Figures.{buffer_view, feed_view};
+ghost use Rattle.relay_report.specs.Figures.{buffer_view, feed_view};
 ghost use Rattle.relay_report.specs.Examples.{buffer_a, feed_p2, stored_ids};
 ghost use Rattle.relay_report.specs.Examples as examples;
 ghost use Rattle.relay_report.specs.Text.{column, left_in, report_text, wide_column};

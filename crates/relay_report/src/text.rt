@@ -1,12 +1,12 @@
 //! The text of a report (docs/FORMATS.md, Report).
 ghost use Rattle.std.specs.Prelude.{◌≡◌, ◌++◌, IfOk, OnOk, flat_map, map};
-ghost use Rattle.relay_core.specs.Figures.{buffer_view, feed_view};
+ghost use Rattle.relay_report.specs.Figures.{buffer_view, feed_view};
 ghost use Rattle.relay_report.specs.Report.{text_of_figures};
 ghost use Rattle.relay_report.specs.Text.{buffer_line, feed_line, ids_line};
 
 use crate::columns::{put_name, put_number};
+use crate::figures::{Figures, NamedBuffer, NamedFeed};
 use id_history::Counts;
-use relay_core::{Figures, NamedBuffer, NamedFeed};
 use std::alloc::{AllocError, Global};
 
 /// The places of a name.

@@ -2,8 +2,8 @@
 ghost use Rattle.std.specs.Prelude.{◌≡◌, IfOk};
 ghost use Rattle.relay_report.specs.Totals.{text_of_totals};
 
+use crate::figures::Figures;
 use crate::text::text_of;
-use relay_core::Figures;
 use std::alloc::{AllocError, Global};
 
 /// What is known of a relay in threads once all its seats have come back (docs/PROTOCOL.md,
@@ -17,10 +17,10 @@ pub struct Totals {
     /// How many posts the feed desk made.
     pub posted: u64,
     /// How many kept answers have another register number than the writer's receipt for the same
-    /// job, and how many jobs were mixed up.
-    pub strays: u128,
+    /// job, and how many jobs were in conflict.
+    pub mismatched_receipts: u128,
     /// How many kept jobs there are less their different message-ids.
-    pub doubles: u128,
+    pub ids_stored_again: u128,
 }
 
 /// The report of the totals (docs/FORMATS.md, Report), in the form of a relay's own. The error is

@@ -1,12 +1,13 @@
 -- What serving answers that ends with a report.
-use Rattle.std.proofs.Common.{Err, List, None, Ok, Option, Result, Some, [], ℕ, refl, sym, append-nil}
+use Rattle.std.proofs.Common.{Err, List, None, Ok, Option, Result, Some, [], ℕ, refl, sym}
+use Rattle.std.proofs.Common.{append-nil}
 use Rattle.std.specs.Io.KnownBytes.{Appends}
 use Rattle.relay_conf.specs.declared.settings.Config.{Config}
-use Rattle.relay_drill.specs.Written.{GainsFront}
+use Rattle.relay_report.specs.Written.{GainsFront}
 use Rattle.relay_report.specs.declared.totals.Totals.{Totals}
-use Rattle.serve_terms.specs.Serve.{AreOf, PrintGives, ServeGives}
-use Rattle.serve_terms.specs.declared.fault.ServeError.{ServeError}
-use Rattle.serve_terms.specs.declared.fault.ServeError.TheVariants as faults
+use Rattle.relay_report.specs.Serve.{AreOf, PrintGives, ServeGives}
+use Rattle.relay_report.specs.declared.fault.ServeError.{ServeError}
+use Rattle.relay_report.specs.declared.fault.ServeError.TheVariants as faults
 
 -- A writer that takes nothing gains nothing.
 gains_none : (held : Option (List ℕ)) → Appends held held []

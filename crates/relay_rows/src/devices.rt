@@ -6,8 +6,8 @@ use std::alloc::Global;
 use std::io::{Read, Write};
 use std::random::RandomSource;
 
-/// The call of each device that fails by the line of a row about its machine. `None` where that says
-/// nothing of devices.
+/// The call of each device that fails by the line of a row about its machine. `None` where that
+/// says nothing of devices.
 pub fn failing_call(machine: &[u8]) -> Option<u64> {
     if machine == b"first call".as_slice() {
         return Some(1);

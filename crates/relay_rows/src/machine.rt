@@ -1,4 +1,5 @@
-//! The machine of a row: the files of the system, and its random numbers, of which it may have none.
+//! The machine of a row: the files of the system, and its random numbers, of which it may have
+//! none.
 use std::alloc::Allocator;
 use std::fs::{Files, Metadata, OpenOptions};
 use std::io;

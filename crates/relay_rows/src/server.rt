@@ -2,17 +2,16 @@
 //! what it was asked.
 ghost use Rattle.std.specs.Prelude.{◌≡◌, ℕ, List, Option, Err, IfOk, IfSome, map, slice_get};
 ghost use Rattle.relay_conf.specs.declared.settings.Config.{Config};
-ghost use Rattle.relay_core.specs.Figures.{name_of};
-ghost use Rattle.serve_terms.specs.Serve.{AreOf, ServeGives};
+ghost use Rattle.relay_report.specs.Figures.{name_of};
+ghost use Rattle.relay_report.specs.Serve.{AreOf, ServeGives};
 
 use block_shelf::BufferFigures;
 use id_history::Counts;
 use line_words::Octets;
 use relay_conf::{BufferConf, Config, Peer, Relay};
-use relay_core::{FeedFigures, Figures, NamedBuffer, NamedFeed};
-use relay_report::Totals;
-use serve_terms::{
-    BufferFault, LostFile, LostPort, Reason, ServeError, StartFault, StopFault, print_totals,
+use relay_report::{
+    BufferFault, FeedFigures, Figures, LostFile, LostPort, NamedBuffer, NamedFeed, Reason,
+    ServeError, StartFault, StopFault, Totals, print_totals,
 };
 use std::alloc::{AllocError, Global};
 use std::io::Write;
@@ -249,8 +248,8 @@ fn totals_of(
         },
         accepted: 0,
         posted: 0,
-        strays: 0,
-        doubles: 0,
+        mismatched_receipts: 0,
+        ids_stored_again: 0,
     })
 }
 

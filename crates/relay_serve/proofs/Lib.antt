@@ -1,4 +1,4 @@
-mod Doors
+mod PeerSources
 mod Kept
 mod Printed
 mod ServeFaults

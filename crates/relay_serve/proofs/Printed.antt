@@ -3,15 +3,15 @@ use Rattle.std.proofs.Common.{ℕ, List}
 use Rattle.std.specs.Prelude.{Option, Result, Ok, Err}
 use Rattle.relay_conf.specs.declared.settings.Config.{Config}
 use Rattle.relay_report.specs.declared.totals.Totals.{Totals}
-use Rattle.serve_terms.specs.Serve.{AreOf, PrintGives, ServeGives}
-use Rattle.serve_terms.specs.declared.fault.ServeError.{ServeError}
-use Rattle.serve_terms.specs.declared.fault.ServeError.TheVariants as faults
+use Rattle.relay_report.specs.Serve.{AreOf, PrintGives, ServeGives}
+use Rattle.relay_report.specs.declared.fault.ServeError.{ServeError}
+use Rattle.relay_report.specs.declared.fault.ServeError.TheVariants as faults
 
 -- the totals are of the configuration, so what is printed of them is what serving it prints
 pub served : (config : Config) (totals : Totals) (result : Result (Unit {0}) ServeError)
     (before after : Option (List ℕ)) → AreOf config totals
     → PrintGives totals result before after → ServeGives config result before after
-served config totals (Ok done) before after of printed = (totals, of, printed)
+served config totals (Ok finished) before after of printed = (totals, of, printed)
 served config totals (Err faults.Unwritten) before after of printed = (totals, of, printed)
 served config totals (Err faults.Memory) before after of printed = (tt, printed)
 served config totals (Err faults.Control) before after of printed = absurd printed

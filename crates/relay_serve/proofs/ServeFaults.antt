@@ -8,9 +8,9 @@ use Rattle.cyc_block.specs.declared.store.BlockStore.{Ghosts}
 use Rattle.relay_conf.specs.declared.settings.Config.{Config}
 use Rattle.relay_serve.specs.History.{IsOriginFault}
 use Rattle.relay_serve.specs.Running.{IsRelayFault, IsRunFault, IsServeFault, IsStopFault}
-use Rattle.serve_terms.specs.Serve.{ServeGives}
-use Rattle.serve_terms.specs.declared.fault.ServeError.{ServeError}
-use Rattle.serve_terms.specs.declared.fault.ServeError.TheVariants as faults
+use Rattle.relay_report.specs.Serve.{ServeGives}
+use Rattle.relay_report.specs.declared.fault.ServeError.{ServeError}
+use Rattle.relay_report.specs.declared.fault.ServeError.TheVariants as faults
 
 -- what ends a run is a reason that a relay isn't run
 pub run_serves : {S : Type 0} (g : Ghosts S) (config : Config) (stores : List S)
@@ -99,7 +99,7 @@ none_served config faults.Unwritten held none = absurd none
 pub served_none : (config : Config) (error : ServeError) (result : Result (Unit {0}) ServeError)
     (held : Option (List ℕ)) → IsErr result → IsErrAnd result (λ e. e ≡ error)
     → IsServeFault config error → ServeGives config result held held
-served_none config error (Ok done) held is e fault = absurd (cc is)
+served_none config error (Ok finished) held is e fault = absurd (cc is)
 served_none config error (Err same) held is e fault =
     let P : ServeError → Type 0 = λ it. ServeGives config (Err it) held held in
     subst P (sym e) (none_served config error held fault)

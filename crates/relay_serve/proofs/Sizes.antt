@@ -15,8 +15,8 @@ abbrev pub seen_of : RunBlocks HostFile → ℕ
 seen_of store =
     length (overlaid store.gathered.first (blocks_in store.gathered) (blocks_of store.count []))
 
--- Of files of the machine contracts see as many blocks as were asked for; those that are watched are
--- these.
+-- Of files of the machine contracts see as many blocks as were asked for; those that are watched
+-- are these.
 pub watched_sizes : {R : Type 0} (all : List (Watched (RunBlocks HostFile) R))
     → map (λ (one : Watched (RunBlocks HostFile) R). seen_of one.store) all
     ≡ map count_of (map store_in all)

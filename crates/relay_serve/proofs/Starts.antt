@@ -8,19 +8,19 @@ use Rattle.std.specs.declared.io.ErrorKind.TheVariants.{OutOfMemory}
 use Rattle.block_shelf.specs.declared.starting.StopFault.{StopFault}
 use Rattle.block_shelf.specs.declared.starting.StopFault.TheVariants as reasons
 use Rattle.cyc_block.specs.declared.store.BlockStore.{Ghosts}
-use Rattle.history_file.specs.declared.origin.Origin.{Origin}
-use Rattle.history_file.specs.declared.origin.Origin.TheVariants as origins
+use Rattle.relay_folder.specs.declared.origin.Origin.{Origin}
+use Rattle.relay_folder.specs.declared.origin.Origin.TheVariants as origins
 use Rattle.relay_conf.specs.declared.cycbuff.BufferConf.{BufferConf}
 use Rattle.relay_conf.specs.declared.settings.Buffers.{Buffers}
 use Rattle.relay_conf.specs.declared.settings.Config.{Config}
 use Rattle.relay_core.specs.declared.stopped.NotStarted.{NotStarted}
 use Rattle.relay_core.specs.declared.stopped.NotStarted.TheVariants as nots
-use Rattle.serve_terms.specs.declared.fault.ServeError.{ServeError}
-use Rattle.serve_terms.specs.declared.fault.ServeError.TheVariants as faults
-use Rattle.serve_terms.specs.declared.keeping.BufferFault.{BufferFault}
-use Rattle.serve_terms.specs.declared.keeping.BufferFault.TheVariants.{Device, NoHead, Unclosed}
-use Rattle.serve_terms.specs.declared.keeping.BufferFault.TheVariants.{Damaged, Mixed}
-use Rattle.serve_terms.specs.declared.keeping.StartFault.TheVariants as starts
+use Rattle.relay_report.specs.declared.fault.ServeError.{ServeError}
+use Rattle.relay_report.specs.declared.fault.ServeError.TheVariants as faults
+use Rattle.relay_report.specs.declared.keeping.BufferFault.{BufferFault}
+use Rattle.relay_report.specs.declared.keeping.BufferFault.TheVariants.{Device, NoHead, Unclosed}
+use Rattle.relay_report.specs.declared.keeping.BufferFault.TheVariants.{Damaged, Mixed}
+use Rattle.relay_report.specs.declared.keeping.StartFault.TheVariants as starts
 use Rattle.relay_serve.specs.Files.{IsFaultAt}
 use Rattle.relay_serve.specs.Lives.{IsNoStart, IsUnstartedAs, StartsAsTold}
 use Rattle.relay_serve.specs.Running.{IsRelayFault, IsRunFault, IsStopFault, unbegun_as}
@@ -97,7 +97,8 @@ of_buffer : {S : Type 0} (g : Ghosts S) (config : Config) (stores : List S) (num
     → IsRelayFault g config stores error
 of_buffer g config stores number fault error None at e =
     subst (IsRelayFault g config stores) (sym e) tt
-of_buffer g config stores number fault (faults.Start (starts.Buffer name found)) (Some buffer) at e =
+of_buffer g config stores number fault (faults.Start (starts.Buffer name found))
+    (Some buffer) at e =
     let all = config.buffers.buffers.items in (
       number,
       buffer,

@@ -2,8 +2,8 @@
 use Rattle.std.specs.Prelude.{◌≡◌, ◌-◌, Option, None, Some, map, slice_get}
 use Rattle.feed_queue.specs.declared.desk.Counts.{Counts}
 use Rattle.relay_conf.specs.declared.settings.Config.{Config}
-use Rattle.relay_core.specs.Figures.{name_of}
-use Rattle.relay_core.specs.declared.figures.Figures.{Figures}
+use Rattle.relay_report.specs.Figures.{name_of}
+use Rattle.relay_report.specs.declared.figures.Figures.{Figures}
 use Rattle.relay_model.specs.Figures.{FeedFigures}
 
 -- the figures are of the buffers and of the feeds of a configuration, in their order

@@ -5,9 +5,9 @@ use Rattle.file_blocks.specs.Host.{held_identity}
 use Rattle.file_blocks.specs.declared.host.HeldFile.{HeldFile}
 use Rattle.relay_conf.specs.declared.cycbuff.BufferConf.{BufferConf}
 use Rattle.relay_conf.specs.declared.settings.Buffers.{Buffers}
-use Rattle.serve_terms.specs.declared.fault.ServeError.{ServeError}
-use Rattle.serve_terms.specs.declared.reason.Reason.{Reason}
-use Rattle.serve_terms.specs.declared.fault.ServeError.TheVariants as faults
+use Rattle.relay_report.specs.declared.fault.ServeError.{ServeError}
+use Rattle.relay_report.specs.declared.reason.Reason.{Reason}
+use Rattle.relay_report.specs.declared.fault.ServeError.TheVariants as faults
 
 -- memory was refused, or the file of this buffer can't be had, by its name
 abbrev pub IsFaultOf : BufferConf → ServeError → Type 0

@@ -1,8 +1,8 @@
 -- The history of a relay, as serving it reads and keeps it.
 use Rattle.std.specs.Prelude.{◌≡◌, ◌⊎◌, ℕ, Bool, true, false, List, Option, None}
-use Rattle.serve_terms.specs.declared.fault.ServeError.{ServeError}
-use Rattle.serve_terms.specs.declared.fault.ServeError.TheVariants as faults
-use Rattle.serve_terms.specs.declared.keeping.StartFault.TheVariants as starts
+use Rattle.relay_report.specs.declared.fault.ServeError.{ServeError}
+use Rattle.relay_report.specs.declared.fault.ServeError.TheVariants as faults
+use Rattle.relay_report.specs.declared.keeping.StartFault.TheVariants as starts
 
 -- what is kept once it is known what a relay begins from: nothing where all is formatted because it
 -- was asked for, else what was

@@ -3,9 +3,9 @@
 use Rattle.std.specs.Prelude.{◌≡◌, ℕ, List}
 use Rattle.std.specs.IoError.{error_kind}
 use Rattle.cyc_block.specs.declared.store.BlockStore as blocks
-use Rattle.history_file.specs.declared.origin.Origin.{Origin}
-use Rattle.history_file.specs.declared.origin.Origin.TheVariants as origins
-use Rattle.live_store.specs.declared.record.Archive as archives
+use Rattle.relay_folder.specs.declared.origin.Origin.{Origin}
+use Rattle.relay_folder.specs.declared.origin.Origin.TheVariants as origins
+use Rattle.live_store.specs.declared.record.StorePremises as store_premises
 use Rattle.relay_conf.specs.declared.settings.Buffers.{Buffers}
 use Rattle.relay_conf.specs.declared.settings.Config.{Config}
 use Rattle.relay_core.specs.declared.stopped.NotStarted.{NotStarted}
@@ -15,9 +15,9 @@ use Rattle.relay_live.specs.Stopping.{IsUnshut}
 use Rattle.relay_live.specs.declared.shared.Shared.{Shared}
 use Rattle.relay_live.specs.declared.shared.Unshut.{Unshut}
 use Rattle.relay_live.specs.declared.shared.Unshut.TheVariants as unshut
-use Rattle.serve_terms.specs.declared.fault.ServeError.{ServeError}
-use Rattle.serve_terms.specs.declared.fault.ServeError.TheVariants as faults
-use Rattle.serve_terms.specs.declared.keeping.StopFault.TheVariants as stops
+use Rattle.relay_report.specs.declared.fault.ServeError.{ServeError}
+use Rattle.relay_report.specs.declared.fault.ServeError.TheVariants as faults
+use Rattle.relay_report.specs.declared.keeping.StopFault.TheVariants as stops
 use Rattle.relay_serve.specs.Running.{unbegun_as}
 use Rattle.relay_serve.specs.Starting.{IsRefusal}
 
@@ -54,14 +54,14 @@ StartsAsTold g config stores (origins.Stopped text) (faults.Start fault) =
 StartsAsTold g config stores (origins.Stopped text) error = Unit {0}
 
 -- why a relay isn't stopped so that it can start again is told so
-abbrev pub stopped_as : {S J L : Type 0} {s : blocks.Ghosts S} {j : archives.Ghosts J}
+abbrev pub stopped_as : {S J L : Type 0} {s : blocks.Ghosts S} {j : store_premises.Ghosts J}
     → Unshut S J L s j → ServeError
 stopped_as (unshut.NotIdle shared) = faults.Stop stops.NotIdle
 stopped_as (unshut.Memory shared) = faults.Memory
 stopped_as (unshut.Device number stores) = faults.Stop stops.Device
 
 -- the error tells why this relay isn't stopped: for the first reason that there is
-pub record TellsStop {S J L : Type 0} {s : blocks.Ghosts S} {j : archives.Ghosts J}
+pub record TellsStop {S J L : Type 0} {s : blocks.Ghosts S} {j : store_premises.Ghosts J}
     (shared : Shared S J L s j) (error : ServeError) : Type 0 where
   pub refused : Unshut S J L s j
   pub rightly : IsUnshut shared refused

@@ -4,8 +4,8 @@ use Rattle.std.specs.Prelude.{if◌then◌else◌}
 use Rattle.relay_conf.specs.declared.relay.Peer.{Peer}
 use Rattle.std.specs.declared.io.ErrorKind.{ErrorKind}
 use Rattle.relay_serve.specs.Reasons.{port_reason}
-use Rattle.serve_terms.specs.declared.fault.ServeError.{ServeError}
-use Rattle.serve_terms.specs.declared.fault.ServeError.TheVariants as faults
+use Rattle.relay_report.specs.declared.fault.ServeError.{ServeError}
+use Rattle.relay_report.specs.declared.fault.ServeError.TheVariants as faults
 
 -- the peers of the ends, where the first of these peers has this number: each that has a port, as
 -- often as its connections are served at once

@@ -5,10 +5,10 @@ use Rattle.std.specs.declared.io.ErrorKind.{ErrorKind}
 use Rattle.std.specs.declared.io.ErrorKind.TheVariants as kinds
 use Rattle.file_blocks.specs.declared.host.Unusable.{Unusable}
 use Rattle.file_blocks.specs.declared.host.Unusable.TheVariants as unusable
-use Rattle.serve_terms.specs.declared.reason.Reason.{Reason}
-use Rattle.serve_terms.specs.declared.reason.Reason.TheVariants.{NoFolder, NoRight, NotRegular}
-use Rattle.serve_terms.specs.declared.reason.Reason.TheVariants.{Held, NoRoom, TooLarge, InUse}
-use Rattle.serve_terms.specs.declared.reason.Reason.TheVariants.{NoAddress, Refused}
+use Rattle.relay_report.specs.declared.reason.Reason.{Reason}
+use Rattle.relay_report.specs.declared.reason.Reason.TheVariants.{NoFolder, NoRight, NotRegular}
+use Rattle.relay_report.specs.declared.reason.Reason.TheVariants.{Held, NoRoom, TooLarge, InUse}
+use Rattle.relay_report.specs.declared.reason.Reason.TheVariants.{NoAddress, Refused}
 
 -- why the system refused a file, by the kind of its error; want of memory is none of these
 abbrev pub file_reason : ErrorKind → Option Reason

@@ -8,26 +8,27 @@ use Rattle.article_verdict.specs.Config.{terms_of}
 use Rattle.block_shelf.specs.Filling.{HasFailedAt}
 use Rattle.cyc_block.specs.declared.store.BlockStore as blocks
 use Rattle.job_queue.specs.declared.parcel.Handed.{Handed}
-use Rattle.live_fates.specs.Doubles.{doubles_in}
-use Rattle.live_fates.specs.Fates.{FitsJob, is_kept}
-use Rattle.live_fates.specs.Strays.{strays_in}
-use Rattle.live_fates.specs.declared.fate.Fate.{Fate}
-use Rattle.live_fates.specs.declared.fate.KeptJob.{KeptJob}
-use Rattle.live_seats.specs.Gathered.{AllTold, NoneElse, kept_by_all}
-use Rattle.live_seats.specs.declared.outcome.Done.{Done}
-use Rattle.live_store.specs.declared.record.Archive.{Ghosts}
+use Rattle.live_jobs.specs.StoredAgain.{ids_stored_again_in}
+use Rattle.live_jobs.specs.StoreResults.{FitsJob, is_kept}
+use Rattle.live_jobs.specs.Mismatches.{mismatched_receipts_in}
+use Rattle.live_jobs.specs.declared.store_result.StoreResult.{StoreResult}
+use Rattle.live_jobs.specs.declared.store_result.KeptJob.{KeptJob}
+use Rattle.live_jobs.specs.Gathered.{AllTold, NoneElse, kept_by_all}
+use Rattle.live_jobs.specs.declared.outcome.FinishedJob.{FinishedJob}
+use Rattle.live_store.specs.declared.record.StorePremises.{Ghosts}
 use Rattle.relay_conf.specs.declared.cycbuff.BufferConf.{BufferConf}
 use Rattle.relay_conf.specs.declared.settings.Config.{Config}
-use Rattle.live_settle.specs.Desks.{posts_in}
-use Rattle.relay_live.specs.Counts.{accepted_in, posted_in, strays_of, doubles_of}
+use Rattle.live_jobs.specs.Desks.{posts_in}
+use Rattle.relay_live.specs.Counts.{accepted_in, posted_in, mismatched_receipts_of}
+use Rattle.relay_live.specs.Counts.{ids_stored_again_of}
 use Rattle.relay_live.specs.Sessions.{Accounted, HasLists}
 use Rattle.relay_live.specs.declared.running.Counted.{Counted}
 use Rattle.relay_live.specs.declared.running.LiveError.{LiveError}
 use Rattle.relay_live.specs.declared.running.LiveError.TheVariants as errors
 use Rattle.relay_report.specs.declared.totals.Totals.{Totals}
-use Rattle.serve_terms.specs.Serve.{NamesBuffer, NamesFile}
-use Rattle.serve_terms.specs.declared.fault.ServeError.{ServeError}
-use Rattle.serve_terms.specs.declared.fault.ServeError.TheVariants as faults
+use Rattle.relay_report.specs.Serve.{NamesBuffer, NamesFile}
+use Rattle.relay_report.specs.declared.fault.ServeError.{ServeError}
+use Rattle.relay_report.specs.declared.fault.ServeError.TheVariants as faults
 
 -- why a relay can't begin: memory was refused, or the system has no random numbers
 abbrev pub unbegun_as : ErrorKind → ServeError
@@ -61,8 +62,8 @@ pub record NamesFailed {S : Type 0} (g : blocks.Ghosts S) (config : Config) (sto
   pub named : name ≡ utf8_lossy buffer.file
 
 -- a relay over stores isn't run where memory was refused, where the system had no random numbers or
--- no thread, or where a device of theirs failed, whose file is named; or it can't start, which names a
--- buffer where that is at fault, or it couldn't be stopped so that it can start again
+-- no thread, or where a device of theirs failed, whose file is named; or it can't start, which
+-- names a buffer where that is at fault, or it couldn't be stopped so that it can start again
 abbrev pub IsRelayFault : {S : Type 0} (g : blocks.Ghosts S) → Config → (stores : List S)
     → ServeError → Type 0
 IsRelayFault g config stores (faults.File lost) =
@@ -89,8 +90,8 @@ IsServeFault config faults.NoThread = Unit {0}
 IsServeFault config faults.Unwritten = ⊥
 
 -- how many writers a relay of a configuration has: one for each group, and one where there is none
-abbrev pub lane_count : Config → ℕ
-lane_count config =
+abbrev pub channel_count : Config → ℕ
+channel_count config =
     let groups = length config.buffers.groups.items in if groups == 0 then 1 else groups
 
 -- What the end of this number has handed over and answered kept is what the sessions of its peer
@@ -101,31 +102,31 @@ abbrev pub HasServed : {J : Type 0} {g : Ghosts J} → Config → (end peer : �
 HasServed {J} {g} config end peer jobs kept =
     (count : ℕ) × Accounted g.trusted (terms_of config) end peer count jobs kept
 
--- What was counted is of a run of these ends, each by the number of its peer: `done` is what the
--- writer of each group told, `hands` what each end handed over to each group, `kept` what each end
--- answered kept. None of them is missing; each job was told once, in order, with an outcome that
--- fits it, and no other job was.
+-- What was counted is of a run of these ends, each by the number of its peer: `finished` is what
+-- the writer of each group told, `hands` what each end handed over to each group, `kept` what each
+-- end answered kept. None of them is missing; each job was told once, in order, with an outcome
+-- that fits it, and no other job was.
 pub record Ran {J : Type 0} (g : Ghosts J) (config : Config) (peers : List ℕ) (counted : Counted)
     : Type 0 where
-  pub done : List (List (Done (Fate J g)))
+  pub finished : List (List (FinishedJob (StoreResult J g)))
   pub hands : List (List (List Handed))
   pub kept : List (List (KeptJob J g))
-  pub writers : length done ≡ lane_count config
+  pub writers : length finished ≡ channel_count config
   pub ends : (length hands ≡ length peers) × (length kept ≡ length peers)
-  pub lists : HasLists (lane_count config) hands
-  pub told : AllTold (FitsJob g.holds) done hands
-  pub none : NoneElse (length peers) done
+  pub lists : HasLists (channel_count config) hands
+  pub told : AllTold (FitsJob g.holds) finished hands
+  pub none : NoneElse (length peers) finished
   pub served : (end peer : ℕ) (jobs : List (List Handed)) (answers : List (KeptJob J g))
       → slice_get peers end ≡ Some peer → slice_get hands end ≡ Some jobs
       → slice_get kept end ≡ Some answers → HasServed config end peer jobs answers
-  pub accepted : accepted_in counted ≡ kept_by_all is_kept done
+  pub accepted : accepted_in counted ≡ kept_by_all is_kept finished
   pub posted : posts_in (posted_in counted) ≡ accepted_in counted
-  pub strays : strays_of counted ≡ strays_in kept done
-  pub doubles : doubles_of counted ≡ doubles_in done
+  pub mismatched_receipts : mismatched_receipts_of counted ≡ mismatched_receipts_in kept finished
+  pub ids_stored_again : ids_stored_again_of counted ≡ ids_stored_again_in finished
 
 -- the numbers of the totals are those that were counted
 pub record CountsOf (totals : Totals) (counted : Counted) : Type 0 where
   pub accepted : totals.accepted ≡ accepted_in counted
   pub posted : totals.posted ≡ posts_in (posted_in counted)
-  pub strays : totals.strays ≡ strays_of counted
-  pub doubles : totals.doubles ≡ doubles_of counted
+  pub mismatched_receipts : totals.mismatched_receipts ≡ mismatched_receipts_of counted
+  pub ids_stored_again : totals.ids_stored_again ≡ ids_stored_again_of counted

@@ -5,12 +5,12 @@ use Rattle.block_shelf.specs.declared.starting.StopFault.{StopFault}
 use Rattle.block_shelf.specs.declared.starting.StopFault.TheVariants as reasons
 use Rattle.relay_conf.specs.declared.cycbuff.BufferConf.{BufferConf}
 use Rattle.relay_conf.specs.declared.settings.Buffers.{Buffers}
-use Rattle.serve_terms.specs.declared.fault.ServeError.{ServeError}
-use Rattle.serve_terms.specs.declared.fault.ServeError.TheVariants as faults
-use Rattle.serve_terms.specs.declared.keeping.BufferFault.{BufferFault}
-use Rattle.serve_terms.specs.declared.keeping.BufferFault.TheVariants.{Device, NoHead, Unclosed}
-use Rattle.serve_terms.specs.declared.keeping.BufferFault.TheVariants.{Damaged, Mixed}
-use Rattle.serve_terms.specs.declared.keeping.StartFault.TheVariants as starts
+use Rattle.relay_report.specs.declared.fault.ServeError.{ServeError}
+use Rattle.relay_report.specs.declared.fault.ServeError.TheVariants as faults
+use Rattle.relay_report.specs.declared.keeping.BufferFault.{BufferFault}
+use Rattle.relay_report.specs.declared.keeping.BufferFault.TheVariants.{Device, NoHead, Unclosed}
+use Rattle.relay_report.specs.declared.keeping.BufferFault.TheVariants.{Damaged, Mixed}
+use Rattle.relay_report.specs.declared.keeping.StartFault.TheVariants as starts
 
 -- this buffer has this fault, by its name, or there was no memory to say so
 abbrev pub IsFaultOfBuffer : Option BufferConf → BufferFault → ServeError → Type 0

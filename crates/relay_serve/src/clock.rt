@@ -9,8 +9,8 @@ use std::time;
 /// The last moment that the relay knows (docs/PROTOCOL.md, Limits).
 const LAST_MOMENT: u64 = 253_370_764_799;
 
-/// The clock of the machine, within the limits of the relay's moments. Where it can't be asked it is
-/// the first moment, by which no article's date is due.
+/// The clock of the machine, within the limits of the relay's moments. Where it can't be asked it
+/// is the first moment, by which no article's date is due.
 #[derive(Drop)]
 pub struct MachineClock<'a, R> {
     rt: &'a R,

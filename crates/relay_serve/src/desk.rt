@@ -1,8 +1,8 @@
 //! Whoever is asked while a relay is served.
-use crate::beside::{Beside, Figured};
 use crate::gate::CountingGate;
-use peer_ports::Stop;
-use relay_control::{Control, Teller, Word};
+use crate::side_thread::{Figured, SideThread};
+use live_wire::Stop;
+use relay_folder::{Control, Teller, Word};
 use relay_report::text_of;
 use std::alloc::{AllocError, Global};
 use std::fs::Files;
@@ -46,7 +46,8 @@ impl<'a> Desk<'a> {
         }
     }
 
-    /// Has the relay stop. Who asked for it is never let go: he hears the end when the program ends.
+    /// Has the relay stop. Who asked for it is never let go: he hears the end when the program
+    /// ends.
     fn stop<R: Eprint>(&self, rt: &R, teller: Teller) {
         if !self.stop.is_asked() {
             self.stop.ask();
@@ -93,7 +94,7 @@ impl<'a> Desk<'a> {
     }
 }
 
-impl<R: Wait + Clock + Eprint> Beside<R> for Desk<'_> {
+impl<R: Wait + Clock + Eprint> SideThread<R> for Desk<'_> {
     fn attend<F: Figured<R>>(&self, rt: &R, relay: &F) {
         let mut last_round = second_of(rt);
         for _ in rt.forever() {

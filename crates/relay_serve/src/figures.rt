@@ -2,9 +2,10 @@
 //! while they run.
 ghost use Rattle.std.specs.Prelude.{◌≡◌, ◌+◌, ◌≤◌, ◌<◌, IfOk, map, length, slice_get};
 ghost use Rattle.std.specs.Option.{ForSome};
-ghost use Rattle.live_settle.specs.Desks.{posts_in};
-ghost use Rattle.relay_core.specs.Figures.{feed_figures_view, name_of};
-ghost use Rattle.relay_live.specs.Counts.{accepted_in, posted_in, strays_of, doubles_of};
+ghost use Rattle.live_jobs.specs.Desks.{posts_in};
+ghost use Rattle.relay_report.specs.Figures.{feed_figures_view, name_of};
+ghost use Rattle.relay_live.specs.Counts.{accepted_in, posted_in, mismatched_receipts_of};
+ghost use Rattle.relay_live.specs.Counts.{ids_stored_again_of};
 ghost use Rattle.relay_live.specs.Making.{buffers_in};
 ghost use Rattle.relay_serve.specs.Figures.{HasNames, figures_by};
 
@@ -12,17 +13,16 @@ use block_shelf::BufferFigures;
 use cyc_block::BlockStore;
 use feed_queue::Counts;
 use line_words::Octets;
-use live_store::Archive;
+use live_store::StorePremises;
 use relay_conf::{Config, Feed, Peer};
-use relay_core::{FeedFigures, Figures, NamedBuffer, NamedFeed};
 use relay_live::{Counted, Shared};
-use relay_report::Totals;
+use relay_report::{FeedFigures, Figures, NamedBuffer, NamedFeed, Totals};
 use std::alloc::{AllocError, Global};
 use std::sync::Wait;
 use std::sync::ledger::Ledger;
 
 /// What was counted of a run, with the figures of what its threads share.
-pub(crate) fn totals_of<S: BlockStore + Drop, J: Archive, L: Ledger, R: Wait>(
+pub(crate) fn totals_of<S: BlockStore + Drop, J: StorePremises, L: Ledger, R: Wait>(
     rt: &R,
     alloc: Global,
     config: &Config,
@@ -33,20 +33,22 @@ pub(crate) fn totals_of<S: BlockStore + Drop, J: Archive, L: Ledger, R: Wait>(
     ensures names { IfOk result (λ totals. HasNames config.now totals.figures) }
     ensures accepted { IfOk result (λ totals. totals.accepted ≡ accepted_in counted.now) }
     ensures posted { IfOk result (λ totals. totals.posted ≡ posts_in (posted_in counted.now)) }
-    ensures strays { IfOk result (λ totals. totals.strays ≡ strays_of counted.now) }
-    ensures doubles { IfOk result (λ totals. totals.doubles ≡ doubles_of counted.now) }
+    ensures mismatched_receipts { IfOk result (λ totals.
+        totals.mismatched_receipts ≡ mismatched_receipts_of counted.now) }
+    ensures ids_stored_again { IfOk result (λ totals.
+        totals.ids_stored_again ≡ ids_stored_again_of counted.now) }
 {
     Ok(Totals {
         figures: figures_of(rt, alloc, config, shared)?,
         accepted: counted.accepted(),
         posted: counted.posted().count(),
-        strays: counted.strays(),
-        doubles: counted.doubles(),
+        mismatched_receipts: counted.mismatched_receipts(),
+        ids_stored_again: counted.ids_stored_again(),
     })
 }
 
 /// The figures of what the threads of a relay share: each lock is taken once, one after the other.
-pub(crate) fn figures_of<S: BlockStore + Drop, J: Archive, L: Ledger, R: Wait>(
+pub(crate) fn figures_of<S: BlockStore + Drop, J: StorePremises, L: Ledger, R: Wait>(
     rt: &R,
     alloc: Global,
     config: &Config,
@@ -65,7 +67,7 @@ pub(crate) fn figures_of<S: BlockStore + Drop, J: Archive, L: Ledger, R: Wait>(
 }
 
 /// Each buffer with its figures.
-fn buffers_of<S: BlockStore + Drop, J: Archive, L: Ledger, R: Wait>(
+fn buffers_of<S: BlockStore + Drop, J: StorePremises, L: Ledger, R: Wait>(
     rt: &R,
     alloc: Global,
     config: &Config,
@@ -86,7 +88,7 @@ fn buffers_of<S: BlockStore + Drop, J: Archive, L: Ledger, R: Wait>(
 }
 
 /// The figures of the buffer of this number.
-fn figures_at<S: BlockStore + Drop, J: Archive, L: Ledger, R: Wait>(
+fn figures_at<S: BlockStore + Drop, J: StorePremises, L: Ledger, R: Wait>(
     rt: &R,
     shared: &Shared<S, J, L>,
     number: usize,
@@ -100,7 +102,7 @@ fn figures_at<S: BlockStore + Drop, J: Archive, L: Ledger, R: Wait>(
 }
 
 /// Each feed with its figures.
-fn feeds_of<S: BlockStore + Drop, J: Archive, L: Ledger, R: Wait>(
+fn feeds_of<S: BlockStore + Drop, J: StorePremises, L: Ledger, R: Wait>(
     rt: &R,
     alloc: Global,
     config: &Config,

@@ -3,24 +3,24 @@ ghost use Rattle.std.specs.Prelude.{◌≡◌, length, map, All, Any, IfErr, IfN
 ghost use Rattle.file_blocks.specs.Store.{count_of as blocks_counted};
 ghost use Rattle.relay_serve.specs.Files.{HasReason, IsFaultAt, IsFaultOf, IsFileFault};
 ghost use Rattle.relay_serve.specs.Files.{SharesFile};
+ghost use Rattle.relay_report.specs.declared.fault.ServeError.TheVariants as faults;
 ghost use Rattle.run_blocks.specs.Store.{count_of};
-ghost use Rattle.serve_terms.specs.declared.fault.ServeError.TheVariants as faults;
 
 use crate::reasons::reason_of;
 use file_blocks::{FileBlocks, HeldFile, Unusable};
 use relay_conf::{BufferConf, Buffers};
+use relay_report::{LostFile, Reason, ServeError};
 use run_blocks::RunBlocks;
-use serve_terms::{LostFile, Reason, ServeError};
 use std::alloc::{AllocError, Global};
 use std::fs::{File, Files};
 use std::os::unix::fs::MetadataExt;
 use std::path::Path;
 use std::{fs, str};
 
-/// The file of each buffer, held, in the order of the buffers. A file whose path is relative lies in
-/// the folder. Nothing is read of them or written to them. The error is want of memory, or the first
-/// file that can't be had, as one that another holds, or one that is the file of an earlier buffer,
-/// whatever its name.
+/// The file of each buffer, held, in the order of the buffers. A file whose path is relative lies
+/// in the folder. Nothing is read of them or written to them. The error is want of memory, or the
+/// first file that can't be had, as one that another holds, or one that is the file of an earlier
+/// buffer, whatever its name.
 pub fn hold_files<R: Files<File = File>>(
     rt: &R,
     alloc: Global,

@@ -1,13 +1,13 @@
 //! The history of a relay is read and kept (docs/FORMATS.md, History file).
 ghost use Rattle.std.specs.Prelude.{◌≡◌, Some, IfErr, IfOk, OnErr, OnOk};
-ghost use Rattle.history_file.specs.Origin.{begins_from, origin_view};
+ghost use Rattle.relay_folder.specs.Origin.{begins_from, origin_view};
 ghost use Rattle.relay_serve.specs.History.{IsOriginFault, kept_by};
 ghost use Rattle.relay_serve.specs.Running.{IsStopFault};
-ghost use Rattle.serve_terms.specs.declared.fault.ServeError.TheVariants as faults;
-ghost use Rattle.serve_terms.specs.declared.keeping.StopFault.TheVariants as stops;
+ghost use Rattle.relay_report.specs.declared.fault.ServeError.TheVariants as faults;
+ghost use Rattle.relay_report.specs.declared.keeping.StopFault.TheVariants as stops;
 
-use history_file::{HistoryPlace, Origin, keep, origin_of};
-use serve_terms::{ServeError, StartFault, StopFault};
+use relay_folder::{HistoryPlace, Origin, keep, origin_of};
+use relay_report::{ServeError, StartFault, StopFault};
 use std::alloc::Global;
 use std::io::ErrorKind;
 

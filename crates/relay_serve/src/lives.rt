@@ -8,11 +8,11 @@ ghost use Rattle.relay_serve.specs.Running.{IsRelayFault, IsStopFault};
 use crate::running::unbegun;
 use crate::starting::refusal;
 use cyc_block::BlockStore;
-use live_store::{Archive, Register};
+use live_store::{ArticleLog, StorePremises};
 use relay_conf::Config;
 use relay_core::{NotStarted, Stopped};
 use relay_live::{Shared, Unshut};
-use serve_terms::{ServeError, StopFault};
+use relay_report::{ServeError, StopFault};
 use std::alloc::Global;
 use std::random::RandomSource;
 use std::sync::Wait;
@@ -20,11 +20,16 @@ use std::sync::ledger::{Book, Ledger};
 
 /// What so many ends share over the stores of a relay that was stopped, with this history. Until it
 /// is known that it starts nothing is written.
-pub(crate) fn start_shared<S: BlockStore + Drop, J: Archive, L: Ledger, R: RandomSource + Wait>(
+pub(crate) fn start_shared<
+    S: BlockStore + Drop,
+    J: StorePremises,
+    L: Ledger,
+    R: RandomSource + Wait,
+>(
     rt: &R,
     alloc: Global,
     config: &Config,
-    register: &Register,
+    register: &ArticleLog,
     stores: Vec<S>,
     history: &[u8],
     book: Book<L>,
@@ -62,7 +67,7 @@ fn unstarted<S: Drop>(alloc: Global, config: &Config, refused: NotStarted<S>) ->
 }
 
 /// Stops a relay whose threads have ended.
-pub(crate) fn shut_shared<S: BlockStore + Drop, J: Archive, L: Ledger>(
+pub(crate) fn shut_shared<S: BlockStore + Drop, J: StorePremises, L: Ledger>(
     alloc: Global,
     shared: Shared<S, J, L>,
 ) -> Result<Stopped<S>, ServeError>
@@ -77,7 +82,9 @@ pub(crate) fn shut_shared<S: BlockStore + Drop, J: Archive, L: Ledger>(
 }
 
 /// Why a relay isn't stopped so that it can start again.
-fn unstopped<S: BlockStore + Drop, J: Archive, L: Ledger>(refused: Unshut<S, J, L>) -> ServeError
+fn unstopped<S: BlockStore + Drop, J: StorePremises, L: Ledger>(
+    refused: Unshut<S, J, L>,
+) -> ServeError
     ensures error { result ≡ stopped_as refused }
     ensures fault { IsStopFault result }
 {

@@ -3,7 +3,7 @@ ghost use Rattle.std.specs.Prelude.{◌≡◌};
 ghost use Rattle.relay_serve.specs.Reasons as terms;
 
 use file_blocks::Unusable;
-use serve_terms::Reason;
+use relay_report::Reason;
 use std::io::ErrorKind;
 
 /// Why a file can't be used; none where memory was refused.

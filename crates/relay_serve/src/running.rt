@@ -1,30 +1,29 @@
-//! A relay runs in threads, over stores and doors that are given.
+//! A relay runs in threads, over stores and peer sources that are given.
 ghost use Rattle.std.specs.Prelude.{◌≡◌, ◌<◌, ◌^◌, true, All, List, IfErr, IfOk, length, map};
 ghost use Rattle.block_shelf.specs.Filling.{IsBeginRefusal};
-ghost use Rattle.live_settle.specs.Desks.{posts_in};
+ghost use Rattle.live_jobs.specs.Desks.{posts_in};
 ghost use Rattle.relay_live.specs.Counts.{accepted_in, posted_in};
 ghost use Rattle.relay_live.specs.Holding.{has_buffer};
 ghost use Rattle.relay_live.specs.Making.{buffers_in, ends_in, slots_of};
 ghost use Rattle.relay_serve.specs.Lives.{AreOfOrigin, IsNoStart, StartsAsTold};
 ghost use Rattle.relay_serve.specs.Running.{CountsOf, IsRelayFault, IsRunFault, Ran, ended_as};
-ghost use Rattle.relay_serve.specs.Running.{lane_count, unbegun_as};
-ghost use Rattle.serve_terms.specs.Serve.{AreOf};
+ghost use Rattle.relay_serve.specs.Running.{channel_count, unbegun_as};
+ghost use Rattle.relay_report.specs.Serve.{AreOf};
 
-use crate::beside::{Beside, Figured, Served, start_beside};
 use crate::figures::totals_of;
 use crate::files::unformatted;
 use crate::lives::{shut_shared, start_shared};
+use crate::side_thread::{Figured, Served, SideThread, start_side_thread};
 use block_shelf::BeginError;
 use cyc_block::BlockStore;
-use history_file::Origin;
 use live_session::{Clock, Gate};
-use live_store::{Archive, Register};
+use live_store::{ArticleLog, StorePremises};
 use live_wire::Connections;
 use relay_conf::Config;
 use relay_core::Stopped;
-use relay_live::{Counted, Door, Keeper, Lends, LiveError, Shared, serve_all};
-use relay_report::Totals;
-use serve_terms::ServeError;
+use relay_folder::Origin;
+use relay_live::{Counted, Keeper, LiveError, PeerSource, RegisterRef, Shared, serve_all};
+use relay_report::{ServeError, Totals};
 use std::alloc::{AllocError, Global};
 use std::hash::RandomState;
 use std::io::ErrorKind;
@@ -46,35 +45,35 @@ pub struct Finished<S> {
 }
 
 /// Runs a relay of this configuration over these stores, the i-th for buffer i: an end behind each
-/// door, each end and each group's writer in a thread of its own, until all have ended, and beside
-/// them what goes on, whose thread is had before any other. It begins from nothing, each buffer being
-/// formatted, or from what it was stopped with. Then it is stopped. What comes back is what the run
-/// itself counted, and the totals, with the same numbers, or that there was no memory for these, and
-/// what it was stopped with. The error is that it can't start, or not be stopped, or want of memory,
-/// of random numbers, or of a thread, or the file of a buffer whose device failed when it was
-/// formatted; what was served before stands, and nothing is counted.
+/// peer source, each end and each group's writer in a thread of its own, until all have ended, and
+/// beside them what goes on, whose thread is had before any other. It begins from nothing, each
+/// buffer being formatted, or from what it was stopped with. Then it is stopped. What comes back is
+/// what the run itself counted, and the totals, with the same numbers, or that there was no memory
+/// for these, and what it was stopped with. The error is that it can't start, or not be stopped, or
+/// want of memory, of random numbers, or of a thread, or the file of a buffer whose device failed
+/// when it was formatted; what was served before stands, and nothing is counted.
 #[tactic(auto, using(crate::proofs::Starts::run_ends))]
 pub fn run_relay<
     X: Connections<R> + Drop + Send,
     S: BlockStore + Drop + Send,
-    J: Archive + Send + Sync,
+    J: StorePremises + Send + Sync,
     L: Ledger + Send + Sync,
     C: Clock + Sync,
     G: Gate<R> + Sync,
-    B: Beside<R> + Sync,
+    B: SideThread<R> + Sync,
     R: Threads + Wait + RandomSource + Sync,
 >(
     rt: &R,
     alloc: Global,
     config: &Config,
-    register: &Register,
+    register: &ArticleLog,
     blank: Blank,
     stores: Vec<S>,
     origin: Origin,
-    doors: Vec<Door<X>>,
+    peer_sources: Vec<PeerSource<X>>,
     clock: &C,
     gate: &G,
-    beside: &B,
+    side: &B,
 ) -> Result<Finished<S>, ServeError>
 where
     <X as Connections<R>>::Reader: Drop + Send,
@@ -82,17 +81,17 @@ where
     requires register { register.now ≡ J.register }
     requires holds { J.holds ≡ has_buffer config.now.buffers }
     requires name { blank.name ≡ L.name }
-    requires parts { (blank.parts ≡ L.parts) × (blank.parts ≡ lane_count config.now) }
+    requires parts { (blank.parts ≡ L.parts) × (blank.parts ≡ channel_count config.now) }
     requires stores { map (λ store. length (S.blocks store)) stores.items
         ≡ map (λ buffer. buffer.blocks) config.now.buffers.buffers.items }
     requires honest { J.trusted ≡ true → All S.honest stores.items }
     requires stopped { J.trusted ≡ true
         → AreOfOrigin ⟦<S as BlockStore>⟧ origin stores.items }
-    requires few { length doors.items < 2 ^ 62 }
+    requires few { length peer_sources.items < 2 ^ 62 }
     ensures totals { IfOk result (λ run. IfOk run.totals (AreOf config.now)) }
     ensures counted { IfOk result (λ run. IfOk run.totals (λ totals. CountsOf totals run.counted)) }
-    ensures ran { IfOk result (λ run. Ran ⟦<J as Archive>⟧ config.now
-        (map (λ door. door.peer) doors.items) run.counted) }
+    ensures ran { IfOk result (λ run. Ran ⟦<J as StorePremises>⟧ config.now
+        (map (λ peer_source. peer_source.peer) peer_sources.items) run.counted) }
     ensures start { IfErr result
         (StartsAsTold ⟦<S as BlockStore>⟧ config.now stores.items origin) }
     ensures fault { IfErr result (IsRelayFault ⟦<S as BlockStore>⟧ config.now stores.items) }
@@ -108,12 +107,21 @@ where
         stores,
         origin,
         book,
-        doors.len(),
+        peer_sources.len(),
     )?;
     let keeper = Keeper::new(&shared, register, &config.buffers, clock);
     let served = Served::new(config, &shared, clock);
     let counted = attended(
-        rt, alloc, hasher, &keeper, config, gate, doors, all, beside, &served,
+        rt,
+        alloc,
+        hasher,
+        &keeper,
+        config,
+        gate,
+        peer_sources,
+        all,
+        side,
+        &served,
     )?;
     let totals = counted_totals(rt, alloc, config, &shared, &counted);
     let stopped = shut_shared(alloc, shared)?;
@@ -125,7 +133,7 @@ where
 }
 
 /// The totals of a run, as it was counted.
-fn counted_totals<S: BlockStore + Drop, J: Archive, L: Ledger, R: Wait>(
+fn counted_totals<S: BlockStore + Drop, J: StorePremises, L: Ledger, R: Wait>(
     rt: &R,
     alloc: Global,
     config: &Config,
@@ -142,11 +150,11 @@ fn counted_totals<S: BlockStore + Drop, J: Archive, L: Ledger, R: Wait>(
 }
 
 /// What so many ends share over these stores, from nothing or from what it was stopped with.
-fn begun_by<S: BlockStore + Drop, J: Archive, L: Ledger, R: RandomSource + Wait>(
+fn begun_by<S: BlockStore + Drop, J: StorePremises, L: Ledger, R: RandomSource + Wait>(
     rt: &R,
     alloc: Global,
     config: &Config,
-    register: &Register,
+    register: &ArticleLog,
     stores: Vec<S>,
     origin: Origin,
     book: Book<L>,
@@ -175,7 +183,7 @@ fn begun_by<S: BlockStore + Drop, J: Archive, L: Ledger, R: RandomSource + Wait>
 }
 
 /// What so many ends share over these stores, before anything has come.
-fn shared_by<S: BlockStore + Drop, J: Archive, L: Ledger, R: RandomSource>(
+fn shared_by<S: BlockStore + Drop, J: StorePremises, L: Ledger, R: RandomSource>(
     rt: &R,
     alloc: Global,
     config: &Config,
@@ -231,11 +239,11 @@ fn run_shared<
     'a,
     X: Connections<R> + Drop + Send,
     S: BlockStore + Drop + Send,
-    J: Archive + Send + Sync,
+    J: StorePremises + Send + Sync,
     L: Ledger + Send + Sync,
     C: Clock + Sync,
     G: Gate<R> + Sync,
-    Q: Lends + Sync,
+    Q: RegisterRef + Sync,
     R: Threads + Wait + Sync,
 >(
     rt: &R,
@@ -244,24 +252,34 @@ fn run_shared<
     keeper: &Keeper<'a, S, J, L, C, Q>,
     config: &'a Config,
     gate: &'a G,
-    doors: Vec<Door<X>>,
+    peer_sources: Vec<PeerSource<X>>,
     all: Share<L>,
 ) -> Result<Counted, ServeError>
 where
     <X as Connections<R>>::Reader: Drop + Send,
     <X as Connections<R>>::Writer: Drop + Send,
-    requires parts { (all.parts ≡ lane_count config.now) × (all.amount ≡ 0)
-        × (L.parts ≡ lane_count config.now) }
-    requires slots { slots_of keeper.now ≡ length doors.items }
-    requires few { length doors.items < 2 ^ 62 }
+    requires parts { (all.parts ≡ channel_count config.now) × (all.amount ≡ 0)
+        × (L.parts ≡ channel_count config.now) }
+    requires slots { slots_of keeper.now ≡ length peer_sources.items }
+    requires few { length peer_sources.items < 2 ^ 62 }
     ensures posted { IfOk result (λ counted.
         posts_in (posted_in counted) ≡ accepted_in counted) }
-    ensures ran { IfOk result (Ran ⟦<J as Archive>⟧ config.now
-        (map (λ door. door.peer) doors.items)) }
+    ensures ran { IfOk result (Ran ⟦<J as StorePremises>⟧ config.now
+        (map (λ peer_source. peer_source.peer) peer_sources.items)) }
     ensures fault { IfErr result IsRunFault }
 {
-    let groups = lanes_of(config);
-    match serve_all(rt, alloc, hasher, keeper, config, gate, groups, doors, all) {
+    let groups = channels_of(config);
+    match serve_all(
+        rt,
+        alloc,
+        hasher,
+        keeper,
+        config,
+        gate,
+        groups,
+        peer_sources,
+        all,
+    ) {
         Ok((_seats, counted)) => Ok(counted),
         Err(error) => Err(ended(error)),
     }
@@ -273,12 +291,12 @@ fn attended<
     'a,
     X: Connections<R> + Drop + Send,
     S: BlockStore + Drop + Send,
-    J: Archive + Send + Sync,
+    J: StorePremises + Send + Sync,
     L: Ledger + Send + Sync,
     C: Clock + Sync,
     G: Gate<R> + Sync,
-    Q: Lends + Sync,
-    B: Beside<R> + Sync,
+    Q: RegisterRef + Sync,
+    B: SideThread<R> + Sync,
     F: Figured<R> + Sync,
     R: Threads + Wait + Sync,
 >(
@@ -288,39 +306,39 @@ fn attended<
     keeper: &Keeper<'a, S, J, L, C, Q>,
     config: &'a Config,
     gate: &'a G,
-    doors: Vec<Door<X>>,
+    peer_sources: Vec<PeerSource<X>>,
     all: Share<L>,
-    beside: &B,
+    side: &B,
     served: &F,
 ) -> Result<Counted, ServeError>
 where
     <X as Connections<R>>::Reader: Drop + Send,
     <X as Connections<R>>::Writer: Drop + Send,
-    requires parts { (all.parts ≡ lane_count config.now) × (all.amount ≡ 0)
-        × (L.parts ≡ lane_count config.now) }
-    requires slots { slots_of keeper.now ≡ length doors.items }
-    requires few { length doors.items < 2 ^ 62 }
-    ensures ran { IfOk result (Ran ⟦<J as Archive>⟧ config.now
-        (map (λ door. door.peer) doors.items)) }
+    requires parts { (all.parts ≡ channel_count config.now) × (all.amount ≡ 0)
+        × (L.parts ≡ channel_count config.now) }
+    requires slots { slots_of keeper.now ≡ length peer_sources.items }
+    requires few { length peer_sources.items < 2 ^ 62 }
+    ensures ran { IfOk result (Ran ⟦<J as StorePremises>⟧ config.now
+        (map (λ peer_source. peer_source.peer) peer_sources.items)) }
     ensures fault { IfErr result IsRunFault }
 {
     thread::scope(
         thread::scope_env(),
         rt,
         move |scope| -> Result<Counted, ServeError>
-            requires parts { (all.parts ≡ lane_count config.now) × (all.amount ≡ 0)
-                × (L.parts ≡ lane_count config.now) }
-            requires slots { slots_of keeper.now ≡ length doors.items }
-            requires few { length doors.items < 2 ^ 62 }
-            ensures ran { IfOk result (Ran J.Archive config.entry.now
-                (map (λ door. door.peer) doors.items)) }
+            requires parts { (all.parts ≡ channel_count config.now) × (all.amount ≡ 0)
+                × (L.parts ≡ channel_count config.now) }
+            requires slots { slots_of keeper.now ≡ length peer_sources.items }
+            requires few { length peer_sources.items < 2 ^ 62 }
+            ensures ran { IfOk result (Ran J.StorePremises config.entry.now
+                (map (λ peer_source. peer_source.peer) peer_sources.items)) }
             ensures fault { IfErr result IsRunFault }
         {
-            let Some(attending) = start_beside(scope, rt, beside, served) else {
+            let Some(attending) = start_side_thread(scope, rt, side, served) else {
                 return Err(ServeError::NoThread);
             };
-            let ran = run_shared(rt, alloc, hasher, keeper, config, gate, doors, all);
-            beside.ended();
+            let ran = run_shared(rt, alloc, hasher, keeper, config, gate, peer_sources, all);
+            side.ended();
             attending.join(rt);
             ran
         },
@@ -328,8 +346,8 @@ where
 }
 
 /// How many writers a relay has: one for each group, and one where there is no group.
-pub(crate) fn lanes_of(config: &Config) -> usize
-    ensures count { result ≡ lane_count config.now }
+pub(crate) fn channels_of(config: &Config) -> usize
+    ensures count { result ≡ channel_count config.now }
     ensures some { 0 < result }
 {
     let groups = config.buffers.groups.len();

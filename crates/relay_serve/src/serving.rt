@@ -1,8 +1,8 @@
 //! A relay is served on the ports of the machine, over its files.
 ghost use Rattle.std.specs.Prelude.{◌≡◌, ◌<◌, ◌^◌, IfErr, IfOk, length, map};
 ghost use Rattle.relay_serve.specs.Running.{IsServeFault, IsStopFault};
+ghost use Rattle.relay_report.specs.Serve.{AreOf, ServeGives};
 ghost use Rattle.run_blocks.specs.Store.{count_of};
-ghost use Rattle.serve_terms.specs.Serve.{AreOf, ServeGives};
 
 use crate::clock::MachineClock;
 use crate::desk::Desk;
@@ -10,19 +10,17 @@ use crate::files::{fit_files, hold_files};
 use crate::gate::CountingGate;
 use crate::history::{begun_from, keep_history};
 use crate::ports::open_ports;
-use crate::running::{lanes_of, run_relay};
+use crate::running::{channels_of, run_relay};
 use crate::streams::fill_streams;
 use crate::watched::{Watched, watch_all};
-use history_file::{HistoryPlace, HostHistory, Origin};
-use live_store::Register;
-use peer_ports::{Port, Stop};
+use live_store::ArticleLog;
+use live_wire::{Port, Stop};
 use relay_conf::Config;
-use relay_control::Control;
 use relay_core::Stopped;
-use relay_live::Door;
-use relay_report::Totals;
+use relay_folder::{Control, HistoryPlace, HostHistory, Origin};
+use relay_live::PeerSource;
+use relay_report::{ServeError, StopFault, Totals, print_totals};
 use run_blocks::RunBlocks;
-use serve_terms::{ServeError, StopFault, print_totals};
 use std::alloc::Global;
 use std::fs::{File, Files};
 use std::io::Write;
@@ -36,12 +34,12 @@ use std::time::Clock;
 
 /// Serves a relay of this configuration on the ports of the machine, over its files, until it is
 /// told to stop: the files are opened and locked first, in the order of the buffers, those whose
-/// path is relative in the folder, then the ports are had, in the order of the peers, then the files
-/// are made as long as they have to be, and last comes the socket in the folder by which it is asked.
-/// Then it begins: from nothing where that is asked for (`fresh`), or where neither a history nor a
-/// buffer was kept there, else from what it was stopped with. Once it was told to stop, or each port
-/// has served so many connections, it is stopped, its history is kept, and the report is written.
-/// What it does is told in lines on standard error.
+/// path is relative in the folder, then the ports are had, in the order of the peers, then the
+/// files are made as long as they have to be, and last comes the socket in the folder by which it
+/// is asked. Then it begins: from nothing where that is asked for (`fresh`), or where neither a
+/// history nor a buffer was kept there, else from what it was stopped with. Once it was told to
+/// stop, or each port has served so many connections, it is stopped, its history is kept, and the
+/// report is written. What it does is told in lines on standard error.
 pub fn serve_on<R, W: Write>(
     rt: &R,
     alloc: Global,
@@ -65,7 +63,7 @@ where
     fill_streams(rt);
     let files = hold_files(rt, alloc, &config.buffers, folder)?;
     let stop = Stop::new();
-    let doors = open_ports(rt, alloc, &config.relay, sessions, &stop)?;
+    let peer_sources = open_ports(rt, alloc, &config.relay, sessions, &stop)?;
     let (stores, blank) = fit_files(alloc, &config.buffers, files)?;
     let mut history = HostHistory::in_folder(rt, alloc, folder)?;
     let gate = CountingGate::new(alloc, &config.relay.peers)?;
@@ -73,7 +71,11 @@ where
         return Err(ServeError::Control);
     };
     let desk = Desk::new(alloc, &stop, &gate, control);
-    let _lost = eprintln!(rt; "serving ports={} buffers={}", doors.len(), stores.len());
+    let _lost = eprintln!(rt;
+        "serving ports={} buffers={}",
+        peer_sources.len(),
+        stores.len()
+    );
     let answer = begin_and_run(
         rt,
         alloc,
@@ -82,7 +84,7 @@ where
         fresh,
         blank,
         &mut history,
-        doors,
+        peer_sources,
         &gate,
         &desk,
         writer,
@@ -104,7 +106,7 @@ fn begin_and_run<'a, R, H: HistoryPlace, W: Write>(
     fresh: bool,
     blank: bool,
     history: &mut H,
-    doors: Vec<Door<Port<'a>>>,
+    peer_sources: Vec<PeerSource<Port<'a>>>,
     gate: &CountingGate<'_>,
     desk: &Desk<'_>,
     writer: &mut W,
@@ -113,13 +115,22 @@ where
     R: Threads + Wait + Clock + Eprint + RandomSource + Sync,
     requires stores { map count_of stores.items
         ≡ map (λ buffer. buffer.blocks) config.now.buffers.buffers.items }
-    requires few { length doors.items < 2 ^ 62 }
+    requires few { length peer_sources.items < 2 ^ 62 }
     ensures { ServeGives config.now result (W.contents writer.old) (W.contents writer.new) }
 {
     let origin = begun_from(alloc, history, fresh, blank)?;
     tell_start(rt, &origin);
     run_and_print(
-        rt, alloc, config, stores, origin, history, doors, gate, desk, writer,
+        rt,
+        alloc,
+        config,
+        stores,
+        origin,
+        history,
+        peer_sources,
+        gate,
+        desk,
+        writer,
     )
 }
 
@@ -138,7 +149,7 @@ fn run_and_print<'a, R, H: HistoryPlace, W: Write>(
     stores: Vec<RunBlocks>,
     origin: Origin,
     history: &mut H,
-    doors: Vec<Door<Port<'a>>>,
+    peer_sources: Vec<PeerSource<Port<'a>>>,
     gate: &CountingGate<'_>,
     desk: &Desk<'_>,
     writer: &mut W,
@@ -147,11 +158,19 @@ where
     R: Threads + Wait + Clock + Eprint + RandomSource + Sync,
     requires stores { map count_of stores.items
         ≡ map (λ buffer. buffer.blocks) config.now.buffers.buffers.items }
-    requires few { length doors.items < 2 ^ 62 }
+    requires few { length peer_sources.items < 2 ^ 62 }
     ensures { ServeGives config.now result (W.contents writer.old) (W.contents writer.new) }
 {
     let totals = run_on(
-        rt, alloc, config, stores, origin, history, doors, gate, desk,
+        rt,
+        alloc,
+        config,
+        stores,
+        origin,
+        history,
+        peer_sources,
+        gate,
+        desk,
     )?;
     print_totals(alloc, &totals, writer)
 }
@@ -168,7 +187,7 @@ fn run_on<'a, R, H: HistoryPlace>(
     stores: Vec<RunBlocks>,
     origin: Origin,
     history: &mut H,
-    doors: Vec<Door<Port<'a>>>,
+    peer_sources: Vec<PeerSource<Port<'a>>>,
     gate: &CountingGate<'_>,
     desk: &Desk<'_>,
 ) -> Result<Totals, ServeError>
@@ -176,13 +195,13 @@ where
     R: Threads + Wait + Clock + Eprint + RandomSource + Sync,
     requires stores { map count_of stores.items
         ≡ map (λ buffer. buffer.blocks) config.now.buffers.buffers.items }
-    requires few { length doors.items < 2 ^ 62 }
+    requires few { length peer_sources.items < 2 ^ 62 }
     ensures totals { IfOk result (AreOf config.now) }
     ensures fault { IfErr result (IsServeFault config.now) }
 {
-    let register = Register::new(alloc)?;
+    let register = ArticleLog::new(alloc)?;
     let clock = MachineClock::new(rt);
-    let blank = Blank::new(lanes_of(config) as u64);
+    let blank = Blank::new(channels_of(config) as u64);
     let stores = watch_all(rt, &config.buffers, stores)?;
     match run_relay::<
         Port<'a>,
@@ -194,7 +213,17 @@ where
         Desk<'_>,
         R,
     >(
-        rt, alloc, config, &register, blank, stores, origin, doors, &clock, gate, desk,
+        rt,
+        alloc,
+        config,
+        &register,
+        blank,
+        stores,
+        origin,
+        peer_sources,
+        &clock,
+        gate,
+        desk,
     ) {
         Ok(finished) => {
             keep_stopped(history, &finished.stopped)?;

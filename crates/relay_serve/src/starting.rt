@@ -6,7 +6,7 @@ ghost use Rattle.std.specs.Prelude.{Some};
 
 use block_shelf::StopFault;
 use relay_conf::{BufferConf, Buffers};
-use serve_terms::{BufferFault, ServeError, StartFault};
+use relay_report::{BufferFault, ServeError, StartFault};
 use std::alloc::Global;
 
 /// Why a relay can't start: the start was refused for this reason, the fault of the buffer of this

@@ -61,13 +61,13 @@ IsInMemory store k = Holds store.gathered k
 abbrev pub AreWritten : {F : Type 0} → (first last : ℕ) → RunBlocks F → Type 0
 AreWritten first last store = (j : ℕ) → first ≤ j → j ≤ last → ¬ IsInMemory store j
 
--- A write of block k, which has this index in its article, doesn't wait for what is set aside: block k
--- is the first of that, or none of the article's blocks up to it is in memory alone.
+-- A write of block k, which has this index in its article, doesn't wait for what is set aside:
+-- block k is the first of that, or none of the article's blocks up to it is in memory alone.
 abbrev pub PassesBy : {F : Type 0} → (k index : ℕ) → RunBlocks F → Type 0
 PassesBy k index store = (k ≡ store.gathered.first) ⊎ AreWritten (k - index) k store
 
--- What a write of block k leaves of blocks that were set aside: no others are gathered, and they stay
--- so but for block k, or all of them are written.
+-- What a write of block k leaves of blocks that were set aside: no others are gathered, and they
+-- stay so but for block k, or all of them are written.
 pub record KeepsAside {F : Type 0} (k : ℕ) (old new : RunBlocks F) : Type 0 where
   pub no_more : (j : ℕ) → IsInMemory new j → IsInMemory old j
   pub rest : IsSetAside new → (j : ℕ) → j ≢ k → IsInMemory old j → IsInMemory new j
@@ -78,8 +78,8 @@ pub record StaysAside {F : Type 0} (old new : RunBlocks F) : Type 0 where
   pub run : new.gathered ≡ old.gathered
   pub aside : IsSetAside new
 
--- What a write of block k leaves of an honest store: block k holds these octets where it answers Ok,
--- no other block and no head block holds other octets than before, and it stays honest.
+-- What a write of block k leaves of an honest store: block k holds these octets where it answers
+-- Ok, no other block and no head block holds other octets than before, and it stays honest.
 pub record WritesBlock {F A E : Type 0} (g : Ghosts F) (k : ℕ) (octets : List ℕ)
     (old new : RunBlocks F) (result : Result A E) : Type 0 where
   pub written : IsHonest g old

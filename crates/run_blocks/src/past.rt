@@ -38,9 +38,9 @@ impl<F: RunFile> RunBlocks<F> {
         self.write_alone(k, octets)
     }
 
-    /// Has block k, and as many before it as its index in its article says, no longer in memory alone.
-    /// Where block k is the first of what is set aside it is dropped, since other octets are to be
-    /// written in its place; where any other of these is among it, all is written first.
+    /// Has block k, and as many before it as its index in its article says, no longer in memory
+    /// alone. Where block k is the first of what is set aside it is dropped, since other octets are
+    /// to be written in its place; where any other of these is among it, all is written first.
     pub(crate) fn let_go(&mut self, k: u32, index: u32) -> Result<(), DeviceFailed>
         requires aside { IsSetAside self.old }
         ensures others { IsHonest F.RunFile self.old → ChangesOnly k

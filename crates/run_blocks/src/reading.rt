@@ -37,8 +37,8 @@ impl<F: RunFile> RunBlocks<F> {
         Ok(())
     }
 
-    /// How many blocks are read at once from block k on: where it is the one that is expected, those
-    /// of its article, or as many as were read in order before it, where these are more.
+    /// How many blocks are read at once from block k on: where it is the one that is expected,
+    /// those of its article, or as many as were read in order before it, where these are more.
     pub(crate) fn at_once(&self, k: u32) -> u32
         requires { k < self.now.count }
         ensures some { 0 < result }
@@ -87,8 +87,8 @@ impl<F: RunFile> RunBlocks<F> {
         self.left = octets_left(octets).div_ceil(CHUNK_OCTETS as u64) as u32;
     }
 
-    /// How many reads in a row were of the block that was expected, that of block k among them, since
-    /// the last block of an article was passed.
+    /// How many reads in a row were of the block that was expected, that of block k among them,
+    /// since the last block of an article was passed.
     pub(crate) fn read_in_order(&self, k: u32) -> u32 {
         if self.expected != k || (self.left > 0 && self.in_order == 0) {
             return 0;

@@ -13,8 +13,8 @@ use std::alloc::{AllocError, Global};
 
 /// The first blocks of a file: block k has the 512 octets from 512 k on. Its head blocks follow
 /// them. What is written is gathered in a run of blocks that follow each other, and the run is
-/// written in one call. A run that couldn't be written is set aside: each block is written by itself
-/// then, until the run was written or its blocks were.
+/// written in one call. A run that couldn't be written is set aside: each block is written by
+/// itself then, until the run was written or its blocks were.
 #[derive(Drop)]
 pub struct RunBlocks<F = HostFile> {
     pub(crate) file: F,
@@ -28,7 +28,8 @@ pub struct RunBlocks<F = HostFile> {
     pub(crate) set_aside: bool,
     /// What was read at once, as it is in the file.
     pub(crate) ahead: Run,
-    /// The block that is expected to be read next; the highest number, which no block has, at first.
+    /// The block that is expected to be read next; the highest number, which no block has, at
+    /// first.
     pub(crate) expected: u32,
     /// How many blocks of its article are there from that on, as the block before it says.
     pub(crate) left: u32,
@@ -70,8 +71,8 @@ impl<F: RunFile> RunBlocks<F> {
         })
     }
 
-    /// Writes what is gathered, set aside or not, in one call of the file. After a failure it is as it
-    /// was, and is set aside: it is read out of memory.
+    /// Writes what is gathered, set aside or not, in one call of the file. After a failure it is as
+    /// it was, and is set aside: it is read out of memory.
     pub fn flush(&mut self) -> Result<(), DeviceFailed>
         ensures seen { KeepsBlocks F.RunFile self.old self.new }
         ensures written { OnOk result (gathered_of self.new ≡ []) }
@@ -89,7 +90,8 @@ impl<F: RunFile> BlockStore for RunBlocks<F> {
     ghost use Rattle.news_terms.specs.BlockImage.{chunk_size};
     ghost use Rattle.run_blocks.specs.Store.{asked_of, gathered_of, blocks_there, blocks_seen};
     ghost use Rattle.run_blocks.specs.Store.{heads_seen, IsHonest, AsksFile, IsInMemory};
-    ghost use Rattle.run_blocks.specs.Store.{IsSetAside, AreWritten, PassesBy, KeepsAside, StaysAside};
+    ghost use Rattle.run_blocks.specs.Store.{IsSetAside, AreWritten, PassesBy, KeepsAside};
+    ghost use Rattle.run_blocks.specs.Store.{StaysAside};
 
     ghost blocks = { λ store. blocks_seen F.RunFile store };
 
@@ -158,8 +160,8 @@ impl<F: RunFile> BlockStore for RunBlocks<F> {
         ensures article { (b : Block) → IsBlock b → octets.now ≡ image_of b
             → b.article_length ≤ chunk_size * (b.index + 1)
             → OnOk result (AreWritten (k - b.index) k self.new) }
-        // Where something is set aside the block goes into the file at once, and nothing is gathered
-        // beside what is set aside, which loses block k alone, unless it is written.
+        // Where something is set aside the block goes into the file at once, and nothing is
+        // gathered beside what is set aside, which loses block k alone, unless it is written.
         ensures there { IsSetAside self.old → IsHonest F.RunFile self.old
             → OnOk result (block_at (blocks_there F.RunFile self.new) k ≡ octets.now) }
         ensures rest { IsSetAside self.old → KeepsAside k self.old self.new }

@@ -4,11 +4,11 @@ use Rattle.std.proofs.lemmas.List.{length-map}
 use Rattle.std.proofs.lemmas.List.Elements.{All-from_recursion}
 use Rattle.std.specs.List.{AllByRecursion}
 use Rattle.cyc_token.specs.Token.{token_view}
-use Rattle.history_text.specs.History.{Fits, FeedFits}
-use Rattle.history_text.specs.Room.{HasRoom}
-use Rattle.history_text.specs.Views.{feed_view, history_view}
-use Rattle.history_text.specs.declared.kept.History.{History}
-use Rattle.history_text.specs.declared.kept.KeptFeed.{KeptFeed}
+use Rattle.id_history.specs.History.{Fits, FeedFits}
+use Rattle.id_history.specs.Room.{HasRoom}
+use Rattle.id_history.specs.Views.{feed_view, history_view}
+use Rattle.id_history.specs.declared.kept.History.{History}
+use Rattle.id_history.specs.declared.kept.KeptFeed.{KeptFeed}
 
 -- so do the tokens that wait in each feed's ring
 waiting_fits : (feeds : List KeptFeed) → AllByRecursion FeedFits (map feed_view feeds)

@@ -77,7 +77,8 @@ impl Bench {
         }
     }
 
-    /// From here the call of the device of this number fails; but for a buffer whose head isn't open.
+    /// From here the call of the device of this number fails; but for a buffer whose head isn't
+    /// open.
     pub fn arm(&mut self, number: u64) {
         match self {
             Bench::Nothing | Bench::Unopened(_) => {}

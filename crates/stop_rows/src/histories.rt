@@ -5,7 +5,7 @@ use crate::calls::Text;
 use crate::octets::octets_by;
 use crate::runs::Runs;
 use cyc_token::Token;
-use history_text::{History, HistoryError, KeptFeed, KeptId, Setting, read, write};
+use id_history::{History, HistoryError, KeptFeed, KeptId, Setting, read, write};
 use row_text::Sheet;
 use std::alloc::Global;
 

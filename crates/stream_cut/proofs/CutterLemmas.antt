@@ -99,11 +99,13 @@ stream_of gone kept held room limit overlong = record {
 }
 
 -- a block that stands at the front is shown
-pub shows_block : (gone kept : List ℕ) (held room limit : ℕ) (overlong : Bool) (passed looked dots : ℕ)
+pub shows_block
+    : (gone kept : List ℕ) (held room limit : ℕ) (overlong : Bool) (passed looked dots : ℕ)
     → StandsWhole limit gone kept passed looked dots
     → ShowsBlock (stream_of gone kept held room limit overlong) passed dots
 shows_block gone kept held room limit overlong passed looked dots h =
-    subst (λ (g : List ℕ). ShowsBlock (stream_of g kept held room limit overlong) passed dots) (sym h.none)
+    subst (λ (g : List ℕ). ShowsBlock (stream_of g kept held room limit overlong) passed dots)
+    (sym h.none)
     (at h.seen (passed-bounds kept passed looked dots h.seen).0)
   where
     at : IsPassed kept passed looked dots → passed ≤ length kept
@@ -136,11 +138,13 @@ shows_oversize gone kept held room limit overlong count h = record {
 }
 
 -- octets go
-pub awaits_past : (gone kept : List ℕ) (held room limit : ℕ) (overlong : Bool) (count : ℕ) (end : Within)
+pub awaits_past
+    : (gone kept : List ℕ) (held room limit : ℕ) (overlong : Bool) (count : ℕ) (end : Within)
     (after left : List ℕ)
     → StandsPast limit gone kept count end → after ≡ gone ++ take count kept
     → left ≡ drop count kept
-    → AwaitsEnd (stream_of gone kept held room limit overlong) (stream_of after left held room limit overlong)
+    → AwaitsEnd (stream_of gone kept held room limit overlong)
+    (stream_of after left held room limit overlong)
 awaits_past gone kept held room limit overlong count end after left h is rest =
     let all : after ++ left ≡ gone ++ kept =
     ap (λ (x : List ℕ). x ++ left) is ∙ ap (λ (x : List ℕ). (gone ++ take count kept) ++ x) rest

@@ -1,9 +1,13 @@
 //! What a fetch found.
-use live_store::{Archive, Fetched};
+use live_store::{Fetched, StorePremises};
 use row_text::Sheet;
 
 /// Writes what a fetch found, and whether a text that was found is this one.
-pub(crate) fn put_fetched<J: Archive>(sheet: &mut Sheet, fetched: &Fetched<J>, octets: &[u8]) {
+pub(crate) fn put_fetched<J: StorePremises>(
+    sheet: &mut Sheet,
+    fetched: &Fetched<J>,
+    octets: &[u8],
+) {
     match fetched {
         Fetched::Whole(whole) => {
             sheet.numbered(b"record ", whole.number() as u64);

@@ -9,8 +9,7 @@ use job_queue::{
     writer_pass,
 };
 use nntp_text::MsgId;
-use row_text::Sheet;
-use sample_articles::{LEAST_OCTETS, sample_article};
+use row_text::{LEAST_OCTETS, Sheet, sample_article};
 use std::alloc::Global;
 use std::io;
 use std::sync::Wait;

@@ -1,11 +1,11 @@
-//! The calls of `article_parse`, `path_rules`, `overview_line` and `date_rules`.
+//! The calls of `article_parse`, `path_rules`, `article_fetch` and `date_rules`.
 
 use crate::texts::calls::Call;
 use crate::texts::lines::{put_made, put_some};
 use crate::texts::walks::{put_changes, put_fronts};
+use article_fetch::{LINE_ROOM, line, put_line};
 use article_parse::Article;
 use date_rules::judge;
-use overview_line::{LINE_ROOM, line, put_line};
 use path_rules::{identities, loops, updated};
 use row_text::Sheet;
 

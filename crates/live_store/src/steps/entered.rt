@@ -2,7 +2,7 @@
 ghost use Rattle.std.specs.Prelude.{◌≡◌};
 ghost use Rattle.live_store.specs.Tied.{named_in};
 
-use crate::record::Shown;
+use crate::record::RecordNumber;
 use cyc_token::Token;
 
 /// An article that was begun and has its record: its write is open. It can be neither copied nor
@@ -10,14 +10,14 @@ use cyc_token::Token;
 /// has for contracts alone.
 pub struct Entered {
     pub(super) token: Token,
-    pub(super) shown: Shown,
+    pub(super) shown: RecordNumber,
     // The token is the record's.
     ghost named: { named_in shown ≡ token },
 }
 
 impl Entered {
     /// The article of this record, whose write is open under the record's token.
-    pub(crate) fn new(token: Token, shown: Shown) -> Entered
+    pub(crate) fn new(token: Token, shown: RecordNumber) -> Entered
         requires { named_in shown ≡ token }
         ensures { result.shown ≡ shown }
     {
@@ -25,7 +25,7 @@ impl Entered {
     }
 
     /// Its record's number.
-    pub fn shown(&self) -> &Shown
+    pub fn shown(&self) -> &RecordNumber
         ensures { result.now ≡ self.now.shown }
     {
         &self.shown

@@ -1,10 +1,10 @@
 //! What is entered in the register, by a writer and by a start alone.
 ghost use Rattle.news_terms.specs.ArticleTexts.{IsArticle};
 
-use crate::record::{Register, Shown};
+use crate::buckets::Place;
+use crate::record::{ArticleLog, RecordNumber};
 use crate::steps::Entered;
 use cyc_token::Token;
-use live_register::Place;
 use std::alloc::AllocError;
 use std::mem::size_of;
 use std::snapshot::Snapshot;
@@ -66,7 +66,7 @@ impl Record {
     /// tries again: it answers with the record's number, or never.
     pub(super) fn enter<R: Wait>(
         rt: &R,
-        register: &Register,
+        register: &ArticleLog,
         begun: Begun,
         text: &Vec<u8>,
     ) -> Entered
@@ -95,10 +95,10 @@ impl Record {
     /// entered.
     pub(super) fn enter_again<R: Wait>(
         rt: &R,
-        register: &Register,
+        register: &ArticleLog,
         token: &Token,
         text: &Vec<u8>,
-    ) -> Result<Shown, AllocError>
+    ) -> Result<RecordNumber, AllocError>
         requires article { ∥ IsArticle text.now.items ∥₁ }
         ensures shown { IfOk result (Shows register.now) }
         ensures token { IfOk result (λ shown. named_in shown ≡ token.now) }

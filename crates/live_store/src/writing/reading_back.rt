@@ -15,7 +15,7 @@ ghost use Rattle.live_store.specs.Tied.{AreShown, named_in, text_in};
 ghost use Rattle.news_terms.specs.ArticleTexts.{IsArticle};
 
 use super::entering::Record;
-use crate::record::{Register, Shown};
+use crate::record::{ArticleLog, RecordNumber};
 use article_parse::{ArtError, Article};
 use cyc_block::{BlockStore, CHUNK_OCTETS};
 use cyc_buffer::{Found, StartError, Unopened, size_of};
@@ -28,10 +28,10 @@ use std::sync::Wait;
 pub(crate) fn enter_articles<S: BlockStore, R: Wait>(
     rt: &R,
     alloc: Global,
-    register: &Register,
+    register: &ArticleLog,
     buffer: &mut Unopened<S>,
     tokens: &Vec<Token>,
-    numbers: &mut Vec<Option<Shown>>,
+    numbers: &mut Vec<Option<RecordNumber>>,
 ) -> Result<(), StartError>
     requires within { AreWithin (length numbers.old.items) tokens.now.items }
     ensures numbered { OnOk result ((trusted : Bool) (h : History)
@@ -64,10 +64,10 @@ pub(crate) fn enter_articles<S: BlockStore, R: Wait>(
 fn enter_article<S: BlockStore, R: Wait>(
     rt: &R,
     alloc: Global,
-    register: &Register,
+    register: &ArticleLog,
     buffer: &mut Unopened<S>,
     token: &Token,
-) -> Result<Shown, StartError>
+) -> Result<RecordNumber, StartError>
     ensures shown { IfOk result (Shows register.now) }
     ensures named { IfOk result (λ shown. named_in shown ≡ token.now) }
     ensures text { IfOk result (λ shown. (h : History) → Agrees true (inside buffer.old) h

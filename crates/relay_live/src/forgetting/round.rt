@@ -5,7 +5,7 @@ ghost use Rattle.std.specs.Prelude.{vec_capacity};
 use cyc_block::BlockStore;
 use cyc_buffer::Front;
 use id_history::Shard;
-use live_store::{Archive, NumberedBuffer};
+use live_store::{NumberedBuffer, StorePremises};
 use std::alloc::{AllocError, Global};
 use std::mem::size_of;
 use std::snapshot::Snapshot;
@@ -70,7 +70,7 @@ impl Rounds {
     }
 
     /// Reads the front of a buffer that is held.
-    pub(super) fn read<S: BlockStore, J: Archive>(&mut self, buffer: &NumberedBuffer<S, J>)
+    pub(super) fn read<S: BlockStore, J: StorePremises>(&mut self, buffer: &NumberedBuffer<S, J>)
         requires { length (fronts_in self.old) < 256 }
         ensures front { (trusted : Bool) (h : History) → Agrees trusted (buffer_of buffer.now) h
             → fronts_in self.new ≡ fronts_in self.old ++ front_view h.buffer (front_of h) ∷ [] }

@@ -2,8 +2,8 @@
 ghost use Rattle.std.specs.Prelude.{◌<◌, All, length, IfOk};
 
 use relay_conf::{
-    Buffers, ConfError, Config, K1_CYCBUFF, K1_RELAY, K1_STORAGE, Method, read_cycbuff, read_relay,
-    read_storage,
+    Buffers, ConfError, Config, K1_CYCBUFF, K1_RELAY, K1_STORAGE, StorageEntry, read_cycbuff,
+    read_relay, read_storage,
 };
 use std::alloc::Global;
 
@@ -43,15 +43,20 @@ pub(crate) fn row_config(alloc: Global, site: Site, forgets: bool) -> Result<Con
         lines.extend_from_slice(b"remember 100\n")?;
     }
     let buffers = read_cycbuff(alloc, cycbuff)?;
-    let methods = methods_of(alloc, storage, &buffers)?;
+    let storage_entries = storage_entries_of(alloc, storage, &buffers)?;
     let relay = read_relay(alloc, &lines)?;
-    Ok(Config::new(buffers, methods, relay))
+    Ok(Config::new(buffers, storage_entries, relay))
 }
 
 /// The entries of this text, over these groups.
-fn methods_of(alloc: Global, storage: &[u8], buffers: &Buffers) -> Result<Vec<Method>, ConfError>
-    ensures { IfOk result (λ methods.
-        All (λ method. method.group < length buffers.now.groups.items) methods.items) }
+fn storage_entries_of(
+    alloc: Global,
+    storage: &[u8],
+    buffers: &Buffers,
+) -> Result<Vec<StorageEntry>, ConfError>
+    ensures { IfOk result (λ storage_entries.
+        All (λ storage_entry. storage_entry.group < length buffers.now.groups.items)
+        storage_entries.items) }
 {
     read_storage(alloc, storage, buffers)
 }

@@ -6,7 +6,7 @@ use crate::printing::put_fetched;
 use crate::words::{number_in, word_of};
 use cyc_block::BlockStore;
 use cyc_token::Token;
-use live_store::{Archive, Register};
+use live_store::{ArticleLog, StorePremises};
 use relay_live::Shared;
 use row_text::Sheet;
 use std::alloc::{AllocError, Global};
@@ -34,12 +34,12 @@ impl Fetch {
 }
 
 /// Does each of these fetches, and writes what it found.
-pub(crate) fn put_fetches<S: BlockStore + Drop, J: Archive, L: Ledger, R: Wait>(
+pub(crate) fn put_fetches<S: BlockStore + Drop, J: StorePremises, L: Ledger, R: Wait>(
     rt: &R,
     alloc: Global,
     sheet: &mut Sheet,
     shared: &Shared<S, J, L>,
-    register: &Register,
+    register: &ArticleLog,
     fetches: &Vec<Fetch>,
 ) -> Result<(), AllocError>
     requires { register.now ≡ J.register }

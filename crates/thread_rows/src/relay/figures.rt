@@ -3,7 +3,7 @@
 use crate::relay::board::Board;
 use cyc_block::BlockStore;
 use line_words::number_within;
-use live_store::Archive;
+use live_store::StorePremises;
 use relay_conf::Config;
 use relay_live::{Counted, Shared};
 use row_text::Sheet;
@@ -84,16 +84,16 @@ fn count_codes(counts: &mut [u64; 600], written: &[u8]) {
 pub(crate) fn put_counted<R: Wait>(rt: &R, sheet: &mut Sheet, board: &Board, counted: &Counted) {
     sheet.numbered(b"accepted ", counted.accepted());
     sheet.numbered(b" posted ", counted.posted().count());
-    sheet.put(b" strays ");
-    sheet.debug(&counted.strays());
-    sheet.put(b" doubles ");
-    sheet.debug(&counted.doubles());
+    sheet.put(b" mismatched receipts ");
+    sheet.debug(&counted.mismatched_receipts());
+    sheet.put(b" ids stored again ");
+    sheet.debug(&counted.ids_stored_again());
     sheet.numbered(b" late ", board.late(rt));
     sheet.put(b"\n");
 }
 
 /// Writes what is known of the buffers, the feeds and the message-ids.
-pub(crate) fn put_figures<S: BlockStore + Drop, J: Archive, L: Ledger, R: Wait>(
+pub(crate) fn put_figures<S: BlockStore + Drop, J: StorePremises, L: Ledger, R: Wait>(
     rt: &R,
     sheet: &mut Sheet,
     shared: &Shared<S, J, L>,
@@ -109,7 +109,7 @@ pub(crate) fn put_figures<S: BlockStore + Drop, J: Archive, L: Ledger, R: Wait>(
 }
 
 /// Writes the figures of a buffer.
-fn put_buffer<S: BlockStore + Drop, J: Archive, L: Ledger, R: Wait>(
+fn put_buffer<S: BlockStore + Drop, J: StorePremises, L: Ledger, R: Wait>(
     rt: &R,
     sheet: &mut Sheet,
     shared: &Shared<S, J, L>,
@@ -126,7 +126,7 @@ fn put_buffer<S: BlockStore + Drop, J: Archive, L: Ledger, R: Wait>(
 }
 
 /// Writes the counts of a feed.
-fn put_feed<S: BlockStore + Drop, J: Archive, L: Ledger, R: Wait>(
+fn put_feed<S: BlockStore + Drop, J: StorePremises, L: Ledger, R: Wait>(
     rt: &R,
     sheet: &mut Sheet,
     shared: &Shared<S, J, L>,
@@ -145,7 +145,7 @@ fn put_feed<S: BlockStore + Drop, J: Archive, L: Ledger, R: Wait>(
 }
 
 /// Writes how many message-ids are known, by kind.
-fn put_ids<S: BlockStore + Drop, J: Archive, L: Ledger, R: Wait>(
+fn put_ids<S: BlockStore + Drop, J: StorePremises, L: Ledger, R: Wait>(
     rt: &R,
     sheet: &mut Sheet,
     shared: &Shared<S, J, L>,

@@ -3,7 +3,7 @@
 use crate::relay::board::{Board, Sign};
 use crate::relay::gate::{COMES, Turns};
 use crate::relay::script::{Habits, Script};
-use live_wire::{Connections, Ear, Mouth};
+use live_wire::{Connections, RecordingReader, RecordingWriter};
 use std::io;
 use std::io::{ErrorKind, Read, Write};
 use std::sync::Wait;
@@ -100,12 +100,15 @@ pub(crate) struct Visit<'a, R: Sync> {
 }
 
 impl<'a, R: Wait + Clock + Sync> Connections<R> for Visit<'a, R> {
-    type Reader = Ear<Voice<'a, R>>;
+    type Reader = RecordingReader<Voice<'a, R>>;
 
-    type Writer = Mouth<Pen<'a, R>>;
+    type Writer = RecordingWriter<Pen<'a, R>>;
 
     /// Once it was given, that the session has returned is told to the gate.
-    fn next_one(&mut self, rt: &R) -> Option<(Ear<Voice<'a, R>>, Mouth<Pen<'a, R>>)> {
+    fn next_one(
+        &mut self,
+        rt: &R,
+    ) -> Option<(RecordingReader<Voice<'a, R>>, RecordingWriter<Pen<'a, R>>)> {
         let Some(script) = self.script.take() else {
             self.turns.returned(rt, self.number);
             return None;
@@ -133,6 +136,6 @@ impl<'a, R: Wait + Clock + Sync> Connections<R> for Visit<'a, R> {
             left: script.habits.takes,
             interrupted: false,
         };
-        Some((Ear::new(voice), Mouth::new(pen)))
+        Some((RecordingReader::new(voice), RecordingWriter::new(pen)))
     }
 }

@@ -13,9 +13,9 @@ use crate::relay::rooms::Visit;
 use crate::relay::row::Row;
 use crate::relay::waiting::{Waiting, waiting_stores};
 use block_shelf::BeginError;
-use live_store::{Archive, Register};
+use live_store::{ArticleLog, StorePremises};
 use relay_conf::Config;
-use relay_live::{Counted, Door, Keeper, Shared, serve_all};
+use relay_live::{Counted, Keeper, PeerSource, Shared, serve_all};
 use row_text::Sheet;
 use std::alloc::{AllocError, Global};
 use std::hash::RandomState;
@@ -45,16 +45,16 @@ fn peer_of(row: &Row, peers: usize, number: u64) -> usize {
     before.checked_rem(peers).unwrap_or(0)
 }
 
-/// A door for each session.
-fn doors_of<'a, R: Sync>(
+/// A peer source for each session.
+fn peer_sources_of<'a, R: Sync>(
     rt: &'a R,
     alloc: Global,
     board: &'a Board,
     turns: &'a Turns<'a>,
     row: &'a Row,
     peers: usize,
-) -> Result<Vec<Door<Visit<'a, R>>>, AllocError> {
-    let mut doors = Vec::new(alloc);
+) -> Result<Vec<PeerSource<Visit<'a, R>>>, AllocError> {
+    let mut peer_sources = Vec::new(alloc);
     let mut number = 0u64;
     for script in &row.sessions {
         number = number.saturating_add(1);
@@ -66,20 +66,20 @@ fn doors_of<'a, R: Sync>(
             script: Some(script),
             after: before(row, number),
         };
-        doors.push(Door {
+        peer_sources.push(PeerSource {
             peer: peer_of(row, peers, number),
             connections,
         })?;
     }
-    Ok(doors)
+    Ok(peer_sources)
 }
 
 /// Serves the sessions of a row over what is shared, in threads.
-fn run<J: Archive + Send + Sync, L: Ledger + Send + Sync, R>(
+fn run<J: StorePremises + Send + Sync, L: Ledger + Send + Sync, R>(
     rt: &R,
     alloc: Global,
     config: &Config,
-    register: &Register,
+    register: &ArticleLog,
     shared: &Shared<Waiting<'_, R>, J, L>,
     all: Share<L>,
     groups: usize,
@@ -96,13 +96,21 @@ where
     let keeper = Keeper::new(shared, register, &config.buffers, &board.clock);
     let turns = Turns::new(board, row.manner, row.order.as_slice());
     let peers = config.relay.peers.len();
-    let doors = doors_of(rt, alloc, board, &turns, row, peers)?;
-    if doors.len() >= 1 << 62 || doors.len() != row.sessions.len() {
+    let peer_sources = peer_sources_of(rt, alloc, board, &turns, row, peers)?;
+    if peer_sources.len() >= 1 << 62 || peer_sources.len() != row.sessions.len() {
         return Err(failed());
     }
     let hasher = RandomState::new(rt)?;
     match serve_all(
-        rt, alloc, hasher, &keeper, config, &turns, groups, doors, all,
+        rt,
+        alloc,
+        hasher,
+        &keeper,
+        config,
+        &turns,
+        groups,
+        peer_sources,
+        all,
     ) {
         Ok((_seats, counted)) => Ok(counted),
         Err(_) => Err(failed()),
@@ -110,11 +118,11 @@ where
 }
 
 /// Serves the sessions of a row, and says what came of it.
-fn serve<J: Archive + Send + Sync, L: Ledger + Send + Sync, R>(
+fn serve<J: StorePremises + Send + Sync, L: Ledger + Send + Sync, R>(
     rt: &R,
     alloc: Global,
     config: &Config,
-    register: &Register,
+    register: &ArticleLog,
     blank: Blank,
     groups: usize,
     row: &Row,
@@ -165,7 +173,7 @@ where
     if groups == 0 {
         return Err(failed());
     }
-    let register = Register::new(alloc)?;
+    let register = ArticleLog::new(alloc)?;
     let blank = Blank::new(groups as u64);
     serve::<Brand, Brand, R>(rt, alloc, &config, &register, blank, groups, row, failing)
 }

@@ -72,7 +72,8 @@ fn waits_of(number: usize, waits: Waits) -> Waits {
     if number == 0 { waits } else { NO_WAITS }
 }
 
-/// The call of a store that is this one behind that which writes its head block, where there is one.
+/// The call of a store that is this one behind that which writes its head block, where there is
+/// one.
 fn behind_format(failing: u64) -> u64 {
     if failing == 0 {
         0

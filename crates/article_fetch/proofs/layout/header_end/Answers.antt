@@ -1,7 +1,7 @@
 use Rattle.std.proofs.Common.{◌∷◌, ◌++◌, []}
 use Rattle.std.proofs.lemmas.List.{take_rest}
 use Rattle.article_parse.specs.Header.{field_view}
-use Rattle.overview_line.proofs.Walks.{field_passed, no_line, no_header}
+use Rattle.article_fetch.proofs.Walks.{field_passed, no_line, no_header}
 use Rattle.article_fetch.proofs.EmptyLinePlaces.{place_found}
 use Rattle.article_fetch.proofs.layout.header_end.Goals as goal
 

@@ -2,7 +2,7 @@ use Rattle.std.proofs.Common.{◌∙◌, ◌+◌, ◌≤◌, ◌++◌, ◌∷◌
 use Rattle.std.proofs.Common.{slice_get, subst, sym, take}
 use Rattle.std.proofs.lemmas.Bool.{ltb-true, ltb-false}
 use Rattle.std.proofs.lemmas.Option.{slice_get_read}
-use Rattle.block_shelf.proofs.NewShelf.{all_named, none_more, one_more}
+use Rattle.block_shelf.proofs.NewBufferSet.{all_named, none_more, one_more}
 use Rattle.block_shelf.specs.Filling.{IsNamed}
 use Rattle.block_shelf.proofs.filling.members_of.Goals as goal
 

@@ -2,7 +2,7 @@ use Rattle.std.proofs.Common.{◌∙◌, ◌++◌, ◌∷◌, [], ap, append_ass
 use Rattle.std.proofs.Common.{sym, subst}
 use Rattle.std.proofs.lemmas.List.{length-append, nil_from_length}
 use Rattle.block_shelf.specs.Filling.{AreNewOver, IsNewOver}
-use Rattle.block_shelf.proofs.NewShelf.{none_over, one_more_over}
+use Rattle.block_shelf.proofs.NewBufferSet.{none_over, one_more_over}
 use Rattle.block_shelf.proofs.filling.new_buffers.Goals as goal
 
 pub loop-store-init : goal.loop-store-init

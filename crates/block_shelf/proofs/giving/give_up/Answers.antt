@@ -24,7 +24,8 @@ push_reserved-requires g c =
       length-append c.args.room.items (map (λ one. store_of one) c.loop-buffer.yielded),
       length-map c.loop-buffer.yielded (λ one. store_of one),
       count_through c.loop-buffer.yielded c.loop-buffer.buffer-iterator.rest.items
-          c.args.buffers.items c.in-Some.buffer c.next.new.self.rest.items c.loop-buffer.invariant.all
+          c.args.buffers.items c.in-Some.buffer c.next.new.self.rest.items
+          c.loop-buffer.invariant.all
           c.in-Some.ensures.steps.0,
     )
 

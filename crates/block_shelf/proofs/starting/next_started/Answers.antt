@@ -23,7 +23,8 @@ returns-in-Ok-clause-tries g c = λ before are none first.
             tokens = c.in-Ok.started.tokens.items;
             starts = λ yes.
                 subst
-                (λ n. Starts (g.S.BlockStore.heads c.args.store) (g.S.BlockStore.blocks c.args.store)
+                (λ n. Starts (g.S.BlockStore.heads c.args.store)
+                (g.S.BlockStore.blocks c.args.store)
                 (buffer_over g.S.BlockStore c.len-number.result c.args.store) n
                 c.in-Ok.started.tokens.items)
                 (sym c.in-Ok.ensures.under) (c.in-Ok.ensures.started yes);

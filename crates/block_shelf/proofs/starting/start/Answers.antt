@@ -3,11 +3,13 @@ use Rattle.std.proofs.Common.{slice_get, subst, sym}
 use Rattle.std.proofs.lemmas.List.{length-append, nil_from_length}
 use Rattle.std.proofs.lemmas.Option.{none-some}
 use Rattle.block_shelf.proofs.EachLemmas.{all_through, count_through, none_each, one_through}
-use Rattle.block_shelf.proofs.NewShelf.{same_count}
+use Rattle.block_shelf.proofs.NewBufferSet.{same_count}
 use Rattle.block_shelf.specs.Each.{AreEach}
-use Rattle.block_shelf.proofs.Starts.{err_so, memory_shelf, mixed_shelf, never_other, ok_so}
-use Rattle.block_shelf.proofs.Starts.{refused_cause, refused_shelf, shelf_held, shelf_keeps}
-use Rattle.block_shelf.proofs.Starts.{started_shelf}
+use Rattle.block_shelf.proofs.Starts.{err_so, memory_buffer_set, mixed_buffer_set, never_other}
+use Rattle.block_shelf.proofs.Starts.{ok_so}
+use Rattle.block_shelf.proofs.Starts.{refused_cause, refused_buffer_set, buffer_set_held}
+use Rattle.block_shelf.proofs.Starts.{buffer_set_keeps}
+use Rattle.block_shelf.proofs.Starts.{started_buffer_set}
 use Rattle.block_shelf.specs.Starting.{HasTried, IsFirstOther, IsStartedOver}
 use Rattle.block_shelf.proofs.starting.start.Goals as goal
 
@@ -76,7 +78,7 @@ returns-in-Refused-clause-refusal g c =
     (nil_from_length c.loop-store.store-iterator.rest.items
     (omega (arith, c.in-None.ensures.steps.0, c.loop-store.store-iterator.rest.ok))))
     c.loop-store.invariant.tried) in
-    refused_shelf g.S.BlockStore c.args.stores.items c.args.stop c.in-Refused.error
+    refused_buffer_set g.S.BlockStore c.args.stores.items c.args.stop c.in-Refused.error
     c.in-Refused.buffer c.in-Refused.stores.items tried
 
 pub returns-in-Refused-clause-cause : goal.returns-in-Refused-clause-cause
@@ -90,7 +92,8 @@ returns-in-Refused-clause-cause g c = λ w begun kept failures held.
     (omega (arith, c.in-None.ensures.steps.0, c.loop-store.store-iterator.rest.ok))))
     c.loop-store.invariant.tried) in
     refused_cause g.S.BlockStore c.args.settings.now c.args.stores.items c.requires c.args.stop
-    c.in-Refused.error c.in-Refused.buffer c.in-Refused.stores.items tried w begun kept failures held
+    c.in-Refused.error c.in-Refused.buffer c.in-Refused.stores.items tried w begun
+    kept failures held
 
 pub returns-in-Some-mixed-clause-refusal : goal.returns-in-Some-mixed-clause-refusal
 returns-in-Some-mixed-clause-refusal g c =
@@ -102,7 +105,8 @@ returns-in-Some-mixed-clause-refusal g c =
     (nil_from_length c.loop-store.store-iterator.rest.items
     (omega (arith, c.in-None.ensures.steps.0, c.loop-store.store-iterator.rest.ok))))
     c.loop-store.invariant.tried) in
-    mixed_shelf c.args.stores.items c.args.stop c.in-Started.buffers.items c.in-Started.room.items
+    mixed_buffer_set c.args.stores.items c.args.stop c.in-Started.buffers.items
+    c.in-Started.room.items
     c.give_back.result.items c.in-Some-mixed.number tried.0 tried.1
     (subst (IsFirstOther c.args.stop c.in-Started.buffers.items) c.in-Some-mixed.is tried.2)
     c.give_back.ensures.items
@@ -132,9 +136,10 @@ returns-in-None-mixed-clause-held g c =
     (nil_from_length c.loop-store.store-iterator.rest.items
     (omega (arith, c.in-None.ensures.steps.0, c.loop-store.store-iterator.rest.ok))))
     c.loop-store.invariant.tried) in
-    ok_so c.shelve.result c.shelve.ensures.buffers c.shelve.ensures.buffers (λ shelf same also.
-    shelf_held c.args.settings.now c.args.stores.items c.requires c.args.stop c.in-Started.buffers
-    tried.0 shelf same)
+    ok_so c.shelve.result c.shelve.ensures.buffers c.shelve.ensures.buffers (λ buffer_set same also.
+    buffer_set_held c.args.settings.now c.args.stores.items c.requires c.args.stop
+    c.in-Started.buffers
+    tried.0 buffer_set same)
 
 pub returns-in-None-mixed-clause-keeps : goal.returns-in-None-mixed-clause-keeps
 returns-in-None-mixed-clause-keeps g c =
@@ -146,9 +151,11 @@ returns-in-None-mixed-clause-keeps g c =
     (nil_from_length c.loop-store.store-iterator.rest.items
     (omega (arith, c.in-None.ensures.steps.0, c.loop-store.store-iterator.rest.ok))))
     c.loop-store.invariant.tried) in
-    ok_so c.shelve.result c.shelve.ensures.buffers c.shelve.ensures.racks (λ shelf same racks.
-    shelf_keeps c.args.settings.now c.args.stores.items c.requires c.args.stop c.in-Started.buffers
-    tried.0 shelf same c.args.positions.now racks)
+    ok_so c.shelve.result c.shelve.ensures.buffers c.shelve.ensures.placed_groups
+    (λ buffer_set same placed_groups.
+    buffer_set_keeps c.args.settings.now c.args.stores.items c.requires c.args.stop
+    c.in-Started.buffers
+    tried.0 buffer_set same c.args.positions.now placed_groups)
 
 pub returns-in-None-mixed-clause-started : goal.returns-in-None-mixed-clause-started
 returns-in-None-mixed-clause-started g c =
@@ -160,9 +167,9 @@ returns-in-None-mixed-clause-started g c =
     (nil_from_length c.loop-store.store-iterator.rest.items
     (omega (arith, c.in-None.ensures.steps.0, c.loop-store.store-iterator.rest.ok))))
     c.loop-store.invariant.tried) in
-    ok_so c.shelve.result c.shelve.ensures.buffers c.shelve.ensures.buffers (λ shelf same also.
-    started_shelf c.args.settings.now c.args.stores.items c.requires c.args.stop
-    c.in-Started.buffers tried.0 shelf same
+    ok_so c.shelve.result c.shelve.ensures.buffers c.shelve.ensures.buffers (λ buffer_set same also.
+    started_buffer_set c.args.settings.now c.args.stores.items c.requires c.args.stop
+    c.in-Started.buffers tried.0 buffer_set same
     (subst (IsFirstOther c.args.stop c.in-Started.buffers.items) c.in-None-mixed.is tried.2))
 
 pub returns-in-None-mixed-clause-refusal : goal.returns-in-None-mixed-clause-refusal
@@ -176,5 +183,5 @@ returns-in-None-mixed-clause-refusal g c =
     (omega (arith, c.in-None.ensures.steps.0, c.loop-store.store-iterator.rest.ok))))
     c.loop-store.invariant.tried) in
     err_so c.shelve.result c.shelve.ensures.memory c.shelve.ensures.stores (λ refused is made.
-    memory_shelf c.args.stores.items c.args.stop c.in-Started.buffers.items refused.error
+    memory_buffer_set c.args.stores.items c.args.stop c.in-Started.buffers.items refused.error
     refused.buffer refused.stores.items tried.0 is made)

@@ -10,7 +10,9 @@ use Rattle.cyc_buffer.specs.Reads.{IsDamageBy, IsNone, IsOfToken}
 use Rattle.cyc_buffer.specs.Stopped.{IsImageUnder, block_under}
 use Rattle.cyc_buffer.proofs.Refusals.{damage_by, same_token, passed_on}
 use Rattle.cyc_buffer.proofs.articles.read_article.Goals as goal
-use Rattle.cyc_buffer.proofs.articles.read_article.Goals.{then-size-lt1-via-then-size-lt1, then-size-lt1-via-else-size-lt1+then-size-stretch, then-size-lt1-via-else-size-lt1+else-size-stretch+then-not-is_image_under}
+use Rattle.cyc_buffer.proofs.articles.read_article.Goals.{then-size-lt1-via-then-size-lt1}
+use Rattle.cyc_buffer.proofs.articles.read_article.Goals.{then-size-lt1-via-else-size-lt1+then-size-stretch}
+use Rattle.cyc_buffer.proofs.articles.read_article.Goals.{then-size-lt1-via-else-size-lt1+else-size-stretch+then-not-is_image_under}
 
 pub returns-in_default-clause-refused : goal.returns-in_default-clause-refused
 returns-in_default-clause-refused g c honest t here read clear =

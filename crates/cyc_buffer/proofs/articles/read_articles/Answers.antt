@@ -16,7 +16,8 @@ use Rattle.cyc_buffer.proofs.Refusals.{damage_by, held_on, passed_on, pushed_on}
 use Rattle.cyc_buffer.proofs.RememberedLemmas.{lists_more, lists_skip, stays_listed, within_more}
 use Rattle.cyc_buffer.proofs.Stretches.{read_skip, read_more}
 use Rattle.cyc_buffer.proofs.articles.read_articles.Goals as goal
-use Rattle.cyc_buffer.proofs.articles.read_articles.Goals.{then-has+in_ok-token+else-is_err, else-has}
+use Rattle.cyc_buffer.proofs.articles.read_articles.Goals.{then-has+in_ok-token+else-is_err}
+use Rattle.cyc_buffer.proofs.articles.read_articles.Goals.{else-has}
 
 pub returns-in_err-token-clause-refused : goal.returns-in_err-token-clause-refused
 returns-in_err-token-clause-refused g c honest =

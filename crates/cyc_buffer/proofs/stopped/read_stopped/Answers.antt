@@ -4,7 +4,7 @@ use Rattle.news_terms.specs.Places.{Buffer}
 use Rattle.cyc_block.specs.Heads.{head_view}
 use Rattle.cyc_buffer.specs.Marks.{is_marked}
 use Rattle.cyc_buffer.specs.Reads.{AreBits, IsBeyond, IsRefusedBy, HasReadAll}
-use Rattle.cyc_buffer.specs.Register.{numbers_in}
+use Rattle.cyc_buffer.specs.BufferState.{numbers_in}
 use Rattle.cyc_buffer.specs.Stopped.{IsDamaged, BitBeyond, has_bit}
 use Rattle.cyc_buffer.specs.declared.marks.Marks.{Marks}
 use Rattle.cyc_buffer.proofs.Refusals.{damage_refuses, passed_on}
@@ -70,12 +70,12 @@ returns-clause-started g c honest =
     let closed = c.in_ok-numbers.ensures in
     let bitmap = c.in_ok-read_bitmap.ensures in
     let all = c.in_ok-tokens.ensures in
-    let register = c.stopped_register.result in
+    let buffer_state = c.stopped_buffer_state.result in
     let starts = c.read_bitmap.new.starts.words.items in
-    let same_starts : starts ≡ register.starts.words.items =
-    ap (λ (m : Marks). m.words.items) (sym c.stopped_register.ensures.starts) in
-    let same_kept : c.read_all.new.kept.words.items ≡ register.kept.words.items =
-    ap (λ (m : Marks). m.words.items) (sym c.stopped_register.ensures.kept) in
+    let same_starts : starts ≡ buffer_state.starts.words.items =
+    ap (λ (m : Marks). m.words.items) (sym c.stopped_buffer_state.ensures.starts) in
+    let same_kept : c.read_all.new.kept.words.items ≡ buffer_state.kept.words.items =
+    ap (λ (m : Marks). m.words.items) (sym c.stopped_buffer_state.ensures.kept) in
     record {
       numbers = head_view numbers;
       says = closed.says honest;
@@ -84,16 +84,16 @@ returns-clause-started g c honest =
       sound = closed.sound;
       beyond = λ j behind within. ap (λ hs. has_bit hs j) (sym (closed.held.heads honest))
           ∙ bitmap.none_beyond (closed.held.honest honest) j behind within;
-      register_is = ap (λ state. numbers_in register state numbers.stop) (sym closed.closed)
-          ∙ c.stopped_register.ensures.numbers;
-      progress = c.stopped_register.ensures.progress;
-      bits = subst (λ hs. AreBits hs numbers.blocks register.starts.words.items)
+      buffer_state_is = ap (λ state. numbers_in buffer_state state numbers.stop) (sym closed.closed)
+          ∙ c.stopped_buffer_state.ensures.numbers;
+      progress = c.stopped_buffer_state.ensures.progress;
+      bits = subst (λ hs. AreBits hs numbers.blocks buffer_state.starts.words.items)
           (closed.held.heads honest)
           (subst (λ ws. AreBits (g.S.BlockStore.heads c.read_closed.new.store) numbers.blocks ws)
           same_starts (bitmap.bits (closed.held.honest honest)));
       some_kept = c.in_ok-kept.kept.words.items;
       unkept = c.in_ok-kept.ensures.none;
-      all = subst (λ ks. HasReadAll (is_marked register.starts.words.items) blocks
+      all = subst (λ ks. HasReadAll (is_marked buffer_state.starts.words.items) blocks
           (head_view numbers) c.in_ok-tokens.tokens.items c.in_ok-kept.kept.words.items ks)
           same_kept
           (subst (λ ws. HasReadAll (is_marked ws) blocks (head_view numbers)

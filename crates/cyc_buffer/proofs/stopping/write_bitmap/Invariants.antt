@@ -10,7 +10,7 @@ invariant-loop-i g l = record {
   bitmap : g.S.BlockStore.honest l.fn.store → (k : ℕ) → k < l.i
       → block_at (g.S.BlockStore.heads l.store) (1 + k)
       ≡ bitmap_block
-      (is_told l.fn.register.starts.words.items (length (g.S.BlockStore.blocks l.fn.store))) k;
+      (is_told l.fn.buffer_state.starts.words.items (length (g.S.BlockStore.blocks l.fn.store))) k;
   first : g.S.BlockStore.honest l.fn.store
       → block_at (g.S.BlockStore.heads l.store) 0 ≡ block_at (g.S.BlockStore.heads l.fn.store) 0;
   room : g.S.BlockStore.honest l.fn.store

@@ -26,7 +26,8 @@ returns-clause-same c =
     let met = c.absorb.ensures.rule in
     let learned = c.learn_as.ensures.queue.1 in (
       writer_again _ (view c.another-lent.result) _ _ _ c.requires.writer met learned back.0,
-      other_again (view c.args.writer.now) _ _ (view c.another-lent.result) _ _ _ _ lent.0 lent.1 met
+      other_again (view c.args.writer.now) _ _ (view c.another-lent.result) _ _ _ _
+          lent.0 lent.1 met
           learned back.1 c.absorb-2.ensures.rule,
     )
 

@@ -1,10 +1,10 @@
 use Rattle.std.proofs.Common.{◌∙◌, refl, sym}
-use Rattle.live_session.proofs.Talks.{gone}
+use Rattle.live_session.proofs.LiveSessions.{gone}
 use Rattle.live_session.proofs.serve.break_off.Goals as goal
 
 pub returns-then-is_reading-clause-gone : goal.returns-then-is_reading-clause-gone
 returns-then-is_reading-clause-gone g c w carried =
-    let talk = c.args.talk.now in
-    gone w talk (record talk { session = c.break_off.new.self }) c.break_off.ensures
+    let live = c.args.live.now in
+    gone w live (record live { session = c.break_off.new.self }) c.break_off.ensures
     (sym c.is_reading.ensures ∙ c.if-is_reading.true) refl refl
     (record { number = refl; end_is = refl }) carried

@@ -1,20 +1,20 @@
 use Rattle.std.proofs.Common.{[], subst}
 use Rattle.article_verdict.specs.Config.{terms_of}
-use Rattle.live_session.proofs.Talks.{served_still, served_turn}
+use Rattle.live_session.proofs.LiveSessions.{served_still, served_turn}
 use Rattle.live_session.proofs.serve.last_turn.Goals as goal
 use Rattle.live_session.specs.Carried.{CarriesOn, carried}
 
 pub returns-in-Says-clause-served : goal.returns-in-Says-clause-served
 returns-in-Says-clause-served g c =
-    let talk = c.args.talk.now in
-    let new = c.turn.new.talk in
+    let live = c.args.live.now in
+    let new = c.turn.new.live in
     let wire = c.args.wire.now in
     let put = c.put.new.wire in
     let before = carried (g.H.Hears.heard wire.reader) (g.W.Says.said wire.writer) wire.outbox
     wire.finish in
     let after = carried (g.H.Hears.heard put.reader) (g.W.Says.said put.writer) put.outbox
     put.finish in
-    served_turn (terms_of c.args.hall.now.config.now) talk new c.in-Says.said.items before after
+    served_turn (terms_of c.args.context.now.config.now) live new c.in-Says.said.items before after
     c.in-Says.ensures.went
     (subst (CarriesOn before after [] c.in-Says.said.items) c.has_parted.ensures c.put.ensures.on)
 
@@ -23,7 +23,7 @@ returns-in-Rests-clause-served g c =
     let wire = c.args.wire.now in
     let same = carried (g.H.Hears.heard wire.reader) (g.W.Says.said wire.writer) wire.outbox
     wire.finish in
-    served_still (terms_of c.args.hall.now.config.now) c.args.talk.now c.turn.new.talk
+    served_still (terms_of c.args.context.now.config.now) c.args.live.now c.turn.new.live
     c.in-Rests.ensures.went same same (λ came replies parted carries. carries)
 
 pub returns-in-Held-clause-served : goal.returns-in-Held-clause-served
@@ -31,7 +31,7 @@ returns-in-Held-clause-served g c =
     let wire = c.args.wire.now in
     let same = carried (g.H.Hears.heard wire.reader) (g.W.Says.said wire.writer) wire.outbox
     wire.finish in
-    served_still (terms_of c.args.hall.now.config.now) c.args.talk.now c.turn.new.talk
+    served_still (terms_of c.args.context.now.config.now) c.args.live.now c.turn.new.live
     c.in-Held.ensures.went same same (λ came replies parted carries. carries)
 
 pub returns-in-Memory-clause-served : goal.returns-in-Memory-clause-served
@@ -39,5 +39,5 @@ returns-in-Memory-clause-served g c =
     let wire = c.args.wire.now in
     let same = carried (g.H.Hears.heard wire.reader) (g.W.Says.said wire.writer) wire.outbox
     wire.finish in
-    served_still (terms_of c.args.hall.now.config.now) c.args.talk.now c.turn.new.talk
+    served_still (terms_of c.args.context.now.config.now) c.args.live.now c.turn.new.live
     c.in-Memory.ensures.went same same (λ came replies parted carries. carries)

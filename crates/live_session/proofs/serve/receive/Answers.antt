@@ -1,32 +1,32 @@
 use Rattle.std.proofs.Common.{◌∙◌, ◌++◌, [], Some, ap, refl, sym, take}
 use Rattle.std.proofs.lemmas.List.{append-nil}
 use Rattle.live_session.proofs.Carrying.{lost, none_of, piece_came}
-use Rattle.live_session.proofs.Talks.{fed, served_still, still, then_same}
+use Rattle.live_session.proofs.LiveSessions.{fed, served_still, still, then_same}
 use Rattle.live_session.proofs.serve.receive.Goals as goal
 use Rattle.live_session.specs.Carried.{carried}
 use Rattle.live_session.specs.declared.wire.Finish.TheVariants as finishes
 
 pub returns-in-Ok-eq0-clause-served : goal.returns-in-Ok-eq0-clause-served
 returns-in-Ok-eq0-clause-served g c w =
-    let talk = c.args.talk.now in
+    let live = c.args.live.now in
     let wire = c.args.wire.now in
     let old = carried (g.H.Hears.heard wire.reader) (g.W.Says.said wire.writer) wire.outbox
     wire.finish in
     let heard = g.H.Hears.heard c.hear.new.self in
-    then_same w talk talk old old (record old { heard = heard; finish = Some finishes.Broken })
+    then_same w live live old old (record old { heard = heard; finish = Some finishes.Broken })
     (λ honest trust s end first read written one. one)
     (lost old heard (take c.in-Ok-eq0.field-0 c.hear.new.room.items) c.in-Ok-eq0.ensures.ok.1
     (none_of wire.finish (sym c.is_some.ensures ∙ c.if-is_some.false)))
 
 pub returns-in-Ok-feed-clause-served : goal.returns-in-Ok-feed-clause-served
 returns-in-Ok-feed-clause-served g c w =
-    let talk = c.args.talk.now in
+    let live = c.args.live.now in
     let wire = c.args.wire.now in
     let old = carried (g.H.Hears.heard wire.reader) (g.W.Says.said wire.writer) wire.outbox
     wire.finish in
     let heard = g.H.Hears.heard c.hear.new.self in
     let piece = take c.in-Ok.n c.deref.result.now in
-    fed w talk (record talk { session = c.feed.new.self }) piece c.in-Ok-feed.ensures.fed
+    fed w live (record live { session = c.feed.new.self }) piece c.in-Ok-feed.ensures.fed
     (sym c.is_reading.ensures ∙ c.if-not-is_reading.false) refl refl
     (record { number = refl; end_is = refl }) old (record old { heard = heard })
     (piece_came old heard piece
@@ -36,14 +36,14 @@ returns-in-Ok-feed-clause-served g c w =
 
 pub returns-in-Err-feed-clause-served : goal.returns-in-Err-feed-clause-served
 returns-in-Err-feed-clause-served g c w =
-    let talk = c.args.talk.now in
+    let live = c.args.live.now in
     let wire = c.args.wire.now in
     let old = carried (g.H.Hears.heard wire.reader) (g.W.Says.said wire.writer) wire.outbox
     wire.finish in
     let heard = g.H.Hears.heard c.hear.new.self in
-    let new = record talk { session = c.feed.new.self } in
-    served_still w talk new
-    (still w talk new refl refl (record { number = refl; end_is = refl })
+    let new = record live { session = c.feed.new.self } in
+    served_still w live new
+    (still w live new refl refl (record { number = refl; end_is = refl })
     (c.in-Err-feed.ensures.err w)) old
     (record old { heard = heard; finish = Some finishes.Broken })
     (lost old heard (take c.in-Ok.n c.hear.new.room.items) c.in-Ok.ensures.ok.1
@@ -51,12 +51,12 @@ returns-in-Err-feed-clause-served g c w =
 
 pub returns-then-ne-clause-served : goal.returns-then-ne-clause-served
 returns-then-ne-clause-served g c w =
-    let talk = c.args.talk.now in
+    let live = c.args.live.now in
     let wire = c.args.wire.now in
     let old = carried (g.H.Hears.heard wire.reader) (g.W.Says.said wire.writer) wire.outbox
     wire.finish in
     let heard = g.H.Hears.heard c.hear.new.self in
-    then_same w talk talk old old (record old { heard = heard; finish = Some finishes.Broken })
+    then_same w live live old old (record old { heard = heard; finish = Some finishes.Broken })
     (λ honest trust s end first read written one. one)
     (lost old heard [] (c.in-Err.ensures.err ∙ sym (append-nil old.heard))
     (none_of wire.finish (sym c.is_some.ensures ∙ c.if-is_some.false)))

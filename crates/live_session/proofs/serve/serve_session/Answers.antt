@@ -1,51 +1,53 @@
 use Rattle.std.proofs.Common.{◌∙◌, None, Some, ap, sym, subst, true, false}
 use Rattle.article_verdict.specs.Config.{terms_of}
-use Rattle.live_seats.specs.Seats.{IsSeatOf, end_of}
-use Rattle.live_seats.specs.declared.session.SessionSeat.{SessionSeat}
+use Rattle.live_jobs.specs.Seats.{IsSeatOf, end_of}
+use Rattle.live_jobs.specs.declared.session.SessionSeat.{SessionSeat}
 use Rattle.live_session.proofs.Carrying.{end_of_some, held_by, never_ended, refused_by, spent_by}
-use Rattle.live_session.proofs.Talks.{then_on, unbegun, whole}
+use Rattle.live_session.proofs.LiveSessions.{then_on, unbegun, whole}
 use Rattle.live_session.proofs.serve.serve_session.Goals as goal
 use Rattle.live_session.specs.Carried.{carried}
 use Rattle.live_session.specs.Going.{hands_at}
-use Rattle.live_session.specs.declared.talk.Talk.{Talk}
+use Rattle.live_session.specs.declared.live.LiveSession.{LiveSession}
 use Rattle.live_session.specs.declared.wire.Finish.TheVariants as finishes
 
 pub returns-then-handed-ge-MOST_JOBS-clause-served
     : goal.returns-then-handed-ge-MOST_JOBS-clause-served
 returns-then-handed-ge-MOST_JOBS-clause-served g c trusted =
-    ∣ unbegun true g.J.Archive.register (terms_of c.args.hall.now.config.now) c.args.number
+    ∣ unbegun true g.J.StorePremises.register (terms_of c.args.context.now.config.now) c.args.number
     (end_of c.args.seat) c.args.peer (hands_at c.args.seat c.args.kept.items)
     (g.H.Hears.heard c.args.reader) (g.W.Says.said c.args.writer) ∣₁
 
 pub returns-then-handed-ge-MOST_JOBS-clause-formed
     : goal.returns-then-handed-ge-MOST_JOBS-clause-formed
 returns-then-handed-ge-MOST_JOBS-clause-formed g c =
-    ∣ unbegun false g.J.Archive.register (terms_of c.args.hall.now.config.now) c.args.number
+    ∣ unbegun false g.J.StorePremises.register
+    (terms_of c.args.context.now.config.now) c.args.number
     (end_of c.args.seat) c.args.peer (hands_at c.args.seat c.args.kept.items)
     (g.H.Hears.heard c.args.reader) (g.W.Says.said c.args.writer) ∣₁
 
 pub returns-in-Err-clause-served : goal.returns-in-Err-clause-served
 returns-in-Err-clause-served g c trusted =
-    ∣ unbegun true g.J.Archive.register (terms_of c.args.hall.now.config.now) c.args.number
+    ∣ unbegun true g.J.StorePremises.register (terms_of c.args.context.now.config.now) c.args.number
     (end_of c.args.seat) c.args.peer (hands_at c.args.seat c.args.kept.items)
     (g.H.Hears.heard c.args.reader) (g.W.Says.said c.args.writer) ∣₁
 
 pub returns-in-Err-clause-formed : goal.returns-in-Err-clause-formed
 returns-in-Err-clause-formed g c =
-    ∣ unbegun false g.J.Archive.register (terms_of c.args.hall.now.config.now) c.args.number
+    ∣ unbegun false g.J.StorePremises.register
+    (terms_of c.args.context.now.config.now) c.args.number
     (end_of c.args.seat) c.args.peer (hands_at c.args.seat c.args.kept.items)
     (g.H.Hears.heard c.args.reader) (g.W.Says.said c.args.writer) ∣₁
 
 pub leave-requires-clause-seat : goal.leave-requires-clause-seat
 leave-requires-clause-seat g c =
-    let P : SessionSeat → Type 0 = λ s. IsSeatOf c.args.hall.now.lanes.now s in
+    let P : SessionSeat → Type 0 = λ s. IsSeatOf c.args.context.now.channels.now s in
     subst P (sym c.break_off.ensures.seat) c.converse.ensures.seat
 
 pub returns-clause-served : goal.returns-clause-served
 returns-clause-served g c trusted =
-    let w = terms_of c.args.hall.now.config.now in
+    let w = terms_of c.args.context.now.config.now in
     let opened = c.in-Ok.opened in
-    let talk : Talk g.row.J.Denot g.J.Archive = record {
+    let live : LiveSession g.row.J.Denot g.J.StorePremises = record {
       number = c.args.number;
       session = opened.session;
       reads = c.new.result;
@@ -64,11 +66,11 @@ returns-clause-served g c trusted =
     two.finish in
     let over = carried (g.H.Hears.heard last.reader) (g.W.Says.said last.writer) last.outbox
     last.finish in
-    whole w true (λ honest. trusted) talk c.leave.new.talk c.args.peer read written
+    whole w true (λ honest. trusted) live c.leave.new.live c.args.peer read written
     opened.greeting.items left over c.unwrap_or.result c.in-Ok.ensures
-    (then_on w talk c.converse.new.talk c.leave.new.talk begins conversed left
+    (then_on w live c.converse.new.live c.leave.new.live begins conversed left
     c.converse.ensures.served
-    (then_on w c.converse.new.talk c.break_off.new.talk c.leave.new.talk conversed conversed left
+    (then_on w c.converse.new.live c.break_off.new.live c.leave.new.live conversed conversed left
     (c.break_off.ensures.gone w conversed) c.leave.ensures.served))
     (λ came replies parted carries. c.stop.ensures.same came replies parted
     (c.flush.ensures.same came replies parted carries))
@@ -78,9 +80,9 @@ returns-clause-served g c trusted =
 
 pub returns-clause-formed : goal.returns-clause-formed
 returns-clause-formed g c =
-    let w = terms_of c.args.hall.now.config.now in
+    let w = terms_of c.args.context.now.config.now in
     let opened = c.in-Ok.opened in
-    let talk : Talk g.row.J.Denot g.J.Archive = record {
+    let live : LiveSession g.row.J.Denot g.J.StorePremises = record {
       number = c.args.number;
       session = opened.session;
       reads = c.new.result;
@@ -99,11 +101,11 @@ returns-clause-formed g c =
     two.finish in
     let over = carried (g.H.Hears.heard last.reader) (g.W.Says.said last.writer) last.outbox
     last.finish in
-    whole w false (λ honest. cc) talk c.leave.new.talk c.args.peer read written
+    whole w false (λ honest. cc) live c.leave.new.live c.args.peer read written
     opened.greeting.items left over c.unwrap_or.result c.in-Ok.ensures
-    (then_on w talk c.converse.new.talk c.leave.new.talk begins conversed left
+    (then_on w live c.converse.new.live c.leave.new.live begins conversed left
     c.converse.ensures.served
-    (then_on w c.converse.new.talk c.break_off.new.talk c.leave.new.talk conversed conversed left
+    (then_on w c.converse.new.live c.break_off.new.live c.leave.new.live conversed conversed left
     (c.break_off.ensures.gone w conversed) c.leave.ensures.served))
     (λ came replies parted carries. c.stop.ensures.same came replies parted
     (c.flush.ensures.same came replies parted carries))

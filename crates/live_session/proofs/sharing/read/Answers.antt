@@ -12,10 +12,11 @@ returns-clause-read g c honest trust =
     let given = c.read-found in
     let new = given.new.reads.shown in
     let P : Chunk → Type 0 =
-    λ one. ReadsFor honest g.J.Archive.register token c.args.k mid one new in
-    block_begun g.J.Archive.register token c.args.k c.args.talk.now.reads.shown new honest mid
+    λ one. ReadsFor honest g.J.StorePremises.register token c.args.k mid one new in
+    block_begun g.J.StorePremises.register token c.args.k c.args.live.now.reads.shown new honest mid
     c.of_read.result c.begin_reads.ensures
     (subst P (sym c.of_read.ensures)
-    (block_read g.J.Archive.register token c.args.k mid new honest given.new.chunk given.result
+    (block_read g.J.StorePremises.register token c.args.k mid new honest
+    given.new.chunk given.result
     given.ensures.kept (λ yes. given.ensures.chunk (trust yes)) given.ensures.gone
     given.ensures.fault))

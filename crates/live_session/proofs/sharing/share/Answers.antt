@@ -1,7 +1,7 @@
 use Rattle.std.proofs.Common.{subst, sym}
 use Rattle.article_verdict.specs.Config.{terms_of}
-use Rattle.live_seats.specs.Seats.{IsSeatOf}
-use Rattle.live_seats.specs.declared.session.SessionSeat.{SessionSeat}
+use Rattle.live_jobs.specs.Seats.{IsSeatOf}
+use Rattle.live_jobs.specs.declared.session.SessionSeat.{SessionSeat}
 use Rattle.live_session.proofs.Sharings.{looked, nothing, offered, queued, refused, released}
 use Rattle.live_session.proofs.Sharings.{taken_up, was_read}
 use Rattle.live_session.proofs.sharing.share.Goals as goal
@@ -11,71 +11,71 @@ use Rattle.peer_session.specs.declared.steps.Step.{Step}
 
 pub returns-in-Nothing-clause-shared : goal.returns-in-Nothing-clause-shared
 returns-in-Nothing-clause-shared g c =
-    let w = terms_of c.args.hall.now.config.now in
-    let talk = c.args.talk.now in
-    let P : Step → Type 0 = λ s. SharesFor w s talk answers.Nothing talk in
-    subst P (sym c.in-Nothing.is) (nothing w talk)
+    let w = terms_of c.args.context.now.config.now in
+    let live = c.args.live.now in
+    let P : Step → Type 0 = λ s. SharesFor w s live answers.Nothing live in
+    subst P (sym c.in-Nothing.is) (nothing w live)
 
 pub returns-in-Ok-clause-shared : goal.returns-in-Ok-clause-shared
 returns-in-Ok-clause-shared g c =
-    let w = terms_of c.args.hall.now.config.now in
-    let talk = c.args.talk.now in
-    let P : Step → Type 0 = λ s. SharesFor w s talk (answers.Offer c.in-Ok.offer) talk in
-    subst P (sym c.in-Offer.is) (offered w talk c.in-Offer.id c.in-Ok.offer)
+    let w = terms_of c.args.context.now.config.now in
+    let live = c.args.live.now in
+    let P : Step → Type 0 = λ s. SharesFor w s live (answers.Offer c.in-Ok.offer) live in
+    subst P (sym c.in-Offer.is) (offered w live c.in-Offer.id c.in-Ok.offer)
 
 pub returns-in-Look-clause-shared : goal.returns-in-Look-clause-shared
 returns-in-Look-clause-shared g c =
-    let w = terms_of c.args.hall.now.config.now in
-    let talk = c.args.talk.now in
-    let P : Step → Type 0 = λ s. SharesFor w s talk (answers.Look c.look.result) talk in
-    subst P (sym c.in-Look.is) (looked w talk c.in-Look.id c.look.result)
+    let w = terms_of c.args.context.now.config.now in
+    let live = c.args.live.now in
+    let P : Step → Type 0 = λ s. SharesFor w s live (answers.Look c.look.result) live in
+    subst P (sym c.in-Look.is) (looked w live c.in-Look.id c.look.result)
 
 pub returns-in-Read-clause-seat : goal.returns-in-Read-clause-seat
 returns-in-Read-clause-seat g c =
-    let P : SessionSeat → Type 0 = λ s. IsSeatOf c.args.hall.now.lanes.now s in
+    let P : SessionSeat → Type 0 = λ s. IsSeatOf c.args.context.now.channels.now s in
     subst P (sym c.read.ensures.seat) c.requires.seat
 
 pub returns-in-Read-clause-shared : goal.returns-in-Read-clause-shared
 returns-in-Read-clause-shared g c =
-    let w = terms_of c.args.hall.now.config.now in
-    let talk = c.args.talk.now in
-    let P : Step → Type 0 = λ s. SharesFor w s talk (answers.Chunk c.read.result) c.read.new.talk in
+    let w = terms_of c.args.context.now.config.now in
+    let live = c.args.live.now in
+    let P : Step → Type 0 = λ s. SharesFor w s live (answers.Chunk c.read.result) c.read.new.live in
     subst P (sym c.in-Read.is)
-    (was_read w talk c.in-Read.token c.in-Read.k c.read.result c.read.new.talk c.read.ensures.rest
+    (was_read w live c.in-Read.token c.in-Read.k c.read.result c.read.new.live c.read.ensures.rest
     c.read.ensures.read)
 
 pub returns-in-Ok-take_queue-clause-shared : goal.returns-in-Ok-take_queue-clause-shared
 returns-in-Ok-take_queue-clause-shared g c =
-    let w = terms_of c.args.hall.now.config.now in
-    let talk = c.args.talk.now in
+    let w = terms_of c.args.context.now.config.now in
+    let live = c.args.live.now in
     let taken = c.in-Ok-take_queue.taken in
-    let P : Step → Type 0 = λ s. SharesFor w s talk (answers.Queue taken) talk in
+    let P : Step → Type 0 = λ s. SharesFor w s live (answers.Queue taken) live in
     subst P (sym c.in-TakeQueue.is)
-    (queued w talk c.in-TakeQueue.feed c.in-TakeQueue.most taken c.in-Ok-take_queue.ensures)
+    (queued w live c.in-TakeQueue.feed c.in-TakeQueue.most taken c.in-Ok-take_queue.ensures)
 
 pub returns-in-Ok-refuse-clause-shared : goal.returns-in-Ok-refuse-clause-shared
 returns-in-Ok-refuse-clause-shared g c =
-    let w = terms_of c.args.hall.now.config.now in
-    let talk = c.args.talk.now in
-    let P : Step → Type 0 = λ s. SharesFor w s talk answers.Nothing talk in
-    subst P (sym c.in-Refuse.is) (refused w talk c.in-Refuse.id)
+    let w = terms_of c.args.context.now.config.now in
+    let live = c.args.live.now in
+    let P : Step → Type 0 = λ s. SharesFor w s live answers.Nothing live in
+    subst P (sym c.in-Refuse.is) (refused w live c.in-Refuse.id)
 
 pub returns-in-Ok-take-clause-shared : goal.returns-in-Ok-take-clause-shared
 returns-in-Ok-take-clause-shared g c =
-    let w = terms_of c.args.hall.now.config.now in
-    let talk = c.args.talk.now in
-    let P : Step → Type 0 = λ s. SharesFor w s talk (answers.Take c.in-Ok-take.told) talk in
+    let w = terms_of c.args.context.now.config.now in
+    let live = c.args.live.now in
+    let P : Step → Type 0 = λ s. SharesFor w s live (answers.Take c.in-Ok-take.told) live in
     subst P (sym c.in-Take.is)
-    (taken_up w talk c.in-Take.id c.in-Ok-take.told c.in-Ok-take.ensures.once)
+    (taken_up w live c.in-Take.id c.in-Ok-take.told c.in-Ok-take.ensures.once)
 
 pub returns-in-Slot-clause-seat : goal.returns-in-Slot-clause-seat
 returns-in-Slot-clause-seat g c =
-    let P : SessionSeat → Type 0 = λ s. IsSeatOf c.args.hall.now.lanes.now s in
+    let P : SessionSeat → Type 0 = λ s. IsSeatOf c.args.context.now.channels.now s in
     subst P (sym c.look_in_slot.ensures.seat) c.requires.seat
 
 pub returns-clause-shared : goal.returns-clause-shared
 returns-clause-shared g c =
-    let w = terms_of c.args.hall.now.config.now in
-    let talk = c.args.talk.now in
-    let P : Step → Type 0 = λ s. SharesFor w s talk answers.Nothing talk in
-    subst P (sym c.in-Release.is) (released w talk c.in-Release.id)
+    let w = terms_of c.args.context.now.config.now in
+    let live = c.args.live.now in
+    let P : Step → Type 0 = λ s. SharesFor w s live answers.Nothing live in
+    subst P (sym c.in-Release.is) (released w live c.in-Release.id)

@@ -8,7 +8,7 @@ returns-in-Memory-clause-memory g c is =
 
 pub returns-clause-heard : goal.returns-clause-heard
 returns-clause-heard g c honest w m d gathered told some planned is =
-    heard_for c.args.talk.now.number c.args.talk.now.session c.args.answer c.absorb-2.result.items
+    heard_for c.args.live.now.number c.args.live.now.session c.args.answer c.absorb-2.result.items
     c.absorb-2.new.self c.absorb-2.ensures.heard c.absorb-2.ensures.given w m d gathered told
     planned honest is
 

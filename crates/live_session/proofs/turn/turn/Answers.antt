@@ -1,29 +1,29 @@
 use Rattle.std.proofs.Common.{refl, subst, sym}
 use Rattle.article_verdict.specs.Config.{terms_of}
-use Rattle.live_seats.specs.Seats.{IsSeatOf}
-use Rattle.live_seats.specs.declared.session.SessionSeat.{SessionSeat}
-use Rattle.live_session.proofs.Talks.{let_go, still, turned}
+use Rattle.live_jobs.specs.Seats.{IsSeatOf}
+use Rattle.live_jobs.specs.declared.session.SessionSeat.{SessionSeat}
+use Rattle.live_session.proofs.LiveSessions.{let_go, still, turned}
 use Rattle.live_session.proofs.turn.turn.Goals as goal
 use Rattle.live_session.specs.Going.{said_in}
 
 pub returns-in_default-clause-went : goal.returns-in_default-clause-went
 returns-in_default-clause-went g c =
-    let w = terms_of c.args.hall.now.config.now in
-    let talk = c.args.talk.now in
-    still w talk (record talk { session = c.plan.new.self }) refl refl
+    let w = terms_of c.args.context.now.config.now in
+    let live = c.args.live.now in
+    still w live (record live { session = c.plan.new.self }) refl refl
     (record { number = refl; end_is = refl }) (c.in_default.ensures.err w)
 
 pub returns-then-is_resting-clause-seat : goal.returns-then-is_resting-clause-seat
 returns-then-is_resting-clause-seat g c =
-    let P : SessionSeat → Type 0 = λ s. IsSeatOf c.args.hall.now.lanes.now s in
+    let P : SessionSeat → Type 0 = λ s. IsSeatOf c.args.context.now.channels.now s in
     subst P (sym c.hear.ensures.seat) c.requires.seat
 
 pub returns-then-is_resting-clause-went : goal.returns-then-is_resting-clause-went
 returns-then-is_resting-clause-went g c =
-    let w = terms_of c.args.hall.now.config.now in
-    let talk = c.args.talk.now in
-    let planned = record talk { session = c.plan.new.self } in
-    let_go w talk c.hear.new.talk c.in-Ok.step c.now-now.result planned planned
+    let w = terms_of c.args.context.now.config.now in
+    let live = c.args.live.now in
+    let planned = record live { session = c.plan.new.self } in
+    let_go w live c.hear.new.live c.in-Ok.step c.now-now.result planned planned
     (said_in c.hear.result) c.in-Ok.ensures.due
     (record { reads = refl; hands = refl; place = record { number = refl; end_is = refl } })
     (record { session = refl; reads = refl; hands = refl })
@@ -31,16 +31,16 @@ returns-then-is_resting-clause-went g c =
 
 pub returns-then-not-is_let_in-clause-seat : goal.returns-then-not-is_let_in-clause-seat
 returns-then-not-is_let_in-clause-seat g c =
-    let P : SessionSeat → Type 0 = λ s. IsSeatOf c.args.hall.now.lanes.now s in
+    let P : SessionSeat → Type 0 = λ s. IsSeatOf c.args.context.now.channels.now s in
     subst P (sym c.hear-then-not-is_let_in.ensures.seat) c.requires.seat
 
 pub returns-then-not-is_let_in-clause-went : goal.returns-then-not-is_let_in-clause-went
 returns-then-not-is_let_in-clause-went g c =
-    let w = terms_of c.args.hall.now.config.now in
-    let talk = c.args.talk.now in
-    let planned = record talk { session = c.plan.new.self } in
+    let w = terms_of c.args.context.now.config.now in
+    let live = c.args.live.now in
+    let planned = record live { session = c.plan.new.self } in
     let hear = c.hear-then-not-is_let_in in
-    let_go w talk hear.new.talk c.in-Ok.step c.now-now.result planned planned
+    let_go w live hear.new.live c.in-Ok.step c.now-now.result planned planned
     (said_in hear.result) c.in-Ok.ensures.due
     (record { reads = refl; hands = refl; place = record { number = refl; end_is = refl } })
     (record { session = refl; reads = refl; hands = refl })
@@ -48,16 +48,16 @@ returns-then-not-is_let_in-clause-went g c =
 
 pub returns-clause-seat : goal.returns-clause-seat
 returns-clause-seat g c =
-    let P : SessionSeat → Type 0 = λ s. IsSeatOf c.args.hall.now.lanes.now s in
+    let P : SessionSeat → Type 0 = λ s. IsSeatOf c.args.context.now.channels.now s in
     subst P (sym c.hear-2.ensures.seat) c.share-answer.ensures.seat
 
 pub returns-clause-went : goal.returns-clause-went
 returns-clause-went g c =
-    let w = terms_of c.args.hall.now.config.now in
-    let talk = c.args.talk.now in
-    let planned = record talk { session = c.plan.new.self } in
+    let w = terms_of c.args.context.now.config.now in
+    let live = c.args.live.now in
+    let planned = record live { session = c.plan.new.self } in
     let share = c.share-answer in
-    turned w talk c.hear-2.new.talk c.in-Ok.step c.now-now.result planned share.new.talk
+    turned w live c.hear-2.new.live c.in-Ok.step c.now-now.result planned share.new.live
     share.result (said_in c.hear-2.result) c.now-now.ensures c.in-Ok.ensures.due
     (record { reads = refl; hands = refl; place = record { number = refl; end_is = refl } })
     share.ensures.shared share.ensures.place share.ensures.memory

@@ -8,7 +8,8 @@ use Rattle.live_store.proofs.fetching.rest.Goals as goal
 
 pub loop-k-preserved : goal.loop-k-preserved
 loop-k-preserved g c = λ trusted.
-    let reading = subst (IsReading g.J.Archive.register (token_view c.args.token.now) c.loop-k.k
+    let reading =
+    subst (IsReading g.J.StorePremises.register (token_view c.args.token.now) c.loop-k.k
     c.read_block-reading.new.chunk) c.in-Ok-Chunk.field-0-is
     (c.in-Ok-Chunk.ensures.chunk trusted) in
     let same = subst (IsOfRecord c.args.shown.now) c.in-Ok-Chunk.field-0-is

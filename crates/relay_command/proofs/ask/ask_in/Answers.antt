@@ -1,6 +1,6 @@
 use Rattle.std.proofs.Common.{subst}
 use Rattle.std.specs.Io.KnownBytes.{Appends}
-use Rattle.relay_drill.specs.Written.{GainsFront}
+use Rattle.relay_report.specs.Written.{GainsFront}
 use Rattle.relay_command.proofs.Asks.{answered}
 use Rattle.relay_command.proofs.ask.ask_in.Goals as goal
 

@@ -9,16 +9,16 @@ use Rattle.relay_conf.proofs.laws.entries_are_sound.Goals as goal
 
 pub returns-clause-classes : goal.returns-clause-classes
 returns-clause-classes c =
-    let methods = c.args.config.now.methods.items in
-    All-map (λ (entry : Entry). entry.class < 2 ^ 8) entry_view methods
-    (λ k d within. (get_or methods k d).fits)
+    let storage_entries = c.args.config.now.storage_entries.items in
+    All-map (λ (entry : Entry). entry.class < 2 ^ 8) entry_view storage_entries
+    (λ k d within. (get_or storage_entries k d).fits)
 
 pub returns-clause-groups : goal.returns-clause-groups
 returns-clause-groups c =
     let config = c.args.config.now in
     let groups = map group_view config.buffers.groups.items in
     All-map (λ (entry : Entry). entry.group < length (places_of_groups config.buffers)) entry_view
-    config.methods.items
+    config.storage_entries.items
     (λ k d within.
     omega (
       arith,

@@ -6,7 +6,7 @@ use Rattle.relay_conf.specs.Settings.{buffers_view}
 use Rattle.relay_conf.specs.Storage.{entry_view}
 use Rattle.relay_conf.specs.StorageDraft.{draft_view, no_lines, IsDraftOf}
 use Rattle.relay_conf.specs.StorageFile.{LineSays, early_fault, storage_said}
-use Rattle.relay_conf.specs.declared.settings.Method.{Method}
+use Rattle.relay_conf.specs.declared.settings.StorageEntry.{StorageEntry}
 use Rattle.relay_conf.proofs.LinesRead.{read_of, draft_fails}
 use Rattle.relay_conf.proofs.StorageReadings.{no_draft, storage_gives}
 use Rattle.relay_conf.proofs.storage.read_storage.Goals as goal
@@ -19,7 +19,8 @@ returns-in_err-draft c =
     let lines =
     read_of c.in_ok-lines.lines.items c.deref.result.now (lines_of c.args.text.now)
     c.deref.ensures.value c.in_ok-lines.ensures in
-    draft_fails (λ (methods : Vec Method). map entry_view methods.items) LineSays
+    draft_fails (λ (storage_entries : Vec StorageEntry). map entry_view storage_entries.items)
+    LineSays
     (early_fault groups) (IsDraftOf groups) (storage_said groups) (lines_of c.args.text.now) error
     c.from_residual-in_err-draft.result c.from_residual-in_err-draft.ensures.1
     (subst (λ (read : List (List ℕ)).

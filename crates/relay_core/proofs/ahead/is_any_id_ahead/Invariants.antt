@@ -1,6 +1,6 @@
 use Rattle.std.proofs.Common.{◌≡◌, length, map}
 use Rattle.std.specs.List.{list_any}
-use Rattle.history_text.specs.Views.{id_view}
+use Rattle.id_history.specs.Views.{id_view}
 use Rattle.relay_core.specs.Ahead.{filled_view, is_id_ahead}
 use Rattle.relay_core.proofs.ahead.is_any_id_ahead.Given as goal
 

@@ -2,7 +2,7 @@ use Rattle.std.proofs.Common.{◌≡◌, ◌<◌, arith, length, get_or, refl, r
 use Rattle.std.proofs.lemmas.Option.{slice_get_read}
 use Rattle.article_verdict.proofs.SoundTerms.{are_sound}
 use Rattle.article_verdict.specs.Config.{terms_of}
-use Rattle.block_shelf.proofs.NewShelf.{group_at}
+use Rattle.block_shelf.proofs.NewBufferSet.{group_at}
 use Rattle.relay_conf.specs.Places.{group_over, group_view, numbered_buffers}
 use Rattle.relay_conf.specs.Settings.{places_of_groups}
 use Rattle.relay_core.proofs.Fillings.{few_members, sizes_join}

@@ -18,7 +18,8 @@ returns-then-is_refused g c = λ next.
 pub returns : goal.returns
 returns g c = λ next.
     let stand = stand_view c.args.stand.now in
-    rw c.in_ok-push.ensures.items (goes_told _ _ _ _ _ _ _ (tells_event _ _ _ _ _ _ _ (does_open c.args.session c.args.peer
+    rw c.in_ok-push.ensures.items
+    (goes_told _ _ _ _ _ _ _ (tells_event _ _ _ _ _ _ _ (does_open c.args.session c.args.peer
     (next (with_session stand c.args.session)) (next stand)
     (output_view c.step-output.result) false (sym c.if-is_refused.ensures))
     c.step-output.ensures.steps c.step-output.ensures.frame) c.in_ok-print.ensures)

@@ -7,7 +7,8 @@ use Rattle.relay_drill.proofs.play.rounds.Goals as goal
 pub loop-passed-init : goal.loop-passed-init
 loop-passed-init g c = λ more.
     let all : c.args.count ≡ c.args.count - 0 = omega arith in
-    rw (← all) (goes_none (round_each c.args.groups c.args.now c.args.sessions.now c.args.count more)
+    rw (← all) (goes_none
+    (round_each c.args.groups c.args.now c.args.sessions.now c.args.count more)
     c.args.relay.now _)
 
 pub loop-passed-preserved : goal.loop-passed-preserved

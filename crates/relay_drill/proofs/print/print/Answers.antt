@@ -1,6 +1,6 @@
 use Rattle.std.proofs.Common.{codes}
 use Rattle.relay_drill.specs.Print.{session_line, session_lines}
-use Rattle.relay_drill.proofs.Writes.{front_before, writes_behind, writes_failed}
+use Rattle.relay_report.proofs.Writes.{front_before, writes_behind, writes_failed}
 use Rattle.relay_drill.proofs.print.print.Goals as goal
 
 pub returns-in_err-print_lines-in-Ended : goal.returns-in_err-print_lines-in-Ended

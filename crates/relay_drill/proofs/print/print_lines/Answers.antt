@@ -1,7 +1,7 @@
 use Rattle.std.proofs.Common.{◌++◌}
-use Rattle.relay_drill.proofs.Prints.{appends_both, one_more_line}
+use Rattle.relay_drill.proofs.Prints.{front_of_lines, one_more_line}
 use Rattle.relay_drill.specs.Print.{session_line}
-use Rattle.relay_drill.proofs.Writes.{front_of_lines, writes_failed}
+use Rattle.relay_report.proofs.Writes.{appends_both, writes_failed}
 use Rattle.relay_drill.proofs.print.print_lines.Goals as goal
 
 pub loop-rest-preserved : goal.loop-rest-preserved

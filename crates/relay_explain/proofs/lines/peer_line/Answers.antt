@@ -8,8 +8,10 @@ use Rattle.relay_explain.specs.Lines.{begins_with, words_in}
 pub returns : goal.returns
 returns c =
     let found = position_from_yields_List
-    (λ line. begins_with c.args.key.now c.args.name.now (words_in line.now)) _ _ c.position.result c.position.ensures.ran
+    (λ line. begins_with c.args.key.now c.args.name.now (words_in line.now)) _ _ c.position.result
+    c.position.ensures.ran
     (YieldsList-from_slice c.args.lines.now c.iter.ensures.rest)
     (λ x b q k. search (rules, tests)) in
-    line_found (λ line. begins_with c.args.key.now c.args.name.now (words_in line)) c.args.lines.now c.position.result
+    line_found (λ line. begins_with c.args.key.now c.args.name.now (words_in line)) c.args.lines.now
+    c.position.result
     c.unwrap_or.result found c.unwrap_or.ensures

@@ -7,7 +7,8 @@ pub returns : goal.returns
 unfolding peer_odds
 returns c =
     let served = c.first_on.ensures
-    ∙ ap (λ peers. first_on c.args.peer.now.port (take c.args.number peers)) c.deref.ensures.value in
+    ∙ ap (λ peers. first_on c.args.peer.now.port (take c.args.number peers))
+    c.deref.ensures.value in
     let known = c.first_known_as.ensures
     ∙ ap (λ peers. first_known_as c.as_slice.result.now (take c.args.number peers))
     c.deref-2.ensures.value

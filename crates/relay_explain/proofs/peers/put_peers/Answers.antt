@@ -11,7 +11,8 @@ loop-number-preserved c =
     omega (arith, all, c.loop-number-test.true) in
     let one : c.peer-item.result
     ≡ get_or c.args.relay.now.peers.items c.loop-number.number c.peer-item.result =
-    rw (ap (λ peers. get_or peers c.loop-number.number c.peer-item.result) c.deref-peer-items.ensures.value) at c.peer-item.is in
+    rw (ap (λ peers. get_or peers c.loop-number.number c.peer-item.result)
+    c.deref-peer-items.ensures.value) at c.peer-item.is in
     told_more
     (peer_text c.args.relay.now (map (λ line. line.now) c.args.lines.now))
     c.args.relay.now.peers.items c.loop-number.number c.peer-item.result _ _ _ there

@@ -8,4 +8,4 @@ abbrev pub invariant-loop-place : goal.invariant-loop-place
 invariant-loop-place l =
     l.rows.items
     ≡ map (said_entry (map (λ line. line.now) l.fn.lines))
-    (take l.place (enumerate_from 0 l.fn.methods))
+    (take l.place (enumerate_from 0 l.fn.storage_entries))

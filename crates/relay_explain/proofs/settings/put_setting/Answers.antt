@@ -1,4 +1,5 @@
-use Rattle.std.proofs.Common.{◌≡◌, ◌<◌, ◌≤◌, ◌++◌, ℕ, List, true, false, arith, codes, length, map, refl}
+use Rattle.std.proofs.Common.{◌≡◌, ◌<◌, ◌≤◌, ◌++◌, ℕ, List, true, false, arith, codes, length, map}
+use Rattle.std.proofs.Common.{refl}
 use Rattle.std.proofs.lemmas.Bool.{le-ltb, lt-ltb}
 use Rattle.std.proofs.lemmas.List.{length-map}
 use Rattle.std.specs.Borrow.{Bor}

@@ -6,8 +6,11 @@ use Rattle.relay_explain.proofs.sums.connections_of.Goals as goal
 pub loop-peer-preserved : goal.loop-peer-preserved
 unfolding connections_of
 loop-peer-preserved c =
-    let there : c.loop-peer.peer-index < length c.args.peers.now = omega (arith, c.loop-peer-test.true) in (
-      one_more _ c.args.peers.now c.peer-item.result c.loop-peer.peer-index c.loop-peer.connections _
-          c.peer-item.is there c.loop-peer.invariant.0 (c.from-connections.ensures ∙ c.served_of.ensures),
+    let there : c.loop-peer.peer-index < length c.args.peers.now =
+    omega (arith, c.loop-peer-test.true) in (
+      one_more _ c.args.peers.now c.peer-item.result c.loop-peer.peer-index
+          c.loop-peer.connections _
+          c.peer-item.is there c.loop-peer.invariant.0
+          (c.from-connections.ensures ∙ c.served_of.ensures),
       omega (arith, c.loop-peer.invariant.1),
     )

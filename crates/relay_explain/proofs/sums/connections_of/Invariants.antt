@@ -5,4 +5,5 @@ use Rattle.relay_explain.proofs.sums.connections_of.Given as goal
 -- what is added up is of those so far, and no more than so much for each
 abbrev pub invariant-loop-peer : goal.invariant-loop-peer
 invariant-loop-peer l =
-    (l.connections ≡ terms.connections_of (take l.peer-index l.peers)) × (l.connections ≤ l.peer-index * 2 ^ 32)
+    (l.connections ≡ terms.connections_of (take l.peer-index l.peers))
+    × (l.connections ≤ l.peer-index * 2 ^ 32)

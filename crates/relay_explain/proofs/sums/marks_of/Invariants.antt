@@ -5,4 +5,5 @@ use Rattle.relay_explain.proofs.sums.marks_of.Given as goal
 -- what is added up is of those so far, and no more than so much for each
 abbrev pub invariant-loop-buffer : goal.invariant-loop-buffer
 invariant-loop-buffer l =
-    (l.octets ≡ terms.marks_of (take l.buffer-index l.buffers)) × (l.octets ≤ l.buffer-index * 2 ^ 37)
+    (l.octets ≡ terms.marks_of (take l.buffer-index l.buffers))
+    × (l.octets ≤ l.buffer-index * 2 ^ 37)

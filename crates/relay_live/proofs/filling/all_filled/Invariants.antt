@@ -12,6 +12,7 @@ invariant-loop-unopened g l = record {
   count : vec_len l.filled ≡ l.unopened-index;
   room : length l.started.buffers.items ≤ vec_capacity l.filled;
   said : (w : Terms) (σ : State) (failures : ℕ → ℕ)
-      → BuffersKeep (buffers_inside (map unopened_in l.started.buffers.items)) w σ.begun σ.kept failures
+      → BuffersKeep (buffers_inside (map unopened_in l.started.buffers.items)) w σ.begun
+      σ.kept failures
       → map filled_view l.filled.items ≡ take l.unopened-index (filled_of w σ);
 }

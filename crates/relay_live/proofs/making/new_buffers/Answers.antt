@@ -1,4 +1,5 @@
-use Rattle.std.proofs.Common.{◌≡◌, ◌∙◌, ◌++◌, ◌∷◌, [], ap, append_assoc, arith, length, rules, subst, sym}
+use Rattle.std.proofs.Common.{◌≡◌, ◌∙◌, ◌++◌, ◌∷◌, [], ap, append_assoc, arith, length, rules}
+use Rattle.std.proofs.Common.{subst, sym}
 use Rattle.std.proofs.lemmas.List.Elements.{All-rest}
 use Rattle.std.specs.Vec.Iter.{into_iter_items}
 use Rattle.std.proofs.lemmas.List.{nil_from_length}
@@ -27,7 +28,8 @@ loop-store-preserved g c =
       c.loop-store.invariant.over.count,
     ) in
     record {
-      all = append_assoc c.loop-store.yielded (c.in-Some.store ∷ []) (into_iter_items c.next.new.self)
+      all = append_assoc c.loop-store.yielded (c.in-Some.store ∷ [])
+          (into_iter_items c.next.new.self)
           ∙ ap (λ rest. c.loop-store.yielded ++ rest) (sym c.in-Some.ensures.steps.0)
           ∙ c.loop-store.invariant.all;
       over = subst (AreEach IsNewOver (c.loop-store.yielded ++ c.in-Some.store ∷ []))

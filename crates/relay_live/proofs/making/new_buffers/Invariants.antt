@@ -13,6 +13,6 @@ invariant-loop-store g l = record {
   over : AreEach IsNewOver l.yielded l.buffers.items;
   count : length l.buffers.items + into_iter_len l.store-iterator ≡ length l.fn.stores.items;
   room : length l.fn.stores.items ≤ vec_capacity l.buffers;
-  honest : g.J.Archive.trusted ≡ true
+  honest : g.J.StorePremises.trusted ≡ true
       → All g.S.BlockStore.honest (into_iter_items l.store-iterator);
 }

@@ -1,19 +1,22 @@
 use Rattle.std.proofs.Common.{[], arith}
 use Rattle.article_verdict.specs.Config.{terms_of}
-use Rattle.relay_live.specs.Ends.{kept_of, peer_of, terms_at}
+use Rattle.relay_live.specs.PeerServers.{kept_of, peer_of, terms_at}
 use Rattle.relay_live.proofs.Accounts.{length_snoc, map_next}
 use Rattle.relay_live.proofs.running.ends_of.Goals as goal
 
-pub loop-door-preserved : goal.loop-door-preserved
-loop-door-preserved g c =
-    let inv = c.loop-door.invariant in
+pub loop-peer_source-preserved : goal.loop-peer_source-preserved
+loop-peer_source-preserved g c =
+    let inv = c.loop-peer_source.invariant in
     let steps = c.in-Some.ensures.steps in
     let pushed = c.push_reserved.ensures in
     let long = length_snoc _ _ _ pushed.items in
     record {
       count = omega (arith, long, inv.count, steps.1);
       room = omega (arith, inv.room, pushed.capacity);
-      peers = map_next (λ d. d.peer) peer_of _ _ _ _ _ _ _ inv.peers pushed.items steps.0 c.new.ensures.peer;
-      terms = map_next (λ d. terms_of c.args.config.now) terms_at _ _ _ _ _ _ _ inv.terms pushed.items steps.0 c.new.ensures.terms;
-      new = map_next (λ d. []) kept_of _ _ _ _ _ _ _ inv.new pushed.items steps.0 c.new.ensures.none;
+      peers = map_next (λ d. d.peer) peer_of _ _ _ _ _ _ _ inv.peers pushed.items steps.0
+          c.new.ensures.peer;
+      terms = map_next (λ d. terms_of c.args.config.now) terms_at _ _ _ _ _ _ _ inv.terms
+          pushed.items steps.0 c.new.ensures.terms;
+      new = map_next (λ d. []) kept_of _ _ _ _ _ _ _ inv.new pushed.items steps.0
+          c.new.ensures.none;
     }

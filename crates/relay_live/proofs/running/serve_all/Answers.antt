@@ -4,109 +4,126 @@ use Rattle.std.specs.Prelude.{slice_get}
 use Rattle.std.proofs.lemmas.List.{length-map}
 use Rattle.article_verdict.specs.Config.{terms_of}
 use Rattle.job_queue.specs.declared.parcel.Handed.{Handed}
-use Rattle.live_fates.specs.Fates.{FitsJob}
-use Rattle.live_seats.specs.Gathered.{AllTold, NoneElse, RestsFit, hands_of}
-use Rattle.live_seats.specs.Rows.{From}
-use Rattle.live_seats.specs.Seats.{left_by}
-use Rattle.live_seats.specs.Started.{AllKept, Ended, Open, Ready}
-use Rattle.live_seats.specs.declared.lane.Lane.{Lane}
-use Rattle.live_seats.specs.declared.outcome.Done.{Done}
-use Rattle.relay_live.specs.Ends.{kept_of, peer_of, terms_at}
+use Rattle.live_jobs.specs.StoreResults.{FitsJob}
+use Rattle.live_jobs.specs.Gathered.{AllTold, NoneElse, RestsFit, hands_of}
+use Rattle.live_jobs.specs.Rows.{From}
+use Rattle.live_jobs.specs.Seats.{left_by}
+use Rattle.live_jobs.specs.Started.{AllKept, Ended, Open, Ready}
+use Rattle.live_jobs.specs.declared.channel.JobChannel.{JobChannel}
+use Rattle.live_jobs.specs.declared.outcome.FinishedJob.{FinishedJob}
+use Rattle.relay_live.specs.PeerServers.{kept_of, peer_of, terms_at}
 use Rattle.relay_live.specs.Sessions.{Accounted, HasLists}
 use Rattle.relay_live.proofs.Accounts.{at_map, each_same, marked, new_accounts}
 use Rattle.relay_live.proofs.Lists.{lists_of_all}
-use Rattle.relay_live.proofs.Sent.{fate_send}
+use Rattle.relay_live.proofs.Sent.{store_result_send}
 use Rattle.relay_live.proofs.running.serve_all.Goals as goal
 
 pub serve_seats-requires-clause-ends : goal.serve_seats-requires-clause-ends
 serve_seats-requires-clause-ends g c κs within =
-    subst (λ (ls : List Lane). From (λ e p. Open ls e p.seat) 0 c.in_ok-lanes.field-0.plans.items)
-    (sym c.as_slice-lanes.ensures.value) (λ k p at. (c.in_ok-lanes.ensures.ends k p at).0)
+    subst (λ (ls : List JobChannel). From (λ e p. Open ls e p.seat) 0
+    c.in_ok-channels.field-0.plans.items)
+    (sym c.as_slice-channels.ensures.value) (λ k p at. (c.in_ok-channels.ensures.ends k p at).0)
 
 -- no end has handed anything over, or kept anything
 pub serve_seats-requires-clause-kept : goal.serve_seats-requires-clause-kept
 serve_seats-requires-clause-kept g c κs within k p at =
-    let unused = c.in_ok-lanes.ensures.ends k p at in
-    let same = c.in_ok-lanes.ensures.services in
+    let unused = c.in_ok-channels.ensures.ends k p at in
+    let same = c.in_ok-channels.ensures.services in
     let there = ap (λ l. slice_get l k) (sym same) ∙ at_map (λ q. q.service) _ k p at in
-    new_accounts _ _ _ _ _ c.in_ok-lanes.field-0.lanes.items _ _ unused.1 unused.2
+    new_accounts _ _ _ _ _ c.in_ok-channels.field-0.channels.items _ _ unused.1 unused.2
     (each_same kept_of [] _ _ k p.service c.in_ok-ends.ensures.new there)
 
 pub close-totals-requires-clause-writers : goal.close-totals-requires-clause-writers
 close-totals-requires-clause-writers g c =
     let writers = c.in-Ok.ensures.writers in
-    let lanes = c.in_ok-lanes.ensures.lanes in (
-      writers.0 ∙ lanes.1 ∙ sym lanes.0 ∙ sym (ap length c.as_slice-lanes.ensures.value),
-      subst (λ (n : ℕ). From (λ k w. Ended c.as_slice-lanes.result.now n k w.pass w.lent w.closed.items) 0 c.in-Ok.seats.writers.items) (sym c.in-Ok.ensures.lefts.0) writers.1,
+    let channels = c.in_ok-channels.ensures.channels in (
+      writers.0 ∙ channels.1 ∙ sym channels.0 ∙ sym (ap length c.as_slice-channels.ensures.value),
+      subst (λ (n : ℕ).
+          From (λ k w. Ended c.as_slice-channels.result.now n k w.pass w.lent w.closed.items) 0
+          c.in-Ok.seats.writers.items) (sym c.in-Ok.ensures.lefts.0) writers.1,
     )
 
 pub close-totals-requires-clause-rests : goal.close-totals-requires-clause-rests
 close-totals-requires-clause-rests g c =
-    let long = sym (c.in-Ok.ensures.lefts.0 ∙ c.in_ok-lanes.ensures.lanes.2) in
-    subst (λ (x : List Lane × ℕ). RestsFit x.0 x.1 c.in_ok-lanes.field-0.rests.items) (λ i. (sym c.as_slice-lanes.ensures.value i, long i)) c.in_ok-lanes.ensures.rests
+    let long = sym (c.in-Ok.ensures.lefts.0 ∙ c.in_ok-channels.ensures.channels.2) in
+    subst (λ (x : List JobChannel × ℕ). RestsFit x.0 x.1 c.in_ok-channels.field-0.rests.items)
+    (λ i. (sym c.as_slice-channels.ensures.value i, long i)) c.in_ok-channels.ensures.rests
 
 -- all ends come back, and nobody of them is let go where they are compared
 pub returns-clause-lefts : goal.returns-clause-lefts
 returns-clause-lefts g c =
-    let doors = sym (length-map c.in_ok-ends.ends.items kept_of) ∙ ap length c.in_ok-ends.ensures.new ∙ length-map c.args.doors.items _ in
+    let peer_sources = sym (length-map c.in_ok-ends.ends.items kept_of)
+    ∙ ap length c.in_ok-ends.ensures.new ∙ length-map c.args.peer_sources.items _ in
     sym (length-map c.close-totals.new.seats.lefts.items left_by)
     ∙ ap length c.close-totals.ensures.handed
     ∙ length-map c.in-Ok.seats.lefts.items left_by
-    ∙ c.in-Ok.ensures.lefts.0 ∙ c.in_ok-lanes.ensures.lanes.2 ∙ doors
+    ∙ c.in-Ok.ensures.lefts.0 ∙ c.in_ok-channels.ensures.channels.2 ∙ peer_sources
 
 pub returns-clause-lists : goal.returns-clause-lists
 returns-clause-lists g c =
     subst (HasLists c.args.groups) (sym c.close-totals.ensures.handed)
-    (lists_of_all c.as_slice-lanes.result.now c.args.groups c.in-Ok.seats.lefts.items
-    (ap length c.as_slice-lanes.ensures.value ∙ c.in_ok-lanes.ensures.lanes.0)
+    (lists_of_all c.as_slice-channels.result.now c.args.groups c.in-Ok.seats.lefts.items
+    (ap length c.as_slice-channels.ensures.value ∙ c.in_ok-channels.ensures.channels.0)
     (λ k left at. (c.in-Ok.ensures.lefts.1 k left at).1))
 
 -- so do all writers
 pub returns-clause-writers : goal.returns-clause-writers
 returns-clause-writers g c =
-    sym (length-map c.close-totals.new.seats.writers.items (λ w. w.done.items))
-    ∙ ap length c.close-totals.ensures.done
-    ∙ length-map c.in-Ok.seats.writers.items (λ w. w.done.items)
-    ∙ c.in-Ok.ensures.writers.0 ∙ c.in_ok-lanes.ensures.lanes.1
+    sym (length-map c.close-totals.new.seats.writers.items (λ w. w.finished.items))
+    ∙ ap length c.close-totals.ensures.finished
+    ∙ length-map c.in-Ok.seats.writers.items (λ w. w.finished.items)
+    ∙ c.in-Ok.ensures.writers.0 ∙ c.in_ok-channels.ensures.channels.1
 
 pub returns-clause-jobs : goal.returns-clause-jobs
 returns-clause-jobs g c =
-    subst (λ (x : List (List (Done _)) × List (List (List Handed))). AllTold (FitsJob g.J.Archive.holds) x.0 x.1)
-    (λ i. (sym c.close-totals.ensures.done i, sym c.close-totals.ensures.handed i)) c.close-totals.ensures.jobs
+    subst (λ (x : List (List (FinishedJob _)) × List (List (List Handed))).
+    AllTold (FitsJob g.J.StorePremises.holds) x.0 x.1)
+    (λ i. (sym c.close-totals.ensures.finished i, sym c.close-totals.ensures.handed i))
+    c.close-totals.ensures.jobs
 
 pub returns-clause-none : goal.returns-clause-none
 returns-clause-none g c =
-    let doors = sym (length-map c.in_ok-ends.ends.items kept_of) ∙ ap length c.in_ok-ends.ensures.new ∙ length-map c.args.doors.items _ in
-    let long = c.in-Ok.ensures.lefts.0 ∙ c.in_ok-lanes.ensures.lanes.2 ∙ doors in
-    subst (λ (n : ℕ). NoneElse n (map (λ w. w.done.items) c.close-totals.new.seats.writers.items)) long
-    (subst (NoneElse (length c.in-Ok.seats.lefts.items)) (sym c.close-totals.ensures.done) c.close-totals.ensures.none)
+    let peer_sources = sym (length-map c.in_ok-ends.ends.items kept_of)
+    ∙ ap length c.in_ok-ends.ensures.new ∙ length-map c.args.peer_sources.items _ in
+    let long = c.in-Ok.ensures.lefts.0 ∙ c.in_ok-channels.ensures.channels.2 ∙ peer_sources in
+    subst (λ (n : ℕ).
+    NoneElse n (map (λ w. w.finished.items) c.close-totals.new.seats.writers.items)) long
+    (subst (NoneElse (length c.in-Ok.seats.lefts.items)) (sym c.close-totals.ensures.finished)
+    c.close-totals.ensures.none)
 
 pub serve_seats-requires-clause-writers : goal.serve_seats-requires-clause-writers
 serve_seats-requires-clause-writers g c κs within =
-    subst (λ (x : List Lane × ℕ). From (λ k w. Ready x.0 x.1 k w.pass w.lent w.closed.items) 0 c.in_ok-lanes.field-0.writers.items)
-    (λ i. (sym c.as_slice-lanes.ensures.value i, sym c.in_ok-lanes.ensures.lanes.2 i)) c.in_ok-lanes.ensures.writers
+    subst (λ (x : List JobChannel × ℕ). From (λ k w. Ready x.0 x.1 k w.pass w.lent w.closed.items) 0
+    c.in_ok-channels.field-0.writers.items)
+    (λ i. (sym c.as_slice-channels.ensures.value i, sym c.in_ok-channels.ensures.channels.2 i))
+    c.in_ok-channels.ensures.writers
 
 -- what an end is stays, whatever it serves
 pub returns-clause-peers : goal.returns-clause-peers
 returns-clause-peers g c =
     ap (map peer_of) c.close-totals.ensures.services
-    ∙ marked _ (λ m. m.0) (λ p. p.service) _ _ _ c.in-Ok.ensures.marks c.in_ok-lanes.ensures.services
+    ∙ marked _ (λ m. m.0) (λ p. p.service) _ _ _ c.in-Ok.ensures.marks
+    c.in_ok-channels.ensures.services
     ∙ c.in_ok-ends.ensures.peers
 
 pub returns-clause-terms : goal.returns-clause-terms
 returns-clause-terms g c =
     ap (map terms_at) c.close-totals.ensures.services
-    ∙ marked _ (λ m. terms_of m.1) (λ p. p.service) _ _ _ c.in-Ok.ensures.marks c.in_ok-lanes.ensures.services
+    ∙ marked _ (λ m. terms_of m.1) (λ p. p.service) _ _ _ c.in-Ok.ensures.marks
+    c.in_ok-channels.ensures.services
     ∙ c.in_ok-ends.ensures.terms
 
 -- the seats are compared, and what the ends keep stays
 pub returns-clause-kept : goal.returns-clause-kept
 returns-clause-kept g c =
-    subst (λ hands. AllKept (λ end number count jobs. Accounted g.J.Archive.trusted (terms_at end) number (peer_of end) count jobs (kept_of end)) hands c.close-totals.new.seats.services.items)
+    subst (λ hands.
+    AllKept (λ end number count jobs. Accounted g.J.StorePremises.trusted (terms_at end) number
+    (peer_of end) count jobs (kept_of end)) hands c.close-totals.new.seats.services.items)
     (sym c.close-totals.ensures.handed)
-    (subst (AllKept (λ end number count jobs. Accounted g.J.Archive.trusted (terms_at end) number (peer_of end) count jobs (kept_of end)) (hands_of c.in-Ok.seats.lefts.items))
+    (subst (AllKept (λ end number count jobs. Accounted g.J.StorePremises.trusted (terms_at end)
+    number (peer_of end) count jobs (kept_of end)) (hands_of c.in-Ok.seats.lefts.items))
     (sym c.close-totals.ensures.services) c.in-Ok.ensures.kept)
 
 -- what was posted has parts for contracts alone, which any thread may have
 pub serve_seats-requires-send-O : goal.serve_seats-requires-send-O
-serve_seats-requires-send-O g c κs within = search (sendable, fate_send)
+serve_seats-requires-send-O g c κs within = search (sendable, store_result_send)

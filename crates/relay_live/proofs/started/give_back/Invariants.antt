@@ -8,6 +8,7 @@ use Rattle.relay_live.proofs.started.give_back.Given as goal
 abbrev pub invariant-loop-unopened : goal.invariant-loop-unopened
 invariant-loop-unopened g l = record {
   all : l.yielded ++ l.unopened-iterator.rest.items ≡ l.fn.buffers.items;
-  items : l.stores.items ≡ l.fn.room.items ++ map (λ one. store_of (inside (unopened_in one))) l.yielded;
+  items : l.stores.items
+      ≡ l.fn.room.items ++ map (λ one. store_of (inside (unopened_in one))) l.yielded;
   capacity : vec_capacity l.stores ≡ vec_capacity l.fn.room;
 }

@@ -25,7 +25,8 @@ push_reserved-requires g c =
       length-append c.args.room.items (map (λ one. store_of (buffer_of one)) c.loop-buffer.yielded),
       length-map c.loop-buffer.yielded (λ one. store_of (buffer_of one)),
       count_through c.loop-buffer.yielded c.loop-buffer.buffer-iterator.rest.items
-          c.args.buffers.items c.in-Some.buffer c.next.new.self.rest.items c.loop-buffer.invariant.all
+          c.args.buffers.items c.in-Some.buffer c.next.new.self.rest.items
+          c.loop-buffer.invariant.all
           c.in-Some.ensures.steps.0,
     )
 
@@ -34,7 +35,8 @@ loop-buffer-preserved g c = record {
   all = one_through c.loop-buffer.yielded c.loop-buffer.buffer-iterator.rest.items
       c.args.buffers.items c.in-Some.buffer c.next.new.self.rest.items c.loop-buffer.invariant.all
       c.in-Some.ensures.steps.0;
-  items = made_more (λ one. store_of (buffer_of one)) c.args.room.items c.loop-buffer.yielded c.in-Some.buffer
+  items = made_more (λ one. store_of (buffer_of one)) c.args.room.items c.loop-buffer.yielded
+      c.in-Some.buffer
       c.loop-buffer.stores.items c.push_reserved.new.self.items c.into_store.result
       c.loop-buffer.invariant.items c.push_reserved.ensures.items c.into_store.ensures;
   capacity = c.push_reserved.ensures.capacity ∙ c.loop-buffer.invariant.capacity;

@@ -14,7 +14,8 @@ loop-buffer-init g c = record {
   all = c.into_iter-buffer-iterator.ensures.into_iter_gives.0;
   stopped = λ idle. subst (AreEach (IsShutOver c.args.stop) []) (sym c.requires.none)
       (none_each (IsShutOver c.args.stop));
-  known = known_none g.S.BlockStore g.J.Archive c.args.stop None c.args.room.items c.requires.none;
+  known = known_none g.S.BlockStore g.J.StorePremises c.args.stop None c.args.room.items
+      c.requires.none;
   count = omega (arith, ap length c.requires.none, c.args.room.ok);
   room = omega (arith, c.requires.room, c.args.buffers.ok);
 }
@@ -94,6 +95,7 @@ returns-in-None-failed g c = λ idle.
           (λ failed. IsStopped c.args.stop (map buffer_of c.loop-buffer.yielded) failed
           c.loop-buffer.stores.items) c.in-None-failed.is (c.loop-buffer.invariant.stopped idle)),
       subst
-          (λ failed. AreKnown g.S.BlockStore g.J.Archive c.args.stop failed c.loop-buffer.stores.items)
+          (λ failed. AreKnown g.S.BlockStore g.J.StorePremises c.args.stop failed
+          c.loop-buffer.stores.items)
           c.in-None-failed.is c.loop-buffer.invariant.known,
     )

@@ -14,7 +14,7 @@ invariant-loop-buffer g l = record {
   stopped : ((b : ℕ) (code : Buffer g.row.S.Denot g.S.BlockStore)
       → slice_get (map buffer_of l.fn.buffers.items) b ≡ Some code → is_busy code ≡ false)
       → IsStopped l.fn.stop (map buffer_of l.yielded) l.failed l.stores.items;
-  known : AreKnown g.S.BlockStore g.J.Archive l.fn.stop l.failed l.stores.items;
+  known : AreKnown g.S.BlockStore g.J.StorePremises l.fn.stop l.failed l.stores.items;
   count : vec_len l.stores ≡ length l.yielded;
   room : length l.fn.buffers.items ≤ vec_capacity l.stores;
 }

@@ -13,7 +13,7 @@ returns-then-is_some-clause-stops g c = λ before idle had.
 
 pub returns-then-is_some-clause-known : goal.returns-then-is_some-clause-known
 returns-then-is_some-clause-known g c = λ had.
-    known_failed g.S.BlockStore g.J.Archive c.args.stop c.args.failed c.args.stores.now.items
+    known_failed g.S.BlockStore g.J.StorePremises c.args.stop c.args.failed c.args.stores.now.items
     c.push_reserved.new.self.items c.args.failed (sym c.is_some.ensures ∙ c.if-is_some.true)
 
 pub returns-in-Ok-clause-stops : goal.returns-in-Ok-clause-stops
@@ -32,7 +32,7 @@ returns-in-Ok-clause-stops g c = λ before idle had.
 
 pub returns-in-Ok-clause-known : goal.returns-in-Ok-clause-known
 returns-in-Ok-clause-known g c = λ had.
-    known_more g.S.BlockStore g.J.Archive c.args.stop c.args.failed c.args.stores.now.items
+    known_more g.S.BlockStore g.J.StorePremises c.args.stop c.args.failed c.args.stores.now.items
     c.push_reserved-in-Ok.new.self.items c.in-Ok.store c.push_reserved-in-Ok.ensures.items
     (sym c.is_some.ensures ∙ c.if-is_some.false) c.in-Ok.ensures.known had
 
@@ -49,5 +49,5 @@ returns-in-Err-clause-stops g c = λ before idle had.
 
 pub returns-in-Err-clause-known : goal.returns-in-Err-clause-known
 returns-in-Err-clause-known g c = λ had.
-    known_failed g.S.BlockStore g.J.Archive c.args.stop c.args.failed c.args.stores.now.items
+    known_failed g.S.BlockStore g.J.StorePremises c.args.stop c.args.failed c.args.stores.now.items
     c.push_reserved-in-Err.new.self.items (Some c.len-place.result) refl

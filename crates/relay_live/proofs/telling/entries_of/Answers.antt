@@ -5,7 +5,8 @@ use Rattle.relay_live.proofs.Entries.{all_left, left_more, none_left}
 use Rattle.relay_live.proofs.telling.entries_of.Goals as goal
 
 pub loop-shard-init : goal.loop-shard-init
-loop-shard-init c = none_left c.args.shards.now c.new-entries.result.items c.new-entries.ensures.items
+loop-shard-init c =
+    none_left c.args.shards.now c.new-entries.result.items c.new-entries.ensures.items
 
 -- the shard adds the ids of its own
 pub loop-shard-preserved : goal.loop-shard-preserved

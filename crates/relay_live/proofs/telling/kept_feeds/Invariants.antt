@@ -1,8 +1,8 @@
 use Rattle.std.proofs.Common.{◌≡◌, ◌≤◌, ◌<◌, ◌^◌, ℕ, All, List, length, map, vec_len, vec_capacity}
 use Rattle.feed_queue.specs.Feeds.{KeepsFeeds}
-use Rattle.history_text.specs.Views.{feed_view}
-use Rattle.history_text.specs.declared.kept.KeptFeed.{KeptFeed}
-use Rattle.live_settle.specs.Desks.{desk_of}
+use Rattle.id_history.specs.Views.{feed_view}
+use Rattle.id_history.specs.declared.kept.KeptFeed.{KeptFeed}
+use Rattle.live_jobs.specs.Desks.{desk_of}
 use Rattle.relay_core.proofs.Stops.{AreLeftSoFar}
 use Rattle.relay_model.specs.State.{Feed}
 use Rattle.relay_live.proofs.telling.kept_feeds.Given as goal

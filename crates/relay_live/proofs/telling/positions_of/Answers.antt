@@ -6,20 +6,20 @@ use Rattle.block_shelf.specs.Each.{AreEach}
 use Rattle.block_shelf.specs.Stopping.{TellsPosition}
 use Rattle.relay_live.proofs.telling.positions_of.Goals as goal
 
-pub loop-rack-init : goal.loop-rack-init
-loop-rack-init c = record {
+pub loop-placed_group-init : goal.loop-placed_group-init
+loop-placed_group-init c = record {
   count = search rules;
   room = search rules;
   told = subst (AreEach TellsPosition []) (sym c.in_ok-positions.ensures.items)
       (none_each TellsPosition);
 }
 
--- one rack more
-pub loop-rack-preserved : goal.loop-rack-preserved
-loop-rack-preserved c =
-    let all = c.args.racks.now in
-    let k = c.loop-rack.rack-index in
-    let one = c.rack-item.result in
+-- one placed group more
+pub loop-placed_group-preserved : goal.loop-placed_group-preserved
+loop-placed_group-preserved c =
+    let all = c.args.placed_groups.now in
+    let k = c.loop-placed_group.placed_group-index in
+    let one = c.placed_group-item.result in
     let within : k < length all = search rules in
     record {
       count = search rules;
@@ -27,15 +27,17 @@ loop-rack-preserved c =
       told = subst (AreEach TellsPosition (take (k + 1) all)) (sym c.push_reserved.ensures.items)
           (subst
           (λ taken. AreEach TellsPosition taken
-          (c.loop-rack.positions.items ++ c.position.result ∷ []))
+          (c.loop-placed_group.positions.items ++ c.position.result ∷ []))
           (sym (take_more all k one within
-          ∙ ap (λ each. take k all ++ each ∷ []) (sym c.rack-item.is)))
-          (one_more_each TellsPosition (take k all) c.loop-rack.positions.items one c.position.result
-          c.loop-rack.invariant.told c.position.ensures));
+          ∙ ap (λ each. take k all ++ each ∷ []) (sym c.placed_group-item.is)))
+          (one_more_each TellsPosition (take k all) c.loop-placed_group.positions.items one
+          c.position.result
+          c.loop-placed_group.invariant.told c.position.ensures));
     }
 
 -- that was the last
 pub returns : goal.returns
 returns c =
-    subst (λ taken. AreEach TellsPosition taken c.loop-rack.positions.items)
-    (take_all c.loop-rack.rack-index c.args.racks.now (search rules)) c.loop-rack.invariant.told
+    subst (λ taken. AreEach TellsPosition taken c.loop-placed_group.positions.items)
+    (take_all c.loop-placed_group.placed_group-index c.args.placed_groups.now (search rules))
+    c.loop-placed_group.invariant.told

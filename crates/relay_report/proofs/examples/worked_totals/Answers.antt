@@ -1,7 +1,7 @@
 use Rattle.std.proofs.Common.{◌≡◌, ◌∙◌, ◌∷◌, [], List, ap, map, refl}
 use Rattle.std.specs.Fmt.{digits}
 use Rattle.id_history.specs.declared.counts.Counts.{Counts}
-use Rattle.relay_core.specs.Figures.{NamedBuffer, NamedFeed, feed_view}
+use Rattle.relay_report.specs.Figures.{NamedBuffer, NamedFeed, feed_view}
 use Rattle.relay_report.specs.Examples.{buffer_a, feed_p2, first_script, stored_ids}
 use Rattle.relay_report.specs.Text.{report_text}
 use Rattle.relay_report.proofs.examples.worked_totals.Goals as goal

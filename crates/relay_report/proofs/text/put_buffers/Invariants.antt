@@ -1,5 +1,5 @@
 use Rattle.std.proofs.Common.{◌≡◌, ◌++◌, flat_map, map, take}
-use Rattle.relay_core.specs.Figures.{buffer_view}
+use Rattle.relay_report.specs.Figures.{buffer_view}
 use Rattle.relay_report.specs.Text.{buffer_line}
 use Rattle.relay_report.proofs.text.put_buffers.Given as goal
 

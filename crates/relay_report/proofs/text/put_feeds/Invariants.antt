@@ -1,5 +1,5 @@
 use Rattle.std.proofs.Common.{◌≡◌, ◌++◌, flat_map, map, take}
-use Rattle.relay_core.specs.Figures.{feed_view}
+use Rattle.relay_report.specs.Figures.{feed_view}
 use Rattle.relay_report.specs.Text.{feed_line}
 use Rattle.relay_report.proofs.text.put_feeds.Given as goal
 

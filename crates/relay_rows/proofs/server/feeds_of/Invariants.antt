@@ -1,6 +1,6 @@
 use Rattle.std.proofs.Common.{◌≡◌, map, take}
 use Rattle.std.specs.Prelude.{slice_get}
-use Rattle.relay_core.specs.Figures.{name_of}
+use Rattle.relay_report.specs.Figures.{name_of}
 use Rattle.relay_rows.proofs.server.feeds_of.Given as goal
 
 -- the feeds so far

@@ -1,6 +1,6 @@
 use Rattle.std.proofs.Common.{◌≡◌, ◌≤◌, length, map, take}
 use Rattle.std.specs.Prelude.{slice_get, vec_capacity}
-use Rattle.relay_core.specs.Figures.{name_of}
+use Rattle.relay_report.specs.Figures.{name_of}
 use Rattle.relay_serve.proofs.figures.feeds_of.Given as goal
 
 -- the feeds so far, and room for the others

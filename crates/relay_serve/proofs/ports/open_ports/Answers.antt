@@ -2,11 +2,11 @@ use Rattle.std.proofs.Common.{◌≡◌, ◌∙◌, ◌++◌, ◌<◌, ◌≤◌
 use Rattle.std.proofs.Common.{drop, get_or, refl, ap, sym, subst, arith}
 use Rattle.std.proofs.lemmas.Bool.{ne_eqb}
 use Rattle.std.proofs.lemmas.Result.{err_from_is_err_and}
-use Rattle.peer_ports.specs.declared.port.Port.{Port}
+use Rattle.live_wire.specs.declared.port.Port.{Port}
 use Rattle.relay_conf.specs.declared.relay.Peer.{Peer}
-use Rattle.relay_live.specs.declared.running.Door.{Door}
+use Rattle.relay_live.specs.declared.running.PeerSource.{PeerSource}
 use Rattle.relay_serve.specs.Ports.{IsPortFault, ends_from}
-use Rattle.relay_serve.proofs.Doors.{after_peer, drop_peer}
+use Rattle.relay_serve.proofs.PeerSources.{after_peer, drop_peer}
 use Rattle.relay_serve.proofs.ports.open_ports.Goals as goal
 
 pub returns-in-Err-clause-fault : goal.returns-in-Err-clause-fault
@@ -22,8 +22,9 @@ returns-in-Err-clause-fault g c =
     subst (IsPortFault peers) (sym c.lost.ensures)
     (c.if-peer-eq0.false, (k, peer, within, sym same, refl))
 
-pub returns-in_err-add_doors-in-Ok-clause-fault : goal.returns-in_err-add_doors-in-Ok-clause-fault
-returns-in_err-add_doors-in-Ok-clause-fault g c =
+pub returns-in_err-add_peer_sources-in-Ok-clause-fault
+    : goal.returns-in_err-add_peer_sources-in-Ok-clause-fault
+returns-in_err-add_peer_sources-in-Ok-clause-fault g c =
     let peers = c.args.relay.now.peers.items in
     let peer = c.peer-item.result in
     let k = c.loop-number.number in
@@ -34,14 +35,14 @@ returns-in_err-add_doors-in-Ok-clause-fault g c =
     ∙ ap (λ (all : List Peer). get_or all k peer) c.deref-peer-items.ensures.value in
     let p = err_from_is_err_and c.from_residual.result c.from_residual.ensures.1 in
     rw (p.1, p.2)
-    (c.in_err-add_doors-in-Ok.ensures.fault peers (k, peer, within, sym same, refl))
+    (c.in_err-add_peer_sources-in-Ok.ensures.fault peers (k, peer, within, sym same, refl))
 
 pub loop-number-preserved : goal.loop-number-preserved
 loop-number-preserved g c =
     let peers = c.args.relay.now.peers.items in
     let peer = c.peer-item.result in
     let k = c.loop-number.number in
-    let peer_of : Door Port → ℕ = λ door. door.peer in
+    let peer_of : PeerSource Port → ℕ = λ peer_source. peer_source.peer in
     let within : k < length peers =
     omega (arith, c.loop-number-test.true, ap length c.deref-peer-items.ensures.value) in
     let same : peer ≡ get_or peers k peer =
@@ -50,13 +51,14 @@ loop-number-preserved g c =
     let most : peer.connections ≤ 64 =
     subst (λ (one : Peer). one.connections ≤ 64) (sym same)
     (c.args.relay.now.sound.connections k peer within).1 in
-    let added = c.in_ok-add_doors-in-Ok.ensures in
+    let added = c.in_ok-add_peer_sources-in-Ok.ensures in
     record {
       few = omega (arith, added.count, c.loop-number.invariant.few, most);
-      peers = after_peer (map peer_of c.add_doors.new.doors.items)
-          (map peer_of c.loop-number.doors.items) k peer (drop (k + 1) peers)
+      peers = after_peer (map peer_of c.add_peer_sources.new.peer_sources.items)
+          (map peer_of c.loop-number.peer_sources.items) k peer (drop (k + 1) peers)
           (ne_eqb peer.port 0 c.if-peer-eq0.false) added.peers
-          ∙ ap (λ (rest : List Peer). map peer_of c.loop-number.doors.items ++ ends_from k rest)
+          ∙ ap (λ (rest : List Peer). map peer_of c.loop-number.peer_sources.items
+          ++ ends_from k rest)
           (sym (drop_peer peers k peer within same))
           ∙ c.loop-number.invariant.peers;
       left = added.left c.args.sessions c.in-Ok.ensures c.loop-number.invariant.left;

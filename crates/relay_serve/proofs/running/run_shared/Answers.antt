@@ -2,9 +2,9 @@ use Rattle.std.proofs.Common.{◌∙◌, ℕ, ap, length, map, subst, sym}
 use Rattle.std.specs.Prelude.{slice_get}
 use Rattle.std.proofs.lemmas.List.{length-map}
 use Rattle.article_verdict.specs.Config.{terms_of}
-use Rattle.live_seats.specs.Gathered.{NoneElse, hands_of}
-use Rattle.live_seats.specs.Seats.{left_by}
-use Rattle.relay_live.specs.Ends.{kept_of, peer_of, terms_at}
+use Rattle.live_jobs.specs.Gathered.{NoneElse, hands_of}
+use Rattle.live_jobs.specs.Seats.{left_by}
+use Rattle.relay_live.specs.PeerServers.{kept_of, peer_of, terms_at}
 use Rattle.relay_live.specs.Sessions.{Accounted, HasLists}
 use Rattle.relay_model.specs.Terms.{Terms}
 use Rattle.relay_serve.proofs.Kept.{made_of, made_there, one_there, same_there}
@@ -17,31 +17,39 @@ returns-in-Ok-clause-ran g c =
     let seats = c.in-Ok._seats in
     let ends = seats.services.items in
     let config = c.args.config.now in
-    let doors = length-map c.args.doors.items (λ door. door.peer) in
+    let peer_sources = length-map c.args.peer_sources.items (λ peer_source. peer_source.peer) in
     record {
-      done = map (λ w. w.done.items) seats.writers.items;
+      finished = map (λ w. w.finished.items) seats.writers.items;
       hands = hands_of seats.lefts.items;
       kept = map kept_of ends;
-      writers = length-map seats.writers.items (λ w. w.done.items) ∙ ran.writers ∙ c.lanes_of-groups.ensures.count;
+      writers = length-map seats.writers.items (λ w. w.finished.items) ∙ ran.writers
+          ∙ c.channels_of-groups.ensures.count;
       ends = (
-        length-map seats.lefts.items left_by ∙ ran.lefts ∙ sym doors,
+        length-map seats.lefts.items left_by ∙ ran.lefts ∙ sym peer_sources,
         length-map ends kept_of ∙ sym (length-map ends peer_of) ∙ ap length ran.peers,
       );
-      lists = subst (λ n. HasLists n (hands_of seats.lefts.items)) c.lanes_of-groups.ensures.count ran.lists;
+      lists = subst (λ n. HasLists n (hands_of seats.lefts.items))
+          c.channels_of-groups.ensures.count ran.lists;
       told = ran.jobs;
-      none = subst (λ (n : ℕ). NoneElse n (map (λ w. w.done.items) seats.writers.items)) (sym doors) ran.none;
+      none = subst (λ (n : ℕ). NoneElse n (map (λ w. w.finished.items) seats.writers.items))
+          (sym peer_sources) ran.none;
       served = λ end peer jobs answers at_peer handed kept.
           let at = made_of kept_of ends end answers kept in
           let has = ran.kept end jobs at.0 handed at.1 in
-          let its_peer = one_there _ _ end (peer_of at.0) peer ran.peers (made_there peer_of ends end at.0 at.1) at_peer in
-          let its_terms = same_there (terms_of config) c.args.doors.items end (terms_at at.0) (ap (λ row. slice_get row end) (sym ran.terms) ∙ made_there terms_at ends end at.0 at.1) in (
+          let its_peer = one_there _ _ end (peer_of at.0) peer ran.peers
+          (made_there peer_of ends end at.0 at.1) at_peer in
+          let its_terms = same_there (terms_of config) c.args.peer_sources.items end (terms_at at.0)
+          (ap (λ row. slice_get row end) (sym ran.terms)
+          ∙ made_there terms_at ends end at.0 at.1) in (
             has.0,
-            subst (λ (x : Terms × ℕ). Accounted g.J.Archive.trusted x.0 end x.1 has.0 jobs answers)
+            subst (λ (x : Terms × ℕ). Accounted g.J.StorePremises.trusted x.0 end x.1
+                has.0 jobs answers)
                 (λ i. (its_terms i, its_peer i))
-                (subst (λ list. Accounted g.J.Archive.trusted (terms_at at.0) end (peer_of at.0) has.0 jobs list) at.2 has.1),
+                (subst (λ list. Accounted g.J.StorePremises.trusted (terms_at at.0) end
+                (peer_of at.0) has.0 jobs list) at.2 has.1),
           );
       accepted = ran.accepted;
       posted = ran.posted;
-      strays = ran.strays;
-      doubles = ran.doubles;
+      mismatched_receipts = ran.mismatched_receipts;
+      ids_stored_again = ran.ids_stored_again;
     }

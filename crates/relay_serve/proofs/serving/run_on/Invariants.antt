@@ -3,8 +3,8 @@ use Rattle.relay_live.specs.Holding.{has_buffer}
 use Rattle.relay_serve.proofs.serving.run_on.Given as goal
 
 -- the register that was just made, over the buffers of the configuration; no file is trusted
-abbrev pub ghosts-run_relay-J-Archive : goal.ghosts-run_relay-J-Archive
-ghosts-run_relay-J-Archive g a = record {
+abbrev pub ghosts-run_relay-J-StorePremises : goal.ghosts-run_relay-J-StorePremises
+ghosts-run_relay-J-StorePremises g a = record {
   register = a.register.now;
   trusted = false;
   holds = has_buffer a.config.now.buffers;

@@ -13,7 +13,8 @@ returns-in-Failed-clause-opens g c = λ before had.
     (subst (HasOpened before) c.in-Failed.is had) in (
       was.0,
       subst
-          (λ items. AreEach (IsLeftUnopened c.in-Failed.place) (before ++ c.args.unopened ∷ []) items)
+          (λ items. AreEach (IsLeftUnopened c.in-Failed.place)
+          (before ++ c.args.unopened ∷ []) items)
           (sym (c.push_reserved.ensures.items
           ∙ ap (λ one. c.in-Failed.stores.items ++ one ∷ []) c.into_store.ensures))
           was.1,

@@ -9,4 +9,5 @@ returns-in-Refused-clause-tries g c = λ before had.
     let stores = c.in-Refused.stores.items in
     told_refused g.S.BlockStore (before ++ c.args.store ∷ []) (stores ++ c.args.store ∷ [])
     c.push_reserved.new.self.items c.in-Refused.buffer c.in-Refused.error was.0 was.1
-    (refused_before g.S.BlockStore before c.args.store was.0 stores was.2.0) was.2.1 c.push_reserved.ensures.items
+    (refused_before g.S.BlockStore before c.args.store was.0 stores was.2.0) was.2.1
+    c.push_reserved.ensures.items

@@ -1,9 +1,9 @@
 -- An abandoned write keeps the buffer's agreement with a history.
 use Rattle.std.proofs.Common.{◌+◌, sym, subst, Option, None}
 use Rattle.cyc_buffer.specs.History.{without_write}
-use Rattle.cyc_buffer.specs.Register.{Writes, IsUnpassed}
+use Rattle.cyc_buffer.specs.BufferState.{Writes, IsUnpassed}
 use Rattle.cyc_buffer.specs.declared.line.Line.{Line}
-use Rattle.cyc_buffer.specs.declared.register.Progress.{Progress}
+use Rattle.cyc_buffer.specs.declared.buffer_state.Progress.{Progress}
 use Rattle.cyc_buffer.proofs.Contents.{no_open}
 use Rattle.cyc_buffer.proofs.Writes.{keeps_stays}
 use Rattle.cyc_buffer.proofs.buffer.Buffer.abandon.Goals as goal
@@ -12,7 +12,7 @@ pub returns-then-owned-clause-abandoned : goal.returns-then-owned-clause-abandon
 returns-then-owned-clause-abandoned g c owned trusted h agrees =
     let new = c.abandon.new.self in
     record {
-      keeps = keeps_stays c.args.self.now.register new h None c.abandon.ensures.rest
+      keeps = keeps_stays c.args.self.now.buffer_state new h None c.abandon.ensures.rest
           (subst (λ (p : Option Progress). Writes (without_write h) p None)
           (sym c.abandon.ensures.progress) tt) agrees.keeps;
       honest = agrees.honest;

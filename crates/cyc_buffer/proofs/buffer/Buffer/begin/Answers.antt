@@ -5,7 +5,7 @@ use Rattle.cyc_buffer.proofs.buffer.Buffer.begin.Goals as goal
 
 pub returns-clause-begun : goal.returns-clause-begun
 returns-clause-begun g c =
-    let old = c.args.self.now.register in
+    let old = c.args.self.now.buffer_state in
     on_ok_weaker c.begin.result (λ begun trusted h agrees. record {
       keeps = begun h agrees.keeps;
       honest = agrees.honest;

@@ -15,7 +15,7 @@ use Rattle.cyc_buffer.proofs.buffer.Buffer.read_block.Goals as goal
 
 pub returns-in-Unknown-clause-reads : goal.returns-in-Unknown-clause-reads
 returns-in-Unknown-clause-reads g c =
-    let r = c.args.self.now.register in
+    let r = c.args.self.now.buffer_state in
     let token = c.args.token.now in
     let k = c.args.k in
     let is = sym c.in-Unknown.is ∙ c.look.ensures.look in
@@ -29,7 +29,7 @@ returns-in-Unknown-clause-reads g c =
       room = search rules;
       rest = search rules;
       same = search rules;
-      register = search rules;
+      buffer_state = search rules;
       opened = search rules;
       calls = search rules;
       uncalled = λ trusted h agrees unread. refl;
@@ -40,7 +40,7 @@ returns-in-Unknown-clause-reads g c =
 
 pub returns-in-Gone-clause-reads : goal.returns-in-Gone-clause-reads
 returns-in-Gone-clause-reads g c =
-    let r = c.args.self.now.register in
+    let r = c.args.self.now.buffer_state in
     let token = c.args.token.now in
     let k = c.args.k in
     let is = sym c.in-Gone.is ∙ c.look.ensures.look in
@@ -54,7 +54,7 @@ returns-in-Gone-clause-reads g c =
       room = search rules;
       rest = search rules;
       same = search rules;
-      register = search rules;
+      buffer_state = search rules;
       opened = search rules;
       calls = search rules;
       uncalled = λ trusted h agrees unread. refl;
@@ -65,7 +65,7 @@ returns-in-Gone-clause-reads g c =
 
 pub returns-then-is_err-clause-reads : goal.returns-then-is_err-clause-reads
 returns-then-is_err-clause-reads g c =
-    let r = c.args.self.now.register in
+    let r = c.args.self.now.buffer_state in
     let token = c.args.token.now in
     let k = c.args.k in
     let block = look_block (numbers_of r token k) (has_marks r token k) _ c.in-Block.block
@@ -79,7 +79,7 @@ returns-then-is_err-clause-reads g c =
       room = search rules;
       rest = search rules;
       same = search rules;
-      register = search rules;
+      buffer_state = search rules;
       opened = search rules;
       calls = search rules;
       uncalled = λ trusted h agrees unread. absurd
@@ -90,7 +90,7 @@ returns-then-is_err-clause-reads g c =
 
 pub returns-in-Some-clause-reads : goal.returns-in-Some-clause-reads
 returns-in-Some-clause-reads g c =
-    let r = c.args.self.now.register in
+    let r = c.args.self.now.buffer_state in
     let token = c.args.token.now in
     let k = c.args.k in
     let block = look_block (numbers_of r token k) (has_marks r token k) _ c.in-Block.block
@@ -114,7 +114,7 @@ returns-in-Some-clause-reads g c =
       room = search rules;
       rest = search rules;
       same = search rules;
-      register = search rules;
+      buffer_state = search rules;
       opened = search rules;
       calls = search rules;
       uncalled = λ trusted h agrees unread. absurd
@@ -125,7 +125,7 @@ returns-in-Some-clause-reads g c =
 
 pub returns-in-None-clause-reads : goal.returns-in-None-clause-reads
 returns-in-None-clause-reads g c =
-    let r = c.args.self.now.register in
+    let r = c.args.self.now.buffer_state in
     let token = c.args.token.now in
     let k = c.args.k in
     let block = look_block (numbers_of r token k) (has_marks r token k) _ c.in-Block.block
@@ -149,7 +149,7 @@ returns-in-None-clause-reads g c =
       room = search rules;
       rest = search rules;
       same = search rules;
-      register = search rules;
+      buffer_state = search rules;
       opened = search rules;
       calls = search rules;
       uncalled = λ trusted h agrees unread. absurd
@@ -160,19 +160,19 @@ returns-in-None-clause-reads g c =
 
 pub returns-in-Gone-clause-remembered : goal.returns-in-Gone-clause-remembered
 returns-in-Gone-clause-remembered g c =
-    gone_numbers c.args.self.now.register c.args.token.now c.args.k
+    gone_numbers c.args.self.now.buffer_state c.args.token.now c.args.k
     (sym c.look.ensures.look ∙ c.in-Gone.is)
     ∙ ap (λ (front : Front). Some (Gone front)) (sym c.front.ensures)
 
 pub returns-then-is_err-clause-remembered : goal.returns-then-is_err-clause-remembered
 returns-then-is_err-clause-remembered g c = record {
   fault = search rules;
-  number = (read_within c.args.self.now.register c.args.token.now c.args.k c.in-Block.block
+  number = (read_within c.args.self.now.buffer_state c.args.token.now c.args.k c.in-Block.block
       (sym c.in-Block.is ∙ c.look.ensures.look)).0;
 }
 
 pub returns-in-Some-clause-remembered : goal.returns-in-Some-clause-remembered
 returns-in-Some-clause-remembered g c =
-    let known = read_within c.args.self.now.register c.args.token.now c.args.k c.in-Block.block
+    let known = read_within c.args.self.now.buffer_state c.args.token.now c.args.k c.in-Block.block
     (sym c.in-Block.is ∙ c.look.ensures.look) in
     record { marked = known.1; within = known.2 }

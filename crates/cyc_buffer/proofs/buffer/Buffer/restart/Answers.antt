@@ -1,7 +1,7 @@
 -- What was written holds the buffer with each history, so it is what is read back.
 use Rattle.std.proofs.Common.{refl, sym, subst}
-use Rattle.cyc_buffer.specs.Register.{Keeps}
-use Rattle.cyc_buffer.specs.declared.register.Register.{Register}
+use Rattle.cyc_buffer.specs.BufferState.{Keeps}
+use Rattle.cyc_buffer.specs.declared.buffer_state.BufferState.{BufferState}
 use Rattle.cyc_buffer.proofs.buffer.Buffer.restart.Goals as goal
 
 pub returns-in-Err-read_back-clause-cause : goal.returns-in-Err-read_back-clause-cause
@@ -9,9 +9,10 @@ returns-in-Err-read_back-clause-cause g c h agrees =
     let left = c.in_default.ensures.rest in
     c.in-Err-read_back.ensures.cause (left.store.honest (agrees.honest refl)) c.args.stop h
     (c.in_default.ensures.held h agrees)
-    (subst (λ (r : Register). Keeps r h) (sym left.register) agrees.keeps)
+    (subst (λ (r : BufferState). Keeps r h) (sym left.buffer_state) agrees.keeps)
 
 pub returns-clause-tokens : goal.returns-clause-tokens
 returns-clause-tokens g c h agrees =
-    c.in-Ok.ensures.tokens (c.in_default.ensures.rest.store.honest (agrees.honest refl)) c.args.stop h
+    c.in-Ok.ensures.tokens (c.in_default.ensures.rest.store.honest (agrees.honest refl)) c.args.stop
+    h
     (c.in_default.ensures.held h agrees)

@@ -18,24 +18,26 @@ returns-in-Ok-clause-agrees g c honest stop h held is =
     let same = c.in-Ok.ensures.held in
     record {
       keeps = keeps_history (g.S.BlockStore.heads store) (g.S.BlockStore.blocks store) buffer
-          stopped.stop stopped.register stopped.tokens.items (c.in-Ok.ensures.started honest) stop h
+          stopped.stop stopped.buffer_state stopped.tokens.items
+          (c.in-Ok.ensures.started honest) stop h
           held;
       honest = λ trusted. same.honest honest;
-      holds = λ trusted. subst (λ (blocks : List (List ℕ)). Holds blocks stopped.register h)
+      holds = λ trusted. subst (λ (blocks : List (List ℕ)). Holds blocks stopped.buffer_state h)
           (sym (same.blocks honest))
           (holds_history (g.S.BlockStore.heads store) (g.S.BlockStore.blocks store) buffer
-          stopped.stop stopped.register stopped.tokens.items (c.in-Ok.ensures.started honest) stop h
+          stopped.stop stopped.buffer_state stopped.tokens.items
+          (c.in-Ok.ensures.started honest) stop h
           held);
     }
 
 pub returns-in-Ok-clause-tokens : goal.returns-in-Ok-clause-tokens
 returns-in-Ok-clause-tokens g c honest stop h held =
-    lists_live _ _ _ c.in-Ok.stopped.stop c.in-Ok.stopped.register c.in-Ok.stopped.tokens.items
+    lists_live _ _ _ c.in-Ok.stopped.stop c.in-Ok.stopped.buffer_state c.in-Ok.stopped.tokens.items
     (c.in-Ok.ensures.started honest) stop h held
 
 pub returns-in-Ok-clause-started : goal.returns-in-Ok-clause-started
 returns-in-Ok-clause-started g c honest =
-    starts_of _ _ _ c.in-Ok.stopped.stop c.in-Ok.stopped.register c.in-Ok.stopped.tokens.items
+    starts_of _ _ _ c.in-Ok.stopped.stop c.in-Ok.stopped.buffer_state c.in-Ok.stopped.tokens.items
     (c.in-Ok.ensures.started honest)
 
 pub returns-in-Err-clause-held : goal.returns-in-Err-clause-held

@@ -8,7 +8,7 @@ use Rattle.cyc_buffer.proofs.buffer.Buffer.write_heads.Goals as goal
 
 pub returns-then-is_err-clause-rest : goal.returns-then-is_err-clause-rest
 returns-then-is_err-clause-rest g c = record {
-  register = refl;
+  buffer_state = refl;
   opened = refl;
   stop = refl;
   store = c.write_bitmap.ensures.rest;
@@ -18,7 +18,7 @@ pub returns-clause-rest : goal.returns-clause-rest
 returns-clause-rest g c =
     let left = c.write_head.ensures.rest in
     record {
-      register = left.register;
+      buffer_state = left.buffer_state;
       opened = left.opened;
       stop = left.stop;
       store = leaves_twice _ _ _ _ c.write_bitmap.ensures.rest left.store;
@@ -30,17 +30,18 @@ returns-clause-same g c =
 
 pub returns-clause-order : goal.returns-clause-order
 returns-clause-order g c is = inr (λ h agrees.
-    tells_starts c.args.self.now.register (g.S.BlockStore.heads c.write_head.new.self.store) h
+    tells_starts c.args.self.now.buffer_state (g.S.BlockStore.heads c.write_head.new.self.store) h
     agrees.keeps
     (written_bitmap c.write_bitmap.result (g.S.BlockStore.heads c.write_bitmap.new.store)
-    (g.S.BlockStore.heads c.write_head.new.self.store) c.args.self.now.register.starts.words.items
+    (g.S.BlockStore.heads c.write_head.new.self.store)
+    c.args.self.now.buffer_state.starts.words.items
     _ _ c.args.self.now.counted (sym c.is_err.ensures.value ∙ c.if-is_err.false)
     (c.write_bitmap.ensures.bitmap is)
     (c.write_head.ensures.others (c.write_bitmap.ensures.rest.honest is))))
 
 pub returns-clause-held : goal.returns-clause-held
 returns-clause-held g c = on_ok_weaker c.write_head.result (λ numbers h agrees.
-    let r = c.args.self.now.register in
+    let r = c.args.self.now.buffer_state in
     let was = c.write_bitmap.ensures in
     let left = returns-clause-rest g c in
     let is = agrees.honest refl in

@@ -34,7 +34,7 @@ returns-then-is_err-clause-written g c can = record {
   count = search rules;
   whole = search rules;
   broken = λ trusted h agrees.
-      let old = c.args.self.now.register in
+      let old = c.args.self.now.buffer_state in
       let here = ap (λ (s : Stamp). s.first + s.index) c.next_stamp-stamp.ensures.stamp in
       let left = fails_by (trusted ≡ true) (g.S.BlockStore.blocks c.args.self.now.store)
       (g.S.BlockStore.blocks c.write.new.self) old c.mark_broken.new.self h c.args.write.now
@@ -58,7 +58,7 @@ returns-clause-written g c can = record {
   last = search rules;
   fault = search rules;
   written = λ trusted h continues agrees.
-      let old = c.args.self.now.register in
+      let old = c.args.self.now.buffer_state in
       let here = ap (λ (s : Stamp). s.first + s.index) c.next_stamp-stamp.ensures.stamp in
       let left = next_by (trusted ≡ true) (g.S.BlockStore.blocks c.args.self.now.store)
       (g.S.BlockStore.blocks c.write.new.self) old c.count_block.new.self h c.args.write.now

@@ -1,7 +1,7 @@
 use Rattle.std.proofs.Common.{◌≡◌, ◌≤◌, ℕ, length, map, take, vec_len, vec_capacity}
 use Rattle.feed_queue.specs.Feeds.{KeepFeeds, ring_size}
 use Rattle.feed_queue.specs.Left.{AreLeft}
-use Rattle.history_text.specs.Views.{feed_view}
+use Rattle.id_history.specs.Views.{feed_view}
 use Rattle.relay_model.specs.State.{Feed}
 use Rattle.feed_queue.proofs.desk.FeedDesk.resume.Given as goal
 

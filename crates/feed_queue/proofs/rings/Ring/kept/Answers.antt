@@ -1,5 +1,5 @@
 use Rattle.std.proofs.Common.{◌∙◌, ap, arith, length}
-use Rattle.history_text.specs.declared.kept.KeptFeed as kept
+use Rattle.id_history.specs.declared.kept.KeptFeed as kept
 use Rattle.feed_queue.proofs.LeftLemmas.{IsLeft-kept}
 use Rattle.feed_queue.proofs.rings.Ring.kept.Goals as goal
 

@@ -6,7 +6,7 @@ use Rattle.std.specs.Map.Iter.{deref_pair}
 use Rattle.std.specs.String.{string_bytes, string_eq_equiv}
 use Rattle.cyc_token.specs.declared.Token as code
 use Rattle.news_terms.specs.MessageId.{id_fault}
-use Rattle.history_text.specs.Views.{id_view}
+use Rattle.id_history.specs.Views.{id_view}
 use Rattle.id_history.proofs.FitLemmas.{fits-push, kept_now, one_more}
 use Rattle.id_history.proofs.LastingLemmas.{Gathers-from_entries, gathered-all, kept-more}
 use Rattle.id_history.proofs.LastingLemmas.{none_more}

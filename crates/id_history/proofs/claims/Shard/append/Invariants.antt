@@ -1,8 +1,8 @@
 use Rattle.std.proofs.Common.{◌≡◌, ◌++◌, map, vec_capacity}
 use Rattle.std.specs.List.{AllByRecursion, flat_map}
 use Rattle.std.specs.Map.Iter.{deref_pair}
-use Rattle.history_text.specs.History.{IdFits}
-use Rattle.history_text.specs.Views.{id_view}
+use Rattle.id_history.specs.History.{IdFits}
+use Rattle.id_history.specs.Views.{id_view}
 use Rattle.id_history.specs.LastingIn.{kept_of}
 use Rattle.id_history.proofs.claims.Shard.append.Given as goal
 

@@ -2,8 +2,8 @@ use Rattle.std.proofs.Common.{◌∙◌, sym, subst, arith, map}
 use Rattle.std.proofs.lemmas.List.{take_at}
 use Rattle.std.proofs.lemmas.List.Sorted.{length_permutation}
 use Rattle.std.specs.List.{AllByRecursion}
-use Rattle.history_text.specs.History.{IdFits}
-use Rattle.history_text.specs.Views.{id_view}
+use Rattle.id_history.specs.History.{IdFits}
+use Rattle.id_history.specs.Views.{id_view}
 use Rattle.id_history.proofs.FitLemmas.{fits-sorted}
 use Rattle.id_history.proofs.LastingOrder.{entries-sorted}
 use Rattle.id_history.proofs.claims.Shard.entries.Goals as goal

@@ -2,7 +2,7 @@ use Rattle.std.proofs.Common.{◌∙◌, ◌∷◌, [], ◌++◌, map}
 use Rattle.std.proofs.lemmas.Iterator.Adapters.{YieldsList-from_vec}
 use Rattle.std.proofs.lemmas.Iterator.Consumers.{YieldsList-end}
 use Rattle.std.proofs.lemmas.List.{map_push}
-use Rattle.history_text.specs.Views.{id_view}
+use Rattle.id_history.specs.Views.{id_view}
 use Rattle.id_history.proofs.LastingLemmas.{Keeps-put_more, Keeps-put_all, views-same}
 use Rattle.id_history.proofs.claims.Shard.resume.Goals as goal
 

@@ -3,8 +3,8 @@ use Rattle.std.proofs.Math.ListN.{get_or}
 use Rattle.std.proofs.lemmas.List.{take_at}
 use Rattle.std.proofs.lemmas.List.Sorted.{length_permutation}
 use Rattle.std.specs.List.{AllByRecursion}
-use Rattle.history_text.specs.History.{IdFits}
-use Rattle.history_text.specs.Views.{id_view}
+use Rattle.id_history.specs.History.{IdFits}
+use Rattle.id_history.specs.Views.{id_view}
 use Rattle.id_history.specs.Lasting.{HasLasting}
 use Rattle.id_history.proofs.JoinLemmas.{Joins-next, below}
 use Rattle.id_history.proofs.LastingJoins.{HasLasting-none, HasLasting-all}

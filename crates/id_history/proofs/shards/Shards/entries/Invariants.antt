@@ -1,7 +1,7 @@
 use Rattle.std.proofs.Common.{◌≡◌, List, ℕ, map, take, vec_len, vec_capacity}
 use Rattle.std.specs.List.{AllByRecursion, sum_by}
-use Rattle.history_text.specs.History.{IdFits}
-use Rattle.history_text.specs.Views.{id_view}
+use Rattle.id_history.specs.History.{IdFits}
+use Rattle.id_history.specs.Views.{id_view}
 use Rattle.relay_model.specs.Claims.{Claim}
 use Rattle.id_history.specs.Lasting.{HasLasting}
 use Rattle.id_history.specs.LastingIn.{all_lasting, lasting_count}

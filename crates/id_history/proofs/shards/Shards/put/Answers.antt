@@ -1,5 +1,5 @@
 use Rattle.std.proofs.Common.{refl}
-use Rattle.history_text.specs.Views.{id_view}
+use Rattle.id_history.specs.Views.{id_view}
 use Rattle.id_history.specs.Lasting.{claim_of_kept}
 use Rattle.id_history.proofs.OwnLemmas.{OwnIds-set, others_by_change, others_kept, either_way}
 use Rattle.id_history.proofs.ShardsLemmas.{changes, on_ok}

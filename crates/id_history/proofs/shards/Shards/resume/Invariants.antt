@@ -1,5 +1,5 @@
 use Rattle.std.proofs.Common.{map}
-use Rattle.history_text.specs.Views.{id_view}
+use Rattle.id_history.specs.Views.{id_view}
 use Rattle.relay_model.specs.Claims.{Unknown}
 use Rattle.id_history.specs.Lasting.{put_all}
 use Rattle.id_history.specs.Shards.{KeepsAll}

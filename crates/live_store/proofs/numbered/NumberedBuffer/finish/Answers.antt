@@ -10,21 +10,24 @@ use Rattle.live_store.proofs.numbered.NumberedBuffer.finish.Goals as goal
 
 pub can_finish-requires-clause-own : goal.can_finish-requires-clause-own
 can_finish-requires-clause-own g c =
-    subst (λ s. IfSome c.in-Some.beside.shown (λ w. Shows s w)) (sym c.requires.register)
-    (shows_of g.J.Archive.register g.J.Archive.trusted c.args.self.now.buffer c.in-Some.beside
+    subst (λ s. IfSome c.in-Some.open_write.shown (λ w. Shows s w)) (sym c.requires.register)
+    (shows_of g.J.StorePremises.register g.J.StorePremises.trusted c.args.self.now.buffer
+    c.in-Some.open_write
     c.args.self.now.numbers.items
-    (subst (λ b. ∥ Tied g.J.Archive.trusted g.J.Archive.register c.args.self.now.buffer b
+    (subst (λ b. ∥ Tied g.J.StorePremises.trusted g.J.StorePremises.register
+    c.args.self.now.buffer b
     c.args.self.now.numbers.items ∥₁) c.in-Some.is c.args.self.now.tied))
 
 pub index_mut-requires : goal.index_mut-requires
 index_mut-requires g c =
     let field = c.in-Some-take.field-0 in
-    let tied = subst (λ b. ∥ Tied g.J.Archive.trusted g.J.Archive.register
+    let tied = subst (λ b. ∥ Tied g.J.StorePremises.trusted g.J.StorePremises.register
     c.args.self.now.buffer b c.args.self.now.numbers.items ∥₁)
     (sym c.take.ensures.value ∙ c.in-Some-take.is) c.args.self.now.tied in
     omega (
       arith,
-      place_of_first g.J.Archive.register g.J.Archive.trusted c.args.self.now.buffer field
+      place_of_first g.J.StorePremises.register g.J.StorePremises.trusted
+          c.args.self.now.buffer field
           c.args.self.now.numbers.items tied,
       ap (λ t. t.first) c.finish-token.ensures.handle,
     )
@@ -32,30 +35,35 @@ index_mut-requires g c =
 pub invariant_of-self : goal.invariant_of-self
 invariant_of-self g c =
     let field = c.in-Some-take.field-0 in
-    let tied = subst (λ b. ∥ Tied g.J.Archive.trusted g.J.Archive.register
+    let tied = subst (λ b. ∥ Tied g.J.StorePremises.trusted g.J.StorePremises.register
     c.args.self.now.buffer b c.args.self.now.numbers.items ∥₁)
     (sym c.take.ensures.value ∙ c.in-Some-take.is) c.args.self.now.tied in
     let can = subst (λ b. CanFinishFor b c.args.entered.shown)
-    (the_same c.args.self.now.beside c.take.result c.in-Some.beside field c.in-Some.is
+    (the_same c.args.self.now.open_write c.take.result c.in-Some.open_write field c.in-Some.is
     c.take.ensures.value c.in-Some-take.is) (c.can_finish.ensures.0 c.if-not-can_finish.false) in
     let follows = c.finish-token.ensures.finished
-    (can_finish g.J.Archive.register g.J.Archive.trusted c.args.self.now.buffer field
+    (can_finish g.J.StorePremises.register g.J.StorePremises.trusted c.args.self.now.buffer field
     c.args.self.now.numbers.items tied c.args.entered.shown can) in
     record {
-      tied = subst (λ b. ∥ Tied g.J.Archive.trusted g.J.Archive.register c.finish-token.new.self b
+      tied = subst
+          (λ b. ∥ Tied g.J.StorePremises.trusted g.J.StorePremises.register
+          c.finish-token.new.self b
           (set c.args.self.now.numbers.items c.finish-token.result.first (Some c.again.result))
           ∥₁) (sym c.take.ensures.after)
-          (subst (λ (w : Where Record). ∥ Tied g.J.Archive.trusted g.J.Archive.register
+          (subst (λ (w : Where Record). ∥ Tied g.J.StorePremises.trusted g.J.StorePremises.register
           c.finish-token.new.self None
           (set c.args.self.now.numbers.items c.finish-token.result.first (Some w)) ∥₁)
           (sym c.again.ensures)
-          (subst (λ n. ∥ Tied g.J.Archive.trusted g.J.Archive.register c.finish-token.new.self None
+          (subst (λ n. ∥ Tied g.J.StorePremises.trusted g.J.StorePremises.register
+          c.finish-token.new.self None
           (set c.args.self.now.numbers.items n (Some c.args.entered.shown)) ∥₁)
           (sym (ap (λ t. t.first) c.finish-token.ensures.handle))
-          (tied_finished g.J.Archive.register g.J.Archive.trusted c.args.self.now.buffer field
+          (tied_finished g.J.StorePremises.register g.J.StorePremises.trusted
+          c.args.self.now.buffer field
           c.args.self.now.numbers.items tied c.finish-token.new.self c.args.entered.shown can
           c.requires.shown follows
-          (c.finish-token.ensures.idle (can_finish g.J.Archive.register g.J.Archive.trusted
+          (c.finish-token.ensures.idle
+          (can_finish g.J.StorePremises.register g.J.StorePremises.trusted
           c.args.self.now.buffer field c.args.self.now.numbers.items tied c.args.entered.shown can))
           c.finish-token.ensures.starts c.finish-token.ensures.store)));
     }
@@ -63,28 +71,29 @@ invariant_of-self g c =
 pub invariant_of-result : goal.invariant_of-result
 invariant_of-result g c =
     let field = c.in-Some-take.field-0 in
-    let tied = subst (λ b. ∥ Tied g.J.Archive.trusted g.J.Archive.register
+    let tied = subst (λ b. ∥ Tied g.J.StorePremises.trusted g.J.StorePremises.register
     c.args.self.now.buffer b c.args.self.now.numbers.items ∥₁)
     (sym c.take.ensures.value ∙ c.in-Some-take.is) c.args.self.now.tied in
     let can = subst (λ b. CanFinishFor b c.args.entered.shown)
-    (the_same c.args.self.now.beside c.take.result c.in-Some.beside field c.in-Some.is
+    (the_same c.args.self.now.open_write c.take.result c.in-Some.open_write field c.in-Some.is
     c.take.ensures.value c.in-Some-take.is) (c.can_finish.ensures.0 c.if-not-can_finish.false) in
     record {
       same = sym (c.finish-token.ensures.handle ∙ same_token (
-          named_token g.J.Archive.register g.J.Archive.trusted c.args.self.now.buffer field
+          named_token g.J.StorePremises.register g.J.StorePremises.trusted
+          c.args.self.now.buffer field
           c.args.self.now.numbers.items tied c.args.entered.shown can.unbroken can.named));
     }
 
 pub returns-clause-finished : goal.returns-clause-finished
 returns-clause-finished g c =
     let field = c.in-Some-take.field-0 in
-    let tied = subst (λ b. ∥ Tied g.J.Archive.trusted g.J.Archive.register
+    let tied = subst (λ b. ∥ Tied g.J.StorePremises.trusted g.J.StorePremises.register
     c.args.self.now.buffer b c.args.self.now.numbers.items ∥₁)
     (sym c.take.ensures.value ∙ c.in-Some-take.is) c.args.self.now.tied in
     let can = subst (λ b. CanFinishFor b c.args.entered.shown)
-    (the_same c.args.self.now.beside c.take.result c.in-Some.beside field c.in-Some.is
+    (the_same c.args.self.now.open_write c.take.result c.in-Some.open_write field c.in-Some.is
     c.take.ensures.value c.in-Some-take.is) (c.can_finish.ensures.0 c.if-not-can_finish.false) in
     let follows = c.finish-token.ensures.finished
-    (can_finish g.J.Archive.register g.J.Archive.trusted c.args.self.now.buffer field
+    (can_finish g.J.StorePremises.register g.J.StorePremises.trusted c.args.self.now.buffer field
     c.args.self.now.numbers.items tied c.args.entered.shown can) in
     follows

@@ -11,10 +11,11 @@ use Rattle.live_store.proofs.numbered.NumberedBuffer.read.Goals as goal
 
 pub invariant_of-self : goal.invariant_of-self
 invariant_of-self g c = record {
-  tied = ∥∥₁_map c.args.self.now.tied (λ t. tied_same g.J.Archive.register g.J.Archive.trusted
+  tied = ∥∥₁_map c.args.self.now.tied
+      (λ t. tied_same g.J.StorePremises.register g.J.StorePremises.trusted
       c.args.self.now.buffer c.read_block.new.self c.args.self.now.numbers.items
-      c.args.self.now.beside t c.read_block.ensures.reads.same
-      c.read_block.ensures.reads.register c.read_block.ensures.held.count);
+      c.args.self.now.open_write t c.read_block.ensures.reads.same
+      c.read_block.ensures.reads.buffer_state c.read_block.ensures.held.count);
 }
 
 pub device_fault-requires : goal.device_fault-requires
@@ -22,16 +23,16 @@ device_fault-requires g c = device_fails (place_of c.args.self.now.buffer) kinds
     c.args.token.now.length c.in-Err.error c.in-Err.ensures.remembered.fault
 
 pub unreachable-requires : goal.unreachable-requires
-unreachable-requires g c = read_numbered g.J.Archive.register g.J.Archive.trusted
-    c.args.self.now.buffer c.args.self.now.beside c.args.self.now.numbers.items
+unreachable-requires g c = read_numbered g.J.StorePremises.register g.J.StorePremises.trusted
+    c.args.self.now.buffer c.args.self.now.open_write c.args.self.now.numbers.items
     c.args.self.now.tied c.args.token.now
     (subst (IsFoundBy c.args.self.now.buffer c.args.token.now c.args.k)
     (c.in-Ok-Chunk.is ∙ ap Ok c.in-Ok-Chunk.field-0-is) c.read_block.ensures.remembered)
     (sym c.number_at.ensures ∙ c.in-None.is)
 
 pub returns-in-Some-clause-chunk : goal.returns-in-Some-clause-chunk
-returns-in-Some-clause-chunk g c = read_chunk g.J.Archive.register g.J.Archive.trusted
-    c.args.self.now.buffer c.args.self.now.beside c.args.self.now.numbers.items
+returns-in-Some-clause-chunk g c = read_chunk g.J.StorePremises.register g.J.StorePremises.trusted
+    c.args.self.now.buffer c.args.self.now.open_write c.args.self.now.numbers.items
     c.args.self.now.tied c.args.token.now c.read_block.new.self c.args.k
     c.args.chunk.now c.read_block.new.chunk c.in-Ok-Chunk.octets c.in-Some.shown
     (subst (λ r. ReadsBlock c.args.self.now.buffer c.args.token.now c.args.k c.args.chunk.now r
@@ -40,8 +41,8 @@ returns-in-Some-clause-chunk g c = read_chunk g.J.Archive.register g.J.Archive.t
     (sym c.number_at.ensures ∙ c.in-Some.is)
 
 pub returns-in-Some-clause-shown : goal.returns-in-Some-clause-shown
-returns-in-Some-clause-shown g c = read_shown g.J.Archive.register g.J.Archive.trusted
-    c.args.self.now.buffer c.args.self.now.beside c.args.self.now.numbers.items
+returns-in-Some-clause-shown g c = read_shown g.J.StorePremises.register g.J.StorePremises.trusted
+    c.args.self.now.buffer c.args.self.now.open_write c.args.self.now.numbers.items
     c.args.self.now.tied c.args.token.now c.in-Some.shown
     (sym c.number_at.ensures ∙ c.in-Some.is)
 

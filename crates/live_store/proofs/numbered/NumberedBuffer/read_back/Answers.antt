@@ -7,7 +7,8 @@ use Rattle.live_store.proofs.numbered.NumberedBuffer.read_back.Goals as goal
 
 pub invariant_of-result : goal.invariant_of-result
 invariant_of-result g c = record {
-  tied = tied_started g.J.Archive.register g.J.Archive.trusted (inside c.args.started.buffer)
+  tied = tied_started g.J.StorePremises.register g.J.StorePremises.trusted
+      (inside c.args.started.buffer)
       (inside c.numbers_of_articles.new.buffer) c.in-Ok.numbers.items
       c.args.started.tokens.items c.requires.started c.requires.idle
       c.numbers_of_articles.ensures.read

@@ -44,7 +44,8 @@ returns-in-Ok-Gone-clause-refused g c h agrees live sound = not_gone (inside c.l
     (omega (arith, c.loop-k-test.true, c.size_of-k-end.ensures))
     c.in-Ok-Gone.field-0-0
     (subst (λ r. ReadsBlock (inside c.loop-k.buffer) c.args.token.now c.loop-k.k c.loop-k.chunk r
-    c.read_block.new.chunk (inside c.read_block.new.self)) (c.in-Ok-Gone.is ∙ ap Ok c.in-Ok-Gone.field-0-is) c.read_block.ensures.reads)
+    c.read_block.new.chunk (inside c.read_block.new.self))
+    (c.in-Ok-Gone.is ∙ ap Ok c.in-Ok-Gone.field-0-is) c.read_block.ensures.reads)
 
 pub returns-in-Ok-Unknown-clause-refused : goal.returns-in-Ok-Unknown-clause-refused
 returns-in-Ok-Unknown-clause-refused g c h agrees live sound = not_unknown (inside c.loop-k.buffer)
@@ -52,11 +53,13 @@ returns-in-Ok-Unknown-clause-refused g c h agrees live sound = not_unknown (insi
     c.read_block.new.chunk h (c.loop-k.invariant.read.same true h agrees) live
     (omega (arith, c.loop-k-test.true, c.size_of-k-end.ensures))
     (subst (λ r. ReadsBlock (inside c.loop-k.buffer) c.args.token.now c.loop-k.k c.loop-k.chunk r
-    c.read_block.new.chunk (inside c.read_block.new.self)) (c.in-Ok-Unknown.is ∙ ap Ok c.in-Ok-Unknown.field-0-is) c.read_block.ensures.reads)
+    c.read_block.new.chunk (inside c.read_block.new.self))
+    (c.in-Ok-Unknown.is ∙ ap Ok c.in-Ok-Unknown.field-0-is) c.read_block.ensures.reads)
 
 pub loop-k-preserved : goal.loop-k-preserved
 loop-k-preserved g c = record {
-  read = (merely_next (inside c.args.buffer.now) (inside c.loop-k.buffer) (inside c.read_block.new.self)
+  read = (merely_next (inside c.args.buffer.now) (inside c.loop-k.buffer)
+      (inside c.read_block.new.self)
       c.loop-k.invariant.read (merely_read (inside c.loop-k.buffer) (inside c.read_block.new.self)
       c.args.token.now c.loop-k.k c.loop-k.chunk c.read_block.new.chunk c.read_block.result
       c.read_block.ensures.reads c.read_block.ensures.held c.read_block.ensures.stop));
@@ -75,7 +78,8 @@ loop-k-preserved g c = record {
       c.read_block.new.chunk h (c.loop-k.invariant.read.same true h agrees) live
       (omega (arith, c.loop-k-test.true, c.size_of-k-end.ensures)) c.in-Ok-Chunk.octets
       (subst (λ r. ReadsBlock (inside c.loop-k.buffer) c.args.token.now c.loop-k.k c.loop-k.chunk r
-      c.read_block.new.chunk (inside c.read_block.new.self)) (c.in-Ok-Chunk.is ∙ ap Ok c.in-Ok-Chunk.field-0-is) c.read_block.ensures.reads))
+      c.read_block.new.chunk (inside c.read_block.new.self))
+      (c.in-Ok-Chunk.is ∙ ap Ok c.in-Ok-Chunk.field-0-is) c.read_block.ensures.reads))
       c.in_ok-extend_from_slice-in-Ok-Chunk.ensures.items;
 }
 

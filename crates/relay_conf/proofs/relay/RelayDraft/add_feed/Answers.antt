@@ -37,7 +37,8 @@ kept c = record {
 }
 
 -- it joins the others
-pushed : (c : goal.In_ok-push-2) → c.push.new.self.items ≡ c.args.self.now.feeds.items ++ kept c ∷ []
+pushed : (c : goal.In_ok-push-2)
+    → c.push.new.self.items ≡ c.args.self.now.feeds.items ++ kept c ∷ []
 pushed c =
     let feed : List ℕ → NamedFeed = λ name. record {
       name = name;

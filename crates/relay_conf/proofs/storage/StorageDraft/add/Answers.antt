@@ -14,7 +14,8 @@ pub returns-in-Opens : goal.returns-in-Opens
 returns-in-Opens c =
     rw c.in-Opens.is
     (read_by (λ (r : Reading). r) _ _ (after_line c.args.number) _
-    (draft_view c.open_entry.new.self) _ (Opens c.in-Opens.method.now) c.open_entry.result refl
+    (draft_view c.open_entry.new.self) _ (Opens c.in-Opens.method.now)
+    c.open_entry.result refl
     c.open_entry.ensures.taken c.open_entry.ensures.opened refl)
 
 pub returns-in-Closes : goal.returns-in-Closes

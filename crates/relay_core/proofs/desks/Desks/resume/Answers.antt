@@ -1,8 +1,8 @@
 use Rattle.std.proofs.Common.{ℕ, List, map, subst}
 use Rattle.feed_queue.specs.Feeds.{KeepsFeeds, ring_size}
 use Rattle.feed_queue.specs.Left.{AreLeft}
-use Rattle.history_text.specs.Views.{feed_view}
-use Rattle.history_text.specs.declared.kept.KeptFeed.{KeptFeed}
+use Rattle.id_history.specs.Views.{feed_view}
+use Rattle.id_history.specs.declared.kept.KeptFeed.{KeptFeed}
 use Rattle.relay_conf.specs.declared.relay.Feed as conf
 use Rattle.relay_model.specs.State.{Feed}
 use Rattle.relay_core.proofs.desks.Desks.resume.Goals as goal
@@ -17,6 +17,6 @@ returns c =
       claims = c.in_ok-shards.ensures;
       desk = subst (λ fs. D fs c.args.history.feeds.items) c.deref.ensures.value
           (subst (λ ks. D c.deref.result.now ks) c.deref-2.ensures.value c.in_ok-desk.ensures);
-      lanes = c.in_ok-lanes.ensures;
+      group_writers = c.in_ok-group_writers.ensures;
       expirer = c.in_ok-expirer.ensures;
     }

@@ -2,7 +2,7 @@ use Rattle.std.proofs.Common.{◌≡◌, ◌∙◌, ◌<◌, ◌≤◌, ap, arit
 use Rattle.std.specs.Prelude.{Ok}
 use Rattle.article_verdict.proofs.FewFeeds.{few_feeds}
 use Rattle.article_verdict.specs.Config.{terms_of}
-use Rattle.history_text.specs.Views.{feed_view}
+use Rattle.id_history.specs.Views.{feed_view}
 use Rattle.relay_core.proofs.Stops.{all_left, feed_missing, kept_joins, some_of, waits_join}
 use Rattle.relay_core.specs.Agreement.{ring_sizes}
 use Rattle.relay_core.proofs.system.System.kept_feeds.Goals as goal
@@ -33,14 +33,17 @@ loop-number-preserved g c =
             left = λ feed keeps. kept_joins n c.loop-number.kept.items
                 c.match-branch-3.kept.items w.in-Some.one sizes feed
                 (cc (w.push_reserved.ensures.items, w.kept-is))
-                (c.loop-number.invariant.left feed keeps) (some_of _ _ w.in-Some.one w.in-Some.is c.in_ok-one.ensures.left sizes feed keeps);
+                (c.loop-number.invariant.left feed keeps)
+                (some_of _ _ w.in-Some.one w.in-Some.is c.in_ok-one.ensures.left
+                sizes feed keeps);
           }
       | in_default w ↦
           record {
             count = search rules;
             room = search rules;
             waits = search rules;
-            left = λ feed keeps. absurd (feed_missing config c.args.self.now.desk feed n keeps within
+            left = λ feed keeps.
+                absurd (feed_missing config c.args.self.now.desk feed n keeps within
                 (c.kept.ensures.missing.0 (c.in_ok-one.was ∙ ap Ok w.in_default.is)));
           }
     ]

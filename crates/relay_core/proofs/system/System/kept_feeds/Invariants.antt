@@ -1,8 +1,8 @@
 use Rattle.std.proofs.Common.{◌≡◌, ◌≤◌, ◌<◌, ◌^◌, ℕ, All, length, map, vec_len, vec_capacity}
 use Rattle.article_verdict.specs.Config.{terms_of}
 use Rattle.feed_queue.specs.Feeds.{KeepsFeeds}
-use Rattle.history_text.specs.Views.{feed_view}
-use Rattle.history_text.specs.declared.kept.KeptFeed.{KeptFeed}
+use Rattle.id_history.specs.Views.{feed_view}
+use Rattle.id_history.specs.declared.kept.KeptFeed.{KeptFeed}
 use Rattle.relay_model.specs.State.{Feed}
 use Rattle.relay_core.proofs.Stops.{AreLeftSoFar}
 use Rattle.relay_core.specs.Agreement.{ring_sizes}
@@ -16,5 +16,6 @@ invariant-loop-number g l = record {
   waits : All (λ (feed : KeptFeed). length feed.waiting.items < 2 ^ 32) l.kept.items;
   left : (feed : ℕ → Feed)
       → KeepsFeeds l.self.desk (ring_sizes (terms_of l.self.config)) feed
-      → AreLeftSoFar l.number (map feed_view l.kept.items) (ring_sizes (terms_of l.self.config)) feed;
+      → AreLeftSoFar l.number (map feed_view l.kept.items)
+      (ring_sizes (terms_of l.self.config)) feed;
 }

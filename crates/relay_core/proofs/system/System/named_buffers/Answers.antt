@@ -1,5 +1,5 @@
 use Rattle.std.proofs.Common.{◌∙◌, ◌<◌, length, rules}
-use Rattle.relay_core.specs.Figures.{named_buffer}
+use Rattle.relay_report.specs.Figures.{named_buffer}
 use Rattle.relay_core.proofs.Reporting.{buffer_joins, buffer_there, numbered_all}
 use Rattle.relay_core.proofs.system.System.named_buffers.Goals as goal
 use Rattle.relay_core.proofs.system.System.named_buffers.Goals.{in-Some+in_ok-name, in_default}

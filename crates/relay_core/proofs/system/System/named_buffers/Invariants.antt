@@ -1,6 +1,6 @@
 use Rattle.std.proofs.Common.{◌≡◌, ◌≤◌, Bool, length, map, take, vec_len, vec_capacity}
 use Rattle.relay_core.specs.Agreement.{Agrees}
-use Rattle.relay_core.specs.Figures.{buffer_view, named_buffers}
+use Rattle.relay_report.specs.Figures.{buffer_view, named_buffers}
 use Rattle.relay_model.specs.World.{World}
 use Rattle.relay_core.proofs.system.System.named_buffers.Given as goal
 

@@ -1,6 +1,6 @@
 use Rattle.std.proofs.Common.{◌∙◌, ◌<◌, arith, length, rules}
 use Rattle.article_verdict.proofs.FewFeeds.{few_feeds}
-use Rattle.relay_core.specs.Figures.{named_feed}
+use Rattle.relay_report.specs.Figures.{named_feed}
 use Rattle.relay_core.proofs.Reporting.{feed_joins, feed_there, numbered_all}
 use Rattle.relay_core.proofs.system.System.named_feeds.Goals as goal
 use Rattle.relay_core.proofs.system.System.named_feeds.Goals.{in-Some+in_ok-peer, in_default}

@@ -1,5 +1,5 @@
 use Rattle.std.proofs.Common.{◌∙◌, ℕ, List, length, subst, sym}
-use Rattle.history_text.specs.Views.{history_view}
+use Rattle.id_history.specs.Views.{history_view}
 use Rattle.relay_core.proofs.Restarts.{rereads, unread_of}
 use Rattle.relay_core.proofs.Starts.{rings_hold}
 use Rattle.relay_core.specs.Desks.{AreOf}
@@ -27,4 +27,4 @@ returns-clause-reread g c =
     c.in_ok-text.ensures)
     c.in-Ok.ensures.only
     (subst (λ (n : ℕ). AreOf c.args.self.now.config (history_view c.in-Ok.history) n
-    c.in_ok-desks.desks) (c.len.ensures ∙ c.args.self.now.lanes.ok.0) c.in_ok-desks.ensures)
+    c.in_ok-desks.desks) (c.len.ensures ∙ c.args.self.now.group_writers.ok.0) c.in_ok-desks.ensures)

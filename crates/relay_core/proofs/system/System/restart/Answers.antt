@@ -12,7 +12,8 @@ use Rattle.relay_core.proofs.system.System.restart.Goals as goal
 pub returns-then-not-is_idle-clause-steps : goal.returns-then-not-is_idle-clause-steps
 returns-then-not-is_idle-clause-steps g c =
     busy c.args.self.now
-    (subst (λ (b : Bool). TellsIdle c.args.self.now.shards b) c.if-not-is_idle.true c.is_idle.ensures)
+    (subst (λ (b : Bool). TellsIdle c.args.self.now.shards b) c.if-not-is_idle.true
+    c.is_idle.ensures)
 
 -- there is no memory for the text, or for what is read
 pub returns-in-Err-Memory-clause-steps : goal.returns-in-Err-Memory-clause-steps
@@ -38,7 +39,7 @@ returns-in-Ok-restart-clause-steps g c =
 pub returns-in-Err-clause-steps : goal.returns-in-Err-clause-steps
 returns-in-Err-clause-steps g c =
     subst (λ (e : CoreError). Steps run.Restart c.args.self.now (outputs.Refused e)
-    (record c.args.self.now { shelf = c.restart.new.self })) (sym c.refused_as.ensures)
+    (record c.args.self.now { buffer_set = c.restart.new.self })) (sym c.refused_as.ensures)
     (refused_there c.args.self.now c.restart.result c.in-Err.fault c.restart.new.self
     (subst (λ (b : Bool). TellsIdle c.args.self.now.shards b) c.if-not-is_idle.false
     c.is_idle.ensures)
@@ -47,7 +48,7 @@ returns-in-Err-clause-steps g c =
 pub returns-in-Err-clause-refused : goal.returns-in-Err-clause-refused
 returns-in-Err-clause-refused g c =
     subst (λ (e : CoreError). RestartsRightly c.args.self.now (outputs.Refused e)
-    (record c.args.self.now { shelf = c.restart.new.self })) (sym c.refused_as.ensures)
+    (record c.args.self.now { buffer_set = c.restart.new.self })) (sym c.refused_as.ensures)
     (rightly_there c.args.self.now c.restart.result c.in-Err.fault c.restart.new.self
     (subst (λ (b : Bool). TellsIdle c.args.self.now.shards b) c.if-not-is_idle.false
     c.is_idle.ensures)

@@ -26,7 +26,7 @@ returns-in-Look-clause-shared g c =
 pub returns-in-Read-clause-shared : goal.returns-in-Read-clause-shared
 returns-in-Read-clause-shared g c =
     read_shared c.args.number c.args.now c.args.self.now c.args.peer.now c.in-Read.token
-    c.in-Read.k c.read_chunk.result c.read_chunk.new.shelf c.read_chunk.ensures c.args.step
+    c.in-Read.k c.read_chunk.result c.read_chunk.new.buffer_set c.read_chunk.ensures c.args.step
     c.in-Read.is
 
 pub returns-in-TakeQueue-clause-shared : goal.returns-in-TakeQueue-clause-shared

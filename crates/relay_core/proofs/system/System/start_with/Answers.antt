@@ -1,5 +1,5 @@
 use Rattle.std.proofs.Common.{◌≡◌, ◌∙◌, ℕ, List, ap, map, subst, sym, refl}
-use Rattle.history_text.specs.Views.{history_view}
+use Rattle.id_history.specs.Views.{history_view}
 use Rattle.relay_core.proofs.Starts.{ahead, ahead_as, not_opened, not_started, rings_hold, starts}
 use Rattle.relay_core.proofs.Starts.{unread_or_room}
 use Rattle.relay_core.specs.Ahead.{filled_view, is_ahead}

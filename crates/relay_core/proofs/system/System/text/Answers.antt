@@ -1,5 +1,5 @@
 use Rattle.std.proofs.Common.{refl}
-use Rattle.history_text.specs.Views.{history_view}
+use Rattle.id_history.specs.Views.{history_view}
 use Rattle.relay_core.proofs.Stops.{tells_of}
 use Rattle.relay_core.proofs.system.System.text.Goals as goal
 

@@ -1,7 +1,7 @@
 use Rattle.std.proofs.Common.{refl, subst, sym}
 use Rattle.relay_model.specs.Run as run
-use Rattle.relay_peers.specs.Peers.{HasPlace}
-use Rattle.relay_peers.specs.declared.peers.Peers.{Peers}
+use Rattle.relay_core.specs.Peers.{HasPlace}
+use Rattle.relay_core.specs.declared.peers.Peers.{Peers}
 use Rattle.relay_core.proofs.Refusing.{refused_last, turn_open}
 use Rattle.relay_core.proofs.Turning.{back_is, none_runs, place_of, still, too_late, turned}
 use Rattle.relay_core.proofs.system.System.turn.Goals as goal

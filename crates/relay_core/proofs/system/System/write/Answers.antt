@@ -6,14 +6,14 @@ use Rattle.relay_core.proofs.system.System.write.Goals as goal
 pub returns-then-group-len-clause-steps : goal.returns-then-group-len-clause-steps
 returns-then-group-len-clause-steps g c =
     no_group c.args.self.now c.args.group c.args.now
-    (subst (λ (k : ℕ). k ≤ c.args.group) (c.len.ensures ∙ c.args.self.now.lanes.ok.0)
+    (subst (λ (k : ℕ). k ≤ c.args.group) (c.len.ensures ∙ c.args.self.now.group_writers.ok.0)
     c.if-group-len.true)
 
 -- it is too late
 pub returns-then-now-gt-LAST_MOMENT-clause-steps : goal.returns-then-now-gt-LAST_MOMENT-clause-steps
 returns-then-now-gt-LAST_MOMENT-clause-steps g c =
     late_write c.args.self.now c.args.group c.args.now
-    (inside_of c.args.self.now.lanes c.args.group
+    (inside_of c.args.self.now.group_writers c.args.group
     (subst (λ (k : ℕ). c.args.group < k) c.len.ensures c.if-group-len.false))
     c.if-now-gt-LAST_MOMENT.true
 
@@ -24,7 +24,7 @@ returns-clause-steps g c =
     (record { queue = c.index_mut.result.now.queue; writer = c.replace-taken.new.dest })
     c.advance-writer.new.self c.advance-writer.result c.index_mut-2.result.now
     (record { queue = c.index_mut-2.result.now.queue; writer = c.replace.new.dest })
-    (inside_of c.args.self.now.lanes c.args.group
+    (inside_of c.args.self.now.group_writers c.args.group
     (subst (λ (k : ℕ). c.args.group < k) c.len.ensures c.if-group-len.false))
     c.if-now-gt-LAST_MOMENT.false c.index_mut.ensures.value refl
     (as_taken c.args.group c.args.now c.index_mut.result.now.writer c.replace-taken.result _ _ _

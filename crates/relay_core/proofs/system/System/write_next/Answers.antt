@@ -15,7 +15,7 @@ returns-then-written-blocks-clause-advances g c = λ group now.
 pub returns-in-Ok-clause-advances : goal.returns-in-Ok-clause-advances
 returns-in-Ok-clause-advances g c = λ group now.
     let P : List ℕ → Type 0 = λ text. WritesOn (token_of c.args.begun) text
-    c.args.self.now.shelf (Ok c.in-Ok._last) c.write_next.new.self in
+    c.args.self.now.buffer_set (Ok c.in-Ok._last) c.write_next.new.self in
     block_written group now c.args.job c.args.self.now c.args.begun c.args.written c.in-Ok._last
     c.write_next.new.self
     (subst (λ (k : ℕ). c.args.written < k) c.blocks-2.ensures c.if-written-blocks.false)
@@ -25,7 +25,7 @@ returns-in-Ok-clause-advances g c = λ group now.
 pub returns-in-Err-clause-advances : goal.returns-in-Err-clause-advances
 returns-in-Err-clause-advances g c = λ group now.
     let P : List ℕ → Type 0 = λ text. WritesOn (token_of c.args.begun) text
-    c.args.self.now.shelf (Err c.in-Err._fault) c.write_next.new.self in
+    c.args.self.now.buffer_set (Err c.in-Err._fault) c.write_next.new.self in
     block_failed group now c.args.job c.args.self.now c.args.begun c.args.written c.in-Err._fault
     c.write_next.new.self
     (subst (λ (k : ℕ). c.args.written < k) c.blocks-2.ensures c.if-written-blocks.false)

@@ -68,7 +68,8 @@ returns-then-is_busy-clause-busy g c = λ e.
 pub returns-clause-idle : goal.returns-clause-idle
 returns-clause-idle g c = λ e.
     let shards : length c.args.self.now.shards.items ≤ c.loop-shard.shard-index = search rules in
-    let buffers : length c.args.self.now.buffers.items ≤ c.loop-buffer.buffer-index = search rules in
+    let buffers : length c.args.self.now.buffers.items ≤ c.loop-buffer.buffer-index =
+    search rules in
     record {
       claims = λ claims keeps id. c.loop-shard.invariant claims keeps id
           (omega (arith, shards, c.args.self.now.sixteen, shard_within id));

@@ -1,6 +1,6 @@
 use Rattle.std.proofs.Common.{◌∙◌, arith, refl}
 use Rattle.article_verdict.proofs.FewFeeds.{few_feeds}
-use Rattle.block_shelf.proofs.NewShelf.{same_count}
+use Rattle.block_shelf.proofs.NewBufferSet.{same_count}
 use Rattle.relay_live.proofs.Begins.{keeps_nothing}
 use Rattle.relay_live.proofs.alone.Alone.new.Goals as goal
 
@@ -14,8 +14,14 @@ invariant_of-result g c = record {
     same_count g.S.BlockStore c.args.config.now.buffers c.args.stores.items c.requires.stores,
     c.args.config.now.buffers.few_buffers,
   );
-  few_racks = omega (arith, c.in_ok-racks.ensures.count, c.args.config.now.buffers.few_groups);
-  few_feeds = omega (arith, few_feeds c.args.config.now, c.len.ensures, c.args.config.now.relay.feeds.ok);
+  few_placed_groups =
+      omega (arith, c.in_ok-placed_groups.ensures.count, c.args.config.now.buffers.few_groups);
+  few_feeds = omega (
+    arith,
+    few_feeds c.args.config.now,
+    c.len.ensures,
+    c.args.config.now.relay.feeds.ok,
+  );
 }
 
 -- each part is as it is before anything has come
@@ -24,8 +30,8 @@ returns-clause-begins g c =
     record {
       claims = c.in_ok-shards.ensures.unknown;
       feeds = c.in_ok-desk.ensures;
-      racks = c.in_ok-racks.ensures.racks;
-      rack_count = c.in_ok-racks.ensures.count;
+      placed_groups = c.in_ok-placed_groups.ensures.placed_groups;
+      placed_group_count = c.in_ok-placed_groups.ensures.count;
       buffers = c.in-Ok.ensures.over;
       newest = c.new-last.ensures;
       stop_is = refl;
@@ -33,7 +39,8 @@ returns-clause-begins g c =
       remembers = refl;
       keeps = λ honest. keeps_nothing c.args.config.now c.args.stores.items _ c.requires.stores
           c.in-Ok.ensures.over c.in_ok-shards.ensures.unknown c.in_ok-desk.ensures
-          c.in_ok-racks.ensures.racks c.in_ok-racks.ensures.count c.new-last.ensures
+          c.in_ok-placed_groups.ensures.placed_groups c.in_ok-placed_groups.ensures.count
+          c.new-last.ensures
           (c.len.ensures ∙ c.args.config.now.relay.feeds.ok.0) honest;
     }
 

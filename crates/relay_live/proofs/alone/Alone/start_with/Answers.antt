@@ -1,15 +1,16 @@
 use Rattle.std.proofs.Common.{◌∙◌, List, None, ap, arith, map, refl, subst, sym}
 use Rattle.article_verdict.proofs.FewFeeds.{few_feeds}
-use Rattle.block_shelf.proofs.NewShelf.{same_count}
+use Rattle.block_shelf.proofs.NewBufferSet.{same_count}
 use Rattle.block_shelf.specs.Each.{AreEach}
 use Rattle.block_shelf.specs.Starting.{IsUnwritten}
 use Rattle.block_shelf.specs.declared.starting.Unstarted.{Unstarted}
-use Rattle.history_text.specs.Views.{history_view}
+use Rattle.id_history.specs.Views.{history_view}
 use Rattle.relay_core.specs.Ahead.{filled_view, is_ahead}
 use Rattle.relay_core.specs.declared.ahead.Filled as code
 use Rattle.relay_live.proofs.OpenedBuffers.{not_opened}
 use Rattle.relay_live.proofs.StartedBuffers.{started_stores}
-use Rattle.relay_live.proofs.StartedRelay.{ahead_as, ahead_of, no_head, no_room, not_started, starts}
+use Rattle.relay_live.proofs.StartedRelay.{ahead_as, ahead_of, no_head, no_room, not_started}
+use Rattle.relay_live.proofs.StartedRelay.{starts}
 use Rattle.relay_live.proofs.StartedRelay.{unread_or_room}
 use Rattle.relay_live.proofs.alone.Alone.start_with.Goals as goal
 
@@ -133,9 +134,9 @@ invariant_of-result g c = record {
     same_count g.S.BlockStore c.args.config.now.buffers c.args.stores.items c.requires.stores,
     c.args.config.now.buffers.few_buffers,
   );
-  few_racks = omega (
+  few_placed_groups = omega (
     arith,
-    c.in-Ok-resume.ensures.rack_count,
+    c.in-Ok-resume.ensures.placed_group_count,
     c.args.config.now.buffers.few_groups,
   );
   few_feeds = omega (

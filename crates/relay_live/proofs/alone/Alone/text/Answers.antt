@@ -1,7 +1,7 @@
 use Rattle.std.proofs.Common.{refl, subst}
 use Rattle.block_shelf.specs.Each.{AreEach}
 use Rattle.block_shelf.specs.Stopping.{TellsPosition}
-use Rattle.history_text.specs.Views.{history_view}
+use Rattle.id_history.specs.Views.{history_view}
 use Rattle.relay_live.proofs.Tells.{tells_of}
 use Rattle.relay_live.specs.Telling.{AreEntries}
 use Rattle.relay_live.proofs.alone.Alone.text.Goals as goal
@@ -19,7 +19,7 @@ returns g c =
     }))
     c.in_ok-feeds.feeds.items c.in_ok-ids.ids.items
     c.in_ok-text.ensures.fits c.in_ok-text.ensures.octets refl c.number.ensures
-    (subst (λ racks. AreEach TellsPosition racks c.in_ok-positions.positions.items)
+    (subst (λ placed_groups. AreEach TellsPosition placed_groups c.in_ok-positions.positions.items)
     c.deref.ensures.value c.in_ok-positions.ensures)
     refl c.in_ok-feeds.ensures.left refl
     (subst (λ shards. AreEntries shards c.in_ok-ids.ids.items) c.deref-2.ensures.value

@@ -5,11 +5,11 @@ use Rattle.block_shelf.specs.Resuming.{ResumesByUse}
 use Rattle.block_shelf.specs.Starting.{buffers_inside}
 use Rattle.feed_queue.specs.Feeds.{KeepsFeeds, ring_size}
 use Rattle.feed_queue.specs.Left.{AreLeft}
-use Rattle.history_text.specs.History.{RingHolds}
-use Rattle.history_text.specs.Views.{feed_view, history_view}
-use Rattle.history_text.specs.declared.kept.KeptFeed.{KeptFeed}
-use Rattle.live_settle.specs.Desks.{desk_of}
-use Rattle.live_settle.specs.Posting.{most_gained}
+use Rattle.id_history.specs.History.{RingHolds}
+use Rattle.id_history.specs.Views.{feed_view, history_view}
+use Rattle.id_history.specs.declared.kept.KeptFeed.{KeptFeed}
+use Rattle.live_jobs.specs.Desks.{desk_of}
+use Rattle.live_jobs.specs.Posting.{most_gained}
 use Rattle.live_store.specs.Started.{unopened_in}
 use Rattle.relay_conf.specs.declared.relay.Feed.{Feed}
 use Rattle.relay_core.proofs.Starts.{rings_hold}
@@ -36,20 +36,22 @@ returns g c =
     let kept = history_view c.args.history in
     let settings = c.args.config.now.buffers in
     let codes = buffers_inside (map unopened_in c.args.started.now.buffers.items) in
-    let racks = c.in_ok-racks.racks.items in
+    let placed_groups = c.in_ok-placed_groups.placed_groups.items in
     record {
-      claims = λ claim lasts. c.into_shards-shards.ensures.keeps _ (c.in_ok-resume.ensures claim lasts);
+      claims = λ claim lasts. c.into_shards-shards.ensures.keeps _
+          (c.in_ok-resume.ensures claim lasts);
       feeds = subst
           (λ (p : List KeptFeed × List Feed). (feed : ℕ → model.Feed)
           → AreLeft (map feed_view p.0) (map ring_size p.1) feed
           → KeepsFeeds (desk_of c.in_ok-desk.desk) (map ring_size p.1) feed)
           (λ i. (c.deref-4.ensures.value i, c.deref-3.ensures.value i)) c.in_ok-desk.ensures.desk;
-      racks = resumed_over settings kept.positions codes c.in_ok-used.used.items racks
+      placed_groups =
+          resumed_over settings kept.positions codes c.in_ok-used.used.items placed_groups
           c.in_ok-used.ensures
           (subst
-          (λ (p : List ℕ × List ℕ). ResumesByUse settings p.0 p.1 racks)
+          (λ (p : List ℕ × List ℕ). ResumesByUse settings p.0 p.1 placed_groups)
           (λ i. (c.deref-2.ensures.value i, c.deref.ensures.value i))
-          c.in_ok-racks.ensures.racks);
-      rack_count = c.in_ok-racks.ensures.count;
+          c.in_ok-placed_groups.ensures.placed_groups);
+      placed_group_count = c.in_ok-placed_groups.ensures.count;
       newest = c.after-last.ensures;
     }

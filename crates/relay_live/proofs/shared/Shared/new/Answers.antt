@@ -1,5 +1,5 @@
 use Rattle.std.proofs.Common.{◌∙◌}
-use Rattle.block_shelf.proofs.NewShelf.{same_count}
+use Rattle.block_shelf.proofs.NewBufferSet.{same_count}
 use Rattle.relay_live.proofs.shared.Shared.new.Goals as goal
 
 -- a buffer for each store, and so for each of the configuration

@@ -7,7 +7,7 @@ use Rattle.relay_live.proofs.shared.Shared.shut.Goals as goal
 pub returns-in-Ok-shut-clause-known : goal.returns-in-Ok-shut-clause-known
 returns-in-Ok-shut-clause-known g c =
     subst
-    (λ n. g.J.Archive.trusted ≡ true
-    → AreShutWith g.S.BlockStore g.J.Archive.register (next_stop n)
+    (λ n. g.J.StorePremises.trusted ≡ true
+    → AreShutWith g.S.BlockStore g.J.StorePremises.register (next_stop n)
     c.in-Ok-shut.stopped.stores.items)
     c.into_alone-alone.ensures.stop c.in-Ok-shut.ensures.shut.known

@@ -1,5 +1,5 @@
 use Rattle.std.proofs.Common.{◌∙◌, None, ap, subst, sym}
-use Rattle.block_shelf.proofs.NewShelf.{same_count}
+use Rattle.block_shelf.proofs.NewBufferSet.{same_count}
 use Rattle.block_shelf.proofs.Starts.{untouched_stores}
 use Rattle.block_shelf.specs.Each.{AreEach}
 use Rattle.block_shelf.specs.Starting.{IsUnwritten}

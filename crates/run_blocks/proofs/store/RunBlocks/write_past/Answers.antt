@@ -25,7 +25,8 @@ returns-clause-block g c =
           (alone.written (c.let_go.ensures.honest honest));
       others = λ honest j other. alone.others (c.let_go.ensures.honest honest) j other
           ∙ c.let_go.ensures.others honest j other;
-      heads = λ honest. alone.heads (c.let_go.ensures.honest honest) ∙ c.let_go.ensures.heads honest;
+      heads = λ honest. alone.heads (c.let_go.ensures.honest honest)
+          ∙ c.let_go.ensures.heads honest;
       honest = λ honest. alone.honest (c.let_go.ensures.honest honest);
       count = alone.count ∙ c.let_go.ensures.count;
     }
@@ -47,10 +48,12 @@ returns-clause-once g c b block is passes =
     asks_behind g.F.RunFile 1 c.args.self.now c.let_go.new.self c.write_alone.new.self
     c.write_alone.result
     (c.let_go.ensures.unasked
-    (subst (λ (i : ℕ). PassesBy c.args.k i c.args.self.now) (sym (c.index.ensures b block is)) passes))
+    (subst (λ (i : ℕ). PassesBy c.args.k i c.args.self.now)
+    (sym (c.index.ensures b block is)) passes))
     c.write_alone.ensures.file
 
 pub returns-in_err-let_go-clause-once : goal.returns-in_err-let_go-clause-once
 returns-in_err-let_go-clause-once g c b block is passes =
     absurd (c.in_err-let_go.ensures.passes
-    (subst (λ (i : ℕ). PassesBy c.args.k i c.args.self.now) (sym (c.index.ensures b block is)) passes))
+    (subst (λ (i : ℕ). PassesBy c.args.k i c.args.self.now)
+    (sym (c.index.ensures b block is)) passes))

@@ -68,7 +68,8 @@ pub returns-clause-honest : goal.returns-clause-honest
 returns-clause-honest g c honest =
     let f = g.F.RunFile in
     let mid = c.clear_way.new.self in
-    let after = c.clear_way.ensures.seen.honest (honest_as f c.args.self.now _ refl refl refl honest) in
+    let after = c.clear_way.ensures.seen.honest
+    (honest_as f c.args.self.now _ refl refl refl honest) in
     let old = f.held mid.file in
     let new = f.held c.write.new.self in
     let place = c.head_place_of.result in

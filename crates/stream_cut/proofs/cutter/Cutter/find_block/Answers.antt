@@ -25,7 +25,8 @@ returns-in-Whole c =
     record {
       found = (
         subst (λ (s : Stream). ShowsBlock s p.passed p.dots) c.self.view_is
-            (shows_block i.gone kept (length i.octets.items) (vec_capacity i.octets) i.max_block i.overlong p.passed p.looked p.dots stands),
+            (shows_block i.gone kept (length i.octets.items) (vec_capacity i.octets) i.max_block
+            i.overlong p.passed p.looked p.dots stands),
         c.self.view_is,
       );
     }
@@ -43,7 +44,8 @@ returns-in-Oversize c =
     record {
       found = (
         subst (λ (s : Stream). ShowsOversize s n) c.self.view_is
-            (shows_oversize i.gone kept (length i.octets.items) (vec_capacity i.octets) i.max_block i.overlong n stands.0),
+            (shows_oversize i.gone kept (length i.octets.items) (vec_capacity i.octets) i.max_block
+            i.overlong n stands.0),
         c.self.view_is,
       );
     }
@@ -61,7 +63,8 @@ returns-in-Past c =
       found = subst (λ (s : Stream). AwaitsEnd s (stream_of c.add.new.self
           (drop (i.start + n) i.octets.items) (length i.octets.items) (vec_capacity i.octets)
           i.max_block i.overlong)) c.self.view_is
-          (awaits_past i.gone kept (length i.octets.items) (vec_capacity i.octets) i.max_block i.overlong n c.in-Past.within c.add.new.self
+          (awaits_past i.gone kept (length i.octets.items) (vec_capacity i.octets) i.max_block
+          i.overlong n c.in-Past.within c.add.new.self
           (drop (i.start + n) i.octets.items) stands c.add.ensures
           (sym (drop-drop n i.start i.octets.items)));
     }

@@ -11,7 +11,8 @@ returns c =
     let n = i.start + c.min.result in
     let held = length i.octets.items in
     let room = vec_capacity i.octets in
-    ap (λ (g : List ℕ). stream_of g (drop n i.octets.items) held room i.max_block i.overlong) c.none.ensures
+    ap (λ (g : List ℕ). stream_of g (drop n i.octets.items) held room i.max_block i.overlong)
+    c.none.ensures
     ∙ ap (λ (x : List ℕ). stream_of [] x held room i.max_block i.overlong)
     (left_after i.gone i.octets.items i.start c.args.count c.min.result c.self.invariant.within
     (omega (arith, c.min.ensures, c.len.ensures)))

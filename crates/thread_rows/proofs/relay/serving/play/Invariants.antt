@@ -3,8 +3,8 @@ use Rattle.relay_live.specs.Holding.{has_buffer}
 use Rattle.thread_rows.proofs.relay.serving.play.Given as goal
 
 -- the register that was just made, over the buffers of the configuration; the stores are honest
-abbrev pub ghosts-serve-J-Archive : goal.ghosts-serve-J-Archive
-ghosts-serve-J-Archive g a = record {
+abbrev pub ghosts-serve-J-StorePremises : goal.ghosts-serve-J-StorePremises
+ghosts-serve-J-StorePremises g a = record {
   register = a.register.now;
   trusted = true;
   holds = has_buffer a.config.now.buffers;

@@ -1,2 +1,0 @@
-pub mod Origin
-pub mod Place

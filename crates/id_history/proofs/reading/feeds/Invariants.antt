@@ -1,0 +1,11 @@
+use Rattle.std.proofs.Common.{◌≡◌, ◌-◌, map}
+use Rattle.id_history.specs.Reading.{times_at, feed_at}
+use Rattle.id_history.specs.Views.{feed_view}
+use Rattle.id_history.proofs.Loop.{with_front}
+use Rattle.id_history.proofs.reading.feeds.Given as goal
+
+-- what was read so far, and what is still read, is what is read
+abbrev pub invariant-loop : goal.invariant-loop
+invariant-loop l =
+    with_front (map feed_view l.feeds.items) (times_at feed_at (l.count - l.counter) l.rest)
+    ≡ times_at feed_at l.count l.bytes

@@ -1,0 +1,35 @@
+use Rattle.std.proofs.Common.{◌≡◌, ◌++◌, ◌∷◌, [], map}
+use Rattle.std.proofs.lemmas.Result.{err_from_is_err_and}
+use Rattle.std.proofs.lemmas.List.{map_push}
+use Rattle.id_history.specs.Reading.{times_at, kept_id_at}
+use Rattle.id_history.specs.Views.{id_view}
+use Rattle.id_history.proofs.Loop.{goes_on, ends, is_done}
+use Rattle.id_history.proofs.reading.kept_ids.Goals as goal
+
+-- the next one can't be read
+pub returns-in_err-one : goal.returns-in_err-one
+returns-in_err-one c =
+    let p = err_from_is_err_and c.from_residual.result c.from_residual.ensures.1 in
+    rw (p.1, p.2)
+    (ends kept_id_at c.in_err-one.field-0.0 (map id_view c.loop.ids.items) c.args.count
+    c.loop.counter c.loop.rest.now (times_at kept_id_at c.args.count c.args.bytes.now)
+    c.loop-test.true c.in_err-one.ensures c.loop.invariant)
+
+-- one more was read
+pub loop-preserved : goal.loop-preserved
+loop-preserved c =
+    let more : map id_view c.push.new.self.items
+    ≡ map id_view c.loop.ids.items ++ id_view c.in_ok-one.one ∷ [] =
+    rw c.in_ok-push.ensures.items (map_push id_view c.loop.ids.items c.in_ok-one.one) in
+    rw more
+    (goes_on kept_id_at (map id_view c.loop.ids.items) c.args.count c.loop.counter
+    c.loop.rest.now (id_view c.in_ok-one.one) c.in_ok-one.after.now
+    (times_at kept_id_at c.args.count c.args.bytes.now) c.loop-test.true c.in_ok-one.ensures
+    c.loop.invariant)
+
+-- all were read
+pub returns : goal.returns
+returns c =
+    is_done kept_id_at (map id_view c.loop.ids.items) c.args.count c.loop.counter
+    c.loop.rest.now (times_at kept_id_at c.args.count c.args.bytes.now) c.loop-test.false
+    c.loop.invariant

@@ -1,0 +1,21 @@
+use Rattle.std.proofs.Common.{length}
+use Rattle.std.specs.Int.{to_be_bytes, w32}
+use Rattle.id_history.specs.History.{PositionFits}
+use Rattle.id_history.proofs.Appends.{all_put_so}
+use Rattle.id_history.proofs.writing.put_positions.Goals as goal
+
+-- all positions are behind their number
+pub returns-clause-octets : goal.returns-clause-octets
+returns-clause-octets c =
+    (all_put_so (to_be_bytes w32) PositionFits c.args.out.now.items c.put32.new.out.items
+    c.loop-position.out.items (to_be_bytes w32 (length c.args.positions.now))
+    c.args.positions.now c.loop-position.position-index c.loop-position-test.false
+    c.in_ok-put32.ensures c.loop-position.invariant).0
+
+-- each position is a number of 32 bits
+pub returns-clause-fits : goal.returns-clause-fits
+returns-clause-fits c =
+    (all_put_so (to_be_bytes w32) PositionFits c.args.out.now.items c.put32.new.out.items
+    c.loop-position.out.items (to_be_bytes w32 (length c.args.positions.now))
+    c.args.positions.now c.loop-position.position-index c.loop-position-test.false
+    c.in_ok-put32.ensures c.loop-position.invariant).1

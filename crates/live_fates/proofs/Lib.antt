@@ -1,5 +1,0 @@
-pub mod Borne
-pub mod HandedIn
-pub mod Jobs
-pub mod KeptIds
-pub mod Texts

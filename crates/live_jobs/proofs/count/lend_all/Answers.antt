@@ -1,0 +1,29 @@
+use Rattle.std.proofs.Common.{◌<◌, List, length, map, ap, sym, ◌∙◌, arith}
+use Rattle.std.specs.Prelude.{slice_get}
+use Rattle.live_jobs.specs.declared.outcome.FinishedJob.{FinishedJob}
+use Rattle.live_jobs.proofs.Passes.{read_at, length_set, map_at, map_set_same}
+use Rattle.live_jobs.proofs.Counts.{kept_next, here_next}
+use Rattle.live_jobs.proofs.count.lend_all.Goals as goal
+
+pub loop-group-preserved : goal.loop-group-preserved
+loop-group-preserved g c =
+    let all = c.args.writers.now.ok.0 in
+    let inv = c.loop-group.invariant in
+    let below : c.loop-group.group < length c.loop-group.writers.items =
+    omega (arith, inv.count, c.len-group-end.ensures) in
+    let at = read_at _ _ _ below c.index_mut.ensures.value in
+    let e = c.lend.ensures in
+    let next = kept_next g.O.Outcome.kept (map (λ w. w.finished.items) c.args.writers.now.items)
+    c.loop-group.group _
+    (ap (λ (l : List (List (FinishedJob _))). slice_get l c.loop-group.group) (sym inv.finished)
+    ∙ map_at (λ w. w.finished.items) c.loop-group.writers.items c.loop-group.group _ at) in
+    record {
+      count = length_set c.loop-group.writers.items c.loop-group.group c.lend.new.self ∙ inv.count;
+      parts = omega (arith, inv.parts, e.all.0);
+      amount = omega (arith, inv.amount, e.all.1, next);
+      here = here_next (λ w. w.lent) c.loop-group.writers.items c.loop-group.group
+          c.lend.new.self inv.here;
+      finished = map_set_same (λ w. w.finished.items) _ _ _ _ at e.same.1 ∙ inv.finished;
+      pass = map_set_same (λ w. w.pass) _ _ _ _ at e.same.0 ∙ inv.pass;
+      closed = map_set_same (λ w. w.closed.items) _ _ _ _ at e.same.2 ∙ inv.closed;
+    }

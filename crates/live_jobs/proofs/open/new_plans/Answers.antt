@@ -1,0 +1,22 @@
+use Rattle.std.proofs.Common.{refl, arith}
+use Rattle.live_jobs.specs.Started.{Fresh}
+use Rattle.live_jobs.proofs.Plans.{services_next}
+use Rattle.live_jobs.proofs.Rows.{each_snoc, length_snoc}
+use Rattle.live_jobs.proofs.open.new_plans.Goals as goal
+
+pub loop-service-preserved : goal.loop-service-preserved
+loop-service-preserved g c =
+    let inv = c.loop-service.invariant in
+    let steps = c.in-Some.ensures.steps in
+    let pushed = c.push_reserved.ensures in
+    let long = length_snoc _ _ _ pushed.items in
+    let here = c.loop-service.plans.ok.0 in
+    let count = c.len-in-loop-service.ensures in
+    record {
+      count = omega (arith, long, inv.count, steps.1);
+      room = omega (arith, inv.room, pushed.capacity);
+      fresh = each_snoc (λ e p. Fresh e p.seat) _ _ _ inv.fresh pushed.items
+          (omega (arith, count, here), c.new.ensures.items, refl);
+      services = services_next (λ p. p.service) _ _ _ _ _ _ _ inv.services
+          pushed.items steps.0 refl;
+    }

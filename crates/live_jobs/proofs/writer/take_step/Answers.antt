@@ -1,0 +1,52 @@
+use Rattle.std.proofs.Common.{List, [], ◌∷◌, ◌++◌, ap, ◌∙◌, refl, arith}
+use Rattle.live_jobs.specs.declared.outcome.FinishedJob.{FinishedJob}
+use Rattle.live_jobs.specs.Taken.{worth}
+use Rattle.live_jobs.proofs.Taken.{takes_job, takes_mark, kept_more, kept_within, worth_one}
+use Rattle.live_jobs.proofs.writer.take_step.Goals as goal
+
+pub overflow_add-kept : goal.overflow_add-kept
+overflow_add-kept g c =
+    let within = kept_within g.O.Outcome.kept c.args.seat.finished.items in
+    let was = c.args.seat.counted in
+    let one = worth_one c.is_kept.result in
+    let is = c.worth_of-kept.ensures in
+    let few = c.reserve_one.ensures.few in
+    record { fits = omega arith }
+
+pub invariant_of-result-in-Job-clause-took : goal.invariant_of-result-in-Job-clause-took
+invariant_of-result-in-Job-clause-took g c =
+    takes_job g.O.Outcome.fits c.args.seat.pass c.take.new.pass c.args.seat.finished.items _ _
+    c.take.result c.in-Job.handed _ c.args.seat.took c.take.ensures.writer c.take.ensures.taken
+    c.in-Job.is refl c.store-outcome.ensures.fits
+    (c.push_reserved.ensures.items
+    ∙ ap (λ (l : List (FinishedJob _)). l ++ record {
+      end = c.in-Job.handed.end;
+      number = c.in-Job.handed.number;
+      id = c.in-Job.handed.job.id;
+      outcome =
+          c.store-outcome.result;
+    } ∷ []) c.reserve_one.ensures.items)
+
+pub invariant_of-result-in-Job-clause-counted : goal.invariant_of-result-in-Job-clause-counted
+invariant_of-result-in-Job-clause-counted g c =
+    kept_more g.O.Outcome.kept c.args.seat.finished.items c.push_reserved.new.self.items _
+    c.args.seat.kept c.worth_of-kept.result
+    (c.push_reserved.ensures.items
+    ∙ ap (λ (l : List (FinishedJob _)). l ++ record {
+      end = c.in-Job.handed.end;
+      number = c.in-Job.handed.number;
+      id = c.in-Job.handed.job.id;
+      outcome =
+          c.store-outcome.result;
+    } ∷ []) c.reserve_one.ensures.items)
+    c.args.seat.counted (c.worth_of-kept.ensures ∙ ap worth c.is_kept.ensures)
+
+pub invariant_of-result-in-Mark-clause-took : goal.invariant_of-result-in-Mark-clause-took
+invariant_of-result-in-Mark-clause-took g c =
+    takes_mark g.O.Outcome.fits c.args.seat.pass c.take.new.pass c.args.seat.finished.items _
+    c.args.seat.closed.items _ c.take.result c.in-Mark.end c.args.seat.took
+    c.take.ensures.writer c.take.ensures.taken c.in-Mark.is c.reserve_one.ensures.items
+    c.close_flag.ensures
+
+pub invariant_of-result-in-Mark-clause-counted : goal.invariant_of-result-in-Mark-clause-counted
+invariant_of-result-in-Mark-clause-counted g c = rw c.reserve_one.ensures.items c.args.seat.counted

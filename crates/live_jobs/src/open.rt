@@ -1,0 +1,139 @@
+//! The channels and the seats of a run are made.
+ghost use Rattle.std.specs.Prelude.{◌≡◌, ◌+◌, ◌<◌, ◌^◌, ◌++◌, [], ◌∷◌, false};
+ghost use Rattle.std.specs.Prelude.{length, map, IfOk};
+ghost use Rattle.crossbeam_queue.specs.Passes.{view, IsPassOf};
+ghost use Rattle.job_queue.specs.Delivery.{writer_knows};
+ghost use Rattle.live_jobs.specs.JobChannels.{queue_of};
+ghost use Rattle.live_jobs.specs.Rows.{From};
+ghost use Rattle.live_jobs.specs.Gathered.{IsRest, RestsFit};
+ghost use Rattle.live_jobs.specs.Started.{AllReady, Fresh, IsUnused};
+
+use crate::channel::JobChannel;
+use crate::finished::FinishedList;
+use crate::outcome::Outcome;
+use crate::session::SessionSeat;
+use crate::start::Plan;
+use crate::writer::WriterSeat;
+use job_queue::QueuePass;
+use std::alloc::{AllocError, Global};
+use std::sync::ledger::{Ledger, Share};
+
+/// An end for each service, with no channel yet.
+fn new_plans<V: Drop>(alloc: Global, services: Vec<V>) -> Result<Vec<Plan<V>>, AllocError>
+    ensures ends { IfOk result (λ plans. length plans.items ≡ length services.items) }
+    ensures fresh { IfOk result (λ plans. From (λ e p. Fresh e p.seat) 0 plans.items) }
+    ensures services { IfOk result (λ plans. map (λ p. p.service) plans.items ≡ services.items) }
+{
+    let mut plans = Vec::with_capacity(alloc, services.len())?;
+    for service in services {
+        let seat = SessionSeat {
+            end: plans.len() as u64,
+            handed: 0,
+            passes: Vec::new(alloc),
+        };
+        plans.push_reserved(Plan { seat, service });
+    }
+    Ok(plans)
+}
+
+/// A channel more. Each end gets a pass of it; the writer's pass and the first are given back.
+fn add_channel<V>(
+    alloc: Global,
+    channels: &Vec<JobChannel>,
+    plans: &mut Vec<Plan<V>>,
+) -> Result<(JobChannel, QueuePass, QueuePass), AllocError>
+    requires few { length plans.old.items < 2 ^ 62 }
+    requires fit { From (λ e p. IsUnused channels.now.items e p.seat) 0 plans.old.items }
+    ensures writer { IfOk result (λ r. IsPassOf (queue_of r.0) r.1 × (view r.1 ≡ writer_knows [])) }
+    ensures rest { IfOk result (λ r. IsPassOf (queue_of r.0) r.2
+        × IsRest (length plans.old.items) r.2) }
+    ensures ends { IfOk result (λ r. length plans.new.items ≡ length plans.old.items) }
+    ensures services { IfOk result (λ r. map (λ p. p.service) plans.new.items
+        ≡ map (λ p. p.service) plans.old.items) }
+    ensures fit { IfOk result (λ r. From (λ e p. IsUnused (channels.now.items ++ r.0 ∷ []) e p.seat)
+        0 plans.new.items) }
+{
+    let _ = channels.len();
+    let (channel, mut first) = JobChannel::new(alloc)?;
+    let writer = job_queue::writer_pass(&channel.queue, &mut first);
+    for end in 0..plans.len() {
+        let pass = job_queue::end_pass(&channel.queue, &mut first);
+        plans[end].seat.passes.push(pass)?;
+    }
+    Ok((channel, writer, first))
+}
+
+/// A writer that has taken nothing yet.
+fn new_writer<L: Ledger, O: Outcome>(
+    alloc: Global,
+    pass: QueuePass,
+    share: Share<L>,
+    ends: usize,
+) -> Result<WriterSeat<L, O>, AllocError>
+    requires pass { view pass ≡ writer_knows [] }
+    requires share { (share.parts ≡ 1) × (share.amount ≡ 0) }
+    ensures pass { IfOk result (λ w. w.pass ≡ pass) }
+    ensures flags { IfOk result (λ w. (w.lent ≡ false) × (length w.closed.items ≡ ends)) }
+    ensures none { IfOk result (λ w. w.finished.items ≡ []) }
+{
+    let closed = Vec::from_elem(alloc, false, ends)?;
+    Ok(WriterSeat {
+        pass,
+        finished: FinishedList::new(alloc),
+        closed,
+        kept: 0,
+        share,
+        lent: false,
+    })
+}
+
+/// The channels of a run, in the order of the groups, and the seats of its ends and writers.
+/// `rests` are the first passes, with the ends that nobody has.
+#[derive(Drop)]
+pub struct Opened<L: Ledger, O: Outcome, V> {
+    pub channels: Vec<JobChannel>,
+    pub rests: Vec<QueuePass>,
+    pub plans: Vec<Plan<V>>,
+    pub writers: Vec<WriterSeat<L, O>>,
+}
+
+/// A channel and a writer for each group, and an end for each service. `all` is the share of a
+/// ledger that has as many parts as there are groups: each writer gets one.
+pub fn open_all<L: Ledger, O: Outcome + Drop, V: Drop>(
+    alloc: Global,
+    groups: usize,
+    services: Vec<V>,
+    all: Share<L>,
+) -> Result<Opened<L, O, V>, AllocError>
+    requires parts { (all.parts ≡ groups) × (all.amount ≡ 0) }
+    requires few { length services.items < 2 ^ 62 }
+    ensures channels { IfOk result (λ o. (length o.channels.items ≡ groups)
+        × (length o.writers.items ≡ groups) × (length o.plans.items ≡ length services.items)) }
+    ensures rests { IfOk result (λ o.
+        RestsFit o.channels.items (length services.items) o.rests.items) }
+    ensures ends { IfOk result (λ o. From (λ e p. IsUnused o.channels.items e p.seat) 0
+        o.plans.items) }
+    ensures services { IfOk result (λ o. map (λ p. p.service) o.plans.items ≡ services.items) }
+    ensures writers { IfOk result (λ o. AllReady o.channels.items (length services.items)
+        o.writers.items) }
+{
+    let ends = services.len();
+    let mut rest = all;
+    let mut plans = new_plans(alloc, services)?;
+    let mut channels = Vec::new(alloc);
+    let mut rests = Vec::new(alloc);
+    let mut writers = Vec::new(alloc);
+    for _group in 0..groups {
+        let (channel, pass, first) = add_channel(alloc, &channels, &mut plans)?;
+        let share = rest.split_off(1, 0);
+        writers.push(new_writer(alloc, pass, share, ends)?)?;
+        rests.push(first)?;
+        channels.push(channel)?;
+    }
+    Ok(Opened {
+        channels,
+        rests,
+        plans,
+        writers,
+    })
+}

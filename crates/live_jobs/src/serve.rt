@@ -1,0 +1,287 @@
+//! Threads over rows of seats.
+ghost use Rattle.std.specs.Prelude.{◌≡◌, ◌≤◌, true, map, length, vec_len, vec_capacity, IfOk};
+ghost use Rattle.live_jobs.specs.Rows.{From};
+ghost use Rattle.live_jobs.specs.Gathered.{hands_of};
+ghost use Rattle.live_jobs.specs.Started.{AllReady, AllOpen, AllRight, Runs, Serves};
+ghost use Rattle.live_jobs.specs.Started.{AllEnded, AllLeft, AllKept, CameBack};
+
+use crate::channel::JobChannel;
+use crate::gather::Seats;
+use crate::outcome::Outcome;
+use crate::session::{LeftSeat, SessionSeat, hang_up, push_marks};
+use crate::start::{
+    Accounts, EndFinished, Leaver, Plan, Service, WriterFinished, start_end, start_writer,
+};
+use crate::writer::{Store, WriterSeat};
+use std::alloc::{AllocError, Global};
+use std::sync::Wait;
+use std::sync::atomic::AtomicBool;
+use std::sync::ledger::Ledger;
+use std::thread;
+use std::thread::{PromisedHandle, Scope, Threads};
+
+/// Why no seats come back.
+#[derive(Clone, Copy, Debug, PartialEq, Eq)]
+pub enum SeatsError {
+    /// Memory ran out before a thread was started.
+    Memory,
+    /// A thread couldn't be started.
+    NoThread,
+}
+
+/// Starts the writers' threads, in order, until one can't be started.
+fn start_writers<
+    's,
+    E,
+    L: Ledger + Send + Sync + 's,
+    O: Outcome + Drop + Send + 's,
+    S: Store<L, O, R> + Sync,
+    R: Threads + Wait + Sync,
+>(
+    scope: &'s Scope<'s, E>,
+    rt: &'s R,
+    channels: &'s [JobChannel],
+    store: &'s S,
+    writers: Vec<WriterSeat<L, O>>,
+    ends: usize,
+    running: &mut Vec<PromisedHandle<WriterSeat<L, O>, WriterFinished<'s>>>,
+) -> bool
+    requires none { length running.old.items ≡ 0 }
+    requires room { vec_len writers ≤ vec_capacity running.old }
+    requires channels { length writers.items ≤ length channels.now }
+    requires fit { AllReady channels.now ends writers.items }
+    ensures all { result ≡ true → length running.new.items ≡ length writers.items }
+    ensures some { length running.new.items ≤ length writers.items }
+    ensures fit { From (λ g h. Runs channels.now ends g h.promise.channel.now h.promise.ends) 0
+        running.new.items }
+{
+    for seat in writers {
+        let group = running.len();
+        match start_writer(scope, rt, &channels[group], store, seat, ends) {
+            Some(handle) => running.push_reserved(handle),
+            None => return false,
+        }
+    }
+    true
+}
+
+/// Starts the ends' threads, in order. Where one can't be started, this end and all after it leave
+/// here and now.
+fn start_ends<'s, E, V: Service<R> + Drop + Send + 's, R: Threads + Wait + Sync>(
+    scope: &'s Scope<'s, E>,
+    rt: &'s R,
+    channels: &'s [JobChannel],
+    plans: Vec<Plan<V>>,
+    leaves: &'s Vec<AtomicBool>,
+    serving: &mut Vec<PromisedHandle<Leaver<V>, EndFinished<'s, V>>>,
+) -> bool
+    requires none { length serving.old.items ≡ 0 }
+    requires room { (length plans.items ≤ vec_capacity serving.old)
+        × (length plans.items ≤ length leaves.now.items) }
+    requires fit { AllOpen channels.now plans.items }
+    requires kept { AllRight V.fits plans.items }
+    ensures all { result ≡ true → length serving.new.items ≡ length plans.items }
+    ensures some { length serving.new.items ≤ length plans.items }
+    ensures fit { From (λ e h. Serves channels.now e h.promise.channels.now h.promise.end) 0
+        serving.new.items }
+    ensures marks { result ≡ true → map (λ h. V.mark h.promise.service.value) serving.new.items
+        ≡ map (λ p. V.mark p.service) plans.items }
+{
+    let mut all = true;
+    for plan in plans {
+        let end = serving.len();
+        if !all {
+            hang_up(rt, channels, plan.seat);
+            continue;
+        }
+        match start_end(scope, rt, channels, plan, &leaves[end]) {
+            Some(handle) => serving.push_reserved(handle),
+            None => all = false,
+        }
+    }
+    all
+}
+
+/// Joins the writers' threads, in order.
+fn join_writers<'a, L: Ledger, O: Outcome + Drop, R: Threads>(
+    rt: &R,
+    channels: &[JobChannel],
+    ends: usize,
+    running: Vec<PromisedHandle<WriterSeat<L, O>, WriterFinished<'a>>>,
+    writers: &mut Vec<WriterSeat<L, O>>,
+)
+    requires none { length writers.old.items ≡ 0 }
+    requires room { length running.items ≤ vec_capacity writers.old }
+    requires runs { From (λ g h. Runs channels.now ends g h.promise.channel.now h.promise.ends) 0
+        running.items }
+    ensures all { length writers.new.items ≡ length running.entry.items }
+    ensures ended { AllEnded channels.now ends writers.new.items }
+{
+    let _ = channels.len();
+    let _ = ends;
+    for handle in running {
+        writers.push_reserved(handle.join(rt));
+    }
+}
+
+/// Joins the ends' threads, in order.
+fn join_ends<'a, V: Accounts + Drop, R: Threads>(
+    rt: &R,
+    channels: &[JobChannel],
+    serving: Vec<PromisedHandle<Leaver<V>, EndFinished<'a, V>>>,
+    lefts: &mut Vec<LeftSeat>,
+    services: &mut Vec<V>,
+)
+    requires none { (length lefts.old.items ≡ 0) × (length services.old.items ≡ 0) }
+    requires room { (length serving.items ≤ vec_capacity lefts.old)
+        × (length serving.items ≤ vec_capacity services.old) }
+    requires serves { From (λ e h. Serves channels.now e h.promise.channels.now h.promise.end) 0
+        serving.items }
+    ensures all { (length lefts.new.items ≡ length serving.entry.items)
+        × (length services.new.items ≡ length serving.entry.items) }
+    ensures left { AllLeft channels.now lefts.new.items }
+    ensures kept { AllKept V.fits (hands_of lefts.new.items) services.new.items }
+    ensures marks { map V.mark services.new.items
+        ≡ map (λ h. V.mark h.promise.service.value) serving.entry.items }
+{
+    let _ = channels.len();
+    for handle in serving {
+        let Leaver { seat, service } = handle.join(rt);
+        lefts.push_reserved(seat);
+        services.push_reserved(service);
+    }
+}
+
+/// Pushes the closing mark of each end into so many channels, the first ones, whose writers run.
+fn leave_running<V: Drop, R: Wait>(
+    rt: &R,
+    channels: &[JobChannel],
+    plans: Vec<Plan<V>>,
+    groups: usize,
+)
+    requires groups { groups ≤ length channels.now }
+    requires fit { AllOpen channels.now plans.items }
+{
+    for plan in plans {
+        let Plan { seat, service: _ } = plan;
+        let SessionSeat {
+            end,
+            handed: _,
+            mut passes,
+        } = seat;
+        push_marks(rt, channels, end, &mut passes, groups);
+    }
+}
+
+/// All threads of a run: the writers' first, then the ends'.
+fn run_threads<
+    's,
+    E,
+    L: Ledger + Send + Sync + 's,
+    O: Outcome + Drop + Send + 's,
+    V: Service<R> + Drop + Send + 's,
+    S: Store<L, O, R> + Sync,
+    R: Threads + Wait + Sync,
+>(
+    scope: &'s Scope<'s, E>,
+    rt: &'s R,
+    channels: &'s [JobChannel],
+    store: &'s S,
+    plans: Vec<Plan<V>>,
+    writers: Vec<WriterSeat<L, O>>,
+    leaves: &'s Vec<AtomicBool>,
+) -> Result<Seats<L, O, V>, SeatsError>
+    requires leaves { length plans.items ≤ length leaves.now.items }
+    requires channels { length writers.items ≤ length channels.now }
+    requires writers { AllReady channels.now (length plans.items) writers.items }
+    requires ends { AllOpen channels.now plans.items }
+    requires kept { AllRight V.fits plans.items }
+    ensures { IfOk result (CameBack V.fits V.mark channels.now plans.items writers.items) }
+{
+    let ends = plans.len();
+    let groups = writers.len();
+    let alloc = *plans.allocator();
+    let Ok(mut running) = Vec::with_capacity(alloc, groups) else {
+        return Err(SeatsError::Memory);
+    };
+    let Ok(mut serving) = Vec::with_capacity(alloc, ends) else {
+        return Err(SeatsError::Memory);
+    };
+    let Ok(mut finished) = Vec::with_capacity(alloc, groups) else {
+        return Err(SeatsError::Memory);
+    };
+    let Ok(mut lefts) = Vec::with_capacity(alloc, ends) else {
+        return Err(SeatsError::Memory);
+    };
+    let Ok(mut services) = Vec::with_capacity(alloc, ends) else {
+        return Err(SeatsError::Memory);
+    };
+    if !start_writers(scope, rt, channels, store, writers, ends, &mut running) {
+        leave_running(rt, channels, plans, running.len());
+        return Err(SeatsError::NoThread);
+    }
+    let all = start_ends(scope, rt, channels, plans, leaves, &mut serving);
+    join_ends(rt, channels, serving, &mut lefts, &mut services);
+    join_writers(rt, channels, ends, running, &mut finished);
+    if !all {
+        return Err(SeatsError::NoThread);
+    }
+    Ok(Seats {
+        lefts,
+        services,
+        writers: finished,
+    })
+}
+
+/// A flag for each end.
+fn flags(alloc: Global, ends: usize) -> Result<Vec<AtomicBool>, AllocError>
+    ensures { IfOk result (λ v. length v.items ≡ ends) }
+{
+    let mut all = Vec::with_capacity(alloc, ends)?;
+    for _end in 0..ends {
+        all.push_reserved(AtomicBool::new(false));
+    }
+    Ok(all)
+}
+
+/// Runs a thread for each writer and each end, until all have ended (docs/PROTOCOL.md, Threads 6).
+/// Writers are started first. Memory comes before the first thread, none is taken after it but by
+/// the threads themselves. Where a thread can't be started no further is, the closing marks are
+/// pushed for each writer that runs, all are joined, and the seats are gone.
+pub fn serve_seats<
+    L: Ledger + Send + Sync,
+    O: Outcome + Drop + Send,
+    V: Service<R> + Drop + Send,
+    S: Store<L, O, R> + Sync,
+    R: Threads + Wait + Sync,
+>(
+    rt: &R,
+    channels: &[JobChannel],
+    store: &S,
+    plans: Vec<Plan<V>>,
+    writers: Vec<WriterSeat<L, O>>,
+) -> Result<Seats<L, O, V>, SeatsError>
+    requires channels { length writers.items ≤ length channels.now }
+    requires writers { AllReady channels.now (length plans.items) writers.items }
+    requires ends { AllOpen channels.now plans.items }
+    requires kept { AllRight V.fits plans.items }
+    ensures { IfOk result (CameBack V.fits V.mark channels.now plans.items writers.items) }
+{
+    let Ok(leaves) = flags(*plans.allocator(), plans.len()) else {
+        return Err(SeatsError::Memory);
+    };
+    let leaves = &leaves;
+    thread::scope(
+        thread::scope_env(),
+        rt,
+        move |scope| -> Result<Seats<L, O, V>, SeatsError>
+            requires leaves { length plans.items ≤ length leaves.now.items }
+            requires channels { length writers.items ≤ length channels.now }
+            requires writers { AllReady channels.now (length plans.items) writers.items }
+            requires ends { AllOpen channels.now plans.items }
+            requires kept { AllRight V.fits plans.items }
+            ensures { IfOk result
+                (CameBack V.fits V.mark channels.entry.now plans.items writers.items) }
+        { run_threads(scope, rt, channels, store, plans, writers, leaves) },
+    )
+}

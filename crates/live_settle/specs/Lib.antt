@@ -1,3 +1,0 @@
-pub mod Desks
-pub mod Posted
-pub mod Posting

@@ -1,0 +1,156 @@
+//! A connection of a peer, which waits in parts.
+use crate::stop::Stop;
+use std::io;
+use std::io::{ErrorKind, Read, Write};
+use std::net::{Shutdown, TcpStream};
+use std::time::{Clock, Duration, Instant};
+
+/// How many milliseconds a wait for a peer takes at once. Between two waits a line looks whether it
+/// is to stop.
+pub(crate) const PART: u64 = 500;
+
+/// How many such parts make a second.
+const PARTS_A_SECOND: u32 = 2;
+
+/// How many milliseconds a wait takes at once after the session has ended, or is to stop.
+const LATE_PART: u64 = 100;
+
+/// How many writes a line still makes once it is to stop, each of such a part at most.
+const LATE_WRITES: u32 = 8;
+
+/// For how many milliseconds what a peer sends on is read and dropped once its session has ended.
+const DROPPING: u64 = 5_000;
+
+/// The same once the relay is to stop.
+const DROPPING_LATE: u64 = 500;
+
+/// How many octets are dropped so, at most.
+const MOST_DROPPED: usize = 1 << 20;
+
+/// How many octets are dropped at once, at most.
+const DROPPED_AT_ONCE: usize = 4_096;
+
+/// One side of a peer's connection. It waits for its peer in parts of a second: it reads the end of
+/// the input once the relay is to stop or the peer has been silent for too many of them, and a
+/// write fails then.
+#[derive(Drop)]
+pub struct Line<'a> {
+    stream: TcpStream,
+    stop: &'a Stop,
+    /// How many parts in a row it waits for its peer.
+    parts: u32,
+    /// How many writes it still makes once it is to stop.
+    late: u32,
+}
+
+impl<'a> Line<'a> {
+    /// Both sides of a connection, each of which waits for so many seconds. Small writes are sent
+    /// at once.
+    pub(crate) fn both(
+        stream: TcpStream,
+        stop: &'a Stop,
+        patience: u32,
+    ) -> io::Result<(Line<'a>, Line<'a>)> {
+        stream.set_nodelay(true)?;
+        stream.set_read_timeout(Some(Duration::from_millis(PART)))?;
+        stream.set_write_timeout(Some(Duration::from_millis(PART)))?;
+        let other = stream.try_clone()?;
+        let parts = patience.saturating_mul(PARTS_A_SECOND);
+        let late = LATE_WRITES;
+        let reader = Line {
+            stream,
+            stop,
+            parts,
+            late,
+        };
+        let writer = Line {
+            stream: other,
+            stop,
+            parts,
+            late,
+        };
+        Ok((reader, writer))
+    }
+
+    /// Lets the peer read all that was written, where it does so in time: it is told that no more
+    /// comes, and what it still sends is read and dropped until it has sent its last. A connection
+    /// that is closed with octets unread is reset, and what the peer hasn't read yet may be lost.
+    pub(crate) fn finish<C: Clock>(&self, clock: &C) -> io::Result<()> {
+        self.stream.shutdown(Shutdown::Write)?;
+        self.stream
+            .set_read_timeout(Some(Duration::from_millis(LATE_PART)))?;
+        let begun = Instant::now(clock)?;
+        let mut dropped: usize = 0;
+        for _ in 0..MOST_DROPPED {
+            let longest = if self.stop.is_asked() {
+                DROPPING_LATE
+            } else {
+                DROPPING
+            };
+            let is_over = begun.elapsed(clock)? >= Duration::from_millis(longest);
+            if is_over || dropped >= MOST_DROPPED {
+                return Ok(());
+            }
+            match self.drop_some() {
+                Ok(0) => return Ok(()),
+                Ok(n) => dropped = dropped.saturating_add(n),
+                Err(error) if is_wait(&error) => {}
+                Err(error) => return Err(error),
+            }
+        }
+        Ok(())
+    }
+
+    /// Reads once, and drops what came: how many octets, none at the end of the input.
+    fn drop_some(&self) -> io::Result<usize> {
+        let mut room = [0; DROPPED_AT_ONCE];
+        (&self.stream).read(&mut room)
+    }
+}
+
+impl Read for Line<'_> {
+    fn read(&mut self, buf: &mut [u8]) -> io::Result<usize> {
+        for _ in 0..self.parts {
+            if self.stop.is_asked() {
+                return Ok(0);
+            }
+            match self.stream.read(buf) {
+                Err(error) if is_wait(&error) => {}
+                answer => return answer,
+            }
+        }
+        Ok(0)
+    }
+}
+
+impl Write for Line<'_> {
+    fn write(&mut self, buf: &[u8]) -> io::Result<usize> {
+        for _ in 0..self.parts {
+            if self.stop.is_asked() {
+                if self.late == 0 {
+                    return Ok(0);
+                }
+                self.late -= 1;
+                self.stream
+                    .set_write_timeout(Some(Duration::from_millis(LATE_PART)))?;
+            }
+            match self.stream.write(buf) {
+                Err(error) if is_wait(&error) && !self.stop.is_asked() => {}
+                answer => return answer,
+            }
+        }
+        Ok(0)
+    }
+
+    fn flush(&mut self) -> io::Result<()> {
+        Ok(())
+    }
+}
+
+/// Whether a part of a wait has passed, and nothing came or went.
+pub(crate) fn is_wait(error: &io::Error) -> bool {
+    matches!(
+        error.kind(),
+        ErrorKind::WouldBlock | ErrorKind::TimedOut | ErrorKind::Interrupted
+    )
+}

@@ -1,0 +1,211 @@
+//! A port of a peer.
+ghost use Rattle.std.specs.Prelude.{◌≡◌, [], IfOk, IfSome};
+ghost use Rattle.live_wire.specs.Wire.{heard_by, said_by};
+ghost use Rattle.live_wire.specs.Ports.{left_of};
+
+use crate::connections::Connections;
+use crate::line::{Line, PART, is_wait};
+use crate::stop::Stop;
+use crate::wire::{RecordingReader, RecordingWriter};
+use std::net::{Ipv4Addr, Net, SocketAddr, TcpListener, TcpStream};
+use std::os::fd::OwnedFd;
+use std::sync::Wait;
+use std::sync::atomic::{AtomicBool, Ordering};
+use std::time::{Clock, Duration};
+use std::{io, thread};
+
+/// How many milliseconds it waits after a connection could not be taken, and between two looks
+/// whether all ports are served.
+const PAUSE: u64 = 10;
+
+/// The same where the machine has no further descriptor: long enough for others to get one.
+const LONG_PAUSE: u64 = 1_000;
+
+/// The system's numbers for want of descriptors: of the machine (ENFILE), of the program (EMFILE).
+const NO_DESCRIPTOR: [i32; 2] = [23, 24];
+
+/// A port of a peer, on one IPv4 address of the machine or, at 0.0.0.0, on all.
+#[derive(Drop)]
+pub struct Port<'a> {
+    listener: TcpListener,
+    /// How many connections it still takes; without a number it never ends by itself.
+    left: Option<u32>,
+    /// By what it is told to end.
+    stop: &'a Stop,
+    /// For how many seconds in a row its connections wait for the peer.
+    patience: u32,
+    /// Whether it is served.
+    is_served: AtomicBool,
+}
+
+impl<'a> Port<'a> {
+    /// Listens on a port of this address, for so many connections, until it is told to stop. The
+    /// error is the system's.
+    pub fn listen<N: Net<Listener = TcpListener, Stream = TcpStream>>(
+        net: &N,
+        address: Ipv4Addr,
+        port: u16,
+        connections: Option<u32>,
+        stop: &'a Stop,
+        patience: u32,
+    ) -> io::Result<Port<'a>>
+        ensures { IfOk result (λ port. left_of port ≡ connections) }
+    {
+        let listener = TcpListener::bind(net, SocketAddr::from((address, port)))?;
+        wait_in_parts(&listener)?;
+        stop.count_made();
+        Ok(Port {
+            listener,
+            left: connections,
+            stop,
+            patience,
+            is_served: AtomicBool::new(false),
+        })
+    }
+
+    /// The same port for a further end, which takes as many connections as this one still does.
+    /// Each connection is given by one of them. The error is the system's.
+    pub fn another(&self) -> io::Result<Port<'a>>
+        ensures { IfOk result (λ port. left_of port ≡ left_of self.now) }
+    {
+        let listener = self.listener.try_clone()?;
+        self.stop.count_made();
+        Ok(Port {
+            listener,
+            left: self.left,
+            stop: self.stop,
+            patience: self.patience,
+            is_served: AtomicBool::new(false),
+        })
+    }
+
+    /// Its number, where the system chose it.
+    pub fn number(&self) -> io::Result<u16> {
+        Ok(self.listener.local_addr()?.port())
+    }
+
+    /// Counts this port as one that is served, once.
+    pub(crate) fn begin(&self) {
+        if !self.is_served.swap(true, Ordering::SeqCst) {
+            self.stop.count_begun();
+        }
+    }
+
+    /// Takes one connection, or none where that fails or none has come for a part of a wait.
+    fn accept(&self) -> io::Result<(RecordingReader<Line<'a>>, RecordingWriter<Line<'a>>)>
+        ensures { IfOk result (λ pair. (heard_by pair.0 ≡ []) × (said_by pair.1 ≡ [])) }
+    {
+        let (stream, _peer) = self.listener.accept()?;
+        let (reader, writer) = Line::both(stream, self.stop, self.patience)?;
+        Ok((RecordingReader::new(reader), RecordingWriter::new(writer)))
+    }
+
+    /// Waits until all ports are served, then for a connection, both in parts; none comes once it
+    /// is to stop.
+    fn wait<R: Wait + Clock + Eprint>(
+        &self,
+        rt: &R,
+    ) -> Option<(RecordingReader<Line<'a>>, RecordingWriter<Line<'a>>)>
+        ensures { IfSome result (λ pair. (heard_by pair.0 ≡ []) × (said_by pair.1 ≡ [])) }
+    {
+        for _ in rt.forever() {
+            if self.stop.is_asked() {
+                return None;
+            }
+            if !self.stop.have_all_begun() {
+                thread::sleep(rt, Duration::from_millis(PAUSE));
+                continue;
+            }
+            match self.accept() {
+                Ok(pair) => return Some(pair),
+                Err(error) if is_wait(&error) => {}
+                Err(error) => self.pause(rt, &error),
+            }
+        }
+        unreachable!()
+    }
+
+    /// Waits a little after a connection could not be taken. Where the machine has no further
+    /// descriptor that is told, in one line a minute at most.
+    fn pause<R: Clock + Eprint>(&self, rt: &R, error: &io::Error) {
+        let mut pause = PAUSE;
+        if is_want_of_descriptors(error) {
+            let _unseen = self.tell(rt);
+            pause = LONG_PAUSE;
+        }
+        thread::sleep(rt, Duration::from_millis(pause));
+    }
+
+    /// Tells that there is no descriptor for a connection of this port.
+    fn tell<R: Clock + Eprint>(&self, rt: &R) -> io::Result<()> {
+        if !self.stop.may_tell(rt.monotonic()?.as_secs()) {
+            return Ok(());
+        }
+        eprintln!(rt; "waiting port={} for=descriptors", self.number()?)
+    }
+}
+
+/// Lets the listener wait in parts of a second. The time is the socket's own, and stays when the
+/// other descriptor of it, by which it is set, is closed.
+fn wait_in_parts(listener: &TcpListener) -> io::Result<()> {
+    let socket = TcpStream::from(OwnedFd::from(listener.try_clone()?));
+    socket.set_read_timeout(Some(Duration::from_millis(PART)))
+}
+
+/// Whether the machine or the program has no further descriptor.
+fn is_want_of_descriptors(error: &io::Error) -> bool {
+    match error.raw_os_error() {
+        Some(number) => NO_DESCRIPTOR.contains(&number),
+        None => false,
+    }
+}
+
+impl<'a, R: Wait + Clock + Eprint> Connections<R> for Port<'a> {
+    ghost use Rattle.std.specs.Prelude.{◌≡◌, [], Some, None, IfSome, IsSome};
+    ghost use Rattle.live_wire.specs.Wire.{heard_by, said_by};
+    ghost use Rattle.live_wire.specs.Ports.{left_of, OneLess};
+
+    type Reader = RecordingReader<Line<'a>>;
+
+    type Writer = RecordingWriter<Line<'a>>;
+
+    /// None once it has given as many connections as it was to take, or is to stop. No connection
+    /// is taken before all ports that were made are served. What it can't take is let go, and it
+    /// waits for the next.
+    fn next_one(&mut self, rt: &R) -> Option<(RecordingReader<Line<'a>>, RecordingWriter<Line<'a>>)>
+        ensures new { IfSome result (λ pair. (heard_by pair.0 ≡ []) × (said_by pair.1 ≡ [])) }
+        ensures none { left_of self.old ≡ Some 0 → (result ≡ None) × (self.new ≡ self.old) }
+        ensures same { result ≡ None → self.new ≡ self.old }
+        ensures one { IsSome result → OneLess (left_of self.old) (left_of self.new) }
+    {
+        self.begin();
+        let later = match self.left {
+            Some(0) => return None,
+            Some(left) => Some(left - 1),
+            None => None,
+        };
+        let pair = self.wait(rt)?;
+        self.left = later;
+        Some(pair)
+    }
+
+    /// The peer is let to read what was written, at most for some seconds, then it is closed.
+    fn let_go(
+        &mut self,
+        rt: &R,
+        reader: RecordingReader<Line<'a>>,
+        writer: RecordingWriter<Line<'a>>,
+    )
+        ensures same { self.new ≡ self.old }
+    {
+        drop(writer);
+        let _lost = reader.into_reader().finish(rt);
+    }
+
+    /// All ports are told to end.
+    fn give_up(&mut self, _rt: &R)
+        ensures same { self.new ≡ self.old }
+    {
+        self.stop.ask();
+    }
+}

@@ -1,0 +1,67 @@
+//! The word by which all ports of a relay are told to end.
+use std::sync::atomic::{AtomicBool, AtomicU64, Ordering};
+
+/// How many seconds pass at least between two lines that tell of want of descriptors.
+const BETWEEN_LINES: u64 = 60;
+
+/// What the ports of a relay and their connections look at: whether they are to stop, which is
+/// asked once, and for good; and how many of them are there.
+#[derive(Drop)]
+pub struct Stop {
+    asked: AtomicBool,
+    /// How many ports were made.
+    made: AtomicU64,
+    /// How many of them are served.
+    begun: AtomicU64,
+    /// The second after that in which want of descriptors was last told of, 0 before that.
+    told: AtomicU64,
+}
+
+impl Stop {
+    /// Nobody has asked yet, and no port was made.
+    pub fn new() -> Stop {
+        Stop {
+            asked: AtomicBool::new(false),
+            made: AtomicU64::new(0),
+            begun: AtomicU64::new(0),
+            told: AtomicU64::new(0),
+        }
+    }
+
+    /// Asks: from now on each port ends, and each line hears the end of its input.
+    pub fn ask(&self) {
+        self.asked.store(true, Ordering::SeqCst);
+    }
+
+    /// Whether anybody has asked.
+    pub fn is_asked(&self) -> bool {
+        self.asked.load(Ordering::SeqCst)
+    }
+
+    /// Counts a port that was made.
+    pub(crate) fn count_made(&self) {
+        self.made.fetch_add(1, Ordering::SeqCst);
+    }
+
+    /// Counts a port that is served from now on.
+    pub(crate) fn count_begun(&self) {
+        self.begun.fetch_add(1, Ordering::SeqCst);
+    }
+
+    /// Whether all ports that were made are served.
+    pub(crate) fn have_all_begun(&self) -> bool {
+        self.begun.load(Ordering::SeqCst) >= self.made.load(Ordering::SeqCst)
+    }
+
+    /// Whether want of descriptors may be told of in this second: once a minute, by one port.
+    pub(crate) fn may_tell(&self, second: u64) -> bool {
+        let told = self.told.load(Ordering::SeqCst);
+        if told != 0 && second < told.saturating_add(BETWEEN_LINES) {
+            return false;
+        }
+        let now = second.saturating_add(1);
+        self.told
+            .compare_exchange(told, now, Ordering::SeqCst, Ordering::SeqCst)
+            .is_ok()
+    }
+}

@@ -1,3 +1,0 @@
-pub mod ChainLemmas
-pub mod PlaceLemmas
-pub mod TableLemmas

@@ -1,6 +1,0 @@
-use Rattle.open_offers.proofs.ChainLemmas.{linked_anew}
-use Rattle.open_offers.proofs.chains.Chains.clear.Goals as goal
-
-pub returns-clause-chains : goal.returns-clause-chains
-returns-clause-chains c =
-    linked_anew _ (c.fill.ensures.items (λ y e. e)) c.clear.ensures.items c.clear-2.ensures.items

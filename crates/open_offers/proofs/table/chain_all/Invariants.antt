@@ -1,9 +1,0 @@
-use Rattle.std.proofs.Common.{take}
-use Rattle.open_offers.specs.Chains.{AreChains, HasRoom}
-use Rattle.open_offers.proofs.table.chain_all.Given as goal
-
-abbrev pub invariant-loop-place : goal.invariant-loop-place
-invariant-loop-place l = record {
-  chains : AreChains (take l.place-index l.ids) l.chains;
-  room : HasRoom l.chains;
-}

@@ -1,0 +1,126 @@
+//! A history of many message-ids: what the desk has of them before a stop and after a start, and
+//! the text in between.
+ghost use Rattle.std.specs.Prelude.{IfOk};
+ghost use Rattle.id_history.specs.Room.{HasRoom};
+
+use cyc_token::Token;
+use id_history::{History, HistoryError, KeptId, Setting, Shards, read, write};
+use nntp_text::MsgId;
+use std::alloc::{AllocError, Global};
+use std::hash::RandomState;
+use std::io::ErrorKind;
+use std::time::Instant;
+use std::{fs, io};
+
+/// The moment since which each id is stored: the first of 2021.
+const MOMENT: u64 = 1_609_459_200;
+
+/// Goes through a stop and a start of a relay that stored so many articles, and prints a line for
+/// each part: its name, the seconds that it took, and the most memory that the program had so far,
+/// in KB.
+pub fn time(rt: &HostRuntime, count: u32) -> io::Result<()> {
+    let alloc = rt.alloc();
+    let shards = filled(rt, alloc, count)?;
+    let text = stopped(rt, alloc, &shards)?;
+    drop(shards);
+    println!(rt; "text {} octets", text.len())?;
+    started(rt, alloc, &text, count)
+}
+
+/// Shards that know so many ids.
+fn filled(rt: &HostRuntime, alloc: Global, count: u32) -> io::Result<Shards> {
+    let start = Instant::now(rt)?;
+    let shards = Shards::resume(alloc, RandomState::new(rt)?, ids(alloc, count)?)?;
+    print(rt, "filled", start)?;
+    Ok(shards)
+}
+
+/// So many ids, each of 49 octets and stored.
+fn ids(alloc: Global, count: u32) -> Result<Vec<KeptId>, AllocError> {
+    let mut ids = Vec::new(alloc);
+    for number in 0..count {
+        let text = format!(in alloc; "<{number:010}.part1of1.abcdefghij@news.example.com>")?;
+        if let Ok(id) = MsgId::parse(alloc, text.as_bytes()) {
+            let token = Some(stored(number));
+            ids.push(KeptId {
+                id,
+                token,
+                moment: MOMENT,
+            })?;
+        }
+    }
+    Ok(ids)
+}
+
+/// The token of the article of this number.
+fn stored(number: u32) -> Token {
+    Token {
+        class: 1,
+        buffer: 0,
+        cycle: 0,
+        first: number,
+        length: 164,
+    }
+}
+
+/// The text of the history of these shards.
+fn stopped(rt: &HostRuntime, alloc: Global, shards: &Shards) -> io::Result<Vec<u8>> {
+    let start = Instant::now(rt)?;
+    let ids = shards.entries(alloc)?;
+    print(rt, "entries", start)?;
+    let history = history(alloc, ids)?;
+    let start = Instant::now(rt)?;
+    let text = write(alloc, &history)?;
+    print(rt, "write", start)?;
+    Ok(text)
+}
+
+/// A history with these ids, of one group and no feed.
+fn history(alloc: Global, ids: Vec<KeptId>) -> Result<History, AllocError>
+    ensures { IfOk result HasRoom }
+{
+    Ok(History {
+        stop: 1,
+        newest: 1,
+        positions: vec![in alloc; 0u32; 1]?,
+        feeds: Vec::new(alloc),
+        ids,
+    })
+}
+
+/// Shards of what the text says, which has to be so many ids.
+fn started(rt: &HostRuntime, alloc: Global, text: &[u8], count: u32) -> io::Result<()> {
+    let start = Instant::now(rt)?;
+    let history = taken(alloc, text)?;
+    print(rt, "read", start)?;
+    let start = Instant::now(rt)?;
+    let shards = Shards::resume(alloc, RandomState::new(rt)?, history.ids)?;
+    print(rt, "resume", start)?;
+    if shards.counts().stored != u128::from(count) {
+        return Err(io::Error::from(ErrorKind::InvalidData));
+    }
+    Ok(())
+}
+
+/// The history that the text says.
+fn taken(alloc: Global, text: &[u8]) -> io::Result<History> {
+    let setting = Setting {
+        buffers: 1,
+        groups: vec![in alloc; 1u32; 1]?,
+        rings: Vec::new(alloc),
+    };
+    match read(alloc, text, &setting) {
+        Ok(history) => Ok(history),
+        Err(HistoryError::Memory) => Err(io::Error::from(ErrorKind::OutOfMemory)),
+        Err(HistoryError::BadHistory) => Err(io::Error::from(ErrorKind::InvalidData)),
+    }
+}
+
+/// Prints the line of a part that began at this instant.
+fn print(rt: &HostRuntime, name: &str, start: Instant) -> io::Result<()> {
+    let took = start.elapsed(rt)?.as_secs_f64();
+    let status = fs::read_to_string(rt, "/proc/self/status")?;
+    let mut lines = status.as_str().lines();
+    let peak = lines.find(|line| line.starts_with("VmHWM")).unwrap_or("");
+    println!(rt; "{name} {took:.6} {peak}")
+}

@@ -1,0 +1,37 @@
+use Rattle.std.proofs.Common.{rules, None, Some, refl}
+use Rattle.relay_core.proofs.PeerLemmas.{GivesPeer-from_write, SamePlaces-from_write}
+use Rattle.relay_core.proofs.PeerLemmas.{has_place-entry}
+use Rattle.relay_core.proofs.peers.Peers.give_back.Goals as goal
+
+-- the peer is written to the place
+pub returns-in-Some-clause-given : goal.returns-in-Some-clause-given
+returns-in-Some-clause-given c = λ has.
+    GivesPeer-from_write _ _ _ _ c.in-Some.place.now (search rules)
+    (c.get_mut.follows.holds (Some c.args.peer))
+
+-- a number without a place isn't found
+pub returns-in-Some-clause-dropped : goal.returns-in-Some-clause-dropped
+returns-in-Some-clause-dropped c = λ has.
+    let found = has_place-entry c.args.self.now c.args.number (Some c.in-Some.place.now)
+    (search rules) in
+    absurd (cc (has, found))
+
+-- the place stays
+pub returns-in-Some-clause-places : goal.returns-in-Some-clause-places
+returns-in-Some-clause-places c =
+    SamePlaces-from_write _ _ _ _ (c.get_mut.follows.holds (Some c.args.peer))
+
+-- a number that has a place is found
+pub returns-in_default-clause-given : goal.returns-in_default-clause-given
+returns-in_default-clause-given c = λ has.
+    let missed = has_place-entry c.args.self.now c.args.number None (search rules) in
+    absurd (cc (has, missed))
+
+-- a number without a place has no peer
+pub returns-in_default-clause-dropped : goal.returns-in_default-clause-dropped
+returns-in_default-clause-dropped c = rw c.get_mut.follows.holds-at-none (λ has s. refl)
+
+-- nor has it a place then
+pub returns-in_default-clause-places : goal.returns-in_default-clause-places
+returns-in_default-clause-places c =
+    rw c.get_mut.follows.holds-at-none (record { each = λ s. refl; count = refl })

@@ -1,0 +1,3 @@
+pub mod Origin
+pub mod Place
+pub mod Words

@@ -1,0 +1,9 @@
+-- The words at a relay's socket (docs/PROTOCOL.md, `stop` and `report`).
+use Rattle.std.specs.Prelude.{ℕ, List, [], ◌∷◌, ◌++◌, codes}
+use Rattle.relay_folder.specs.declared.words.Word.{Word}
+use Rattle.relay_folder.specs.declared.words.Word.TheVariants as words
+
+-- the line by which a word is asked for
+abbrev pub line_of : Word → List ℕ
+line_of words.Stop = codes "stop" ++ 10 ∷ []
+line_of words.Report = codes "report" ++ 10 ∷ []

@@ -1,0 +1,108 @@
+//! The socket of a relay that is served.
+use crate::socket_place::{Identity, listen_in, take_away};
+use crate::teller::Teller;
+use crate::words::{LONGEST, Word, word_of};
+use std::alloc::Global;
+use std::fs::Files;
+use std::io::{ErrorKind, Read};
+use std::net::Net;
+use std::os::fd::OwnedFd;
+use std::os::unix::net::{UnixListener, UnixStream};
+use std::time::{Clock, Duration};
+use std::{io, thread};
+
+/// How many milliseconds it waits at once for whoever asks.
+const PART: u64 = 100;
+
+/// How many milliseconds it waits at once for his word, and until he takes what he is told.
+const HIS_PART: u64 = 250;
+
+/// How many such parts it waits for his word, at most.
+const HIS_PARTS: usize = 4;
+
+/// How many milliseconds it waits after nobody could be heard for another cause, as where the
+/// machine has no further descriptor. While it waits for whoever asks it has one for him.
+const PAUSE: u64 = 10;
+
+/// The socket, while the relay is served.
+#[derive(Drop)]
+pub struct Control {
+    listener: UnixListener,
+    identity: Identity,
+}
+
+impl Control {
+    /// Listens in a folder. A socket that another relay left there is taken away; where another
+    /// relay is served in the folder, or what stands there is no socket, it can't be had.
+    pub fn listen<R: Files + Net>(rt: &R, alloc: Global, folder: &str) -> io::Result<Control> {
+        let (listener, identity) = listen_in(rt, alloc, folder)?;
+        wait_in_parts(&listener, PART)?;
+        Ok(Control { listener, identity })
+    }
+
+    /// What is asked for next, and by whom: none where nobody has asked for a part of a second, or
+    /// what was asked for is no word; then he is told so.
+    pub fn next_word<C: Clock>(&self, clock: &C) -> Option<(Word, Teller)> {
+        let stream = match self.listener.accept() {
+            Ok((stream, _address)) => stream,
+            Err(error) => {
+                if !is_wait(&error) {
+                    thread::sleep(clock, Duration::from_millis(PAUSE));
+                }
+                return None;
+            }
+        };
+        let word = hear(&stream).ok()?;
+        let teller = Teller::new(stream);
+        match word {
+            Some(word) => Some((word, teller)),
+            None => {
+                teller.tell(clock, b"?\n");
+                None
+            }
+        }
+    }
+
+    /// Takes the socket away from its folder, where it is this one. Who has asked meanwhile can
+    /// still be heard, and nobody is waited for.
+    pub fn close<R: Files>(&self, rt: &R, alloc: Global, folder: &str) {
+        let _left = take_away(rt, alloc, folder, self.identity);
+        let _same = wait_in_parts(&self.listener, 1);
+    }
+}
+
+/// Lets the listener wait in parts of so many milliseconds. The time is the socket's own, and stays
+/// when the other descriptor of it, by which it is set, is closed.
+fn wait_in_parts(listener: &UnixListener, part: u64) -> io::Result<()> {
+    let socket = UnixStream::from(OwnedFd::from(listener.try_clone()?));
+    socket.set_read_timeout(Some(Duration::from_millis(part)))
+}
+
+/// The word that somebody says, none where what he says is no word, or no whole one in time.
+fn hear(stream: &UnixStream) -> io::Result<Option<Word>> {
+    stream.set_read_timeout(Some(Duration::from_millis(HIS_PART)))?;
+    stream.set_write_timeout(Some(Duration::from_millis(HIS_PART)))?;
+    let mut room = [0; LONGEST];
+    let mut heard = 0;
+    for _ in 0..HIS_PARTS {
+        let mut from = stream;
+        match from.read(&mut room[heard..]) {
+            Ok(0) => return Ok(None),
+            Ok(n) => heard += n,
+            Err(error) if is_wait(&error) => {}
+            Err(error) => return Err(error),
+        }
+        if let Some(word) = word_of(&room[..heard]) {
+            return Ok(Some(word));
+        }
+    }
+    Ok(None)
+}
+
+/// Whether a part of a wait has passed, and nothing came.
+fn is_wait(error: &io::Error) -> bool {
+    matches!(
+        error.kind(),
+        ErrorKind::WouldBlock | ErrorKind::TimedOut | ErrorKind::Interrupted
+    )
+}

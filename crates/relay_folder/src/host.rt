@@ -1,0 +1,115 @@
+//! The history's file in a folder of the machine.
+ghost use Rattle.std.specs.Prelude.{None};
+ghost use Rattle.relay_folder.specs.Place.{Nothing};
+
+use crate::history_place::HistoryPlace;
+use std::alloc::{AllocError, Global};
+use std::fs::{File, Files, metadata, remove_file, rename};
+use std::io;
+use std::io::{ErrorKind, Read, Write};
+use std::path::{Path, PathBuf};
+
+/// The name of the file in the relay's folder.
+const NAME: &str = "relay.hist";
+
+/// The name of the file that is written before it takes that name.
+const BESIDE: &str = "relay.hist.new";
+
+/// The file `relay.hist` in a folder.
+#[derive(Drop)]
+pub struct HostHistory<'a, R> {
+    rt: &'a R,
+    folder: &'a str,
+    path: PathBuf,
+    beside: PathBuf,
+    /// What was last written beside it, until it takes its place.
+    written: Option<File>,
+}
+
+impl<'a, R> HostHistory<'a, R> {
+    /// The file in this folder, which is neither opened nor made.
+    pub fn in_folder(
+        rt: &'a R,
+        alloc: Global,
+        folder: &'a str,
+    ) -> Result<HostHistory<'a, R>, AllocError> {
+        let path = Path::new(folder).join(alloc, NAME)?;
+        let beside = Path::new(folder).join(alloc, BESIDE)?;
+        Ok(HostHistory {
+            rt,
+            folder,
+            path,
+            beside,
+            written: None,
+        })
+    }
+}
+
+impl<R: Files<File = File>> HistoryPlace for HostHistory<'_, R> {
+    // Of a file of the machine nothing is promised, so contracts see no octet of it, and nothing
+    // says that it is honest.
+    ghost kept = { λ history. None };
+
+    ghost beside = { λ history. Nothing };
+
+    ghost honest = { λ history. ⊥ };
+
+    fn read(&mut self, alloc: Global) -> io::Result<Option<Vec<u8>>> {
+        // The opening of a pipe would wait for whoever writes it.
+        match metadata(self.rt, self.path.as_str()) {
+            Ok(found) if found.is_file() => {}
+            Ok(_) => return Err(io::Error::from(ErrorKind::InvalidInput)),
+            Err(error) if error.kind() == ErrorKind::NotFound => return Ok(None),
+            Err(error) => return Err(error),
+        }
+        let mut file = File::open(self.rt, self.path.as_str())?;
+        let mut text = Vec::new(alloc);
+        file.read_to_end(&mut text)?;
+        Ok(Some(text))
+    }
+
+    fn remove(&mut self) -> io::Result<()> {
+        take_away(self.rt, self.path.as_str())
+    }
+
+    fn clear_beside(&mut self) -> io::Result<()> {
+        self.written = None;
+        take_away(self.rt, self.beside.as_str())
+    }
+
+    fn write_beside(&mut self, text: &[u8]) -> io::Result<()> {
+        let mut file = File::create_new(self.rt, self.beside.as_str())?;
+        file.write_all(text)?;
+        self.written = Some(file);
+        Ok(())
+    }
+
+    fn flush_beside(&mut self) -> io::Result<()> {
+        match &self.written {
+            Some(file) => file.sync_all(),
+            None => Err(io::Error::from(ErrorKind::NotFound)),
+        }
+    }
+
+    fn put_in_place(&mut self) -> io::Result<()> {
+        self.written = None;
+        rename(self.rt, self.beside.as_str(), self.path.as_str())?;
+        flush_folder(self.rt, self.folder);
+        Ok(())
+    }
+}
+
+/// Takes away the file at a path, where one is there.
+fn take_away<R: Files>(rt: &R, path: &str) -> io::Result<()> {
+    match remove_file(rt, path) {
+        Err(error) if error.kind() == ErrorKind::NotFound => Ok(()),
+        answer => answer,
+    }
+}
+
+/// Has the device take the names of a folder, where its file system does that.
+fn flush_folder<R: Files<File = File>>(rt: &R, folder: &str) {
+    if let Ok(opened) = File::open(rt, folder) {
+        let _unasked = opened.sync_all();
+    }
+}

@@ -1,0 +1,36 @@
+//! What a relay has in its folder while it is served: the file of its history and the socket by
+//! which it is asked.
+//!
+//! The file `relay.hist` in a relay's folder (docs/FORMATS.md, History file): how it is read and
+//! written from one life of the relay to the next, and what a relay begins from. What its text says
+//! is id_history's matter.
+//!
+//! It all stands over any `HistoryPlace`, of which contracts say what it holds; `HostHistory` is
+//! the one of the machine.
+//!
+//! The socket in a relay's folder by which whoever may write to it tells the relay to stop, or asks
+//! what it holds (docs/PROTOCOL.md, `stop` and `report`).
+#![tactic(auto)]
+
+mod asking;
+mod control;
+mod history_place;
+#[cfg(test)]
+mod history_tests;
+mod host;
+mod keeping;
+mod origin;
+mod socket_place;
+#[cfg(test)]
+mod socket_tests;
+mod teller;
+mod words;
+
+pub use asking::ask;
+pub use control::Control;
+pub use history_place::HistoryPlace;
+pub use host::HostHistory;
+pub use keeping::keep;
+pub use origin::{Origin, origin_of};
+pub use teller::Teller;
+pub use words::Word;

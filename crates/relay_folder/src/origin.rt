@@ -1,0 +1,54 @@
+//! What a relay begins from.
+ghost use Rattle.std.specs.Prelude.{◌≡◌, true, false, None, IfOk, OnErr, OnOk};
+ghost use Rattle.relay_folder.specs.Origin.{begins_from, origin_view};
+
+use crate::history_place::HistoryPlace;
+use std::alloc::Global;
+use std::io;
+
+/// What a relay begins from (docs/PROTOCOL.md, `serve`).
+#[derive(Debug, Drop)]
+pub enum Origin {
+    /// From nothing: all its buffers are formatted.
+    Formatted,
+    /// From what it was stopped with: its buffers, and this text of a history.
+    Stopped(Vec<u8>),
+}
+
+/// What a relay begins from: `fresh` asks for nothing, `blank` says that no buffer was kept in any
+/// file. A history that a relay is not to begin from is taken away first: when the new one is
+/// stopped for the first time its number might be that of the old one's stop.
+pub fn origin_of<P: HistoryPlace>(
+    alloc: Global,
+    place: &mut P,
+    fresh: bool,
+    blank: bool,
+) -> io::Result<Origin>
+    ensures origin { P.honest place.old → IfOk result (λ origin.
+        origin_view origin ≡ begins_from fresh blank (P.kept place.old)) }
+    ensures gone { P.honest place.old → fresh ≡ true → OnOk result (P.kept place.new ≡ None) }
+    ensures same { P.honest place.old → fresh ≡ false
+        → P.kept place.new ≡ P.kept place.old }
+    ensures refused { P.honest place.old → OnErr result (P.kept place.new ≡ P.kept place.old) }
+    ensures honest { P.honest place.old → P.honest place.new }
+{
+    if fresh {
+        place.remove()?;
+        return Ok(Origin::Formatted);
+    }
+    match place.read(alloc)? {
+        Some(text) => Ok(Origin::Stopped(text)),
+        None => Ok(origin_without(alloc, blank)),
+    }
+}
+
+/// What a relay begins from whose folder has no history.
+fn origin_without(alloc: Global, blank: bool) -> Origin
+    ensures { origin_view result ≡ begins_from false blank None }
+{
+    if blank {
+        Origin::Formatted
+    } else {
+        Origin::Stopped(Vec::new(alloc))
+    }
+}

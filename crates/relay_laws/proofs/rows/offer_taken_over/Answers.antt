@@ -1,0 +1,35 @@
+use Rattle.std.proofs.Common.{[], ◌∷◌, refl}
+use Rattle.std.specs.Str.{byte}
+use Rattle.news_terms.specs.Article.{worked_article}
+use Rattle.relay_model.specs.World.{empty_world}
+use Rattle.relay_laws.specs.Rows as rows
+use Rattle.relay_laws.specs.Terms.{k1}
+use Rattle.relay_laws.proofs.Articles.{article_a_is}
+use Rattle.relay_laws.proofs.Dues.{NoHint, ReadsAs}
+use Rattle.relay_laws.proofs.Playing.{are_answered}
+use Rattle.relay_laws.proofs.rows.offer_taken_over.Goals as goal
+
+pub returns : goal.returns
+returns c = λ failures. are_answered k1 (empty_world failures)
+    (NoHint ∷ NoHint ∷ NoHint ∷ NoHint ∷ NoHint ∷ NoHint
+    ∷ ReadsAs (worked_article (byte "a") 1) ∷ NoHint ∷ NoHint ∷ NoHint ∷ NoHint ∷ NoHint
+    ∷ NoHint ∷ NoHint ∷ NoHint ∷ NoHint ∷ ReadsAs (worked_article (byte "a") 1) ∷ [])
+    rows.taken_over rows.taken_over_replies (
+      article_a_is,
+      (
+        refl,
+        (
+          refl,
+          (
+            refl,
+            (
+              refl,
+              (
+                refl,
+                (article_a_is, tt),
+              ),
+            ),
+          ),
+        ),
+      ),
+    ) refl refl

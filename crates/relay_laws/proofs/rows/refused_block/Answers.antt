@@ -1,0 +1,12 @@
+use Rattle.std.proofs.Common.{[], refl}
+use Rattle.relay_model.specs.World.{empty_world}
+use Rattle.relay_laws.specs.Rows as rows
+use Rattle.relay_laws.specs.Terms.{k1}
+use Rattle.relay_laws.proofs.Articles.{empty_is_none}
+use Rattle.relay_laws.proofs.Playing.{are_answered}
+use Rattle.relay_laws.proofs.rows.refused_block.Goals as goal
+
+pub returns : goal.returns
+returns c = λ failures. are_answered k1 (empty_world failures)
+    ([])
+    rows.refused_block rows.refused_block_replies (empty_is_none, (empty_is_none, tt)) refl refl

@@ -1,0 +1,76 @@
+-- Articles that are judged one by one: what each has against it, and what of it is stored.
+use Rattle.std.specs.Prelude.{ℕ, ◌+◌, List, [], ◌∷◌, ◌++◌, codes}
+use Rattle.std.specs.Str.{byte}
+use Rattle.news_terms.specs.Article.{Article, Field, worked_article}
+use Rattle.relay_model.specs.Claims.{Accepted}
+use Rattle.relay_model.specs.Terms.{Terms}
+use Rattle.relay_laws.specs.Terms.{k1, now, every_article, group_g, own_is_first}
+
+-- A(a, 1), with this Path and these further fields
+abbrev pub article_with : (path : List ℕ) → List Field → Article
+article_with path more =
+    record {
+      fields =
+          record { name = codes "Path"; content = path }
+          ∷ record { name = codes "From"; content = codes " a@x.example" }
+          ∷ record { name = codes "Newsgroups"; content = codes " misc.test" }
+          ∷ record { name = codes "Subject"; content = codes " t" }
+          ∷ record { name = codes "Message-ID"; content = codes " <a@x>" }
+          ∷ record { name = codes "Date"; content = codes " Fri, 01 Jan 2021 00:00:00 +0000" }
+          ∷ more;
+      body = codes "x\r\n";
+    }
+
+-- A(a, 1)
+abbrev pub plain : Article
+plain = worked_article (byte "a") 1
+
+-- its Path has an octet that isn't printable, behind the identity of the first peer
+abbrev pub bad_path : Article
+bad_path = article_with (codes " one.example!not-for-mail" ++ 127 ∷ []) []
+
+-- the Path has no identity
+abbrev pub without_identity : Article
+without_identity = article_with (codes " not-for-mail") []
+
+-- a relay before this one has numbered the article
+abbrev pub numbered : Article
+numbered =
+    article_with (codes " one.example!not-for-mail")
+    (record { name = codes "Xref"; content = codes " one.example misc.test:7" } ∷ [])
+
+-- the first moment at which the date is more than the cutoff ago
+abbrev pub too_late : ℕ
+too_late = now + 864_001
+
+-- the terms without a storage class
+abbrev pub without_class : Terms
+without_class = record k1 { entries = [] }
+
+-- the same for the first peer's relay
+abbrev pub own_without_class : Terms
+own_without_class = record own_is_first { entries = [] }
+
+-- two groups, the class of every article going to the second
+abbrev pub second_group : Terms
+second_group =
+    record k1 {
+      groups = group_g ∷ group_g ∷ [];
+      entries = record every_article { class = 7; group = 1 } ∷ [];
+    }
+
+-- the fields between Path and the others of A(a, 1), as they came
+abbrev pub other_fields : List ℕ
+other_fields =
+    codes "From: a@x.example\r\nNewsgroups: misc.test\r\nSubject: t\r\nMessage-ID: <a@x>\r\n"
+    ++ codes "Date: Fri, 01 Jan 2021 00:00:00 +0000\r\n"
+
+-- A(a, 1) from the first peer, as it is stored
+abbrev pub stored_plain : List ℕ
+stored_plain =
+    codes "Path: relay.example!!one.example!not-for-mail\r\n" ++ other_fields ++ codes "\r\nx\r\n"
+
+-- that is accepted with this class, for this group, and permitted for the second peer's feed
+abbrev pub accepted_plain : (class group : ℕ) → Accepted
+accepted_plain class group =
+    record { class = class; group = group; permitted = 0 ∷ []; text = stored_plain }

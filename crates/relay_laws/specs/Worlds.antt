@@ -1,0 +1,295 @@
+-- The worlds in which the other worked rows begin, so that they stay short.
+use Rattle.std.specs.Prelude.{ℕ, List, [], ◌∷◌, codes, replicate, Option, Some, None}
+use Rattle.std.specs.Str.{byte}
+use Rattle.news_terms.specs.Command.{WholeText}
+use Rattle.news_terms.specs.Token.{Token}
+use Rattle.relay_model.specs.Claims.{Accepted, Claim, Unknown, Offered, Storing, Stored, Refused}
+use Rattle.relay_model.specs.Claims.{Stage, Waiting, Begun}
+use Rattle.relay_model.specs.Claims as claims
+use Rattle.relay_model.specs.State.{State, Session, Job, Ready, Waits, Fetches, OfId, OfToken}
+use Rattle.relay_model.specs.State.{TakesThis, Has}
+use Rattle.relay_model.specs.State.{put_id, put_at, empty_state}
+use Rattle.relay_model.specs.Terms.{Terms}
+use Rattle.relay_model.specs.World.{World, Idle, Writing, empty_world}
+use Rattle.relay_model.specs.World as world
+use Rattle.relay_laws.specs.Terms.{now, k1}
+
+-- the token of an article of three blocks, at this cycle and block
+abbrev pub three_blocks_at : (cycle first : ℕ) → Token
+three_blocks_at cycle first =
+    record { class = 1; buffer = 0; cycle = cycle; first = first; length = 1440 }
+
+-- an accepted article of three blocks, permitted for the one feed
+abbrev pub three_blocks : Accepted
+three_blocks =
+    record { class = 1; group = 0; permitted = 0 ∷ []; text = replicate 1440 (byte "x") }
+
+-- the job of the third article, which session 1 brought by TAKETHIS
+abbrev pub third_job : Job
+third_job = record { session = 1; id = codes "<3@x>"; article = three_blocks }
+
+-- the job of the fourth, which session 3 brought by IHAVE
+abbrev pub fourth_job : Job
+fourth_job = record { session = 3; id = codes "<4@x>"; article = three_blocks }
+
+-- a session of the first peer that waits for the outcome of its article
+abbrev pub waiting_third : Session
+waiting_third =
+    record {
+      peer = 0;
+      unread = [];
+      offers = [];
+      phase = Waits TakesThis (codes "<3@x>");
+      hand = None;
+    }
+
+-- another one
+abbrev pub waiting_fourth : Session
+waiting_fourth =
+    record { peer = 0; unread = []; offers = []; phase = Waits Has (codes "<4@x>"); hand = None }
+
+-- a session of the second peer that reads commands
+abbrev pub reading : Session
+reading = record { peer = 1; unread = []; offers = []; phase = Ready; hand = None }
+
+-- the sessions 1 and 3 wait, session 2 reads commands
+abbrev pub three_sessions : ℕ → Option Session
+three_sessions =
+    put_at (put_at (put_at (λ s. None) 1 (Some waiting_third)) 2 (Some reading)) 3
+    (Some waiting_fourth)
+
+-- two articles of three blocks are stored, the third and the fourth wait for their writer
+abbrev pub two_stored_claims : List ℕ → Claim
+two_stored_claims =
+    put_id (put_id (put_id (put_id (λ id. Unknown) (codes "<1@x>")
+    (Stored (three_blocks_at 0 0) now)) (codes "<2@x>") (Stored (three_blocks_at 0 3) now))
+    (codes "<3@x>") (Storing 1 three_blocks Waiting)) (codes "<4@x>")
+    (Storing 3 three_blocks Waiting)
+
+-- the state in which these two texts are stored
+abbrev pub two_stored_state : (one two : List ℕ) → State
+two_stored_state one two =
+    record empty_state {
+      claim = two_stored_claims;
+      begun = λ group. 3 ∷ 3 ∷ [];
+      kept =
+          record { token = three_blocks_at 0 0; id = codes "<1@x>"; text = one }
+          ∷ record { token = three_blocks_at 0 3; id = codes "<2@x>"; text = two } ∷ [];
+      session = three_sessions;
+      newest = Some 3;
+    }
+
+-- the world in which these two texts are stored, and two jobs are queued
+abbrev pub two_stored : (failures : ℕ → ℕ) → (one two : List ℕ) → World
+two_stored failures one two =
+    record {
+      state = two_stored_state one two;
+      work = record (empty_world failures).work {
+        queue = put_at (λ group. []) 0 (third_job ∷ fourth_job ∷ []);
+      };
+    }
+
+-- the claims while a job is being stored, at this stage
+abbrev pub claims_at : Job → Stage → List ℕ → Claim
+claims_at job stage = put_id two_stored_claims job.id (Storing job.session three_blocks stage)
+
+-- the state in which a job is begun, so that the first article is overwritten
+abbrev pub begun_state : (one two : List ℕ) → Job → State
+begun_state one two job =
+    record (two_stored_state one two) {
+      claim = claims_at job (Begun (three_blocks_at 1 0));
+      begun = put_at (λ group. 3 ∷ 3 ∷ []) 0 (3 ∷ 3 ∷ 3 ∷ []);
+    }
+
+-- so many of its blocks are written, and these jobs are queued
+abbrev pub begun_world : (failures : ℕ → ℕ) → (one two : List ℕ) → Job → (rest : List Job)
+    → (written : ℕ) → World
+begun_world failures one two job rest written =
+    record {
+      state = begun_state one two job;
+      work = record (empty_world failures).work {
+        queue = put_at (λ group. []) 0 rest;
+        writer = put_at (λ group. Idle) 0 (Writing job (three_blocks_at 1 0) written);
+      };
+    }
+
+-- the write of a block has failed
+abbrev pub failed_world : (failures : ℕ → ℕ) → (one two : List ℕ) → Job → (rest : List Job)
+    → (written : ℕ) → World
+failed_world failures one two job rest written =
+    let before = begun_world failures one two job rest written in
+    record {
+      state = record before.state {
+        claim = put_id before.state.claim job.id (Storing job.session three_blocks claims.Failed);
+      };
+      work = record before.work {
+        writer = put_at before.work.writer 0 (world.Failed job (Some (three_blocks_at 1 0)));
+      };
+    }
+
+-- two texts are stored, and session 2 has read two of the three blocks of the first
+abbrev pub reading_last : (failures : ℕ → ℕ) → (one two : List ℕ) → World
+reading_last failures one two =
+    let before = two_stored failures one two in
+    record before {
+      state = record before.state {
+        session = put_at before.state.session 2 (Some (record reading {
+          phase = Fetches (OfId WholeText (codes "<1@x>")) (three_blocks_at 0 0) 2;
+        }));
+      };
+    }
+
+-- the same, where it asked by the token
+abbrev pub reading_by_token : (failures : ℕ → ℕ) → (one two : List ℕ) → World
+reading_by_token failures one two =
+    let before = two_stored failures one two in
+    record before {
+      state = record before.state {
+        session = put_at before.state.session 2 (Some (record reading {
+          phase = Fetches OfToken (three_blocks_at 0 0) 2;
+        }));
+      };
+    }
+
+-- session 1 has four offers open, of ids that are by now offered to session 3, being stored for
+-- session 1 and for session 3, and stored
+abbrev pub sharing : (failures : ℕ → ℕ) → (one two : List ℕ) → World
+sharing failures one two =
+    let before = two_stored failures one two in
+    record before {
+      state = record before.state {
+        claim = put_id before.state.claim (codes "<o@x>") (Offered 3);
+        session = put_at before.state.session 1 (Some (record reading {
+          offers =
+              codes "<o@x>" ∷ codes "<3@x>" ∷ codes "<4@x>" ∷ codes "<2@x>" ∷ [];
+        }));
+      };
+    }
+
+-- ids may be forgotten after a hundred seconds
+abbrev pub forgetting : Terms
+forgetting = record k1 { remember = Some 100 }
+
+-- three articles were begun, so that the first is overwritten; the ids of the first two are stored,
+-- a third one was refused, and a fourth is offered
+abbrev pub remembering : (failures : ℕ → ℕ) → World
+remembering failures =
+    record (empty_world failures) {
+      state = record empty_state {
+        claim = put_id (put_id (put_id (put_id (λ id. Unknown) (codes "<1@x>")
+            (Stored (three_blocks_at 0 0) now)) (codes "<2@x>")
+            (Stored (three_blocks_at 0 3) now)) (codes "<e@x>") (Refused now)) (codes "<o@x>")
+            (Offered 1);
+        begun = λ group. 3 ∷ 3 ∷ 3 ∷ [];
+        session = put_at (λ s. None) 2 (Some reading);
+        newest = Some 2;
+      };
+    }
+
+-- three articles were begun in the second buffer, so that the first there is overwritten, and one
+-- in the first; the ids of the first two there and of the one here are stored
+abbrev pub remembering_two : (failures : ℕ → ℕ) → World
+remembering_two failures =
+    record (empty_world failures) {
+      state = record empty_state {
+        claim = put_id (put_id (put_id (λ id. Unknown) (codes "<1@x>")
+            (Stored (record (three_blocks_at 0 0) { buffer = 1 }) now)) (codes "<2@x>")
+            (Stored (three_blocks_at 0 0) now)) (codes "<3@x>")
+            (Stored (record (three_blocks_at 0 3) { buffer = 1 }) now);
+        begun = put_at (λ group. 3 ∷ []) 1 (3 ∷ 3 ∷ 3 ∷ []);
+        session = put_at (λ s. None) 2 (Some reading);
+        newest = Some 2;
+      };
+    }
+
+-- of two tokens that the feed gained one was taken, and this text is stored under the other
+abbrev pub remembering_feed : (failures : ℕ → ℕ) → (two : List ℕ) → World
+remembering_feed failures two =
+    let before = remembering failures in
+    record before {
+      state = record before.state {
+        kept = record { token = three_blocks_at 0 3; id = codes "<2@x>"; text = two } ∷ [];
+        feed = λ feed. record {
+          gained = three_blocks_at 0 0 ∷ three_blocks_at 0 3 ∷ [];
+          passed = 1;
+          taken = 1;
+        };
+      };
+    }
+
+-- session 1 has so many offers open, all of one id
+abbrev pub offering : (failures : ℕ → ℕ) → ℕ → World
+offering failures n =
+    record (empty_world failures) {
+      state = record empty_state {
+        claim = put_id (λ id. Unknown) (codes "<o@x>") (Offered 1);
+        session = put_at (λ s. None) 1
+            (Some (record reading { offers = replicate n (codes "<o@x>") }));
+        newest = Some 1;
+      };
+    }
+
+-- session 1 has 256 offers open, the oldest of another id than the others
+abbrev pub offering_third : (failures : ℕ → ℕ) → World
+offering_third failures =
+    record (empty_world failures) {
+      state = record empty_state {
+        claim = put_id (put_id (λ id. Unknown) (codes "<o@x>") (Offered 1)) (codes "<3@x>")
+            (Offered 1);
+        session = put_at (λ s. None) 1 (Some (record reading {
+          offers = codes "<3@x>" ∷ replicate 255 (codes "<o@x>");
+        }));
+        newest = Some 1;
+      };
+    }
+
+-- session 1 has 256 offers open, two of them of ids that are by now being stored for session 3, and
+-- stored
+abbrev pub outdated : (failures : ℕ → ℕ) → World
+outdated failures =
+    record (empty_world failures) {
+      state = record empty_state {
+        claim = put_id (put_id (put_id (λ id. Unknown) (codes "<o@x>") (Offered 1))
+            (codes "<3@x>") (Storing 3 three_blocks Waiting)) (codes "<2@x>")
+            (Stored (three_blocks_at 0 3) now);
+        session = put_at (λ s. None) 1 (Some (record reading {
+          offers = codes "<3@x>" ∷ codes "<2@x>" ∷ replicate 254 (codes "<o@x>");
+        }));
+        newest = Some 1;
+      };
+    }
+
+-- session 1 has a job in its hand, and so many are queued
+abbrev pub pushing : (failures : ℕ → ℕ) → ℕ → World
+pushing failures n =
+    record {
+      state = record empty_state {
+        claim = put_id (λ id. Unknown) (codes "<3@x>") (Storing 1 three_blocks Waiting);
+        session = put_at (λ s. None) 1 (Some (record waiting_third { hand = Some third_job }));
+        newest = Some 1;
+      };
+      work = record (empty_world failures).work {
+        queue = put_at (λ group. []) 0 (replicate n fourth_job);
+      };
+    }
+
+-- the job of an article of three blocks that goes to the second group
+abbrev pub other_job : Job
+other_job = record third_job { article = record three_blocks { group = 1 } }
+
+-- session 1 has that job in its hand, so many are queued in the first group and so many in the
+-- second
+abbrev pub pushing_to_second : (failures : ℕ → ℕ) → (first second : ℕ) → World
+pushing_to_second failures first second =
+    record {
+      state = record empty_state {
+        claim = put_id (λ id. Unknown) (codes "<3@x>")
+            (Storing 1 (record three_blocks { group = 1 }) Waiting);
+        session = put_at (λ s. None) 1 (Some (record waiting_third { hand = Some other_job }));
+        newest = Some 1;
+      };
+      work = record (empty_world failures).work {
+        queue = put_at (put_at (λ group. []) 0 (replicate first fourth_job)) 1
+            (replicate second other_job);
+      };
+    }

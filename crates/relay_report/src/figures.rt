@@ -1,0 +1,41 @@
+//! The figures of a relay, of which a report is made (docs/FORMATS.md, Report): its buffers, its
+//! feeds and its message-ids.
+use block_shelf::BufferFigures;
+use id_history::Counts;
+use line_words::Octets;
+
+/// A buffer's name, with its figures.
+#[derive(Debug, Drop)]
+pub struct NamedBuffer {
+    pub name: Octets,
+    pub figures: BufferFigures,
+}
+
+/// The figures of a feed, in tokens.
+#[derive(Clone, Copy, Debug, PartialEq, Eq)]
+pub struct FeedFigures {
+    /// How many wait in the feed's ring.
+    pub waiting: u64,
+    /// How many the feed ever gained.
+    pub gained: u64,
+    /// How many of them were overwritten before they were taken.
+    pub overwritten: u64,
+}
+
+/// The name of a feed's peer, with the feed's figures.
+#[derive(Debug, Drop)]
+pub struct NamedFeed {
+    pub peer: Octets,
+    pub figures: FeedFigures,
+}
+
+/// The figures of a relay.
+#[derive(Debug, Drop)]
+pub struct Figures {
+    /// Of each buffer, in the order of the configuration.
+    pub buffers: Vec<NamedBuffer>,
+    /// Of each feed, in the order of the configuration.
+    pub feeds: Vec<NamedFeed>,
+    /// How many message-ids are known, by kind.
+    pub ids: Counts,
+}

@@ -1,0 +1,88 @@
+//! Why a relay can't start from its files, or can't be stopped so that it can start again.
+ghost use Rattle.std.specs.Prelude.{◌≡◌, Some};
+ghost use Rattle.relay_report.specs.Keeping.{buffer_fault_text, start_text, stop_text};
+
+use std::fmt;
+use std::fmt::{Display, Formatter};
+
+/// Why a relay can't start from the file of a buffer (docs/FORMATS.md, Head blocks).
+#[derive(Clone, Copy, Debug, PartialEq, Eq)]
+pub enum BufferFault {
+    /// A block couldn't be read or written.
+    Device,
+    /// Its head block is none of this buffer.
+    NoHead,
+    /// It was not closed.
+    Unclosed,
+    /// Its head blocks don't fit its blocks.
+    Damaged,
+    /// It was closed at another stop than `relay.hist` is of.
+    Mixed,
+}
+
+impl BufferFault {
+    /// Its code and its name.
+    pub fn text(self) -> &'static str
+        ensures { result.now ≡ buffer_fault_text self }
+    {
+        match self {
+            BufferFault::Device => "1 Device",
+            BufferFault::NoHead => "2 NoHead",
+            BufferFault::Unclosed => "3 Unclosed",
+            BufferFault::Damaged => "4 Damaged",
+            BufferFault::Mixed => "6 Mixed",
+        }
+    }
+}
+
+/// Why a relay can't start from its files (docs/PROTOCOL.md, Clean stop and start).
+#[derive(Debug, Drop)]
+pub enum StartFault {
+    /// `relay.hist` is there and can't be read, or not be taken away before all is formatted.
+    History,
+    /// What `relay.hist` has is no history of a relay of this configuration.
+    BadHistory,
+    /// The buffer of this name in cycbuff.conf has a fault.
+    Buffer(String, BufferFault),
+    /// `relay.hist` speaks of articles that the buffers haven't.
+    Ahead,
+}
+
+impl Display for StartFault {
+    ghost output = { λ fault. Some (start_text fault) };
+
+    fn fmt<W: fmt::Write>(&self, formatter: &mut Formatter<W>) -> fmt::Result {
+        match self {
+            StartFault::History => formatter.write_str("relay.hist: unusable"),
+            StartFault::BadHistory => formatter.write_str("relay.hist: 5 BadHistory"),
+            StartFault::Buffer(name, fault) => {
+                let text = fault.text();
+                write!(formatter, "{name}: {text}")
+            }
+            StartFault::Ahead => formatter.write_str("relay.hist: 7 Ahead"),
+        }
+    }
+}
+
+/// Why a relay that was served couldn't be stopped so that it can start again.
+#[derive(Clone, Copy, Debug, PartialEq, Eq)]
+pub enum StopFault {
+    /// An article is still being stored. No buffer was closed.
+    NotIdle,
+    /// A buffer couldn't be closed. No history was written.
+    Device,
+    /// `relay.hist` couldn't be written. All buffers are closed.
+    History,
+}
+
+impl Display for StopFault {
+    ghost output = { λ fault. Some (stop_text fault) };
+
+    fn fmt<W: fmt::Write>(&self, formatter: &mut Formatter<W>) -> fmt::Result {
+        formatter.write_str(match self {
+            StopFault::NotIdle => "stop: NotIdle",
+            StopFault::Device => "stop: Device",
+            StopFault::History => "relay.hist: unusable",
+        })
+    }
+}

@@ -1,0 +1,47 @@
+use Rattle.std.proofs.Common.{◌≡◌, ◌∙◌, ◌∷◌, ◌++◌, [], ℕ, List, All, length, map, ap, sym, subst}
+use Rattle.std.proofs.Common.{arith}
+use Rattle.std.proofs.lemmas.List.{length-append, map-append}
+use Rattle.std.proofs.lemmas.List.Elements.{All-push}
+use Rattle.live_wire.specs.Ports.{left_of}
+use Rattle.live_wire.specs.declared.port.Port.{Port}
+use Rattle.relay_live.specs.declared.running.PeerSource.{PeerSource}
+use Rattle.relay_serve.proofs.PeerSources.{one_more}
+use Rattle.relay_serve.proofs.ports.add_peer_sources.Goals as goal
+
+pub loop-preserved : goal.loop-preserved
+loop-preserved c =
+    let number = c.args.number in
+    let before : List (PeerSource Port) = c.loop.peer_sources.items in
+    let old : List (PeerSource Port) = c.args.peer_sources.now.items in
+    let peer_of : PeerSource Port → ℕ = λ peer_source. peer_source.peer in
+    let peer_source : PeerSource Port =
+    record { peer = number; connections = c.in-Ok.connections } in
+    let added : c.add_peer_source.new.peer_sources.items ≡ before ++ peer_source ∷ [] =
+    c.in_ok-add_peer_source.ensures in
+    record {
+      peers = ap (λ (peer_sources : List (PeerSource Port)). map peer_of peer_sources
+          ++ number ∷ []) added
+          ∙ ap (λ (ns : List ℕ). ns ++ number ∷ []) (map-append peer_of before (peer_source ∷ []))
+          ∙ one_more (map peer_of before) (map peer_of old) number c.loop.counter
+          c.loop.invariant.peers;
+      count = omega (
+        arith,
+        ap length added,
+        length-append before (peer_source ∷ []),
+        c.loop.invariant.count,
+      );
+      left = λ left is all. subst (All (λ (one : PeerSource Port). left_of one.connections ≡ left))
+          (sym added) (All-push (λ (one : PeerSource Port). left_of one.connections ≡ left)
+          before peer_source
+          (c.loop.invariant.left left is all) (c.in-Ok.ensures ∙ is));
+    }
+
+pub returns-clause-left : goal.returns-clause-left
+returns-clause-left c = λ left is all.
+    let peer_source : PeerSource Port =
+    record { peer = c.args.number; connections = c.args.first } in
+    subst (All (λ (one : PeerSource Port). left_of one.connections ≡ left))
+    (sym c.in_ok-add_peer_source-2.ensures)
+    (All-push (λ (one : PeerSource Port). left_of one.connections ≡ left)
+    c.loop.peer_sources.items peer_source
+    (c.loop.invariant.left left is all) is)

@@ -1,0 +1,87 @@
+//! What goes on beside a relay that is served.
+ghost use Rattle.std.specs.Prelude.{◌≡◌, length};
+ghost use Rattle.relay_live.specs.Making.{buffers_in};
+
+use crate::figures::figures_of;
+use cyc_block::BlockStore;
+use live_session::Clock;
+use live_store::StorePremises;
+use relay_conf::Config;
+use relay_live::{Shared, expire_round};
+use relay_report::Figures;
+use std::alloc::{AllocError, Global};
+use std::sync::Wait;
+use std::sync::ledger::Ledger;
+use std::thread::{JoinHandle, Scope, Threads};
+
+/// A relay that is served, as whoever goes on beside it sees it.
+pub trait Figured<R> {
+    /// The figures: each buffer, feed and shard as it is when its lock is taken, one after the
+    /// other.
+    fn figures(&self, rt: &R, alloc: Global) -> Result<Figures, AllocError>;
+
+    /// Goes a round of forgetting, at the moment of the relay's clock.
+    fn forget(&self, rt: &R);
+}
+
+/// What goes on beside a relay, in a thread of its own.
+pub trait SideThread<R> {
+    /// Goes on until the relay has ended.
+    fn attend<F: Figured<R>>(&self, rt: &R, relay: &F);
+
+    /// Is told that the relay has ended.
+    fn ended(&self);
+}
+
+/// Starts the thread of what goes on beside a relay, none where no thread is to be had.
+pub(crate) fn start_side_thread<
+    's,
+    E,
+    F: Figured<R> + Sync,
+    B: SideThread<R> + Sync,
+    R: Threads + Wait + Sync,
+>(scope: &'s Scope<'s, E>, rt: &'s R, side: &'s B, relay: &'s F) -> Option<JoinHandle<()>> {
+    scope.spawn(move || side.attend(rt, relay)).ok()
+}
+
+/// A configuration with what the threads of its relay share, and their clock.
+#[derive(Drop)]
+pub(crate) struct Served<'a, S: BlockStore + Drop, J: StorePremises, L: Ledger, C: Clock> {
+    config: &'a Config,
+    shared: &'a Shared<S, J, L>,
+    clock: &'a C,
+    ghost buffers: { buffers_in shared.now ≡ length config.now.buffers.buffers.items },
+}
+
+impl<'a, S: BlockStore + Drop, J: StorePremises, L: Ledger, C: Clock> Served<'a, S, J, L, C> {
+    /// What is served of this configuration.
+    pub(crate) fn new(
+        config: &'a Config,
+        shared: &'a Shared<S, J, L>,
+        clock: &'a C,
+    ) -> Served<'a, S, J, L, C>
+        requires { buffers_in shared.now ≡ length config.now.buffers.buffers.items }
+    {
+        Served {
+            config,
+            shared,
+            clock,
+        }
+    }
+}
+
+impl<S: BlockStore + Drop, J: StorePremises, L: Ledger, C: Clock, R: Wait> Figured<R>
+    for Served<'_, S, J, L, C> {
+    ghost use Rattle.std.specs.Prelude.{IfOk};
+    ghost use Rattle.relay_serve.specs.Figures.{HasNames};
+
+    fn figures(&self, rt: &R, alloc: Global) -> Result<Figures, AllocError>
+        ensures names { IfOk result (HasNames self.now.config.now) }
+    {
+        figures_of(rt, alloc, self.config, self.shared)
+    }
+
+    fn forget(&self, rt: &R) {
+        let _round = expire_round(rt, self.shared, self.clock.now());
+    }
+}

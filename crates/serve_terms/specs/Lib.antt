@@ -1,4 +1,0 @@
-pub mod Keeping
-pub mod Reasons
-pub mod Serve
-pub mod Text
