@@ -167,8 +167,13 @@ class Row:
             self.compare(path, more)
 
     def compare(self, path, more):
-        """A file has to hold these octets at this place, or as many."""
+        """A file has to hold these octets at this place, or as many, or to be so open to others."""
         at, _, octets = more.partition(" ")
+        if at == "mode":
+            mode = path.stat().st_mode & 0o777
+            if mode != int(octets, 8):
+                raise Wrong(f"{path.name} has the mode {mode:o}")
+            return
         held = path.read_bytes()
         if octets == "end":
             if len(held) != int(at):

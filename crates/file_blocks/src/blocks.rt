@@ -8,7 +8,6 @@ ghost use Rattle.file_blocks.specs.Host.{asked_of, held_identity, identity_of};
 use crate::host::{HeldFile, HostFile, Unusable};
 use crate::octets::OctetFile;
 use cyc_block::{BLOCK_OCTETS, BlockStore, DeviceFailed, head_count};
-use std::fs::{File, Files};
 
 /// The first blocks of a file: block k has the 512 octets from 512 k on. Its head blocks follow
 /// them.
@@ -79,42 +78,15 @@ fn is_zero(octets: &[u8]) -> bool
 }
 
 impl FileBlocks<HostFile> {
-    /// The first n blocks of the file at a path, and their head blocks. The file is made where it
-    /// isn't there, locked before anything of it is read or written, and made longer with zeros
-    /// where it is shorter; octets that it has stay. The error says why it can't be used, and then
-    /// nothing is promised of the file.
-    pub fn open<R: Files<File = File>>(
-        rt: &R,
-        path: &str,
-        n: u32,
-    ) -> Result<FileBlocks<HostFile>, Unusable>
-        ensures count { IfOk result (λ store. count_of store ≡ n) }
-        ensures unasked { IfOk result (λ store. asked_of (file_of store) ≡ []) }
-    {
-        FileBlocks::of_held(HeldFile::hold(rt, path)?, n)
-    }
-
     /// The first n blocks of a file that is held, and their head blocks. The file is made longer
-    /// with zeros where it is shorter; octets that it has stay.
+    /// with zeros where it is shorter; octets that it has stay. The error says why it can't be
+    /// used, and then nothing is promised of the file.
     pub fn of_held(held: HeldFile, n: u32) -> Result<FileBlocks<HostFile>, Unusable>
         ensures count { IfOk result (λ store. count_of store ≡ n) }
         ensures unasked { IfOk result (λ store. asked_of (file_of store) ≡ []) }
         ensures same { IfOk result (λ store. identity_of (file_of store) ≡ held_identity held) }
     {
         Ok(FileBlocks::new(held.fit(size_of(n))?, n))
-    }
-
-    /// Has the device take all that was written.
-    pub fn flush(&self) -> Result<(), DeviceFailed> {
-        self.file.flush()
-    }
-
-    /// Whether both are over one file, whatever its names: the same inode of the same device.
-    pub fn same_file(&self, other: &FileBlocks<HostFile>) -> bool
-        ensures { IsTrue result
-            ↔ (identity_of (file_of self.now) ≡ identity_of (file_of other.now)) }
-    {
-        self.file.identity() == other.file.identity()
     }
 }
 
@@ -158,14 +130,14 @@ fn size_of(n: u32) -> u64
 }
 
 /// Where block k begins, in octets from the front of the file.
-fn place_of(k: u32) -> u64
+pub fn place_of(k: u32) -> u64
     ensures { result ≡ k * BLOCK_OCTETS }
 {
     u64::from(k) * BLOCK_OCTETS as u64
 }
 
 /// Where head block k of a file of n blocks begins, in octets from the front of the file.
-fn head_place_of(n: u32, k: u32) -> u64
+pub fn head_place_of(n: u32, k: u32) -> u64
     ensures { result ≡ n * BLOCK_OCTETS + k * BLOCK_OCTETS }
 {
     place_of(n) + place_of(k)

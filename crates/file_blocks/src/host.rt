@@ -106,20 +106,6 @@ pub struct HostFile {
 }
 
 impl HostFile {
-    /// Holds the file at a path, and fits it to so many octets.
-    pub fn open<R: Files<File = File>>(rt: &R, path: &str, size: u64) -> Result<HostFile, Unusable>
-        ensures unasked { IfOk result (λ file. asked_of file ≡ []) }
-    {
-        HeldFile::hold(rt, path)?.fit(size)
-    }
-
-    /// Which file it is.
-    pub fn identity(&self) -> Identity
-        ensures { result ≡ identity_of self.now }
-    {
-        self.identity
-    }
-
     /// Reads the octets at a place, as many as the slice has.
     pub fn read_octets(&mut self, place: u64, octets: &mut [u8]) -> Result<(), DeviceFailed>
         // It is one call, at this place.

@@ -8,6 +8,6 @@ mod blocks;
 mod host;
 mod octets;
 
-pub use blocks::FileBlocks;
+pub use blocks::{FileBlocks, head_place_of, place_of};
 pub use host::{HeldFile, HostFile, Identity, Unusable};
 pub use octets::OctetFile;

@@ -14,8 +14,6 @@ mod line;
 mod port;
 mod stop;
 mod tally;
-#[cfg(test)]
-mod tests;
 mod wire;
 
 pub use connections::{Connections, Given};

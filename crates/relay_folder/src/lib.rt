@@ -15,14 +15,10 @@
 mod asking;
 mod control;
 mod history_place;
-#[cfg(test)]
-mod history_tests;
 mod host;
 mod keeping;
 mod origin;
 mod socket_place;
-#[cfg(test)]
-mod socket_tests;
 mod teller;
 mod words;
 

@@ -6,9 +6,10 @@ ghost use Rattle.cyc_block.specs.Store.{ChangesOnly};
 
 use crate::file::RunFile;
 use crate::last::octets_left;
-use crate::run::{RUN_BLOCKS, place_of};
+use crate::run::RUN_BLOCKS;
 use crate::store::RunBlocks;
 use cyc_block::{BLOCK_OCTETS, DeviceFailed};
+use file_blocks::place_of;
 
 impl<F: RunFile> RunBlocks<F> {
     ghost use Rattle.run_blocks.specs.Store.{asked_of, gathered_of, blocks_seen, heads_seen};

@@ -5,9 +5,9 @@ ghost use Rattle.cyc_block.specs.Store.{block_at, ChangesOnly};
 
 use crate::file::RunFile;
 use crate::last::index;
-use crate::run::place_of;
 use crate::store::RunBlocks;
 use cyc_block::{BLOCK_OCTETS, DeviceFailed};
+use file_blocks::place_of;
 
 impl<F: RunFile> RunBlocks<F> {
     ghost use Rattle.run_blocks.specs.Store.{asked_of, gathered_of, blocks_seen, heads_seen};

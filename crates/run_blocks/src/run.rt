@@ -9,6 +9,7 @@ ghost use Rattle.run_blocks.specs.declared.run.TheConstants.{RUN_BLOCKS, RUN_OCT
 
 use crate::file::RunFile;
 use cyc_block::{BLOCK_OCTETS, DeviceFailed};
+use file_blocks::place_of;
 use std::alloc::{AllocError, Global};
 
 /// The blocks of a run, at most.
@@ -206,11 +207,4 @@ fn read_front<F: RunFile>(
     ensures read { IsReadFrom F.RunFile file.old file.new result }
 {
     file.read(place, &mut all[..size])
-}
-
-/// Where block k begins, in octets from the front of the file.
-pub(crate) fn place_of(k: u32) -> u64
-    ensures { result ≡ k * BLOCK_OCTETS }
-{
-    u64::from(k) * BLOCK_OCTETS as u64
 }

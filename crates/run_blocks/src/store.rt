@@ -5,9 +5,9 @@ ghost use Rattle.news_terms.specs.HeadBlocks.{head_blocks};
 ghost use Rattle.cyc_block.specs.Store.{block_at, ChangesOnly};
 
 use crate::file::RunFile;
-use crate::run::{Run, place_of};
+use crate::run::Run;
 use cyc_block::{BLOCK_OCTETS, BlockStore, DeviceFailed};
-use file_blocks::HostFile;
+use file_blocks::{HostFile, head_place_of};
 use http_server::Log;
 use std::alloc::{AllocError, Global};
 
@@ -224,11 +224,4 @@ impl<F: RunFile> BlockStore for RunBlocks<F> {
         self.clear_way()?;
         self.file.write(head_place_of(self.count, k), octets)
     }
-}
-
-/// Where head block k of a file of n blocks begins, in octets from the front of the file.
-fn head_place_of(n: u32, k: u32) -> u64
-    ensures { result ≡ n * BLOCK_OCTETS + k * BLOCK_OCTETS }
-{
-    place_of(n) + place_of(k)
 }
