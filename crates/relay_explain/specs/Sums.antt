@@ -29,12 +29,12 @@ served_of peer = if peer.port == 0 then 0 else peer.connections
 unfoldable pub connections_of : List Peer → ℕ
 connections_of peers = sum_by served_of peers
 
--- the octets of memory from the start: for buffers, rings, the queue of each group, and what is
--- printed
+-- the octets of memory from the start: for buffers, and the two runs of blocks of each, for rings,
+-- the queue of each group, and what is printed
 unfoldable pub memory_of : Config → ℕ
 memory_of config =
-    marks_of config.buffers.buffers.items + rings_of config.relay.feeds.items
-    + length config.buffers.groups.items * 6000 + 65536
+    marks_of config.buffers.buffers.items + length config.buffers.buffers.items * 131072
+    + rings_of config.relay.feeds.items + length config.buffers.groups.items * 6000 + 65536
 
 -- the descriptors: of each buffer, three of each connection, of the socket and of whoever asks
 -- there, and of the standard streams

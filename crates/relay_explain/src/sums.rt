@@ -97,9 +97,10 @@ fn memory_of(config: &Config) -> u128
     ensures { result ≡ terms.memory_of config.now }
 {
     let marks = marks_of(&config.buffers.buffers);
+    let runs = config.buffers.buffers.len() as u128 * 131_072;
     let rings = rings_of(&config.relay.feeds);
     let groups = config.buffers.groups.len() as u128;
-    marks + rings + groups * 6_000 + 65_536
+    marks + runs + rings + groups * 6_000 + 65_536
 }
 
 /// The descriptors that are open at once.
