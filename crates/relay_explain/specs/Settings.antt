@@ -20,7 +20,7 @@ setting_text lines key value meaning =
     else told_line relay_conf (key_line key lines)
     (key ++ codes " " ++ value ++ codes ": " ++ meaning)
 
--- the seconds that the date of an article may lie ahead (docs/PROTOCOL.md, Verdict)
+-- the seconds that the date of an article may lie ahead (docs/FORMATS.md, Dates)
 abbrev pub day : ℕ
 day = 86400
 

@@ -1,4 +1,4 @@
--- How many Writes a job still takes (docs/PROTOCOL.md, Writers).
+-- How many Writes a job still takes (docs/PROTOCOL.md, Groups and writers).
 use Rattle.std.specs.Prelude.{◌≡◌, ◌≢◌, ℕ, ◌+◌, ◌-◌, ◌==◌, Bool, true, false, List, [], ◌∷◌, None}
 use Rattle.std.specs.Prelude.{Some, if◌then◌else◌}
 use Rattle.relay_model.specs.Run.{Event, Open, Bytes, Turn, Write, Break, Expire, Restart, Step}

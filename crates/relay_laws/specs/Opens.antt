@@ -1,4 +1,4 @@
--- Writes that are open (docs/PROTOCOL.md, Writers): what lies under their blocks, and what is begun
+-- Writes that are open (docs/PROTOCOL.md, Writing): what lies under their blocks, and what is begun
 -- meanwhile.
 use Rattle.std.specs.Prelude.{◌≡◌, ◌≢◌, ◌⊎◌, ℕ, ◌+◌, ◌≤◌, All, Option, None, Some}
 use Rattle.news_terms.specs.Places.{Buffer, on_line, size_of}
