@@ -2,7 +2,7 @@ use Rattle.std.proofs.Common.{◌≡◌}
 use Rattle.article_verdict.specs.Config.{terms_of}
 use Rattle.live_jobs.specs.Seats.{IsSeatOf, count_of, end_of, handed_by}
 use Rattle.relay_live.specs.Sessions.{Accounted}
-use Rattle.relay_live.proofs.peer_server.EndService.serve.Given as goal
+use Rattle.relay_live.proofs.peer_server.PeerServerService.serve.Given as goal
 
 -- the seat is the end's, and its accounts are right; peer and configuration stay
 abbrev pub invariant-loop : goal.invariant-loop

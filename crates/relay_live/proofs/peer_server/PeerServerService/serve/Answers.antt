@@ -1,7 +1,7 @@
 use Rattle.std.proofs.Common.{◌∙◌, ap}
 use Rattle.article_verdict.specs.Config.{terms_of}
 use Rattle.relay_live.proofs.Sessions.{goes_on}
-use Rattle.relay_live.proofs.peer_server.EndService.serve.Goals as goal
+use Rattle.relay_live.proofs.peer_server.PeerServerService.serve.Goals as goal
 
 -- the accounts go on by the session that was served
 pub loop-preserved : goal.loop-preserved
