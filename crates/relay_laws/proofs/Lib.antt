@@ -16,7 +16,6 @@ pub mod FoundLive
 pub mod Gained
 pub mod Gone
 pub mod JobsTold
-pub mod Judgements
 pub mod KnownTokens
 mod Moments
 pub mod OfferDues
@@ -24,6 +23,7 @@ pub mod OfferSteps
 pub mod OfferTurns
 pub mod OneAnswer
 pub mod OneDue
+pub mod OneJudgement
 pub mod OneText
 pub mod OneTurn
 pub mod OneWrite

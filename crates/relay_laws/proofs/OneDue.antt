@@ -16,7 +16,7 @@ use Rattle.relay_model.specs.State.{Session, Phase, Ready, AwaitsBlock, Holds, W
 use Rattle.relay_model.specs.State.{Leaving}
 use Rattle.relay_model.specs.State.{Ended, Transfer, OfToken, in_phase, with_unread, with_offers}
 use Rattle.relay_model.specs.Terms.{Terms}
-use Rattle.relay_laws.proofs.Judgements.{one_judgement}
+use Rattle.relay_laws.proofs.OneJudgement.{one_judgement}
 
 -- one token has a word's text
 one_token_asked : (word : List ℕ) (a b : Ask) → TokenAsked word a → TokenAsked word b → a ≡ b

@@ -1,4 +1,4 @@
-use Rattle.relay_laws.proofs.Judgements.{one_judgement, some_judgement}
+use Rattle.relay_laws.proofs.OneJudgement.{one_judgement, some_judgement}
 use Rattle.relay_laws.proofs.rules.one_judgement.Goals as goal
 
 pub returns-clause-most : goal.returns-clause-most
