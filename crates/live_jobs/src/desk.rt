@@ -5,7 +5,7 @@ ghost use Rattle.live_jobs.specs.Posting.{KeepsAtMost, most_gained};
 
 mod both;
 
-pub use both::{Posted, settle_both};
+pub use both::{Posted, Unsettled, settle_both};
 use feed_queue::{Counts, FeedDesk, Taken};
 use id_history::{KeptFeed, Settled};
 use std::alloc::{AllocError, Global};

@@ -47,7 +47,7 @@ mod writer;
 
 pub use answers::mismatched_receipts;
 pub use channel::{JobChannel, LOOKS};
-pub use desk::{CountedDesk, Posted, Posts, settle_both};
+pub use desk::{CountedDesk, Posted, Posts, Unsettled, settle_both};
 pub use finished::{FinishedJobRef, FinishedLeft, FinishedList};
 pub use gather::{Seats, Totals, close};
 pub use ids::ids_stored_again;

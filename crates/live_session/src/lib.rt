@@ -14,7 +14,7 @@ mod turn;
 mod wire;
 
 pub use commands::Command;
-pub use live::SessionContext;
-pub use serve::{Served, serve_session};
+pub use live::{Connection, Served, SessionContext};
+pub use serve::serve_session;
 pub use shares::{Clock, Gate, JobTold, Shares};
 pub use wire::Finish;

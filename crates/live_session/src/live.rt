@@ -1,7 +1,9 @@
-//! A session with what its end has handed over.
+//! A session with what its end has handed over, what it is served over and what is left of it.
 use crate::shares::{Clock, Gate, Shares};
+use crate::wire::Finish;
 use live_jobs::{JobChannel, KeptJob, SessionSeat};
 use live_store::{ArticleLog, OneRecord, StorePremises};
+use live_wire::{Hears, Says, Tally};
 use peer_session::Session;
 use relay_conf::Config;
 
@@ -14,6 +16,33 @@ pub struct SessionContext<'a, S, C, G> {
     pub config: &'a Config,
     pub clock: &'a C,
     pub gate: &'a G,
+}
+
+/// A connection that is to be served, as a session of this number.
+#[derive(Drop)]
+pub struct Connection<H: Hears, W: Says> {
+    /// The number of the session.
+    pub number: u64,
+    /// The number of the peer in the configuration.
+    pub peer: usize,
+    /// The side that is read.
+    pub reader: H,
+    /// The side that is written.
+    pub writer: W,
+}
+
+/// What is left of a session that was served: its end's seat, the jobs of it that were answered
+/// kept, how it ended, the two sides of its connection, and what it said and read in numbers.
+#[derive(Drop)]
+pub struct Served<J: StorePremises, H: Hears, W: Says> {
+    pub seat: SessionSeat,
+    pub kept: Vec<KeptJob<J>>,
+    pub finish: Finish,
+    pub reader: H,
+    pub writer: W,
+    pub tally: Tally,
+    /// The turns that it had before it left.
+    pub turns: u64,
 }
 
 /// A session, the reads of the article that it fetches, and what its end has handed over.

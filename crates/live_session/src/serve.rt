@@ -13,7 +13,7 @@ ghost use Rattle.relay_model.specs.Terms.{Terms};
 
 use crate::commands::{Command, Commands};
 use crate::counts::Counts;
-use crate::live::{LiveSession, SessionContext, Turned};
+use crate::live::{Connection, LiveSession, Served, SessionContext, Turned};
 use crate::shares::{Clock, Gate, Shares};
 use crate::turn::turn;
 use crate::wire::{Finish, Wire, flush, put, stop};
@@ -41,26 +41,12 @@ const PIECE: usize = 65_536;
 /// Octets of replies that wait, at most, before they are written.
 const WAITING: usize = 65_536;
 
-/// What is left of a session that was served: its end's seat, the jobs of it that were answered
-/// kept, how it ended, the two sides of its connection, and what it said and read in numbers.
-#[derive(Drop)]
-pub struct Served<J: StorePremises, H: Hears, W: Says> {
-    pub seat: SessionSeat,
-    pub kept: Vec<KeptJob<J>>,
-    pub finish: Finish,
-    pub reader: H,
-    pub writer: W,
-    pub tally: Tally,
-    /// The turns that it had before it left.
-    pub turns: u64,
-}
-
-/// Serves session `number` of a peer over a connection, from the greeting until it is closed. What
-/// was written is what its machine says to the bytes read; where the connection broke, a front of
-/// that. A session whose connection breaks, that is held or has had 2^40 turns leaves, as the other
-/// ones do: its job is handed over, and its open offers end, however often it is refused memory for
-/// that. Where the end has handed over 2^62 jobs or more, the connection is broken before its
-/// greeting (docs/PROTOCOL.md, Threads).
+/// Serves a connection as its session, from the greeting until it is closed. What was written is
+/// what its machine says to the bytes read; where the connection broke, a front of that. A session
+/// whose connection breaks, that is held or has had 2^40 turns leaves, as the other ones do: its
+/// job is handed over, and its open offers end, however often it is refused memory for that. Where
+/// the end has handed over 2^62 jobs or more, the connection is broken before its greeting
+/// (docs/PROTOCOL.md, Threads).
 pub fn serve_session<
     S: Shares<J, R>,
     C: Clock,
@@ -76,30 +62,36 @@ pub fn serve_session<
     context: &SessionContext<S, C, G>,
     seat: SessionSeat,
     kept: Vec<KeptJob<J>>,
-    number: u64,
-    peer: usize,
-    reader: H,
-    writer: W,
+    connection: Connection<H, W>,
 ) -> Served<J, H, W>
     requires register { context.now.register.now ≡ J.register }
     requires seat { IsSeatOf context.now.channels.now seat }
     ensures seat { IsSeatOf context.now.channels.now result.seat }
     ensures end { end_of result.seat ≡ end_of seat }
     ensures served { J.trusted ≡ true → ∥ IsServed J.register (terms_of context.now.config.now)
-        number (end_of seat) peer (hands_at seat kept.items) (H.heard reader) (W.said writer)
+        connection.number (end_of seat) connection.peer (hands_at seat kept.items)
+        (H.heard connection.reader) (W.said connection.writer)
         result.finish (hands_at result.seat result.kept.items) (H.heard result.reader)
         (W.said result.writer) ∥₁ }
     ensures formed { ∥ IsFormed J.register (terms_of context.now.config.now)
-        number (end_of seat) peer (hands_at seat kept.items) (H.heard reader) (W.said writer)
+        connection.number (end_of seat) connection.peer (hands_at seat kept.items)
+        (H.heard connection.reader) (W.said connection.writer)
         result.finish (hands_at result.seat result.kept.items) (H.heard result.reader)
         (W.said result.writer) ∥₁ }
     ensures many { 2 ^ 62 ≤ count_of seat → (result.finish ≡ finishes.Broken)
-        × (H.heard result.reader ≡ H.heard reader) × (W.said result.writer ≡ W.said writer) }
+        × (H.heard result.reader ≡ H.heard connection.reader)
+        × (W.said result.writer ≡ W.said connection.writer) }
     // It is ended for its turns alone where it has had them all.
     ensures spent { result.finish ≡ finishes.TurnsSpent → result.turns ≡ most_turns }
     // It is held only where the gate said no to a command.
     ensures held { result.finish ≡ finishes.Held → Refusal (G.refuses context.now.gate.now) }
 {
+    let Connection {
+        number,
+        peer,
+        reader,
+        writer,
+    } = connection;
     if seat.handed() >= MOST_JOBS {
         return Served {
             seat,

@@ -10,7 +10,7 @@ use crate::forgetting::Rounds;
 use crossbeam_utils::sync::EventCount;
 use cyc_token::Token;
 use id_history::{Counts, Offer, Shard, Take};
-use live_jobs::{CountedDesk, Posted};
+use live_jobs::{CountedDesk, Posted, Unsettled};
 use nntp_text::MsgId;
 use std::alloc::AllocError;
 use std::sync::ledger::{Ledger, Share};
@@ -124,29 +124,16 @@ impl Claims {
         rt: &R,
         desk: &Mutex<CountedDesk<L>>,
         share: &mut Share<L>,
-        id: &MsgId,
-        session: u64,
-        token: Token,
-        permitted: &Vec<u16>,
-        now: u64,
+        article: &Unsettled<'_>,
     ) -> Option<Posted>
         requires { 0 < share.old.parts }
-        ensures posted { IfSome result (IsPostOf id.now session token permitted.now.items) }
+        ensures posted { IfSome result (IsPostOf article.now.id.now article.now.session
+            article.now.token article.now.permitted.now.items) }
         ensures counted { IfSome result (λ posted. share.new.amount ≡ share.old.amount + 1) }
         ensures same { result ≡ None → share.new.amount ≡ share.old.amount }
         ensures parts { share.new.parts ≡ share.old.parts }
     {
-        let posted = live_jobs::settle(
-            rt,
-            &self.shard,
-            desk,
-            share,
-            id,
-            session,
-            token,
-            permitted,
-            now,
-        );
+        let posted = live_jobs::settle(rt, &self.shard, desk, share, article);
         if posted.is_some() {
             self.ended.notify_all();
         }

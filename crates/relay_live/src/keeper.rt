@@ -15,7 +15,7 @@ use cyc_block::BlockStore;
 use cyc_buffer::FaultKind;
 use cyc_token::Token;
 use job_queue::Handed;
-use live_jobs::{Posted, Store, StoreResult, answer_of};
+use live_jobs::{Posted, Store, StoreResult, Unsettled, answer_of};
 use live_session::Clock;
 use live_store::{StorePremises, Stored};
 use relay_conf::Buffers;
@@ -111,16 +111,14 @@ impl<'a, S: BlockStore + Drop, J: StorePremises, L: Ledger, C: Clock, Q: Registe
         let permitted = &job.article.permitted;
         for _ in rt.forever() {
             let now = self.clock.now();
-            let posted = claims.settle(
-                rt,
-                desk,
-                share,
-                &job.id,
-                job.session,
+            let article = Unsettled {
+                id: &job.id,
+                session: job.session,
                 token,
                 permitted,
-                now,
-            );
+                moment: now,
+            };
+            let posted = claims.settle(rt, desk, share, &article);
             if posted.is_some() {
                 return posted;
             }

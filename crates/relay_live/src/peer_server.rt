@@ -13,7 +13,7 @@ use crate::register_ref::RegisterRef;
 use crate::shared::Shared;
 use cyc_block::BlockStore;
 use live_jobs::{Accounts, JobChannel, KeptJob, Service, SessionSeat};
-use live_session::{Clock, Gate, Served, SessionContext, serve_session};
+use live_session::{Clock, Connection, Gate, Served, SessionContext, serve_session};
 use live_store::StorePremises;
 use live_wire::{Connections, Hears, Says};
 use relay_conf::Config;
@@ -133,6 +133,12 @@ impl<
             clock: self.clock,
             gate: self.gate,
         };
+        let connection = Connection {
+            number,
+            peer: self.peer,
+            reader,
+            writer,
+        };
         let served = serve_session(
             rt,
             self.alloc,
@@ -140,10 +146,7 @@ impl<
             &context,
             seat,
             kept,
-            number,
-            self.peer,
-            reader,
-            writer,
+            connection,
         );
         self.kept = served.kept;
         let seconds = self.clock.now().saturating_sub(began);

@@ -100,6 +100,19 @@ pub struct PeerSource<X> {
     pub connections: X,
 }
 
+/// What is served: peer sources, by the configuration of a relay and what lets commands in.
+#[derive(Drop)]
+pub struct Serving<'a, X, G> {
+    /// The configuration, whose terms are those of each session.
+    pub config: &'a Config,
+    /// What lets the sessions' commands in.
+    pub gate: &'a G,
+    /// The seed of the sessions' tables.
+    pub hasher: RandomState,
+    /// Where the connections come from, an end for each.
+    pub peer_sources: Vec<PeerSource<X>>,
+}
+
 /// An end for each peer source, in this order, before its first connection.
 fn ends_of<
     'a,
@@ -184,12 +197,9 @@ pub fn serve_all<
 >(
     rt: &R,
     alloc: Global,
-    hasher: RandomState,
     keeper: &Keeper<'a, S, J, L, C, Q>,
-    config: &'a Config,
-    gate: &'a G,
+    serving: Serving<'a, X, G>,
     groups: usize,
-    peer_sources: Vec<PeerSource<X>>,
     all: Share<L>,
 ) -> Result<
     (
@@ -202,12 +212,13 @@ where
     <X as Connections<R>>::Reader: Drop + Send,
     <X as Connections<R>>::Writer: Drop + Send,
     requires parts { (all.parts ≡ groups) × (all.amount ≡ 0) × (L.parts ≡ groups) × (0 < groups) }
-    requires few { length peer_sources.items < 2 ^ 62 }
-    requires slots { slots_of keeper.now ≡ length peer_sources.items }
+    requires few { length serving.peer_sources.items < 2 ^ 62 }
+    requires slots { slots_of keeper.now ≡ length serving.peer_sources.items }
 
     // The seats that come back are all: one for each peer source, with a list for each group, and
     // one for each group.
-    ensures lefts { IfOk result (λ ran. length ran.0.lefts.items ≡ length peer_sources.items) }
+    ensures lefts { IfOk result (λ ran.
+        length ran.0.lefts.items ≡ length serving.entry.peer_sources.items) }
     ensures lists { IfOk result (λ ran. HasLists groups (hands_of ran.0.lefts.items)) }
     ensures writers { IfOk result (λ ran. length ran.0.writers.items ≡ groups) }
 
@@ -215,15 +226,16 @@ where
     // end anything.
     ensures jobs { IfOk result (λ ran. AllTold (FitsJob J.holds)
         (map (λ w. w.finished.items) ran.0.writers.items) (hands_of ran.0.lefts.items)) }
-    ensures none { IfOk result (λ ran. NoneElse (length peer_sources.items)
+    ensures none { IfOk result (λ ran. NoneElse (length serving.entry.peer_sources.items)
         (map (λ w. w.finished.items) ran.0.writers.items)) }
 
     // Each end that comes back has the peer of its source, and its terms are those of the
     // configuration; what it kept is what its sessions came to by these.
     ensures peers { IfOk result (λ ran.
-        map peer_of ran.0.services.items ≡ map (λ d. d.peer) peer_sources.items) }
-    ensures terms { IfOk result (λ ran.
-        map terms_at ran.0.services.items ≡ map (λ d. terms_of config.now) peer_sources.items) }
+        map peer_of ran.0.services.items
+        ≡ map (λ d. d.peer) serving.entry.peer_sources.items) }
+    ensures terms { IfOk result (λ ran. map terms_at ran.0.services.items
+        ≡ map (λ d. terms_of serving.entry.config.now) serving.entry.peer_sources.items) }
     ensures kept { IfOk result (λ ran. AllKept (λ end number count jobs.
         Accounted J.trusted (terms_at end) number (peer_of end) count jobs (kept_of end))
         (hands_of ran.0.lefts.items) ran.0.services.items) }
@@ -237,6 +249,12 @@ where
     ensures ids_stored_again { IfOk result (λ ran. ids_stored_again_of ran.1
         ≡ ids_stored_again_in (map (λ w. w.finished.items) ran.0.writers.items)) }
 {
+    let Serving {
+        config,
+        gate,
+        hasher,
+        peer_sources,
+    } = serving;
     let ends = ends_of(alloc, hasher, keeper, config, gate, peer_sources)?;
     let Opened {
         channels,

@@ -104,8 +104,8 @@ impl<S: BlockStore + Drop, J: StorePremises, L: Ledger> Shared<S, J, L> {
         Ok(Shared::over(alone, locks, slots_and_rounds))
     }
 
-    /// What so many ends share over the stores of a relay that was stopped, the i-th for buffer i,
-    /// from the text of its history, with the register's record for each live article. It is
+    /// What so many ends share over what a relay was stopped with: its stores, the i-th for buffer
+    /// i, and the text of its history, with the register's record for each live article. It is
     /// refused in the order of StopFault, but that a text that can't be read comes before a store
     /// is called; want of memory may come in place of each. All stores come back then, in their
     /// order, unwritten but for a Device of the last: the heads are opened once all else is done.
@@ -114,16 +114,15 @@ impl<S: BlockStore + Drop, J: StorePremises, L: Ledger> Shared<S, J, L> {
         alloc: Global,
         config: &Config,
         register: &ArticleLog,
-        stores: Vec<S>,
-        text: &[u8],
+        stopped: Stopped<S>,
         book: Book<L>,
         ends: usize,
     ) -> Result<Shared<S, J, L>, NotStarted<S>>
         requires register { register.now ≡ J.register }
-        requires stores { map (λ store. length (S.blocks store)) stores.items
+        requires stores { map (λ store. length (S.blocks store)) stopped.stores.items
             ≡ map (λ buffer. buffer.blocks) config.now.buffers.buffers.items }
-        requires honest { J.trusted ≡ true → All S.honest stores.items }
-        requires stopped { J.trusted ≡ true → WereStopped S.BlockStore stores.items }
+        requires honest { J.trusted ≡ true → All S.honest stopped.stores.items }
+        requires stopped { J.trusted ≡ true → WereStopped S.BlockStore stopped.stores.items }
         requires book { book.total ≡ 0 }
         ensures buffers { IfOk result (λ shared.
             buffers_in shared ≡ length config.now.buffers.buffers.items) }
@@ -134,17 +133,18 @@ impl<S: BlockStore + Drop, J: StorePremises, L: Ledger> Shared<S, J, L> {
         ensures ends { IfOk result (λ shared. ends_in shared ≡ ends) }
         ensures remember { IfOk result (λ shared.
             remember_in shared ≡ config.now.relay.remember) }
-        ensures history { IfOk result (HasStopOf config.now text.now) }
-        ensures refused { IfErr result
-            (IsNotStarted S.BlockStore config.now stores.items text.now) }
+        ensures history { IfOk result (HasStopOf config.now stopped.history.items) }
+        ensures refused { IfErr result (IsNotStarted S.BlockStore config.now
+            stopped.stores.items stopped.history.items) }
     {
+        let Stopped { stores, history } = stopped;
         let Ok(locks) = Locks::new(alloc, stores.len(), config.buffers.groups.len()) else {
             return Err(NotStarted::Refused(refused(stores, StopFault::Memory)));
         };
         let Ok(slots_and_rounds) = SlotsAndRounds::new(alloc, ends) else {
             return Err(NotStarted::Refused(refused(stores, StopFault::Memory)));
         };
-        match Alone::start(rt, alloc, config, register, stores, text, book) {
+        match Alone::start(rt, alloc, config, register, stores, &history, book) {
             Ok(alone) => Ok(Shared::over(alone, locks, slots_and_rounds)),
             Err(not_started) => Err(not_started),
         }

@@ -28,6 +28,6 @@ pub use desk::Desk;
 pub use files::{fit_files, hold_files};
 pub use gate::CountingGate;
 pub use ports::open_ports;
-pub use running::{Finished, run_relay};
+pub use running::{Beginning, Finished, Records, Surroundings, run_relay};
 pub use serving::serve_on;
 pub use side_thread::{Figured, SideThread};

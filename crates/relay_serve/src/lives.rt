@@ -18,8 +18,8 @@ use std::random::RandomSource;
 use std::sync::Wait;
 use std::sync::ledger::{Book, Ledger};
 
-/// What so many ends share over the stores of a relay that was stopped, with this history. Until it
-/// is known that it starts nothing is written.
+/// What so many ends share over what a relay was stopped with. Until it is known that it starts
+/// nothing is written.
 pub(crate) fn start_shared<
     S: BlockStore + Drop,
     J: StorePremises,
@@ -30,25 +30,25 @@ pub(crate) fn start_shared<
     alloc: Global,
     config: &Config,
     register: &ArticleLog,
-    stores: Vec<S>,
-    history: &[u8],
+    stopped: Stopped<S>,
     book: Book<L>,
     ends: usize,
 ) -> Result<Shared<S, J, L>, ServeError>
     requires register { register.now ≡ J.register }
-    requires stores { map (λ store. length (S.blocks store)) stores.items
+    requires stores { map (λ store. length (S.blocks store)) stopped.stores.items
         ≡ map (λ buffer. buffer.blocks) config.now.buffers.buffers.items }
-    requires honest { J.trusted ≡ true → All S.honest stores.items }
-    requires stopped { J.trusted ≡ true → WereStopped ⟦<S as BlockStore>⟧ stores.items }
+    requires honest { J.trusted ≡ true → All S.honest stopped.stores.items }
+    requires stopped { J.trusted ≡ true → WereStopped ⟦<S as BlockStore>⟧ stopped.stores.items }
     requires book { book.total ≡ 0 }
     ensures buffers { IfOk result (λ shared.
         buffers_in shared ≡ length config.now.buffers.buffers.items) }
     ensures ends { IfOk result (λ shared. ends_in shared ≡ ends) }
-    ensures told { IfErr result
-        (TellsStart ⟦<S as BlockStore>⟧ config.now stores.items history.now) }
-    ensures fault { IfErr result (IsRelayFault ⟦<S as BlockStore>⟧ config.now stores.items) }
+    ensures told { IfErr result (TellsStart ⟦<S as BlockStore>⟧ config.now
+        stopped.stores.items stopped.history.items) }
+    ensures fault { IfErr result
+        (IsRelayFault ⟦<S as BlockStore>⟧ config.now stopped.stores.items) }
 {
-    match Shared::start(rt, alloc, config, register, stores, history, book, ends) {
+    match Shared::start(rt, alloc, config, register, stopped, book, ends) {
         Ok(shared) => Ok(shared),
         Err(refused) => Err(unstarted(alloc, config, refused)),
     }

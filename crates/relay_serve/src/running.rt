@@ -22,7 +22,7 @@ use live_wire::Connections;
 use relay_conf::Config;
 use relay_core::Stopped;
 use relay_folder::Origin;
-use relay_live::{Counted, Keeper, LiveError, PeerSource, RegisterRef, Shared, serve_all};
+use relay_live::{Counted, Keeper, LiveError, PeerSource, RegisterRef, Serving, Shared, serve_all};
 use relay_report::{ServeError, Totals};
 use std::alloc::{AllocError, Global};
 use std::hash::RandomState;
@@ -42,6 +42,35 @@ pub struct Finished<S> {
     pub totals: Result<Totals, AllocError>,
     /// What it was stopped with.
     pub stopped: Stopped<S>,
+}
+
+/// What a relay begins over.
+#[derive(Drop)]
+pub struct Beginning<S> {
+    /// The store of each buffer, in their order.
+    pub stores: Vec<S>,
+    /// From nothing, or from what it was stopped with.
+    pub origin: Origin,
+}
+
+/// What the texts and the posts of a relay are recorded in.
+#[derive(Drop)]
+pub struct Records<'a> {
+    /// The register, in which each stored text has a record.
+    pub register: &'a ArticleLog,
+    /// The ledger of the posts before it is opened, with a part for each writer.
+    pub blank: Blank,
+}
+
+/// What stands around a relay.
+#[derive(Drop)]
+pub struct Surroundings<'a, C, G, B> {
+    /// The clock that it goes by.
+    pub clock: &'a C,
+    /// What lets its sessions' commands in, and is told of them.
+    pub gate: &'a G,
+    /// What goes on beside it.
+    pub side: &'a B,
 }
 
 /// Runs a relay of this configuration over these stores, the i-th for buffer i: an end behind each
@@ -66,36 +95,36 @@ pub fn run_relay<
     rt: &R,
     alloc: Global,
     config: &Config,
-    register: &ArticleLog,
-    blank: Blank,
-    stores: Vec<S>,
-    origin: Origin,
+    beginning: Beginning<S>,
+    records: Records<'_>,
     peer_sources: Vec<PeerSource<X>>,
-    clock: &C,
-    gate: &G,
-    side: &B,
+    surroundings: Surroundings<'_, C, G, B>,
 ) -> Result<Finished<S>, ServeError>
 where
     <X as Connections<R>>::Reader: Drop + Send,
     <X as Connections<R>>::Writer: Drop + Send,
-    requires register { register.now ≡ J.register }
+    requires register { records.register.now ≡ J.register }
     requires holds { J.holds ≡ has_buffer config.now.buffers }
-    requires name { blank.name ≡ L.name }
-    requires parts { (blank.parts ≡ L.parts) × (blank.parts ≡ channel_count config.now) }
-    requires stores { map (λ store. length (S.blocks store)) stores.items
+    requires name { records.blank.name ≡ L.name }
+    requires parts { (records.blank.parts ≡ L.parts)
+        × (records.blank.parts ≡ channel_count config.now) }
+    requires stores { map (λ store. length (S.blocks store)) beginning.stores.items
         ≡ map (λ buffer. buffer.blocks) config.now.buffers.buffers.items }
-    requires honest { J.trusted ≡ true → All S.honest stores.items }
+    requires honest { J.trusted ≡ true → All S.honest beginning.stores.items }
     requires stopped { J.trusted ≡ true
-        → AreOfOrigin ⟦<S as BlockStore>⟧ origin stores.items }
+        → AreOfOrigin ⟦<S as BlockStore>⟧ beginning.origin beginning.stores.items }
     requires few { length peer_sources.items < 2 ^ 62 }
     ensures totals { IfOk result (λ run. IfOk run.totals (AreOf config.now)) }
     ensures counted { IfOk result (λ run. IfOk run.totals (λ totals. CountsOf totals run.counted)) }
     ensures ran { IfOk result (λ run. Ran ⟦<J as StorePremises>⟧ config.now
         (map (λ peer_source. peer_source.peer) peer_sources.items) run.counted) }
-    ensures start { IfErr result
-        (StartsAsTold ⟦<S as BlockStore>⟧ config.now stores.items origin) }
-    ensures fault { IfErr result (IsRelayFault ⟦<S as BlockStore>⟧ config.now stores.items) }
+    ensures start { IfErr result (StartsAsTold ⟦<S as BlockStore>⟧ config.now
+        beginning.stores.items beginning.origin) }
+    ensures fault { IfErr result
+        (IsRelayFault ⟦<S as BlockStore>⟧ config.now beginning.stores.items) }
 {
+    let Records { register, blank } = records;
+    let Surroundings { clock, gate, side } = surroundings;
     let (book, all) = blank.open::<L>();
     // A relay that was started and can't be served would have lost what it was stopped with.
     let hasher = hasher_of(rt)?;
@@ -104,25 +133,19 @@ where
         alloc,
         config,
         register,
-        stores,
-        origin,
+        beginning,
         book,
         peer_sources.len(),
     )?;
     let keeper = Keeper::new(&shared, register, &config.buffers, clock);
     let served = Served::new(config, &shared, clock);
-    let counted = attended(
-        rt,
-        alloc,
-        hasher,
-        &keeper,
+    let serving = Serving {
         config,
         gate,
+        hasher,
         peer_sources,
-        all,
-        side,
-        &served,
-    )?;
+    };
+    let counted = attended(rt, alloc, &keeper, serving, all, side, &served)?;
     let totals = counted_totals(rt, alloc, config, &shared, &counted);
     let stopped = shut_shared(alloc, shared)?;
     Ok(Finished {
@@ -155,29 +178,31 @@ fn begun_by<S: BlockStore + Drop, J: StorePremises, L: Ledger, R: RandomSource +
     alloc: Global,
     config: &Config,
     register: &ArticleLog,
-    stores: Vec<S>,
-    origin: Origin,
+    beginning: Beginning<S>,
     book: Book<L>,
     ends: usize,
 ) -> Result<Shared<S, J, L>, ServeError>
     requires register { register.now ≡ J.register }
-    requires stores { map (λ store. length (S.blocks store)) stores.items
+    requires stores { map (λ store. length (S.blocks store)) beginning.stores.items
         ≡ map (λ buffer. buffer.blocks) config.now.buffers.buffers.items }
-    requires honest { J.trusted ≡ true → All S.honest stores.items }
+    requires honest { J.trusted ≡ true → All S.honest beginning.stores.items }
     requires stopped { J.trusted ≡ true
-        → AreOfOrigin ⟦<S as BlockStore>⟧ origin stores.items }
+        → AreOfOrigin ⟦<S as BlockStore>⟧ beginning.origin beginning.stores.items }
     requires book { book.total ≡ 0 }
     ensures buffers { IfOk result (λ shared.
         buffers_in shared ≡ length config.now.buffers.buffers.items) }
     ensures ends { IfOk result (λ shared. ends_in shared ≡ ends) }
-    ensures start { IfErr result
-        (StartsAsTold ⟦<S as BlockStore>⟧ config.now stores.items origin) }
-    ensures fault { IfErr result (IsRelayFault ⟦<S as BlockStore>⟧ config.now stores.items) }
+    ensures start { IfErr result (StartsAsTold ⟦<S as BlockStore>⟧ config.now
+        beginning.stores.items beginning.origin) }
+    ensures fault { IfErr result
+        (IsRelayFault ⟦<S as BlockStore>⟧ config.now beginning.stores.items) }
 {
+    let Beginning { stores, origin } = beginning;
     match origin {
         Origin::Formatted => shared_by(rt, alloc, config, stores, book, ends),
-        Origin::Stopped(text) => {
-            start_shared(rt, alloc, config, register, stores, &text, book, ends)
+        Origin::Stopped(history) => {
+            let stopped = Stopped { stores, history };
+            start_shared(rt, alloc, config, register, stopped, book, ends)
         }
     }
 }
@@ -248,38 +273,25 @@ fn run_shared<
 >(
     rt: &R,
     alloc: Global,
-    hasher: RandomState,
     keeper: &Keeper<'a, S, J, L, C, Q>,
-    config: &'a Config,
-    gate: &'a G,
-    peer_sources: Vec<PeerSource<X>>,
+    serving: Serving<'a, X, G>,
     all: Share<L>,
 ) -> Result<Counted, ServeError>
 where
     <X as Connections<R>>::Reader: Drop + Send,
     <X as Connections<R>>::Writer: Drop + Send,
-    requires parts { (all.parts ≡ channel_count config.now) × (all.amount ≡ 0)
-        × (L.parts ≡ channel_count config.now) }
-    requires slots { slots_of keeper.now ≡ length peer_sources.items }
-    requires few { length peer_sources.items < 2 ^ 62 }
+    requires parts { (all.parts ≡ channel_count serving.config.now) × (all.amount ≡ 0)
+        × (L.parts ≡ channel_count serving.config.now) }
+    requires slots { slots_of keeper.now ≡ length serving.peer_sources.items }
+    requires few { length serving.peer_sources.items < 2 ^ 62 }
     ensures posted { IfOk result (λ counted.
         posts_in (posted_in counted) ≡ accepted_in counted) }
-    ensures ran { IfOk result (Ran ⟦<J as StorePremises>⟧ config.now
-        (map (λ peer_source. peer_source.peer) peer_sources.items)) }
+    ensures ran { IfOk result (Ran ⟦<J as StorePremises>⟧ serving.entry.config.now
+        (map (λ peer_source. peer_source.peer) serving.entry.peer_sources.items)) }
     ensures fault { IfErr result IsRunFault }
 {
-    let groups = channels_of(config);
-    match serve_all(
-        rt,
-        alloc,
-        hasher,
-        keeper,
-        config,
-        gate,
-        groups,
-        peer_sources,
-        all,
-    ) {
+    let groups = channels_of(serving.config);
+    match serve_all(rt, alloc, keeper, serving, groups, all) {
         Ok((_seats, counted)) => Ok(counted),
         Err(error) => Err(ended(error)),
     }
@@ -302,11 +314,8 @@ fn attended<
 >(
     rt: &R,
     alloc: Global,
-    hasher: RandomState,
     keeper: &Keeper<'a, S, J, L, C, Q>,
-    config: &'a Config,
-    gate: &'a G,
-    peer_sources: Vec<PeerSource<X>>,
+    serving: Serving<'a, X, G>,
     all: Share<L>,
     side: &B,
     served: &F,
@@ -314,30 +323,30 @@ fn attended<
 where
     <X as Connections<R>>::Reader: Drop + Send,
     <X as Connections<R>>::Writer: Drop + Send,
-    requires parts { (all.parts ≡ channel_count config.now) × (all.amount ≡ 0)
-        × (L.parts ≡ channel_count config.now) }
-    requires slots { slots_of keeper.now ≡ length peer_sources.items }
-    requires few { length peer_sources.items < 2 ^ 62 }
-    ensures ran { IfOk result (Ran ⟦<J as StorePremises>⟧ config.now
-        (map (λ peer_source. peer_source.peer) peer_sources.items)) }
+    requires parts { (all.parts ≡ channel_count serving.config.now) × (all.amount ≡ 0)
+        × (L.parts ≡ channel_count serving.config.now) }
+    requires slots { slots_of keeper.now ≡ length serving.peer_sources.items }
+    requires few { length serving.peer_sources.items < 2 ^ 62 }
+    ensures ran { IfOk result (Ran ⟦<J as StorePremises>⟧ serving.entry.config.now
+        (map (λ peer_source. peer_source.peer) serving.entry.peer_sources.items)) }
     ensures fault { IfErr result IsRunFault }
 {
     thread::scope(
         thread::scope_env(),
         rt,
         move |scope| -> Result<Counted, ServeError>
-            requires parts { (all.parts ≡ channel_count config.now) × (all.amount ≡ 0)
-                × (L.parts ≡ channel_count config.now) }
-            requires slots { slots_of keeper.now ≡ length peer_sources.items }
-            requires few { length peer_sources.items < 2 ^ 62 }
-            ensures ran { IfOk result (Ran J.StorePremises config.entry.now
-                (map (λ peer_source. peer_source.peer) peer_sources.items)) }
+            requires parts { (all.parts ≡ channel_count serving.config.now) × (all.amount ≡ 0)
+                × (L.parts ≡ channel_count serving.config.now) }
+            requires slots { slots_of keeper.now ≡ length serving.peer_sources.items }
+            requires few { length serving.peer_sources.items < 2 ^ 62 }
+            ensures ran { IfOk result (Ran J.StorePremises serving.entry.config.now
+                (map (λ peer_source. peer_source.peer) serving.entry.peer_sources.items)) }
             ensures fault { IfErr result IsRunFault }
         {
             let Some(attending) = start_side_thread(scope, rt, side, served) else {
                 return Err(ServeError::NoThread);
             };
-            let ran = run_shared(rt, alloc, hasher, keeper, config, gate, peer_sources, all);
+            let ran = run_shared(rt, alloc, keeper, serving, all);
             side.ended();
             attending.join(rt);
             ran

@@ -10,7 +10,7 @@ use crate::files::{fit_files, hold_files};
 use crate::gate::CountingGate;
 use crate::history::{begun_from, keep_history};
 use crate::ports::open_ports;
-use crate::running::{channels_of, run_relay};
+use crate::running::{Beginning, Records, Surroundings, channels_of, run_relay};
 use crate::streams::fill_streams;
 use crate::watched::{Watched, watch_all};
 use live_store::ArticleLog;
@@ -76,19 +76,17 @@ where
         peer_sources.len(),
         stores.len()
     );
-    let answer = begin_and_run(
-        rt,
-        alloc,
-        config,
+    let unbegun = Unbegun {
         stores,
         fresh,
         blank,
-        &mut history,
+    };
+    let access = Access {
         peer_sources,
-        &gate,
-        &desk,
-        writer,
-    );
+        gate: &gate,
+        desk: &desk,
+    };
+    let answer = begin_and_run(rt, alloc, config, unbegun, &mut history, access, writer);
     desk.close(rt, folder);
     if answer.is_ok() {
         let _lost = eprintln!(rt; "stopped");
@@ -96,42 +94,51 @@ where
     answer
 }
 
-/// Finds out what the relay begins from, as it is asked to begin from nothing and as no buffer was
-/// kept in any file, then runs it.
-fn begin_and_run<'a, R, H: HistoryPlace, W: Write>(
+/// What a relay may begin over, before it is known from what.
+#[derive(Drop)]
+struct Unbegun {
+    stores: Vec<RunBlocks>,
+    /// Whether it is asked to begin from nothing.
+    fresh: bool,
+    /// Whether no buffer was kept in any file.
+    blank: bool,
+}
+
+/// How a relay is had from outside.
+#[derive(Drop)]
+struct Access<'a> {
+    /// The ports of its peers.
+    peer_sources: Vec<PeerSource<Port<'a>>>,
+    gate: &'a CountingGate<'a>,
+    desk: &'a Desk<'a>,
+}
+
+/// Finds out what the relay begins from, then runs it.
+fn begin_and_run<R, H: HistoryPlace, W: Write>(
     rt: &R,
     alloc: Global,
     config: &Config,
-    stores: Vec<RunBlocks>,
-    fresh: bool,
-    blank: bool,
+    unbegun: Unbegun,
     history: &mut H,
-    peer_sources: Vec<PeerSource<Port<'a>>>,
-    gate: &CountingGate<'_>,
-    desk: &Desk<'_>,
+    access: Access<'_>,
     writer: &mut W,
 ) -> Result<(), ServeError>
 where
     R: Threads + Wait + Clock + Eprint + RandomSource + Sync,
-    requires stores { map count_of stores.items
+    requires stores { map count_of unbegun.stores.items
         ≡ map (λ buffer. buffer.blocks) config.now.buffers.buffers.items }
-    requires few { length peer_sources.items < 2 ^ 62 }
+    requires few { length access.peer_sources.items < 2 ^ 62 }
     ensures { ServeGives config.now result (W.contents writer.old) (W.contents writer.new) }
 {
+    let Unbegun {
+        stores,
+        fresh,
+        blank,
+    } = unbegun;
     let origin = begun_from(alloc, history, fresh, blank)?;
     tell_start(rt, &origin);
-    run_and_print(
-        rt,
-        alloc,
-        config,
-        stores,
-        origin,
-        history,
-        peer_sources,
-        gate,
-        desk,
-        writer,
-    )
+    let beginning = Beginning { stores, origin };
+    run_and_print(rt, alloc, config, beginning, history, access, writer)
 }
 
 /// Tells that the relay starts from what it was stopped with, where it does.
@@ -142,36 +149,23 @@ fn tell_start<R: Eprint>(rt: &R, origin: &Origin) {
 }
 
 /// Runs the relay over these stores and ports, keeps its history, and writes its report.
-fn run_and_print<'a, R, H: HistoryPlace, W: Write>(
+fn run_and_print<R, H: HistoryPlace, W: Write>(
     rt: &R,
     alloc: Global,
     config: &Config,
-    stores: Vec<RunBlocks>,
-    origin: Origin,
+    beginning: Beginning<RunBlocks>,
     history: &mut H,
-    peer_sources: Vec<PeerSource<Port<'a>>>,
-    gate: &CountingGate<'_>,
-    desk: &Desk<'_>,
+    access: Access<'_>,
     writer: &mut W,
 ) -> Result<(), ServeError>
 where
     R: Threads + Wait + Clock + Eprint + RandomSource + Sync,
-    requires stores { map count_of stores.items
+    requires stores { map count_of beginning.stores.items
         ≡ map (λ buffer. buffer.blocks) config.now.buffers.buffers.items }
-    requires few { length peer_sources.items < 2 ^ 62 }
+    requires few { length access.peer_sources.items < 2 ^ 62 }
     ensures { ServeGives config.now result (W.contents writer.old) (W.contents writer.new) }
 {
-    let totals = run_on(
-        rt,
-        alloc,
-        config,
-        stores,
-        origin,
-        history,
-        peer_sources,
-        gate,
-        desk,
-    )?;
+    let totals = run_on(rt, alloc, config, beginning, history, access)?;
     print_totals(alloc, &totals, writer)
 }
 
@@ -184,21 +178,24 @@ fn run_on<'a, R, H: HistoryPlace>(
     rt: &R,
     alloc: Global,
     config: &Config,
-    stores: Vec<RunBlocks>,
-    origin: Origin,
+    beginning: Beginning<RunBlocks>,
     history: &mut H,
-    peer_sources: Vec<PeerSource<Port<'a>>>,
-    gate: &CountingGate<'_>,
-    desk: &Desk<'_>,
+    access: Access<'a>,
 ) -> Result<Totals, ServeError>
 where
     R: Threads + Wait + Clock + Eprint + RandomSource + Sync,
-    requires stores { map count_of stores.items
+    requires stores { map count_of beginning.stores.items
         ≡ map (λ buffer. buffer.blocks) config.now.buffers.buffers.items }
-    requires few { length peer_sources.items < 2 ^ 62 }
+    requires few { length access.peer_sources.items < 2 ^ 62 }
     ensures totals { IfOk result (AreOf config.now) }
     ensures fault { IfErr result (IsServeFault config.now) }
 {
+    let Beginning { stores, origin } = beginning;
+    let Access {
+        peer_sources,
+        gate,
+        desk,
+    } = access;
     let register = ArticleLog::new(alloc)?;
     let clock = MachineClock::new(rt);
     let blank = Blank::new(channels_of(config) as u64);
@@ -216,14 +213,17 @@ where
         rt,
         alloc,
         config,
-        &register,
-        blank,
-        stores,
-        origin,
+        Beginning { stores, origin },
+        Records {
+            register: &register,
+            blank,
+        },
         peer_sources,
-        &clock,
-        gate,
-        desk,
+        Surroundings {
+            clock: &clock,
+            gate,
+            side: desk,
+        },
     ) {
         Ok(finished) => {
             keep_stopped(history, &finished.stopped)?;

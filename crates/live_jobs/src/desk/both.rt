@@ -20,6 +20,21 @@ use std::mem::size_of;
 use std::snapshot::Snapshot;
 use std::sync::ledger::{Ledger, Share};
 
+/// An article that is stored, and that the history and the feeds are to have from now on.
+#[derive(Clone, Copy)]
+pub struct Unsettled<'a> {
+    /// Its message-id.
+    pub id: &'a MsgId,
+    /// The number of the session for which it is being stored.
+    pub session: u64,
+    /// The token under which its text is stored.
+    pub token: Token,
+    /// The numbers of the feeds that gain the token.
+    pub permitted: &'a Vec<u16>,
+    /// When it is stored, in seconds since 1970-01-01 00:00:00 UTC.
+    pub moment: u64,
+}
+
 /// That an article was settled and posted, once: under which message-id, for which session, under
 /// which token, and to which feeds it is permitted. `settle_both` alone makes one, for each step
 /// that it makes, and nothing copies one. Its parts are for contracts alone: it takes no memory.
@@ -49,7 +64,7 @@ impl Posted {
 }
 
 /// The article that is stored under a token is the history's and the feeds' from now on: its
-/// message-id, which is being stored for the session, is Stored at this moment, and each permitted
+/// message-id, which is being stored for the session, is Stored at its moment, and each permitted
 /// feed gains the token. The caller holds both values. `None`, with nothing changed, exactly where
 /// the id isn't being stored for the session, or the desk's posts, with what a feed had gained
 /// before, are 2^62. Takes no memory.
@@ -57,27 +72,27 @@ pub fn settle_both<L: Ledger>(
     shard: &mut Shard,
     desk: &mut CountedDesk<L>,
     share: &mut Share<L>,
-    id: &MsgId,
-    session: u64,
-    token: Token,
-    permitted: &Vec<u16>,
-    now: u64,
+    article: &Unsettled<'_>,
 ) -> Option<Posted>
     requires { 0 < share.old.parts }
     ensures storing { IfSome result (λ posted.
-        OfClaim (Keeps shard.old) id.now (λ claim. is_storing_for session claim ≡ true)) }
+        OfClaim (Keeps shard.old) article.now.id.now
+        (λ claim. is_storing_for article.now.session claim ≡ true)) }
     ensures settled { IfSome result (λ posted. ChangesClaim (Keeps shard.old) (Keeps shard.new)
-        id.now (after_settle session (token_view token) now)) }
+        article.now.id.now (after_settle article.now.session (token_view article.now.token)
+        article.now.moment)) }
     ensures gained { IfSome result (λ posted. (sizes : List ℕ) (feeds : ℕ → Feed)
         → KeepsFeeds (desk_of desk.old) sizes feeds
         → KeepsFeeds (desk_of desk.new) sizes
-        (gaining feeds permitted.now.items (token_view token))) }
-    ensures posted { IfSome result (IsPostOf id.now session token permitted.now.items) }
+        (gaining feeds article.now.permitted.now.items (token_view article.now.token))) }
+    ensures posted { IfSome result (IsPostOf article.now.id.now article.now.session
+        article.now.token article.now.permitted.now.items) }
     ensures counted { IfSome result (λ posted. (share.new.amount ≡ share.old.amount + 1)
         × (posts_of desk.new ≡ posts_of desk.old + 1)) }
     ensures before { before_of desk.new ≡ before_of desk.old }
     ensures why { result ≡ None → (2 ^ 62 ≤ before_of desk.old + posts_of desk.old)
-        ⊎ OfClaim (Keeps shard.old) id.now (λ claim. is_storing_for session claim ≡ false) }
+        ⊎ OfClaim (Keeps shard.old) article.now.id.now
+        (λ claim. is_storing_for article.now.session claim ≡ false) }
     ensures same { result ≡ None → KeepsClaims (Keeps shard.old) (Keeps shard.new)
         × (desk.new ≡ desk.old) × (share.new.amount ≡ share.old.amount) }
     ensures parts { share.new.parts ≡ share.old.parts }
@@ -85,7 +100,14 @@ pub fn settle_both<L: Ledger>(
     if desk.is_full() {
         return None;
     }
-    match shard.settle(id, session, token, now) {
+    let Unsettled {
+        id,
+        session,
+        token,
+        permitted,
+        moment,
+    } = *article;
+    match shard.settle(id, session, token, moment) {
         Some(settled) => {
             desk.post(share, permitted, settled);
             Some(Posted::of(id, session, token, permitted))

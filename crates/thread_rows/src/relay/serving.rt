@@ -15,7 +15,7 @@ use crate::relay::waiting::{Waiting, waiting_stores};
 use block_shelf::BeginError;
 use live_store::{ArticleLog, StorePremises};
 use relay_conf::Config;
-use relay_live::{Counted, Keeper, PeerSource, Shared, serve_all};
+use relay_live::{Counted, Keeper, PeerSource, Serving, Shared, serve_all};
 use row_text::Sheet;
 use std::alloc::{AllocError, Global};
 use std::hash::RandomState;
@@ -75,16 +75,16 @@ fn peer_sources_of<'a, R: Sync>(
 }
 
 /// Serves the sessions of a row over what is shared, in threads.
-fn run<J: StorePremises + Send + Sync, L: Ledger + Send + Sync, R>(
-    rt: &R,
+fn run<'a, J: StorePremises + Send + Sync, L: Ledger + Send + Sync, R>(
+    rt: &'a R,
     alloc: Global,
-    config: &Config,
-    register: &ArticleLog,
-    shared: &Shared<Waiting<'_, R>, J, L>,
+    config: &'a Config,
+    register: &'a ArticleLog,
+    shared: &'a Shared<Waiting<'_, R>, J, L>,
     all: Share<L>,
     groups: usize,
-    board: &Board,
-    row: &Row,
+    board: &'a Board,
+    row: &'a Row,
 ) -> io::Result<Counted>
 where
     R: Threads + Wait + Clock + RandomSource + Sync + 'static,
@@ -101,17 +101,13 @@ where
         return Err(failed());
     }
     let hasher = RandomState::new(rt)?;
-    match serve_all(
-        rt,
-        alloc,
-        hasher,
-        &keeper,
+    let serving = Serving {
         config,
-        &turns,
-        groups,
+        gate: &turns,
+        hasher,
         peer_sources,
-        all,
-    ) {
+    };
+    match serve_all(rt, alloc, &keeper, serving, groups, all) {
         Ok((_seats, counted)) => Ok(counted),
         Err(_) => Err(failed()),
     }

@@ -13,30 +13,32 @@ use Rattle.live_session.specs.declared.wire.Finish.TheVariants as finishes
 pub returns-then-handed-ge-MOST_JOBS-clause-served
     : goal.returns-then-handed-ge-MOST_JOBS-clause-served
 returns-then-handed-ge-MOST_JOBS-clause-served g c trusted =
-    ∣ unbegun true g.J.StorePremises.register (terms_of c.args.context.now.config.now) c.args.number
-    (end_of c.args.seat) c.args.peer (hands_at c.args.seat c.args.kept.items)
-    (g.H.Hears.heard c.args.reader) (g.W.Says.said c.args.writer) ∣₁
+    ∣ unbegun true g.J.StorePremises.register
+    (terms_of c.args.context.now.config.now) c.args.connection.number
+    (end_of c.args.seat) c.args.connection.peer (hands_at c.args.seat c.args.kept.items)
+    (g.H.Hears.heard c.args.connection.reader) (g.W.Says.said c.args.connection.writer) ∣₁
 
 pub returns-then-handed-ge-MOST_JOBS-clause-formed
     : goal.returns-then-handed-ge-MOST_JOBS-clause-formed
 returns-then-handed-ge-MOST_JOBS-clause-formed g c =
     ∣ unbegun false g.J.StorePremises.register
-    (terms_of c.args.context.now.config.now) c.args.number
-    (end_of c.args.seat) c.args.peer (hands_at c.args.seat c.args.kept.items)
-    (g.H.Hears.heard c.args.reader) (g.W.Says.said c.args.writer) ∣₁
+    (terms_of c.args.context.now.config.now) c.args.connection.number
+    (end_of c.args.seat) c.args.connection.peer (hands_at c.args.seat c.args.kept.items)
+    (g.H.Hears.heard c.args.connection.reader) (g.W.Says.said c.args.connection.writer) ∣₁
 
 pub returns-in-Err-clause-served : goal.returns-in-Err-clause-served
 returns-in-Err-clause-served g c trusted =
-    ∣ unbegun true g.J.StorePremises.register (terms_of c.args.context.now.config.now) c.args.number
-    (end_of c.args.seat) c.args.peer (hands_at c.args.seat c.args.kept.items)
-    (g.H.Hears.heard c.args.reader) (g.W.Says.said c.args.writer) ∣₁
+    ∣ unbegun true g.J.StorePremises.register
+    (terms_of c.args.context.now.config.now) c.args.connection.number
+    (end_of c.args.seat) c.args.connection.peer (hands_at c.args.seat c.args.kept.items)
+    (g.H.Hears.heard c.args.connection.reader) (g.W.Says.said c.args.connection.writer) ∣₁
 
 pub returns-in-Err-clause-formed : goal.returns-in-Err-clause-formed
 returns-in-Err-clause-formed g c =
     ∣ unbegun false g.J.StorePremises.register
-    (terms_of c.args.context.now.config.now) c.args.number
-    (end_of c.args.seat) c.args.peer (hands_at c.args.seat c.args.kept.items)
-    (g.H.Hears.heard c.args.reader) (g.W.Says.said c.args.writer) ∣₁
+    (terms_of c.args.context.now.config.now) c.args.connection.number
+    (end_of c.args.seat) c.args.connection.peer (hands_at c.args.seat c.args.kept.items)
+    (g.H.Hears.heard c.args.connection.reader) (g.W.Says.said c.args.connection.writer) ∣₁
 
 pub leave-requires-clause-seat : goal.leave-requires-clause-seat
 leave-requires-clause-seat g c =
@@ -48,7 +50,7 @@ returns-clause-served g c trusted =
     let w = terms_of c.args.context.now.config.now in
     let opened = c.in-Ok.opened in
     let live : LiveSession g.row.J.Denot g.J.StorePremises = record {
-      number = c.args.number;
+      number = c.args.connection.number;
       session = opened.session;
       reads = c.new.result;
       seat = c.args.seat;
@@ -57,8 +59,8 @@ returns-clause-served g c trusted =
     let one = c.converse.new.wire in
     let two = c.leave.new.wire in
     let last = c.stop.new.wire in
-    let read = g.H.Hears.heard c.args.reader in
-    let written = g.W.Says.said c.args.writer in
+    let read = g.H.Hears.heard c.args.connection.reader in
+    let written = g.W.Says.said c.args.connection.writer in
     let begins = carried read written opened.greeting None in
     let conversed = carried (g.H.Hears.heard one.reader) (g.W.Says.said one.writer) one.outbox
     one.finish in
@@ -66,7 +68,7 @@ returns-clause-served g c trusted =
     two.finish in
     let over = carried (g.H.Hears.heard last.reader) (g.W.Says.said last.writer) last.outbox
     last.finish in
-    whole w true (λ honest. trusted) live c.leave.new.live c.args.peer read written
+    whole w true (λ honest. trusted) live c.leave.new.live c.args.connection.peer read written
     opened.greeting.items left over c.unwrap_or.result c.in-Ok.ensures
     (then_on w live c.converse.new.live c.leave.new.live begins conversed left
     c.converse.ensures.served
@@ -83,7 +85,7 @@ returns-clause-formed g c =
     let w = terms_of c.args.context.now.config.now in
     let opened = c.in-Ok.opened in
     let live : LiveSession g.row.J.Denot g.J.StorePremises = record {
-      number = c.args.number;
+      number = c.args.connection.number;
       session = opened.session;
       reads = c.new.result;
       seat = c.args.seat;
@@ -92,8 +94,8 @@ returns-clause-formed g c =
     let one = c.converse.new.wire in
     let two = c.leave.new.wire in
     let last = c.stop.new.wire in
-    let read = g.H.Hears.heard c.args.reader in
-    let written = g.W.Says.said c.args.writer in
+    let read = g.H.Hears.heard c.args.connection.reader in
+    let written = g.W.Says.said c.args.connection.writer in
     let begins = carried read written opened.greeting None in
     let conversed = carried (g.H.Hears.heard one.reader) (g.W.Says.said one.writer) one.outbox
     one.finish in
@@ -101,7 +103,7 @@ returns-clause-formed g c =
     two.finish in
     let over = carried (g.H.Hears.heard last.reader) (g.W.Says.said last.writer) last.outbox
     last.finish in
-    whole w false (λ honest. cc) live c.leave.new.live c.args.peer read written
+    whole w false (λ honest. cc) live c.leave.new.live c.args.connection.peer read written
     opened.greeting.items left over c.unwrap_or.result c.in-Ok.ensures
     (then_on w live c.converse.new.live c.leave.new.live begins conversed left
     c.converse.ensures.served

@@ -53,7 +53,7 @@ close-totals-requires-clause-rests g c =
 pub returns-clause-lefts : goal.returns-clause-lefts
 returns-clause-lefts g c =
     let peer_sources = sym (length-map c.in_ok-ends.ends.items kept_of)
-    ∙ ap length c.in_ok-ends.ensures.new ∙ length-map c.args.peer_sources.items _ in
+    ∙ ap length c.in_ok-ends.ensures.new ∙ length-map c.args.serving.peer_sources.items _ in
     sym (length-map c.close-totals.new.seats.lefts.items left_by)
     ∙ ap length c.close-totals.ensures.handed
     ∙ length-map c.in-Ok.seats.lefts.items left_by
@@ -84,7 +84,7 @@ returns-clause-jobs g c =
 pub returns-clause-none : goal.returns-clause-none
 returns-clause-none g c =
     let peer_sources = sym (length-map c.in_ok-ends.ends.items kept_of)
-    ∙ ap length c.in_ok-ends.ensures.new ∙ length-map c.args.peer_sources.items _ in
+    ∙ ap length c.in_ok-ends.ensures.new ∙ length-map c.args.serving.peer_sources.items _ in
     let long = c.in-Ok.ensures.lefts.0 ∙ c.in_ok-channels.ensures.channels.2 ∙ peer_sources in
     subst (λ (n : ℕ).
     NoneElse n (map (λ w. w.finished.items) c.close-totals.new.seats.writers.items)) long

@@ -12,7 +12,7 @@ pub returns-in-Some-clause-gained : goal.returns-in-Some-clause-gained
 returns-in-Some-clause-gained g c sizes feeds keeps =
     subst
     (λ (token : Token). KeepsFeeds (desk_of c.post.new.self) sizes
-    (gaining feeds c.args.permitted.now.items (token_view token)))
+    (gaining feeds c.args.article.now.permitted.now.items (token_view token)))
     (c.in-Some.ensures.token)
     (subst
     (λ (permitted : List ℕ). KeepsFeeds (desk_of c.post.new.self) sizes
