@@ -121,7 +121,7 @@ def measure_paces(side, number):
 
 def spread(values, form="{:,.0f}"):
     """The median, with the least and the most."""
-    return " ".join([form.format(statistics.median(values)), f"({form.format(min(values))} to {form.format(max(values))})"])
+    return " ".join([form.format(statistics.median(values)), f"({form.format(min(values))}..{form.format(max(values))})"])
 
 
 def times(left, right):
