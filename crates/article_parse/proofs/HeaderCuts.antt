@@ -3,8 +3,8 @@ use Rattle.std.proofs.Common.{◌≡◌, ◌≢◌, ℕ, ◌+◌, ◌<◌, Bool,
 use Rattle.std.proofs.Common.{take, drop, refl, sym, ap, ◌∙◌, arith, ⊎_elim, append-nil}
 use Rattle.std.proofs.Common.{take-append-drop, length-take}
 use Rattle.std.specs.Prelude.{not, ◌&&◌, ◌||◌, ◌==◌, IsTrue, filter}
-use Rattle.std.specs.List.{list_all, slice_split, onto_first, take_while}
-use Rattle.std.proofs.lemmas.Bool.{cases_Bool, cond-true, cond-false, ne_eqb, eqb-true, and_parts}
+use Rattle.std.specs.List.{list_all, onto_first, take_while}
+use Rattle.std.proofs.lemmas.Bool.{cases_Bool, ne_eqb, eqb-true, and_parts}
 use Rattle.std.proofs.lemmas.Bool.{eqb-false}
 use Rattle.std.proofs.lemmas.List.Sums.{take_while-cons}
 use Rattle.news_terms.specs.Article.{is_of_line_end, is_paired, is_empty, occurs}
@@ -15,6 +15,7 @@ use Rattle.std.proofs.lemmas.List.{drop-drop}
 use Rattle.news_terms.proofs.HeaderLines.{no_line_feed}
 use Rattle.article_parse.specs.Header.{is_plain, may_follow, goes_on, IsLineCut}
 use Rattle.article_parse.proofs.Pairs.{no_part}
+use Rattle.line_words.proofs.Cuts.{some_part}
 
 -- a plain text has a plain octet in front, and plain ones behind it
 pub plain_parts : (c : ℕ) (s : List ℕ) → is_plain (c ∷ s) ≡ true
@@ -109,17 +110,6 @@ pub begins_of : (s : List ℕ) (k : ℕ) → IsLineCut s k → 0 < k
     ≡ (begins_field (take k s) && goes_on (drop (k + 2) s))
 begins_of s k h some = ap are_header_lines (header_of s k h some)
 
--- a text has a first line
-first_line : (p : ℕ → Bool) (s : List ℕ)
-    → (first : List ℕ) × (more : List (List ℕ)) × (slice_split p s ≡ first ∷ more)
-first_line p [] = ([], [], refl)
-first_line p (c ∷ s) =
-    let later = first_line p s in
-    ⊎_elim
-    (λ t. ([], slice_split p s, cond-true _ _ _ t))
-    (λ f. (c ∷ later.0, later.1, cond-false _ _ _ f ∙ ap (onto_first c) later.2))
-    (cases_Bool (p c))
-
 -- where a text doesn't continue a field, its lines go on as a header exactly where they are one
 pub goes_as_header : (s : List ℕ) → IsTrue (is_paired s) → continues_field s ≡ false
     → goes_on s ≡ are_header_lines (header_lines s)
@@ -141,7 +131,7 @@ goes_as_header (c ∷ s) paired ended = ⊎_elim
     within : (c : ℕ) (s : List ℕ) → c ≢ 13 → c ≢ 10 → is_white c ≡ false
         → goes_on (c ∷ s) ≡ are_header_lines (header_lines (c ∷ s))
     within c s no_cr no_lf black =
-        let first = first_line (λ d. d == 13) (filter (λ d. not (d == 10)) s) in
+        let first = some_part (λ d. d == 13) (filter (λ d. not (d == 10)) s) in
         let lines : text_lines (c ∷ s) ≡ (c ∷ first.0) ∷ first.1 =
         rw (ne_eqb c 10 no_lf, ne_eqb c 13 no_cr, first.2) refl in
         let more = take_while (λ x. not (is_empty x)) first.1 in

@@ -5,7 +5,7 @@ use Rattle.std.specs.List.{list_all, list_any}
 use Rattle.news_terms.specs.MessageId.{id_fault}
 use Rattle.news_terms.specs.Article.{Field, Fault, contents_of, name_of, is_empty, trimmed}
 use Rattle.news_terms.specs.Article.{message_id}
-use Rattle.news_terms.specs.Article.{is_newsgroup_name, newsgroups, mandatory_fields, IsFirstFault}
+use Rattle.news_terms.specs.Article.{is_newsgroup_name, newsgroups, IsFirstFault}
 use Rattle.news_terms.specs.Article as terms
 use Rattle.article_parse.specs.declared.faults.FieldName.{FieldName}
 use Rattle.article_parse.specs.declared.faults.FieldName.TheVariants as names

@@ -8,7 +8,7 @@ use Rattle.std.specs.Str.{str_eq_ignore_ascii_case}
 use Rattle.news_terms.specs.Article.{is_empty, trimmed}
 use Rattle.news_terms.specs.Article.{is_of_line_end, is_paired, is_folded, has_empty_line}
 use Rattle.news_terms.specs.Article.{begins_field, continues_field, are_header_lines, header_lines}
-use Rattle.news_terms.specs.Article.{is_field_name, is_set_off, IsField, field_text}
+use Rattle.news_terms.specs.Article.{IsField, field_text}
 use Rattle.news_terms.specs.Article as terms
 use Rattle.news_terms.specs.Lines.{crlf}
 use Rattle.article_parse.specs.declared.header.Field.{Field}

@@ -11,7 +11,7 @@ use Rattle.std.proofs.lemmas.Option.{slice_get-get_or}
 use Rattle.std.specs.List.{list_any}
 use Rattle.std.specs.Prelude.{◌||◌}
 use Rattle.feed_queue.specs.Permission.{HasFeeds, feed_view}
-use Rattle.relay_conf.proofs.ListPlaces.{mapped_at}
+use Rattle.news_terms.proofs.ListPlaces.{mapped_at}
 use Rattle.relay_conf.specs.declared.relay.Feed.{Feed}
 use Rattle.relay_conf.specs.declared.settings.Config.{Config}
 use Rattle.article_verdict.specs.Config.{terms_of}

@@ -9,7 +9,7 @@ use Rattle.std.specs.Option.{option_map}
 use Rattle.std.specs.Prelude.{filter_map, ◌&&◌}
 use Rattle.news_terms.specs.Places.{Buffer}
 use Rattle.relay_conf.proofs.FirstFaults.{drop_one}
-use Rattle.relay_conf.proofs.ListPlaces.{numbered_at}
+use Rattle.news_terms.proofs.ListPlaces.{numbered_at}
 use Rattle.relay_conf.specs.Places.{group_over, group_view, numbered_buffer, numbered_buffers}
 use Rattle.relay_conf.specs.Settings.{places_of_groups}
 use Rattle.relay_conf.specs.declared.cycbuff.BufferConf.{BufferConf}

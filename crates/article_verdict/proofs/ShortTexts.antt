@@ -5,7 +5,7 @@ use Rattle.std.proofs.lemmas.Bool.{leb-true}
 use Rattle.std.proofs.lemmas.List.Sums.{AllPass-from_list_all}
 use Rattle.news_terms.specs.Places.{Buffer, Group, size_of}
 use Rattle.news_terms.specs.Settings.{IsSoundBuffer}
-use Rattle.relay_conf.proofs.ListPlaces.{holds_at, there_within}
+use Rattle.news_terms.proofs.ListPlaces.{holds_at, there_within}
 use Rattle.relay_conf.specs.Settings.{places_of_buffers, places_of_groups}
 use Rattle.relay_conf.specs.declared.settings.Buffers.{Buffers}
 use Rattle.relay_model.specs.Judging.{fits}

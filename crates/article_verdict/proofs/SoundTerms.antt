@@ -4,7 +4,7 @@ use Rattle.std.proofs.lemmas.List.Elements.{All-map}
 use Rattle.news_terms.specs.Path.{is_agent}
 use Rattle.news_terms.specs.StorageClass.{Entry}
 use Rattle.feed_queue.specs.Permission.{feed_view, identity_view}
-use Rattle.relay_conf.proofs.ListPlaces.{mapped_at}
+use Rattle.news_terms.proofs.ListPlaces.{mapped_at}
 use Rattle.relay_conf.specs.Storage.{entry_view}
 use Rattle.relay_conf.specs.declared.settings.Config.{Config}
 use Rattle.relay_facts.specs.Sound.{IsSound}

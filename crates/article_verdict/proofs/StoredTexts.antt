@@ -7,7 +7,7 @@ use Rattle.news_terms.specs.ArticleTexts.{IsArticle}
 use Rattle.news_terms.specs.Path.{is_agent, is_identity, updated_article}
 use Rattle.news_terms.proofs.PathUpdates.{all_agent}
 use Rattle.news_terms.proofs.UpdatedArticles.{updated_from_octets}
-use Rattle.relay_conf.proofs.ListPlaces.{holds_at}
+use Rattle.news_terms.proofs.ListPlaces.{holds_at}
 use Rattle.relay_conf.specs.declared.settings.Config.{Config}
 use Rattle.relay_model.specs.Judging.{identity_of, stored_text}
 use Rattle.article_verdict.specs.Config.{terms_of}

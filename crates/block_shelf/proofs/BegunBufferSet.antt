@@ -34,7 +34,6 @@ use Rattle.news_terms.specs.Places as places
 use Rattle.news_terms.specs.Places.{Group, Place, place_in_buffer, size_of, last_cycle}
 use Rattle.news_terms.specs.Token.{Token}
 use Rattle.relay_facts.proofs.Puts.{put_at_here, put_at_there, put_at_both}
-use Rattle.relay_facts.proofs.BufferCount.{holds_there}
 use Rattle.relay_model.specs.State.{Kept, put_at}
 use Rattle.relay_model.specs.Terms.{Terms}
 use Rattle.block_shelf.proofs.Begins.{HasOwnPlaces, begun_more, picked_begins, other_begins}
@@ -48,6 +47,7 @@ use Rattle.block_shelf.specs.Keeping.{KeepsTexts, KeepsBuffer, IsOpenIn, HasPlac
 use Rattle.block_shelf.specs.Keeping.{KeepsPlacedGroup}
 use Rattle.block_shelf.specs.Openings.{Opening, IsOpen, token_in}
 use Rattle.news_terms.specs.Settings.{IsBufferAt}
+use Rattle.news_terms.proofs.ListPlaces.{holds_at}
 use Rattle.block_shelf.specs.declared.buffer_set.PlacedGroup.{PlacedGroup}
 use Rattle.block_shelf.specs.declared.buffer_set.BufferSet.{BufferSet}
 
@@ -84,7 +84,7 @@ module _ {S : Type 0} {g : Ghosts S} (trusted : Bool) (old : BufferSet S g) (w :
   target =
       some_there group.buffers pick.index
       (pick_within group (begun h) size
-      (holds_there (λ (one : Group). 1 ≤ length one.buffers) w.groups keeps.sound.filled h group
+      (holds_at (λ (one : Group). 1 ≤ length one.buffers) w.groups keeps.sound.filled h group
       can.there))
 
   pub target_at : IsBufferAt w.groups h pick.index target.0

@@ -4,7 +4,7 @@ use Rattle.std.proofs.Common.{List, [], ◌∷◌, ◌++◌, length, map, Some, 
 use Rattle.std.proofs.Common.{append_assoc, append-nil}
 use Rattle.std.proofs.lemmas.List.{length-append, length-map, map-append}
 use Rattle.std.proofs.lemmas.Option.{none-some, same_Some, slice_get-map, slice_get_within}
-use Rattle.relay_conf.proofs.ListPlaces.{at_pushed}
+use Rattle.news_terms.proofs.ListPlaces.{at_pushed}
 use Rattle.block_shelf.proofs.NewBufferSet.{pushed_before, pushed_last}
 use Rattle.block_shelf.proofs.BufferSetReads.{some_there}
 use Rattle.block_shelf.specs.Each.{AreEach, HasAt}

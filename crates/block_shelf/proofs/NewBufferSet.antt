@@ -19,7 +19,7 @@ use Rattle.cyc_buffer.specs.declared.buffer.Buffer.{Buffer}
 use Rattle.news_terms.specs.Fronts.{FitsGroup}
 use Rattle.news_terms.specs.Places as places
 use Rattle.news_terms.specs.Settings.{AreSound}
-use Rattle.relay_conf.proofs.ListPlaces.{at_pushed, holds_at, numbered_at, there_within}
+use Rattle.news_terms.proofs.ListPlaces.{at_pushed, holds_at, numbered_at, there_within}
 use Rattle.relay_conf.specs.Places.{group_view, group_over, groups_over, numbered_buffer}
 use Rattle.relay_conf.specs.Places.{numbered_buffers}
 use Rattle.relay_conf.specs.Settings.{places_of_buffers, places_of_groups}

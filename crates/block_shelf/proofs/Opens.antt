@@ -13,7 +13,7 @@ use Rattle.cyc_buffer.specs.Head.{inside}
 use Rattle.cyc_buffer.specs.History.{History, cycle_of, front_of, stored_count}
 use Rattle.cyc_buffer.specs.declared.buffer.Buffer.{Buffer}
 use Rattle.cyc_buffer.specs.declared.unopened.Unopened.{Unopened}
-use Rattle.relay_conf.proofs.ListPlaces.{mapped_at}
+use Rattle.news_terms.proofs.ListPlaces.{mapped_at}
 use Rattle.relay_model.specs.Figures.{buffer_figures}
 use Rattle.relay_model.specs.State.{State}
 use Rattle.relay_model.specs.Terms.{Terms}

@@ -8,7 +8,7 @@ use Rattle.std.proofs.lemmas.Map.Steps.{length-le_from_distinct_below}
 use Rattle.news_terms.specs.Places as places
 use Rattle.news_terms.specs.Places.{Group}
 use Rattle.news_terms.specs.Settings.{AreSound, IsSoundBuffer}
-use Rattle.relay_conf.proofs.ListPlaces.{holds_at, mapped_at}
+use Rattle.news_terms.proofs.ListPlaces.{holds_at, mapped_at}
 use Rattle.cyc_block.specs.declared.store.BlockStore.{Ghosts}
 use Rattle.block_shelf.specs.Each.{AreEach}
 use Rattle.block_shelf.specs.Stopping.{TellsPosition, TellsPositions}

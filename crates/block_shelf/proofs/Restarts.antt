@@ -16,7 +16,7 @@ use Rattle.cyc_buffer.specs.declared.buffer.Buffer.{Buffer}
 use Rattle.cyc_buffer.specs.declared.restarting.RestartError.{RestartError}
 use Rattle.cyc_buffer.specs.declared.restarting.RestartError.TheVariants as errors
 use Rattle.news_terms.specs.Settings.{IsSoundBuffer}
-use Rattle.relay_conf.proofs.ListPlaces.{holds_at}
+use Rattle.news_terms.proofs.ListPlaces.{holds_at}
 use Rattle.relay_facts.proofs.Puts.{put_at_here, put_at_there, put_at_both}
 use Rattle.relay_model.specs.State.{Kept, put_at}
 use Rattle.relay_model.specs.Terms.{Terms}

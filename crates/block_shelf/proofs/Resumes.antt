@@ -17,7 +17,7 @@ use Rattle.news_terms.specs.Picks as picks
 use Rattle.news_terms.specs.Places as places
 use Rattle.news_terms.specs.Places.{Group, Mode, Interleave, Sequential, head_after}
 use Rattle.news_terms.specs.Positions.{Position, position_by, position_of}
-use Rattle.relay_conf.proofs.ListPlaces.{holds_at, mapped_at}
+use Rattle.news_terms.proofs.ListPlaces.{holds_at, mapped_at}
 use Rattle.relay_conf.specs.Places.{group_over, group_view, mode_view, numbered_buffers}
 use Rattle.relay_conf.specs.declared.cycbuff.Mode as confs
 use Rattle.relay_conf.specs.declared.cycbuff.Mode.TheVariants as modes

@@ -18,7 +18,7 @@ use Rattle.cyc_buffer.specs.declared.answers.StartError.{StartError}
 use Rattle.cyc_buffer.specs.declared.answers.StartError.TheVariants as errors
 use Rattle.cyc_buffer.specs.declared.unopened.Unopened.{Unopened}
 use Rattle.news_terms.specs.Places as places
-use Rattle.relay_conf.proofs.ListPlaces.{at_pushed}
+use Rattle.news_terms.proofs.ListPlaces.{at_pushed}
 use Rattle.relay_conf.specs.Places.{numbered_buffer}
 use Rattle.relay_conf.specs.Settings.{places_of_buffers}
 use Rattle.relay_conf.specs.declared.cycbuff.BufferConf.{BufferConf}

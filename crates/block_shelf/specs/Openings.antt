@@ -1,5 +1,5 @@
 -- The open writes of groups, in the relay's words: under which token, of which text, how far
--- (docs/PROTOCOL.md, Writers).
+-- (docs/PROTOCOL.md, Groups and writers).
 use Rattle.std.specs.Prelude.{ℕ, List}
 use Rattle.news_terms.specs.Token.{Token}
 

@@ -1,9 +1,9 @@
 -- A buffer set that is started from what was left on its stores (docs/PROTOCOL.md, Clean stop and
 -- start).
-use Rattle.std.specs.Prelude.{◌≡◌, ◌≢◌, ℕ, ◌+◌, ◌<◌, ◌≤◌, true, false, List, [], ◌∷◌, ◌++◌, map}
+use Rattle.std.specs.Prelude.{◌≡◌, ◌≢◌, ℕ, ◌+◌, ◌<◌, true, false, List, [], ◌∷◌, ◌++◌, map}
 use Rattle.std.specs.Prelude.{◌==◌}
 use Rattle.std.specs.Prelude.{if◌then◌else◌}
-use Rattle.std.specs.Prelude.{length, min, All, Option, None, Some, slice_get, IfSome}
+use Rattle.std.specs.Prelude.{length, min, All, Option, None, Some, slice_get}
 use Rattle.std.specs.Prelude.{vec_len, vec_capacity}
 use Rattle.cyc_block.specs.declared.store.BlockStore.{Ghosts}
 use Rattle.cyc_buffer.specs.Agreement.{Agrees, store_of}

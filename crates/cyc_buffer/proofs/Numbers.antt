@@ -83,7 +83,7 @@ undecided buffer front token k e =
     ]
 
 -- a cycle is at least as long as the buffer has blocks
-further : (m n blocks : ℕ) → m < n → m * blocks + blocks ≤ n * blocks
+pub further : (m n blocks : ℕ) → m < n → m * blocks + blocks ≤ n * blocks
 further m n blocks h = omega (arith, mul-le-mul_right {m = suc m} {n = n} blocks h)
 
 twice : (m n blocks : ℕ) → m + 1 < n → m * blocks + blocks + blocks ≤ n * blocks

@@ -1,5 +1,6 @@
 -- Two registers that agree with a history have the same marks of first blocks.
-use Rattle.std.proofs.Common.{◌≡◌, ◌∙◌, ℕ, ◌<◌, Bool, true, false, refl, sym, ap, arith}
+use Rattle.std.proofs.Common.{◌≡◌, ◌∙◌, ℕ, ◌<◌, true, sym, ap, arith}
+use Rattle.std.specs.Cmp.{both_ways}
 use Rattle.news_terms.specs.Places.{Buffer}
 use Rattle.cyc_buffer.specs.History.{History}
 use Rattle.cyc_buffer.specs.Marks.{is_marked}
@@ -7,12 +8,6 @@ use Rattle.cyc_buffer.specs.BufferState.{Keeps}
 use Rattle.cyc_buffer.specs.Restart.{HaveOther}
 use Rattle.cyc_buffer.specs.declared.buffer_state.BufferState.{BufferState}
 use Rattle.cyc_buffer.proofs.Places.{moved}
-
--- tests that say the same are the same
-same_tests : (b c : Bool) → (b ≡ true → c ≡ true) → (c ≡ true → b ≡ true) → b ≡ c
-same_tests true c f g = sym (f refl)
-same_tests false true f g = g refl
-same_tests false false f g = refl
 
 -- where one register marks a first block, so does the other
 marked_too : (one other : BufferState) (h : History) → Keeps one h → Keeps other h → (at : ℕ)
@@ -37,7 +32,7 @@ no_other one other h first next o =
       ap (λ (b : Buffer). b.blocks) first.buffer,
       ap (λ (b : Buffer). b.blocks) next.buffer,
     ) in
-    o.differ (same_tests (is_marked one.starts.words.items o.at)
+    o.differ (both_ways (is_marked one.starts.words.items o.at)
     (is_marked other.starts.words.items o.at)
     (marked_too one other h first next o.at o.within there)
     (marked_too other one h next first o.at there o.within))

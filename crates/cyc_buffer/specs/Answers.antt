@@ -1,4 +1,4 @@
--- What a buffer answers (docs/PROTOCOL.md, Writing and Reading).
+-- What a buffer answers (docs/PROTOCOL.md, Writing, Reading).
 use Rattle.std.specs.Prelude.{◌≡◌, ◌⊎◌, ℕ, ◌+◌, ◌≤◌, ◌<◌, nat_lt, nat_le, ◌==◌, ◌||◌, not, Bool}
 use Rattle.std.specs.Prelude.{true}
 use Rattle.std.specs.Prelude.{List, take, length, Option, None, Some, is_some, Result, Ok, Err}

@@ -15,7 +15,7 @@ use Rattle.std.proofs.lemmas.Option.{none-some}
 use Rattle.std.proofs.lemmas.List.Sums.{AllPass-from_list_all, list_all-from_AllPass}
 use Rattle.std.proofs.lemmas.List.Folds.{Any-from_list_any, list_any-from_Any}
 use Rattle.hex.specs.Hex.{IsBytes, is_hex_digit}
-use Rattle.news_terms.specs.Token.{IsToken, token_text, token_octets, octet_digits}
+use Rattle.news_terms.specs.Token.{IsToken, token_text, token_octets}
 use Rattle.news_terms.specs.Token as terms
 use Rattle.cyc_token.specs.Faults.{token_fault, digits_of, HasMarks, HasOtherLength, LacksMarks}
 use Rattle.cyc_token.specs.Faults.{HasOtherDigit, HasLowerCase}

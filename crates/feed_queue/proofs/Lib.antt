@@ -1,7 +1,8 @@
 mod DeskLemmas
 mod KeepLemmas
-mod LeftLaws
+pub mod LeftLaws
 mod LeftLemmas
 mod PermissionLemmas
 mod RingLemmas
 mod SomeFeeds
+pub mod TakenItems

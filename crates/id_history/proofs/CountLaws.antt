@@ -25,7 +25,7 @@ apart_filter keep x (y ∷ ys) all = by (keep y) (apart_filter keep x ys all.1)
     by false others = others
 
 -- a filter makes no doubles
-IsDistinct-filter : (keep : List ℕ → Bool) (xs : List (List ℕ)) → IsDistinct bytes_eq xs
+pub IsDistinct-filter : (keep : List ℕ → Bool) (xs : List (List ℕ)) → IsDistinct bytes_eq xs
     → IsDistinct bytes_eq (filter keep xs)
 unfolding IsDistinct
 IsDistinct-filter keep [] once = once
@@ -37,7 +37,7 @@ IsDistinct-filter keep (x ∷ xs) once = by (keep x) (IsDistinct-filter keep xs 
     by false others = others
 
 -- it keeps the ids that pass
-member_filter : (keep : List ℕ → Bool) (id : List ℕ) (xs : List (List ℕ))
+pub member_filter : (keep : List ℕ → Bool) (id : List ℕ) (xs : List (List ℕ))
     → is_member bytes_eq (filter keep xs) id ≡ (keep id && is_member bytes_eq xs id)
 member_filter keep id xs =
     any-filter_same (bytes_eq id) keep (keep id)

@@ -5,6 +5,7 @@ use Rattle.std.proofs.Common.{length}
 use Rattle.std.proofs.Math.ListN.{get_or}
 use Rattle.std.proofs.Math.Dec.{ltb}
 use Rattle.std.proofs.lemmas.Bool.{cases_Bool, ltb-true, ltb-false, lt-ltb, le-ltb, true≢false}
+use Rattle.std.proofs.lemmas.Bool.{or_right}
 use Rattle.std.proofs.lemmas.Bool.Decides.{eqb_tells}
 use Rattle.std.proofs.lemmas.List.Folds.{list_any-append}
 use Rattle.std.proofs.lemmas.List.Sums.{sum_by-append, sum_by-cons}
@@ -52,11 +53,6 @@ pub both_fail : (a b : Bool) → (a || b) ≡ false → (a ≡ false) × (b ≡ 
 both_fail true b fails = absurd (true≢false fails)
 both_fail false b fails = (refl, fails)
 
--- and one that holds on its right side holds
-pub right_holds : (a b : Bool) → b ≡ true → (a || b) ≡ true
-right_holds true b holds = refl
-right_holds false b holds = holds
-
 or_nothing : (a : Bool) → (a || false) ≡ a
 or_nothing true = refl
 or_nothing false = refl
@@ -87,7 +83,7 @@ unfolding IsDistinct
 IsDistinct-join [] ys one two share = two
 IsDistinct-join (x ∷ xs) ys one two share = (
   apart_append x xs ys one.0 (share x (first_member x xs)),
-  IsDistinct-join xs ys one.1 two (λ id among. share id (right_holds (bytes_eq id x) _ among)),
+  IsDistinct-join xs ys one.1 two (λ id among. share id (or_right (bytes_eq id x) _ among)),
 )
 
 -- claims that agree on each id of a list count alike on it
@@ -98,7 +94,7 @@ count_same test a c [] same = refl
 count_same test a c (x ∷ xs) same =
     let first = sym (same x (first_member x xs)) in
     let others = count_same test a c xs
-    (λ id among. same id (right_holds (bytes_eq id x) _ among)) in
+    (λ id among. same id (or_right (bytes_eq id x) _ among)) in
     sum_by-cons (λ id. cond (test (a id)) 1 0) x xs
     ∙ (λ i. cond (test (first i)) 1 0 + others i)
     ∙ sym (sum_by-cons (λ id. cond (test (c id)) 1 0) x xs)

@@ -3,7 +3,7 @@ use Rattle.std.proofs.Common.{◌≡◌, ◌≢◌, ◌∙◌, ◌≤◌, ◌⊎
 use Rattle.std.proofs.Common.{◌||◌}
 use Rattle.std.proofs.Common.{List, ℕ, [], ◌∷◌, ◌++◌, inl, inr, length, arith, Option, None}
 use Rattle.std.proofs.Common.{Some, cond}
-use Rattle.std.proofs.lemmas.Bool.{cases_Bool, le-ltb, lt-ltb, false≢true}
+use Rattle.std.proofs.lemmas.Bool.{cases_Bool, le-ltb, lt-ltb, false≢true, or_right}
 use Rattle.std.proofs.lemmas.List.{map-append}
 use Rattle.std.proofs.lemmas.List.Folds.{list_any-append}
 use Rattle.std.proofs.lemmas.Slice.Eq.{bytes_eq-Decides}
@@ -17,7 +17,7 @@ use Rattle.relay_model.specs.Run.{shard_of}
 use Rattle.id_history.specs.declared.shards.Shards.{Shards}
 use Rattle.id_history.specs.Lasting.{lasting, claim_since, claim_of_kept, ids_of, HasLasting}
 use Rattle.id_history.specs.Lasting.{GathersLasting}
-use Rattle.id_history.proofs.JoinLemmas.{Joins, IsDistinct-join, right_holds, below}
+use Rattle.id_history.proofs.JoinLemmas.{Joins, IsDistinct-join, below}
 use Rattle.id_history.proofs.ShardsLemmas.{in_range}
 
 -- what is remembered isn't unknown
@@ -108,7 +108,7 @@ HasLasting-join a b c xs ys joins p q =
       whole = λ id left. ap (λ ids. is_member bytes_eq ids id) split
           ∙ list_any-append (bytes_eq id) (ids_of xs) (ids_of ys)
           ∙ elim (joins.either id) [
-            | inl w ↦ right_holds (is_member bytes_eq (ids_of xs) id) _
+            | inl w ↦ or_right (is_member bytes_eq (ids_of xs) id) _
                 (q.whole id (λ e. left (ap lasting w.1 ∙ e)))
             | inr w ↦ left_holds _ (is_member bytes_eq (ids_of ys) id)
                 (p.whole id (λ e. left (ap lasting w.1 ∙ e)))

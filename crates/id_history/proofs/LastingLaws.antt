@@ -12,6 +12,7 @@ use Rattle.std.specs.List.Sorted.{IsStrictlySortedBy}
 use Rattle.std.specs.Ordering.{nat_cmp, is_eq, ordering_reverse}
 use Rattle.std.specs.Set.{is_member}
 use Rattle.std.specs.Str.{bytes_eq}
+use Rattle.std.specs.Cmp.{both_ways}
 use Rattle.id_history.specs.History.{KeptId, Rises}
 use Rattle.news_terms.specs.Token.{Token}
 use Rattle.relay_model.specs.Claims.{Claim, Unknown, is_storing, after_restart}
@@ -119,12 +120,6 @@ same_lists claims (x ∷ xs) [] up ups says all members =
 same_lists claims (x ∷ xs) (y ∷ ys) up ups says all members =
     by_order claims x y xs ys up ups says all members (slice_cmp nat_cmp x.id y.id) refl
     (λ members. same_lists claims xs ys up.1 ups.1 says.1 all.1 members)
-
--- tests that imply each other are one
-both_ways : (b c : Bool) → (b ≡ true → c ≡ true) → (c ≡ true → b ≡ true) → b ≡ c
-both_ways true c there back = sym (there refl)
-both_ways false true there back = back refl
-both_ways false false there back = refl
 
 -- what is left of claims is one list
 pub one_left : (claims : List ℕ → Claim) (xs ys : List KeptId) → AreLasting xs claims

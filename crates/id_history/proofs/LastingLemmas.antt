@@ -3,7 +3,7 @@ use Rattle.std.proofs.Common.{◌≡◌, ◌≢◌, ◌∙◌, ap, sym, refl, Bo
 use Rattle.std.proofs.Common.{[], ◌∷◌, ◌++◌, Option, Some, String, Global, inl, inr, map}
 use Rattle.std.proofs.Common.{cond}
 use Rattle.std.proofs.Common.{append_assoc}
-use Rattle.std.proofs.lemmas.Bool.{cases_Bool, false≢true}
+use Rattle.std.proofs.lemmas.Bool.{cases_Bool, false≢true, or_right}
 use Rattle.std.proofs.lemmas.List.{append-nil, map-id}
 use Rattle.std.proofs.lemmas.List.Concat.{flat_map-append}
 use Rattle.std.proofs.lemmas.Slice.Eq.{bytes_eq-Decides}
@@ -30,7 +30,6 @@ use Rattle.id_history.specs.Shards.{KeepsAll}
 use Rattle.id_history.specs.declared.shards.Shards.{Shards}
 use Rattle.id_history.specs.LastingIn.{kept_by, kept_of}
 use Rattle.id_history.proofs.CountLemmas.{each_found}
-use Rattle.id_history.proofs.JoinLemmas.{right_holds}
 
 abbrev Pairs : Type 0
 Pairs = List (String Global × Entry)
@@ -143,8 +142,8 @@ member id ((q, one) ∷ pairs) left =
         ≡ true
     there (entry.Offered session) among = among
     there (entry.Storing session) among = among
-    there (entry.Stored token moment) among = right_holds (bytes_eq id (string_bytes q)) _ among
-    there (entry.Refused moment) among = right_holds (bytes_eq id (string_bytes q)) _ among
+    there (entry.Stored token moment) among = or_right (bytes_eq id (string_bytes q)) _ among
+    there (entry.Refused moment) among = or_right (bytes_eq id (string_bytes q)) _ among
 
 -- what is left of all entries is what is left of the claims
 pub HasLasting-from_entries : (shard : Shard) (claims : List ℕ → Claim)

@@ -69,7 +69,7 @@ Rises-from_neighbours (x ∷ rest) sorted once =
     (apart_from_distinct bytes_eq ids k (k + 1) [] once (omega arith) below))
 
 -- the ids of two lists with the same elements
-ids-permutation : (xs ys : List kept.KeptId) → IsPermutation xs ys
+pub ids-permutation : (xs ys : List kept.KeptId) → IsPermutation xs ys
     → IsPermutation (ids_of (map id_view xs)) (ids_of (map id_view ys))
 ids-permutation xs ys same =
     IsPermutation-map (λ (one : KeptId). one.id) (map id_view xs) (map id_view ys)

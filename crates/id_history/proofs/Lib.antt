@@ -1,6 +1,6 @@
 mod Appends
 mod ClaimLemmas
-mod CountLaws
+pub mod CountLaws
 mod CountLemmas
 mod EachLemmas
 mod ExpiryLemmas
@@ -9,9 +9,9 @@ mod FitLemmas
 mod Histories
 pub mod JoinLemmas
 pub mod LastingJoins
-mod LastingLaws
+pub mod LastingLaws
 mod LastingLemmas
-mod LastingOrder
+pub mod LastingOrder
 mod Lists
 mod Loop
 mod MarkLemmas

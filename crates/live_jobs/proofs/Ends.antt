@@ -1,7 +1,6 @@
 -- The seats that came back, as the comparison reads them.
-use Rattle.std.proofs.Common.{◌≡◌, ◌+◌, ℕ, zero, suc, Bool, List, [], ◌∷◌, length, map, Some, refl}
+use Rattle.std.proofs.Common.{◌≡◌, ◌+◌, ℕ, Bool, List, length, map}
 use Rattle.std.proofs.Common.{sym, ◌∙◌, subst, arith}
-use Rattle.std.specs.Prelude.{slice_get}
 use Rattle.job_queue.specs.Passes.{QueuePass}
 use Rattle.live_jobs.specs.Gathered.{OfChannel, AllClosed, LeftsFit, WritersFit}
 use Rattle.live_jobs.specs.Rows.{From}
@@ -9,6 +8,7 @@ use Rattle.live_jobs.specs.Started.{Ended, Left}
 use Rattle.live_jobs.specs.declared.channel.JobChannel.{JobChannel}
 use Rattle.live_jobs.specs.declared.session.LeftSeat.{LeftSeat}
 use Rattle.live_jobs.proofs.Writers.{length_map}
+use Rattle.news_terms.proofs.ListPlaces.{mapped_at}
 
 zero_add : (n : ℕ) → 0 + n ≡ n
 zero_add n = omega arith
@@ -18,13 +18,6 @@ pub lefts_fit : (channels : List JobChannel) (lefts : List LeftSeat)
     → LeftsFit channels lefts
 lefts_fit channels lefts all e left at =
     subst (λ (k : ℕ). Left channels k left) (zero_add e) (all e left at)
-
-from_map : {X Y : Type 0} (f : X → Y) (xs : List X) (k : ℕ) (y : Y)
-    → slice_get (map f xs) k ≡ Some y
-    → (x : X) × (slice_get xs k ≡ Some x) × (f x ≡ y)
-from_map f [] k y e = absurd (cc)
-from_map f (x ∷ xs) zero y e = (x, refl, cc)
-from_map f (x ∷ xs) (suc k) y e = from_map f xs k y e
 
 pub writers_fit : {X : Type 0} (f : X → QueuePass) (lent : X → Bool) (h : X → List Bool)
     (channels : List JobChannel) (n : ℕ) (xs : List X) (passes : List QueuePass)
@@ -36,9 +29,9 @@ writers_fit {X} f lent h channels n xs passes flags long all is_f is_h =
     (λ i. (sym is_f i, sym is_h i)) (
       length_map f xs ∙ long,
       (λ g pass at.
-          let x = from_map f xs g pass at in
+          let x = mapped_at f xs g pass at in
           subst (λ (y : ℕ × QueuePass). OfChannel channels y.0 y.1) (λ i. (zero_add g i, x.2 i))
           (all g x.0 x.1).0),
       λ g closed at.
-          let x = from_map h xs g closed at in subst (AllClosed n) x.2 (all g x.0 x.1).1,
+          let x = mapped_at h xs g closed at in subst (AllClosed n) x.2 (all g x.0 x.1).1,
     )

@@ -1,25 +1,24 @@
 -- What posts and takes keep of a desk whose posts are counted.
 use Rattle.std.proofs.Common.{◌≡◌, ℕ, ◌+◌, ◌≤◌, ◌<◌, ◌^◌, ◌==◌, Bool, true, false, sym, subst, ap}
 use Rattle.std.proofs.Common.{List, [], ◌∷◌, ◌++◌, length, Option, None, Some, Result, Ok, Err}
-use Rattle.std.proofs.Common.{if◌then◌else◌, refl, nat_eq, arith, take, drop, max, suc, zero}
+use Rattle.std.proofs.Common.{if◌then◌else◌, refl, nat_eq, arith, take, max, suc, zero}
 use Rattle.std.proofs.Math.Logic.{∥∥₁_map, ∥∥₁_elim}
 use Rattle.std.proofs.Props.{props}
-use Rattle.std.proofs.lemmas.List.{length-append, length-map, length-take}
-use Rattle.std.proofs.lemmas.List.FromFn.{length-enumerate_from}
+use Rattle.std.proofs.lemmas.List.{length-append}
 use Rattle.std.specs.Coded.{le_prop}
 use Rattle.std.specs.List.{AllZip, list_any}
 use Rattle.std.specs.Prelude.{IfOk, IfSome, OnErr, slice_get, slice_index}
 use Rattle.feed_queue.specs.Feeds.{KeepsFeeds, HasRoomToCount, no_feed, ring_count}
 use Rattle.feed_queue.specs.Left.{AreLeft, IsLeft}
-use Rattle.feed_queue.specs.Taking.{IsTaken, item_view}
+use Rattle.feed_queue.specs.Taking.{IsTaken}
 use Rattle.feed_queue.specs.declared.desk.FeedDesk.{FeedDesk}
 use Rattle.feed_queue.specs.declared.desk.Taken.{Taken}
+use Rattle.feed_queue.proofs.TakenItems.{few_items}
 use Rattle.id_history.specs.History.{KeptFeed, RingHolds}
 use Rattle.id_history.specs.Views.{feed_view}
 use Rattle.id_history.specs.declared.kept.KeptFeed as left
-use Rattle.news_terms.specs.Ring.{passed_now}
 use Rattle.news_terms.specs.Token.{Token}
-use Rattle.relay_model.specs.Shares.{after_take_of, as_ring}
+use Rattle.relay_model.specs.Shares.{after_take_of}
 use Rattle.relay_model.specs.State.{Feed, put_at}
 use Rattle.relay_model.specs.Writers.{gaining}
 use Rattle.live_jobs.specs.Posting.{KeepsAtMost, most_gained}
@@ -98,20 +97,6 @@ kept_taken old new posts feed most (Ok None) keeps none error kept =
 kept_taken old new posts feed most (Err e) keeps none error kept =
     subst (λ (desk : FeedDesk). ∥ KeepsAtMost desk posts ∥₁) (sym error) kept
 
--- what is taken of a feed has as many tokens at most as were asked for
-few_of : (taken : Taken) (size most : ℕ) (feed : Feed) → IsTaken taken size most feed
-    → length taken.items.items ≤ most
-few_of taken size most feed is =
-    let ring = as_ring feed in
-    let rest = drop (passed_now size ring) ring.gained in
-    omega (
-      arith,
-      length-map taken.items.items item_view,
-      ap length is.items,
-      length-enumerate_from (passed_now size ring + 1) (take most rest),
-      length-take most rest,
-    )
-
 -- so it is of every desk
 pub few_of_any : {E : Type 0} (desk : FeedDesk) (posts feed most : ℕ)
     (result : Result (Option Taken) E)
@@ -123,7 +108,7 @@ pub few_of_any : {E : Type 0} (desk : FeedDesk) (posts feed most : ℕ)
     length taken.items.items ≤ most))
 few_of_any desk posts feed most (Ok (Some taken)) is kept =
     ∥∥₁_elim kept (hlevel (props, le_prop))
-    (λ one. few_of taken (slice_index one.sizes feed) most (one.feeds feed)
+    (λ one. few_items taken (slice_index one.sizes feed) most (one.feeds feed)
     (is one.sizes one.feeds one.keeps))
 few_of_any desk posts feed most (Ok None) is kept = tt
 few_of_any desk posts feed most (Err e) is kept = tt

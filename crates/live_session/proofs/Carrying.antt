@@ -192,11 +192,6 @@ pub some_of : (v : Vec ℕ) (empty : Bool) → empty ≡ (vec_len v == 0) → em
 some_of v empty is none nil =
     cc (sym none ∙ is ∙ ap (λ n. n == 0) (v.ok.0 ∙ ap length nil))
 
--- no end is none
-pub none_of : {T : Type 0} (o : Option T) → is_some o ≡ false → o ≡ None
-none_of None none = refl
-none_of (Some x) none = cc
-
 -- what is said of a connection that was stopped for its turns, where it says that they are spent
 pub spent_by : (last stopped : Option Finish) (said : Finish)
     → stopped ≡ Some (unwrap_or last finishes.TurnsSpent)

@@ -33,6 +33,7 @@ use Rattle.peer_session.specs.Session.{session_view}
 use Rattle.peer_session.specs.declared.steps.Answer.{Answer}
 use Rattle.peer_session.specs.declared.steps.Answer.TheVariants as answers
 use Rattle.peer_session.specs.declared.steps.Step.{Step}
+use Rattle.peer_session.proofs.Phases.{not_running}
 use Rattle.relay_model.specs.Asks as asks
 use Rattle.relay_model.specs.Asks.{Ask}
 use Rattle.relay_model.specs.Hears.{silent}
@@ -332,16 +333,6 @@ module _ {J : Type 0} {g : Ghosts J} (w : Terms) (old new : LiveSession J g) whe
             (subst (Carries c' (read ++ one.at.heard) (written ++ one.at.said)) (sym to.parted)
             (same (read ++ one.at.heard) (written ++ one.at.said) one.at.parted one.carries)));
       }))
-
--- a phase that doesn't run is the last
-not_running : (phase : model.Phase) → is_running phase ≡ false → phase ≡ model.Ended
-not_running model.Ready h = cc
-not_running (model.AwaitsBlock transfer id) h = cc
-not_running (model.Holds id article) h = cc
-not_running (model.Waits transfer id) h = cc
-not_running (model.Fetches asked token had) h = cc
-not_running model.Leaving h = cc
-not_running model.Ended h = refl
 
 module _ {J : Type 0} {g : Ghosts J} (w : Terms) (live : LiveSession J g) (peer : ℕ)
     (read written : List ℕ) where

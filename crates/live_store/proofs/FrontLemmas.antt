@@ -1,7 +1,6 @@
 -- What a begin does to the front, and which articles it passes.
-use Rattle.std.proofs.Common.{◌≡◌, ℕ, suc, ◌+◌, ◌*◌, ◌<◌, ◌≤◌, inl, inr, ap, subst}
+use Rattle.std.proofs.Common.{◌≡◌, ℕ, ◌+◌, ◌*◌, ◌<◌, ◌≤◌, inl, inr, ap, subst}
 use Rattle.std.proofs.Common.{arith, List, ◌∷◌, Option, Some}
-use Rattle.std.proofs.Math.Nat.{mul-le-mul_right}
 use Rattle.news_terms.specs.Picks.{place_after, front_at}
 use Rattle.news_terms.specs.Places.{Buffer, IsLive, on_line}
 use Rattle.cyc_token.specs.declared.Token as codes
@@ -14,10 +13,7 @@ use Rattle.cyc_buffer.specs.declared.buffer_state.Progress.{Progress}
 use Rattle.cyc_buffer.specs.declared.buffer_state.BufferState.{BufferState}
 use Rattle.cyc_buffer.proofs.Places.{placed}
 use Rattle.cyc_buffer.proofs.Finished.{Lies, lies}
-
--- a later cycle begins a whole buffer further
-further : (m n blocks : ℕ) → m < n → m * blocks + blocks ≤ n * blocks
-further m n blocks h = omega (arith, mul-le-mul_right {m = suc m} {n = n} blocks h)
+use Rattle.cyc_buffer.proofs.Numbers.{further}
 
 -- a begin moves the front on
 pub front_rises : (buffer : Buffer) (begins : List Begin) (b : Begin)

@@ -6,7 +6,7 @@ use Rattle.std.proofs.lemmas.Bool.{cases_order}
 use Rattle.std.proofs.lemmas.List.{take_all, get_or-set_same, get_or-set_other}
 use Rattle.boxcar.specs.Table.{Shelves, Where, Shows}
 use Rattle.news_terms.specs.Places as places
-use Rattle.news_terms.specs.Places.{IsLive, size_of, on_line}
+use Rattle.news_terms.specs.Places.{size_of}
 use Rattle.news_terms.specs.Token.{Token}
 use Rattle.cyc_token.specs.Token.{token_view}
 use Rattle.cyc_buffer.specs.Agreement.{Continues, ContinuesIn, length_of, token_of}

@@ -9,7 +9,6 @@ use Rattle.std.specs.Coded.{le_prop}
 use Rattle.std.specs.Prelude.{IfSome}
 use Rattle.boxcar.specs.Table.{Shelves, Where, Shows}
 use Rattle.news_terms.specs.Places as places
-use Rattle.news_terms.specs.Places.{size_of}
 use Rattle.cyc_token.specs.Token.{token_view}
 use Rattle.cyc_token.specs.declared.Token as codes
 use Rattle.cyc_block.specs.declared.store.BlockStore.{Ghosts}

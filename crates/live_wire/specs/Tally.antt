@@ -1,5 +1,5 @@
 -- Replies and octets, counted.
-use Rattle.std.specs.Prelude.{ℕ, ◌+◌, ◌||◌, Bool, List, codes, cond, take}
+use Rattle.std.specs.Prelude.{ℕ, ◌||◌, List, codes, cond, take}
 use Rattle.std.specs.Hash.DefaultHasher.{wrapping_add}
 use Rattle.std.specs.Str.{bytes_eq}
 use Rattle.live_wire.specs.declared.tally.Tally.{Tally}

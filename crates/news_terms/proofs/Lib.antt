@@ -16,6 +16,7 @@ pub mod ItemFaults
 pub mod LeftmostFaults
 pub mod LineLemmas
 pub mod LinePairs
+pub mod ListPlaces
 pub mod Matching
 pub mod NextLemmas
 pub mod OneSoundness

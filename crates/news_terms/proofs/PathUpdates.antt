@@ -90,7 +90,7 @@ agent_first (c ∷ own) more h =
     rw (octet.1, ne_eqb c (byte "!") octet.0) (ap (onto_first c) (agent_first own more parts.1))
 
 -- a text cut at each `!` has a first piece
-cut_pieces : (text : List ℕ)
+pub cut_pieces : (text : List ℕ)
     → (piece : List ℕ) × (pieces : List (List ℕ)) × (cut_at_bangs text ≡ piece ∷ pieces)
 cut_pieces [] = ([], [], refl)
 cut_pieces (c ∷ text) =

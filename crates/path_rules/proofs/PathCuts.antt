@@ -17,9 +17,10 @@ use Rattle.std.proofs.lemmas.List.Folds.{list_any_none}
 use Rattle.std.proofs.lemmas.List.Quantifiers.{position-Some}
 use Rattle.std.proofs.lemmas.List.Sums.{take_while-cons, prefix_len_passes}
 use Rattle.std.proofs.Math.Seq.{drop-cons}
-use Rattle.news_terms.specs.Path.{is_folding, path_octets, path_pieces, cut_at_bangs, before_tail}
+use Rattle.news_terms.specs.Path.{is_folding, path_octets, path_pieces, before_tail}
 use Rattle.news_terms.specs.Path.{is_posted, is_identity, path_identities, leftmost_identity}
 use Rattle.news_terms.specs.Path.{first_before_tail, has_identity, before_posted}
+use Rattle.news_terms.proofs.PathUpdates.{cut_pieces}
 use Rattle.path_rules.specs.Pieces.{has_bang, is_good}
 
 -- the octets are printable where each that is no white space is
@@ -90,23 +91,12 @@ pieces-cut (c ∷ piece) rest h =
       | inr n ↦ rw (n, parts.0) (ap (onto_first c) (pieces-cut piece rest parts.1))
     ]
 
--- a text has a first piece
-some_pieces : (text : List ℕ)
-    → (piece : List ℕ) × (pieces : List (List ℕ)) × (cut_at_bangs text ≡ piece ∷ pieces)
-some_pieces [] = ([], [], refl)
-some_pieces (c ∷ text) =
-    let r = some_pieces text in
-    elim (cases_Bool (c == byte "!")) [
-      | inl y ↦ ([], cut_at_bangs text, rw y refl)
-      | inr n ↦ (c ∷ r.0, r.1, rw n (ap (onto_first c) r.2))
-    ]
-
 -- the first piece stands before the tail-entry where there is a `!`
 before_tail-cut : (piece rest : List ℕ) → has_bang piece ≡ false
     → before_tail (path_pieces (piece ++ byte "!" ∷ rest))
     ≡ path_octets piece ∷ before_tail (path_pieces rest)
 before_tail-cut piece rest h =
-    let more = some_pieces (path_octets rest) in
+    let more = cut_pieces (path_octets rest) in
     ap before_tail (pieces-cut piece rest h ∙ ap (λ x. path_octets piece ∷ x) more.2)
     ∙ ap (λ x. path_octets piece ∷ before_tail x) (sym more.2)
 
@@ -119,7 +109,7 @@ pub leftmost-cut : (text piece rest : List ℕ) → text ≡ piece ++ byte "!" �
     → has_bang piece ≡ false
     → leftmost_identity text ≡ Some (path_octets piece)
 leftmost-cut text piece rest e h =
-    let more = some_pieces (path_octets rest) in
+    let more = cut_pieces (path_octets rest) in
     ap leftmost_identity e
     ∙ ap first_before_tail (pieces-cut piece rest h ∙ ap (λ x. path_octets piece ∷ x) more.2)
 

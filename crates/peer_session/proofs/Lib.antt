@@ -6,6 +6,7 @@ mod HearFetches
 mod HearLeaving
 mod HearLines
 mod HearWaiting
+pub mod Phases
 pub mod PlaceLemmas
 mod PlanBlocks
 mod PlanCommon

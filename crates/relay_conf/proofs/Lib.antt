@@ -9,7 +9,6 @@ pub mod FileLines
 pub mod FirstFaults
 pub mod JoinedLines
 pub mod LinesRead
-pub mod ListPlaces
 pub mod ListedOnce
 pub mod NameTexts
 pub mod Numbered

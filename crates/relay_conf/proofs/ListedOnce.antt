@@ -22,7 +22,7 @@ use Rattle.relay_conf.specs.Cycbuff.{is_listed, is_shared, listed_fault, late_fa
 use Rattle.relay_conf.specs.Faults.{first_fault}
 use Rattle.relay_conf.proofs.FaultlessLines.{no_fault_keeps}
 use Rattle.relay_conf.proofs.FirstFaults.{filter_one}
-use Rattle.relay_conf.proofs.ListPlaces.{at_pushed, found_at}
+use Rattle.news_terms.proofs.ListPlaces.{at_pushed, found_at}
 
 -- number n is at place i of the list of group g
 pub record Is_at (groups : List Group) (g i n : ℕ) : Type 0 where

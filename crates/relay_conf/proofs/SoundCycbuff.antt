@@ -22,8 +22,8 @@ use Rattle.relay_conf.specs.Cycbuff.{no_group_fault, cycbuff_of}
 use Rattle.relay_conf.specs.Faults.{first_fault, whole_fault}
 use Rattle.relay_conf.specs.Places.{numbered_buffer, numbered_buffers, group_over, groups_over}
 use Rattle.relay_conf.proofs.FaultlessLines.{behind_trial}
-use Rattle.relay_conf.proofs.ListPlaces.{holds_at, numbered_at}
-use Rattle.relay_conf.proofs.ListPlaces.{mapped_at, looked_up_at, looked_up_length}
+use Rattle.news_terms.proofs.ListPlaces.{holds_at, numbered_at}
+use Rattle.news_terms.proofs.ListPlaces.{mapped_at, looked_up_at, looked_up_length}
 use Rattle.relay_conf.proofs.ListedOnce.{Is_at, Is_filled, Are_right, right_said}
 use Rattle.relay_conf.proofs.SizedBuffers.{Has_size, sized_lines, few_said, as_many}
 

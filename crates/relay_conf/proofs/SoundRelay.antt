@@ -29,7 +29,7 @@ use Rattle.relay_conf.specs.RelayViews.{HasSettings}
 use Rattle.relay_conf.specs.SoundRelay.{IsSoundRelay}
 use Rattle.relay_conf.proofs.FaultlessLines.{behind_trial, no_fault_keeps, no_unknown}
 use Rattle.relay_conf.proofs.FirstFaults.{filter_one}
-use Rattle.relay_conf.proofs.ListPlaces.{Apart, apart_more, found_at, holds_at}
+use Rattle.news_terms.proofs.ListPlaces.{Apart, apart_more, found_at, holds_at}
 use Rattle.relay_conf.proofs.PathIdentities.{own_is_agent, peers_are_agents}
 use Rattle.relay_conf.proofs.RangedRelay.{all_ranged, all_given, octets_given, cutoff_given}
 use Rattle.relay_conf.proofs.RangedRelay.{remember_given, patience_given, ring_given, first_holds}

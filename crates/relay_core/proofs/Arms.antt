@@ -10,6 +10,7 @@ use Rattle.feed_queue.specs.Feeds.{KeepsFeeds}
 use Rattle.feed_queue.specs.Taking.{IsTaken, item_view}
 use Rattle.feed_queue.specs.declared.desk.FeedDesk.{FeedDesk}
 use Rattle.feed_queue.specs.declared.desk.Taken.{Taken}
+use Rattle.feed_queue.proofs.TakenItems.{few_items}
 use Rattle.id_history.specs.Answers.{offer_view, take_view}
 use Rattle.id_history.specs.Changes.{ChangesClaim, KeepsClaims, OfClaim}
 use Rattle.id_history.specs.Shards.{KeepsAll}
@@ -35,7 +36,7 @@ use Rattle.relay_model.specs.World as world
 use Rattle.relay_model.specs.World.{World, with_claim}
 use Rattle.relay_core.specs.Peers.{peer_at}
 use Rattle.relay_core.specs.declared.peers.Peer.{Peer}
-use Rattle.relay_core.proofs.Feeds.{ring_at, few_items}
+use Rattle.relay_core.proofs.Feeds.{ring_at}
 use Rattle.relay_core.specs.Agreement.{AgreesBut, PeerIs, ring_sizes}
 use Rattle.relay_core.specs.Sharing.{AskFits, Gives, LeavesAll, SharesStep}
 use Rattle.relay_core.specs.declared.system.System.{System}

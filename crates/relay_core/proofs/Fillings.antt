@@ -18,11 +18,12 @@ use Rattle.block_shelf.specs.Figures.{figures_view}
 use Rattle.block_shelf.specs.declared.figures.BufferFigures.{BufferFigures}
 use Rattle.news_terms.specs.Places.{Buffer, Group, on_line}
 use Rattle.news_terms.specs.Token.{Token}
+use Rattle.news_terms.proofs.ListPlaces.{there_within}
 use Rattle.relay_conf.specs.Places.{numbered_buffer}
 use Rattle.relay_conf.specs.Settings.{places_of_buffers}
 use Rattle.relay_conf.specs.declared.cycbuff.BufferConf.{BufferConf}
 use Rattle.relay_conf.specs.declared.settings.Buffers.{Buffers}
-use Rattle.relay_facts.proofs.BufferCount.{buffers_in, few_buffers, there_within}
+use Rattle.relay_facts.proofs.BufferCount.{buffers_in, few_buffers}
 use Rattle.relay_facts.proofs.Sums.{term_within}
 use Rattle.relay_facts.specs.Sound.{IsSound}
 use Rattle.relay_model.specs.Figures.{buffer_figures}

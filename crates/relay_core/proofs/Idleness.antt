@@ -1,6 +1,6 @@
 -- The count of ids that are being stored says whether one is.
 use Rattle.std.proofs.Common.{◌≡◌, ◌∙◌, ℕ, ◌+◌, Bool, true, false, List, [], ◌∷◌, bytes_eq}
-use Rattle.std.proofs.Common.{count_by, cond, refl, sym, ap, subst, true≢false, arith}
+use Rattle.std.proofs.Common.{count_by, cond, refl, sym, ap, true≢false, arith}
 use Rattle.std.proofs.lemmas.List.Sums.{sum_by-cons}
 use Rattle.std.specs.Prelude.{◌||◌}
 use Rattle.std.specs.Set.{is_member}

@@ -1,7 +1,7 @@
 -- What a history tells of a world that is well fits the configuration, and isn't ahead of its
 -- stores.
 use Rattle.std.proofs.Common.{◌≡◌, ◌∙◌, ◌<◌, ◌≤◌, ◌-◌, ◌+◌, ◌==◌, ◌||◌, ℕ, suc, Bool}
-use Rattle.std.proofs.Common.{true, false, List, [], ◌∷◌, Option, None, Some, All, refl, sym, ap}
+use Rattle.std.proofs.Common.{false, List, [], ◌∷◌, Option, None, Some, All, refl, sym, ap}
 use Rattle.std.proofs.Common.{subst, length, map, drop, min, arith, slice_get, not, sum_by}
 use Rattle.std.proofs.Math.Nat.{mod-lt}
 use Rattle.std.proofs.lemmas.Bool.{le-ltb, lt-ltb}
@@ -20,8 +20,8 @@ use Rattle.article_verdict.specs.Config.{terms_of}
 use Rattle.block_shelf.proofs.NewBufferSet.{numbered_view}
 use Rattle.feed_queue.specs.Feeds.{ring_size}
 use Rattle.feed_queue.specs.Left.{AreLeft, IsLeft}
+use Rattle.feed_queue.proofs.LeftLaws.{left_holds}
 use Rattle.id_history.specs.History.{FeedHolds, Holds, IdHolds, IsThere, KeptFeed, KeptId}
-use Rattle.id_history.specs.History.{RingHolds}
 use Rattle.id_history.specs.History as texts
 use Rattle.id_history.specs.Lasting.{AreLasting, claim_of_kept, claim_since, lasting}
 use Rattle.news_terms.specs.Places.{Buffer, Group, Interleave, Sequential, Mode}
@@ -29,11 +29,10 @@ use Rattle.news_terms.specs.Positions.{position_by, position_of}
 use Rattle.news_terms.specs.Ring.{ring}
 use Rattle.news_terms.specs.Ring as rings
 use Rattle.news_terms.specs.Token.{Token}
-use Rattle.relay_conf.proofs.ListPlaces.{mapped_at}
+use Rattle.news_terms.proofs.ListPlaces.{mapped_at, holds_at}
 use Rattle.relay_conf.specs.Places.{numbered_buffer}
 use Rattle.relay_conf.specs.declared.cycbuff.BufferConf.{BufferConf}
 use Rattle.relay_conf.specs.declared.settings.Config.{Config}
-use Rattle.relay_facts.proofs.BufferCount.{holds_there}
 use Rattle.relay_facts.proofs.NamedBuffers.{named_number}
 use Rattle.relay_facts.proofs.Recorded.{gained_below_fronts, gained_stored, stored_below}
 use Rattle.relay_facts.proofs.ShortLists.{gained_at_most}
@@ -176,7 +175,7 @@ positions_fit groups begun positions filled are =
     let is : (position_of group.0 (begun h)).index ≡ position =
     same_Some _ position (sym (are.each h group.0 group.1) ∙ at) in
     let below = at_member (group.0).mode (group.0).buffers (begun h)
-    (holds_there (λ (one : Group). 1 ≤ length one.buffers) groups filled h group.0 group.1) in
+    (holds_at (λ (one : Group). 1 ≤ length one.buffers) groups filled h group.0 group.1) in
     omega (arith, is, below, group.2))
 
 -- FEEDS
@@ -185,17 +184,6 @@ positions_fit groups begun positions filled are =
 waits : {A : Type 0} (size : ℕ) (feed : rings.Feed A) → feed.passed ≤ length feed.gained
     → length (ring size feed) ≡ min size (length feed.gained - feed.passed)
 waits size feed within = grind (arith, common_steps)
-
--- what is left of a feed can be held by its ring
-left_holds : (kept : KeptFeed) (size : ℕ) (feed : Feed) → IsLeft kept size feed
-    → RingHolds kept size
-left_holds kept size feed is = record {
-  taken = is.had;
-  passed = omega (arith, is.passed, is.gained, is.within);
-  waiting = ap length is.waiting ∙ waits size (as_ring feed) is.within
-      ∙ ap (λ n. min size (n - feed.passed)) (sym is.gained)
-      ∙ ap (λ n. min size (kept.gained - n)) (sym is.passed);
-}
 
 -- what waits is of the list
 waiting_of : (P : Token → Type 0) (kept : KeptFeed) (size : ℕ) (feed : Feed) → IsLeft kept size feed

@@ -1,23 +1,22 @@
 -- A Restart: what it is answered, and what that leaves.
-use Rattle.std.proofs.Common.{◌≡◌, ◌∙◌, ℕ, Bool, true, false, List, [], Option, None, Some, refl}
-use Rattle.std.proofs.Common.{sym, ap, subst, le_refl, true≢false, length, map}
-use Rattle.std.specs.Prelude.{Result, Ok, Err}
+use Rattle.std.proofs.Common.{◌≡◌, ◌∙◌, ℕ, Bool, true, false, List, Option, refl}
+use Rattle.std.proofs.Common.{sym, ap, subst, le_refl, true≢false, length}
+use Rattle.std.specs.Prelude.{Result, Err}
 use Rattle.article_verdict.proofs.SoundTerms.{are_sound}
 use Rattle.article_verdict.specs.Config.{terms_of}
 use Rattle.block_shelf.specs.Keeping.{KeepsTexts}
 use Rattle.block_shelf.specs.Openings.{Opening}
 use Rattle.block_shelf.specs.declared.buffer_set.BufferSet.{BufferSet}
 use Rattle.cyc_block.specs.declared.store.BlockStore.{Ghosts}
-use Rattle.feed_queue.specs.Feeds.{KeepsFeeds, ring_size}
+use Rattle.feed_queue.specs.Feeds.{KeepsFeeds}
 use Rattle.feed_queue.specs.Left.{AreLeft}
 use Rattle.id_history.specs.History as texts
 use Rattle.id_history.specs.declared.fault.HistoryError.{HistoryError}
 use Rattle.id_history.specs.declared.fault.HistoryError.TheVariants as errors
 use Rattle.id_history.specs.Lasting.{AreLasting}
 use Rattle.id_history.specs.Mark.{mark_of}
-use Rattle.id_history.specs.Shards.{KeepsAll}
+use Rattle.id_history.proofs.LastingLaws.{lasting-restart}
 use Rattle.relay_facts.proofs.Runs.{step_well}
-use Rattle.relay_model.specs.Claims.{Claim, is_storing}
 use Rattle.relay_model.specs.Run as run
 use Rattle.relay_model.specs.Run.{restarted}
 use Rattle.relay_model.specs.Terms.{Terms}
@@ -28,9 +27,8 @@ use Rattle.relay_core.specs.declared.peers.Peers.{Peers}
 use Rattle.relay_core.proofs.Beginnings.{idle_group_writers, rings_are}
 use Rattle.relay_core.proofs.Records.{record_holds}
 use Rattle.relay_core.proofs.Starts.{nobody}
-use Rattle.relay_core.proofs.Stops.{closed_texts, lasting_is, nothing_open}
+use Rattle.relay_core.proofs.Stops.{closed_texts, nothing_open}
 use Rattle.relay_core.specs.Agreement.{Agrees, ring_sizes}
-use Rattle.relay_core.specs.Beginning.{AreIdle}
 use Rattle.relay_core.specs.Desks.{AreOf, Reads}
 use Rattle.relay_core.specs.Idle.{TellsIdle}
 use Rattle.relay_core.specs.Restarting.{AgreesLater, BeginsAgain, IsOfRestart, IsReread, IsUnread}
@@ -38,7 +36,7 @@ use Rattle.relay_core.specs.Restarting.{RestartsRightly, refused_as}
 use Rattle.relay_core.specs.Steps.{Steps}
 use Rattle.relay_core.specs.Stopping.{Tells, TellsHistory, next_stop, stop_of}
 use Rattle.block_shelf.specs.Restarting.{KeepsOn, StaysKept}
-use Rattle.relay_core.specs.Views.{fault_view, output_view}
+use Rattle.relay_core.specs.Views.{fault_view}
 use Rattle.relay_core.specs.declared.desks.Desks.{Desks}
 use Rattle.relay_core.specs.declared.event.CoreError.{CoreError}
 use Rattle.relay_core.specs.declared.event.CoreError.TheVariants as faults
@@ -97,7 +95,7 @@ module _ {S : Type 0} {g : Ghosts S} (s : System S g) where
             in
             record {
               agrees = λ id none.
-                  lasts.agrees id none ∙ ap mark_of (lasting_is (x.state.claim id) (idle id));
+                  lasts.agrees id none ∙ ap mark_of (lasting-restart (x.state.claim id) (idle id));
             };
         desk = λ trusted x agrees.
             let told = tells trusted x agrees in

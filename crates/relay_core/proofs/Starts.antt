@@ -19,11 +19,12 @@ use Rattle.id_history.specs.Lasting.{AreLasting, claim_of_kept, lasting}
 use Rattle.id_history.specs.Mark.{mark_of}
 use Rattle.id_history.specs.Shards.{KeepsAll}
 use Rattle.id_history.specs.declared.shards.Shards.{Shards}
+use Rattle.id_history.proofs.LastingLaws.{lasting-restart}
 use Rattle.news_terms.specs.Places.{Buffer, Group}
 use Rattle.relay_conf.specs.declared.settings.Config.{Config}
 use Rattle.relay_facts.proofs.StartedWell.{started_well}
-use Rattle.relay_facts.specs.Started.{HasSameStore, newest_kept, started}
-use Rattle.relay_model.specs.Claims.{after_restart, is_storing}
+use Rattle.relay_facts.specs.Started.{HasSameStore, started}
+use Rattle.relay_model.specs.Claims.{after_restart}
 use Rattle.relay_model.specs.Invariants.{IsWell}
 use Rattle.relay_model.specs.State as model
 use Rattle.relay_model.specs.State.{in_phase}
@@ -34,12 +35,12 @@ use Rattle.relay_core.specs.Peers.{NoPeers, peer_at}
 use Rattle.relay_core.specs.declared.peers.Peer.{Peer}
 use Rattle.relay_core.proofs.Beginnings.{groups_count, idle_group_writers, rings_are}
 use Rattle.relay_core.proofs.Records.{lasts_again, record_behind, record_holds, weaker}
-use Rattle.relay_core.proofs.Stops.{IsIdle, ended_gone, lasting_is}
-use Rattle.relay_core.specs.Agreement.{Agrees, AgreesBy, GroupWriterIs, PeerIs, ring_sizes}
+use Rattle.relay_core.proofs.Stops.{ended_gone}
+use Rattle.relay_core.specs.Agreement.{AgreesBy, GroupWriterIs, PeerIs, ring_sizes}
 use Rattle.relay_core.specs.Ahead.{TellsFilled, filled_of, filled_view, is_ahead}
 use Rattle.relay_core.specs.Desks.{AreOf, Reads, setting_of}
 use Rattle.relay_core.specs.Expiring.{expirer_view}
-use Rattle.relay_core.specs.Starting.{IsAheadAs, IsRefusedRightly, IsStartRefusal, StartsOver}
+use Rattle.relay_core.specs.Starting.{IsAheadAs, IsRefusedRightly, StartsOver}
 use Rattle.relay_core.specs.Starting.{unread_as}
 use Rattle.relay_core.specs.Starting as reasons
 use Rattle.relay_core.specs.Stopping.{IsHistory, IsShut, Tells, stop_of}
@@ -234,7 +235,7 @@ module _ {S : Type 0} {g : Ghosts S} (config : Config) (stores : List S) where
                       agrees = λ id none.
                           lasts.agrees id none
                           ∙ ap mark_of (lasts_again (x.state.claim id)
-                          ∙ lasting_is (x.state.claim id) (shut.idle id));
+                          ∙ lasting-restart (x.state.claim id) (shut.idle id));
                     });
                 count = ap length
                     (ap (λ (group_writers : Vec GroupWriter). group_writers.items)

@@ -20,13 +20,13 @@ use Rattle.id_history.specs.History.{FeedFits, Fits, KeptFeed, history_octets}
 use Rattle.id_history.specs.History as texts
 use Rattle.id_history.specs.Views.{feed_view}
 use Rattle.id_history.specs.declared.kept.KeptFeed as code
-use Rattle.id_history.specs.Lasting.{AreLasting, lasting}
+use Rattle.id_history.specs.Lasting.{AreLasting}
 use Rattle.id_history.specs.Shards.{KeepsAll}
-use Rattle.relay_conf.proofs.ListPlaces.{at_pushed}
+use Rattle.news_terms.proofs.ListPlaces.{at_pushed}
 use Rattle.relay_conf.specs.declared.settings.Config.{Config}
 use Rattle.relay_facts.specs.Started.{newest_kept}
 use Rattle.relay_model.specs.Claims as claims
-use Rattle.relay_model.specs.Claims.{Claim, after_restart, is_storing}
+use Rattle.relay_model.specs.Claims.{Claim, is_storing}
 use Rattle.relay_model.specs.Invariants.{IsAt, IsWell}
 use Rattle.relay_model.specs.State as model
 use Rattle.relay_model.specs.State.{in_phase}
@@ -66,14 +66,6 @@ pub nothing_open : (w : Terms) (x : World) → IsIdle x → IsWell w x
     → openings x.work.writer ≡ (λ (h : ℕ). None)
 nothing_open w x idle well =
     λ i h. none_open w x idle h (x.work.writer h) (well.placed.writer h) i
-
--- what lasts of a claim of what isn't being stored is what a Restart leaves
-pub lasting_is : (claim : Claim) → is_storing claim ≡ false → lasting claim ≡ after_restart claim
-lasting_is claims.Unknown e = refl
-lasting_is (claims.Offered session) e = refl
-lasting_is (claims.Storing session article stage) e = absurd (true≢false e)
-lasting_is (claims.Stored token moment) e = refl
-lasting_is (claims.Refused moment) e = refl
 
 -- every session ended
 pub ended_gone : (o : Option model.Session)

@@ -7,6 +7,7 @@ use Rattle.article_verdict.specs.Config.{terms_of}
 use Rattle.article_verdict.proofs.SoundTerms.{are_sound}
 use Rattle.cyc_block.specs.declared.store.BlockStore.{Ghosts}
 use Rattle.peer_session.specs.Session.{Stands, session_view}
+use Rattle.peer_session.proofs.Phases.{not_running}
 use Rattle.relay_conf.specs.declared.settings.Config.{Config}
 use Rattle.relay_facts.proofs.Puts.{put_at_here, put_at_there}
 use Rattle.relay_facts.proofs.Runs.{step_well}
@@ -49,16 +50,6 @@ pub is_there_as : (test : model.Phase → Bool) → test model.Ended ≡ false �
 is_there_as test ends trusted w kept None session slot is = gone_fails test ends session is
 is_there_as test ends trusted w kept (Some peer) session slot is =
     ap (is_there test) is.1 ∙ ap (λ (m : model.Session). test m.phase) is.2.stands.is
-
--- a phase that doesn't run is the last
-not_running : (phase : model.Phase) → is_running phase ≡ false → phase ≡ model.Ended
-not_running model.Ready h = cc
-not_running (model.AwaitsBlock transfer id) h = cc
-not_running (model.Holds id article) h = cc
-not_running (model.Waits transfer id) h = cc
-not_running (model.Fetches asked token had) h = cc
-not_running model.Leaving h = cc
-not_running model.Ended h = refl
 
 -- the peer of a session that runs does
 pub runs_as : (w : Terms) (peer : Peer) (m : model.Session) (gathered : List ℕ)

@@ -1,6 +1,6 @@
 -- What is kept in memory beside the buffer set, as a start makes it of a history (docs/PROTOCOL.md,
 -- Clean stop and start).
-use Rattle.std.specs.Prelude.{◌≡◌, ◌≤◌, ℕ, List, [], map, length}
+use Rattle.std.specs.Prelude.{◌≡◌, ℕ, List, [], map, length}
 use Rattle.feed_queue.specs.Feeds.{KeepsFeeds, ring_size}
 use Rattle.feed_queue.specs.Left.{AreLeft}
 use Rattle.id_history.specs.History as texts

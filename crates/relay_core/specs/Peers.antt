@@ -1,5 +1,5 @@
 -- The peers that are here, by the numbers of their sessions, and what a call makes of them.
-use Rattle.std.specs.Prelude.{◌≡◌, ◌≢◌, ℕ, ◌+◌, Bool, false, IsTrue, nat_eq}
+use Rattle.std.specs.Prelude.{◌≡◌, ◌≢◌, ℕ, ◌+◌, Bool, IsTrue, nat_eq}
 use Rattle.std.specs.Prelude.{Option, None, Some, IfSome, is_some, option_and_then, option_map}
 use Rattle.std.specs.Prelude.{if◌then◌else◌}
 use Rattle.std.specs.HashMap.{get, hash_map_len}

@@ -20,7 +20,7 @@ use Rattle.block_shelf.specs.declared.beginning.BeginError.TheVariants as begins
 use Rattle.std.specs.IoError.{error_kind}
 use Rattle.std.specs.declared.io.ErrorKind.{ErrorKind}
 use Rattle.std.specs.declared.io.ErrorKind.TheVariants.{OutOfMemory}
-use Rattle.std.proofs.Common.{◌⊎◌, inl, inr, ◌∙◌}
+use Rattle.std.proofs.Common.{◌⊎◌, inl, inr}
 use Rattle.relay_drill.specs.Play.{Rests}
 use Rattle.relay_drill.specs.Progress.{Broke, Halted, Performs, Under, Went}
 use Rattle.relay_drill.specs.Script.{Line}

@@ -1,16 +1,11 @@
 -- Stores that are made one after the other.
 use Rattle.std.proofs.Common.{◌≡◌, All, List, [], ◌∷◌, ◌++◌, length, refl, sym, ◌∙◌, arith}
-use Rattle.std.proofs.Common.{zero, suc}
 use Rattle.std.proofs.lemmas.List.{map-append}
 use Rattle.std.proofs.lemmas.List.Elements.{All-append}
 use Rattle.cyc_block.specs.declared.store.BlockStore.{Ghosts}
 use Rattle.relay_conf.specs.declared.cycbuff.BufferConf.{BufferConf}
 use Rattle.relay_drill.specs.Stores.{AreStoresOf}
-
--- what holds of one holds of all of a list of it alone
-all_one : {X : Type 0} (P : X → Type 0) (x : X) → P x → All P (x ∷ [])
-all_one P x holds zero d below = holds
-all_one P x holds (suc k) d below = absurd (omega (arith, below))
+use Rattle.news_terms.proofs.ListPlaces.{all_one}
 
 -- what is said of none holds of all of them
 all_none : {X : Type 0} (P : X → Type 0) → All P []

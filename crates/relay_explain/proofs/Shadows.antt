@@ -1,7 +1,7 @@
 -- What an entry takes that is tried before another one and covers its sizes and newsgroups.
 use Rattle.std.proofs.Common.{◌≡◌, ap, subst, refl, arith, inl, inr, ℕ, Bool, true, false}
 use Rattle.std.proofs.Common.{List, [], ◌∷◌, Option, None, Some, codes}
-use Rattle.std.proofs.lemmas.Bool.{and_from, and_parts, le-leb, leb-true}
+use Rattle.std.proofs.lemmas.Bool.{and_from, and_parts, le-leb, leb-true, or_right}
 use Rattle.std.proofs.lemmas.Slice.Eq.{bytes_eq-Decides}
 use Rattle.std.specs.Prelude.{◌&&◌, ◌||◌, ◌⊎◌, not}
 use Rattle.std.specs.List.{list_all, list_any}
@@ -18,11 +18,6 @@ use Rattle.relay_explain.specs.Entries.{is_limit_within, shadows}
 or_cases : (x y : Bool) → (x || y) ≡ true → (x ≡ true) ⊎ (y ≡ true)
 or_cases true y e = inl refl
 or_cases false y e = inr e
-
--- Where the second of two tests passes they pass together.
-or_right : (x y : Bool) → y ≡ true → (x || y) ≡ true
-or_right true y e = refl
-or_right false y e = e
 
 -- A size within the lower limit is within the upper one.
 within : (limit other : Option ℕ) (size : ℕ) → is_limit_within limit other ≡ true

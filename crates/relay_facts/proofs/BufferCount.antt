@@ -1,7 +1,7 @@
 -- All groups together have at most 256 buffers, since no two have one number.
 use Rattle.std.proofs.Common.{◌≡◌, ◌∙◌, ℕ, zero, suc, ◌+◌, ◌^◌, ◌≤◌, ◌<◌, Bool, true, false, ◌||◌}
 use Rattle.std.proofs.Common.{List, [], ◌∷◌, ◌++◌, length, All, Option, None, Some, slice_get}
-use Rattle.std.proofs.Common.{get_or, nat_eq, ◌⊎◌, inl, inr, refl, sym, ap, subst, arith}
+use Rattle.std.proofs.Common.{nat_eq, ◌⊎◌, inl, inr, refl, sym, ap, subst, arith}
 use Rattle.std.proofs.Common.{length-append}
 use Rattle.std.specs.List.{IsDistinct, list_any}
 use Rattle.std.proofs.lemmas.Bool.{eqb-true, ne_eqb}
@@ -10,37 +10,20 @@ use Rattle.std.proofs.lemmas.List.Elements.{All-nil, All-push, All-head, All-tai
 use Rattle.std.proofs.lemmas.List.Folds.{list_any_none}
 use Rattle.std.proofs.lemmas.Map.Keys.{IsDistinct-push}
 use Rattle.std.proofs.lemmas.Map.Steps.{length-le_from_distinct_below}
-use Rattle.std.proofs.lemmas.Option.{slice_get_cases, slice_get_within, get_or_from_slice_get}
 use Rattle.news_terms.specs.Fronts.{HasOwnNumbers}
 use Rattle.news_terms.specs.Places.{Buffer, Group}
 use Rattle.relay_model.specs.Counted.{sum_below}
 use Rattle.relay_model.specs.Terms.{Terms}
 use Rattle.news_terms.specs.Settings.{IsBufferAt, IsSoundBuffer}
+use Rattle.news_terms.proofs.ListPlaces.{there_within, holds_at}
 use Rattle.relay_facts.specs.Sound.{IsSound}
-
--- what is within a list is there
-pub there_within : {X : Type 0} (xs : List X) (i : ℕ) → i < length xs
-    → (x : X) × (slice_get xs i ≡ Some x)
-there_within {X} xs i within = by_place (slice_get_cases xs i).1
-  where
-    by_place : ((x : X) × (i < length xs) × (slice_get xs i ≡ Some x) × (get_or xs i x ≡ x))
-        ⊎ ((length xs ≤ i) × (slice_get xs i ≡ None))
-        → (x : X) × (slice_get xs i ≡ Some x)
-    by_place (inl found) = (found.0, found.2)
-    by_place (inr past) = absurd (omega (arith, past.0, within))
-
--- what holds of each of a list holds of the one at a place
-pub holds_there : {X : Type 0} (P : X → Type 0) (xs : List X) → All P xs → (i : ℕ) (x : X)
-    → slice_get xs i ≡ Some x → P x
-holds_there P xs all i x there =
-    subst P (get_or_from_slice_get xs i x x there) (all i x (slice_get_within xs i x there))
 
 -- a buffer of a group is sound
 pub buffer_sound : (w : Terms) → IsSound w → (g i : ℕ) (buffer : Buffer)
     → IsBufferAt w.groups g i buffer → IsSoundBuffer buffer
 buffer_sound w sound g i buffer at =
     let among = sound.places.named g i buffer at in
-    holds_there IsSoundBuffer w.buffers sound.places.buffers among.0 buffer among.1
+    holds_at IsSoundBuffer w.buffers sound.places.buffers among.0 buffer among.1
 
 -- the numbers of a group's buffers are its own
 pub own_numbers : (w : Terms) → IsSound w → (g : ℕ) (group : Group)

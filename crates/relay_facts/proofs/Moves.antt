@@ -14,7 +14,7 @@ use Rattle.relay_model.specs.Run.{Event, Open, Bytes, Turn, Write, Break, Expire
 use Rattle.relay_model.specs.Run.{Does}
 use Rattle.relay_model.specs.Run.{IsRefused, WantsMemory, IsDone, Turns, Restarts, IsBusy}
 use Rattle.relay_model.specs.Run.{HasNoRoom}
-use Rattle.relay_model.specs.Run.{HasNot, Run, refusal, opened, expired, reads_front, forgotten}
+use Rattle.relay_model.specs.Run.{HasNot, refusal, opened, expired, reads_front, forgotten}
 use Rattle.relay_model.specs.Run.{restarted, first_of_two, is_there, is_running}
 use Rattle.relay_model.specs.Run as run
 use Rattle.relay_model.specs.Shares.{Answer, Shares, Reading, IsFound, HasNotRead, Pushing}

@@ -6,7 +6,7 @@ use Rattle.std.proofs.lemmas.List.Elements.{All-head, All-tail, All-nil, All-con
 use Rattle.std.proofs.lemmas.List.Sums.{sum_by-cons}
 use Rattle.std.proofs.lemmas.Option.{none-some, same_Some}
 use Rattle.news_terms.specs.Places.{next_place}
-use Rattle.relay_model.specs.Claims.{Accepted, Claim, Storing, Stage, Waiting, Begun, Whole}
+use Rattle.relay_model.specs.Claims.{Stage, Waiting, Begun, Whole}
 use Rattle.relay_model.specs.Claims as claims
 use Rattle.relay_model.specs.Invariants.{IsPlaced, IsAt, WaitsAs, is_of, in_hand, in_hand_of}
 use Rattle.relay_model.specs.Invariants.{job_at, places_of, may_carry}

@@ -21,7 +21,7 @@ use Rattle.relay_facts.specs.Sound.{IsSound}
 use Rattle.relay_facts.proofs.BufferCount.{own_numbers}
 use Rattle.relay_facts.proofs.Puts.{put_at_here}
 use Rattle.relay_facts.proofs.GroupFronts.{front_in_group, front_elsewhere}
-use Rattle.relay_facts.proofs.Moves.{Moves, SameStore}
+use Rattle.relay_facts.proofs.Moves.{Moves}
 use Rattle.relay_facts.proofs.Moves as moves
 use Rattle.relay_facts.proofs.NamedBuffers.{Named, named_number, named_in_group}
 

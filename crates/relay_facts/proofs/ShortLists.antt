@@ -3,6 +3,7 @@
 use Rattle.std.proofs.Common.{◌≡◌, ℕ, zero, suc, ◌*◌, ◌^◌, ◌≤◌, ◌<◌, length}
 use Rattle.std.proofs.Common.{ap, arith}
 use Rattle.news_terms.specs.Token.{Token}
+use Rattle.news_terms.proofs.ListPlaces.{there_within, holds_at}
 use Rattle.relay_model.specs.Counted.{sum_below, to_settle, all_begun}
 use Rattle.relay_model.specs.Invariants.{IsWell, job_at}
 use Rattle.relay_model.specs.State.{Job}
@@ -10,7 +11,7 @@ use Rattle.relay_model.specs.Terms.{Terms}
 use Rattle.relay_model.specs.World.{World, Finished}
 use Rattle.relay_facts.specs.Sound.{IsSound}
 use Rattle.relay_facts.proofs.BegunFronts.{begun_bounded}
-use Rattle.relay_facts.proofs.BufferCount.{there_within, holds_there, buffer_sound, buffers_in}
+use Rattle.relay_facts.proofs.BufferCount.{buffer_sound, buffers_in}
 use Rattle.relay_facts.proofs.BufferCount.{buffers_below, few_buffers, own_numbers}
 use Rattle.relay_facts.proofs.CountedWrites.{writer_within}
 use Rattle.relay_facts.proofs.Orderly.{orderly_of}
@@ -26,7 +27,7 @@ begun_below w sound x well (suc n) within =
       arith,
       begun_below w sound x well n (omega (arith, within)),
       begun_bounded one.0 (own_numbers w sound n one.0 one.1)
-          (holds_there (λ group. 1 ≤ length group.buffers) w.groups sound.places.filled n one.0
+          (holds_at (λ group. 1 ≤ length group.buffers) w.groups sound.places.filled n one.0
           one.1)
           (λ i buffer there. (buffer_sound w sound n i buffer
           (record { group = one.0; is_group = one.1; is_buffer = there })).most)

@@ -1,13 +1,13 @@
 -- There are sound terms.
-use Rattle.std.proofs.Common.{◌≡◌, ◌∙◌, ◌≤◌, ◌<◌, ◌^◌, ℕ, List, [], ◌∷◌, length, Some, All, refl}
+use Rattle.std.proofs.Common.{◌≡◌, ◌∙◌, ◌≤◌, ◌<◌, ◌^◌, ℕ, List, [], ◌∷◌, length, Some, refl}
 use Rattle.std.proofs.Common.{sym, ap, arith, slice_get}
-use Rattle.std.proofs.lemmas.List.Elements.{All-cons, All-nil}
 use Rattle.std.proofs.lemmas.Option.{same_Some, slice_get_within}
 use Rattle.std.specs.Prelude.{IsTrue, codes}
 use Rattle.news_terms.specs.Path.{is_agent}
 use Rattle.news_terms.specs.Places.{Buffer, Group}
 use Rattle.news_terms.specs.Settings.{AreSound, IsBufferAt, IsSoundBuffer}
 use Rattle.news_terms.specs.StorageClass.{Entry}
+use Rattle.news_terms.proofs.ListPlaces.{all_one}
 use Rattle.relay_model.specs.Terms.{FeedTerms}
 use Rattle.relay_facts.specs.Sound.{IsSound}
 use Rattle.relay_facts.specs.SoundExample.{sound_terms, one_buffer, one_group, one_entry, one_feed}
@@ -19,10 +19,6 @@ first a x i e = let within : i < 1 = slice_get_within (a ∷ []) i x e in omega 
 -- what stands in a list of one is that one
 only : {X : Type 0} (a x : X) (i : ℕ) → slice_get (a ∷ []) i ≡ Some x → a ≡ x
 only a x i e = same_Some a x (ap (slice_get (a ∷ [])) (sym (first a x i e)) ∙ e)
-
--- what holds of one holds of each of a list of it
-one_of : {X : Type 0} (P : X → Type 0) (a : X) → P a → All P (a ∷ [])
-one_of P a p = All-cons P a [] p (All-nil P)
 
 -- where a buffer of a group is
 placed : (g i : ℕ) (buffer : Buffer) → IsBufferAt sound_terms.groups g i buffer
@@ -40,10 +36,10 @@ placed g i buffer at =
 -- the buffers and groups are sound
 sound_places : AreSound sound_terms.buffers sound_terms.groups
 sound_places = record {
-  buffers = one_of IsSoundBuffer one_buffer
+  buffers = all_one IsSoundBuffer one_buffer
       (record { number = omega arith; some = omega arith; most = omega arith });
   apart = λ i j a b at other same. first one_buffer a i at ∙ sym (first one_buffer b j other);
-  filled = one_of (λ (group : Group). 1 ≤ length group.buffers) one_group (omega arith);
+  filled = all_one (λ (group : Group). 1 ≤ length group.buffers) one_group (omega arith);
   named = λ g i buffer at. (0, ap (λ b. Some b) (placed g i buffer at).2);
   once = λ g h i j a b at other same.
       let one = placed g i a at in
@@ -55,9 +51,9 @@ sound_places = record {
 pub are_sound : IsSound sound_terms
 are_sound = record {
   places = sound_places;
-  classes = one_of (λ (entry : Entry). entry.class < 2 ^ 8) one_entry (omega arith);
-  rings = one_of (λ (feed : FeedTerms). 1 ≤ feed.ring) one_feed (omega arith);
+  classes = all_one (λ (entry : Entry). entry.class < 2 ^ 8) one_entry (omega arith);
+  rings = all_one (λ (feed : FeedTerms). 1 ≤ feed.ring) one_feed (omega arith);
   own_feed = λ i j a b at other same. first one_feed a i at ∙ sym (first one_feed b j other);
   own = refl;
-  peers = one_of (λ (peer : List ℕ). IsTrue (is_agent peer)) (codes "one.example") refl;
+  peers = all_one (λ (peer : List ℕ). IsTrue (is_agent peer)) (codes "one.example") refl;
 }

@@ -10,7 +10,7 @@ use Rattle.relay_facts.proofs.Orderly.{IsOrderly}
 use Rattle.relay_model.specs.Run.{Event, Open, Bytes, Turn, Write, Break, Expire, Restart, Step}
 use Rattle.relay_model.specs.Run.{IsRefused, WantsMemory, IsDone, Does, Restarts, IsBusy, HasNoRoom}
 use Rattle.relay_model.specs.Run.{HasNot, refusal, is_taken, opened, new_session, expired}
-use Rattle.relay_model.specs.Run.{reads_front, forgotten, expirer_at, passed_of, restarted}
+use Rattle.relay_model.specs.Run.{reads_front, forgotten, expirer_at, passed_of}
 use Rattle.relay_model.specs.Run as run
 use Rattle.relay_model.specs.State.{Session, Leaving, in_phase, with_unread}
 use Rattle.relay_model.specs.Terms.{Terms}

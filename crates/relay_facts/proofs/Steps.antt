@@ -11,7 +11,7 @@ use Rattle.relay_facts.proofs.Orderly.{IsOrderly}
 use Rattle.relay_model.specs.Run.{Event, Open, Bytes, Turn, Write, Break, Expire, Restart, Step}
 use Rattle.relay_model.specs.Run.{IsRefused, WantsMemory, IsDone, Does, Restarts, IsBusy, HasNoRoom}
 use Rattle.relay_model.specs.Run.{HasNot, refusal, is_taken, expired, reads_front, forgotten}
-use Rattle.relay_model.specs.Run.{expirer_at, passed_of, restarted, first_of_two, is_there}
+use Rattle.relay_model.specs.Run.{expirer_at, passed_of, first_of_two, is_there}
 use Rattle.relay_model.specs.Run.{is_reading, is_running}
 use Rattle.relay_model.specs.Run as run
 use Rattle.relay_model.specs.State.{Session, Phase, Ready, AwaitsBlock, Holds, Waits, Fetches}

@@ -3,7 +3,7 @@ use Rattle.std.proofs.Common.{◌≡◌, ◌∙◌, ◌+◌, ◌++◌, ℕ, List
 use Rattle.std.proofs.Common.{subst, arith}
 use Rattle.news_terms.specs.Token.{Token}
 use Rattle.relay_model.specs.Claims.{Accepted, Claim, Unknown, Storing, Stored, Stage, Waiting}
-use Rattle.relay_model.specs.Claims.{Begun, Whole}
+use Rattle.relay_model.specs.Claims.{Whole}
 use Rattle.relay_model.specs.Claims as claims
 use Rattle.relay_model.specs.Invariants.{IsPlaced}
 use Rattle.relay_model.specs.Invariants.{IsAt, in_hand, job_at}

@@ -6,7 +6,7 @@ use Rattle.std.proofs.lemmas.Option.{same_Some}
 use Rattle.news_terms.specs.Fronts.{FitsGroup}
 use Rattle.news_terms.specs.Token.{Token}
 use Rattle.std.specs.Prelude.{slice_get}
-use Rattle.relay_model.specs.Claims.{Accepted, Claim, Unknown, Storing, Stored, Stage, Waiting}
+use Rattle.relay_model.specs.Claims.{Accepted, Claim, Storing, Stage, Waiting}
 use Rattle.relay_model.specs.Claims.{Begun, Whole}
 use Rattle.relay_model.specs.Claims as claims
 use Rattle.relay_model.specs.Invariants.{IsNumbered, IsPlaced, IsSized, IsSoundArticle, IsKeptRight}

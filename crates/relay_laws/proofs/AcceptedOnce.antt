@@ -19,11 +19,12 @@ use Rattle.relay_facts.specs.Sound.{IsSound}
 use Rattle.relay_facts.proofs.Puts.{put_id_both}
 use Rattle.relay_facts.proofs.SameTokens.{same_itself}
 use Rattle.relay_laws.specs.Laws.{Always, AcceptsStored, GainsOnce, is_at, tokens_for}
-use Rattle.relay_laws.proofs.Counts.{count-le, count-none}
+use Rattle.relay_laws.proofs.Counts.{count-le}
 use Rattle.relay_laws.proofs.Gained.{gains_permitted}
 use Rattle.relay_facts.proofs.ClaimMoves.{goes_whole, goes_stored}
-use Rattle.relay_facts.proofs.Moves.{Moves, SameStore, step_moves}
+use Rattle.relay_facts.proofs.Moves.{Moves, step_moves}
 use Rattle.relay_facts.proofs.Moves as moves
+use Rattle.relay_facts.proofs.Places.{count_none}
 use Rattle.relay_laws.proofs.OneText.{OneEach, each_kept, empty_each}
 use Rattle.relay_laws.proofs.Runs.{always_keeps}
 use Rattle.relay_laws.proofs.Tests.{Same_place, same_places}
@@ -97,7 +98,7 @@ accepted_kept σ τ job token now accepts each holds = record {
     never : (wanted : Token) → same_token token wanted ≡ true
         → times_accepted wanted σ.accepted ≡ 0
     never wanted agrees =
-        count-none (λ (one : Token × List ℕ). same_token one.0 wanted) σ.accepted
+        count_none (λ (one : Token × List ℕ). same_token one.0 wanted) σ.accepted
         (All-weaker (λ (one : Token × List ℕ). Same_place one.0 token → ⊥)
         (λ (one : Token × List ℕ). same_token one.0 wanted ≡ false)
         (λ one apart.

@@ -15,9 +15,9 @@ use Rattle.relay_model.specs.Terms.{Terms}
 use Rattle.relay_model.specs.Writers.{token_at}
 use Rattle.relay_facts.specs.Sound.{IsSound}
 use Rattle.relay_laws.specs.Laws.{is_at}
-use Rattle.relay_laws.proofs.Counts.{count-none}
 use Rattle.relay_facts.proofs.NamedBuffers.{Named}
 use Rattle.relay_facts.proofs.RisingFronts.{BeginFacts, place_named, begins_past}
+use Rattle.relay_facts.proofs.Places.{count_none}
 use Rattle.relay_laws.proofs.Tests.{Same_place, at_place}
 
 -- a place below the front isn't one at the front or past it
@@ -54,7 +54,7 @@ pub none_past : (w : Terms) (σ : State) (token : Token) (buffer : Buffer)
     → All (λ (one : Kept). IsBelow w σ one.token) kept
     → count_by (is_at token.buffer token.cycle token.first) kept ≡ 0
 none_past w σ token buffer named past kept below =
-    count-none (is_at token.buffer token.cycle token.first) kept
+    count_none (is_at token.buffer token.cycle token.first) kept
     (All-weaker (λ (one : Kept). IsBelow w σ one.token)
     (λ (one : Kept). is_at token.buffer token.cycle token.first one ≡ false)
     (λ one is. other_place one token (below_apart w σ one.token token is buffer named past)) kept

@@ -1,7 +1,6 @@
 -- How many elements pass a test.
-use Rattle.std.proofs.Common.{◌≡◌, ◌∙◌, ◌+◌, ◌≤◌, Bool, true, false, List, [], ◌∷◌, All, count_by}
-use Rattle.std.proofs.Common.{cond, refl, sym, ap, arith, le_refl, zero-le, true≢false}
-use Rattle.std.proofs.lemmas.List.Elements.{All-head, All-tail}
+use Rattle.std.proofs.Common.{◌≡◌, ◌+◌, ◌≤◌, Bool, true, false, List, [], ◌∷◌, count_by}
+use Rattle.std.proofs.Common.{cond, refl, sym, arith, le_refl, zero-le, true≢false}
 use Rattle.std.proofs.lemmas.List.Sums.{sum_by-cons}
 
 -- what passes one test passes the other, so no fewer pass that
@@ -21,15 +20,6 @@ count-le p q more (x ∷ xs) =
     ones true true implies = le_refl 1
     ones true false implies = absurd (true≢false (sym (implies refl)))
     ones false b implies = zero-le
-
--- none passes where each fails
-pub count-none : {X : Type 0} (p : X → Bool) (xs : List X) → All (λ x. p x ≡ false) xs
-    → count_by p xs ≡ 0
-count-none p [] fail = refl
-count-none p (x ∷ xs) fail =
-    sum_by-cons (λ y. cond (p y) 1 0) x xs
-    ∙ ap (λ test. cond test 1 0 + count_by p xs) (All-head (λ y. p y ≡ false) x xs fail)
-    ∙ ap (λ n. 0 + n) (count-none p xs (All-tail (λ y. p y ≡ false) x xs fail))
 
 -- what passes one of two tests that nothing passes both of passes the third
 pub count-two : {X : Type 0} (p q r : X → Bool) → ((x : X) → p x ≡ true → q x ≡ true → ⊥)

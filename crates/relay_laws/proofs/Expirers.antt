@@ -8,7 +8,7 @@ use Rattle.news_terms.specs.Places.{Buffer}
 use Rattle.relay_model.specs.Claims.{Passed}
 use Rattle.relay_model.specs.Run.{Event, Open, Bytes, Turn, Write, Break, Expire, Restart, Step}
 use Rattle.relay_model.specs.Run.{Does, IsRefused, WantsMemory, IsDone, Restarts, IsBusy}
-use Rattle.relay_model.specs.Run.{HasNoRoom, HasNot, expired, reads_front, forgotten, forgetter}
+use Rattle.relay_model.specs.Run.{HasNoRoom, HasNot, expired, reads_front, forgetter}
 use Rattle.relay_model.specs.Run.{passed_of}
 use Rattle.relay_model.specs.Run as run
 use Rattle.relay_model.specs.State.{State}

@@ -28,6 +28,7 @@ use Rattle.relay_model.specs.State.{Ended, Transfer, TakesThis, Has, Job, Asked,
 use Rattle.relay_model.specs.State.{in_phase, with_unread, with_offers}
 use Rattle.relay_model.specs.Terms.{Terms, Reason}
 use Rattle.relay_model.specs.World.{Outcome, IsKept, HasFailed}
+use Rattle.relay_facts.proofs.Turning.{session_of}
 
 -- the token, where it is one of a message-id
 abbrev pub by_id : Asked → Token → Option Token
@@ -206,10 +207,6 @@ never : {ask : Ask} {answer : Answer} {token : Token} (heard : Heard) (next : Se
 never {token = token} heard next e none is =
     absurd (none-some token
     (sym (ap (λ (one : Session). fetching one.phase) e ∙ none) ∙ is))
-
--- the session of what is heard
-session_of : {heard next : Heard} → heard ≡ next → heard.session ≡ next.session
-session_of e = ap (λ (one : Heard). one.session) e
 
 -- an offer's answer
 offer_phase : (after : Session) → fetching after.phase ≡ None → (transfer : Transfer) (id : List ℕ)

@@ -22,21 +22,7 @@ use Rattle.relay_laws.specs.Rules.{IsGoneToken, IsLiveToken}
 use Rattle.relay_laws.proofs.OneText.{one_text_a_token}
 use Rattle.relay_laws.proofs.Runs.{always_well}
 use Rattle.relay_facts.proofs.SameTokens.{same_itself}
-
--- where none is counted, each fails
-none_passes : {X : Type 0} (p : X → Bool) (xs : List X) → count_by p xs ≡ 0
-    → All (λ x. p x ≡ false) xs
-none_passes p [] none = All-nil (λ x. p x ≡ false)
-none_passes {X} p (x ∷ xs) none =
-    by (p x) refl (none_passes p xs)
-    (sym (sum_by-cons (λ y. cond (p y) 1 0) x xs) ∙ none)
-  where
-    by : (test : Bool) → p x ≡ test → (count_by p xs ≡ 0 → All (λ y. p y ≡ false) xs)
-        → cond (p x) 1 0 + count_by p xs ≡ 0 → All (λ y. p y ≡ false) (x ∷ xs)
-    by true is rest e =
-        let one : cond {A = ℕ} (p x) 1 0 ≡ 1 = ap (λ test. cond {A = ℕ} test 1 0) is in
-        absurd (omega (arith, one, e))
-    by false is rest e = All-cons (λ y. p y ≡ false) x xs is (rest (omega (arith, e)))
+use Rattle.relay_facts.proofs.Places.{none_passes}
 
 -- where at most one passes, the first that does is the one
 only_first : {X : Type 0} (p : X → Bool) (xs : List X) → count_by p xs ≤ 1

@@ -25,7 +25,7 @@ use Rattle.relay_model.specs.Shares.{Answer, Shares, ToLook}
 use Rattle.relay_model.specs.State.{State, Session, Leaving, Ended}
 use Rattle.relay_model.specs.State.{in_phase, put_at, with_unread}
 use Rattle.relay_model.specs.Terms.{Terms}
-use Rattle.relay_model.specs.World.{World, Output, Expirer, Forgetting, empty_world}
+use Rattle.relay_model.specs.World.{World, Output, Expirer, Forgetting}
 use Rattle.relay_model.specs.World as world
 use Rattle.relay_facts.specs.Sound.{IsSound}
 use Rattle.relay_facts.proofs.Moves.{step_moves}

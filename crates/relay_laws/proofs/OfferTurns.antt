@@ -21,8 +21,7 @@ use Rattle.relay_model.specs.State.{Session, Job, Transfer, TakesThis, Has, Aske
 use Rattle.relay_model.specs.Terms.{Terms, queue_limit}
 use Rattle.relay_model.specs.World.{World, Output, Outcome, IsKept, HasFailed}
 use Rattle.relay_laws.proofs.OfferDues.{DueOffers, due_offers}
-use Rattle.relay_laws.proofs.OfferSteps.{Touches, IsOffered, offers_answered, others_stay}
-use Rattle.relay_laws.proofs.OfferSteps.{offered_after}
+use Rattle.relay_laws.proofs.OfferSteps.{Touches, offers_answered}
 use Rattle.relay_laws.proofs.OfferSteps as steps
 
 -- what a Turn does to claims, and to the open offers of its session

@@ -4,7 +4,7 @@ use Rattle.std.proofs.Common.{refl, sym, ap, subst, arith, true≢false}
 use Rattle.std.proofs.lemmas.Option.{none-some, same_Some}
 use Rattle.relay_model.specs.Run.{Event, Open, Bytes, Turn, Write, Break, Expire, Restart}
 use Rattle.relay_model.specs.Run.{Does, Step, IsRefused, WantsMemory, IsDone, Restarts, IsBusy}
-use Rattle.relay_model.specs.Run.{HasNoRoom, HasNot, refusal, restarted}
+use Rattle.relay_model.specs.Run.{HasNoRoom, HasNot, restarted}
 use Rattle.relay_model.specs.Run as runs
 use Rattle.relay_model.specs.State.{Session, in_phase, with_unread, Leaving}
 use Rattle.relay_model.specs.Terms.{Terms}

@@ -19,7 +19,7 @@ use Rattle.relay_laws.specs.Laws.{Always, is_at, OneTextAPlace, OneTextAToken}
 use Rattle.relay_laws.proofs.BelowFronts.{other_place, none_past, new_apart}
 use Rattle.relay_facts.proofs.ClaimMoves.{goes_begun}
 use Rattle.relay_laws.proofs.Counts.{count-le}
-use Rattle.relay_facts.proofs.Moves.{Moves, SameStore, step_moves}
+use Rattle.relay_facts.proofs.Moves.{Moves, step_moves}
 use Rattle.relay_facts.proofs.Moves as moves
 use Rattle.relay_facts.proofs.RisingFronts.{BeginFacts, begin_facts, place_named, begins_past}
 use Rattle.relay_laws.proofs.Runs.{always_keeps}

@@ -15,11 +15,11 @@ use Rattle.relay_model.specs.Run.{Does}
 use Rattle.relay_model.specs.Run.{IsRefused, WantsMemory, IsDone, Turns, Restarts, IsBusy}
 use Rattle.relay_model.specs.Run.{HasNoRoom}
 use Rattle.relay_model.specs.Run.{HasNot, refusal, opened, new_session, expired, reads_front}
-use Rattle.relay_model.specs.Run.{forgotten, forgetting, restarted, is_taken, shard_of}
+use Rattle.relay_model.specs.Run.{forgotten, forgetting, is_taken, shard_of}
 use Rattle.relay_model.specs.Run as run
 use Rattle.relay_model.specs.State.{State, Session, put_id, put_at}
 use Rattle.relay_model.specs.Terms.{Terms}
-use Rattle.relay_model.specs.World.{World, Output, Expirer, Forgetting, with_session, empty_world}
+use Rattle.relay_model.specs.World.{World, Output, Expirer, Forgetting, with_session}
 use Rattle.relay_model.specs.World as world
 use Rattle.relay_model.specs.Writers.{Writes, NoJob, Pops, HasBegun, FindsWorn, WritesBlock}
 use Rattle.relay_model.specs.Writers.{FailsToWrite, HasStored, Settles, Closes, Forgets, TellsKept}

@@ -14,7 +14,7 @@ use Rattle.relay_model.specs.Fetches.{front_of}
 use Rattle.relay_model.specs.Invariants.{IsWell, IsSized}
 use Rattle.relay_model.specs.Run.{Event, Open, Bytes, Turn, Write, Break, Expire, Restart, Step}
 use Rattle.relay_model.specs.Run.{Does, IsRefused, WantsMemory, IsDone, Restarts, IsBusy}
-use Rattle.relay_model.specs.Run.{HasNoRoom, HasNot, expired, reads_front, forgotten, forgetter}
+use Rattle.relay_model.specs.Run.{HasNoRoom, HasNot, expired, reads_front, forgotten}
 use Rattle.relay_model.specs.Run.{passed_of}
 use Rattle.relay_model.specs.Run as run
 use Rattle.relay_model.specs.Shares.{Answer, Shares, Reading, IsFound, HasNotRead, Pushing}

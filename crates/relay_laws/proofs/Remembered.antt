@@ -14,7 +14,7 @@ use Rattle.relay_model.specs.Claims.{Accepted, Claim, Unknown, Offered, Storing,
 use Rattle.relay_model.specs.Claims.{Passed, is_passed, after_offer, after_take, after_refuse}
 use Rattle.relay_model.specs.Claims.{after_release, after_expire, after_restart}
 use Rattle.relay_model.specs.Run.{Event, Open, Bytes, Turn, Write, Break, Expire, Restart, Step}
-use Rattle.relay_model.specs.Run.{Does, IsRefused, WantsMemory, IsDone, Turns, Restarts, IsBusy}
+use Rattle.relay_model.specs.Run.{Does, IsRefused, WantsMemory, IsDone, Restarts, IsBusy}
 use Rattle.relay_model.specs.Run.{HasNoRoom, HasNot, expired, reads_front, forgotten, forgetting}
 use Rattle.relay_model.specs.Run.{opened, restarted, shard_of}
 use Rattle.relay_model.specs.Run as run

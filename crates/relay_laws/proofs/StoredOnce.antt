@@ -13,7 +13,7 @@ use Rattle.relay_model.specs.Writers.{IsHopeless, HasFailedToStore, CannotBegin}
 use Rattle.relay_facts.proofs.Puts.{put_id_both, same_id}
 use Rattle.relay_laws.specs.Laws.{texts_of, is_remembered, RunRemembering}
 use Rattle.relay_facts.proofs.ClaimMoves.{ClaimGoes, Stays, IsEarly, IsForgotten, is_early}
-use Rattle.relay_facts.proofs.Moves.{Moves, SameStore, step_moves}
+use Rattle.relay_facts.proofs.Moves.{Moves, step_moves}
 use Rattle.relay_facts.proofs.Moves as moves
 
 -- how many texts a message-id at this stage has

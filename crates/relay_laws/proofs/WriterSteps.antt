@@ -14,7 +14,7 @@ use Rattle.relay_model.specs.Run.{expired, reads_front}
 use Rattle.relay_model.specs.Shares.{Answer, Shares, Reading, IsFound, HasNotRead, Pushing}
 use Rattle.relay_model.specs.State.{Job}
 use Rattle.relay_model.specs.Terms.{Terms, queue_limit}
-use Rattle.relay_model.specs.World.{World, Writer, Output, Expirer, Forgetting, Idle}
+use Rattle.relay_model.specs.World.{World, Writer, Output, Expirer, Forgetting}
 use Rattle.relay_model.specs.World as world
 use Rattle.relay_model.specs.Writers.{Writes, NoJob, Pops, HasBegun, FindsWorn, WritesBlock}
 use Rattle.relay_model.specs.Writers.{FailsToWrite, HasStored, Settles, Closes, Forgets, TellsKept}

@@ -27,7 +27,7 @@ use Rattle.live_store.specs.declared.numbered.NumberedBuffer.{NumberedBuffer}
 use Rattle.live_store.specs.declared.record.StorePremises as store_premises
 use Rattle.news_terms.specs.Fronts.{FitsGroup}
 use Rattle.news_terms.specs.Places as places
-use Rattle.relay_conf.proofs.ListPlaces.{holds_at}
+use Rattle.news_terms.proofs.ListPlaces.{holds_at}
 use Rattle.relay_conf.specs.Places.{numbered_buffer}
 use Rattle.relay_conf.specs.Settings.{places_of_buffers, places_of_groups}
 use Rattle.relay_conf.specs.declared.cycbuff.BufferConf.{BufferConf}

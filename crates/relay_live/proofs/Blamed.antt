@@ -1,16 +1,11 @@
 -- Whose store it is over which no buffer is made.
-use Rattle.std.proofs.Common.{◌≡◌, ◌∙◌, ℕ, List, [], ◌∷◌, ◌++◌, length, Some, refl, sym, subst}
+use Rattle.std.proofs.Common.{◌≡◌, ◌∙◌, ℕ, List, ◌∷◌, ◌++◌, length, Some, sym, subst}
 use Rattle.std.specs.Prelude.{slice_get}
 use Rattle.cyc_block.specs.declared.store.BlockStore.{Ghosts}
 use Rattle.block_shelf.specs.Filling.{IsRefusalOver, IsBufferSetRefusal}
 use Rattle.block_shelf.specs.declared.filling.BufferSetError.{BufferSetError}
 use Rattle.block_shelf.specs.declared.filling.BufferSetError.TheVariants as errors
-
--- behind the front of a list stands the next item
-next_behind : {X : Type 0} (front : List X) (x : X) (rest : List X)
-    → slice_get (front ++ x ∷ rest) (length front) ≡ Some x
-next_behind [] x rest = refl
-next_behind (y ∷ front) x rest = next_behind front x rest
+use Rattle.news_terms.proofs.ListPlaces.{next_behind}
 
 -- the number of a store is how many stand before it
 pub blamed_at : {S : Type 0} (g : Ghosts S) (front : List S) (store : S) (rest stores : List S)

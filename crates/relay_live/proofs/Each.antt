@@ -4,7 +4,7 @@ use Rattle.std.proofs.Common.{sym}
 use Rattle.std.proofs.lemmas.List.{length-map}
 use Rattle.std.proofs.lemmas.Option.{slice_get-map}
 use Rattle.block_shelf.specs.Each.{AreEach}
-use Rattle.relay_conf.proofs.ListPlaces.{mapped_at}
+use Rattle.news_terms.proofs.ListPlaces.{mapped_at}
 
 -- what is made of items that belong together belongs together, too
 pub both_mapped : {X Y A B : Type 0} (P : ℕ → X → Y → Type 0) (Q : ℕ → A → B → Type 0) (f : X → A)

@@ -19,7 +19,7 @@ use Rattle.live_store.specs.Steps.{buffer_of}
 use Rattle.live_store.specs.declared.numbered.NumberedBuffer.{NumberedBuffer}
 use Rattle.live_store.specs.declared.record.StorePremises as store_premises
 use Rattle.live_store.specs.declared.unopened.UnopenedNumbered.{UnopenedNumbered}
-use Rattle.relay_conf.proofs.ListPlaces.{mapped_at}
+use Rattle.news_terms.proofs.ListPlaces.{mapped_at}
 use Rattle.relay_live.proofs.Each.{both_mapped, each_joined, first_unmapped}
 use Rattle.relay_live.specs.Starting.{AreStarted, IsHeadFailed, IsLeftUnopened, IsOpenedFrom}
 use Rattle.relay_live.specs.Starting.{IsStartedOver, IsUnopened}

@@ -16,7 +16,7 @@ use Rattle.live_store.specs.Started.{ShutWith}
 use Rattle.live_store.specs.Steps.{buffer_of}
 use Rattle.live_store.specs.declared.numbered.NumberedBuffer.{NumberedBuffer}
 use Rattle.live_store.specs.declared.record.StorePremises as store_premises
-use Rattle.relay_conf.proofs.ListPlaces.{at_pushed}
+use Rattle.news_terms.proofs.ListPlaces.{at_pushed}
 use Rattle.relay_core.specs.Stopping.{next_stop}
 use Rattle.relay_live.specs.Alone.{codes_of, stop_in}
 use Rattle.relay_live.specs.Stopping.{AreKnown, AreShutWith, IsAtRest, IsShutAll}

@@ -23,6 +23,7 @@ use Rattle.id_history.specs.History as texts
 use Rattle.id_history.specs.declared.fault.HistoryError.{HistoryError}
 use Rattle.id_history.specs.declared.fault.HistoryError.TheVariants as errors
 use Rattle.id_history.specs.Shards.{EachKeeps}
+use Rattle.id_history.proofs.LastingLaws.{lasting-restart}
 use Rattle.live_jobs.specs.Desks.{desk_of}
 use Rattle.live_store.proofs.StopLemmas.{article_of}
 use Rattle.live_store.specs.Started.{AreArticles, ShutWith, unopened_in}
@@ -35,7 +36,6 @@ use Rattle.relay_conf.specs.declared.settings.Config.{Config}
 use Rattle.relay_core.proofs.Beginnings.{rings_are}
 use Rattle.relay_core.proofs.Records.{lasts_again}
 use Rattle.relay_core.proofs.Starts.{again, held_by, shut_behind, shut_reads}
-use Rattle.relay_core.proofs.Stops.{lasting_is}
 use Rattle.relay_core.specs.Agreement.{ring_sizes}
 use Rattle.relay_core.specs.Ahead.{filled_of, filled_view, is_ahead}
 use Rattle.relay_core.specs.Desks.{Reads}
@@ -283,7 +283,7 @@ module _ {S J : Type 0} {s : blocks.Ghosts S} {j : store_premises.Ghosts J} (con
                 (sym shards)
                 (subst (EachKeeps desks.shards.items)
                 (λ i id. (lasts_again (x.state.claim id)
-                ∙ lasting_is (x.state.claim id) (shut.idle id)) i)
+                ∙ lasting-restart (x.state.claim id) (shut.idle id)) i)
                 (of.claims (started x x.work.failures).state.claim parts.2));
             feeds = subst (λ d. KeepsFeeds (desk_of d) (ring_sizes (terms_of config)) x.state.feed)
                 (sym desk)

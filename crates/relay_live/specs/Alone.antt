@@ -1,5 +1,5 @@
 -- The parts of a relay that no thread shares, and which state of the relay they keep
--- (docs/PROTOCOL.md, State, Clean stop and start).
+-- (docs/PROTOCOL.md, Threads, Clean stop and start).
 use Rattle.std.specs.Prelude.{◌≡◌, ℕ, List, length, map}
 use Rattle.block_shelf.specs.Starting.{BuffersKeep, PlacedGroupsKeep}
 use Rattle.cyc_block.specs.declared.store.BlockStore as blocks

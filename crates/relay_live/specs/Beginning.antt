@@ -1,4 +1,4 @@
--- The parts of a relay before anything has come (docs/PROTOCOL.md, State).
+-- The parts of a relay before anything has come (docs/PROTOCOL.md, Threads).
 use Rattle.std.specs.Prelude.{◌≡◌, ◌+◌, ℕ, Bool, true, List, None, length, map, replicate}
 use Rattle.block_shelf.specs.Each.{AreEach}
 use Rattle.block_shelf.specs.Filling.{AreNewPlacedGroups, failures_in}

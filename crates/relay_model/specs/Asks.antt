@@ -89,7 +89,7 @@ abbrev pub offer_asked : Session → Transfer → List ℕ → Ask
 offer_asked session transfer id =
     if is_full session.offers id then Says (later transfer id) else Offers transfer id
 
--- XTAKE: by the feed of the session's peer (docs/PROTOCOL.md, XTAKE)
+-- XTAKE: by the feed of the session's peer (docs/PROTOCOL.md, XFETCH and XTAKE)
 abbrev pub queue_asked : ℕ → Option ℕ → Ask
 queue_asked most None = Says NoFeed
 queue_asked most (Some feed) = TakesQueue feed most
@@ -98,7 +98,8 @@ queue_asked most (Some feed) = TakesQueue feed most
 abbrev pub feed_of : Terms → ℕ → Option ℕ
 feed_of w peer = position (λ (feed : FeedTerms). feed.peer == peer) w.feeds
 
--- XFETCH: its word is a token, which is read from this Turn on, or none (docs/PROTOCOL.md, XFETCH)
+-- XFETCH: its word is a token, which is read from this Turn on, or none
+-- (docs/PROTOCOL.md, XFETCH and XTAKE)
 pub data TokenAsked (word : List ℕ) (ask : Ask) : Type 0 where
   IsRead : (token : Token) → IsToken token → token_text token ≡ word
       → ask ≡ Reads OfToken token 0 → TokenAsked word ask

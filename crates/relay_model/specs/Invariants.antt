@@ -6,7 +6,7 @@ use Rattle.news_terms.specs.Article.{Article, IsArticleText}
 use Rattle.news_terms.specs.Fronts.{FitsGroup}
 use Rattle.news_terms.specs.Places.{Group, size_of}
 use Rattle.relay_model.specs.Awaited.{IsAwaited}
-use Rattle.relay_model.specs.Claims.{Accepted, Claim, Unknown, Offered, Storing, Stored, Refused}
+use Rattle.relay_model.specs.Claims.{Accepted, Storing}
 use Rattle.relay_model.specs.Claims.{Stage, Waiting, Begun, Whole}
 use Rattle.relay_model.specs.Claims as claims
 use Rattle.relay_model.specs.Counted.{IsCounted}

@@ -11,7 +11,7 @@ use Rattle.relay_model.specs.State.{State, Session, Job, put_id, put_at, empty_s
 pub data Outcome : Type 0 where
   IsKept HasFailed : Outcome
 
--- how far the writer of a group is (docs/PROTOCOL.md, Writers)
+-- how far the writer of a group is (docs/PROTOCOL.md, Groups and writers)
 pub data Writer : Type 0 where
   -- it has no job
   Idle : Writer

@@ -1,4 +1,5 @@
--- Begin, Store, Accept and Abandon, and in which Write each comes (docs/PROTOCOL.md, Writers).
+-- Begin, Store, Accept and Abandon, and in which Write each comes
+-- (docs/PROTOCOL.md, Groups and writers).
 use Rattle.std.specs.Prelude.{◌≡◌, ℕ, ◌≤◌, ◌<◌, ◌+◌, nat_eq, List, [], ◌∷◌, ◌++◌, length, slice_get}
 use Rattle.std.specs.Prelude.{option_and_then, Option, None, Some, if◌then◌else◌}
 use Rattle.std.specs.List.{list_any}
@@ -17,7 +18,8 @@ use Rattle.relay_model.specs.World as world
 abbrev pub job_size : Job → ℕ
 job_size job = size_of (length job.article.text)
 
--- where the job's article goes, after those that its group began (docs/PROTOCOL.md, Groups)
+-- where the job's article goes, after those that its group began
+-- (docs/PROTOCOL.md, Groups and writers)
 abbrev pub place_for : Terms → State → Job → Option Place
 place_for w σ job =
     option_and_then (λ group. next_place group (σ.begun job.article.group) (job_size job))

@@ -3,14 +3,11 @@
 use Rattle.std.proofs.Common.{◌≡◌, ◌∙◌, ◌∷◌, ◌&&◌, ◌+◌, [], ap, sym, subst, refl, zero-add}
 use Rattle.std.proofs.Common.{Bool, true, false, cond, List, ℕ, true≢false}
 use Rattle.std.proofs.lemmas.List.Sums.{sum_by-cons}
-use Rattle.std.proofs.lemmas.Map.Views.{any-filter_same}
-use Rattle.std.proofs.lemmas.Slice.Eq.{bytes_eq-Decides}
-use Rattle.std.specs.List.{AllByRecursion, IsDistinct, count_by, filter}
-use Rattle.std.specs.Set.{is_member}
-use Rattle.std.specs.Str.{bytes_eq}
+use Rattle.std.specs.List.{count_by, filter}
 use Rattle.article_verdict.specs.Config.{terms_of}
 use Rattle.id_history.specs.Counts.{CountsOf, is_known, is_offered, is_refused, is_stored}
 use Rattle.id_history.specs.declared.counts.Counts.{Counts}
+use Rattle.id_history.proofs.CountLaws.{IsDistinct-filter, member_filter}
 use Rattle.relay_conf.specs.declared.settings.Config.{Config}
 use Rattle.relay_model.specs.Claims.{Claim, Unknown, Offered, Storing, Stored, Refused}
 use Rattle.relay_model.specs.Claims.{after_restart}
@@ -61,37 +58,6 @@ same_test test alike (Storing session article stage) = refl
 same_test test alike (Stored token moment) = refl
 same_test test alike (Refused moment) = refl
 
--- what differs from each differs from each that a filter keeps
-apart_filter : (keep : List ℕ → Bool) (x : List ℕ) (xs : List (List ℕ))
-    → AllByRecursion (λ y. bytes_eq x y ≡ false) xs
-    → AllByRecursion (λ y. bytes_eq x y ≡ false) (filter keep xs)
-apart_filter keep x [] all = tt
-apart_filter keep x (y ∷ ys) all = by (keep y) (apart_filter keep x ys all.1)
-  where
-    by : (b : Bool) → AllByRecursion (λ z. bytes_eq x z ≡ false) (filter keep ys)
-        → AllByRecursion (λ z. bytes_eq x z ≡ false) (cond b (y ∷ filter keep ys) (filter keep ys))
-    by true others = (all.0, others)
-    by false others = others
-
--- a filter makes no doubles
-distinct_filter : (keep : List ℕ → Bool) (xs : List (List ℕ)) → IsDistinct bytes_eq xs
-    → IsDistinct bytes_eq (filter keep xs)
-unfolding IsDistinct
-distinct_filter keep [] once = once
-distinct_filter keep (x ∷ xs) once = by (keep x) (distinct_filter keep xs once.1)
-  where
-    by : (b : Bool) → IsDistinct bytes_eq (filter keep xs)
-        → IsDistinct bytes_eq (cond b (x ∷ filter keep xs) (filter keep xs))
-    by true others = (apart_filter keep x xs once.0, others)
-    by false others = others
-
--- it keeps the ids that pass
-member_filter : (keep : List ℕ → Bool) (id : List ℕ) (xs : List (List ℕ))
-    → is_member bytes_eq (filter keep xs) id ≡ (keep id && is_member bytes_eq xs id)
-member_filter keep id xs =
-    any-filter_same (bytes_eq id) keep (keep id)
-    (λ k same. ap keep (sym ((bytes_eq-Decides id k).0 same))) xs
-
 -- what doesn't pass fails
 fails : (b : Bool) → (b ≡ true → ⊥) → b ≡ false
 fails true not = absurd (not refl)
@@ -128,7 +94,7 @@ counts_again : (claims : List ℕ → Claim) (ids : Counts) → CountsOf claims 
     → CountsOf (λ id. after_restart (claims id)) (record ids { offered = 0 })
 counts_again claims ids counted = record {
   ids = filter (lasts claims) counted.ids;
-  once = distinct_filter (lasts claims) counted.ids counted.once;
+  once = IsDistinct-filter (lasts claims) counted.ids counted.once;
   known = λ id. member_filter (lasts claims) id counted.ids
       ∙ ap (λ b. lasts claims id && b) (counted.known id) ∙ known_before (claims id);
   numbers = record {

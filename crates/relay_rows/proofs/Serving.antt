@@ -1,22 +1,16 @@
 -- What serving answers that ends with a report.
-use Rattle.std.proofs.Common.{Err, List, None, Ok, Option, Result, Some, [], ℕ, refl, sym}
-use Rattle.std.proofs.Common.{append-nil}
-use Rattle.std.specs.Io.KnownBytes.{Appends}
+use Rattle.std.proofs.Common.{Err, List, Ok, Option, Result, [], ℕ, refl}
 use Rattle.relay_conf.specs.declared.settings.Config.{Config}
 use Rattle.relay_report.specs.Written.{GainsFront}
 use Rattle.relay_report.specs.declared.totals.Totals.{Totals}
 use Rattle.relay_report.specs.Serve.{AreOf, PrintGives, ServeGives}
 use Rattle.relay_report.specs.declared.fault.ServeError.{ServeError}
 use Rattle.relay_report.specs.declared.fault.ServeError.TheVariants as faults
-
--- A writer that takes nothing gains nothing.
-gains_none : (held : Option (List ℕ)) → Appends held held []
-gains_none None = tt
-gains_none (Some xs) = sym (append-nil xs)
+use Rattle.relay_report.proofs.Writes.{appends_none}
 
 -- A writer that takes nothing of a text has a front of it.
 pub takes_none : (text : List ℕ) (held : Option (List ℕ)) → GainsFront text held held
-takes_none text held = record { front = []; left = text; cut = refl; gained = gains_none held }
+takes_none text held = record { front = []; left = text; cut = refl; gained = appends_none held }
 
 -- What the printing of a relay's totals answers is what serving it answers.
 pub printed : (config : Config) (totals : Totals) (result : Result (Unit {0}) ServeError)

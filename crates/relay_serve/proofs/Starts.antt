@@ -1,5 +1,5 @@
 -- Whether a relay that isn't run couldn't start, and why not.
-use Rattle.std.proofs.Common.{◌≡◌, ◌∙◌, ap, inl, inr, List, ℕ, Option, None, Some, refl, subst, sym}
+use Rattle.std.proofs.Common.{◌≡◌, inl, inr, List, ℕ, Option, None, Some, refl, subst, sym}
 use Rattle.std.specs.Prelude.{slice_get}
 use Rattle.std.proofs.lemmas.Option.{get_or_from_slice_get, slice_get_within}
 use Rattle.std.specs.IoError.{error_kind}

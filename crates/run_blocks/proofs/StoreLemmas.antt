@@ -5,7 +5,7 @@ use Rattle.std.proofs.lemmas.List.{drop-drop}
 use Rattle.cyc_block.specs.declared.TheConstants.{BLOCK_OCTETS}
 use Rattle.news_terms.specs.HeadBlocks.{head_blocks}
 use Rattle.file_blocks.specs.Blocks.{blocks_of, heads_of}
-use Rattle.file_blocks.proofs.CutLemmas.{length-blocks_of}
+use Rattle.file_blocks.proofs.CutLemmas.{length-blocks_of, same_count}
 use Rattle.run_blocks.specs.File.{octets_in, ChangesOnlyIn}
 use Rattle.run_blocks.specs.Overlay.{overlaid}
 use Rattle.run_blocks.proofs.OverlayLemmas.{ChangesOnlyRun, Before, Within, Behind, where_is}
@@ -27,10 +27,6 @@ run_change n first count place size old new is c =
     (subst (λ p. ChangesOnlyIn p (count * BLOCK_OCTETS) old new) is.begins
     (subst (λ s. ChangesOnlyIn place s old new) is.long c))
 
--- as many blocks are cut off as there were
-same_length : (n : ℕ) (old new : List ℕ) → length (blocks_of n new) ≡ length (blocks_of n old)
-same_length n old new = length-blocks_of n new ∙ sym (length-blocks_of n old)
-
 -- a run in memory fits among the blocks of its file
 run_fits : (n first count : ℕ) (room old : List ℕ) → first + count ≤ n
     → first + length (blocks_of count room) ≤ length (blocks_of n old)
@@ -49,7 +45,7 @@ run_written n first count place size old new octets room is same c written =
     sym (ap (λ p. octets_in new p (count * BLOCK_OCTETS)) is.begins)
     ∙ sym (ap (octets_in new place) is.long)
     ∙ written in
-    overlaid_written first run (blocks_of n old) (blocks_of n new) (same_length n old new)
+    overlaid_written first run (blocks_of n old) (blocks_of n new) (same_count n old new)
     (run_fits n first count room old is.within)
     (subst (λ m. ChangesOnlyRun first m (blocks_of n old) (blocks_of n new)) (sym long)
     (run_change n first count place size old new is c))
@@ -63,7 +59,7 @@ pub run_kept : (n first count place size : ℕ) (old new room : List ℕ)
     ≡ overlaid first (blocks_of count room) (blocks_of n old)
 run_kept n first count place size old new room is c =
     overlaid_same first (blocks_of count room) (blocks_of n old) (blocks_of n new)
-    (same_length n old new) (run_fits n first count room old is.within)
+    (same_count n old new) (run_fits n first count room old is.within)
     (subst (λ m. ChangesOnlyRun first m (blocks_of n old) (blocks_of n new))
     (sym (length-blocks_of count room)) (run_change n first count place size old new is c))
 

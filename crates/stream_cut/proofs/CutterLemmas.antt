@@ -5,7 +5,7 @@ use Rattle.std.proofs.Common.{append_assoc, length-append, length-drop}
 use Rattle.std.proofs.Math.Seq.{drop-append-add, drop-append_seam}
 use Rattle.std.proofs.lemmas.List.{drop-append-le, drop-drop, drop_all, length-take-le}
 use Rattle.std.proofs.lemmas.Bool.{cases_lt}
-use Rattle.news_terms.specs.Blocks.{next_block, text_lines}
+use Rattle.news_terms.specs.Blocks.{text_lines}
 use Rattle.news_terms.specs.Blocks as blocks
 use Rattle.news_terms.proofs.NextLemmas.{next_block-whole}
 use Rattle.stream_cut.specs.Look.{IsLooked, IsPassed}

@@ -13,7 +13,7 @@ use Rattle.std.proofs.lemmas.Option.{same_Some}
 use Rattle.std.proofs.lemmas.Slice.Eq.{bytes_eq-Decides}
 use Rattle.news_terms.specs.Lines.{crlf, first_line, spelled}
 use Rattle.news_terms.specs.Blocks.{dot, AreOpenLines, CutsBlock}
-use Rattle.news_terms.specs.Blocks.{first_block, next_block, unstuffed}
+use Rattle.news_terms.specs.Blocks.{next_block, unstuffed}
 use Rattle.news_terms.specs.Blocks.{unstuffed_line, stuffed_room, text_lines}
 use Rattle.news_terms.specs.Blocks as blocks
 use Rattle.news_terms.proofs.RestLemmas.{first_line-line}

@@ -11,9 +11,8 @@ use Rattle.std.proofs.lemmas.Grind.{flat_map-append}
 use Rattle.std.proofs.lemmas.Bool.{cases_Bool, cases_lt}
 use Rattle.std.proofs.lemmas.Slice.Eq.{bytes_eq-Decides}
 use Rattle.news_terms.specs.Lines.{crlf, first_line, spelled}
-use Rattle.news_terms.specs.Blocks.{dot, AreOpenLines, CutsBlock}
+use Rattle.news_terms.specs.Blocks.{dot, AreOpenLines}
 use Rattle.news_terms.specs.Blocks.{first_block, next_block, unstuffed}
-use Rattle.news_terms.specs.Blocks.{stuffed_room, text_lines}
 use Rattle.news_terms.specs.Blocks as blocks
 use Rattle.news_terms.proofs.LineLemmas.{first_line_whole}
 use Rattle.news_terms.proofs.NextLemmas.{next_block-whole}

@@ -4,7 +4,7 @@ use Rattle.std.proofs.Common.{◌∙◌, ⊎_elim, Option, Some, Ok, Err, Vec}
 use Rattle.std.proofs.lemmas.Bool.{false≢true}
 use Rattle.std.proofs.lemmas.Option.{none-some}
 use Rattle.news_terms.specs.Lines.{next_line, NextLine, Cut, TooLong, Incomplete}
-use Rattle.news_terms.specs.Blocks.{CutsBlock, next_block, NextBlock, unstuffed, Unfinished}
+use Rattle.news_terms.specs.Blocks.{next_block, NextBlock, unstuffed, Unfinished}
 use Rattle.news_terms.specs.Blocks as blocks
 use Rattle.news_terms.proofs.LineLemmas.{CutsLine-from_first, no_first_line}
 use Rattle.news_terms.proofs.BlockLemmas.{CutsBlock-from_first, first_block-cuts}

@@ -1,10 +1,11 @@
 use Rattle.std.proofs.Common.{◌∙◌, ◌++◌, [], Some, ap, refl, sym, take}
 use Rattle.std.proofs.lemmas.List.{append-nil}
-use Rattle.live_session.proofs.Carrying.{lost, none_of, piece_came}
+use Rattle.live_session.proofs.Carrying.{lost, piece_came}
 use Rattle.live_session.proofs.LiveSessions.{fed, served_still, still, then_same}
 use Rattle.live_session.proofs.serve.receive.Goals as goal
 use Rattle.live_session.specs.Carried.{carried}
 use Rattle.live_session.specs.declared.wire.Finish.TheVariants as finishes
+use Rattle.cyc_buffer.proofs.StopLemmas.{none_of}
 
 pub returns-in-Ok-eq0-clause-served : goal.returns-in-Ok-eq0-clause-served
 returns-in-Ok-eq0-clause-served g c w =

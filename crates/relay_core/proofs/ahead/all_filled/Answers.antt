@@ -1,4 +1,4 @@
-use Rattle.std.proofs.Common.{◌≡◌, ◌∙◌, ◌<◌, ◌≤◌, arith, get_or, length, refl, rules}
+use Rattle.std.proofs.Common.{◌∙◌, ◌<◌, length, refl, rules}
 use Rattle.relay_core.proofs.Fillings.{filled_all, filled_joins, filled_there}
 use Rattle.relay_core.proofs.ahead.all_filled.Goals as goal
 use Rattle.relay_core.proofs.ahead.all_filled.Goals.{in-Some, in_default}

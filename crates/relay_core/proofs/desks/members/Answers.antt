@@ -1,4 +1,4 @@
-use Rattle.std.proofs.Common.{◌∙◌, ◌<◌, ◌≤◌, arith, ap, length, get_or, subst, rules}
+use Rattle.std.proofs.Common.{◌∙◌, ◌<◌, ◌≤◌, length, get_or, rules}
 use Rattle.relay_core.proofs.Fillings.{member_more, member_none}
 use Rattle.relay_core.proofs.desks.members.Goals as goal
 use Rattle.relay_core.proofs.desks.members.Goals.{then-number-len, else-number-len}

@@ -8,7 +8,7 @@ use Rattle.block_shelf.proofs.Starts.{untouched_stores}
 use Rattle.block_shelf.specs.Each.{AreEach}
 use Rattle.block_shelf.specs.Starting.{IsFirstOther}
 use Rattle.live_store.specs.Started.{unopened_in}
-use Rattle.relay_conf.proofs.ListPlaces.{holds_at}
+use Rattle.news_terms.proofs.ListPlaces.{holds_at}
 use Rattle.relay_live.proofs.StartedBuffers.{mixed_start, next_stopped, refused_start}
 use Rattle.relay_live.specs.Starting.{HasTried, IsStartedOver}
 use Rattle.relay_live.proofs.started.start_buffers.Goals as goal

@@ -7,8 +7,9 @@ use Rattle.live_jobs.specs.Seats.{left_by}
 use Rattle.relay_live.specs.PeerServers.{kept_of, peer_of, terms_at}
 use Rattle.relay_live.specs.Sessions.{Accounted, HasLists}
 use Rattle.relay_model.specs.Terms.{Terms}
-use Rattle.relay_serve.proofs.Kept.{made_of, made_there, one_there, same_there}
+use Rattle.relay_serve.proofs.Kept.{made_there, one_there, same_there}
 use Rattle.relay_serve.proofs.running.run_shared.Goals as goal
+use Rattle.news_terms.proofs.ListPlaces.{mapped_at}
 
 -- what the seats had is what the totals are of
 pub returns-in-Ok-clause-ran : goal.returns-in-Ok-clause-ran
@@ -34,7 +35,7 @@ returns-in-Ok-clause-ran g c =
       none = subst (λ (n : ℕ). NoneElse n (map (λ w. w.finished.items) seats.writers.items))
           (sym peer_sources) ran.none;
       served = λ end peer jobs answers at_peer handed kept.
-          let at = made_of kept_of ends end answers kept in
+          let at = mapped_at kept_of ends end answers kept in
           let has = ran.kept end jobs at.0 handed at.1 in
           let its_peer = one_there _ _ end (peer_of at.0) peer ran.peers
           (made_there peer_of ends end at.0 at.1) at_peer in

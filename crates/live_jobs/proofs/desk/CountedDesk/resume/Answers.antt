@@ -1,4 +1,4 @@
-use Rattle.std.proofs.Common.{◌∙◌, ◌+◌, sym, subst, map, arith}
+use Rattle.std.proofs.Common.{sym, subst, map, arith}
 use Rattle.feed_queue.specs.Feeds.{ring_size}
 use Rattle.id_history.specs.Views.{feed_view}
 use Rattle.live_jobs.specs.Posting.{KeepsAtMost}

@@ -1,4 +1,4 @@
-use Rattle.std.proofs.Common.{◌≡◌, ◌≤◌, ◌<◌, ◌^◌, ℕ, All, length, map, vec_len, vec_capacity}
+use Rattle.std.proofs.Common.{◌≤◌, ◌<◌, ◌^◌, ℕ, All, length, map, vec_len, vec_capacity}
 use Rattle.article_verdict.specs.Config.{terms_of}
 use Rattle.feed_queue.specs.Feeds.{KeepsFeeds}
 use Rattle.id_history.specs.Views.{feed_view}

@@ -1,4 +1,4 @@
-use Rattle.std.proofs.Common.{◌∙◌, ℕ, List, length, subst, sym}
+use Rattle.std.proofs.Common.{◌∙◌, ℕ, List, subst, sym}
 use Rattle.id_history.specs.Views.{history_view}
 use Rattle.relay_core.proofs.Restarts.{rereads, unread_of}
 use Rattle.relay_core.proofs.Starts.{rings_hold}

@@ -1,4 +1,4 @@
-use Rattle.std.proofs.Common.{◌≡◌, ◌∙◌, ℕ, List, ap, map, subst, sym, refl}
+use Rattle.std.proofs.Common.{◌∙◌, ℕ, List, ap, map, subst, sym, refl}
 use Rattle.id_history.specs.Views.{history_view}
 use Rattle.relay_core.proofs.Starts.{ahead, ahead_as, not_opened, not_started, rings_hold, starts}
 use Rattle.relay_core.proofs.Starts.{unread_or_room}

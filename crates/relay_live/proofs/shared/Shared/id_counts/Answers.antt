@@ -1,20 +1,12 @@
-use Rattle.std.proofs.Common.{◌+◌, ◌*◌, ◌^◌, ◌≤◌, ℕ, ap, arith, length, subst, sym}
+use Rattle.std.proofs.Common.{◌+◌, ◌*◌, ◌^◌, ap, arith, length, subst, sym}
 use Rattle.id_history.specs.Counts.{AtMost}
-use Rattle.id_history.specs.declared.counts.Counts.{Counts}
+use Rattle.id_history.proofs.JoinLemmas.{AtMost-weaker}
 use Rattle.relay_live.proofs.shared.Shared.id_counts.Goals as goal
-
-weaker : (few most : ℕ) (counts : Counts) → few ≤ most → AtMost few counts → AtMost most counts
-weaker few most counts less at = record {
-  offered = omega (arith, less, at.offered);
-  storing = omega (arith, less, at.storing);
-  stored = omega (arith, less, at.stored);
-  refused = omega (arith, less, at.refused);
-}
 
 -- sixteen times 2 ^ 63 is far from 2 ^ 100
 pub sum-all-requires-clause-one : goal.sum-all-requires-clause-one
 sum-all-requires-clause-one g c =
-    weaker _ _ _ (omega (
+    AtMost-weaker _ _ _ (omega (
       arith,
       c.loop-claims-test.true,
       ap length c.deref-claims-items.ensures.value,

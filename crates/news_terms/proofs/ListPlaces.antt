@@ -7,7 +7,7 @@ use Rattle.std.specs.List.{list_any, enumerate_from}
 use Rattle.std.proofs.lemmas.Bool.{or_left, or_right}
 use Rattle.std.specs.Prelude.{filter_map}
 use Rattle.std.specs.List.{cons_option}
-use Rattle.std.proofs.lemmas.List.Elements.{All-head, All-tail}
+use Rattle.std.proofs.lemmas.List.Elements.{All-head, All-tail, All-cons, All-nil}
 use Rattle.std.proofs.lemmas.Option.{same_Some, get_or_from_slice_get, slice_get_within}
 
 -- What is in a list and one more is in the list, or is that one.
@@ -105,3 +105,13 @@ apart_more {X} xs y new apart i j x at other =
     by_places (inl a) (inr b) = absurd (new i (a ∙ ap (λ (z : X). Some z) (sym b.1)))
     by_places (inr a) (inl b) = absurd (new j (b ∙ ap (λ (z : X). Some z) (sym a.1)))
     by_places (inr a) (inr b) = a.0 ∙ sym b.0
+
+-- What holds of one holds of each of a list of it alone.
+pub all_one : {X : Type 0} (P : X → Type 0) (x : X) → P x → All P (x ∷ [])
+all_one P x holds = All-cons P x [] holds (All-nil P)
+
+-- Behind the front of a list stands the next element.
+pub next_behind : {X : Type 0} (front : List X) (x : X) (rest : List X)
+    → slice_get (front ++ x ∷ rest) (length front) ≡ Some x
+next_behind [] x rest = refl
+next_behind (y ∷ front) x rest = next_behind front x rest
