@@ -1,2 +1,3 @@
 pub mod AfterRestart
+pub mod Printed
 pub mod Writes

@@ -1,6 +1,5 @@
 mod PeerSources
 mod Kept
-mod Printed
 mod ServeFaults
 mod Sizes
 mod Starts

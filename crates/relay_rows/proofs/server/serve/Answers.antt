@@ -1,5 +1,6 @@
 use Rattle.relay_report.specs.Totals.{text_of_totals}
-use Rattle.relay_rows.proofs.Serving.{printed, takes_none}
+use Rattle.relay_report.proofs.Printed.{printed}
+use Rattle.relay_rows.proofs.Serving.{takes_none}
 use Rattle.relay_rows.proofs.server.serve.Goals as goal
 
 pub returns-then-matches : goal.returns-then-matches

@@ -1,9 +1,9 @@
-use Rattle.relay_serve.proofs.Printed.{served}
+use Rattle.relay_report.proofs.Printed.{printed}
 use Rattle.relay_serve.proofs.ServeFaults.{served_none}
 use Rattle.relay_serve.proofs.serving.run_and_print.Goals as goal
 
 pub returns : goal.returns
-returns g c = served _ _ _ _ _ c.in_ok-totals.ensures.totals c.print_totals.ensures
+returns g c = printed _ _ _ _ _ c.in_ok-totals.ensures.totals c.print_totals.ensures
 
 -- what isn't run writes nothing
 pub returns-in_err-totals : goal.returns-in_err-totals
