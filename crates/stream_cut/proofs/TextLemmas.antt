@@ -1,138 +1,402 @@
--- A text that is sent line by line.
-use Rattle.std.proofs.Common.{◌≡◌, ℕ, ◌+◌, ◌-◌, ◌≤◌, ◌==◌, List, [], ◌∷◌, ◌++◌, length, take, drop}
-use Rattle.std.proofs.Common.{map, None, refl, sym, ap, subst, ◌∙◌, arith, ⊎_elim, append_assoc}
-use Rattle.std.proofs.Common.{append-nil, length-append, length-drop}
-use Rattle.std.proofs.lemmas.List.{take_at, drop-drop, drop_all, append_cancel_left}
-use Rattle.std.proofs.lemmas.Bool.{cases_Bool, cases_lt, cond-true, cond-false}
+-- A text that is sent in pieces of whole lines, of which the first alone may begin with a dot.
+use Rattle.std.proofs.Common.{◌≡◌, ◌≢◌, ℕ, zero, suc, ◌+◌, ◌-◌, ◌<◌, ◌≤◌, ◌==◌, List, [], ◌∷◌, ◌++◌}
+use Rattle.std.proofs.Common.{length, take, drop, get_or, map, Option, Some, None, refl, sym, ap}
+use Rattle.std.proofs.Common.{subst, ◌∙◌, arith, ⊎_elim, append_assoc, append-nil, length-append}
+use Rattle.std.proofs.Common.{length-drop, length-take-le, take-append-drop, Bool, true, false}
+use Rattle.std.proofs.Common.{true≢false, map-id, not}
+use Rattle.std.proofs.Math.Dec.{eqb}
+use Rattle.std.proofs.lemmas.Bool.{cases_Bool, cases_lt, cond-true, cond-false, eqb-true}
+use Rattle.std.proofs.lemmas.Bool.Decides.{Decides-eqb}
+use Rattle.std.proofs.lemmas.List.{append_cancel_left, drop-append-le, drop-drop, drop_at, take_at}
+use Rattle.std.proofs.lemmas.Slice.Eq.{ends_is}
+use Rattle.std.specs.List.{ends_with}
+use Rattle.memchr.proofs.lemmas.MatchLemmas.{OccursAt-split, OccursAt-from_part}
+use Rattle.memchr.specs.Find.{OccursAt, NoneBefore, Nowhere}
 use Rattle.news_terms.specs.Lines.{crlf, first_line, spelled}
-use Rattle.news_terms.specs.Blocks.{dot, text_lines, stuffed, stuffed_line, unstuffed_line}
-use Rattle.news_terms.proofs.LineLemmas.{first_line_whole}
+use Rattle.news_terms.specs.Blocks.{dot, stuffed, stuffed_line, text_lines, unstuffed_line}
+use Rattle.news_terms.proofs.LineLemmas.{CutsLine-from_first, first_line_whole, no_first_line}
+use Rattle.news_terms.proofs.LineLemmas.{same_front}
 use Rattle.news_terms.proofs.StuffLemmas.{text_lines-line, text_lines-last}
-use Rattle.stream_cut.specs.Look.{LineEnds}
+use Rattle.stream_cut.specs.Dots.{DotsAt, HasNoInnerDot, end_of}
+use Rattle.stream_cut.proofs.PlaceLemmas.{EndsAt-front}
 
--- stuffing looks at no CRLF
-pub stuffed_line-crlf : (l : List ℕ) → stuffed_line (l ++ crlf) ≡ stuffed_line l ++ crlf
-stuffed_line-crlf [] = refl
-stuffed_line-crlf (a ∷ l) = ⊎_elim
-    (λ t. cond-true _ _ _ t ∙ ap (λ (x : List ℕ). x ++ crlf)
-    (sym (cond-true _ (46 ∷ a ∷ l) (a ∷ l) t)))
-    (λ f. cond-false _ _ _ f ∙ ap (λ (x : List ℕ). x ++ crlf)
-    (sym (cond-false _ (46 ∷ a ∷ l) (a ∷ l) f)))
-    (cases_Bool (a == 46))
+-- what changes a line where it begins with a dot, and then there alone
+pub record ChangesDots (f : List ℕ → List ℕ) : Type 0 where
+  alone : (s more : List ℕ) → 0 < length s → f (s ++ more) ≡ f s ++ more
+  plain : (s : List ℕ) → ((after : List ℕ) → s ≢ 46 ∷ after) → f s ≡ s
 
--- nor does unstuffing
-pub unstuffed_line-crlf : (l : List ℕ) → unstuffed_line (l ++ crlf) ≡ unstuffed_line l ++ crlf
-unstuffed_line-crlf [] = refl
-unstuffed_line-crlf (a ∷ l) = ⊎_elim
-    (λ t. cond-true _ _ _ t ∙ ap (λ (x : List ℕ). x ++ crlf) (sym (cond-true _ l (a ∷ l) t)))
-    (λ f. cond-false _ _ _ f ∙ ap (λ (x : List ℕ). x ++ crlf) (sym (cond-false _ l (a ∷ l) f)))
-    (cases_Bool (a == 46))
+-- stuffing does
+pub stuffed_line-dots : ChangesDots stuffed_line
+stuffed_line-dots = record { alone = alone; plain = plain }
+  where
+    alone : (s more : List ℕ) → 0 < length s → stuffed_line (s ++ more) ≡ stuffed_line s ++ more
+    alone [] more some = absurd (omega (arith, some))
+    alone (a ∷ s) more some = ⊎_elim
+        (λ t. cond-true _ _ _ t
+        ∙ ap (λ (x : List ℕ). x ++ more) (sym (cond-true _ (46 ∷ a ∷ s) (a ∷ s) t)))
+        (λ f. cond-false _ _ _ f
+        ∙ ap (λ (x : List ℕ). x ++ more) (sym (cond-false _ (46 ∷ a ∷ s) (a ∷ s) f)))
+        (cases_Bool (a == 46))
 
-module _ (f : List ℕ → List ℕ) where
-  -- each line of a text as f has it
-  abbrev pub sent : List ℕ → List ℕ
-  sent t = spelled (map f (text_lines t))
+    plain : (s : List ℕ) → ((after : List ℕ) → s ≢ 46 ∷ after) → stuffed_line s ≡ s
+    plain [] none = refl
+    plain (a ∷ s) none = ⊎_elim
+        (λ t. absurd (none s (ap (λ (x : ℕ). x ∷ s) (eqb-true a 46 t))))
+        (λ f. cond-false _ _ _ f)
+        (cases_Bool (a == 46))
 
-  -- one line more is sent
-  pub sent_more : ((l : List ℕ) → f (l ++ crlf) ≡ f l ++ crlf)
-      → (t before whole : List ℕ) (at end next : ℕ) → LineEnds (drop at t) end → next ≡ at + end + 2
-      → before ++ sent (drop at t) ≡ whole
-      → (before ++ f (take (next - at) (drop at t))) ++ sent (drop next t) ≡ whole
-  sent_more even t before whole at end next ends e so_far =
-      let left = drop at t in
-      let line = take end left in
-      let rest = drop (end + 2) left in
-      let here : left ≡ line ++ 13 ∷ 10 ∷ rest = first_line_whole left (line, rest) ends.first in
-      let fits = ends.fits in
-      let split : left ≡ (line ++ crlf) ++ rest = here ∙ sym (append_assoc line crlf rest) in
-      let count : length (line ++ crlf) ≡ next - at = omega (
+-- and unstuffing
+pub unstuffed_line-dots : ChangesDots unstuffed_line
+unstuffed_line-dots = record { alone = alone; plain = plain }
+  where
+    alone : (s more : List ℕ) → 0 < length s
+        → unstuffed_line (s ++ more) ≡ unstuffed_line s ++ more
+    alone [] more some = absurd (omega (arith, some))
+    alone (a ∷ s) more some = ⊎_elim
+        (λ t. cond-true _ _ _ t
+        ∙ ap (λ (x : List ℕ). x ++ more) (sym (cond-true _ s (a ∷ s) t)))
+        (λ f. cond-false _ _ _ f
+        ∙ ap (λ (x : List ℕ). x ++ more) (sym (cond-false _ s (a ∷ s) f)))
+        (cases_Bool (a == 46))
+
+    plain : (s : List ℕ) → ((after : List ℕ) → s ≢ 46 ∷ after) → unstuffed_line s ≡ s
+    plain [] none = refl
+    plain (a ∷ s) none = ⊎_elim
+        (λ t. absurd (none s (ap (λ (x : ℕ). x ∷ s) (eqb-true a 46 t))))
+        (λ f. cond-false _ _ _ f)
+        (cases_Bool (a == 46))
+
+-- what leaves all as it is does too
+unchanged-dots : ChangesDots (λ s. s)
+unchanged-dots = record { alone = λ s more some. refl; plain = λ s none. refl }
+
+-- what follows a line before another CRLF
+between : (t l r front after : List ℕ) → t ≡ l ++ 13 ∷ 10 ∷ r → t ≡ front ++ 13 ∷ 10 ∷ after
+    → length l < length front
+    → (r ≡ drop (length l + 2) front ++ 13 ∷ 10 ∷ after)
+    × (front ≡ (l ++ crlf) ++ drop (length l + 2) front)
+between t l r front after line other less =
+    let n = length l + 2 in
+    let own = EndsAt-front t l r line in
+    let later = EndsAt-front t front after other in
+    let apart : length l + 1 ≢ length front = λ same.
+    let both : 10 ≡ 13 = sym own.1 ∙ ap (λ (k : ℕ). get_or t k 0) same ∙ later.0 in
+    absurd (cc both) in
+    let long : n ≤ length front = omega (arith, less, apart) in
+    let split : t ≡ (l ++ crlf) ++ r = line ∙ sym (append_assoc l crlf r) in
+    let count : length (l ++ crlf) ≡ n = length-append l crlf in
+    let rest : r ≡ drop n front ++ 13 ∷ 10 ∷ after =
+    sym (drop_at (l ++ crlf) r n count) ∙ ap (drop n) (sym split) ∙ ap (drop n) other
+    ∙ drop-append-le n front (13 ∷ 10 ∷ after) long in
+    let whole : ((l ++ crlf) ++ drop n front) ++ 13 ∷ 10 ∷ after ≡ front ++ 13 ∷ 10 ∷ after =
+    append_assoc (l ++ crlf) (drop n front) (13 ∷ 10 ∷ after)
+    ∙ ap (λ (x : List ℕ). (l ++ crlf) ++ x) (sym rest) ∙ sym split ∙ other in (
+      rest,
+      sym (same_front ((l ++ crlf) ++ drop n front) front _ _ whole (omega (
         arith,
-        ap length split,
-        length-append (line ++ crlf) rest,
-        length-drop (end + 2) left,
-      ) in
-      let taken : take (next - at) left ≡ line ++ crlf = ap (take (next - at)) split
-      ∙ take_at (line ++ crlf) rest (next - at) count in
-      let place : at + (end + 2) ≡ next = omega arith in
-      let after : rest ≡ drop next t = drop-drop (end + 2) at t ∙ ap (λ (n : ℕ). drop n t) place in
-      let one : f (take (next - at) left) ≡ f line ++ crlf = ap f taken ∙ even line in
-      let lines : sent left ≡ (f line ++ crlf) ++ sent rest =
-      ap (λ (x : List (List ℕ)). spelled (map f x))
-      (text_lines-line left line rest ends.first) in
-      append_assoc before (f (take (next - at) left)) (sent (drop next t))
-      ∙ ap (λ (x : List ℕ). before ++ (x ++ sent (drop next t))) one
-      ∙ ap (λ (x : List ℕ). before ++ ((f line ++ crlf) ++ sent x)) (sym after)
-      ∙ ap (λ (x : List ℕ). before ++ x) (sym lines)
-      ∙ so_far
+        length-append (l ++ crlf) (drop n front),
+        count,
+        length-drop n front,
+        long,
+      ))).0,
+    )
 
-  -- where nothing is left all is sent
-  pub sent_all : (t before whole : List ℕ) (at : ℕ) → length t ≤ at
-      → before ++ sent (drop at t) ≡ whole → before ≡ whole
-  sent_all t before whole at none so_far =
-      sym (append-nil before) ∙ ap (λ (x : List ℕ). before ++ sent x) (sym (drop_all at t none))
-      ∙ so_far
+-- a dot after a CRLF of what follows a line stands after one of the text
+dot_later : (t l r f a : List ℕ) → t ≡ l ++ 13 ∷ 10 ∷ r → r ≡ f ++ 13 ∷ 10 ∷ 46 ∷ a
+    → t ≡ ((l ++ crlf) ++ f) ++ 13 ∷ 10 ∷ 46 ∷ a
+dot_later t l r f a line e =
+    line ∙ sym (append_assoc l crlf r) ∙ ap (λ (x : List ℕ). (l ++ crlf) ++ x) e
+    ∙ sym (append_assoc (l ++ crlf) f (13 ∷ 10 ∷ 46 ∷ a))
 
--- whole lines with one taken off are whole lines
-pub whole_more : (t : List ℕ) (at end next : ℕ) → LineEnds (drop at t) end → next ≡ at + end + 2
-    → spelled (text_lines (drop at t)) ≡ drop at t
-    → spelled (text_lines (drop next t)) ≡ drop next t
-whole_more t at end next ends e whole =
-    let left = drop at t in
-    let line = take end left in
-    let rest = drop (end + 2) left in
-    let place : at + (end + 2) ≡ next = omega arith in
-    let after : rest ≡ drop next t = drop-drop (end + 2) at t ∙ ap (λ (n : ℕ). drop n t) place in
-    let here : left ≡ line ++ 13 ∷ 10 ∷ rest = first_line_whole left (line, rest) ends.first in
-    let lines : spelled (text_lines left) ≡ (line ++ crlf) ++ spelled (text_lines rest) =
-    ap spelled (text_lines-line left line rest ends.first) in
-    let same : (line ++ crlf) ++ spelled (text_lines rest) ≡ (line ++ crlf) ++ rest =
-    sym lines ∙ whole ∙ here ∙ sym (append_assoc line crlf rest) in
-    subst (λ (x : List ℕ). spelled (text_lines x) ≡ x) after
-    (append_cancel_left (line ++ crlf) _ _ same)
+-- CRLF and a dot occur behind what stands before them
+occurs_behind : (t f a : List ℕ) → t ≡ f ++ 13 ∷ 10 ∷ 46 ∷ a
+    → OccursAt t (13 ∷ 10 ∷ 46 ∷ []) (length f)
+occurs_behind t f a e =
+    let long : length t ≡ length f + suc (suc (suc (length a))) =
+    ap length e ∙ length-append f (13 ∷ 10 ∷ 46 ∷ a) in
+    OccursAt-from_part t (13 ∷ 10 ∷ 46 ∷ []) (length f) (omega (arith, long))
+    (ap (λ (x : List ℕ). take 3 (drop (length f) x)) e
+    ∙ ap (take 3) (drop_at f (13 ∷ 10 ∷ 46 ∷ a) (length f) refl))
 
--- whole lines with no line are none
-pub whole_none : (t : List ℕ) (at : ℕ) → first_line (drop at t) ≡ None
-    → spelled (text_lines (drop at t)) ≡ drop at t → length t ≤ at
-whole_none t at none whole = ⊎_elim
-    (λ some.
-    let left = drop at t in
-    let lines : spelled (text_lines left) ≡ (left ++ crlf) ++ [] =
-    ap spelled (text_lines-last left none (omega (arith, length-drop at t))) in
-    let more : (left ++ crlf) ++ [] ≡ left = sym lines ∙ whole in
-    absurd (omega (
-      arith,
-      ap length more,
-      length-append (left ++ crlf) [],
-      length-append left crlf,
-    )))
-    (λ past. past)
-    (cases_lt at (length t))
+-- each line of a text as f has it
+abbrev pub sent : (List ℕ → List ℕ) → List ℕ → List ℕ
+sent f t = spelled (map f (text_lines t))
 
--- what closes a block, in another order
+module _ (f : List ℕ → List ℕ) (changes : ChangesDots f) where
+  abbrev Sent : List ℕ → List ℕ
+  Sent = sent f
+
+  -- f looks at no CRLF
+  even : (l : List ℕ) → f (l ++ crlf) ≡ f l ++ crlf
+  even [] =
+      changes.plain crlf (λ after e. cc)
+      ∙ ap (λ (x : List ℕ). x ++ crlf) (sym (changes.plain [] (λ after e. cc)))
+  even (a ∷ l) = changes.alone (a ∷ l) crlf (omega arith)
+
+  -- a line, and lines after it of which the first begins with no dot, are sent as one line is
+  joined : (l more : List ℕ) → ((after : List ℕ) → more ≢ 46 ∷ after)
+      → (f l ++ crlf) ++ f more ≡ f ((l ++ crlf) ++ more)
+  joined l more none =
+      ap (λ (x : List ℕ). (f l ++ crlf) ++ x) (changes.plain more none)
+      ∙ ap (λ (x : List ℕ). x ++ more) (sym (even l))
+      ∙ sym (changes.alone (l ++ crlf) more (omega (arith, length-append l crlf)))
+
+  -- whole lines at the front of at most n octets, of which none behind the first begins with a dot,
+  -- are sent as one line is
+  abbrev SendsFronts : ℕ → Type 0
+  SendsFronts n =
+      (t front after : List ℕ) → length t ≤ n → t ≡ front ++ 13 ∷ 10 ∷ after
+      → ((x y : List ℕ) → t ≡ x ++ 13 ∷ 10 ∷ 46 ∷ y → length front ≤ length x)
+      → Sent t ≡ f (front ++ crlf) ++ Sent after
+
+  sent_front : (n : ℕ) → SendsFronts n
+  sent_front zero t front after fits whole first =
+      absurd (omega (arith, fits, ap length whole, length-append front (13 ∷ 10 ∷ after)))
+  sent_front (suc n) t front after fits whole first =
+      by (sent_front n) (first_line t) refl
+    where
+      by : SendsFronts n → (o : Option (List ℕ × List ℕ)) → first_line t ≡ o
+          → Sent t ≡ f (front ++ crlf) ++ Sent after
+      by shorter None e = absurd (no_first_line t front after e whole)
+      by shorter (Some p) e =
+          let l = p.0 in
+          let r = p.1 in
+          let line = first_line_whole t p e in
+          let here : Sent t ≡ (f l ++ crlf) ++ Sent r =
+          ap (λ (x : List (List ℕ)). spelled (map f x)) (text_lines-line t l r e) in
+          ⊎_elim
+          (λ less.
+          let parts = between t l r front after line whole less in
+          let next = drop (length l + 2) front in
+          let plain : (a : List ℕ) → next ++ crlf ≢ 46 ∷ a = λ a same.
+          let r_is : r ≡ 46 ∷ (a ++ after) = parts.0 ∙ sym (append_assoc next crlf after)
+          ∙ ap (λ (x : List ℕ). x ++ after) same in
+          omega (
+            arith,
+            less,
+            first l (a ++ after)
+                (line ∙ ap (λ (x : List ℕ). l ++ 13 ∷ 10 ∷ x) r_is),
+          ) in
+          let long : length front ≡ length l + 2 + length next = ap length parts.1
+          ∙ omega (arith, length-append (l ++ crlf) next, length-append l crlf) in
+          let later = shorter r next after
+          (omega (arith, fits, ap length line, length-append l (13 ∷ 10 ∷ r))) parts.0
+          (λ x y same. omega (
+            arith,
+            long,
+            first ((l ++ crlf) ++ x) y (dot_later t l r x y line same),
+            length-append (l ++ crlf) x,
+            length-append l crlf,
+          )) in
+          here ∙ ap (λ (x : List ℕ). (f l ++ crlf) ++ x) later
+          ∙ sym (append_assoc (f l ++ crlf) (f (next ++ crlf)) (Sent after))
+          ∙ ap (λ (x : List ℕ). x ++ Sent after) (joined l (next ++ crlf) plain)
+          ∙ ap (λ (x : List ℕ). f x ++ Sent after)
+          (sym (append_assoc (l ++ crlf) next crlf)
+          ∙ ap (λ (x : List ℕ). x ++ crlf) (sym parts.1)))
+          (λ past.
+          let least = (CutsLine-from_first t l r e).shortest front after whole in
+          let same = same_front l front (13 ∷ 10 ∷ r) (13 ∷ 10 ∷ after) (sym line ∙ whole)
+          (omega (arith, past, least)) in
+          let rest : r ≡ after = ap (drop 2) same.1 in
+          here ∙ ap (λ (x : List ℕ). x ++ Sent r) (sym (even l))
+          ∙ ap (λ (x : List ℕ). f (x ++ crlf) ++ Sent r) same.0
+          ∙ ap (λ (x : List ℕ). f (front ++ crlf) ++ Sent x) rest)
+          (cases_lt (length l) (length front))
+
+  -- at most n octets that no CRLF ends are sent as one line is, where no line behind the first
+  -- begins with a dot
+  abbrev SendsUnended : ℕ → Type 0
+  SendsUnended n =
+      (t : List ℕ) → length t ≤ n → 0 < length t → HasNoInnerDot t
+      → ((front : List ℕ) → t ≢ front ++ crlf) → Sent t ≡ f t ++ crlf
+
+  sent_unended : (n : ℕ) → SendsUnended n
+  sent_unended zero t fits some none unended = absurd (omega (arith, fits, some))
+  sent_unended (suc n) t fits some none unended =
+      by (sent_unended n) (first_line t) refl
+    where
+      by_rest : SendsUnended n → (l r : List ℕ) → t ≡ l ++ 13 ∷ 10 ∷ r
+          → Sent t ≡ (f l ++ crlf) ++ Sent r → Sent t ≡ f t ++ crlf
+      by_rest shorter l [] line here = absurd (unended l line)
+      by_rest shorter l (b ∷ r) line here =
+          let plain : (a : List ℕ) → b ∷ r ≢ 46 ∷ a = λ a same.
+          none l a (line ∙ ap (λ (x : List ℕ). l ++ 13 ∷ 10 ∷ x) same) in
+          let split : t ≡ (l ++ crlf) ++ b ∷ r = line ∙ sym (append_assoc l crlf (b ∷ r)) in
+          let later = shorter (b ∷ r)
+          (omega (arith, fits, ap length line, length-append l (13 ∷ 10 ∷ b ∷ r))) (omega arith)
+          (λ x y same. none ((l ++ crlf) ++ x) y (dot_later t l (b ∷ r) x y line same))
+          (λ x same. unended ((l ++ crlf) ++ x)
+          (split ∙ ap (λ (y : List ℕ). (l ++ crlf) ++ y) same
+          ∙ sym (append_assoc (l ++ crlf) x crlf))) in
+          here ∙ ap (λ (x : List ℕ). (f l ++ crlf) ++ x) later
+          ∙ sym (append_assoc (f l ++ crlf) (f (b ∷ r)) crlf)
+          ∙ ap (λ (x : List ℕ). x ++ crlf) (joined l (b ∷ r) plain)
+          ∙ ap (λ (x : List ℕ). f x ++ crlf) (sym split)
+
+      by : SendsUnended n → (o : Option (List ℕ × List ℕ)) → first_line t ≡ o
+          → Sent t ≡ f t ++ crlf
+      by shorter None e =
+          ap (λ (x : List (List ℕ)). spelled (map f x)) (text_lines-last t e some)
+          ∙ append-nil (f t ++ crlf)
+      by shorter (Some p) e = by_rest shorter p.0 p.1 (first_line_whole t p e)
+          (ap (λ (x : List (List ℕ)). spelled (map f x)) (text_lines-line t p.0 p.1 e))
+
+  -- up to where a line behind the first begins with a dot, a text is sent as one line is
+  pub sent_piece : (t : List ℕ) (k : ℕ) → DotsAt t k
+      → Sent t ≡ f (take k t) ++ Sent (drop k t)
+  sent_piece t k at =
+      let after = 46 ∷ at.after in
+      let split : t ≡ (at.front ++ crlf) ++ after = at.whole
+      ∙ sym (append_assoc at.front crlf after) in
+      let long : length (at.front ++ crlf) ≡ k = length-append at.front crlf ∙ sym at.place in
+      let taken = ap (take k) split ∙ take_at (at.front ++ crlf) after k long in
+      let left = ap (drop k) split ∙ drop_at (at.front ++ crlf) after k long in
+      sent_front (length t) t at.front after (omega arith) at.whole at.first
+      ∙ (λ i. f (sym taken i) ++ Sent (sym left i))
+
+  -- whole lines of which none behind the first begins with a dot are sent as one line is
+  pub sent_last : (t front : List ℕ) → HasNoInnerDot t → t ≡ front ++ crlf → Sent t ≡ f t
+  sent_last t front none ended =
+      sent_front (length t) t front [] (omega arith) ended (λ x y e. absurd (none x y e))
+      ∙ append-nil (f (front ++ crlf)) ∙ ap f (sym ended)
+
+  -- one piece more is sent
+  pub sent_more : (t before : List ℕ) (at end next : ℕ) → DotsAt (drop at t) end → next ≡ at + end
+      → (before ++ f (take (next - at) (drop at t))) ++ Sent (drop next t)
+      ≡ before ++ Sent (drop at t)
+  sent_more t before at end next dots e =
+      let left = drop at t in
+      let count : next - at ≡ end = omega (arith, e) in
+      let after : drop next t ≡ drop end left = ap (λ (n : ℕ). drop n t) e
+      ∙ sym (drop-drop end at t) in
+      append_assoc before (f (take (next - at) left)) (Sent (drop next t))
+      ∙ ap (λ (n : ℕ). before ++ (f (take n left) ++ Sent (drop next t))) count
+      ∙ ap (λ (x : List ℕ). before ++ (f (take end left) ++ Sent x)) after
+      ∙ ap (λ (x : List ℕ). before ++ x) (sym (sent_piece left end dots))
+
+-- a place of a dot is within the text, and not at its begin
+pub dots_within : (t : List ℕ) (k : ℕ) → DotsAt t k → (0 < k) × (k ≤ length t)
+dots_within t k at =
+    let long = ap length at.whole ∙ length-append at.front (13 ∷ 10 ∷ 46 ∷ at.after) in (
+      omega (arith, at.place),
+      omega (arith, at.place, long),
+    )
+
+-- where CRLF and a dot are found first, a line behind the first begins with a dot
+pub dots_found : (t : List ℕ) (k : ℕ)
+    → NoneBefore (OccursAt t (13 ∷ 10 ∷ 46 ∷ [])) 0 (length t + 1) k
+    → OccursAt t (13 ∷ 10 ∷ 46 ∷ []) k → DotsAt t (k + 2)
+dots_found t k none here =
+    let fits = here.fits in
+    let count : length (take k t) ≡ k = length-take-le k t (omega (arith, fits)) in
+    record {
+      front = take k t;
+      after = drop (k + 3) t;
+      whole = sym (take-append-drop k t)
+          ∙ ap (λ (x : List ℕ). take k t ++ x) (OccursAt-split t (13 ∷ 10 ∷ 46 ∷ []) k here);
+      place = omega (arith, count);
+      first = λ x y e. ⊎_elim
+          (λ early. absurd (none.before (length x) (omega arith) early (occurs_behind t x y e)))
+          (λ late. omega (arith, late, count))
+          (cases_lt (length x) k);
+    }
+
+-- where they are found nowhere, none does
+pub dots_missed : (t : List ℕ) → Nowhere (OccursAt t (13 ∷ 10 ∷ 46 ∷ [])) 0 (length t + 1)
+    → HasNoInnerDot t
+dots_missed t none x y e =
+    let here = occurs_behind t x y e in
+    let fits = here.fits in
+    none (length x) (omega arith) (omega (arith, fits)) here
+
+-- THE BLOCK THAT SENDS A TEXT
+
+-- what closes it, in another order
 closed_later : (x a : List ℕ) → x ++ ((a ++ dot) ++ crlf) ≡ ((x ++ a) ++ dot) ++ crlf
 closed_later x a =
     sym (append_assoc x (a ++ dot) crlf)
     ∙ ap (λ (y : List ℕ). y ++ crlf) (sym (append_assoc x a dot))
 
--- one line more is in the block that sends a text
-pub stuffed_more : (t before : List ℕ) (at end next : ℕ) → LineEnds (drop at t) end
-    → next ≡ at + end + 2
+-- one piece more is in it
+pub stuffed_more : (t before : List ℕ) (at end next : ℕ) → DotsAt (drop at t) end
+    → next ≡ at + end
     → (before ++ stuffed_line (take (next - at) (drop at t))) ++ stuffed (drop next t)
     ≡ before ++ stuffed (drop at t)
-stuffed_more t before at end next ends e =
-    let line = stuffed_line (take (next - at) (drop at t)) in
-    closed_later (before ++ line) (sent stuffed_line (drop next t))
+stuffed_more t before at end next dots e =
+    let piece = stuffed_line (take (next - at) (drop at t)) in
+    closed_later (before ++ piece) (sent stuffed_line (drop next t))
     ∙ ap (λ (y : List ℕ). (y ++ dot) ++ crlf)
-    (sent_more stuffed_line stuffed_line-crlf t before (before ++ sent stuffed_line (drop at t)) at
-    end next ends e refl)
+    (sent_more stuffed_line stuffed_line-dots t before at end next dots e)
     ∙ sym (closed_later before (sent stuffed_line (drop at t)))
 
 -- the octets of it
-pub stuffed_count : (t : List ℕ) (at end next : ℕ) → LineEnds (drop at t) end
-    → next ≡ at + end + 2
+pub stuffed_count : (t : List ℕ) (at end next : ℕ) → DotsAt (drop at t) end → next ≡ at + end
     → length (stuffed_line (take (next - at) (drop at t))) + length (stuffed (drop next t))
     ≡ length (stuffed (drop at t))
-stuffed_count t at end next ends e =
-    let line = stuffed_line (take (next - at) (drop at t)) in
-    sym (length-append line (stuffed (drop next t)))
-    ∙ ap length (stuffed_more t [] at end next ends e)
+stuffed_count t at end next dots e =
+    let piece = stuffed_line (take (next - at) (drop at t)) in
+    sym (length-append piece (stuffed (drop next t)))
+    ∙ ap length (stuffed_more t [] at end next dots e)
+
+-- what is left is sent as one line is, with the end that it lacks
+pub stuffed_end : (t : List ℕ) (ended : Bool) → HasNoInnerDot t → ended ≡ ends_with eqb t crlf
+    → 0 < length t
+    → stuffed t ≡ (stuffed_line t ++ end_of (not ended)) ++ 46 ∷ 13 ∷ 10 ∷ []
+stuffed_end t true none is some =
+    let front = take (length t - 2) t in
+    ap (λ (x : List ℕ). (x ++ dot) ++ crlf)
+    (sent_last stuffed_line stuffed_line-dots t front none
+    ((ends_is Decides-eqb t crlf true is).0 refl) ∙ sym (append-nil (stuffed_line t)))
+    ∙ append_assoc (stuffed_line t ++ []) dot crlf
+stuffed_end t false none is some =
+    ap (λ (x : List ℕ). (x ++ dot) ++ crlf)
+    (sent_unended stuffed_line stuffed_line-dots (length t) t (omega arith) some none (λ front e.
+    true≢false (sym ((ends_is Decides-eqb t crlf false is).1 front e))))
+    ∙ append_assoc (stuffed_line t ++ crlf) dot crlf
+
+-- WHOLE LINES
+
+-- lines of which each is as it was
+pub whole_first : (t : List ℕ) → spelled (text_lines t) ≡ t → sent (λ s. s) t ≡ t
+whole_first t whole = ap spelled (map-id (text_lines t)) ∙ whole
+
+-- where lines are whole, what follows a piece of them is
+pub whole_more : (t : List ℕ) (at end next : ℕ) → DotsAt (drop at t) end → next ≡ at + end
+    → sent (λ s. s) (drop at t) ≡ drop at t → sent (λ s. s) (drop next t) ≡ drop next t
+whole_more t at end next dots e whole =
+    let left = drop at t in
+    let after : drop next t ≡ drop end left = ap (λ (n : ℕ). drop n t) e
+    ∙ sym (drop-drop end at t) in
+    subst (λ (x : List ℕ). sent (λ s. s) x ≡ x) (sym after)
+    (append_cancel_left (take end left) _ _
+    (sym (sent_piece (λ s. s) unchanged-dots left end dots) ∙ whole
+    ∙ sym (take-append-drop end left)))
+
+-- whole lines end with a CRLF
+ends_spelled : (l : List ℕ) (ls : List (List ℕ))
+    → (front : List ℕ) × (spelled (l ∷ ls) ≡ front ++ crlf)
+ends_spelled l [] = (l, append-nil (l ++ crlf))
+ends_spelled l (m ∷ ls) =
+    let later = ends_spelled m ls in (
+      (l ++ crlf) ++ later.0,
+      ap (λ (x : List ℕ). (l ++ crlf) ++ x) later.1 ∙ sym (append_assoc (l ++ crlf) later.0 crlf),
+    )
+
+whole_front : (t : List ℕ) → sent (λ s. s) t ≡ t → 0 < length t
+    → (front : List ℕ) × (t ≡ front ++ crlf)
+whole_front t whole some = by (map (λ (s : List ℕ). s) (text_lines t)) refl
+  where
+    by : (ls : List (List ℕ)) → map (λ (s : List ℕ). s) (text_lines t) ≡ ls
+        → (front : List ℕ) × (t ≡ front ++ crlf)
+    by [] e = absurd (omega (arith, some, ap length (sym whole ∙ ap spelled e)))
+    by (l ∷ ls) e =
+        let ends = ends_spelled l ls in (ends.0, sym whole ∙ ap spelled e ∙ ends.1)
+
+-- whole lines of which none behind the first begins with a dot are sent as one line is
+pub whole_last : (f : List ℕ → List ℕ) → ChangesDots f → (t : List ℕ) → HasNoInnerDot t
+    → sent (λ s. s) t ≡ t → sent f t ≡ f t
+whole_last f changes [] none whole = sym (changes.plain [] (λ after e. cc))
+whole_last f changes (a ∷ t) none whole =
+    sent_last f changes (a ∷ t) (whole_front (a ∷ t) whole (omega arith)).0 none
+    (whole_front (a ∷ t) whole (omega arith)).1

@@ -1,13 +1,14 @@
 //! Dot-stuffing (RFC 3977 section 3.1.1).
 ghost use Rattle.std.specs.Prelude.{◌≡◌, ◌+◌, ◌^◌, ◌≤◌, ◌<◌, ◌++◌, [], ◌∷◌, length, List, ℕ};
-ghost use Rattle.std.specs.Prelude.{None, IfOk, OnOk, vec_len, vec_capacity};
-ghost use Rattle.news_terms.specs.Lines.{first_line, spelled};
+ghost use Rattle.std.specs.Prelude.{IfOk, MatchOption, OnOk, vec_len, vec_capacity};
+ghost use Rattle.news_terms.specs.Lines.{spelled};
 ghost use Rattle.news_terms.specs.Blocks.{stuffed, stuffed_line, text_lines};
 ghost use Rattle.news_terms.specs.Blocks.{unstuffed, unstuffed_line};
 ghost use Rattle.news_terms.specs.Blocks as terms;
+ghost use Rattle.stream_cut.specs.Dots.{DotsAt, HasNoInnerDot, end_of};
 
-use crate::look::line_end;
 use line_words::put_octets;
+use memchr::memmem;
 use std::alloc::{AllocError, Global};
 
 /// The most octets of the block that sends a text of so many: a third more and six.
@@ -36,29 +37,50 @@ pub fn put_stuffed(block: &mut Vec<u8>, text: &[u8])
     ensures capacity { vec_capacity block.new ≡ vec_capacity block.old }
 {
     let mut at = 0;
-    while let Some(end) = line_end(&text[at..], 0) {
-        let next = at + end + 2;
+    while let Some(end) = inner_dot(&text[at..]) {
+        let next = at + end;
         put_stuffed_line(block, &text[at..next]);
         at = next;
     }
     put_last(block, &text[at..]);
 }
 
-/// Adds the block that sends octets among which no line ends.
+/// Where the first line behind the first one begins that begins with a dot. What stands before is
+/// stuffed, and unstuffed, as one line is.
+fn inner_dot(text: &[u8]) -> Option<usize>
+    ensures { MatchOption result (HasNoInnerDot text.now) (DotsAt text.now) }
+{
+    match memmem::find(text, b"\r\n.") {
+        Some(end) => Some(end + 2),
+        None => None,
+    }
+}
+
+/// Adds the block that sends octets of which no line but the first begins with a dot.
 fn put_last(block: &mut Vec<u8>, rest: &[u8])
-    requires no_line { first_line rest.now ≡ None }
+    requires dots { HasNoInnerDot rest.now }
     requires room { vec_len block.old + length (stuffed rest.now) ≤ vec_capacity block.old }
     ensures items { block.new.items ≡ block.old.items ++ stuffed rest.now }
     ensures capacity { vec_capacity block.new ≡ vec_capacity block.old }
 {
-    if !rest.is_empty() {
-        put_stuffed_line(block, rest);
+    let lacks_end = lacks_end(rest);
+    put_stuffed_line(block, rest);
+    if lacks_end {
         put_octets(block, b"\r\n");
     }
     put_octets(block, b".\r\n");
 }
 
-/// Adds a line, with one more dot before it where it begins with one.
+/// Whether octets stand behind the last CRLF: one more has to end them.
+fn lacks_end(rest: &[u8]) -> bool
+    requires { HasNoInnerDot rest.now }
+    ensures { stuffed rest.now ≡ (stuffed_line rest.now ++ end_of result) ++ 46 ∷ 13 ∷ 10 ∷ [] }
+{
+    !rest.is_empty() && !rest.ends_with(b"\r\n".as_slice())
+}
+
+/// Adds a line, or lines of which the first alone may begin with a dot: with one more dot before
+/// them where it does.
 fn put_stuffed_line(block: &mut Vec<u8>, line: &[u8])
     requires { vec_len block.old + length (stuffed_line line.now) ≤ vec_capacity block.old }
     ensures items { block.new.items ≡ block.old.items ++ stuffed_line line.now }
@@ -79,15 +101,17 @@ pub fn unstuff(alloc: Global, lines: &[u8], len: usize) -> Result<Vec<u8>, Alloc
 {
     let mut text = Vec::with_capacity(alloc, len)?;
     let mut at = 0;
-    while let Some(end) = line_end(&lines[at..], 0) {
-        let next = at + end + 2;
+    while let Some(end) = inner_dot(&lines[at..]) {
+        let next = at + end;
         push_unstuffed(&mut text, &lines[at..next])?;
         at = next;
     }
+    push_unstuffed(&mut text, &lines[at..])?;
     Ok(text)
 }
 
-/// Adds a line without its first octet where that is a dot.
+/// Adds a line, or lines of which the first alone may begin with a dot: without their first octet
+/// where that is one.
 fn push_unstuffed(text: &mut Vec<u8>, line: &[u8]) -> Result<(), AllocError>
     ensures { OnOk result (text.new.items ≡ text.old.items ++ unstuffed_line line.now) }
 {

@@ -1,10 +1,11 @@
--- What was sent, line by line, and that there is room for each.
-use Rattle.std.proofs.Common.{◌+◌, ◌++◌, arith, refl, ap, subst, ◌∙◌, drop, length-drop, List, ℕ}
+-- What was sent, dots by dots, and that there is room for each.
+use Rattle.std.proofs.Common.{◌+◌, ◌++◌, arith, refl, ap, subst, ◌∙◌, drop}
+use Rattle.std.proofs.Common.{length-drop, List, ℕ}
 use Rattle.std.proofs.lemmas.List.{take_rest}
 use Rattle.news_terms.specs.Blocks.{stuffed}
 use Rattle.news_terms.proofs.StuffRoom.{stuffed-bounded}
-use Rattle.stream_cut.specs.Look.{LineEnds}
-use Rattle.stream_cut.proofs.TextLemmas.{stuffed_more, stuffed_count}
+use Rattle.stream_cut.specs.Dots.{DotsAt}
+use Rattle.stream_cut.proofs.TextLemmas.{dots_within, stuffed_more, stuffed_count}
 use Rattle.stream_cut.proofs.stuffing.put_stuffed.Goals as goal
 
 pub loop-end-init : goal.loop-end-init
@@ -22,29 +23,29 @@ put_stuffed_line-requires c =
     let t = c.args.text.now in
     let at = c.loop-end.at in
     let end = c.in-Some.end in
-    let ends : LineEnds (drop at t) end =
-    subst (λ (x : List ℕ). LineEnds x end) (take_rest t at) c.in-Some.ensures in
-    omega (arith, c.loop-end.invariant.room, stuffed_count t at end (at + end + 2) ends refl)
+    let dots : DotsAt (drop at t) end =
+    subst (λ (x : List ℕ). DotsAt x end) (take_rest t at) c.in-Some.ensures in
+    omega (arith, c.loop-end.invariant.room, stuffed_count t at end (at + end) dots refl)
 
 pub loop-end-preserved : goal.loop-end-preserved
 loop-end-preserved c =
     let t = c.args.text.now in
     let at = c.loop-end.at in
     let end = c.in-Some.end in
-    let ends : LineEnds (drop at t) end =
-    subst (λ (x : List ℕ). LineEnds x end) (take_rest t at) c.in-Some.ensures in
+    let dots : DotsAt (drop at t) end =
+    subst (λ (x : List ℕ). DotsAt x end) (take_rest t at) c.in-Some.ensures in
     let put = c.put_stuffed_line.ensures in
     record {
-      within = omega (arith, ends.fits, c.loop-end.invariant.within, length-drop at t);
-      told = ap (λ (x : List ℕ). x ++ stuffed (drop (at + end + 2) t)) put.items
-          ∙ stuffed_more t c.loop-end.block.items at end (at + end + 2) ends refl
+      within = omega (arith, (dots_within (drop at t) end dots).1, c.loop-end.invariant.within, length-drop at t);
+      told = ap (λ (x : List ℕ). x ++ stuffed (drop (at + end) t)) put.items
+          ∙ stuffed_more t c.loop-end.block.items at end (at + end) dots refl
           ∙ c.loop-end.invariant.told;
       room = omega (
         arith,
         c.loop-end.invariant.room,
         put.len,
         put.capacity,
-        stuffed_count t at end (at + end + 2) ends refl,
+        stuffed_count t at end (at + end) dots refl,
       );
       capacity = put.capacity ∙ c.loop-end.invariant.capacity;
     }

@@ -1,34 +1,51 @@
--- One line more is told, unstuffed.
+-- One piece more is told, unstuffed.
 use Rattle.std.proofs.Common.{◌+◌, ◌++◌, arith, refl, sym, ap, subst, ◌∙◌, drop, length-drop, List}
 use Rattle.std.proofs.Common.{ℕ}
 use Rattle.std.proofs.lemmas.List.{take_rest}
 use Rattle.news_terms.specs.Blocks.{unstuffed_line}
-use Rattle.news_terms.specs.Lines.{first_line}
-use Rattle.stream_cut.specs.Look.{LineEnds}
-use Rattle.stream_cut.proofs.TextLemmas.{sent, sent_more, whole_more, whole_none, sent_all}
-use Rattle.stream_cut.proofs.TextLemmas.{unstuffed_line-crlf}
+use Rattle.stream_cut.specs.Dots.{DotsAt, HasNoInnerDot}
+use Rattle.stream_cut.proofs.TextLemmas.{dots_within, sent, sent_more, unstuffed_line-dots}
+use Rattle.stream_cut.proofs.TextLemmas.{whole_first, whole_last, whole_more}
 use Rattle.stream_cut.proofs.stuffing.unstuff.Goals as goal
+
+pub loop-end-init : goal.loop-end-init
+loop-end-init c =
+    let t = c.args.lines.now in
+    record {
+      within = omega arith;
+      told = ap (λ (x : List ℕ). x ++ sent unstuffed_line t) c.in_ok-text.ensures.items;
+      whole = whole_first t c.requires;
+    }
 
 pub loop-end-preserved : goal.loop-end-preserved
 loop-end-preserved c =
     let t = c.args.lines.now in
     let at = c.loop-end.at in
     let end = c.in-Some.end in
-    let ends : LineEnds (drop at t) end =
-    subst (λ (x : List ℕ). LineEnds x end) (take_rest t at) c.in-Some.ensures in
+    let dots : DotsAt (drop at t) end =
+    subst (λ (x : List ℕ). DotsAt x end) (take_rest t at) c.in-Some.ensures in
     let pushed = c.in_ok-push_unstuffed.ensures in
     record {
-      within = omega (arith, ends.fits, c.loop-end.invariant.within, length-drop at t);
-      told = ap (λ (x : List ℕ). x ++ sent unstuffed_line (drop (at + end + 2) t)) pushed
-          ∙ sent_more unstuffed_line unstuffed_line-crlf t c.loop-end.text.items
-          (sent unstuffed_line t) at end (at + end + 2) ends refl c.loop-end.invariant.told;
-      whole = whole_more t at end (at + end + 2) ends refl c.loop-end.invariant.whole;
+      within = omega (
+        arith,
+        (dots_within (drop at t) end dots).1,
+        c.loop-end.invariant.within,
+        length-drop at t,
+      );
+      told = ap (λ (x : List ℕ). x ++ sent unstuffed_line (drop (at + end) t)) pushed
+          ∙ sent_more unstuffed_line unstuffed_line-dots t c.loop-end.text.items at end
+          (at + end) dots refl
+          ∙ c.loop-end.invariant.told;
+      whole = whole_more t at end (at + end) dots refl c.loop-end.invariant.whole;
     }
 
 pub returns : goal.returns
 returns c =
-    let t = c.args.lines.now in
-    let at = c.loop-end.at in
-    let none = ap first_line (sym (take_rest t at)) ∙ c.in_default.ensures in
-    sent_all unstuffed_line t c.loop-end.text.items (sent unstuffed_line t) at
-    (whole_none t at none c.loop-end.invariant.whole) c.loop-end.invariant.told
+    let left = drop c.loop-end.at c.args.lines.now in
+    let rest = take_rest c.args.lines.now c.loop-end.at in
+    let none : HasNoInnerDot left = subst HasNoInnerDot rest c.in_default.ensures in
+    c.in_ok-push_unstuffed-2.ensures
+    ∙ ap (λ (x : List ℕ). c.loop-end.text.items ++ unstuffed_line x) rest
+    ∙ ap (λ (x : List ℕ). c.loop-end.text.items ++ x)
+    (sym (whole_last unstuffed_line unstuffed_line-dots left none c.loop-end.invariant.whole))
+    ∙ c.loop-end.invariant.told

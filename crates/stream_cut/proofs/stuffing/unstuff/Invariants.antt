@@ -1,7 +1,6 @@
 -- What was told and the lines to tell are the text.
-use Rattle.std.proofs.Common.{◌≡◌, ◌≤◌, ◌-◌, ◌++◌, length, drop}
-use Rattle.news_terms.specs.Lines.{spelled}
-use Rattle.news_terms.specs.Blocks.{unstuffed_line, text_lines}
+use Rattle.std.proofs.Common.{◌≡◌, ◌≤◌, ◌-◌, ◌++◌, length, drop, List, ℕ}
+use Rattle.news_terms.specs.Blocks.{unstuffed_line}
 use Rattle.stream_cut.proofs.TextLemmas.{sent}
 use Rattle.stream_cut.proofs.stuffing.unstuff.Given as goal
 
@@ -9,7 +8,7 @@ abbrev pub invariant-loop-end : goal.invariant-loop-end
 invariant-loop-end l = record {
   within : l.at ≤ length l.lines;
   told : l.text.items ++ sent unstuffed_line (drop l.at l.lines) ≡ sent unstuffed_line l.lines;
-  whole : spelled (text_lines (drop l.at l.lines)) ≡ drop l.at l.lines;
+  whole : sent (λ (s : List ℕ). s) (drop l.at l.lines) ≡ drop l.at l.lines;
 }
 
 abbrev pub decreases-loop-end : goal.decreases-loop-end
