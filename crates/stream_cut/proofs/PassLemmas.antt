@@ -2,20 +2,30 @@
 use Rattle.std.proofs.Common.{◌≡◌, ℕ, ◌+◌, ◌-◌, ◌≤◌, ◌==◌, true, false, List, [], ◌∷◌, ◌++◌, length}
 use Rattle.std.proofs.Common.{take, drop, bytes_eq, Some, None, refl, sym, ap, ◌∙◌, arith, ⊎_elim}
 use Rattle.std.proofs.Common.{append_assoc, append-nil, length-append, length-drop}
-use Rattle.std.proofs.lemmas.List.{take_at, drop_at, drop-drop, length-take-le}
+use Rattle.std.proofs.lemmas.List.{take_at, drop_at, drop-drop}
 use Rattle.std.proofs.lemmas.Grind.{flat_map-append}
-use Rattle.std.proofs.lemmas.Bool.{cases_Bool, cond-true, cond-false}
-use Rattle.std.proofs.lemmas.Slice.Eq.{bytes_eq-Decides}
-use Rattle.news_terms.specs.Lines.{crlf, first_line, IsLine, AreLines, spelled}
+use Rattle.std.proofs.lemmas.Option.{same_Some}
+use Rattle.std.proofs.Common.{length-take-le, subst}
+use Rattle.std.proofs.Common.{zero, suc, Bool, Option, true≢false, ◌≢◌}
+use Rattle.std.proofs.Math.Dec.{eqb}
+use Rattle.std.proofs.lemmas.Bool.{cases_Bool, cases_lt, cond-true, cond-false, eqb-true}
+use Rattle.std.proofs.lemmas.Bool.{false_from_ne_true}
+use Rattle.std.proofs.lemmas.Bool.Decides.{Decides-eqb}
+use Rattle.std.specs.List.{starts_with}
+use Rattle.std.specs.Prelude.{MatchBool}
+use Rattle.std.proofs.lemmas.Slice.Eq.{bytes_eq-Decides, starts_is}
+use Rattle.news_terms.specs.Lines.{crlf, first_line, AreLines, spelled}
 use Rattle.news_terms.specs.Blocks.{dot, AreOpenLines, first_block, next_block, next_block_by}
 use Rattle.news_terms.specs.Blocks.{unstuffed_line, unstuffed, text_lines, Unfinished}
-use Rattle.news_terms.proofs.LineLemmas.{first_line_whole}
+use Rattle.news_terms.proofs.LineLemmas.{CutsLine-from_first, first_line_whole, no_first_line}
+use Rattle.news_terms.proofs.LineLemmas.{same_front}
 use Rattle.news_terms.proofs.RestLemmas.{IsLine-from_first}
 use Rattle.news_terms.proofs.BlockLemmas.{first_block-cuts, first_block-none}
 use Rattle.news_terms.proofs.StuffLemmas.{text_lines-spelled}
-use Rattle.stream_cut.specs.Look.{IsLooked, LineEnds, IsPassed, ClosesAt}
+use Rattle.stream_cut.specs.Look.{IsLooked, IsPassed, LineEnds, IsUnclosed, ClosesAt}
 use Rattle.stream_cut.specs.Dots.{dot_of, dots_of}
 use Rattle.stream_cut.proofs.PlaceLemmas.{looked_all}
+use Rattle.stream_cut.proofs.TextLemmas.{between, dot_later}
 
 -- at the front nothing was looked at
 pub IsLooked-none : (s : List ℕ) → IsLooked s 0
@@ -44,22 +54,6 @@ pub passed-lines : (s : List ℕ) (passed looked dots : ℕ) (h : IsPassed s pas
     → take passed s ≡ spelled h.lines
 passed-lines s passed looked dots h = ap (take passed) h.whole
     ∙ take_at (spelled h.lines) h.tail passed h.count
-
--- one more line at the end
-spelled-push : (ls : List (List ℕ)) (l : List ℕ)
-    → spelled (ls ++ l ∷ []) ≡ spelled ls ++ (l ++ crlf)
-spelled-push ls l = flat_map-append (λ (line : List ℕ). line ++ crlf) ls (l ∷ [])
-    ∙ ap (λ (x : List ℕ). spelled ls ++ x) (append-nil (l ++ crlf))
-
-AreOpenLines-push : (ls : List (List ℕ)) (l : List ℕ) → AreOpenLines ls → IsLine l
-    → bytes_eq l dot ≡ false → AreOpenLines (ls ++ l ∷ [])
-AreOpenLines-push [] l h line open_line = (line, open_line, tt)
-AreOpenLines-push (x ∷ ls) l h line open_line =
-    (h.0, h.1, AreOpenLines-push ls l h.2 line open_line)
-
-dots_of-push : (ls : List (List ℕ)) (l : List ℕ) → dots_of (ls ++ l ∷ []) ≡ dots_of ls + dot_of l
-dots_of-push [] l = omega arith
-dots_of-push (x ∷ ls) l = omega (arith, dots_of-push ls l)
 
 -- a dot of a line is one of its octets
 pub dot_of-unstuffed : (l : List ℕ) → length (unstuffed_line l) + dot_of l ≡ length l
@@ -118,7 +112,149 @@ passed-bounds s passed looked dots h =
     let unstuffing = length-unstuffed h.lines in
     (omega arith, omega arith)
 
--- the next line is passed too, unless it is the lone dot
+-- whether octets begin with the lone dot
+pub closed_or_not : (s : List ℕ) (r : Bool) → r ≡ starts_with eqb s (46 ∷ 13 ∷ 10 ∷ [])
+    → MatchBool r (ClosesAt s 0) (IsUnclosed s)
+closed_or_not s true is =
+    let whole = (starts_is Decides-eqb s (46 ∷ 13 ∷ 10 ∷ []) true is).0 refl in
+    ap first_line whole
+closed_or_not s false is = λ rest e.
+    true≢false (sym ((starts_is Decides-eqb s (46 ∷ 13 ∷ 10 ∷ []) false is).1 rest e))
+
+-- a lone dot that comes next closes the block
+pub dot_closes : (s : List ℕ) (passed : ℕ) → ClosesAt (drop passed s) 0 → ClosesAt s passed
+dot_closes s passed closes =
+    closes ∙ ap (λ (x : List ℕ). Some (dot, x))
+    (drop-drop 3 passed s)
+
+-- a dot in front is counted by the octets that begin with it
+dot_of-front : (l after : List ℕ) → dot_of (l ++ 13 ∷ 10 ∷ after) ≡ dot_of l
+dot_of-front [] after = refl
+dot_of-front (a ∷ l) after = refl
+
+-- octets that begin with no dot have none in front
+dot_of-none : (s : List ℕ) → ((after : List ℕ) → s ≢ 46 ∷ after) → dot_of s ≡ 0
+dot_of-none [] none = refl
+dot_of-none (a ∷ s) none = ⊎_elim
+    (λ t. absurd (none s (ap (λ (x : ℕ). x ∷ s) (eqb-true a 46 t))))
+    (λ f. cond-false {A = ℕ} (a == 46) 1 0 f)
+    (cases_Bool (a == 46))
+
+-- whole lines up to a place, of which the first alone may begin with a dot, and which don't begin
+-- with the lone dot: the front of at most n octets is open lines, and its dot is theirs
+record OpenFront (t front : List ℕ) : Type 0 where
+  lines : List (List ℕ)
+  spelling : spelled lines ≡ front ++ crlf
+  unclosed : AreOpenLines lines
+  dotted : dots_of lines ≡ dot_of t
+
+abbrev OpensFronts : ℕ → Type 0
+OpensFronts n =
+    (t front after : List ℕ) → length t ≤ n → t ≡ front ++ 13 ∷ 10 ∷ after
+    → ((x y : List ℕ) → t ≡ x ++ 13 ∷ 10 ∷ 46 ∷ y → length front ≤ length x) → IsUnclosed t
+    → OpenFront t front
+
+open_front : (n : ℕ) → OpensFronts n
+open_front zero t front after fits whole first unclosed =
+    absurd (omega (arith, fits, ap length whole, length-append front (13 ∷ 10 ∷ after)))
+open_front (suc n) t front after fits whole first unclosed =
+    by (open_front n) (first_line t) refl
+  where
+    by : OpensFronts n → (o : Option (List ℕ × List ℕ)) → first_line t ≡ o → OpenFront t front
+    by shorter None e = absurd (no_first_line t front after e whole)
+    by shorter (Some p) e =
+        let l = p.0 in
+        let r = p.1 in
+        let line = first_line_whole t p e in
+        let is_line = IsLine-from_first t l r e in
+        let dots : dot_of t ≡ dot_of l = ap dot_of line ∙ dot_of-front l r in
+        let open_line : bytes_eq l dot ≡ false = false_from_ne_true _ (λ same.
+        unclosed r (line ∙ ap (λ (x : List ℕ). x ++ 13 ∷ 10 ∷ r)
+        ((bytes_eq-Decides l dot).0 same))) in
+        ⊎_elim
+        (λ less.
+        let parts = between t l r front after line whole less in
+        let next = drop (length l + 2) front in
+        let plain : (a : List ℕ) → r ≢ 46 ∷ a = λ a same. omega (
+          arith,
+          less,
+          first l a (line ∙ ap (λ (x : List ℕ). l ++ 13 ∷ 10 ∷ x) same),
+        ) in
+        let long : length front ≡ length l + 2 + length next = ap length parts.1
+        ∙ omega (arith, length-append (l ++ crlf) next, length-append l crlf) in
+        let later = shorter r next after
+        (omega (arith, fits, ap length line, length-append l (13 ∷ 10 ∷ r))) parts.0
+        (λ x y same. omega (
+          arith,
+          long,
+          first ((l ++ crlf) ++ x) y (dot_later t l r x y line same),
+          length-append (l ++ crlf) x,
+          length-append l crlf,
+        )) (λ rest. plain (13 ∷ 10 ∷ rest)) in
+        record {
+          lines = l ∷ later.lines;
+          spelling = ap (λ (x : List ℕ). (l ++ crlf) ++ x) later.spelling
+              ∙ sym (append_assoc (l ++ crlf) next crlf)
+              ∙ ap (λ (x : List ℕ). x ++ crlf) (sym parts.1);
+          unclosed = (is_line, open_line, later.unclosed);
+          dotted = omega (arith, later.dotted, dot_of-none r plain, dots);
+        })
+        (λ past.
+        let least = (CutsLine-from_first t l r e).shortest front after whole in
+        let same = same_front l front (13 ∷ 10 ∷ r) (13 ∷ 10 ∷ after) (sym line ∙ whole)
+        (omega (arith, past, least)) in
+        record {
+          lines = l ∷ [];
+          spelling = append-nil (l ++ crlf) ∙ ap (λ (x : List ℕ). x ++ crlf) same.0;
+          unclosed = (is_line, open_line, tt);
+          dotted = omega (arith, dots);
+        })
+        (cases_lt (length l) (length front))
+
+-- more lines at the end
+AreOpenLines-append : (ls ms : List (List ℕ)) → AreOpenLines ls → AreOpenLines ms
+    → AreOpenLines (ls ++ ms)
+AreOpenLines-append [] ms h more = more
+AreOpenLines-append (x ∷ ls) ms h more = (h.0, h.1, AreOpenLines-append ls ms h.2 more)
+
+dots_of-append : (ls ms : List (List ℕ)) → dots_of (ls ++ ms) ≡ dots_of ls + dots_of ms
+dots_of-append [] ms = omega arith
+dots_of-append (x ∷ ls) ms = omega (arith, dots_of-append ls ms)
+
+-- whole lines of which the first alone may begin with a dot are passed too
+pub pass_front : (s : List ℕ) (passed looked dots next : ℕ) (front after : List ℕ)
+    → IsPassed s passed looked dots → drop passed s ≡ front ++ 13 ∷ 10 ∷ after
+    → ((x y : List ℕ) → drop passed s ≡ x ++ 13 ∷ 10 ∷ 46 ∷ y → length front ≤ length x)
+    → IsUnclosed (drop passed s) → next ≡ length front + 2
+    → IsPassed s (passed + next) 0 (dots + dot_of (drop passed s))
+pass_front s passed looked dots next front after h whole first unclosed e =
+    let left = drop passed s in
+    let same : left ≡ h.tail = passed-tail s passed looked dots h in
+    let more = open_front (length left) left front after (omega arith) whole first unclosed in
+    let spelling : spelled (h.lines ++ more.lines) ≡ spelled h.lines ++ (front ++ crlf) =
+    flat_map-append (λ (line : List ℕ). line ++ crlf) h.lines more.lines
+    ∙ ap (λ (x : List ℕ). spelled h.lines ++ x) more.spelling in
+    record {
+      lines = h.lines ++ more.lines;
+      unclosed = AreOpenLines-append h.lines more.lines h.unclosed more.unclosed;
+      tail = after;
+      whole = h.whole ∙ ap (λ (x : List ℕ). spelled h.lines ++ x)
+          (sym same ∙ whole ∙ sym (append_assoc front crlf after))
+          ∙ sym (append_assoc (spelled h.lines) (front ++ crlf) after)
+          ∙ ap (λ (x : List ℕ). x ++ after) (sym spelling);
+      count = ap length spelling
+          ∙ omega (
+            arith,
+            h.count,
+            length-append (spelled h.lines) (front ++ crlf),
+            length-append front crlf,
+            e,
+          );
+      dotted = omega (arith, dots_of-append h.lines more.lines, h.dotted, more.dotted);
+      seen = IsLooked-none after;
+    }
+
+-- so is the next line, unless it is the lone dot
 pub pass_line : (s : List ℕ) (passed looked dots end : ℕ) → IsPassed s passed looked dots
     → LineEnds (drop passed s) end
     → bytes_eq (take end (drop passed s)) dot ≡ false
@@ -128,44 +264,18 @@ pass_line s passed looked dots end h ends open_line =
     let line = take end left in
     let rest = drop (end + 2) left in
     let fits = ends.fits in
-    let same : left ≡ h.tail = passed-tail s passed looked dots h in
     let whole : left ≡ line ++ 13 ∷ 10 ∷ rest = first_line_whole left (line, rest) ends.first in
-    let spelling : spelled (h.lines ++ line ∷ []) ≡ spelled h.lines ++ (line ++ crlf) =
-    spelled-push h.lines line in
-    record {
-      lines = h.lines ++ line ∷ [];
-      unclosed = AreOpenLines-push h.lines line h.unclosed
-          (IsLine-from_first left line rest ends.first) open_line;
-      tail = rest;
-      whole = h.whole ∙ ap (λ (x : List ℕ). spelled h.lines ++ x)
-          (sym same ∙ whole ∙ sym (append_assoc line crlf rest))
-          ∙ sym (append_assoc (spelled h.lines) (line ++ crlf) rest)
-          ∙ ap (λ (x : List ℕ). x ++ rest) (sym spelling);
-      count = ap length spelling
-          ∙ omega (
-            arith,
-            h.count,
-            length-append (spelled h.lines) (line ++ crlf),
-            length-append line crlf,
-            length-take-le end left (omega arith),
-          );
-      dotted = dots_of-push h.lines line ∙ ap (λ (n : ℕ). n + dot_of line) h.dotted;
-      seen = IsLooked-none rest;
-    }
-
--- a line that is the lone dot closes the block
-pub dot_closes : (s : List ℕ) (passed end : ℕ) → LineEnds (drop passed s) end
-    → bytes_eq (take end (drop passed s)) dot ≡ true → ClosesAt s passed
-dot_closes s passed end ends lone =
-    let left = drop passed s in
-    let fits = ends.fits in
-    let same : take end left ≡ dot = (bytes_eq-Decides (take end left) dot).0 lone in
-    let one : end ≡ 1 = omega (arith, length-take-le end left (omega arith), ap length same) in
-    let place : passed + (end + 2) ≡ passed + 3 = omega arith in
-    ends.first
-    ∙ ap (λ (x : List ℕ). Some (x, drop (end + 2) left)) same
-    ∙ ap (λ (x : List ℕ). Some (dot, x))
-    (drop-drop (end + 2) passed s ∙ ap (λ (n : ℕ). drop n s) place)
+    let least = (CutsLine-from_first left line rest ends.first).shortest in
+    let unclosed : IsUnclosed left = λ r e.
+    let same : line ≡ dot = ap (λ (p : List ℕ × List ℕ). p.0)
+    (same_Some (line, rest) (dot, r) (sym ends.first ∙ ap first_line e)) in
+    true≢false (sym ((bytes_eq-Decides line dot).1 same) ∙ open_line) in
+    let passes : IsPassed s (passed + (end + 2)) 0 (dots + dot_of left) =
+    pass_front s passed looked dots (end + 2) line rest h whole (λ x y e. least x (46 ∷ y) e)
+    unclosed (omega (arith, length-take-le end left (omega arith))) in
+    subst (λ (n : ℕ). IsPassed s n 0 (dots + dot_of line)) (omega arith)
+    (subst (λ (n : ℕ). IsPassed s (passed + (end + 2)) 0 (dots + n))
+    (ap dot_of whole ∙ dot_of-front line rest) passes)
 
 -- no line follows: all that follows was looked at
 pub look_stops : (s : List ℕ) (passed looked dots n : ℕ) → IsPassed s passed looked dots

@@ -6,12 +6,12 @@ use Rattle.std.proofs.Common.{get_or-drop, get_or-take}
 use Rattle.std.proofs.lemmas.List.{drop_more, get_or_past, get_or_at, get_or-append-add, take-take}
 use Rattle.std.proofs.lemmas.List.{drop-append-le, length-take-le}
 use Rattle.std.proofs.lemmas.Bool.{cases_lt, le-leb, lt-leb, cond-true, cond-false}
-use Rattle.memchr.specs.Find.{OccursAt, NoneBefore, Nowhere}
+use Rattle.memchr.specs.Find.{OccursAt, NoneAfter, NoneBefore, Nowhere}
 use Rattle.news_terms.specs.Lines.{first_line, next_line, next_line_by, Cut, TooLong, Incomplete}
 use Rattle.news_terms.proofs.LineLemmas.{CutsLine-from_first, first_line-cuts, first_line-none}
 use Rattle.news_terms.proofs.LineLemmas.{first_line_whole, no_first_line}
 use Rattle.news_terms.proofs.RestLemmas.{first_line-append}
-use Rattle.stream_cut.specs.Look.{EndsAt, IsLooked, LineEnds}
+use Rattle.stream_cut.specs.Look.{EndsAt, EndsLast, IsLooked, LineEnds}
 
 -- at a CRLF the octets go on with CR and LF
 pub EndsAt-drop : (s : List ℕ) (k : ℕ) → EndsAt s k
@@ -111,6 +111,13 @@ occurs-EndsAt s hay from k e h =
         read (k + 1) ∙ ap (λ (n : ℕ). get_or s n 0) (sym after) ∙ h.1
     reads_two s hay from k place after read h (suc (suc j)) below = absurd (omega arith)
 
+-- a CRLF of what follows stands so much later
+EndsAt-behind : (s : List ℕ) (n j at : ℕ) → at ≡ n + j → EndsAt (drop n s) j → EndsAt s at
+EndsAt-behind s n j at e h = (
+  ap (λ (k : ℕ). get_or s k 0) e ∙ sym (get_or-drop n s j 0) ∙ h.0,
+  ap (λ (k : ℕ). get_or s k 0) (omega (arith, e)) ∙ sym (get_or-drop n s (j + 1) 0) ∙ h.1,
+)
+
 -- a search from where the look stopped finds the end of the first line
 pub line_found : (s hay : List ℕ) (looked k : ℕ) → IsLooked s looked → hay ≡ drop looked s
     → NoneBefore (OccursAt hay (13 ∷ 10 ∷ [])) 0 (length hay + 1) k → OccursAt hay (13 ∷ 10 ∷ []) k
@@ -136,6 +143,33 @@ line_missed s hay looked seen e none = line_nowhere s (λ j h. ⊎_elim
     none (j - looked) (omega arith) (omega arith)
     (occurs-EndsAt s hay looked (j - looked) e (subst (EndsAt s) place h)))
     (cases_lt j looked))
+
+-- a search from the end, back to where the look stopped, finds the end of the last line
+pub last_found : (s hay : List ℕ) (looked k : ℕ) → hay ≡ drop looked s
+    → NoneAfter (OccursAt hay (13 ∷ 10 ∷ [])) 0 (length hay + 1) k → OccursAt hay (13 ∷ 10 ∷ []) k
+    → EndsLast s (looked + k + 2)
+last_found s hay looked k e none here =
+    let at = EndsAt-drop s (looked + k) (EndsAt-occurs s hay looked k e here) in
+    let fits = at.0 in
+    let count : length hay ≡ length s - looked = ap length e ∙ length-drop looked s in
+    let next = looked + k + 2 in
+    record {
+      front = take (looked + k) s;
+      whole = sym (take-append-drop (looked + k) s)
+          ∙ ap (λ (x : List ℕ). take (looked + k) s ++ x) at.1;
+      place = omega (arith, length-take-le (looked + k) s (omega arith));
+      last = line_nowhere (drop next s) (λ j h.
+          let there : EndsAt s (looked + (k + 2 + j)) = EndsAt-behind s next j
+          (looked + (k + 2 + j)) (omega arith) h in
+          let within = (EndsAt-drop s (looked + (k + 2 + j)) there).0 in
+          none.after (k + 2 + j) (omega arith) (omega (arith, within, count))
+          (occurs-EndsAt s hay looked (k + 2 + j) e there));
+    }
+
+-- a search that finds nothing says that there is no line
+pub last_missed : (s hay : List ℕ) (looked : ℕ) → IsLooked s looked → hay ≡ drop looked s
+    → Nowhere (OccursAt hay (13 ∷ 10 ∷ [])) 0 (length hay + 1) → first_line s ≡ None
+last_missed s hay looked seen e none = line_missed s hay looked seen e none
 
 -- octets with no first line were looked at but for the last
 pub looked_all : (s : List ℕ) (n : ℕ) → first_line s ≡ None → n ≡ length s - 1 → IsLooked s n

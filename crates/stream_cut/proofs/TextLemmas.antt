@@ -18,6 +18,7 @@ use Rattle.news_terms.proofs.LineLemmas.{CutsLine-from_first, first_line_whole, 
 use Rattle.news_terms.proofs.LineLemmas.{same_front}
 use Rattle.news_terms.proofs.StuffLemmas.{text_lines-line, text_lines-last}
 use Rattle.stream_cut.specs.Dots.{DotsAt, HasNoInnerDot, end_of}
+use Rattle.stream_cut.specs.Look.{IsLooked}
 use Rattle.stream_cut.proofs.PlaceLemmas.{EndsAt-front}
 
 -- what changes a line where it begins with a dot, and then there alone
@@ -71,7 +72,7 @@ unchanged-dots : ChangesDots (λ s. s)
 unchanged-dots = record { alone = λ s more some. refl; plain = λ s none. refl }
 
 -- what follows a line before another CRLF
-between : (t l r front after : List ℕ) → t ≡ l ++ 13 ∷ 10 ∷ r → t ≡ front ++ 13 ∷ 10 ∷ after
+pub between : (t l r front after : List ℕ) → t ≡ l ++ 13 ∷ 10 ∷ r → t ≡ front ++ 13 ∷ 10 ∷ after
     → length l < length front
     → (r ≡ drop (length l + 2) front ++ 13 ∷ 10 ∷ after)
     × (front ≡ (l ++ crlf) ++ drop (length l + 2) front)
@@ -102,21 +103,27 @@ between t l r front after line other less =
     )
 
 -- a dot after a CRLF of what follows a line stands after one of the text
-dot_later : (t l r f a : List ℕ) → t ≡ l ++ 13 ∷ 10 ∷ r → r ≡ f ++ 13 ∷ 10 ∷ 46 ∷ a
+pub dot_later : (t l r f a : List ℕ) → t ≡ l ++ 13 ∷ 10 ∷ r → r ≡ f ++ 13 ∷ 10 ∷ 46 ∷ a
     → t ≡ ((l ++ crlf) ++ f) ++ 13 ∷ 10 ∷ 46 ∷ a
 dot_later t l r f a line e =
     line ∙ sym (append_assoc l crlf r) ∙ ap (λ (x : List ℕ). (l ++ crlf) ++ x) e
     ∙ sym (append_assoc (l ++ crlf) f (13 ∷ 10 ∷ 46 ∷ a))
 
--- CRLF and a dot occur behind what stands before them
-occurs_behind : (t f a : List ℕ) → t ≡ f ++ 13 ∷ 10 ∷ 46 ∷ a
-    → OccursAt t (13 ∷ 10 ∷ 46 ∷ []) (length f)
-occurs_behind t f a e =
-    let long : length t ≡ length f + suc (suc (suc (length a))) =
-    ap length e ∙ length-append f (13 ∷ 10 ∷ 46 ∷ a) in
-    OccursAt-from_part t (13 ∷ 10 ∷ 46 ∷ []) (length f) (omega (arith, long))
-    (ap (λ (x : List ℕ). take 3 (drop (length f) x)) e
-    ∙ ap (take 3) (drop_at f (13 ∷ 10 ∷ 46 ∷ a) (length f) refl))
+-- CRLF and a dot occur behind what stands before them, in what was not looked at
+occurs_within : (t hay : List ℕ) (looked : ℕ) (x y : List ℕ) → hay ≡ drop looked t
+    → looked ≤ length x → t ≡ x ++ 13 ∷ 10 ∷ 46 ∷ y
+    → OccursAt hay (13 ∷ 10 ∷ 46 ∷ []) (length x - looked)
+occurs_within t hay looked x y rest new e =
+    let needle = 13 ∷ 10 ∷ 46 ∷ [] in
+    let left = drop looked x in
+    let split : hay ≡ left ++ 13 ∷ 10 ∷ 46 ∷ y = rest ∙ ap (drop looked) e
+    ∙ drop-append-le looked x (13 ∷ 10 ∷ 46 ∷ y) new in
+    let place : length left ≡ length x - looked = length-drop looked x in
+    OccursAt-from_part hay needle (length x - looked)
+    (omega (arith, ap length split, length-append left (13 ∷ 10 ∷ 46 ∷ y), place))
+    (ap (λ (n : ℕ). take 3 (drop n hay)) (sym place)
+    ∙ ap (λ (x : List ℕ). take 3 (drop (length left) x)) split
+    ∙ ap (take 3) (drop_at left (13 ∷ 10 ∷ 46 ∷ y) (length left) refl))
 
 -- each line of a text as f has it
 abbrev pub sent : (List ℕ → List ℕ) → List ℕ → List ℕ
@@ -284,31 +291,42 @@ dots_within t k at =
     )
 
 -- where CRLF and a dot are found first, a line behind the first begins with a dot
-pub dots_found : (t : List ℕ) (k : ℕ)
-    → NoneBefore (OccursAt t (13 ∷ 10 ∷ 46 ∷ [])) 0 (length t + 1) k
-    → OccursAt t (13 ∷ 10 ∷ 46 ∷ []) k → DotsAt t (k + 2)
-dots_found t k none here =
+pub dots_found : (t hay : List ℕ) (looked k : ℕ) → IsLooked t looked → hay ≡ drop looked t
+    → NoneBefore (OccursAt hay (13 ∷ 10 ∷ 46 ∷ [])) 0 (length hay + 1) k
+    → OccursAt hay (13 ∷ 10 ∷ 46 ∷ []) k → DotsAt t (looked + k + 2)
+dots_found t hay looked k seen rest none here =
     let fits = here.fits in
-    let count : length (take k t) ≡ k = length-take-le k t (omega (arith, fits)) in
+    let count : length hay ≡ length t - looked = ap length rest ∙ length-drop looked t in
+    let long : length (take (looked + k) t) ≡ looked + k =
+    length-take-le (looked + k) t (omega (arith, fits, count)) in
     record {
-      front = take k t;
-      after = drop (k + 3) t;
-      whole = sym (take-append-drop k t)
-          ∙ ap (λ (x : List ℕ). take k t ++ x) (OccursAt-split t (13 ∷ 10 ∷ 46 ∷ []) k here);
-      place = omega (arith, count);
+      front = take (looked + k) t;
+      after = drop (k + 3) hay;
+      whole = sym (take-append-drop (looked + k) t)
+          ∙ ap (λ (x : List ℕ). take (looked + k) t ++ x)
+          (ap (λ (n : ℕ). drop n t) (omega arith) ∙ sym (drop-drop k looked t)
+          ∙ ap (drop k) (sym rest) ∙ OccursAt-split hay (13 ∷ 10 ∷ 46 ∷ []) k here);
+      place = omega (arith, long);
       first = λ x y e. ⊎_elim
-          (λ early. absurd (none.before (length x) (omega arith) early (occurs_behind t x y e)))
-          (λ late. omega (arith, late, count))
-          (cases_lt (length x) k);
+          (λ old. absurd (seen.none (length x) old (EndsAt-front t x (46 ∷ y) e)))
+          (λ new. ⊎_elim
+          (λ early. absurd (none.before (length x - looked) (omega arith) early
+          (occurs_within t hay looked x y rest new e)))
+          (λ late. omega (arith, late, long, new))
+          (cases_lt (length x - looked) k))
+          (cases_lt (length x) looked);
     }
 
 -- where they are found nowhere, none does
-pub dots_missed : (t : List ℕ) → Nowhere (OccursAt t (13 ∷ 10 ∷ 46 ∷ [])) 0 (length t + 1)
-    → HasNoInnerDot t
-dots_missed t none x y e =
-    let here = occurs_behind t x y e in
+pub dots_missed : (t hay : List ℕ) (looked : ℕ) → IsLooked t looked → hay ≡ drop looked t
+    → Nowhere (OccursAt hay (13 ∷ 10 ∷ 46 ∷ [])) 0 (length hay + 1) → HasNoInnerDot t
+dots_missed t hay looked seen rest none x y e = ⊎_elim
+    (λ old. absurd (seen.none (length x) old (EndsAt-front t x (46 ∷ y) e)))
+    (λ new.
+    let here = occurs_within t hay looked x y rest new e in
     let fits = here.fits in
-    none (length x) (omega arith) (omega (arith, fits)) here
+    none (length x - looked) (omega arith) (omega (arith, fits)) here)
+    (cases_lt (length x) looked)
 
 -- THE BLOCK THAT SENDS A TEXT
 

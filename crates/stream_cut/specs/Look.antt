@@ -1,6 +1,6 @@
 -- How far a stream was looked through, so that nothing is looked at twice. No public contract
 -- cites it.
-use Rattle.std.specs.Prelude.{◌≡◌, ℕ, ◌+◌, ◌-◌, ◌<◌, ◌≤◌, List, [], ◌∷◌, ◌++◌}
+use Rattle.std.specs.Prelude.{◌≡◌, ◌≢◌, ℕ, ◌+◌, ◌-◌, ◌<◌, ◌≤◌, List, [], ◌∷◌, ◌++◌}
 use Rattle.std.specs.Prelude.{length, take, drop, slice_index, Some, None}
 use Rattle.news_terms.specs.Lines.{first_line, next_line, spelled}
 use Rattle.news_terms.specs.Lines as lines
@@ -25,6 +25,13 @@ pub record LineEnds (octets : List ℕ) (k : ℕ) : Type 0 where
   pub fits : k + 2 ≤ length octets
   pub first : first_line octets ≡ Some (take k octets, drop (k + 2) octets)
 
+-- The last whole line ends before place k.
+pub record EndsLast (octets : List ℕ) (k : ℕ) : Type 0 where
+  pub front : List ℕ
+  pub whole : octets ≡ front ++ 13 ∷ 10 ∷ drop k octets
+  pub place : k ≡ length front + 2
+  pub last : first_line (drop k octets) ≡ None
+
 -- The octets begin with whole lines of a block, of so many octets, so many of them with a dot at
 -- their front, and of what follows those so many octets were looked at.
 pub record IsPassed (octets : List ℕ) (passed looked dots : ℕ) : Type 0 where
@@ -39,6 +46,10 @@ pub record IsPassed (octets : List ℕ) (passed looked dots : ℕ) : Type 0 wher
 -- the lone dot that closes a block comes next
 abbrev pub ClosesAt : List ℕ → ℕ → Type 0
 ClosesAt octets k = first_line (drop k octets) ≡ Some (46 ∷ [], drop (k + 3) octets)
+
+-- no lone dot comes next
+abbrev pub IsUnclosed : List ℕ → Type 0
+IsUnclosed octets = (rest : List ℕ) → octets ≢ 46 ∷ 13 ∷ 10 ∷ rest
 
 -- what stands where a line is wanted: a line within the limit, none, or none so far
 abbrev pub FindsLine : List ℕ → LineLook → Type 0

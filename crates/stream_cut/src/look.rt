@@ -1,9 +1,9 @@
 //! How far the unread octets were looked through for the end of a line and of a block.
-ghost use Rattle.std.specs.Prelude.{◌≡◌, None, MatchOption};
+ghost use Rattle.std.specs.Prelude.{◌≡◌, drop, None, MatchBool, MatchOption};
 ghost use Rattle.news_terms.specs.Lines.{first_line};
-ghost use Rattle.stream_cut.specs.Look.{IsLooked, LineEnds, IsPassed};
-ghost use Rattle.stream_cut.specs.Dots.{dot_of};
-ghost use Rattle.stream_cut.specs.Look.{FindsLine, FindsBlock};
+ghost use Rattle.stream_cut.specs.Look.{ClosesAt, EndsLast, IsLooked, IsPassed, IsUnclosed};
+ghost use Rattle.stream_cut.specs.Dots.{DotsAt, HasNoInnerDot, dot_of};
+ghost use Rattle.stream_cut.specs.Look.{FindsBlock, FindsLine, LineEnds};
 
 use memchr::memmem;
 
@@ -88,28 +88,77 @@ pub(crate) fn look_for_line(octets: &[u8], progress: Progress) -> LineLook
     })
 }
 
-/// Passes whole lines up to the lone dot that closes the block, or up to the last whole line.
+/// Where the first line behind the first one begins that begins with a dot, if no CRLF begins among
+/// the octets looked at before. What stands before is stuffed, and unstuffed, as one line is.
+pub(crate) fn inner_dot(octets: &[u8], looked: usize) -> Option<usize>
+    requires { IsLooked octets.now looked }
+    ensures { MatchOption result (HasNoInnerDot octets.now) (DotsAt octets.now) }
+{
+    match memmem::find(&octets[looked..], b"\r\n.") {
+        Some(k) => Some(looked + k + 2),
+        None => None,
+    }
+}
+
+/// Where the last whole line ends, if no CRLF begins among the octets looked at before.
+fn last_end(octets: &[u8], looked: usize) -> Option<usize>
+    requires { IsLooked octets.now looked }
+    ensures { MatchOption result (first_line octets.now ≡ None) (EndsLast octets.now) }
+{
+    match memmem::rfind(&octets[looked..], b"\r\n") {
+        Some(k) => Some(looked + k + 2),
+        None => None,
+    }
+}
+
+/// Whether the lone dot comes next.
+fn is_closed(octets: &[u8]) -> bool
+    ensures { MatchBool result (ClosesAt octets.now 0) (IsUnclosed octets.now) }
+{
+    octets.starts_with(b".\r\n".as_slice())
+}
+
+/// Passes whole lines up to the lone dot that closes the block, or up to the last whole line: at
+/// once those up to one that begins with a dot.
 pub(crate) fn look_for_block(octets: &[u8], progress: Progress) -> BlockLook
     requires { IsPassed octets.now progress.passed progress.looked progress.dots }
     ensures { FindsBlock octets.now result }
 {
     let mut progress = progress;
-    while let Some(end) = line_end(&octets[progress.passed..], progress.looked) {
-        let line = &octets[progress.passed..progress.passed + end];
-        if line == b".".as_slice() {
-            return BlockLook::Closed(progress);
-        }
+    while !is_closed(&octets[progress.passed..]) {
+        let left = &octets[progress.passed..];
+        let Some(end) = inner_dot(left, progress.looked) else {
+            return BlockLook::Open(pass_last(octets, progress));
+        };
         progress = Progress {
-            passed: progress.passed + end + 2,
+            passed: progress.passed + end,
             looked: 0,
-            dots: progress.dots + dots(line),
+            dots: progress.dots + dots(left),
         };
     }
-    let tail = octets.len() - progress.passed;
-    BlockLook::Open(Progress {
-        looked: tail.saturating_sub(1),
-        ..progress
-    })
+    BlockLook::Closed(progress)
+}
+
+/// Passes whole lines of which the first alone may begin with a dot.
+fn pass_last(octets: &[u8], progress: Progress) -> Progress
+    requires passed { IsPassed octets.now progress.passed progress.looked progress.dots }
+    requires dots { HasNoInnerDot (drop progress.passed octets.now) }
+    requires open { IsUnclosed (drop progress.passed octets.now) }
+    ensures { IsPassed octets.now result.passed result.looked result.dots
+        × (first_line (drop result.passed octets.now) ≡ None) }
+{
+    let left = &octets[progress.passed..];
+    match last_end(left, progress.looked) {
+        Some(end) => Progress {
+            passed: progress.passed + end,
+            looked: (left.len() - end).saturating_sub(1),
+            dots: progress.dots + dots(left),
+        },
+        None => Progress {
+            looked: left.len().saturating_sub(1),
+            ..progress
+        },
+    }
 }
 
 /// One where a line begins with a dot, else none.

@@ -1,14 +1,14 @@
 //! Dot-stuffing (RFC 3977 section 3.1.1).
 ghost use Rattle.std.specs.Prelude.{◌≡◌, ◌+◌, ◌^◌, ◌≤◌, ◌<◌, ◌++◌, [], ◌∷◌, length, List, ℕ};
-ghost use Rattle.std.specs.Prelude.{IfOk, MatchOption, OnOk, vec_len, vec_capacity};
+ghost use Rattle.std.specs.Prelude.{IfOk, OnOk, vec_len, vec_capacity};
 ghost use Rattle.news_terms.specs.Lines.{spelled};
 ghost use Rattle.news_terms.specs.Blocks.{stuffed, stuffed_line, text_lines};
 ghost use Rattle.news_terms.specs.Blocks.{unstuffed, unstuffed_line};
 ghost use Rattle.news_terms.specs.Blocks as terms;
-ghost use Rattle.stream_cut.specs.Dots.{DotsAt, HasNoInnerDot, end_of};
+ghost use Rattle.stream_cut.specs.Dots.{HasNoInnerDot, end_of};
 
+use crate::look::inner_dot;
 use line_words::put_octets;
-use memchr::memmem;
 use std::alloc::{AllocError, Global};
 
 /// The most octets of the block that sends a text of so many: a third more and six.
@@ -37,23 +37,12 @@ pub fn put_stuffed(block: &mut Vec<u8>, text: &[u8])
     ensures capacity { vec_capacity block.new ≡ vec_capacity block.old }
 {
     let mut at = 0;
-    while let Some(end) = inner_dot(&text[at..]) {
+    while let Some(end) = inner_dot(&text[at..], 0) {
         let next = at + end;
         put_stuffed_line(block, &text[at..next]);
         at = next;
     }
     put_last(block, &text[at..]);
-}
-
-/// Where the first line behind the first one begins that begins with a dot. What stands before is
-/// stuffed, and unstuffed, as one line is.
-fn inner_dot(text: &[u8]) -> Option<usize>
-    ensures { MatchOption result (HasNoInnerDot text.now) (DotsAt text.now) }
-{
-    match memmem::find(text, b"\r\n.") {
-        Some(end) => Some(end + 2),
-        None => None,
-    }
 }
 
 /// Adds the block that sends octets of which no line but the first begins with a dot.
@@ -101,7 +90,7 @@ pub fn unstuff(alloc: Global, lines: &[u8], len: usize) -> Result<Vec<u8>, Alloc
 {
     let mut text = Vec::with_capacity(alloc, len)?;
     let mut at = 0;
-    while let Some(end) = inner_dot(&lines[at..]) {
+    while let Some(end) = inner_dot(&lines[at..], 0) {
         let next = at + end;
         push_unstuffed(&mut text, &lines[at..next])?;
         at = next;

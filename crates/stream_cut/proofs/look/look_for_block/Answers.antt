@@ -1,69 +1,53 @@
--- Each line is passed, up to the lone dot or the last whole line.
-use Rattle.std.proofs.Common.{◌≡◌, ◌+◌, ◌-◌, true, false, arith, sym, ap, subst, ◌∙◌, take, drop}
-use Rattle.std.proofs.Common.{bytes_eq, List, ℕ}
+-- Whole lines up to one that begins with a dot are passed, up to the lone dot or the last ones.
+use Rattle.std.proofs.Common.{◌≡◌, ◌∷◌, ◌+◌, arith, sym, ap, subst, ◌∙◌, drop, length-drop}
+use Rattle.std.proofs.Common.{List, ℕ}
 use Rattle.std.proofs.lemmas.List.{take_rest}
-use Rattle.news_terms.specs.Blocks.{dot}
-use Rattle.news_terms.specs.Lines.{first_line}
-use Rattle.stream_cut.specs.Look.{LineEnds, IsPassed}
-use Rattle.stream_cut.specs.Dots.{dot_of}
-use Rattle.stream_cut.proofs.PassLemmas.{pass_line, dot_closes, look_stops, passed-bounds}
-use Rattle.stream_cut.proofs.PassLemmas.{dot_of-bound}
+use Rattle.stream_cut.specs.Dots.{DotsAt, dot_of}
+use Rattle.stream_cut.specs.Look.{ClosesAt, IsPassed, IsUnclosed}
+use Rattle.stream_cut.proofs.PassLemmas.{dot_closes, dot_of-bound, pass_front, passed-bounds}
+use Rattle.stream_cut.proofs.TextLemmas.{dots_within}
 use Rattle.stream_cut.proofs.look.look_for_block.Goals as goal
 
--- the line that the code looks at
-line_is : (s : List ℕ) (passed end : ℕ)
-    → take (passed + end - passed) (drop passed s) ≡ take end (drop passed s)
-line_is s passed end =
-    let count : passed + end - passed ≡ end = omega arith in
-    ap (λ (n : ℕ). take n (drop passed s)) count
-
-pub returns-then-eq : goal.returns-then-eq
-returns-then-eq c =
+pub overflow_add-progress-in-loop-left : goal.overflow_add-progress-in-loop-left
+overflow_add-progress-in-loop-left c =
     let s = c.args.octets.now in
-    let p = c.loop-end.progress in
+    let p = c.loop-left.progress in
+    let left = drop p.passed s in
+    let bounds = passed-bounds s p.passed p.looked p.dots c.loop-left.invariant in
+    let dots : DotsAt left c.in-Some.end =
+    subst (λ (x : List ℕ). DotsAt x c.in-Some.end) (take_rest s p.passed) c.in-Some.ensures in
+    let within = dots_within left c.in-Some.end dots in
+    omega (
+      arith,
+      c.dots.ensures ∙ ap dot_of (take_rest s p.passed),
+      dot_of-bound left,
+      bounds.0,
+      bounds.1,
+      within.0,
+      within.1,
+      length-drop p.passed s,
+    )
+
+pub loop-left-preserved : goal.loop-left-preserved
+loop-left-preserved c =
+    let s = c.args.octets.now in
+    let p = c.loop-left.progress in
     let end = c.in-Some.end in
-    let ends : LineEnds (drop p.passed s) end =
-    subst (λ (x : List ℕ). LineEnds x end) (take_rest s p.passed) c.in-Some.ensures in
-    let lone : bytes_eq (take end (drop p.passed s)) dot ≡ true =
-    ap (λ (x : List ℕ). bytes_eq x dot) (sym (line_is s p.passed end))
-    ∙ ap (bytes_eq (take (p.passed + end - p.passed) (drop p.passed s)))
-    (sym c.as_slice.ensures)
-    ∙ sym c.eq.ensures ∙ c.if-eq.true in
-    (c.loop-end.invariant, dot_closes s p.passed end ends lone)
-
-pub overflow_add-progress-in-Some-2 : goal.overflow_add-progress-in-Some-2
-overflow_add-progress-in-Some-2 c =
-    let s = c.args.octets.now in
-    let p = c.loop-end.progress in
-    let bounds = passed-bounds s p.passed p.looked p.dots c.loop-end.invariant in
-    let ends : LineEnds (drop p.passed s) c.in-Some.end =
-    subst (λ (x : List ℕ). LineEnds x c.in-Some.end) (take_rest s p.passed) c.in-Some.ensures in
-    let one = dot_of-bound (take (p.passed + c.in-Some.end - p.passed) (drop p.passed s)) in
-    omega (arith, c.dots.ensures, one, bounds.0, bounds.1, ends.fits)
-
-pub loop-end-preserved : goal.loop-end-preserved
-loop-end-preserved c =
-    let s = c.args.octets.now in
-    let p = c.loop-end.progress in
-    let end = c.in-Some.end in
-    let ends : LineEnds (drop p.passed s) end =
-    subst (λ (x : List ℕ). LineEnds x end) (take_rest s p.passed) c.in-Some.ensures in
-    let open_line : bytes_eq (take end (drop p.passed s)) dot ≡ false =
-    ap (λ (x : List ℕ). bytes_eq x dot) (sym (line_is s p.passed end))
-    ∙ ap (bytes_eq (take (p.passed + end - p.passed) (drop p.passed s)))
-    (sym c.as_slice.ensures)
-    ∙ sym c.eq.ensures ∙ c.if-eq.false in
-    let dots : dot_of (take end (drop p.passed s)) ≡ c.dots.result =
-    ap dot_of (sym (line_is s p.passed end)) ∙ sym c.dots.ensures in
-    subst (λ (n : ℕ). IsPassed s (p.passed + end + 2) 0 (p.dots + n)) dots
-    (pass_line s p.passed p.looked p.dots end c.loop-end.invariant ends open_line)
+    let left = drop p.passed s in
+    let at : DotsAt left end =
+    subst (λ (x : List ℕ). DotsAt x end) (take_rest s p.passed) c.in-Some.ensures in
+    let unclosed : IsUnclosed left = subst IsUnclosed (take_rest s p.passed)
+    c.loop-left-test.ensures in
+    let dots : dot_of left ≡ c.dots.result = ap dot_of (sym (take_rest s p.passed))
+    ∙ sym c.dots.ensures in
+    subst (λ (n : ℕ). IsPassed s (p.passed + end) 0 (p.dots + n)) dots
+    (pass_front s p.passed p.looked p.dots end at.front (46 ∷ at.after) c.loop-left.invariant
+    at.whole at.first unclosed at.place)
 
 pub returns : goal.returns
 returns c =
     let s = c.args.octets.now in
-    let p = c.loop-end.progress in
-    let none = ap first_line (sym (take_rest s p.passed)) ∙ c.in_default.ensures in (
-      look_stops s p.passed p.looked p.dots c.saturating_sub.result c.loop-end.invariant none
-          c.saturating_sub.ensures,
-      none,
-    )
+    let p = c.loop-left.progress in
+    let closes : ClosesAt (drop p.passed s) 0 =
+    subst (λ (x : List ℕ). ClosesAt x 0) (take_rest s p.passed) c.loop-left-test.ensures in
+    (c.loop-left.invariant, dot_closes s p.passed closes)

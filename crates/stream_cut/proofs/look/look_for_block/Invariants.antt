@@ -3,8 +3,8 @@ use Rattle.std.proofs.Common.{◌-◌, length}
 use Rattle.stream_cut.specs.Look.{IsPassed}
 use Rattle.stream_cut.proofs.look.look_for_block.Given as goal
 
-abbrev pub invariant-loop-end : goal.invariant-loop-end
-invariant-loop-end l = IsPassed l.octets l.progress.passed l.progress.looked l.progress.dots
+abbrev pub invariant-loop-left : goal.invariant-loop-left
+invariant-loop-left l = IsPassed l.octets l.progress.passed l.progress.looked l.progress.dots
 
-abbrev pub decreases-loop-end : goal.decreases-loop-end
-decreases-loop-end l = length l.octets - l.progress.passed
+abbrev pub decreases-loop-left : goal.decreases-loop-left
+decreases-loop-left l = length l.octets - l.progress.passed
