@@ -1,436 +1,416 @@
--- A begin, in what the buffer set keeps.
-use Rattle.std.proofs.Common.{◌≡◌, ◌∙◌, ℕ, ◌<◌, ◌≤◌, nat_lt, Bool, true, false, refl, sym, ap}
-use Rattle.std.proofs.Common.{subst}
-use Rattle.std.proofs.Common.{arith, length, List, [], ◌∷◌, ◌++◌, Option, None, Some, All}
-use Rattle.std.proofs.Common.{slice_get}
-use Rattle.std.proofs.Common.{length-set, slice_index_or, slice_set, is_some, ◌==◌, if◌then◌else◌}
-use Rattle.std.proofs.lemmas.Bool.{cond-true, cond-false, ltb-true, ltb-false, lt-ltb, true≢false}
-use Rattle.std.proofs.lemmas.Bool.{eqb-true, eqb-false}
+-- A begin, in the histories of the buffers and in what the buffer set keeps, by what the code finds
+-- on its way: the group, its pick, the number and the buffer.
+use Rattle.std.proofs.Common.{◌≡◌, ◌∙◌, ℕ, zero, suc, ◌<◌, ◌≤◌, nat_lt, Bool, false, refl, sym, ap}
+use Rattle.std.proofs.Common.{arith, length, map, List, [], ◌∷◌, ◌++◌, Option, None, Some, All}
+use Rattle.std.proofs.Common.{slice_get, length-set, slice_set}
+use Rattle.std.proofs.lemmas.Bool.{ltb-false}
+use Rattle.std.proofs.lemmas.Bool.Decides.{nat_tests}
 use Rattle.std.proofs.lemmas.List.Elements.{All-append, All-cons, All-nil}
 use Rattle.std.proofs.lemmas.Option.{same_Some, none-some, slice_get-map, slice_get_within}
-use Rattle.std.specs.Prelude.{option_map, option_and_then}
+use Rattle.std.specs.List.{AllByRecursion}
+use Rattle.std.specs.Prelude.{option_and_then}
 use Rattle.std.specs.Vec.{with_item}
-use Rattle.buffer_group.specs.Groups.{pick_view}
+use Rattle.buffer_group.specs.Groups.{KeepsPlaces, pick_view}
+use Rattle.buffer_group.specs.declared.group.Group as groups
 use Rattle.buffer_group.specs.declared.group.Pick.{Pick}
 use Rattle.cyc_block.specs.declared.store.BlockStore.{Ghosts}
 use Rattle.cyc_buffer.proofs.Finished.{lies, not_at_next}
 use Rattle.cyc_buffer.specs.Agreement as buffers
-use Rattle.cyc_buffer.specs.Agreement.{Agrees, Holds, store_of, buffer_state_of}
-use Rattle.cyc_buffer.specs.Answers.{refusal, fault_of}
+use Rattle.cyc_buffer.specs.Agreement.{Agrees, Follows, store_of, buffer_state_of}
+use Rattle.cyc_buffer.specs.Answers.{refusal}
+use Rattle.cyc_buffer.specs.BufferState.{IsSized}
 use Rattle.cyc_buffer.specs.History as histories
-use Rattle.cyc_buffer.specs.History.{History, with_begin, open_token, next_cycle}
-use Rattle.cyc_buffer.specs.BufferState.{Keeps}
+use Rattle.cyc_buffer.specs.History.{History, Article, asked, finished_at, is_at, next_cycle}
+use Rattle.cyc_buffer.specs.History.{open_token, with_begin}
 use Rattle.cyc_buffer.specs.declared.answers.BufError.{BufError}
-use Rattle.cyc_buffer.specs.declared.answers.BufError.TheVariants as errors
-use Rattle.cyc_buffer.specs.declared.answers.FaultKind.TheVariants as kinds
 use Rattle.cyc_buffer.specs.declared.buffer.Buffer.{Buffer}
 use Rattle.cyc_buffer.specs.declared.buffer_state.Open.{Open}
 use Rattle.cyc_token.specs.Token.{token_view}
+use Rattle.news_terms.proofs.PickedBegins.{begins_here, begins_elsewhere}
 use Rattle.news_terms.proofs.PickedPlaces.{picked_places, pick_within}
 use Rattle.news_terms.specs.Fronts.{FitsGroup}
 use Rattle.news_terms.specs.Picks as picks
-use Rattle.news_terms.specs.Picks.{pick_of, begins_in, placed_in, place_after, head_of}
+use Rattle.news_terms.specs.Picks.{pick_of, begins_in}
 use Rattle.news_terms.specs.Places as places
 use Rattle.news_terms.specs.Places.{Group, Place, place_in_buffer, size_of, last_cycle}
+use Rattle.news_terms.specs.Settings.{IsBufferAt}
 use Rattle.news_terms.specs.Token.{Token}
+use Rattle.news_terms.proofs.ListPlaces.{holds_at, there_within}
 use Rattle.relay_facts.proofs.Puts.{put_at_here, put_at_there, put_at_both}
 use Rattle.relay_model.specs.State.{Kept, put_at}
 use Rattle.relay_model.specs.Terms.{Terms}
-use Rattle.block_shelf.proofs.Begins.{HasOwnPlaces, begun_more, picked_begins, other_begins}
-use Rattle.block_shelf.proofs.Begins.{begun_texts}
-use Rattle.block_shelf.proofs.Ending.{untouched}
-use Rattle.block_shelf.proofs.BufferSetReads.{some_there}
-use Rattle.block_shelf.proofs.Shelving.{replaced, read_here, only_there, put_here, put_there}
-use Rattle.block_shelf.proofs.Writings.{HasThis, is_free, just_begun, writing_here}
-use Rattle.block_shelf.specs.Calls.{CanBegin, place_in, token_at}
-use Rattle.block_shelf.specs.Keeping.{KeepsTexts, KeepsBuffer, IsOpenIn, HasPlacedGroup}
-use Rattle.block_shelf.specs.Keeping.{KeepsPlacedGroup}
-use Rattle.block_shelf.specs.Openings.{Opening, IsOpen, token_in}
-use Rattle.news_terms.specs.Settings.{IsBufferAt}
-use Rattle.news_terms.proofs.ListPlaces.{holds_at}
+use Rattle.block_shelf.proofs.Shelving.{KeptAt, buffers_kept, groups_kept, kept_at, only_there}
+use Rattle.block_shelf.proofs.Shelving.{opened_after, past_last, put_both, replaced, stands, still}
+use Rattle.block_shelf.proofs.Shelving.{with_buffer}
+use Rattle.block_shelf.proofs.Writings.{is_free, just_begun, untouched, writing_here}
+use Rattle.block_shelf.specs.Calls.{BegunAs, CanBegin, KeepsAll, place_in, token_at}
+use Rattle.block_shelf.specs.Histories.{HasBegins, HasTexts}
+use Rattle.block_shelf.specs.Keeping.{KeepsTexts, KeepsPlacedGroup}
+use Rattle.block_shelf.specs.Openings.{Opening, IsOpen}
+use Rattle.block_shelf.specs.Starting.{PlacedGroupsKeep}
 use Rattle.block_shelf.specs.declared.buffer_set.PlacedGroup.{PlacedGroup}
 use Rattle.block_shelf.specs.declared.buffer_set.BufferSet.{BufferSet}
 
+-- THE HISTORIES
+
+-- the sizes begun, one more of them in a group
+abbrev begun_more : (ℕ → List ℕ) → (g size : ℕ) → ℕ → List ℕ
+begun_more begun g size = put_at begun g (begun g ++ size ∷ [])
+
+module _ {groups : List Group} {begun : ℕ → List ℕ} (g : ℕ) {group : Group} (class octets : ℕ)
+    (there : slice_get groups g ≡ Some group) {h : History} (has : HasBegins groups begun h) where
+  -- the size
+  abbrev size_begun : ℕ
+  size_begun = size_of octets
+
+  -- the buffer that is picked
+  abbrev index : ℕ
+  index = (pick_of group (begun g) size_begun).index
+
+  -- the history of the buffer that was picked has one begin more
+  picked_begins : slice_get group.buffers index ≡ Some h.buffer
+      → ((k j : ℕ) → IsBufferAt groups k j h.buffer → (k ≡ g) × (j ≡ index))
+      → HasBegins groups (begun_more begun g size_begun)
+      (with_begin class octets (pick_of group (begun g) size_begun).fresh h)
+  picked_begins here alone = record {
+    picked = λ k j other at is.
+        let same = alone k j (record { group = other; is_group = at; is_buffer = is }) in
+        let one : group ≡ other =
+        same_Some group other (sym there ∙ ap (slice_get groups) (sym same.0) ∙ at) in
+        ap (λ begins. (size_begun, (pick_of group (begun g) size_begun).fresh) ∷ begins)
+        (has.picked g index group there here ∙ ap (λ n. begins_in group n (begun g)) (sym same.1))
+        ∙ sym (begins_here group (begun g) size_begun j (sym same.1))
+        ∙ ap (begins_in group j) (sym (put_at_here begun g (begun g ++ size_begun ∷ []) k same.0))
+        ∙ ap (λ each. begins_in each j (begun_more begun g size_begun k)) one;
+    none = λ nobody. absurd (nobody g index
+        (record { group = group; is_group = there; is_buffer = here }));
+  }
+
+  -- that of every other buffer has what it had
+  other_begins : (slice_get group.buffers index ≡ Some h.buffer → ⊥)
+      → HasBegins groups (begun_more begun g size_begun) h
+  other_begins apart = record {
+    picked = λ k j other at is.
+        put_at_both (λ sizes. map asked h.begins ≡ begins_in other j sizes) begun g
+        (begun g ++ size_begun ∷ []) k
+        (λ same.
+        let one : other ≡ group =
+        same_Some other group (sym at ∙ ap (slice_get groups) same ∙ there) in
+        has.picked k j other at is ∙ ap (λ n. begins_in other j (begun n)) same
+        ∙ sym (begins_elsewhere other (begun g) size_begun j (λ turn. apart
+        (ap (λ (each : Group). slice_get each.buffers (pick_of each (begun g) size_begun).index)
+        (sym one) ∙ ap (slice_get other.buffers) turn ∙ is))))
+        (λ elsewhere. has.picked k j other at is);
+    none = has.none;
+  }
+
+-- a begin leaves what is found under each token
+begun_texts : (kept : List Kept) (h : History) (class octets : ℕ) (fresh : Bool)
+    → AllByRecursion (IsSized h.buffer.blocks) h.begins → HasTexts kept h
+    → HasTexts kept (with_begin class octets fresh h)
+begun_texts kept h class octets fresh sized has token here =
+    let apart : (article : Article)
+    → finished_at h.buffer h.begins token.cycle token.first ≡ Some article
+    → is_at h.buffer (histories.next_place h fresh (size_of octets)) token.cycle token.first
+    ≡ false =
+    λ article is.
+    not_at_next h.buffer h.begins
+    (record { size = size_of octets; fresh = fresh; finished = None }) token.cycle token.first
+    article (lies h.buffer h.begins token.cycle token.first article sized is) in
+    grind (arith, apart) ∙ has token here
+
+-- WHERE NOTHING IS BEGUN
+
 -- a buffer with the same register over the same store agrees with the same histories
-pub same_agrees : {S : Type 0} {g : Ghosts S} (code code' : Buffer S g)
-    → buffer_state_of code' ≡ buffer_state_of code → store_of code' ≡ store_of code → (t : Bool)
-    (each : History) → Agrees t code each → Agrees t code' each
-same_agrees {g = g} code code' same_buffer_state same_store t each agrees =
-    record {
-      keeps = subst (λ r. Keeps r each) (sym same_buffer_state) agrees.keeps;
-      honest = λ e. subst g.honest (sym same_store) (agrees.honest e);
-      holds = λ e.
-          subst (λ store. Holds (g.blocks store) code'.buffer_state each) (sym same_store)
-          (subst (λ r. Holds (g.blocks code.store) r each) (sym same_buffer_state)
-          (agrees.holds e));
-    }
+pub same_agrees : {S : Type 0} {g : Ghosts S} {code code' : Buffer S g}
+    → buffer_state_of code' ≡ buffer_state_of code → store_of code' ≡ store_of code
+    → Follows (λ h. h) code code'
+same_agrees same_buffer_state same_store t each agrees = grind arith
 
-module _ {S : Type 0} {g : Ghosts S} (trusted : Bool) (old : BufferSet S g) (w : Terms)
-    (begun : ℕ → List ℕ) (kept : List Kept) (openings : ℕ → Option Opening) (failures : ℕ → ℕ)
-    (keeps : KeepsTexts trusted old w begun kept openings failures) (h class octets : ℕ)
-    (can : CanBegin w h (size_of octets) openings) where
-  -- the group, and what it picks
-  abbrev group : Group
-  group = can.group
+-- what was read at a place and is put back there changes nothing
+set_same : {X : Type 0} (xs : List X) (i : ℕ) {x : X} → slice_get xs i ≡ Some x
+    → slice_set xs i x ≡ xs
+set_same [] i is = refl
+set_same (first ∷ rest) zero is = ap (λ each. each ∷ rest) (sym (same_Some first _ is))
+set_same (first ∷ rest) (suc i) is = ap (λ items. first ∷ items) (set_same rest i is)
 
+module _ {S : Type 0} {g : Ghosts S} (old : BufferSet S g) (i : ℕ) {placed_group : PlacedGroup}
+    (found : slice_get old.placed_groups.items i ≡ Some placed_group) where
+  -- a group that was looked at and put back is where it was
+  pub same_groups : {w : Terms} {begun : ℕ → List ℕ}
+      → PlacedGroupsKeep old.placed_groups.items w begun
+      → PlacedGroupsKeep (slice_set old.placed_groups.items i placed_group) w begun
+  same_groups keep = rw (set_same old.placed_groups.items i found) keep
+
+  pub keeps_placed_group : KeepsAll old
+      (record { buffers = old.buffers; placed_groups = with_item old.placed_groups i placed_group })
+  keeps_placed_group = λ trusted w begun kept openings failures keeps.
+      assumption (same_groups (groups_kept keeps))
+
+  -- so is a buffer with the same register over the same store
+  pub keeps_all : (number : ℕ) {code : Buffer S g} (code' : Buffer S g)
+      → slice_get old.buffers.items number ≡ Some code
+      → buffer_state_of code' ≡ buffer_state_of code → store_of code' ≡ store_of code
+      → KeepsAll old
+      (with_buffer old number code' (with_item old.placed_groups i placed_group))
+  keeps_all number code' there same_buffer_state same_store =
+      λ trusted w begun kept openings failures keeps.
+      let at = kept_at (buffers_kept keeps) there in
+      still keeps at (same_agrees same_buffer_state same_store)
+      (at.failed ∙ ap g.failures (sym same_store)) (λ n apart. refl)
+      (same_groups (groups_kept keeps))
+
+-- WHERE IT IS
+
+-- where the article has room and no write is open, a begin is refused for its cycle
+worn : (h : History) (octets : ℕ) (fresh : Bool) → size_of octets ≤ h.buffer.blocks
+    → h.writing ≡ None
+    → ((e : BufError) → Some e ≡ refusal h octets fresh
+    → last_cycle < next_cycle h fresh (size_of octets))
+    × (None ≡ refusal h octets fresh → next_cycle h fresh (size_of octets) ≤ last_cycle)
+worn h octets fresh room free = (λ e is. grind (arith, nat_tests), λ is. grind (arith, nat_tests))
+
+module _ {S : Type 0} {g : Ghosts S} {trusted : Bool} {old : BufferSet S g} {w : Terms}
+    {begun : ℕ → List ℕ} {kept : List Kept} {openings : ℕ → Option Opening} {failures : ℕ → ℕ}
+    (keeps : KeepsTexts trusted old w begun kept openings failures) {h : ℕ} (class octets : ℕ)
+    (can : CanBegin w h (size_of octets) openings) {i : ℕ} (is : i ≡ h) where
   abbrev size : ℕ
   size = size_of octets
 
-  abbrev pub pick : picks.Pick
-  pick = pick_of group (begun h) size
+  -- what the group picks
+  abbrev pick : picks.Pick
+  pick = pick_of can.group (begun h) size
 
   -- the group's buffer that is picked
-  pub target : (b : places.Buffer) × (slice_get group.buffers pick.index ≡ Some b)
+  target : (b : places.Buffer) × (slice_get can.group.buffers pick.index ≡ Some b)
   target =
-      some_there group.buffers pick.index
-      (pick_within group (begun h) size
-      (holds_at (λ (one : Group). 1 ≤ length one.buffers) w.groups keeps.sound.filled h group
+      there_within can.group.buffers pick.index
+      (pick_within can.group (begun h) size
+      (holds_at (λ (one : Group). 1 ≤ length one.buffers) w.groups keeps.sound.filled h can.group
       can.there))
 
-  pub target_at : IsBufferAt w.groups h pick.index target.0
-  target_at = record { group = group; is_group = can.there; is_buffer = target.1 }
-
-  -- it stands at its number
-  target_there : slice_get w.buffers target.0.number ≡ Some target.0
-  target_there =
-      let k = keeps.sound.named h pick.index target.0 target_at in
-      ap (slice_get w.buffers) (keeps.numbered k.0 target.0 k.1) ∙ k.1
-
   -- the code's group is there
-  pub placed_group_there : (i : ℕ) → i ≡ h → false ≡ nat_lt i (length old.placed_groups.items) → ⊥
-  placed_group_there i is missing =
-      let had = keeps.placed_groups h group can.there in
-      true≢false
-      (sym (missing
-      ∙ lt-ltb i (length old.placed_groups.items)
-      (slice_get_within old.placed_groups.items i had.code
-      (ap (slice_get old.placed_groups.items) is ∙ had.there))))
+  pub group_found : false ≡ nat_lt i (length old.placed_groups.items) → ⊥
+  group_found missing =
+      omega (
+        arith,
+        ltb-false i _ (sym missing),
+        slice_get_within w.groups h can.group can.there,
+        keeps.placed_group_count,
+        is,
+      )
 
-  -- and keeps what is said of it
-  pub placed_group_keeps : (i : ℕ) (placed_group : PlacedGroup) → i ≡ h
-      → placed_group ≡ slice_index_or old.placed_groups.items i placed_group
-      → KeepsPlacedGroup placed_group group (begun h)
-  placed_group_keeps i placed_group is read =
-      let had = keeps.placed_groups h group can.there in
-      subst (λ each. KeepsPlacedGroup each group (begun h))
-      (sym (read_here old.placed_groups.items i had.code placed_group
-      (ap (slice_get old.placed_groups.items) is ∙ had.there) read))
-      had.keeps
-
-  module _ (i : ℕ) (placed_group : PlacedGroup) (is : i ≡ h)
-      (read_placed_group : placed_group ≡ slice_index_or old.placed_groups.items i placed_group)
-      (picked : Pick) (picks_it : pick_view picked ≡ pick) where
-    -- the number at the place that was picked
-    number_there : slice_get placed_group.numbers.items picked.buffer ≡ Some target.0.number
-    number_there =
-        ap (λ items. slice_get items picked.buffer)
-        (placed_group_keeps i placed_group is read_placed_group).numbers
-        ∙ slice_get-map (λ (b : places.Buffer). b.number) group.buffers picked.buffer
-        ∙ ap (option_map (λ (b : places.Buffer). b.number))
-        (ap (slice_get group.buffers) (ap (λ (p : picks.Pick). p.index) picks_it) ∙ target.1)
-
-    pub number_found : false ≡ nat_lt picked.buffer (length placed_group.numbers.items) → ⊥
-    number_found missing =
-        true≢false
-        (sym (missing
-        ∙ lt-ltb picked.buffer (length placed_group.numbers.items)
-        (slice_get_within placed_group.numbers.items picked.buffer target.0.number number_there)))
-
-    -- is the buffer's
-    pub number_is : (number : ℕ)
-        → number ≡ slice_index_or placed_group.numbers.items picked.buffer number
-        → number ≡ target.0.number
-    number_is number read =
-        read_here placed_group.numbers.items picked.buffer target.0.number number number_there read
-
-  -- there is a buffer of this number
-  pub buffer_found : (number : ℕ) → number ≡ target.0.number
-      → false ≡ nat_lt number (length old.buffers.items) → ⊥
-  buffer_found number is missing =
-      let had = keeps.buffers target.0.number target.0 target_there in
-      true≢false
-      (sym (missing
-      ∙ lt-ltb number (length old.buffers.items)
-      (slice_get_within old.buffers.items number had.code
-      (ap (slice_get old.buffers.items) is ∙ had.there))))
-
-  module _ (number : ℕ) (code : Buffer S g) (is : number ≡ target.0.number)
-      (read : code ≡ slice_index_or old.buffers.items number code) where
+  module _ {placed_group : PlacedGroup}
+      (found : slice_get old.placed_groups.items i ≡ Some placed_group) where
     -- it keeps what is said of it
-    pub at : KeepsBuffer trusted code w.groups begun kept openings failures target.0
-    at =
-        let had = keeps.buffers target.0.number target.0 target_there in
-        subst (λ each. KeepsBuffer trusted each w.groups begun kept openings failures target.0)
-        (sym (read_here old.buffers.items number had.code code
-        (ap (slice_get old.buffers.items) is ∙ had.there) read))
-        had.keeps
+    has_group : KeepsPlacedGroup placed_group can.group (begun h)
+    has_group =
+        let had = keeps.placed_groups h can.group can.there in
+        rw (same_Some had.code placed_group
+        (sym had.there ∙ ap (slice_get old.placed_groups.items) (sym is) ∙ found)) at had.keeps
 
-    -- its history
-    abbrev pub now : History
-    now = at.history
+    module _ {picked : Pick}
+        (picks_as : (group : Group) (sizes : List ℕ) → KeepsPlaces placed_group.group group sizes
+        → pick_view picked ≡ pick_of group sizes size) where
+      -- so it picks what the group picks
+      picks_it : pick_view picked ≡ pick
+      picks_it = picks_as can.group (begun h) has_group.position
 
-    here : slice_get group.buffers pick.index ≡ Some now.buffer
-    here = target.1 ∙ ap Some (sym at.is_of_buffer)
+      -- its number is at the place that was picked
+      number_there : slice_get placed_group.numbers.items picked.buffer ≡ Some target.0.number
+      number_there =
+          rw (has_group.numbers, slice_get-map, ap (λ (p : picks.Pick). p.index) picks_it, target.1)
 
-    now_at : IsBufferAt w.groups h pick.index now.buffer
-    now_at = record { group = group; is_group = can.there; is_buffer = here }
+      pub has_number : {numbers : List ℕ} → numbers ≡ placed_group.numbers.items
+          → false ≡ nat_lt picked.buffer (length numbers) → ⊥
+      has_number {numbers} listed missing =
+          omega (
+            arith,
+            ltb-false picked.buffer _ (sym missing),
+            ap length listed,
+            slice_get_within placed_group.numbers.items picked.buffer target.0.number number_there,
+          )
 
-    -- the group's next place
-    abbrev pub place : Place
-    place = place_in_buffer now.buffer (histories.next_place now pick.fresh size)
+      module _ {numbers : List ℕ} (listed : numbers ≡ placed_group.numbers.items) {number : ℕ}
+          (read : slice_get numbers picked.buffer ≡ Some number) where
+        -- the buffer of this number is there
+        stands_there : slice_get w.buffers number ≡ Some target.0
+        stands_there =
+            cc (
+              read,
+              listed,
+              number_there,
+              stands (buffers_kept keeps)
+                  (record { group = can.group; is_group = can.there; is_buffer = target.1 }),
+            )
 
-    pub place_is : place_in w h (begun h) size ≡ Some place
-    place_is =
-        ap (option_and_then (λ (one : Group). places.next_place one (begun h) size)) can.there
-        ∙ picked_places group (begun h) (keeps.fit h group can.there) size can.fits
-        ∙ ap (placed_in (begins_in group pick.index (begun h)) pick.fresh size) here
-        ∙ ap
-        (λ (begins : List (ℕ × Bool)). Some (place_in_buffer now.buffer
-        (place_after now.buffer.blocks (head_of now.buffer.blocks begins) pick.fresh size)))
-        (sym (at.is_said.begins.picked h pick.index group can.there here))
+        pub has_buffer : false ≡ nat_lt number (length old.buffers.items) → ⊥
+        has_buffer missing =
+            none-some _ (sym (past_last (buffers_kept keeps) number missing) ∙ stands_there)
 
-    -- the begin is refused where its cycle is past the last one, and for nothing else
-    refusal_is : refusal now octets pick.fresh
-        ≡ (if nat_lt last_cycle place.cycle
-        then Some (errors.Worn (fault_of now.buffer kinds.Worn octets)) else None)
-    refusal_is =
-        cond-false (nat_lt now.buffer.blocks size) _ _
-        (lt-false now.buffer.blocks size (can.fits.room pick.index now.buffer here))
-        ∙ ap
-        (λ (b : Bool). if nat_lt last_cycle place.cycle
-        then Some (errors.Worn (fault_of now.buffer kinds.Worn octets))
-        else (if b then Some errors.Busy else None))
-        (ap is_some
-        (is_free openings h now can.free
-        (only_there trusted old w begun kept openings failures keeps h pick.index now.buffer now_at)
-        at.is_said.writing))
-      where
-        lt-false : (a b : ℕ) → b ≤ a → nat_lt a b ≡ false
-        lt-false a b le = by (nat_lt a b) refl
-          where
-            by : (t : Bool) → nat_lt a b ≡ t → t ≡ false
-            by true e = absurd (omega (arith, le, ltb-true a b e))
-            by false e = refl
+        module _ {code : Buffer S g} (there : slice_get old.buffers.items number ≡ Some code) where
+          at : KeptAt trusted w begun kept openings failures number code
+          at = kept_at (buffers_kept keeps) there
 
-    -- so a refusal says that it is
-    pub worn : (e : BufError) → Some e ≡ refusal now octets pick.fresh → last_cycle < place.cycle
-    worn e refused = by (nat_lt last_cycle place.cycle) refl (refused ∙ refusal_is)
-      where
-        by : (b : Bool) → nat_lt last_cycle place.cycle ≡ b
-            → Some e ≡ (if nat_lt last_cycle place.cycle
-            then Some (errors.Worn (fault_of now.buffer kinds.Worn octets)) else None)
-            → last_cycle < place.cycle
-        by true past is_it = ltb-true last_cycle place.cycle past
-        by false past is_it =
-            absurd (none-some e
-            (sym (is_it ∙ cond-false (nat_lt last_cycle place.cycle) _ _ past)))
+          -- its history
+          abbrev now : History
+          now = at.now
 
-    -- and none that it isn't
-    pub in_time : None ≡ refusal now octets pick.fresh → place.cycle ≤ last_cycle
-    in_time none = by (nat_lt last_cycle place.cycle) refl (none ∙ refusal_is)
-      where
-        by : (b : Bool) → nat_lt last_cycle place.cycle ≡ b
-            → None ≡ (if nat_lt last_cycle place.cycle
-            then Some (errors.Worn (fault_of now.buffer kinds.Worn octets)) else None)
-            → place.cycle ≤ last_cycle
-        by true past is_it =
-            absurd (none-some _
-            (is_it ∙ cond-true (nat_lt last_cycle place.cycle) _ _ past))
-        by false past is_it = ltb-false last_cycle place.cycle past
+          -- where the article goes
+          abbrev goes_to : Place
+          goes_to = place_in_buffer now.buffer (histories.next_place now pick.fresh size)
 
-    -- the buffer at this place is the one that was picked
-    same_target : (buffer : places.Buffer) → slice_get w.buffers number ≡ Some buffer
-        → now.buffer ≡ buffer
-    same_target buffer there =
-        at.is_of_buffer
-        ∙ same_Some target.0 buffer
-        (sym target_there ∙ ap (slice_get w.buffers) (sym is) ∙ there)
+          here : slice_get can.group.buffers pick.index ≡ Some now.buffer
+          here = target.1 ∙ sym stands_there ∙ at.there
 
-    -- no other buffer of a group is the one that was picked
-    alone : (k j : ℕ) (other : Group) → slice_get w.groups k ≡ Some other
-        → slice_get other.buffers j ≡ Some now.buffer → (k ≡ h) × (j ≡ pick.index)
-    alone k j other at_group at_buffer =
-        keeps.sound.once k h j pick.index now.buffer now.buffer
-        (record { group = other; is_group = at_group; is_buffer = at_buffer }) now_at refl
+          now_at : IsBufferAt w.groups h pick.index now.buffer
+          now_at = record { group = can.group; is_group = can.there; is_buffer = here }
 
-    -- the groups after the group's own is this one, which keeps these sizes
-    placed_groups_after : (i : ℕ) (placed_group : PlacedGroup) → i ≡ h → {sizes : List ℕ}
-        → KeepsPlacedGroup placed_group group sizes
-        → (begun' : ℕ → List ℕ) → ((k : ℕ) → (k ≡ h → ⊥) → begun' k ≡ begun k)
-        → begun' h ≡ sizes → (k : ℕ) (each : Group) → slice_get w.groups k ≡ Some each
-        → HasPlacedGroup (slice_set old.placed_groups.items i placed_group) (begun' k) k each
-    placed_groups_after i placed_group is_place {sizes} kept_placed_group begun' others
-        mine k each there =
-        by (k == h) refl
-      where
-        by : (b : Bool) → (k == h) ≡ b
-            → HasPlacedGroup (slice_set old.placed_groups.items i placed_group) (begun' k) k each
-        by true e =
-            let same : k ≡ h = eqb-true k h e in
-            let had = keeps.placed_groups h group can.there in
-            let one : group ≡ each =
-            same_Some group each (sym can.there ∙ ap (slice_get w.groups) (sym same) ∙ there) in
-            record {
-              code = placed_group;
-              there = ap (slice_get (slice_set old.placed_groups.items i placed_group))
-                  (same ∙ sym is_place)
-                  ∙ put_here old.placed_groups.items i had.code placed_group
-                  (ap (slice_get old.placed_groups.items) is_place ∙ had.there);
-              keeps = subst (λ (one : Group). KeepsPlacedGroup placed_group one (begun' k)) one
-                  (subst (KeepsPlacedGroup placed_group group) (sym mine ∙ ap begun' (sym same))
-                  kept_placed_group);
+          goes_there : place_in w h (begun h) size ≡ Some goes_to
+          goes_there =
+              ap (option_and_then (λ (one : Group). places.next_place one (begun h) size)) can.there
+              ∙ picked_places can.group (begun h) (keeps.fit h can.group can.there) size can.fits
+              ∙ rw (here, ← at.said.begins.picked h pick.index can.group can.there here)
+
+          -- a begin is refused for its cycle alone
+          in_time : ((e : BufError) → Some e ≡ refusal now octets pick.fresh
+              → last_cycle < goes_to.cycle)
+              × (None ≡ refusal now octets pick.fresh → goes_to.cycle ≤ last_cycle)
+          in_time =
+              worn now octets pick.fresh (can.fits.room pick.index now.buffer here)
+              (is_free openings h can.free (only_there keeps now_at) at.said.writing)
+
+          fresh_is : pick.fresh ≡ picked.fresh
+          fresh_is = ap (λ (p : picks.Pick). p.fresh) (sym picks_it)
+
+          -- a begin that the buffer refuses
+          pub not_begun : (code' : Buffer S g) (e : BufError)
+              → buffer_state_of code' ≡ buffer_state_of code → store_of code' ≡ store_of code
+              → ((t : Bool) (each : History) → Agrees t code each
+              → Some e ≡ refusal each octets picked.fresh)
+              → (one : Place) × (place_in w h (begun h) size ≡ Some one)
+              × BegunAs trusted w h class octets begun kept openings failures one None
+              (with_buffer old number code' (with_item old.placed_groups i placed_group))
+          not_begun code' e same_buffer_state same_store refuses = (
+            goes_to,
+            goes_there,
+            (
+              in_time.0 e (rw fresh_is (refuses trusted now at.agrees)),
+              keeps_all old i found number code' there same_buffer_state same_store trusted w begun
+                  kept openings failures keeps,
+            ),
+          )
+
+          -- a begin that it takes
+          module _ {code' : Buffer S g} (write : Open) {moved : groups.Group}
+              (same_store : store_of code' ≡ store_of code)
+              (moves : KeepsPlaces placed_group.group can.group (begun h) → pick_view picked ≡ pick
+              → KeepsPlaces moved can.group (begun h ++ size ∷ []))
+              (takes : (t : Bool) (each : History) → Agrees t code each
+              → None ≡ refusal each octets picked.fresh)
+              (follows : (t : Bool) (each : History) → Agrees t code each
+              → Agrees t code' (with_begin class octets picked.fresh each))
+              (named : (t : Bool) (each : History) → Agrees t code each
+              → Some (token_view (buffers.token_of write))
+              ≡ open_token (with_begin class octets picked.fresh each)) where
+            -- the token of the open write
+            abbrev token : Token
+            token = token_view (buffers.token_of write)
+
+            token_is : token ≡ token_at class octets goes_to
+            token_is = same_Some token _ (rw fresh_is (named trusted now at.agrees))
+
+            named_here : token.buffer ≡ now.buffer.number
+            named_here = ap (λ (t : Token). t.buffer) token_is
+
+            -- the groups after it
+            groups_after : PlacedGroupsKeep
+                (slice_set old.placed_groups.items i
+                (record { group = moved; numbers = placed_group.numbers }))
+                w (begun_more begun h size)
+            groups_after = record {
+              count = length-set old.placed_groups.items i _ ∙ keeps.placed_group_count;
+              each = λ k each at_group.
+                  let had = keeps.placed_groups k each at_group in
+                  let now = put_both
+                  (λ one. KeepsPlacedGroup one each (begun_more begun h size k))
+                  old.placed_groups.items i k
+                  (record { group = moved; numbers = placed_group.numbers }) had.there
+                  (λ same.
+                  rw (
+                    put_at_here begun h (begun h ++ size ∷ []) k (same ∙ is),
+                    same_Some each can.group
+                        (sym at_group ∙ ap (slice_get w.groups) (same ∙ is) ∙ can.there),
+                  )
+                  (record {
+                    position = moves has_group.position picks_it;
+                    numbers = has_group.numbers;
+                  }))
+                  (λ apart.
+                  rw (put_at_there begun h (begun h ++ size ∷ []) k (λ e. apart (e ∙ sym is)))
+                  had.keeps) in
+                  record { code = now.0; there = now.1; keeps = now.2 };
             }
-        by false e =
-            let apart = eqb-false k h e in
-            let had = keeps.placed_groups k each there in
-            record {
-              code = had.code;
-              there = put_there old.placed_groups.items i k placed_group
-                  (λ at_i. apart (at_i ∙ is_place))
-                  ∙ had.there;
-              keeps = subst (KeepsPlacedGroup had.code each) (sym (others k apart)) had.keeps;
-            }
 
-    -- each size fits, the new one too
-    fit_after : (k : ℕ) (each : Group) → slice_get w.groups k ≡ Some each
-        → All (FitsGroup each) (begun_more begun h size k)
-    fit_after k each there =
-        put_at_both (All (FitsGroup each)) begun h (begun h ++ size ∷ []) k
-        (λ same.
-        let one : group ≡ each =
-        same_Some group each (sym can.there ∙ ap (slice_get w.groups) (sym same) ∙ there) in
-        subst (λ (one : Group). All (FitsGroup one) (begun h ++ size ∷ [])) one
-        (All-append (FitsGroup group) (begun h) (size ∷ [])
-        (keeps.fit h group can.there)
-        (All-cons (FitsGroup group) size [] can.fits (All-nil (FitsGroup group)))))
-        (λ apart. keeps.fit k each there)
+            -- each size fits, the new one too
+            fit_after : (k : ℕ) (each : Group) → slice_get w.groups k ≡ Some each
+                → All (FitsGroup each) (begun_more begun h size k)
+            fit_after k each at_group =
+                put_at_both (All (FitsGroup each)) begun h (begun h ++ size ∷ []) k
+                (λ same.
+                rw (same_Some each can.group
+                (sym at_group ∙ ap (slice_get w.groups) same ∙ can.there))
+                (All-append (FitsGroup can.group) (begun h) (size ∷ [])
+                (keeps.fit h can.group can.there)
+                (All-cons (FitsGroup can.group) size [] can.fits (All-nil (FitsGroup can.group)))))
+                (λ apart. keeps.fit k each at_group)
 
-    -- no begin goes to the place of a finished article
-    own_places : HasOwnPlaces
-    own_places = λ buffer begins fresh size cycle first article sized finished.
-        not_at_next buffer begins (record { size = size; fresh = fresh; finished = None }) cycle
-        first article
-        (lies buffer begins cycle first article sized finished)
-
-    -- a refused begin changes nothing that is kept
-    pub unchanged : (code' : Buffer S g) (placed_group : PlacedGroup) (i : ℕ) → i ≡ h
-        → placed_group ≡ slice_index_or old.placed_groups.items i placed_group
-        → ((t : Bool) (each : History) → Agrees t code each → Agrees t code' each)
-        → store_of code' ≡ store_of code
-        → KeepsTexts trusted (record {
-          buffers = with_item old.buffers number code';
-          placed_groups = with_item old.placed_groups i placed_group;
-        }) w begun kept openings failures
-    unchanged code' placed_group i is_place read_placed_group agrees same_store =
-        replaced trusted old w begun kept openings failures keeps number code'
-        (with_item old.placed_groups i placed_group)
-        (length-set old.placed_groups.items i placed_group ∙ keeps.placed_group_count) begun
-        kept openings failures keeps.fit keeps.opened
-        (λ k each there. placed_groups_after i placed_group is_place
-        (placed_group_keeps i placed_group is_place read_placed_group)
-        begun (λ j apart. refl) refl k each there)
-        (λ buffer there.
-        let same : now.buffer ≡ buffer = same_target buffer there in
-        record {
-          history = now;
-          is_of_buffer = same;
-          agrees = agrees trusted now at.agrees;
-          is_said = at.is_said;
-          failed = ap (λ (b : places.Buffer). failures b.number)
-              (sym same ∙ at.is_of_buffer)
-              ∙ at.failed ∙ ap g.failures (sym same_store);
-        })
-        (λ j buffer there apart each had. had)
-
-    module _ (code' : Buffer S g) (placed_group placed_group' : PlacedGroup) (i : ℕ)
-        (is_place : i ≡ h)
-        (moved : KeepsPlacedGroup placed_group' group (begun h ++ size ∷ [])) (write : Open)
-        (agrees : (t : Bool) (each : History) → Agrees t code each
-        → Agrees t code' (with_begin class octets pick.fresh each))
-        (same_store : store_of code' ≡ store_of code)
-        (named : (t : Bool) (each : History) → Agrees t code each
-        → Some (token_view (buffers.token_of write))
-        ≡ open_token (with_begin class octets pick.fresh each)) where
-      -- the token of the open write
-      abbrev token : Token
-      token = token_view (buffers.token_of write)
-
-      pub token_is : token ≡ token_at class octets place
-      token_is = same_Some token (token_at class octets place) (named trusted now at.agrees)
-
-      -- each open write is in a buffer of its group, the new one too
-      opened_after : (text : List ℕ) → length text ≡ octets → (k : ℕ) (other : Opening)
-          → put_at openings h (Some (IsOpen token text 0)) k ≡ Some other
-          → IsOpenIn w.groups k other
-      opened_after text long k other e =
-          put_at_both (λ each. each ≡ Some other → IsOpenIn w.groups k other) openings h
-          (Some (IsOpen token text 0)) k
-          (λ same e. subst (λ n. IsOpenIn w.groups n other) (sym same)
-          (subst (IsOpenIn w.groups h) (same_Some (IsOpen token text 0) other e)
-          (record {
-            index = pick.index;
-            buffer = now.buffer;
-            is_at = now_at;
-            named = ap (λ (t : Token). t.buffer) (sym token_is);
-            whole = long ∙ ap (λ (t : Token). t.length) (sym token_is);
-          })))
-          (λ apart e. keeps.opened k other e) e
-
-      -- the buffer set after the begin
-      pub has_begun : (text : List ℕ) → length text ≡ octets
-          → KeepsTexts trusted (record {
-            buffers = with_item old.buffers number code';
-            placed_groups = with_item old.placed_groups i placed_group';
-          }) w (begun_more begun h size) kept
-          (put_at openings h (Some (IsOpen token text 0))) failures
-      has_begun text long =
-          let next : Opening = IsOpen token text 0 in
-          replaced trusted old w begun kept openings failures keeps number code'
-          (with_item old.placed_groups i placed_group')
-          (length-set old.placed_groups.items i placed_group' ∙ keeps.placed_group_count)
-          (begun_more begun h size) kept
-          (put_at openings h (Some next)) failures
-          fit_after (opened_after text long)
-          (λ k each there. placed_groups_after i placed_group' is_place moved
-          (begun_more begun h size)
-          (λ j apart. put_at_there begun h (begun h ++ size ∷ []) j apart)
-          (put_at_here begun h (begun h ++ size ∷ []) h refl) k each there)
-          (λ buffer there.
-          let same : now.buffer ≡ buffer = same_target buffer there in
-          let this : HasThis (with_begin class octets pick.fresh now) next =
-          just_begun now class octets pick.fresh token text token_is in
-          record {
-            history = with_begin class octets pick.fresh now;
-            is_of_buffer = same;
-            agrees = agrees trusted now at.agrees;
-            is_said = record {
-              begins = picked_begins w.groups begun h group class octets can.there now
-                  at.is_said.begins here alone;
-              texts = begun_texts own_places kept now class octets pick.fresh
-                  at.agrees.keeps.sizes at.is_said.texts;
-              stored = at.is_said.stored;
-              writing = writing_here openings h (with_begin class octets pick.fresh now) next
-                  this.token this.writing;
-            };
-            failed = ap (λ (b : places.Buffer). failures b.number) (sym same ∙ at.is_of_buffer)
-                ∙ at.failed ∙ ap g.failures (sym same_store);
-          })
-          (λ j buffer there apart each had.
-          let away : buffer.number ≡ now.buffer.number → ⊥ =
-          λ e. apart (sym (keeps.numbered j buffer there) ∙ e
-          ∙ ap (λ (b : places.Buffer). b.number) at.is_of_buffer ∙ sym is) in
-          untouched trusted each w.groups begun (begun_more begun h size) kept kept openings h
-          (Some next) failures failures buffer
-          (record {
-            before_apart = λ other e. absurd (none-some other (sym can.free ∙ e));
-            after_apart = λ other e here_too. away (sym here_too
-                ∙ ap (λ (one : Opening). (token_in one).buffer) (sym (same_Some next other e))
-                ∙ ap (λ (t : Token). t.buffer) token_is);
-            texts = λ t here_too. refl;
-            stored = λ each here_too. refl;
-            failed = refl;
-          })
-          (λ one of has. other_begins w.groups begun h group class octets can.there one has
-          (λ picked. away (ap (λ (b : places.Buffer). b.number)
-          (sym of ∙ same_Some one.buffer now.buffer (sym picked ∙ here)))))
-          had)
+            pub is_begun : (one : Place) × (place_in w h (begun h) size ≡ Some one)
+                × BegunAs trusted w h class octets begun kept openings failures one
+                (Some (record { «open» = write }))
+                (with_buffer old number code' (with_item old.placed_groups i
+                (record { group = moved; numbers = placed_group.numbers })))
+            is_begun = (
+              goes_to,
+              goes_there,
+              (
+                in_time.1 (rw fresh_is (takes trusted now at.agrees)),
+                token_is,
+                λ text long. replaced keeps at (record {
+                  history = with_begin class octets pick.fresh now;
+                  same = refl;
+                  agrees = rw fresh_is (follows trusted now at.agrees);
+                  said = record {
+                    begins = picked_begins h class octets can.there at.said.begins here
+                        (λ k j at_group.
+                        keeps.sound.once k h j pick.index now.buffer now.buffer at_group now_at
+                        refl);
+                    texts = begun_texts kept now class octets pick.fresh at.agrees.keeps.sizes
+                        at.said.texts;
+                    stored = at.said.stored;
+                    writing = writing_here openings h (just_begun now text token_is);
+                  };
+                  failed = ap failures at.number ∙ at.failed ∙ ap g.failures (sym same_store);
+                  others = untouched (record {
+                    was = λ other e. cc can.free;
+                    now = λ other e. cc named_here;
+                    begins = λ other apart has. other_begins h class octets can.there has (λ picked.
+                        apart (ap (λ (b : places.Buffer). b.number)
+                        (same_Some other.buffer now.buffer (sym picked ∙ here))));
+                    texts = λ t apart. refl;
+                    stored = λ buffer apart. refl;
+                  });
+                  unfailed = λ n apart. refl;
+                  fit = fit_after;
+                  opened = opened_after keeps (λ other e.
+                      rw (← same_Some (IsOpen token text 0) other e) (record {
+                        index = pick.index;
+                        buffer = now.buffer;
+                        is_at = now_at;
+                        named = sym named_here;
+                        whole = long ∙ ap (λ (t : Token). t.length) (sym token_is);
+                      }));
+                  groups = groups_after;
+                }),
+              ),
+            )

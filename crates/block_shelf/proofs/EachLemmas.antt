@@ -1,13 +1,14 @@
 -- Lists whose items belong together, one item after the other.
-use Rattle.std.proofs.Common.{◌≡◌, ◌∙◌, ℕ, ◌+◌, ◌⊎◌, inl, inr, arith, refl, sym, ap, subst}
-use Rattle.std.proofs.Common.{List, [], ◌∷◌, ◌++◌, length, map, Some, slice_get, option_map}
-use Rattle.std.proofs.Common.{append_assoc, append-nil}
-use Rattle.std.proofs.lemmas.List.{length-append, length-map, map-append}
-use Rattle.std.proofs.lemmas.Option.{none-some, same_Some, slice_get-map, slice_get_within}
-use Rattle.news_terms.proofs.ListPlaces.{at_pushed}
-use Rattle.block_shelf.proofs.NewBufferSet.{pushed_before, pushed_last}
-use Rattle.block_shelf.proofs.BufferSetReads.{some_there}
-use Rattle.block_shelf.specs.Each.{AreEach, HasAt}
+use Rattle.std.proofs.Common.{◌≡◌, ◌∙◌, ℕ, ◌+◌, ◌≤◌, arith, refl, sym, ap, subst, List, [], ◌∷◌}
+use Rattle.std.proofs.Common.{◌++◌, length, map, take, Some, slice_get, option_map, append_assoc}
+use Rattle.std.proofs.Common.{append-nil}
+use Rattle.std.proofs.lemmas.List.{length-append, length-map, length-take-le, map-append}
+use Rattle.std.proofs.lemmas.List.{nil_from_length, take_all, take_more}
+use Rattle.std.proofs.lemmas.Option.{get_or_from_slice_get, none-some, same_Some, slice_get-map}
+use Rattle.std.proofs.lemmas.Option.{slice_get_within}
+use Rattle.news_terms.proofs.ListPlaces.{next_behind, there_within}
+use Rattle.block_shelf.proofs.NewBufferSet.{push_both}
+use Rattle.block_shelf.specs.Each.{AreEach}
 
 -- no items belong together
 pub none_each : {X Y : Type 0} (Belong : ℕ → X → Y → Type 0) → AreEach Belong [] []
@@ -17,27 +18,13 @@ none_each Belong = record { count = refl; each = λ b x is. absurd (none-some x 
 pub one_more_each : {X Y : Type 0} (Belong : ℕ → X → Y → Type 0) (xs : List X) (ys : List Y) (x : X)
     (y : Y) → AreEach Belong xs ys → Belong (length xs) x y
     → AreEach Belong (xs ++ x ∷ []) (ys ++ y ∷ [])
-one_more_each {X} {Y} Belong xs ys x y are belongs = record {
-  count = length-append ys (y ∷ []) ∙ ap (λ n. n + 1) are.count
-      ∙ sym (length-append xs (x ∷ []));
-  each = λ b one is. by b one (at_pushed xs x b one is);
+one_more_each Belong xs ys x y are belongs = record {
+  count = simp length-append (omega (arith, are.count));
+  each = λ b one is.
+      let now = push_both Belong xs ys x y are.count b one
+      (λ at. let had = are.each b one at in (had.item, had.there, had.belongs)) belongs is in
+      record { item = now.0; there = now.1; belongs = now.2 };
 }
-  where
-    by : (b : ℕ) (one : X) → (slice_get xs b ≡ Some one) ⊎ ((b ≡ length xs) × (x ≡ one))
-        → HasAt Belong (ys ++ y ∷ []) b one
-    by b one (inl there) =
-        let was = are.each b one there in
-        record {
-          item = was.item;
-          there = pushed_before ys y b was.item was.there;
-          belongs = was.belongs;
-        }
-    by b one (inr last) = record {
-      item = y;
-      there = ap (slice_get (ys ++ y ∷ [])) (last.0 ∙ sym are.count) ∙ pushed_last ys y;
-      belongs = subst (λ n. Belong n one y) (sym last.0)
-          (subst (λ s. Belong (length xs) s y) last.1 belongs);
-    }
 
 -- items that belong together in one way do so in another that follows, the second made of each
 pub each_mapped : {X Y Z : Type 0} (P : ℕ → X → Y → Type 0) (Q : ℕ → X → Z → Type 0) (f : Y → Z)
@@ -56,14 +43,20 @@ each_mapped P Q f xs ys are so = record {
 }
 
 -- in another way that follows
-pub each_so : {X Y : Type 0} (P Q : ℕ → X → Y → Type 0) (xs : List X) (ys : List Y)
+pub each_so : {X Y : Type 0} {P Q : ℕ → X → Y → Type 0} {xs : List X} {ys : List Y}
     → AreEach P xs ys
-    → ((b : ℕ) (x : X) (y : Y) → slice_get xs b ≡ Some x → P b x y → Q b x y) → AreEach Q xs ys
-each_so P Q xs ys are so = record {
+    → ((b : ℕ) (x : X) (y : Y) → slice_get xs b ≡ Some x → slice_get ys b ≡ Some y → P b x y
+    → Q b x y)
+    → AreEach Q xs ys
+each_so are so = record {
   count = are.count;
   each = λ b x is.
       let was = are.each b x is in
-      record { item = was.item; there = was.there; belongs = so b x was.item is was.belongs };
+      record {
+        item = was.item;
+        there = was.there;
+        belongs = so b x was.item is was.there was.belongs;
+      };
 }
 
 -- what an item of the second list belongs to
@@ -76,7 +69,7 @@ pub record ComesFrom {X Y : Type 0} (P : ℕ → X → Y → Type 0) (xs : List 
 pub comes_from : {X Y : Type 0} (P : ℕ → X → Y → Type 0) (xs : List X) (ys : List Y)
     → AreEach P xs ys → (b : ℕ) (y : Y) → slice_get ys b ≡ Some y → ComesFrom P xs b y
 comes_from P xs ys are b y is =
-    let one = some_there xs b (omega (arith, slice_get_within ys b y is, are.count)) in
+    let one = there_within xs b (omega (arith, slice_get_within ys b y is, are.count)) in
     let at = are.each b one.0 one.1 in
     record {
       item = one.0;
@@ -88,11 +81,7 @@ comes_from P xs ys are b y is =
 pub made_more : {X Y : Type 0} (f : X → Y) (room : List Y) (xs : List X) (x : X) (old new : List Y)
     (y : Y) → old ≡ room ++ map f xs → new ≡ old ++ y ∷ [] → y ≡ f x
     → new ≡ room ++ map f (xs ++ x ∷ [])
-made_more f room xs x old new y was is made =
-    is ∙ ap (λ items. items ++ y ∷ []) was
-    ∙ append_assoc room (map f xs) (y ∷ [])
-    ∙ ap (λ one. room ++ (map f xs ++ one ∷ [])) made
-    ∙ ap (λ items. room ++ items) (sym (map-append f xs (x ∷ [])))
+made_more f room xs x old new y was is made = simp (is, was, made, map-append, append_assoc)
 
 -- all were gone through where nothing is left
 pub all_through : {X : Type 0} (through left all : List X) → through ++ left ≡ all → left ≡ []
@@ -107,17 +96,12 @@ one_through through left all x more is next =
     append_assoc through (x ∷ []) more ∙ ap (λ rest. through ++ rest) (sym next) ∙ is
 
 -- it stands behind those before it
-here_among : {X : Type 0} (xs : List X) (x : X) (more : List X)
-    → slice_get (xs ++ x ∷ more) (length xs) ≡ Some x
-here_among [] x more = refl
-here_among (y ∷ xs) x more = here_among xs x more
-
 pub here_through : {X : Type 0} (through left all : List X) (x : X) (more : List X)
     → through ++ left ≡ all → left ≡ x ∷ more → slice_get all (length through) ≡ Some x
 here_through through left all x more is next =
     ap (λ items. slice_get items (length through))
     (sym is ∙ ap (λ rest. through ++ rest) next)
-    ∙ here_among through x more
+    ∙ next_behind through x more
 
 -- as many were gone through as there are, with one more
 pub count_through : {X : Type 0} (through left all : List X) (x : X) (more : List X)
@@ -129,3 +113,23 @@ count_through through left all x more is next =
       ap length next,
       length-append through left,
     )
+
+-- all were gone through where the rest has no length
+pub none_left : {X : Type 0} (through left : List X) {all : List X} → through ++ left ≡ all
+    → length left ≡ 0 → through ≡ all
+none_left through left {all} is none = all_through through left all is (nil_from_length left none)
+
+-- one item more of the front of a list, as it is read, and one of the other list
+pub one_read : {X Y : Type 0} {Belong : ℕ → X → Y → Type 0} (xs : List X) (k : ℕ) {x : X}
+    (ys : List Y) {y : Y} → AreEach Belong (take k xs) ys → slice_get xs k ≡ Some x → Belong k x y
+    → AreEach Belong (take (k + 1) xs) (ys ++ y ∷ [])
+one_read {Belong = Belong} xs k {x} ys {y} are there belongs =
+    let within = slice_get_within xs k x there in
+    rw (take_more xs k x within, get_or_from_slice_get xs k x x there)
+    (one_more_each Belong (take k xs) ys x y are
+    (rw (length-take-le k xs (omega (arith, within))) belongs))
+
+-- past the end of the list it is all of it
+pub all_read : {X Y : Type 0} {Belong : ℕ → X → Y → Type 0} (xs : List X) (k : ℕ) {ys : List Y}
+    → AreEach Belong (take k xs) ys → length xs ≤ k → AreEach Belong xs ys
+all_read xs k are past = rw (take_all k xs past) at are

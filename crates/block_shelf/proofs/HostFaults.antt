@@ -1,15 +1,12 @@
 -- A relay whose host has no seed or no memory for it blames no device.
-use Rattle.std.proofs.Common.{List, Result, Ok, Err}
+use Rattle.std.proofs.Common.{arith, List, Result}
 use Rattle.std.specs.Prelude.{IfErr, IsErrAnd}
 use Rattle.cyc_block.specs.declared.store.BlockStore.{Ghosts}
 use Rattle.block_shelf.specs.Filling.{IsBeginRefusal, IsHost}
 use Rattle.block_shelf.specs.declared.beginning.BeginError.{BeginError}
-use Rattle.block_shelf.specs.declared.beginning.BeginError.TheVariants as begins
 
 -- the host's own error is one of a relay that doesn't begin
 pub host_refuses
     : {S X : Type 0} (g : Ghosts S) (stores : List S) (result : Result X (BeginError S))
     → IsErrAnd result IsHost → IfErr result (IsBeginRefusal g stores)
-host_refuses g stores (Ok made) host = tt
-host_refuses g stores (Err (begins.Host why)) host = tt
-host_refuses g stores (Err (begins.Device number store)) host = absurd host
+host_refuses g stores result host = grind arith

@@ -1,19 +1,16 @@
 -- A buffer set before anything is begun: its buffers, its placed groups, and what it keeps.
-use Rattle.std.proofs.Common.{◌≡◌, ◌∙◌, ℕ, ◌+◌, ◌<◌, ◌≤◌, ◌==◌, Bool, true, false, ◌⊎◌, inl, inr}
-use Rattle.std.proofs.Common.{List, [], ◌∷◌, ◌++◌, length, map, All, Option, None, Some, slice_get}
-use Rattle.std.proofs.Common.{take, get_or, append-nil}
-use Rattle.std.proofs.Common.{zero, suc, refl, sym, ap, subst, arith, if◌then◌else◌}
+use Rattle.std.proofs.Common.{◌≡◌, ◌∙◌, ℕ, ◌+◌, ◌<◌, ◌≤◌, Bool, true, inl, inr, List, [], ◌∷◌, ◌++◌}
+use Rattle.std.proofs.Common.{length, map, All, Option, None, Some, slice_get, take, get_or}
+use Rattle.std.proofs.Common.{append-nil, zero, suc, refl, sym, ap, arith}
 use Rattle.std.specs.List.{cons_option, enumerate_from}
-use Rattle.std.specs.Prelude.{option_map, unwrap_or}
-use Rattle.std.proofs.lemmas.List.{length-append, length-map, map-append, take_all}
-use Rattle.std.proofs.lemmas.List.{take_more}
+use Rattle.std.specs.Prelude.{option_map}
+use Rattle.std.proofs.lemmas.List.{length-append, length-map, map-append, length-take-le, take_more}
 use Rattle.std.proofs.lemmas.List.Elements.{All-nil, filter_map-append}
 use Rattle.std.proofs.lemmas.List.FromFn.{length-enumerate_from}
 use Rattle.std.proofs.lemmas.Option.{none-some, same_Some, slice_get-map, slice_get_past}
-use Rattle.std.proofs.lemmas.Option.{slice_get_within}
+use Rattle.std.proofs.lemmas.Option.{get_or_from_slice_get, slice_get_within}
 use Rattle.buffer_group.specs.Groups.{blocks_in}
 use Rattle.cyc_block.specs.declared.store.BlockStore.{Ghosts}
-use Rattle.cyc_buffer.specs.Agreement.{Agrees}
 use Rattle.cyc_buffer.specs.History.{new_history}
 use Rattle.cyc_buffer.specs.declared.buffer.Buffer.{Buffer}
 use Rattle.news_terms.specs.Fronts.{FitsGroup}
@@ -27,10 +24,11 @@ use Rattle.relay_conf.specs.declared.cycbuff.BufferConf.{BufferConf}
 use Rattle.relay_conf.specs.declared.cycbuff.GroupConf.{GroupConf}
 use Rattle.relay_conf.specs.declared.settings.Buffers.{Buffers}
 use Rattle.relay_model.specs.Terms.{Terms}
-use Rattle.block_shelf.specs.Filling.{IsNewOver, HasNewOver, AreNewOver, AreNewPlacedGroups}
-use Rattle.block_shelf.specs.Filling.{failures_in, members, IsNamed}
-use Rattle.block_shelf.specs.Histories.{IsHistoryOf, IsFree}
-use Rattle.block_shelf.specs.Keeping.{KeepsTexts, HasBuffer, HasPlacedGroup, KeepsPlacedGroup}
+use Rattle.block_shelf.specs.Filling.{IsNewOver, AreNewOver, AreNewPlacedGroups, failures_in}
+use Rattle.block_shelf.specs.Filling.{members, IsNamed}
+use Rattle.block_shelf.specs.Histories.{IsHistoryOf}
+use Rattle.block_shelf.specs.Starting.{buffer_over}
+use Rattle.block_shelf.specs.Keeping.{KeepsTexts, HasBuffer, KeepsPlacedGroup}
 use Rattle.block_shelf.specs.declared.buffer_set.PlacedGroup.{PlacedGroup}
 use Rattle.block_shelf.specs.declared.buffer_set.BufferSet.{BufferSet}
 
@@ -46,40 +44,35 @@ pushed_before [] x i one is = absurd (none-some one is)
 pushed_before (y ∷ xs) x zero one is = is
 pushed_before (y ∷ xs) x (suc i) one is = pushed_before xs x i one is
 
--- THE BUFFERS
-
--- no buffer is one over no store
-pub none_over : {S : Type 0} {g : Ghosts S} → AreNewOver {g = g} [] []
-none_over = record { count = refl; each = λ b store is. absurd (none-some store is) }
+-- what belongs to each item so far, place by place, does once one is put behind the others
+pub push_both : {X Y : Type 0} (P : ℕ → X → Y → Type 0) (xs : List X) (ys : List Y) (x : X) (y : Y)
+    → length ys ≡ length xs → (b : ℕ) (one : X)
+    → (slice_get xs b ≡ Some one → (was : Y) × (slice_get ys b ≡ Some was) × P b one was)
+    → P (length xs) x y → slice_get (xs ++ x ∷ []) b ≡ Some one
+    → (now : Y) × (slice_get (ys ++ y ∷ []) b ≡ Some now) × P b one now
+push_both P xs ys x y count b one had belongs is = elim (at_pushed xs x b one is) [
+  | inl there ↦
+      let was = had there in
+      (was.0, pushed_before ys y b was.0 was.1, was.2)
+  | inr last ↦ (
+    y,
+    ap (slice_get (ys ++ y ∷ [])) (last.0 ∙ sym count) ∙ pushed_last ys y,
+    rw (last.0, ← last.1) belongs,
+  )
+]
 
 -- the buffers over these stores and one more
 pub one_more_over : {S : Type 0} {g : Ghosts S} (stores : List S) (codes : List (Buffer S g))
     (store : S) (code : Buffer S g) → AreNewOver stores codes
     → IsNewOver (length stores) store code
     → AreNewOver (stores ++ store ∷ []) (codes ++ code ∷ [])
-one_more_over {S} {g} stores codes store code over is_new = record {
-  count = length-append codes (code ∷ []) ∙ ap (λ n. n + 1) over.count
-      ∙ sym (length-append stores (store ∷ []));
-  each = λ b one is. by b one (at_pushed stores store b one is);
+one_more_over stores codes store code over is_new = record {
+  count = simp length-append (omega (arith, over.count));
+  each = λ b one is.
+      let now = push_both IsNewOver stores codes store code over.count b one
+      (λ at. let had = over.each b one at in (had.code, had.there, had.is_new)) is_new is in
+      record { code = now.0; there = now.1; is_new = now.2 };
 }
-  where
-    by : (b : ℕ) (one : S)
-        → (slice_get stores b ≡ Some one) ⊎ ((b ≡ length stores) × (store ≡ one))
-        → HasNewOver (codes ++ code ∷ []) b one
-    by b one (inl there) =
-        let was = over.each b one there in
-        record {
-          code = was.code;
-          there = pushed_before codes code b was.code was.there;
-          is_new = was.is_new;
-        }
-    by b one (inr last) = record {
-      code = code;
-      there = ap (slice_get (codes ++ code ∷ [])) (last.0 ∙ sym over.count)
-          ∙ pushed_last codes code;
-      is_new = subst (λ n. IsNewOver n one code) (sym last.0)
-          (subst (λ s. IsNewOver (length stores) s code) last.1 is_new);
-    }
 
 -- THE PLACED GROUPS
 
@@ -94,20 +87,7 @@ numbered_view all n =
     by : (one : Option BufferConf)
         → option_map numbered_buffer (option_map (λ (conf : BufferConf). (0 + n, conf)) one)
         ≡ option_map (λ (conf : BufferConf). numbered_buffer (n, conf)) one
-    by None = refl
-    by (Some conf) = ap (λ k. Some (numbered_buffer (k, conf))) (omega arith)
-
--- a number more stands for what is there
-pub one_more_member : (all : List BufferConf) (numbers : List ℕ) (n : ℕ)
-    (found : Option BufferConf) → slice_get all n ≡ found
-    → members all (numbers ++ n ∷ [])
-    ≡ members all numbers
-    ++ cons_option (option_map (λ (conf : BufferConf). numbered_buffer (n, conf)) found) []
-one_more_member all numbers n found is =
-    filter_map-append (slice_get (numbered_buffers all)) numbers (n ∷ [])
-    ∙ ap (λ one. members all numbers ++ cons_option one [])
-    (numbered_view all n
-    ∙ ap (option_map (λ (conf : BufferConf). numbered_buffer (n, conf))) is)
+    by one = grind arith
 
 -- the buffers that the numbers so far stand for, and what one more does
 pub members_more : (all : List BufferConf) (numbers : List ℕ) (k n : ℕ) (found : Option BufferConf)
@@ -116,9 +96,7 @@ pub members_more : (all : List BufferConf) (numbers : List ℕ) (k n : ℕ) (fou
     ≡ members all (take k numbers)
     ++ cons_option (option_map (λ (conf : BufferConf). numbered_buffer (n, conf)) found) []
 members_more all numbers k n found within is at =
-    ap (members all)
-    (take_more numbers k 0 within ∙ ap (λ one. take k numbers ++ one ∷ []) (sym is))
-    ∙ one_more_member all (take k numbers) n found at
+    rw (take_more numbers k 0 within, ← is, filter_map-append, numbered_view all n, at)
 
 -- where one more stands for nothing, numbers and blocks stay,
 pub none_more : (all : List BufferConf) (list : List ℕ) (k : ℕ) (numbers blocks : List ℕ)
@@ -139,55 +117,10 @@ pub one_more : (all : List BufferConf) (list : List ℕ) (k : ℕ) (numbers bloc
     → IsNamed all (take k list) numbers blocks
     → IsNamed all (take (k + 1) list) (numbers ++ get_or list k 0 ∷ []) (blocks ++ conf.blocks ∷ [])
 one_more all list k numbers blocks conf within at are =
-    let one = numbered_buffer (get_or list k 0, conf) in
     let grown = members_more all list k (get_or list k 0) (Some conf) within refl at in
     record {
-      numbers = ap (λ ns. ns ++ get_or list k 0 ∷ []) are.numbers
-          ∙ sym (map-append (λ (b : places.Buffer). b.number) (members all (take k list))
-          (one ∷ []))
-          ∙ ap (map (λ (b : places.Buffer). b.number)) (sym grown);
-      blocks = ap (λ ns. ns ++ conf.blocks ∷ []) are.blocks
-          ∙ sym (map-append (λ (b : places.Buffer). b.blocks) (members all (take k list))
-          (one ∷ []))
-          ∙ ap blocks_in (sym grown);
-    }
-
--- past the end of the list all are named
-pub all_named : (all : List BufferConf) (list : List ℕ) (k : ℕ) (numbers blocks : List ℕ)
-    → length list ≤ k → IsNamed all (take k list) numbers blocks → IsNamed all list numbers blocks
-all_named all list k numbers blocks past are =
-    subst (λ named. IsNamed all named numbers blocks) (take_all k list past) are
-
--- there are as many as buffers
-pub named_count : (all : List BufferConf) (list numbers blocks : List ℕ)
-    → IsNamed all list numbers blocks → length blocks ≡ length (members all list)
-named_count all list numbers blocks are =
-    ap length are.blocks ∙ length-map (members all list) (λ (b : places.Buffer). b.blocks)
-
--- the placed groups of these groups and one more
-pub one_more_placed_group : (groups : List places.Group) (placed_groups : List PlacedGroup)
-    (group : places.Group)
-    (placed_group : PlacedGroup) → length placed_groups ≡ length groups
-    → AreNewPlacedGroups groups placed_groups
-    → KeepsPlacedGroup placed_group group []
-    → AreNewPlacedGroups (groups ++ group ∷ []) (placed_groups ++ placed_group ∷ [])
-one_more_placed_group groups placed_groups group placed_group count are keeps h one is =
-    by (at_pushed groups group h one is)
-  where
-    by : (slice_get groups h ≡ Some one) ⊎ ((h ≡ length groups) × (group ≡ one))
-        → HasPlacedGroup (placed_groups ++ placed_group ∷ []) [] h one
-    by (inl there) =
-        let was = are h one there in
-        record {
-          code = was.code;
-          there = pushed_before placed_groups placed_group h was.code was.there;
-          keeps = was.keeps;
-        }
-    by (inr last) = record {
-      code = placed_group;
-      there = ap (slice_get (placed_groups ++ placed_group ∷ [])) (last.0 ∙ sym count)
-          ∙ pushed_last placed_groups placed_group;
-      keeps = subst (λ each. KeepsPlacedGroup placed_group each []) last.1 keeps;
+      numbers = rw (are.numbers, grown, map-append);
+      blocks = rw (are.blocks, grown, map-append);
     }
 
 -- the group at a place of the settings
@@ -195,11 +128,7 @@ pub group_at : (settings : Buffers) (k : ℕ) (group : GroupConf)
     → slice_get settings.groups.items k ≡ Some group
     → slice_get (places_of_groups settings) k
     ≡ Some (group_over (numbered_buffers settings.buffers.items) (group_view group))
-group_at settings k group is =
-    slice_get-map (group_over (numbered_buffers settings.buffers.items))
-    (map group_view settings.groups.items) k
-    ∙ ap (option_map (group_over (numbered_buffers settings.buffers.items)))
-    (slice_get-map group_view settings.groups.items k ∙ ap (option_map group_view) is)
+group_at settings k group is = rw (slice_get-map, slice_get-map, is)
 
 -- it has a buffer
 pub group_filled : (settings : Buffers) (k : ℕ) (group : GroupConf)
@@ -211,45 +140,74 @@ group_filled settings k group is =
     (group_over (numbered_buffers settings.buffers.items) (group_view group))
     (group_at settings k group is)
 
--- the groups so far, and one more
-pub one_more_group : (all : List BufferConf) (groups : List GroupConf) (k : ℕ) (group : GroupConf)
-    → k < length groups → group ≡ get_or groups k group
-    → groups_over all (map group_view (take (k + 1) groups))
-    ≡ groups_over all (map group_view (take k groups))
-    ++ group_over (numbered_buffers all) (group_view group) ∷ []
-one_more_group all groups k group within is =
-    ap (λ taken. groups_over all (map group_view taken))
-    (take_more groups k group within ∙ ap (λ one. take k groups ++ one ∷ []) (sym is))
-    ∙ ap (map (group_over (numbered_buffers all)))
-    (map-append group_view (take k groups) (group ∷ []))
-    ∙ map-append (group_over (numbered_buffers all)) (map group_view (take k groups))
-    (group_view group ∷ [])
+-- the placed groups of the groups so far, and one more
+pub one_more_placed : (all : List BufferConf) (groups : List GroupConf) (k : ℕ) {group : GroupConf}
+    (placed_groups : List PlacedGroup) {placed_group : PlacedGroup}
+    → length placed_groups ≡ k → slice_get groups k ≡ Some group
+    → AreNewPlacedGroups (groups_over all (map group_view (take k groups))) placed_groups
+    → KeepsPlacedGroup placed_group (group_over (numbered_buffers all) (group_view group)) []
+    → AreNewPlacedGroups (groups_over all (map group_view (take (k + 1) groups)))
+    (placed_groups ++ placed_group ∷ [])
+one_more_placed all groups k {group} placed_groups {placed_group} count at are keeps =
+    let within = slice_get_within groups k group at in
+    rw (
+      take_more groups k group within,
+      get_or_from_slice_get groups k group group at,
+      map-append,
+      map-append,
+    )
+    (λ h one is.
+    let now = push_both (λ b each code. KeepsPlacedGroup code each [])
+    (groups_over all (map group_view (take k groups))) placed_groups
+    (group_over (numbered_buffers all) (group_view group)) placed_group
+    (count ∙ sym (length-map (map group_view (take k groups)) (group_over (numbered_buffers all))
+    ∙ length-map (take k groups) group_view ∙ length-take-le k groups (omega (arith, within))))
+    h one
+    (λ there. let had = are h one there in (had.code, had.there, had.keeps)) keeps is in
+    record { code = now.0; there = now.1; keeps = now.2 })
 
 -- THE BUFFER SET
-
--- either way it is this
-same_anyway : {X : Type 0} (x : X) (test : Bool) → (if test then x else x) ≡ x
-same_anyway x true = refl
-same_anyway x false = refl
 
 -- nothing is said of the history of a buffer in which nothing was begun
 pub new_said : (groups : List places.Group) (buffer : places.Buffer)
     → IsHistoryOf groups (λ h. []) [] (λ h. None) (new_history buffer)
-new_said groups buffer = record {
-  begins = record { picked = λ g i group at is. refl; none = λ nobody. refl };
-  texts = λ token here. same_anyway None (token.buffer == buffer.number);
-  stored = refl;
-  writing = IsFree refl (λ g one is. absurd (none-some one is));
-}
+new_said groups buffer = grind arith
 
 -- there are as many stores as buffers
 pub same_count : {S : Type 0} (g : Ghosts S) (settings : Buffers) (stores : List S)
     → map (λ store. length (g.blocks store)) stores
     ≡ map (λ (conf : BufferConf). conf.blocks) settings.buffers.items
     → length stores ≡ length settings.buffers.items
-same_count g settings stores sized =
-    sym (length-map stores (λ store. length (g.blocks store))) ∙ ap length sized
-    ∙ length-map settings.buffers.items (λ (conf : BufferConf). conf.blocks)
+same_count g settings stores sized = simp length-map at (ap length sized)
+
+-- what is made of a value comes of the value
+mapped_some : {X Y : Type 0} (f : X → Y) (o : Option X) {y : Y} → option_map f o ≡ Some y
+    → (x : X) × (o ≡ Some x) × (f x ≡ y)
+mapped_some f None e = cc
+mapped_some f (Some x) {y} e = (x, refl, same_Some (f x) y e)
+
+-- the buffer of the settings at the place of a store
+pub buffer_is : {S : Type 0} (g : Ghosts S) (settings : Buffers) (stores : List S)
+    → map (λ store. length (g.blocks store)) stores
+    ≡ map (λ (conf : BufferConf). conf.blocks) settings.buffers.items
+    → (b : ℕ) (buffer : places.Buffer) (store : S)
+    → slice_get (places_of_buffers settings) b ≡ Some buffer → slice_get stores b ≡ Some store
+    → buffer ≡ buffer_over g b store
+buffer_is g settings stores sized b buffer store at there =
+    let conf = mapped_some (λ (conf : BufferConf). numbered_buffer (b, conf))
+    (slice_get settings.buffers.items b) (sym (numbered_view settings.buffers.items b) ∙ at) in
+    let blocks : length (g.blocks store) ≡ conf.0.blocks = same_Some _ _
+    (rw (slice_get-map, slice_get-map, there, conf.1) at (ap (λ sizes. slice_get sizes b) sized)) in
+    sym conf.2 ∙ ap (λ n. record { number = b; blocks = n; first_cycle = 0 }) (sym blocks)
+
+-- there are as many buffers and groups as the settings have
+pub buffers_count : (settings : Buffers)
+    → length (places_of_buffers settings) ≡ length settings.buffers.items
+buffers_count settings = simp (length-map, length-enumerate_from)
+
+pub groups_count : (settings : Buffers)
+    → length (places_of_groups settings) ≡ length settings.groups.items
+groups_count settings = simp length-map
 
 module _ {S : Type 0} {g : Ghosts S} (settings : Buffers) (stores : List S)
     (buffer_set : BufferSet S g)
@@ -259,42 +217,22 @@ module _ {S : Type 0} {g : Ghosts S} (settings : Buffers) (stores : List S)
     ≡ map (λ (conf : BufferConf). conf.blocks) settings.buffers.items)
     (over : AreNewOver stores buffer_set.buffers.items) where
   -- the store of a buffer
-  record StoreOf (b : ℕ) (buffer : places.Buffer) : Type 0 where
-    store : S
-    there : slice_get stores b ≡ Some store
-    is : buffer ≡ record { number = b; blocks = length (g.blocks store); first_cycle = 0 }
-
   store_of_buffer : (b : ℕ) (buffer : places.Buffer) → slice_get w.buffers b ≡ Some buffer
-      → StoreOf b buffer
-  store_of_buffer b buffer at = by (slice_get settings.buffers.items b) refl
-    where
-      seen : option_map (λ (conf : BufferConf). numbered_buffer (b, conf))
-          (slice_get settings.buffers.items b) ≡ Some buffer
-      seen = sym (numbered_view settings.buffers.items b)
-          ∙ ap (λ bs. slice_get bs b) (sym all) ∙ at
-
-      by : (conf : Option BufferConf) → slice_get settings.buffers.items b ≡ conf
-          → StoreOf b buffer
-      by None e =
-          absurd (none-some buffer
-          (sym (ap (option_map (λ (conf : BufferConf). numbered_buffer (b, conf))) e) ∙ seen))
-      by (Some conf) e =
-          let one = there_within stores b
-          (subst (λ n. b < n) (sym (same_count g settings stores sized))
-          (slice_get_within settings.buffers.items b conf e)) in
-          let blocks : length (g.blocks one.0) ≡ conf.blocks = same_Some _ _
-          (sym (slice_get-map (λ store. length (g.blocks store)) stores b
-          ∙ ap (option_map (λ store. length (g.blocks store))) one.1)
-          ∙ ap (λ sizes. slice_get sizes b) sized
-          ∙ slice_get-map (λ (conf : BufferConf). conf.blocks) settings.buffers.items b
-          ∙ ap (option_map (λ (conf : BufferConf). conf.blocks)) e) in
-          record {
-            store = one.0;
-            there = one.1;
-            is = sym (same_Some (numbered_buffer (b, conf)) buffer
-                (sym (ap (option_map (λ (conf : BufferConf). numbered_buffer (b, conf))) e) ∙ seen))
-                ∙ ap (λ n. record { number = b; blocks = n; first_cycle = 0 }) (sym blocks);
-          }
+      → (store : S) × (slice_get stores b ≡ Some store) × (buffer ≡ buffer_over g b store)
+  store_of_buffer b buffer at =
+      let one = there_within stores b
+      (omega (
+        arith,
+        slice_get_within w.buffers b buffer at,
+        ap length all,
+        buffers_count settings,
+        same_count g settings stores sized,
+      )) in (
+        one.0,
+        one.1,
+        buffer_is g settings stores sized b buffer one.0 (ap (λ bs. slice_get bs b) (sym all) ∙ at)
+            one.1,
+      )
 
   -- the buffer at each place keeps that nothing was begun
   new_buffer : (b : ℕ) (buffer : places.Buffer) → slice_get w.buffers b ≡ Some buffer
@@ -302,23 +240,19 @@ module _ {S : Type 0} {g : Ghosts S} (settings : Buffers) (stores : List S)
       (failures_in g stores) b buffer
   new_buffer b buffer at =
       let one = store_of_buffer b buffer at in
-      let code = over.each b one.store one.there in
-      record {
+      let code = over.each b one.0 one.1 in
+      rw one.2 (record {
         code = code.code;
         there = code.there;
         keeps = record {
-          history = new_history buffer;
+          history = new_history (buffer_over g b one.0);
           is_of_buffer = refl;
-          agrees = subst (λ (each : places.Buffer). Agrees trusted code.code (new_history each))
-              (sym one.is)
-              (code.is_new.agrees trusted (λ yes. holds_at g.honest stores (honest yes) b one.store
-              one.there));
-          is_said = new_said w.groups buffer;
-          failed = ap (λ (each : places.Buffer). failures_in g stores each.number) one.is
-              ∙ ap (λ found. unwrap_or (option_map g.failures found) 0) one.there
-              ∙ sym code.is_new.failures;
+          agrees = code.is_new.agrees trusted
+              (λ yes. holds_at g.honest stores (honest yes) b one.0 one.1);
+          is_said = new_said w.groups (buffer_over g b one.0);
+          failed = rw one.1 (sym code.is_new.failures);
         };
-      }
+      })
 
   -- so the buffer set keeps that nothing was begun
   pub nothing_kept : AreSound (places_of_buffers settings) (places_of_groups settings)
@@ -326,21 +260,14 @@ module _ {S : Type 0} {g : Ghosts S} (settings : Buffers) (stores : List S)
       → AreNewPlacedGroups (places_of_groups settings) buffer_set.placed_groups.items
       → KeepsTexts trusted buffer_set w (λ h. []) [] (λ h. None) (failures_in g stores)
   nothing_kept sound placed_groups_made placed_groups = record {
-    sound = subst (λ bs. AreSound bs w.groups) (sym all)
-        (subst (AreSound (places_of_buffers settings)) (sym groups) sound);
+    sound = rw (all, groups) sound;
     numbered = λ b buffer at.
-        ap (λ (each : places.Buffer). each.number) (store_of_buffer b buffer at).is;
+        ap (λ (each : places.Buffer). each.number) (store_of_buffer b buffer at).2;
     fit = λ h group at. All-nil (FitsGroup group);
     opened = λ h one is. absurd (none-some one is);
     count = over.count ∙ same_count g settings stores sized
-        ∙ sym (ap length all ∙ length-map (enumerate_from 0 settings.buffers.items) numbered_buffer
-        ∙ length-enumerate_from 0 settings.buffers.items);
+        ∙ sym (ap length all ∙ buffers_count settings);
     buffers = new_buffer;
-    placed_group_count = placed_groups_made
-        ∙ sym (ap length groups
-        ∙ length-map (map group_view settings.groups.items)
-        (group_over (numbered_buffers settings.buffers.items))
-        ∙ length-map settings.groups.items group_view);
-    placed_groups =
-        λ h group at. placed_groups h group (ap (λ gs. slice_get gs h) (sym groups) ∙ at);
+    placed_group_count = placed_groups_made ∙ sym (ap length groups ∙ groups_count settings);
+    placed_groups = λ h group is. placed_groups h group (rw groups at is);
   }

@@ -1,30 +1,24 @@
 -- The groups of a started buffer set are where they were.
-use Rattle.std.proofs.Common.{◌≡◌, ◌∙◌, ℕ, ◌+◌, ◌*◌, ◌<◌, ◌≤◌, Bool, true, arith, refl, sym, ap}
-use Rattle.std.proofs.Common.{subst}
-use Rattle.std.proofs.Common.{List, length, map, Option, Some, slice_get, unwrap_or}
-use Rattle.std.proofs.Common.{option_map}
-use Rattle.std.proofs.Math.Nat.{mod-lt}
-use Rattle.std.proofs.lemmas.List.{length-map}
-use Rattle.std.proofs.lemmas.Option.{same_Some, slice_get-map, slice_get_within}
+use Rattle.std.proofs.Common.{◌≡◌, ◌∙◌, ℕ, ◌+◌, ◌*◌, ◌<◌, ◌≤◌, Bool, true, arith, sym, ap, subst}
+use Rattle.std.proofs.Common.{List, length, map, Some, slice_get, unwrap_or}
+use Rattle.std.proofs.lemmas.Option.{slice_get-map}
 use Rattle.cyc_block.specs.declared.store.BlockStore.{Ghosts}
 use Rattle.cyc_buffer.specs.Agreement.{Agrees}
 use Rattle.cyc_buffer.specs.History.{History, cycle_of, front_of}
 use Rattle.cyc_buffer.specs.Stopped.{used_of}
 use Rattle.cyc_buffer.specs.declared.buffer.Buffer.{Buffer}
 use Rattle.news_terms.proofs.PickedPlaces.{used_of_position}
-use Rattle.news_terms.specs.Picks.{begins_in, room_of}
-use Rattle.news_terms.specs.Picks as picks
 use Rattle.news_terms.specs.Places as places
-use Rattle.news_terms.specs.Places.{Group, Mode, Interleave, Sequential, head_after}
+use Rattle.news_terms.specs.Places.{Group, Sequential}
 use Rattle.news_terms.specs.Positions.{Position, position_by, position_of}
-use Rattle.news_terms.proofs.ListPlaces.{holds_at, mapped_at}
+use Rattle.news_terms.proofs.ListPlaces.{holds_at, mapped_at, there_within}
 use Rattle.relay_conf.specs.Places.{group_over, group_view, mode_view, numbered_buffers}
 use Rattle.relay_conf.specs.declared.cycbuff.Mode as confs
 use Rattle.relay_conf.specs.declared.cycbuff.Mode.TheVariants as modes
 use Rattle.relay_conf.specs.declared.settings.Buffers.{Buffers}
 use Rattle.relay_model.specs.State.{Kept}
 use Rattle.relay_model.specs.Terms.{Terms}
-use Rattle.block_shelf.proofs.BufferSetReads.{some_there}
+use Rattle.block_shelf.proofs.NewBufferSet.{groups_count}
 use Rattle.block_shelf.specs.Each.{AreEach}
 use Rattle.block_shelf.specs.Resuming.{AreUsed, HasCurrent, IsResumedAt, ResumesByUse}
 use Rattle.block_shelf.specs.Resuming.{ResumesPlacedGroup}
@@ -36,32 +30,19 @@ pub used_is : {S : Type 0} {g : Ghosts S} (trusted : Bool) (code : Buffer S g) (
     → Agrees trusted code h → (cycle blocks front : ℕ) → cycle ≡ cycle_of h
     → blocks ≡ h.buffer.blocks → front ≡ front_of h
     → (front ≡ cycle * blocks + used_of h) × (used_of h ≤ blocks)
-used_is trusted code h agrees cycle blocks front is_cycle is_blocks is_front = (
-  is_front ∙ ap (λ n. n * h.buffer.blocks + used_of h) (sym is_cycle)
-      ∙ ap (λ n. cycle * n + used_of h) (sym is_blocks),
-  omega (
-    arith,
-    code.buffer_state.line.within,
-    agrees.keeps.used,
-    ap (λ (b : places.Buffer). b.blocks) agrees.keeps.buffer,
-    is_blocks,
-  ),
-)
+used_is trusted code h agrees cycle blocks front is_cycle is_blocks is_front = grind arith
 
 -- a position is its two parts
 position_parts : (p : Position) (index used : ℕ) → p.index ≡ index → p.used ≡ used
     → p ≡ record { index = index; used = used }
-position_parts p index used is_index is_used =
-    ap (λ i. record { index = i; used = p.used }) is_index
-    ∙ ap (λ u. record { index = index; used = u }) is_used
+position_parts p index used is_index is_used = rw (← is_index, ← is_used)
 
 -- what is used, by the mode
 used_by_mode : (m : confs.Mode) (buffers : List places.Buffer) (begun : List ℕ) (used : ℕ)
     → (m ≡ modes.Interleave → used ≡ 0)
     → (m ≡ modes.Sequential → used ≡ (position_by Sequential buffers begun).used)
     → (position_by (mode_view m) buffers begun).used ≡ used
-used_by_mode modes.Interleave buffers begun used turns filled = sym (turns refl)
-used_by_mode modes.Sequential buffers begun used turns filled = sym (filled refl)
+used_by_mode m buffers begun used turns filled = grind arith
 
 module _ (all_used : List ℕ) (m : confs.Mode) (buffers : List places.Buffer) (begun : List ℕ)
   where
@@ -80,39 +61,23 @@ module _ (all_used : List ℕ) (m : confs.Mode) (buffers : List places.Buffer) (
         position_parts (position_of group_of begun) position used at
         (used_by_mode m buffers begun used turns (λ is.
         filled is
-        ∙ ap (λ n. unwrap_or (slice_get all_used n) 0)
-        (read ∙ ap (λ ns. unwrap_or (slice_get ns position) 0) named
-        ∙ ap (λ o. unwrap_or o 0)
-        (slice_get-map (λ (b : places.Buffer). b.number) buffers position
-        ∙ ap (λ i. option_map (λ (b : places.Buffer). b.number) (slice_get buffers i)) (sym at)
-        ∙ ap (option_map (λ (b : places.Buffer). b.number)) has.there))
-        ∙ ap (λ o. unwrap_or o 0) (has.used_there (ap mode_view is))
-        ∙ ap (λ each. (position_by (mode_view each) buffers begun).used) is))
-
-    -- its position is one of its buffers
-    pub position_inside : HasCurrent all_used group_of begun
-        → (position_of group_of begun).index < length buffers
-    position_inside has =
-        slice_get_within buffers (position_of group_of begun).index has.buffer has.there
+        ∙ rw (read, named, slice_get-map, ← at, has.there, has.used_there (ap mode_view is))
+        (ap (λ each. (position_by (mode_view each) buffers begun).used) is)))
 
 -- a group with a buffer is at one of its buffers
 position_within : (group : Group) (begun : List ℕ) → 0 < length group.buffers
     → (position_of group begun).index < length group.buffers
-position_within group begun some = by group.mode
-  where
-    by : (mode : Mode) → (position_by mode group.buffers begun).index < length group.buffers
-    by Interleave = mod-lt (length begun) some
-    by Sequential = mod-lt (head_after (room_of group.buffers) begun).run some
+position_within group begun some = grind arith
 
-module _ {S : Type 0} {g : Ghosts S} (codes : List (Buffer S g)) (used : List ℕ) (w : Terms)
-    (begun : ℕ → List ℕ) (kept : List Kept) (failures : ℕ → ℕ) (are : AreUsed codes used)
+module _ {S : Type 0} {g : Ghosts S} {codes : List (Buffer S g)} {used : List ℕ} {w : Terms}
+    {begun : ℕ → List ℕ} {kept : List Kept} {failures : ℕ → ℕ} (are : AreUsed codes used)
     (keeps : BuffersKeep codes w begun kept failures) where
   -- the current buffer of a group is among the buffers that keep what is said, and as much is used
   pub current : (h : ℕ) (group : Group) → slice_get w.groups h ≡ Some group
       → HasCurrent used group (begun h)
   current h group at =
       let index : ℕ = (position_of group (begun h)).index in
-      let one = some_there group.buffers index
+      let one = there_within group.buffers index
       (position_within group (begun h)
       (holds_at (λ (each : Group). 1 ≤ length each.buffers) w.groups keeps.sound.filled h group at))
       in
@@ -125,16 +90,15 @@ module _ {S : Type 0} {g : Ghosts S} (codes : List (Buffer S g)) (used : List �
       record {
         buffer = one.0;
         there = one.1;
-        used_there = λ mode.
-            ap (slice_get used) number ∙ said.there
-            ∙ ap Some (said.belongs true history had.keeps.agrees
-            ∙ (ap (λ begins. (picks.head_of history.buffer.blocks begins).used)
-            (had.keeps.is_said.begins.picked h index group at
-            (one.1 ∙ ap Some (sym had.keeps.is_of_buffer)))
-            ∙ ap (λ (b : places.Buffer).
-            (picks.head_of b.blocks (begins_in group index (begun h))).used)
-            had.keeps.is_of_buffer
-            ∙ used_of_position group (begun h) mode (keeps.fit h group at) one.0 one.1));
+        used_there = λ mode. cc (
+          number,
+          said.there,
+          said.belongs true history had.keeps.agrees,
+          had.keeps.is_said.begins.picked h index group at
+              (one.1 ∙ ap Some (sym had.keeps.is_of_buffer)),
+          had.keeps.is_of_buffer,
+          used_of_position group (begun h) mode (keeps.fit h group at) one.0 one.1,
+        );
       }
 
 -- the placed groups are those of the settings' groups
@@ -145,11 +109,7 @@ pub placed_groups_resumed
     → ResumesByUse settings positions used placed_groups
 placed_groups_resumed settings positions used placed_groups are w begun groups current_of are_at =
     record {
-      count = are.count
-          ∙ sym (ap length groups
-          ∙ length-map (map group_view settings.groups.items)
-          (group_over (numbered_buffers settings.buffers.items))
-          ∙ length-map settings.groups.items group_view);
+      count = are.count ∙ sym (ap length groups ∙ groups_count settings);
       each = λ h group at.
           let a = mapped_at (group_over (numbered_buffers settings.buffers.items))
           (map group_view settings.groups.items) h group
@@ -179,4 +139,4 @@ pub resumed_over : {S : Type 0} {g : Ghosts S} (settings : Buffers) (positions :
     → ResumePlacedGroups settings positions codes placed_groups
 resumed_over settings positions codes used placed_groups are resumes w begun kept failures
     groups keeps at =
-    resumes w begun groups (current codes used w begun kept failures are keeps) at
+    resumes w begun groups (current are keeps) at

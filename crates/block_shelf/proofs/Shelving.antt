@@ -1,25 +1,37 @@
--- What the buffer set keeps once one of its buffers, or one of its groups, is another.
-use Rattle.std.proofs.Common.{◌≡◌, ◌∙◌, ℕ, zero, suc, Bool, true, false, refl, sym, ap}
-use Rattle.std.proofs.Common.{List, [], ◌∷◌, length, Option, Some, All, slice_get}
-use Rattle.std.proofs.Common.{◌==◌}
-use Rattle.std.proofs.Common.{slice_set, slice_index_or, length-set}
-use Rattle.std.proofs.lemmas.Bool.{eqb-true, eqb-false}
-use Rattle.std.proofs.lemmas.Option.{none-some, same_Some}
+-- What the buffer set keeps once one of its buffers, or one of its groups, is another, and how
+-- often the devices were called.
+use Rattle.std.proofs.Common.{◌≡◌, ◌≢◌, ◌∙◌, inl, inr, ℕ, zero, suc, ◌+◌, ◌<◌, ◌≤◌, nat_lt, Bool}
+use Rattle.std.proofs.Common.{true, false, refl, sym, ap, arith, List, [], ◌∷◌, length, Option}
+use Rattle.std.proofs.Common.{None, Some, All, slice_get, slice_set, slice_index_or, length-set}
+use Rattle.std.proofs.lemmas.Bool.{cases_eq, ltb-false, ltb-true}
+use Rattle.std.proofs.lemmas.Bool.Decides.{nat_tests}
+use Rattle.std.proofs.lemmas.Option.{none-some, same_Some, slice_get_past, slice_get_read}
+use Rattle.std.proofs.lemmas.Option.{slice_get_within}
 use Rattle.std.specs.Global.{Vec}
 use Rattle.std.specs.Vec.{with_item}
 use Rattle.cyc_block.specs.declared.store.BlockStore.{Ghosts}
+use Rattle.cyc_buffer.specs.Agreement.{Agrees, Follows, store_of}
+use Rattle.cyc_buffer.specs.History.{History}
 use Rattle.cyc_buffer.specs.declared.buffer.Buffer.{Buffer}
 use Rattle.news_terms.specs.Fronts.{FitsGroup}
 use Rattle.news_terms.specs.Places as places
 use Rattle.news_terms.specs.Places.{Group}
-use Rattle.relay_model.specs.State.{Kept}
+use Rattle.news_terms.specs.Settings.{AreSound, IsBufferAt}
+use Rattle.news_terms.proofs.ListPlaces.{there_within}
+use Rattle.relay_facts.proofs.Puts.{put_at_here, put_at_both}
+use Rattle.relay_model.specs.State.{Kept, put_at}
 use Rattle.relay_model.specs.Terms.{Terms}
+use Rattle.relay_model.specs.World.{HasFailedAt, Rises}
 use Rattle.block_shelf.proofs.Writings.{IsOnly}
-use Rattle.block_shelf.specs.Keeping.{KeepsTexts, KeepsBuffer, HasBuffer, HasPlacedGroup, IsOpenIn}
-use Rattle.block_shelf.specs.Openings.{Opening, token_in}
-use Rattle.news_terms.specs.Settings.{IsBufferAt}
+use Rattle.block_shelf.specs.Devices.{calls_of, calls_at, CallsNone}
+use Rattle.block_shelf.specs.Histories.{IsHistoryOf}
+use Rattle.block_shelf.specs.Keeping.{KeepsTexts, KeepsBuffer, HasBuffer, IsOpenIn}
+use Rattle.block_shelf.specs.Openings.{Opening}
+use Rattle.block_shelf.specs.Starting.{BuffersKeep, PlacedGroupsKeep}
 use Rattle.block_shelf.specs.declared.buffer_set.PlacedGroup.{PlacedGroup}
 use Rattle.block_shelf.specs.declared.buffer_set.BufferSet.{BufferSet}
+
+-- ITEMS OF LISTS
 
 -- an item that was put at a place stands there
 pub put_here : {X : Type 0} (xs : List X) (i : ℕ) (old x : X) → slice_get xs i ≡ Some old
@@ -29,7 +41,7 @@ put_here (first ∷ rest) zero old x is = refl
 put_here (first ∷ rest) (suc i) old x is = put_here rest i old x is
 
 -- the items elsewhere are the same
-pub put_there : {X : Type 0} (xs : List X) (i j : ℕ) (x : X) → (j ≡ i → ⊥)
+pub put_there : {X : Type 0} (xs : List X) (i j : ℕ) (x : X) → j ≢ i
     → slice_get (slice_set xs i x) j ≡ slice_get xs j
 put_there [] i j x apart = refl
 put_there (first ∷ rest) zero zero x apart = absurd (apart refl)
@@ -37,91 +49,257 @@ put_there (first ∷ rest) zero (suc j) x apart = refl
 put_there (first ∷ rest) (suc i) zero x apart = refl
 put_there (first ∷ rest) (suc i) (suc j) x apart = put_there rest i j x (λ e. apart (ap suc e))
 
--- what stands at a place is what is read there
-pub read_here : {X : Type 0} (xs : List X) (i : ℕ) (one read : X) → slice_get xs i ≡ Some one
-    → read ≡ slice_index_or xs i read → read ≡ one
-read_here [] i one read is e = absurd (none-some one is)
-read_here (first ∷ rest) zero one read is e = e ∙ same_Some first one is
-read_here (first ∷ rest) (suc i) one read is e = read_here rest i one read is e
+-- what holds of the new item there and of the old ones elsewhere holds at each place
+pub put_both : {X : Type 0} (P : X → Type 0) (xs : List X) (i j : ℕ) (x : X) {was : X}
+    → slice_get xs j ≡ Some was → (j ≡ i → P x) → (j ≢ i → P was)
+    → (y : X) × (slice_get (slice_set xs i x) j ≡ Some y) × P y
+put_both P xs i j x {was} is here there = elim (cases_eq j i) [
+  | inl same ↦ (
+    x,
+    ap (slice_get (slice_set xs i x)) same
+        ∙ put_here xs i was x (ap (slice_get xs) (sym same) ∙ is),
+    here same,
+  )
+  | inr apart ↦ (was, put_there xs i j x apart ∙ is, there apart)
+]
 
--- where a group's open write is
-pub record OpenPlace (w : Terms) (h : ℕ) (one : Opening) : Type 0 where
-  pub buffer : places.Buffer
-  pub there : slice_get w.buffers (token_in one).buffer ≡ Some buffer
-  pub number : buffer.number ≡ (token_in one).buffer
-  pub index : ℕ
-  pub is_at : IsBufferAt w.groups h index buffer
+-- what was read at a place, as the code finds it, stands there
+pub read_there : {X A B C : Type 0} (xs : List X) (i : ℕ) {x : X}
+    → (true ≡ nat_lt i (length xs)) × (x ≡ slice_index_or xs i x) × A × B × C
+    → slice_get xs i ≡ Some x
+read_there xs i {x} found =
+    slice_get_read xs (length xs) i x refl (ltb-true i (length xs) (sym found.0)) found.1
 
-module _ {S : Type 0} {g : Ghosts S} (trusted : Bool) (old : BufferSet S g) (w : Terms)
-    (begun : ℕ → List ℕ) (kept : List Kept) (openings : ℕ → Option Opening) (failures : ℕ → ℕ)
-    (keeps : KeepsTexts trusted old w begun kept openings failures) where
-  -- the open write of a group is in a buffer that is there
-  pub open_place : (h : ℕ) (one : Opening) → openings h ≡ Some one → OpenPlace w h one
-  open_place h one is =
-      let at = keeps.opened h one is in
-      let k = keeps.sound.named h at.index at.buffer at.is_at in
+-- THE BUFFERS
+
+-- These buffers keep what is said, with or without open writes.
+pub record AreKept {S : Type 0} {g : Ghosts S} (trusted : Bool) (codes : List (Buffer S g))
+    (w : Terms) (begun : ℕ → List ℕ) (kept : List Kept) (openings : ℕ → Option Opening)
+    (failures : ℕ → ℕ)
+    : Type 0 where
+  pub sound : AreSound w.buffers w.groups
+  pub numbered : (b : ℕ) (buffer : places.Buffer) → slice_get w.buffers b ≡ Some buffer
+      → buffer.number ≡ b
+  pub fit : (h : ℕ) (group : Group) → slice_get w.groups h ≡ Some group
+      → All (FitsGroup group) (begun h)
+  pub count : length codes ≡ length w.buffers
+  pub buffers : (b : ℕ) (buffer : places.Buffer) → slice_get w.buffers b ≡ Some buffer
+      → HasBuffer trusted codes w.groups begun kept openings failures b buffer
+
+-- so those of a buffer set do
+pub buffers_kept : {S : Type 0} {g : Ghosts S} {trusted : Bool} {old : BufferSet S g} {w : Terms}
+    {begun : ℕ → List ℕ} {kept : List Kept} {openings : ℕ → Option Opening} {failures : ℕ → ℕ}
+    → KeepsTexts trusted old w begun kept openings failures
+    → AreKept trusted old.buffers.items w begun kept openings failures
+buffers_kept keeps = assumption
+
+-- and those of a started one
+pub started_kept : {S : Type 0} {g : Ghosts S} {codes : List (Buffer S g)} {w : Terms}
+    {begun : ℕ → List ℕ} {kept : List Kept} {failures : ℕ → ℕ}
+    → BuffersKeep codes w begun kept failures
+    → AreKept true codes w begun kept (λ h. None) failures
+started_kept keeps = assumption
+
+-- the history of the code's buffer at a place
+pub record KeptAt {S : Type 0} {g : Ghosts S} (trusted : Bool) (w : Terms) (begun : ℕ → List ℕ)
+    (kept : List Kept) (openings : ℕ → Option Opening) (failures : ℕ → ℕ) (b : ℕ)
+    (code : Buffer S g)
+    : Type 0 where
+  pub now : History
+  pub there : slice_get w.buffers b ≡ Some now.buffer
+  pub number : now.buffer.number ≡ b
+  pub agrees : Agrees trusted code now
+  pub said : IsHistoryOf w.groups begun kept openings now
+  pub failed : failures b ≡ g.failures (store_of code)
+
+module _ {S : Type 0} {g : Ghosts S} {trusted : Bool} {codes : List (Buffer S g)} {w : Terms}
+    {begun : ℕ → List ℕ} {kept : List Kept} {openings : ℕ → Option Opening} {failures : ℕ → ℕ}
+    (are : AreKept trusted codes w begun kept openings failures) where
+  pub kept_at : {b : ℕ} {code : Buffer S g} → slice_get codes b ≡ Some code
+      → KeptAt trusted w begun kept openings failures b code
+  kept_at {b} {code} is =
+      let one = there_within w.buffers b
+      (omega (arith, slice_get_within codes b code is, are.count)) in
+      let had = are.buffers b one.0 one.1 in
+      let number : one.0.number ≡ b = are.numbered b one.0 one.1 in
+      let has : KeepsBuffer trusted code w.groups begun kept openings failures one.0 =
+      rw (same_Some had.code code (sym had.there ∙ is)) at had.keeps in
       record {
-        buffer = at.buffer;
-        there = ap (slice_get w.buffers) (sym at.named ∙ keeps.numbered k.0 at.buffer k.1) ∙ k.1;
-        number = at.named;
-        index = at.index;
-        is_at = at.is_at;
+        now = has.history;
+        there = one.1 ∙ ap Some (sym has.is_of_buffer);
+        number = ap (λ (b : places.Buffer). b.number) has.is_of_buffer ∙ number;
+        agrees = has.agrees;
+        said = has.is_said;
+        failed = ap failures (sym number) ∙ has.failed;
       }
 
+  -- a buffer of a group stands at its number
+  pub stands : {h i : ℕ} {buffer : places.Buffer} → IsBufferAt w.groups h i buffer
+      → slice_get w.buffers buffer.number ≡ Some buffer
+  stands {h} {i} {buffer} at =
+      let k = are.sound.named h i buffer at in
+      ap (slice_get w.buffers) (are.numbered k.0 buffer k.1) ∙ k.1
+
+  -- there is no buffer past the last
+  pub past_last : (i : ℕ) → false ≡ nat_lt i (length codes) → slice_get w.buffers i ≡ None
+  past_last i missing =
+      slice_get_past w.buffers i (omega (arith, are.count, ltb-false i _ (sym missing)))
+
+-- THE BUFFER SET WITH ANOTHER BUFFER
+
+-- a buffer set with another buffer at a place, and these groups
+abbrev pub with_buffer : {S : Type 0} {g : Ghosts S} → BufferSet S g → ℕ → Buffer S g
+    → Vec PlacedGroup → BufferSet S g
+with_buffer old b code placed_groups =
+    record { buffers = with_item old.buffers b code; placed_groups = placed_groups }
+
+-- What is said once the buffer of this number is another: its own history, those of the others, the
+-- open writes and the groups.
+pub record IsAfter {S : Type 0} {g : Ghosts S} (trusted : Bool) (w : Terms) (now : History)
+    (begun begun' : ℕ → List ℕ) (kept kept' : List Kept) (openings openings' : ℕ → Option Opening)
+    (failures failures' : ℕ → ℕ) (code : Buffer S g) (placed_groups : Vec PlacedGroup)
+    : Type 0 where
+  pub history : History
+  pub same : history.buffer ≡ now.buffer
+  pub agrees : Agrees trusted code history
+  pub said : IsHistoryOf w.groups begun' kept' openings' history
+  pub failed : failures' now.buffer.number ≡ g.failures (store_of code)
+  pub others : (one : History) → one.buffer.number ≢ now.buffer.number
+      → IsHistoryOf w.groups begun kept openings one
+      → IsHistoryOf w.groups begun' kept' openings' one
+  pub unfailed : (n : ℕ) → n ≢ now.buffer.number → failures' n ≡ failures n
+  pub fit : (h : ℕ) (group : Group) → slice_get w.groups h ≡ Some group
+      → All (FitsGroup group) (begun' h)
+  pub opened : (h : ℕ) (one : Opening) → openings' h ≡ Some one → IsOpenIn w.groups h one
+  pub groups : PlacedGroupsKeep placed_groups.items w begun'
+
+module _ {S : Type 0} {g : Ghosts S} {trusted : Bool} {old : BufferSet S g} {w : Terms}
+    {begun : ℕ → List ℕ} {kept : List Kept} {openings : ℕ → Option Opening} {failures : ℕ → ℕ}
+    (keeps : KeepsTexts trusted old w begun kept openings failures) where
   -- no other group's open write is in this buffer of a group
-  pub only_there : (h i : ℕ) (buffer : places.Buffer) → IsBufferAt w.groups h i buffer
+  pub only_there : {h i : ℕ} {buffer : places.Buffer} → IsBufferAt w.groups h i buffer
       → IsOnly openings h buffer.number
-  only_there h i buffer at k other is here =
+  only_there {h} {i} {buffer} at k other is here =
       let there = keeps.opened k other is in
       (keeps.sound.once k h there.index i there.buffer buffer there.is_at at (there.named ∙ here)).0
 
-  -- with another buffer, which keeps what is said from now on, while every other keeps it as it is
-  pub replaced : (b : ℕ) (code : Buffer S g) (placed_groups : Vec PlacedGroup)
-      → length placed_groups.items ≡ length w.groups → (begun' : ℕ → List ℕ) (kept' : List Kept)
-      (openings' : ℕ → Option Opening) (failures' : ℕ → ℕ)
-      → ((h : ℕ) (group : Group) → slice_get w.groups h ≡ Some group
-      → All (FitsGroup group) (begun' h))
-      → ((h : ℕ) (one : Opening) → openings' h ≡ Some one → IsOpenIn w.groups h one)
-      → ((h : ℕ) (group : Group) → slice_get w.groups h ≡ Some group
-      → HasPlacedGroup placed_groups.items (begun' h) h group)
-      → ((buffer : places.Buffer) → slice_get w.buffers b ≡ Some buffer
-      → KeepsBuffer trusted code w.groups begun' kept' openings' failures' buffer)
-      → ((j : ℕ) (buffer : places.Buffer) → slice_get w.buffers j ≡ Some buffer → (j ≡ b → ⊥)
-      → (each : Buffer S g)
-      → KeepsBuffer trusted each w.groups begun kept openings failures buffer
-      → KeepsBuffer trusted each w.groups begun' kept' openings' failures' buffer)
-      → KeepsTexts trusted
-      (record { buffers = with_item old.buffers b code; placed_groups = placed_groups }) w
-      begun' kept' openings' failures'
-  replaced b code placed_groups placed_group_count begun' kept' openings' failures' fit opened
-      has_placed_groups here others = record {
-        sound = keeps.sound;
-        numbered = keeps.numbered;
-        fit = fit;
-        opened = opened;
-        count = length-set old.buffers.items b code ∙ keeps.count;
-        buffers = λ j buffer there. by j buffer there (j == b) refl;
-        placed_group_count = placed_group_count;
-        placed_groups = has_placed_groups;
-      }
-    where
-      by : (j : ℕ) (buffer : places.Buffer) → slice_get w.buffers j ≡ Some buffer → (same : Bool)
-          → (j == b) ≡ same
-          → HasBuffer trusted (slice_set old.buffers.items b code) w.groups begun' kept' openings'
-          failures' j buffer
-      by j buffer there true e =
-          let is = eqb-true j b e in
+  -- the groups as they are
+  pub groups_kept : PlacedGroupsKeep old.placed_groups.items w begun
+  groups_kept = record { count = keeps.placed_group_count; each = keeps.placed_groups }
+
+  -- each open write is in a buffer of its group, where this group's is another
+  pub opened_after : {h : ℕ} {after : Option Opening}
+      → ((one : Opening) → after ≡ Some one → IsOpenIn w.groups h one) → (k : ℕ) (other : Opening)
+      → put_at openings h after k ≡ Some other → IsOpenIn w.groups k other
+  opened_after {h} {after} there k other at =
+      put_at_both (λ each. each ≡ Some other → IsOpenIn w.groups k other) openings h after k
+      (λ same e. rw same (there other e)) (λ apart e. keeps.opened k other e) at
+
+  module _ {b : ℕ} {code code' : Buffer S g} {placed_groups : Vec PlacedGroup}
+      (at : KeptAt trusted w begun kept openings failures b code) where
+    -- the buffer set keeps what is said after it
+    pub replaced : {begun' : ℕ → List ℕ} {kept' : List Kept} {openings' : ℕ → Option Opening}
+        {failures' : ℕ → ℕ}
+        → IsAfter trusted w at.now begun begun' kept kept' openings openings' failures failures'
+        code' placed_groups
+        → KeepsTexts trusted (with_buffer old b code' placed_groups) w begun' kept' openings'
+        failures'
+    replaced {begun'} {kept'} {openings'} {failures'} is = record {
+      sound = keeps.sound;
+      numbered = keeps.numbered;
+      fit = is.fit;
+      opened = is.opened;
+      count = length-set old.buffers.items b code' ∙ keeps.count;
+      buffers = λ j buffer there.
+          let had = keeps.buffers j buffer there in
+          let number : buffer.number ≡ j = keeps.numbered j buffer there in
+          let now = put_both
+          (λ each. KeepsBuffer trusted each w.groups begun' kept' openings' failures' buffer)
+          old.buffers.items b j code' had.there
+          (λ here.
+          let same : at.now.buffer ≡ buffer =
+          same_Some at.now.buffer buffer
+          (sym at.there ∙ ap (slice_get w.buffers) (sym here) ∙ there)
+          in
           record {
-            code = code;
-            there = ap (slice_get (slice_set old.buffers.items b code)) is
-                ∙ put_here old.buffers.items b (keeps.buffers j buffer there).code code
-                (ap (slice_get old.buffers.items) (sym is) ∙ (keeps.buffers j buffer there).there);
-            keeps = here buffer (ap (slice_get w.buffers) (sym is) ∙ there);
-          }
-      by j buffer there false e =
-          let was = keeps.buffers j buffer there in
+            history = is.history;
+            is_of_buffer = is.same ∙ same;
+            agrees = is.agrees;
+            is_said = is.said;
+            failed = ap failures' (number ∙ here ∙ sym at.number) ∙ is.failed;
+          })
+          (λ apart.
+          let of : had.keeps.history.buffer.number ≡ j =
+          ap (λ (b : places.Buffer). b.number) had.keeps.is_of_buffer ∙ number in
           record {
-            code = was.code;
-            there = put_there old.buffers.items b j code (eqb-false j b e) ∙ was.there;
-            keeps = others j buffer there (eqb-false j b e) was.code was.keeps;
-          }
+            history = had.keeps.history;
+            is_of_buffer = had.keeps.is_of_buffer;
+            agrees = had.keeps.agrees;
+            is_said = is.others had.keeps.history (λ e. apart (sym of ∙ e ∙ at.number))
+                had.keeps.is_said;
+            failed = is.unfailed buffer.number (λ e. apart (sym number ∙ e ∙ at.number))
+                ∙ had.keeps.failed;
+          }) in
+          record { code = now.0; there = now.1; keeps = now.2 };
+      placed_group_count = is.groups.count;
+      placed_groups = is.groups.each;
+    }
+
+    -- where it agrees with the same histories, all that is kept stays, but its device's failures
+    pub still : {failures' : ℕ → ℕ} → Follows (λ h. h) code code'
+        → failures' b ≡ g.failures (store_of code') → ((n : ℕ) → n ≢ b → failures' n ≡ failures n)
+        → PlacedGroupsKeep placed_groups.items w begun
+        → KeepsTexts trusted (with_buffer old b code' placed_groups) w begun kept openings failures'
+    still {failures'} follows here others groups = replaced (record {
+      history = at.now;
+      same = refl;
+      agrees = follows trusted at.now at.agrees;
+      said = at.said;
+      failed = ap failures' at.number ∙ here;
+      others = λ one apart said. said;
+      unfailed = λ n apart. others n (λ e. apart (e ∙ sym at.number));
+      fit = keeps.fit;
+      opened = keeps.opened;
+      groups = groups;
+    })
+
+-- THE FAILURES
+
+-- a device that has failed no less often
+pub rises : (failures : ℕ → ℕ) {b was now : ℕ} → failures b ≡ was → was ≤ now
+    → Rises failures (put_at failures b now)
+rises failures counted grown k = grind (arith, nat_tests)
+
+-- and one that has failed
+pub failed_once : (failures : ℕ → ℕ) {b was now : ℕ} → failures b ≡ was → was < now
+    → HasFailedAt b failures (put_at failures b now)
+failed_once failures {b} {was} {now} counted more = record {
+  rises = rises failures counted (omega (arith, more));
+  here = omega (arith, more, counted, put_at_here failures b now b refl);
+}
+
+-- THE CALLS OF THE DEVICES
+
+module _ {S : Type 0} {g : Ghosts S} (old : BufferSet S g) (i : ℕ) {code : Buffer S g}
+    (code' : Buffer S g) (is : slice_get old.buffers.items i ≡ Some code) where
+  -- no other is called
+  pub calls_no_other : (k : ℕ) → k ≢ i
+      → calls_at (with_buffer old i code' old.placed_groups) k ≡ calls_at old k
+  calls_no_other k apart = ap calls_of (put_there old.buffers.items i k code' apart)
+
+  -- at the buffer
+  here : calls_at (with_buffer old i code' old.placed_groups) i ≡ g.calls (store_of code')
+  here = ap calls_of (put_here old.buffers.items i code code' is)
+
+  -- where the buffer's device was called as often, so was each
+  pub calls_same : g.calls (store_of code') ≡ g.calls (store_of code)
+      → CallsNone old (with_buffer old i code' old.placed_groups)
+  calls_same same k = elim (cases_eq k i) [
+    | inl at ↦ rw at (here ∙ same ∙ sym (ap calls_of is))
+    | inr apart ↦ calls_no_other k apart
+  ]
+
+  -- where it was called once
+  pub called_once : {n : ℕ} → i ≡ n → g.calls (store_of code') ≡ g.calls (store_of code) + 1
+      → calls_at (with_buffer old i code' old.placed_groups) n ≡ calls_at old n + 1
+  called_once at once = rw (← at) (here ∙ once ∙ ap (λ k. k + 1) (sym (ap calls_of is)))

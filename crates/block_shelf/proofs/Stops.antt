@@ -1,117 +1,70 @@
--- What the stop of a buffer set leaves, buffer after buffer.
-use Rattle.std.proofs.Common.{◌≡◌, ◌∙◌, ℕ, ◌+◌, ◌<◌, Bool, true, false, arith, refl, sym, ap}
-use Rattle.std.proofs.Common.{List, [], ◌∷◌, ◌++◌, length, Option, None, Some, is_some, slice_get}
-use Rattle.std.proofs.Common.{subst, ◌==◌}
-use Rattle.std.proofs.lemmas.Bool.{eqb-false, eqb-true, true≢false}
+-- What the stop of a buffer set leaves, and its restart, buffer after buffer.
+use Rattle.std.proofs.Common.{◌≡◌, ◌∙◌, ℕ, ◌+◌, ◌<◌, Bool, true, false, arith, refl, sym, ap, List}
+use Rattle.std.proofs.Common.{[], ◌∷◌, ◌++◌, length, Option, None, Some, is_some, slice_get, subst}
+use Rattle.std.proofs.Common.{◌^◌, ◌≤◌, Result, Ok, Err, length-set}
+use Rattle.std.proofs.lemmas.Bool.{true≢false}
+use Rattle.std.proofs.lemmas.Bool.Decides.{nat_tests}
 use Rattle.std.proofs.lemmas.List.{length-append}
 use Rattle.std.proofs.lemmas.Option.{none-some, same_Some, slice_get_within}
 use Rattle.cyc_block.specs.declared.store.BlockStore.{Ghosts}
-use Rattle.cyc_buffer.specs.Agreement.{Agrees, store_of}
+use Rattle.cyc_buffer.specs.Agreement.{store_of, Agrees, Follows}
 use Rattle.cyc_buffer.specs.Head.{IsStopRefusal, LeavesBuffer, is_busy}
-use Rattle.cyc_buffer.specs.History.{History, Writing}
-use Rattle.cyc_buffer.specs.BufferState.{Writes}
+use Rattle.cyc_buffer.specs.History.{History}
 use Rattle.cyc_buffer.specs.declared.answers.BufError.{BufError}
-use Rattle.cyc_buffer.specs.declared.answers.BufError.TheVariants as errors
 use Rattle.cyc_buffer.specs.declared.buffer.Buffer.{Buffer}
-use Rattle.cyc_buffer.specs.declared.buffer_state.Progress.{Progress}
-use Rattle.news_terms.specs.Places as places
-use Rattle.relay_model.specs.State.{Kept}
+use Rattle.cyc_buffer.specs.Restart.{IsFromWithout, IsRestartRefusal}
+use Rattle.cyc_buffer.specs.declared.restarting.RestartError.{RestartError}
+use Rattle.news_terms.specs.Settings.{IsSoundBuffer}
+use Rattle.news_terms.proofs.ListPlaces.{holds_at}
+use Rattle.relay_facts.proofs.Puts.{put_at_here, put_at_there}
+use Rattle.relay_model.specs.State.{Kept, put_at}
 use Rattle.relay_model.specs.Terms.{Terms}
 use Rattle.block_shelf.proofs.EachLemmas.{each_so, one_more_each}
-use Rattle.block_shelf.proofs.BufferSetReads.{some_there}
+use Rattle.block_shelf.proofs.Shelving.{KeptAt, buffers_kept, kept_at, failed_once, groups_kept}
+use Rattle.block_shelf.proofs.Shelving.{put_both, rises, still, with_buffer}
+use Rattle.block_shelf.specs.Each.{AreEach}
 use Rattle.block_shelf.specs.Histories.{HasWriting, IsFree, IsBusy}
-use Rattle.block_shelf.specs.Keeping.{KeepsBuffer, KeepsTexts}
-use Rattle.block_shelf.specs.Openings.{Opening}
-use Rattle.block_shelf.specs.Stopping.{AreIdleTo}
-use Rattle.block_shelf.specs.Stopping.{AreIdle, AreShut, HoldsKept, IsBusyBufferSet, IsLeftOver}
+use Rattle.block_shelf.specs.Stopping.{AreIdleTo, AreShut, HoldsKept, IsBusyBufferSet, IsLeftOver}
 use Rattle.block_shelf.specs.Stopping.{IsShutOver, IsStopped}
 use Rattle.block_shelf.specs.declared.buffer_set.BufferSet.{BufferSet}
+use Rattle.block_shelf.specs.Keeping.{KeepsTexts}
+use Rattle.block_shelf.specs.Restarting.{AreRestarted, HaveRestarted, IsBusyRestart, IsOtherFault}
+use Rattle.block_shelf.specs.Restarting.{IsRestartedFrom, IsRestartedTo, KeepsOn, RestartsNext}
+use Rattle.block_shelf.specs.Restarting.{restart_fault}
+use Rattle.block_shelf.specs.declared.restarting.RestartFault.{RestartFault}
+use Rattle.block_shelf.specs.declared.restarting.RestartFault.TheVariants as faults
+
+-- THE STOP
 
 -- where no group has an open write, no history has
-pub nothing_written : (h : History) → HasWriting (λ k. None) h → h.writing ≡ None
-nothing_written h (IsFree none away) = none
-nothing_written h (IsBusy k one is named this) = absurd (none-some one is)
+nothing_written : {h : History} → HasWriting (λ k. None) h → h.writing ≡ None
+nothing_written (IsFree none away) = none
+nothing_written (IsBusy k one is named this) = absurd (none-some one is)
 
--- a buffer that agrees with a history without an open write has none
-pub idle_agrees : {S : Type 0} {g : Ghosts S} (trusted : Bool) (code : Buffer S g) (h : History)
-    → Agrees trusted code h → h.writing ≡ None → is_busy code ≡ false
-idle_agrees trusted code h agrees none =
-    by code.buffer_state.progress h.writing agrees.keeps.writing none
-  where
-    by : (p : Option Progress) (w : Option Writing) → Writes h p w → w ≡ None → is_some p ≡ false
-    by None w writes e = refl
-    by (Some p) None writes e = absurd writes
-    by (Some p) (Some w) writes e = absurd (none-some w (sym e))
-
--- what the code's buffer at a place keeps
-pub record KeptAt {S : Type 0} {g : Ghosts S} (trusted : Bool) (w : Terms) (begun : ℕ → List ℕ)
-    (kept : List Kept) (openings : ℕ → Option Opening) (failures : ℕ → ℕ) (b : ℕ)
-    (code : Buffer S g)
-    : Type 0 where
-  pub buffer : places.Buffer
-  pub there : slice_get w.buffers b ≡ Some buffer
-  pub keeps : KeepsBuffer trusted code w.groups begun kept openings failures buffer
-
-pub kept_at : {S : Type 0} {g : Ghosts S} (trusted : Bool) (buffer_set : BufferSet S g) (w : Terms)
-    (begun : ℕ → List ℕ) (kept : List Kept) (openings : ℕ → Option Opening) (failures : ℕ → ℕ)
-    → KeepsTexts trusted buffer_set w begun kept openings failures → (b : ℕ) (code : Buffer S g)
-    → slice_get buffer_set.buffers.items b ≡ Some code
-    → KeptAt trusted w begun kept openings failures b code
-kept_at trusted buffer_set w begun kept openings failures keeps b code is =
-    let one = some_there w.buffers b
-    (omega (arith, slice_get_within buffer_set.buffers.items b code is, keeps.count)) in
-    let had = keeps.buffers b one.0 one.1 in
-    record {
-      buffer = one.0;
-      there = one.1;
-      keeps = subst
-          (λ each. KeepsBuffer trusted each w.groups begun kept openings failures one.0)
-          (same_Some had.code code (sym had.there ∙ is)) had.keeps;
-    }
-
--- a buffer set that keeps what is said without an open write is idle
-pub idle_kept
-    : {S : Type 0} {g : Ghosts S} (trusted : Bool) (buffer_set : BufferSet S g) (w : Terms)
-    (begun : ℕ → List ℕ) (kept : List Kept) (failures : ℕ → ℕ)
-    → KeepsTexts trusted buffer_set w begun kept (λ h. None) failures → AreIdle buffer_set
-idle_kept trusted buffer_set w begun kept failures keeps b code is =
-    let at = kept_at trusted buffer_set w begun kept (λ h. None) failures keeps b code is in
-    idle_agrees trusted code at.keeps.history at.keeps.agrees
-    (nothing_written at.keeps.history at.keeps.is_said.writing)
+-- so its buffer has none
+pub idle_at : {S : Type 0} {g : Ghosts S} {trusted : Bool} {w : Terms} {begun : ℕ → List ℕ}
+    {kept : List Kept} {failures : ℕ → ℕ} {b : ℕ} {code : Buffer S g}
+    → KeptAt trusted w begun kept (λ h. None) failures b code → is_busy code ≡ false
+idle_at at = grind (arith, at.agrees.keeps.writing, nothing_written at.said.writing)
 
 -- a busy buffer makes the buffer set busy
 pub busy_buffer_set : {S : Type 0} {g : Ghosts S} (buffer_set : BufferSet S g) (b : ℕ)
-    (code : Buffer S g)
-    → slice_get buffer_set.buffers.items b ≡ Some code → is_busy code ≡ true
+    {code : Buffer S g} → slice_get buffer_set.buffers.items b ≡ Some code → is_busy code ≡ true
     → IsBusyBufferSet buffer_set
-busy_buffer_set buffer_set b code is busy = record {
+busy_buffer_set buffer_set b {code} is busy = record {
   at = b;
   code = code;
   there = is;
   busy = busy;
   writing = λ trusted w begun kept failures keeps.
-      true≢false (sym busy ∙ idle_kept trusted buffer_set w begun kept failures keeps b code is);
+      true≢false (sym busy ∙ idle_at (kept_at (buffers_kept keeps) is));
 }
 
 -- one buffer more in which no write is open
 pub idle_more : {S : Type 0} {g : Ghosts S} (buffer_set : BufferSet S g) (place : ℕ)
-    (code : Buffer S g)
-    → slice_get buffer_set.buffers.items place ≡ Some code → is_busy code ≡ false
-    → AreIdleTo buffer_set place → AreIdleTo buffer_set (place + 1)
-idle_more {S} {g} buffer_set place code is idle before b one less there = by (b == place) refl
-  where
-    by : (same : Bool) → (b == place) ≡ same → is_busy one ≡ false
-    by true e =
-        let same : code ≡ one =
-        same_Some code one
-        (sym is ∙ ap (slice_get buffer_set.buffers.items) (sym (eqb-true b place e)) ∙ there) in
-        subst (λ (each : Buffer S g). is_busy each ≡ false) same idle
-    by false e = before b one (omega (arith, less, eqb-false b place e)) there
-
--- an idle buffer set isn't busy
-pub idle_or_busy : {S : Type 0} {g : Ghosts S} (buffer_set : BufferSet S g) → AreIdle buffer_set
-    → IsBusyBufferSet buffer_set → ⊥
-idle_or_busy buffer_set idle is = true≢false (sym is.busy ∙ idle is.at is.code is.there)
+    {code : Buffer S g} → slice_get buffer_set.buffers.items place ≡ Some code
+    → is_busy code ≡ false → AreIdleTo buffer_set place → AreIdleTo buffer_set (place + 1)
+idle_more buffer_set place is idle before b one less there = grind (arith, before b one)
 
 -- the stores hold what the buffer set kept
 pub holds_kept : {S : Type 0} {g : Ghosts S} (stop : ℕ) (buffer_set : BufferSet S g)
@@ -139,63 +92,22 @@ holds_kept stop buffer_set stores shut w begun kept failures keeps = record {
 
 module _ {S : Type 0} {g : Ghosts S} (stop : ℕ) (code : Buffer S g) (before : List (Buffer S g))
     (old : List S) where
-  -- a buffer behind one that has failed gives its store
-  pub left_behind : (place : ℕ) → IsStopped stop before (Some place) old
-      → IsStopped stop (before ++ code ∷ []) (Some place) (old ++ store_of code ∷ [])
-  left_behind place had = (
-    omega (arith, had.0, length-append before (code ∷ [])),
-    one_more_each (IsLeftOver place) before old code (store_of code) had.1 (record {
-      honest = λ yes. yes;
-      count = refl;
-      failed = λ same. absurd (omega (arith, had.0, same));
-      others = λ apart. refl;
-    }),
-  )
-
-  -- the stop of a buffer is refused, in which no write is open
-  pub left_failed : (error : BufError) (code' : Buffer S g) → is_busy code ≡ false
-      → IsStopRefusal code error code' → LeavesBuffer code code' → (place : ℕ)
-      → place ≡ length old → IsStopped stop before None old
-      → IsStopped stop (before ++ code ∷ []) (Some place) (old ++ store_of code' ∷ [])
-  left_failed error code' idle refusal leaves place is had = (
-    omega (arith, is, had.count, length-append before (code ∷ [])),
-    one_more_each (IsLeftOver place) before old code (store_of code')
-        (each_so (IsShutOver stop) (IsLeftOver place) before old had (λ b one store there shut.
-        record {
-          honest = shut.honest;
-          count = shut.count;
-          failed = λ same. absurd (omega (
-            arith,
-            same,
-            is,
-            had.count,
-            slice_get_within before b one there,
-          ));
-          others = λ apart. shut.no_failure;
-        }))
-        (record {
-          honest = leaves.store.honest;
-          count = leaves.store.count;
-          failed = λ same. fails error refusal;
-          others = λ apart. absurd (apart (sym had.count ∙ sym is));
-        }),
-  )
-    where
-      fails : (error : BufError) → IsStopRefusal code error code'
-          → g.failures (store_of code) < g.failures (store_of code')
-      fails errors.TooBig refusal = absurd refusal
-      fails (errors.Worn fault) refusal = absurd refusal
-      fails errors.Busy refusal = absurd (true≢false (sym refusal.0 ∙ idle))
-      fails (errors.Device fault) refusal = refusal.2
-
-  -- the next buffer, where one has failed
+  -- the next buffer, where one has failed, gives its store
   pub stays_failed : (failed : Option ℕ) (store : S) (new : List S) → is_some failed ≡ true
       → store ≡ store_of code → new ≡ old ++ store ∷ [] → IsStopped stop before failed old
       → IsStopped stop (before ++ code ∷ []) failed new
   stays_failed None store new some is made had = absurd (true≢false (sym some))
-  stays_failed (Some place) store new some is made had =
-      subst (IsStopped stop (before ++ code ∷ []) (Some place))
-      (sym (made ∙ ap (λ one. old ++ one ∷ []) is)) (left_behind place had)
+  stays_failed (Some place) store new some is made had = (
+    omega (arith, had.0, length-append before (code ∷ [])),
+    subst (AreEach (IsLeftOver place) (before ++ code ∷ []))
+        (sym (made ∙ ap (λ one. old ++ one ∷ []) is))
+        (one_more_each (IsLeftOver place) before old code (store_of code) had.1 (record {
+          honest = λ yes. yes;
+          count = refl;
+          failed = λ same. absurd (omega (arith, had.0, same));
+          others = λ apart. refl;
+        })),
+  )
 
   -- where none has, and it is stopped
   pub stops_next : (failed : Option ℕ) (store : S) (new : List S) → is_some failed ≡ false
@@ -206,15 +118,207 @@ module _ {S : Type 0} {g : Ghosts S} (stop : ℕ) (code : Buffer S g) (before : 
       subst (IsStopped stop (before ++ code ∷ []) None) (sym made)
       (one_more_each (IsShutOver stop) before old code store had shut)
 
-  -- where none has, and it fails
+  -- where none has, and it fails, in which no write is open
   pub fails_next : (failed : Option ℕ) (error : BufError) (code' : Buffer S g) (store : S)
       (new : List S) (place : ℕ) → is_some failed ≡ false → is_busy code ≡ false
       → IsStopRefusal code error code' → LeavesBuffer code code' → place ≡ length old
       → store ≡ store_of code' → new ≡ old ++ store ∷ [] → IsStopped stop before failed old
       → IsStopped stop (before ++ code ∷ []) (Some place) new
-  fails_next (Some at) error code' store new place none idle refusal leaves is made_of made had =
-      absurd (true≢false none)
-  fails_next None error code' store new place none idle refusal leaves is made_of made had =
-      subst (IsStopped stop (before ++ code ∷ []) (Some place))
-      (sym (made ∙ ap (λ one. old ++ one ∷ []) made_of))
-      (left_failed error code' idle refusal leaves place is had)
+  fails_next (Some at) error code' store new place none idle refusal leaves is made_of made had = cc
+  fails_next None error code' store new place none idle refusal leaves is made_of made had = (
+    omega (arith, is, had.count, length-append before (code ∷ [])),
+    rw (made, made_of) (one_more_each (IsLeftOver place) before old code (store_of code')
+        (each_so had (λ b one store there at shut. record {
+          honest = shut.honest;
+          count = shut.count;
+          failed = λ same.
+              absurd (omega (arith, same, is, had.count, slice_get_within before b one there));
+          others = λ apart. shut.no_failure;
+        }))
+        (record {
+          honest = leaves.store.honest;
+          count = leaves.store.count;
+          failed = λ same. grind (arith, refusal, idle);
+          others = λ apart. absurd (apart (sym had.count ∙ sym is));
+        })),
+  )
+
+-- THE RESTART
+
+-- a fault that isn't Busy, of a buffer set that isn't
+pub not_busy : {S : Type 0} {g : Ghosts S} (old new : BufferSet S g) (fault : RestartFault)
+    → IsOtherFault fault → (IsBusyBufferSet old → ⊥) → IsBusyRestart old fault new
+not_busy old new faults.Busy other idle = absurd other
+not_busy old new fault other idle = idle
+
+-- a buffer set to which nothing was done
+pub stays_same : {S : Type 0} {g : Ghosts S} (old : BufferSet S g) → KeepsOn old (Ok tt) old
+stays_same old trusted w begun kept failures keeps = grind arith
+
+-- one that was restarted as far as a buffer, and goes on
+pub keeps_further : {S : Type 0} {g : Ghosts S} (first old new : BufferSet S g)
+    (result : Result (Unit {0}) RestartFault) → KeepsOn first (Ok tt) old → KeepsOn old result new
+    → KeepsOn first result new
+keeps_further first old new result before next trusted w begun kept failures keeps =
+    let a = before trusted w begun kept failures keeps in
+    let b = next trusted w begun kept a.later a.keeps in
+    record {
+      later = b.later;
+      rises = λ k. omega (arith, a.rises k, b.rises k);
+      keeps = b.keeps;
+      unfailed = λ done n. b.unfailed done n ∙ a.unfailed refl n;
+      free = b.free;
+      failed = λ number e yes.
+          let f = b.failed number e yes in
+          record {
+            buffer = f.buffer;
+            there = f.there;
+            failed = record {
+              rises = λ k. omega (arith, a.rises k, b.rises k);
+              here = omega (arith, a.rises f.buffer.number, f.failed.here);
+            };
+          };
+    }
+
+-- no error of a buffer's restart is told as Busy
+never_busy : (error : RestartError) (place : ℕ) → restart_fault error place ≡ faults.Busy → ⊥
+never_busy error place e = grind arith
+
+module _ {S : Type 0} {g : Ghosts S} (code code' : Buffer S g) where
+  -- the device hasn't failed less often
+  grown : (error : RestartError) → IsRestartRefusal code error code'
+      → g.failures (store_of code) ≤ g.failures (store_of code')
+  grown error refusal = grind arith
+
+  -- over an honest store a refusal that isn't for memory is for a device that failed, whose number
+  -- it tells
+  fails : (error : RestartError) (place number : ℕ) → IsRestartRefusal code error code'
+      → IsFromWithout error → is_busy code ≡ false
+      → restart_fault error place ≡ faults.Failed number
+      → (number ≡ place) × (g.failures (store_of code) < g.failures (store_of code'))
+  fails error place number refusal without idle told = grind arith
+
+module _ {S : Type 0} {g : Ghosts S} (old : BufferSet S g) (place : ℕ) {code code' : Buffer S g}
+    (there : slice_get old.buffers.items place ≡ Some code) (same : Follows (λ h. h) code code')
+  where
+    module _ {trusted : Bool} {w : Terms} {begun : ℕ → List ℕ} {kept : List Kept}
+        {failures : ℕ → ℕ} (keeps : KeepsTexts trusted old w begun kept (λ h. None) failures) where
+      at : KeptAt trusted w begun kept (λ h. None) failures place code
+      at = kept_at (buffers_kept keeps) there
+
+      stays : KeepsTexts trusted (with_buffer old place code' old.placed_groups) w begun kept
+          (λ h. None) (put_at failures place (g.failures (store_of code')))
+      stays =
+          still keeps at same
+          (put_at_here failures place (g.failures (store_of code')) place refl)
+          (λ n apart. put_at_there failures place (g.failures (store_of code')) n apart)
+          (groups_kept keeps)
+
+    -- the buffer set keeps on, where the buffer is restarted
+    pub keeps_done : g.failures (store_of code') ≡ g.failures (store_of code)
+        → KeepsOn old (Ok tt) (with_buffer old place code' old.placed_groups)
+    keeps_done none trusted w begun kept failures keeps = record {
+      later = put_at failures place (g.failures (store_of code'));
+      rises = rises failures (at keeps).failed (omega (arith, none));
+      keeps = stays keeps;
+      unfailed = λ done n. grind (arith, nat_tests, none, (at keeps).failed);
+      free = λ e. cc;
+      failed = λ number e yes. cc;
+    }
+
+    -- and where it isn't
+    pub keeps_refused : (error : RestartError) (fault : RestartFault)
+        → IsRestartRefusal code error code'
+        → ((h : History) → Agrees true code h → IsFromWithout error)
+        → (place < 2 ^ 8 → fault ≡ restart_fault error place)
+        → KeepsOn old (Err fault) (with_buffer old place code' old.placed_groups)
+    keeps_refused error fault refusal cause is_fault trusted w begun kept failures keeps =
+        let one = at keeps in
+        let is : fault ≡ restart_fault error place =
+        is_fault (omega (
+          arith,
+          (holds_at IsSoundBuffer w.buffers keeps.sound.buffers place one.now.buffer
+              one.there).number,
+          one.number,
+        )) in
+        record {
+          later = put_at failures place (g.failures (store_of code'));
+          rises = rises failures one.failed (grown code code' error refusal);
+          keeps = stays keeps;
+          unfailed = λ done n. cc;
+          free = λ e. never_busy error place (cc);
+          failed = λ number e yes.
+              let told = fails code code' error place number refusal
+              (cause one.now (subst (λ t. Agrees t code one.now) yes one.agrees))
+              (idle_at one) (cc) in
+              record {
+                buffer = one.now.buffer;
+                there = ap (slice_get w.buffers) told.0 ∙ one.there;
+                failed = rw one.number (failed_once failures one.failed told.1);
+              };
+        }
+
+    -- one buffer more is restarted
+    pub one_restarted : (stop : ℕ) → IsRestartedFrom stop place code code'
+        → RestartsNext stop place old (with_buffer old place code' old.placed_groups)
+    one_restarted stop is first had = record {
+      each = record {
+        count = length-set old.buffers.items place code' ∙ had.each.count;
+        each = λ b one at_one.
+            let was = had.each.each b one at_one in
+            let now =
+            put_both (IsRestartedTo stop (place + 1) b one) old.buffers.items place b code'
+            was.there
+            (λ here.
+            let item : was.item ≡ code =
+            same_Some was.item code
+            (sym was.there ∙ ap (slice_get old.buffers.items) here ∙ there) in
+            record {
+              before = λ less.
+                  rw (here, sym (was.belongs.behind (omega (arith, here))) ∙ item) is;
+              behind = λ more. absurd (omega (arith, more, here));
+            })
+            (λ apart. record {
+              before = λ less. was.belongs.before (omega (arith, less, apart));
+              behind = λ more. was.belongs.behind (omega (arith, more));
+            }) in
+            record { item = now.0; there = now.1; belongs = now.2 };
+      };
+      placed_groups = had.placed_groups;
+    }
+
+-- past the last buffer there is nothing to restart
+pub none_restarted : {S : Type 0} {g : Ghosts S} (stop place : ℕ) (old : BufferSet S g)
+    → length old.buffers.items ≤ place → RestartsNext stop place old old
+none_restarted stop place old past first had = record {
+  each = each_so had.each (λ b one item there at was. record {
+    before = λ less. was.before (omega (arith, past, slice_get_within old.buffers.items b item at));
+    behind = λ more. was.behind (omega (arith, more));
+  });
+  placed_groups = had.placed_groups;
+}
+
+-- before the first buffer nothing is restarted yet
+pub nothing_restarted : {S : Type 0} {g : Ghosts S} (stop : ℕ) (old : BufferSet S g)
+    → HaveRestarted stop 0 old old
+nothing_restarted stop old = record {
+  each = record {
+    count = refl;
+    each = λ b one is. record {
+      item = one;
+      there = is;
+      belongs = record { before = λ less. absurd (omega (arith, less)); behind = λ more. refl };
+    };
+  };
+  placed_groups = refl;
+}
+
+-- behind the last buffer all are
+pub all_restarted : {S : Type 0} {g : Ghosts S} (stop place : ℕ) (old new : BufferSet S g)
+    → length old.buffers.items ≤ place → HaveRestarted stop place old new
+    → AreRestarted stop old new
+all_restarted stop place old new past had = record {
+  each = each_so had.each (λ b one item there at was. was.before
+      (omega (arith, past, slice_get_within old.buffers.items b one there)));
+  placed_groups = had.placed_groups;
+}

@@ -14,14 +14,7 @@ returns-in-Ok-clause-stops g c = λ before idle had.
     stops_next c.args.stop c.args.buffer before c.args.stores.now.items c.args.failed
     c.in-Ok.store c.push_reserved-in-Ok.new.self.items
     (sym c.is_some.ensures ∙ c.if-is_some.false) c.push_reserved-in-Ok.ensures.items
-    (record {
-      held = c.in-Ok.ensures.held;
-      honest = c.in-Ok.ensures.honest;
-      count = c.in-Ok.ensures.count;
-      calls = c.in-Ok.ensures.calls;
-      no_failure = c.in-Ok.ensures.no_failure;
-    })
-    had
+    (assumption c.in-Ok.ensures) had
 
 pub returns-in-Err-clause-stops : goal.returns-in-Err-clause-stops
 returns-in-Err-clause-stops g c = λ before idle had.

@@ -1,14 +1,5 @@
-use Rattle.std.proofs.Common.{arith}
-use Rattle.block_shelf.proofs.NewBufferSet.{nothing_kept, same_count}
+use Rattle.block_shelf.proofs.NewBufferSet.{nothing_kept}
 use Rattle.block_shelf.proofs.buffer_set.BufferSet.new.Goals as goal
-
-pub new_buffers-requires : goal.new_buffers-requires
-new_buffers-requires g c =
-    omega (
-      arith,
-      c.args.settings.now.few_buffers,
-      same_count g.S.BlockStore c.args.settings.now c.args.stores.items c.requires,
-    )
 
 pub returns-clause-nothing : goal.returns-clause-nothing
 returns-clause-nothing g c = λ trusted honest w all groups.

@@ -1,6 +1,5 @@
 use Rattle.std.proofs.Common.{Ok, Err, arith}
-use Rattle.block_shelf.proofs.Restarts.{all_restarted, keeps_further, nothing_restarted}
-use Rattle.block_shelf.proofs.Restarts.{stays_same}
+use Rattle.block_shelf.proofs.Stops.{all_restarted, keeps_further, nothing_restarted, stays_same}
 use Rattle.block_shelf.proofs.buffer_set.BufferSet.restart.Goals as goal
 
 pub loop-place-init : goal.loop-place-init
