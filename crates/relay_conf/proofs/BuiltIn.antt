@@ -1,47 +1,34 @@
 -- The texts of the built-in configuration say what K1 is.
-use Rattle.std.proofs.Common.{◌≡◌, ℕ, List, [], ◌∷◌, map, Result, Ok, Err, refl, subst, lit<}
+use Rattle.std.proofs.Common.{◌≡◌, ℕ, List, [], ◌∷◌, map, Option, Result, Ok, Err, refl, lit<}
 use Rattle.std.specs.Prelude.{codes, IfOk, IfErr}
 use Rattle.std.specs.Global.{Vec}
 use Rattle.news_terms.specs.Pattern.{IsExpressionText}
 use Rattle.relay_conf.specs.declared.settings.Buffers.{Buffers}
 use Rattle.relay_conf.specs.declared.faults.ConfError.{ConfError}
 use Rattle.relay_conf.specs.declared.faults.ConfError.TheVariants.{Memory, Faulty}
+use Rattle.relay_conf.specs.declared.faults.Fault.{Fault}
+use Rattle.relay_conf.specs.declared.faults.LineFault.{LineFault}
 use Rattle.relay_conf.specs.declared.settings.Relay.{Relay}
 use Rattle.relay_conf.specs.declared.settings.StorageEntry.{StorageEntry}
 use Rattle.relay_conf.specs.Cycbuff.{CycbuffSettings, cycbuff_of}
 use Rattle.relay_conf.specs.Faults.{ConfGives}
 use Rattle.relay_conf.specs.K1.{k1_buffers, every_newsgroup, k1_entries, k1_relay}
+use Rattle.relay_conf.specs.LineByLine.{SayTogether, LinesGive}
+use Rattle.relay_conf.specs.Relay.{early_fault, relay_said}
 use Rattle.relay_conf.specs.RelayLines as relay
 use Rattle.relay_conf.specs.RelayViews.{RelayGives, HasSettings, relay_view}
 use Rattle.relay_conf.specs.Settings.{buffers_view}
 use Rattle.relay_conf.specs.Storage.{entry_view}
+use Rattle.relay_conf.specs.StorageFile as files
 use Rattle.relay_conf.specs.StorageLines as storage
 use Rattle.relay_conf.specs.StorageViews.{StorageGives, HasEntries}
-use Rattle.relay_conf.proofs.OneRelay.{one_settings, settings_without_fault}
-use Rattle.relay_conf.proofs.OneStorage.{one_list, entries_without_fault}
+use Rattle.relay_conf.proofs.OneReading.{HaveOneReading}
+use Rattle.relay_conf.proofs.OneRelay.{relay_one}
+use Rattle.relay_conf.proofs.OneStorage.{storage_one}
 
 -- the lines of cycbuff.conf in K1
 abbrev pub cycbuff_lines : List (List ℕ)
 cycbuff_lines = codes "cycbuff:A:a.buf:4" ∷ codes "metacycbuff:G:A" ∷ [] ∷ []
-
--- They say the buffers of K1.
-pub cycbuff_has_buffers : cycbuff_of cycbuff_lines ≡ Ok k1_buffers
-cycbuff_has_buffers = refl
-
--- What is read of them are the buffers of K1,
-pub buffers_are_k1 : (result : Result Buffers ConfError)
-    → ConfGives buffers_view result (cycbuff_of cycbuff_lines)
-    → IfOk result (λ buffers. buffers_view buffers ≡ k1_buffers)
-buffers_are_k1 (Ok buffers) h = cc
-buffers_are_k1 (Err error) h = tt
-
--- unless memory ran out.
-pub buffers_fail_by_memory : (result : Result Buffers ConfError)
-    → ConfGives buffers_view result (cycbuff_of cycbuff_lines)
-    → IfErr result (λ error. error ≡ Memory)
-buffers_fail_by_memory (Ok buffers) h = tt
-buffers_fail_by_memory (Err Memory) h = refl
-buffers_fail_by_memory (Err (Faulty fault)) h = cc
 
 -- `*` is the expression that each newsgroup matches.
 star_is_every_newsgroup : IsExpressionText (codes "*") every_newsgroup
@@ -63,21 +50,6 @@ relay_has_settings = record {
   says = (refl, (refl, (refl, ((every_newsgroup, star_is_every_newsgroup, refl), (refl, tt)))));
   gives = refl;
 }
-
--- What is read of them are the settings of K1,
-pub relay_is_k1 : (result : Result Relay ConfError) → RelayGives result relay_lines
-    → IfOk result (λ settings. relay_view settings ≡ k1_relay)
-relay_is_k1 (Ok settings) h = one_settings relay_lines
-    (relay_view settings) k1_relay h relay_has_settings
-relay_is_k1 (Err error) h = tt
-
--- unless memory ran out.
-pub relay_fails_by_memory : (result : Result Relay ConfError) → RelayGives result relay_lines
-    → IfErr result (λ error. error ≡ Memory)
-relay_fails_by_memory (Ok settings) h = tt
-relay_fails_by_memory (Err Memory) h = refl
-relay_fails_by_memory (Err (Faulty fault)) h =
-    absurd (settings_without_fault relay_lines k1_relay fault relay_has_settings h)
 
 -- the lines of storage.conf in K1
 abbrev pub storage_lines : List (List ℕ)
@@ -104,30 +76,50 @@ storage_has_entries = record {
   gives = refl;
 }
 
--- Over the buffers of K1 they are read over its groups.
-over_k1 : (result : Result (Vec StorageEntry) ConfError) (known : CycbuffSettings)
-    → known ≡ k1_buffers
-    → StorageGives result known.groups storage_lines
-    → StorageGives result k1_buffers.groups storage_lines
-over_k1 result known same h =
-    subst (λ (known : CycbuffSettings). StorageGives result known.groups storage_lines) same h
+-- WHAT IS READ
 
--- What is read of them are the entries of K1,
-pub entries_are_k1 : (result : Result (Vec StorageEntry) ConfError) (known : CycbuffSettings)
-    → known ≡ k1_buffers → StorageGives result known.groups storage_lines
-    → IfOk result (λ storage_entries. map entry_view storage_entries.items ≡ k1_entries)
-entries_are_k1 (Ok storage_entries) known same h =
-    one_list k1_buffers.groups storage_lines (map entry_view storage_entries.items) k1_entries
-    (over_k1 (Ok storage_entries) known same h) storage_has_entries
-entries_are_k1 (Err error) known same h = tt
+-- the answer is these settings, unless memory ran out
+pub record IsRead {A T : Type 0} (view : A → T) (settings : T) (result : Result A ConfError)
+    : Type 0 where
+  pub gives : IfOk result (λ said. view said ≡ settings)
+  pub memory : IfErr result (λ error. error ≡ Memory)
 
--- unless memory ran out.
-pub entries_fail_by_memory
-    : (result : Result (Vec StorageEntry) ConfError) (known : CycbuffSettings)
+-- What is read of lines that have settings is these.
+is_read : {A S T : Type 0} (view : A → T) (Says : List S → List ℕ → S → Type 0)
+    (wrong : List S → S → Option Fault) (together : List S → Result T LineFault)
+    → HaveOneReading Says wrong together → (lines : List (List ℕ)) (settings : T)
+    → SayTogether Says together lines (Ok settings) → (result : Result A ConfError)
+    → LinesGive view Says wrong together result lines → IsRead view settings result
+is_read view Says wrong together one lines settings has (Ok said) h =
+    record { gives = one.settings lines (view said) settings h has; memory = tt }
+is_read view Says wrong together one lines settings has (Err Memory) h =
+    record { gives = tt; memory = refl }
+is_read view Says wrong together one lines settings has (Err (Faulty fault)) h =
+    absurd (one.either lines settings fault has h)
+
+-- So it is with those of cycbuff.conf,
+pub buffers_are_read : (result : Result Buffers ConfError)
+    → ConfGives buffers_view result (cycbuff_of cycbuff_lines)
+    → IsRead buffers_view k1_buffers result
+buffers_are_read (Ok buffers) h = record { gives = cc; memory = tt }
+buffers_are_read (Err Memory) h = record { gives = tt; memory = refl }
+buffers_are_read (Err (Faulty fault)) h = cc
+
+-- of relay.conf,
+pub relay_is_read : (result : Result Relay ConfError) → RelayGives result relay_lines
+    → IsRead relay_view k1_relay result
+relay_is_read result h =
+    is_read relay_view relay.LineSays early_fault relay_said relay_one relay_lines k1_relay
+    relay_has_settings result h
+
+-- and of storage.conf, over the buffers of K1.
+pub entries_are_read : (result : Result (Vec StorageEntry) ConfError) (known : CycbuffSettings)
     → known ≡ k1_buffers → StorageGives result known.groups storage_lines
-    → IfErr result (λ error. error ≡ Memory)
-entries_fail_by_memory (Ok storage_entries) known same h = tt
-entries_fail_by_memory (Err Memory) known same h = refl
-entries_fail_by_memory (Err (Faulty fault)) known same h =
-    absurd (entries_without_fault k1_buffers.groups storage_lines k1_entries fault
-    storage_has_entries (over_k1 (Err (Faulty fault)) known same h))
+    → IsRead (λ (storage_entries : Vec StorageEntry). map entry_view storage_entries.items)
+    k1_entries result
+entries_are_read result known same h =
+    let groups = k1_buffers.groups in
+    is_read (λ (storage_entries : Vec StorageEntry). map entry_view storage_entries.items)
+    files.LineSays (files.early_fault groups) (files.storage_said groups) (storage_one groups)
+    storage_lines k1_entries storage_has_entries result
+    (rw same at h)

@@ -1,9 +1,8 @@
 -- cycbuff.conf line by line: the buffers, the names of groups and the groups so far.
-use Rattle.std.proofs.Common.{◌≡◌, ◌≢◌, ℕ, List, [], ◌∷◌, ◌++◌, length, map, Option, Some, None}
-use Rattle.std.proofs.Common.{Result, Ok, Err, refl, ap, ◌∙◌, sym, subst, arith}
+use Rattle.std.proofs.Common.{◌≡◌, ◌≢◌, ℕ, List, [], ◌∷◌, ◌++◌, length, map, Option, None, Result}
+use Rattle.std.proofs.Common.{Ok, Err, refl, ap, ◌∙◌, sym, arith}
 use Rattle.std.specs.Prelude.{IsErrAnd, OnOk}
 use Rattle.std.specs.Option.{option_to_list}
-use Rattle.std.proofs.lemmas.List.{map-append}
 use Rattle.relay_conf.specs.declared.cycbuff.BufferConf.{BufferConf}
 use Rattle.relay_conf.specs.declared.cycbuff.BufferDraft.{BufferDraft}
 use Rattle.relay_conf.specs.declared.cycbuff.GroupDraft.{GroupDraft}
@@ -13,42 +12,40 @@ use Rattle.relay_conf.specs.declared.faults.LineFault.{LineFault}
 use Rattle.relay_conf.specs.declared.faults.ConfError.{ConfError}
 use Rattle.relay_conf.specs.declared.faults.ConfError.TheVariants as errors
 use Rattle.relay_conf.specs.declared.faults.Refusal.{Refusal}
+use Rattle.relay_conf.specs.declared.settings.Buffers.{Buffers}
 use Rattle.relay_conf.specs.declared.faults.Refusal.TheVariants.{Memory, Faulty}
 use Rattle.relay_conf.specs.Cycbuff.{CycbuffLine, CycbuffSettings, Group, cycbuff_line, early_fault}
 use Rattle.relay_conf.specs.Cycbuff.{late_fault, line_fault, listed_fault, buffers_of, buffer_of}
 use Rattle.relay_conf.specs.Cycbuff.{group_names, group_name_of, groups_of, group_of}
 use Rattle.relay_conf.specs.Cycbuff.{no_group_fault, buffers_said, groups_said, cycbuff_said}
+use Rattle.relay_conf.specs.Cycbuff.{cycbuff_of}
 use Rattle.relay_conf.specs.CycbuffDraft.{LineSays, HasBuffers, HasGroups}
 use Rattle.relay_conf.specs.Drafts.{StepGives, IsDrawnFrom, DraftGives}
 use Rattle.relay_conf.specs.Faults.{first_fault, whole_fault, unless_fault, ConfGives, LineGives}
-use Rattle.relay_conf.specs.LineByLine.{SayEach, HasEarlyFault}
+use Rattle.relay_conf.specs.LineByLine.{SayEach}
 use Rattle.relay_conf.specs.Places.{group_view}
 use Rattle.relay_conf.specs.Settings.{buffers_view}
-use Rattle.relay_conf.proofs.FirstFaults.{fault_stays, filter_one}
+use Rattle.relay_conf.proofs.FirstFaults.{filter_one}
+use Rattle.relay_conf.proofs.OneReading.{IsOne, early_first, said_is, say, saying}
 
 -- WHAT LINES SAY
 
--- Lines say what each of them says alone.
-said_alone : (before : List (Result CycbuffLine Fault)) (lines : List (List ℕ))
-    (said : List (Result CycbuffLine Fault)) → SayEach LineSays before lines said
-    → said ≡ map cycbuff_line lines
-said_alone before [] [] h = refl
-said_alone before [] (one ∷ said) h = absurd h
-said_alone before (line ∷ lines) [] h = absurd h
-said_alone before (line ∷ lines) (one ∷ said) h =
-    rw (h.0, said_alone (before ++ one ∷ []) lines said h.1) refl
+-- A line says one thing, whatever stands before it.
+abbrev pub alone : (before : List (Result CycbuffLine Fault)) (line : List ℕ)
+    → IsOne (LineSays before line)
+alone before line = record { one = cycbuff_line line; is = refl; only = λ other h. h }
 
--- A first fault of some lines is that of all of them.
-fault_of_all : (wrong : List (Result CycbuffLine Fault) → Result CycbuffLine Fault → Option Fault)
-    (lines : List (List ℕ)) (fault : LineFault) → HasEarlyFault LineSays wrong lines fault
-    → first_fault wrong [] (map cycbuff_line lines) ≡ Some fault
-fault_of_all wrong lines fault h =
-    let all : map cycbuff_line lines ≡ h.said ++ map cycbuff_line h.rest =
-    ap (map cycbuff_line) h.split ∙ map-append cycbuff_line h.read h.rest
-    ∙ ap (λ (front : List (Result CycbuffLine Fault)). front ++ map cycbuff_line h.rest)
-    (sym (said_alone [] h.read h.said h.says)) in
-    ap (first_fault wrong []) all
-    ∙ fault_stays wrong [] h.said (map cycbuff_line h.rest) fault h.first
+-- Lines say what each of them says alone.
+pub saying_alone : (before : List (Result CycbuffLine Fault)) (lines : List (List ℕ))
+    → saying (say LineSays alone) before lines ≡ map cycbuff_line lines
+saying_alone before [] = refl
+saying_alone before (line ∷ lines) =
+    ap (λ (said : List (Result CycbuffLine Fault)). cycbuff_line line ∷ said)
+    (saying_alone (before ++ cycbuff_line line ∷ []) lines)
+
+said_alone : (lines : List (List ℕ)) (said : List (Result CycbuffLine Fault))
+    → SayEach LineSays [] lines said → said ≡ map cycbuff_line lines
+said_alone lines said h = said_is LineSays alone [] lines said h ∙ saying_alone [] lines
 
 -- An error of a draft is that of what the lines say with what follows.
 pub draft_error : {T S D : Type 0} (view : T → S)
@@ -58,18 +55,12 @@ pub draft_error : {T S D : Type 0} (view : T → S)
     → IsErrAnd result (λ e. e ≡ error) → DraftGives LineSays wrong Draws lines (Err error)
     → ConfGives view result (unless_fault (first_fault wrong [] (map cycbuff_line lines)) after)
 draft_error view wrong Draws lines error (Ok settings) after is gives = absurd is
-draft_error {T} {S} view wrong Draws lines error (Err e) after is gives =
-    subst (λ (e : ConfError). ConfGives view (Err e) said) (sym is) (by_error error gives)
-  where
-    said : Result S LineFault
-    said = unless_fault (first_fault wrong [] (map cycbuff_line lines)) after
-
-    by_error : (e : ConfError) → DraftGives LineSays wrong Draws lines (Err e)
-        → ConfGives view (Err e) said
-    by_error errors.Memory gives = tt
-    by_error (errors.Faulty fault) gives =
-        ap (λ (first : Option LineFault). unless_fault first after)
-        (fault_of_all wrong lines fault gives)
+draft_error view wrong Draws lines error (Err errors.Memory) after is gives = tt
+draft_error view wrong Draws lines error (Err (errors.Faulty fault)) after is gives =
+    ap (λ (first : Option LineFault). unless_fault first after)
+    (ap (first_fault wrong []) (sym (saying_alone [] lines))
+    ∙ early_first LineSays alone wrong lines fault
+    (rw (← is) at gives))
 
 -- THE BUFFERS AND THE NAMES OF GROUPS
 
@@ -88,14 +79,8 @@ buffers_step line d after (Ok done) gives more names said has =
       says = refl;
       none = rw (← has.buffers, ← has.names) gives;
       draws = record {
-        buffers = more
-            ∙ ap (λ (bs : List BufferConf). bs ++ option_to_list (buffer_of (cycbuff_line line)))
-            has.buffers
-            ∙ sym (filter_one buffer_of said (cycbuff_line line));
-        names = names
-            ∙ ap (λ (ns : List (List ℕ)).
-            ns ++ option_to_list (group_name_of (cycbuff_line line))) has.names
-            ∙ sym (filter_one group_name_of said (cycbuff_line line));
+        buffers = rw (filter_one buffer_of said (cycbuff_line line), ← has.buffers) more;
+        names = rw (filter_one group_name_of said (cycbuff_line line), ← has.names) names;
       };
     }
 buffers_step line d after (Err Memory) gives more names said has = tt
@@ -106,52 +91,28 @@ buffers_step line d after (Err (Faulty fault)) gives more names said has =
       found = rw (← has.buffers, ← has.names) gives;
     }
 
--- a file without a group, by what its names are
-abbrev pub WithNames : List (List ℕ) → List (Result CycbuffLine Fault) → Type 0
-WithNames [] said = buffers_said said ≡ Err (record { line = 0; fault = NoBuffers })
-WithNames (name ∷ more) said = buffers_said said ≡ Ok (buffers_of said)
-
--- At the end the names decide.
+-- At the end the names decide: without one there is a fault of the whole file.
 pub names_decide : (lines : List (List ℕ)) (d : BufferDraft)
     → IsDrawnFrom LineSays early_fault HasBuffers lines d
-    → WithNames d.names.items (map cycbuff_line lines)
-    × (d.buffers.items ≡ buffers_of (map cycbuff_line lines))
+    → (length d.names.items ≡ 0 → buffers_said (map cycbuff_line lines)
+    ≡ Err (record { line = 0; fault = NoBuffers }))
+    × (length d.names.items ≢ 0 → buffers_said (map cycbuff_line lines) ≡ Ok d.buffers.items)
 names_decide lines d from =
-    let all = said_alone [] lines from.said from.says in (
-      by_names d.names.items (from.draws.names ∙ ap group_names all)
-          (ap (first_fault early_fault []) (sym all) ∙ from.none),
-      from.draws.buffers ∙ ap buffers_of all,
-    )
+    let all = said_alone lines from.said from.says in
+    let decided = by_names d.names.items (from.draws.names ∙ ap group_names all)
+    (ap (first_fault early_fault []) (sym all) ∙ from.none) in
+    (decided.0, λ some. decided.1 some ∙ ap Ok (sym (from.draws.buffers ∙ ap buffers_of all)))
   where
     by_names : (ns : List (List ℕ)) → ns ≡ group_names (map cycbuff_line lines)
         → first_fault early_fault [] (map cycbuff_line lines) ≡ None
-        → WithNames ns (map cycbuff_line lines)
-    by_names [] e none = rw (none, ← e) refl
-    by_names (name ∷ more) e none = rw (none, ← e) refl
-
--- Without names there is a fault of the whole file.
-pub without_names : (names : List (List ℕ)) (said : List (Result CycbuffLine Fault))
-    → length names ≡ 0 → WithNames names said
-    → buffers_said said ≡ Err (record { line = 0; fault = NoBuffers })
-without_names [] said e h = h
-without_names (name ∷ more) said e h = absurd (omega (arith, e))
-
--- With names there is none.
-pub with_names : (names : List (List ℕ)) (said : List (Result CycbuffLine Fault))
-    → length names ≢ 0 → WithNames names said → buffers_said said ≡ Ok (buffers_of said)
-with_names [] said e h = absurd (e refl)
-with_names (name ∷ more) said e h = h
+        → (length ns ≡ 0 → buffers_said (map cycbuff_line lines)
+        ≡ Err (record { line = 0; fault = NoBuffers }))
+        × (length ns ≢ 0 → buffers_said (map cycbuff_line lines)
+        ≡ Ok (buffers_of (map cycbuff_line lines)))
+    by_names [] e none = (λ n. rw (none, ← e) refl, λ n. absurd (n refl))
+    by_names (name ∷ more) e none = (λ n. absurd (omega (arith, n)), λ n. rw (none, ← e) refl)
 
 -- THE GROUPS
-
--- What is wrong with a line behind these is what is wrong with it behind the draft.
-late_at : (known : List BufferConf) (said : List (Result CycbuffLine Fault)) (d : GroupDraft)
-    (line : Result CycbuffLine Fault) → HasGroups known said d
-    → late_fault known said line
-    ≡ listed_fault d.buffers.now (map group_view d.groups.items) line
-late_at known said d line has =
-    ap (λ (bs : List BufferConf). listed_fault bs (groups_of known said) line) (sym has.over)
-    ∙ ap (λ (gs : List Group). listed_fault d.buffers.now gs line) (sym has.groups)
 
 -- One line more, by whether it has a fault.
 pub groups_step : (line : List ℕ) (d after : GroupDraft) (result : Result (Unit {0}) Refusal)
@@ -166,15 +127,11 @@ groups_step line d after (Ok done) same gives more known said has =
     record {
       one = cycbuff_line line;
       says = refl;
-      none = late_at known said d (cycbuff_line line) has ∙ gives;
+      none = rw (← has.groups, ← has.over) gives;
       draws = record {
         over = sym same ∙ has.over;
-        groups = more
-            ∙ ap (λ (gs : List Group).
-            gs ++ option_to_list (group_of d.buffers.now (cycbuff_line line))) has.groups
-            ∙ ap (λ (bs : List BufferConf).
-            groups_of known said ++ option_to_list (group_of bs (cycbuff_line line))) has.over
-            ∙ sym (filter_one (group_of known) said (cycbuff_line line));
+        groups = rw (filter_one (group_of known) said (cycbuff_line line), ← has.groups, ← has.over)
+            more;
       };
     }
 groups_step line d after (Err Memory) same gives more known said has = tt
@@ -182,7 +139,7 @@ groups_step line d after (Err (Faulty fault)) same gives more known said has =
     record {
       one = cycbuff_line line;
       says = refl;
-      found = late_at known said d (cycbuff_line line) has ∙ gives;
+      found = rw (← has.groups, ← has.over) gives;
     }
 
 -- At the end the groups are those of all lines.
@@ -190,77 +147,88 @@ pub groups_done : (known : List BufferConf) (lines : List (List ℕ)) (d : Group
     → IsDrawnFrom LineSays (late_fault known) (HasGroups known) lines d
     → groups_said known (map cycbuff_line lines) ≡ Ok (map group_view d.groups.items)
 groups_done known lines d from =
-    let all = said_alone [] lines from.said from.says in
+    let all = said_alone lines from.said from.says in
     rw (← all, from.none) (ap Ok (sym from.draws.groups))
 
 -- THE FILE
 
--- A fault before those that are looked for after the last line is that of the whole.
-fault_before : {S T : Type 0} (early whole : Option LineFault) (settings : S)
-    (after : Result T LineFault) (fault : LineFault)
-    → unless_fault early (unless_fault whole (Ok settings)) ≡ Err fault
-    → unless_fault early (unless_fault whole after) ≡ Err fault
-fault_before None None settings after fault e = cc
-fault_before None (Some found) settings after fault e = cc
-fault_before (Some found) whole settings after fault e = cc
+-- what follows what is said, or its fault
+abbrev and_then : {S T : Type 0} → Result S LineFault → (S → Result T LineFault)
+    → Result T LineFault
+and_then (Err fault) next = Err fault
+and_then (Ok said) next = next said
 
--- Without one, what is looked for after the last line decides.
-rest_decides : {S T : Type 0} (early whole : Option LineFault) (settings said : S)
-    (after : Result T LineFault)
-    → unless_fault early (unless_fault whole (Ok settings)) ≡ Ok said
-    → (unless_fault early (unless_fault whole after) ≡ after) × (settings ≡ said)
-rest_decides None None settings said after e = (refl, cc)
-rest_decides None (Some found) settings said after e = cc
-rest_decides (Some found) whole settings said after e = cc
+-- What follows a trial follows what is behind it.
+unless_then : {S T : Type 0} (fault : Option LineFault) (said : Result S LineFault)
+    (next : S → Result T LineFault)
+    → and_then (unless_fault fault said) next ≡ unless_fault fault (and_then said next)
+unless_then fault said next = grind arith
+
+-- settings of these buffers and groups
+abbrev with_groups : List BufferConf → List Group → Result CycbuffSettings LineFault
+with_groups buffers groups = Ok (record { buffers = buffers; groups = groups })
+
+-- what lines say, with these buffers
+abbrev with_buffers : List (Result CycbuffLine Fault) → List BufferConf
+    → Result CycbuffSettings LineFault
+with_buffers said buffers = and_then (groups_said buffers said) (with_groups buffers)
+
+-- The groups follow the buffers.
+groups_follow : (said : List (Result CycbuffLine Fault))
+    → cycbuff_said said ≡ and_then (buffers_said said) (with_buffers said)
+groups_follow said = sym (unless_then (first_fault early_fault [] said) _ _
+    ∙ ap (unless_fault (first_fault early_fault [] said))
+    (unless_then (whole_fault (no_group_fault (group_names said))) (Ok (buffers_of said)) _
+    ∙ ap (unless_fault (whole_fault (no_group_fault (group_names said))))
+    (unless_then (first_fault (late_fault (buffers_of said)) [] said)
+    (Ok (groups_of (buffers_of said) said)) _)))
 
 -- A fault of the buffers is that of the file.
-pub buffers_fault : {T : Type 0} (view : T → List BufferConf)
-    (said : List (Result CycbuffLine Fault)) (error : ConfError)
-    → ConfGives view (Err error) (buffers_said said) → ConfGives buffers_view (Err error)
-    (cycbuff_said said)
-buffers_fault view said errors.Memory gives = tt
-buffers_fault view said (errors.Faulty fault) gives = fault_before (first_fault early_fault [] said)
-    (whole_fault (no_group_fault (group_names said))) (buffers_of said) _ fault gives
+pub buffers_fault : {T : Type 0} (view : T → List BufferConf) (read lines : List (List ℕ))
+    → read ≡ lines → (result : Result Buffers ConfError) (error : ConfError)
+    → IsErrAnd result (λ e. e ≡ error)
+    → ConfGives view (Err error) (buffers_said (map cycbuff_line read))
+    → ConfGives buffers_view result (cycbuff_of lines)
+buffers_fault view read lines same (Ok settings) error is gives = absurd is
+buffers_fault view read lines same (Err errors.Memory) error is gives = tt
+buffers_fault view read lines same (Err (errors.Faulty fault)) error is gives =
+    let says = buffers_said (map cycbuff_line read) in
+    let found : says ≡ Err fault =
+    rw (← is) at gives in
+    ap cycbuff_of (sym same) ∙ groups_follow (map cycbuff_line read)
+    ∙ ap (λ (said : Result (List BufferConf) LineFault).
+    and_then said (with_buffers (map cycbuff_line read))) found
 
--- Where there is none, the groups decide.
-groups_decide : (said : List (Result CycbuffLine Fault)) (buffers : List BufferConf)
-    → buffers_said said ≡ Ok buffers
-    → cycbuff_said said ≡ unless_fault (first_fault (late_fault buffers) [] said)
-    (Ok (record { buffers = buffers; groups = groups_of buffers said }))
-groups_decide said buffers e =
-    let both = rest_decides (first_fault early_fault [] said)
-    (whole_fault (no_group_fault (group_names said))) (buffers_of said) buffers
-    (unless_fault (first_fault (late_fault (buffers_of said)) [] said)
-    (Ok (record { buffers = buffers_of said; groups = groups_of (buffers_of said) said }))) e in
-    both.0 ∙ ap (λ (bs : List BufferConf). unless_fault (first_fault (late_fault bs) [] said)
-    (Ok (record { buffers = bs; groups = groups_of bs said }))) both.1
+module _ (read again lines : List (List ℕ)) (once : read ≡ lines) (twice : again ≡ lines)
+    (buffers known : List BufferConf) (over : known ≡ buffers)
+    (said : buffers_said (map cycbuff_line read) ≡ Ok buffers) where
+  -- Where they have none, the groups decide.
+  groups_decide : cycbuff_of lines
+      ≡ and_then (groups_said known (map cycbuff_line again)) (with_groups buffers)
+  groups_decide =
+      rw (twice, over) (groups_follow (map cycbuff_line lines)
+      ∙ ap (λ (said : Result (List BufferConf) LineFault).
+      and_then said (with_buffers (map cycbuff_line lines)))
+      (ap (λ (text : List (List ℕ)). buffers_said (map cycbuff_line text)) (sym once) ∙ said))
 
--- A fault of the groups is that of the file.
-pub groups_fault : {T : Type 0} (view : T → List Group) (said : List (Result CycbuffLine Fault))
-    (buffers : List BufferConf) (error : ConfError) → buffers_said said ≡ Ok buffers
-    → ConfGives view (Err error) (groups_said buffers said) → ConfGives buffers_view (Err error)
-    (cycbuff_said said)
-groups_fault view said buffers errors.Memory e gives = tt
-groups_fault view said buffers (errors.Faulty fault) e gives = groups_decide said buffers e
-    ∙ one_fault (first_fault (late_fault buffers) [] said) gives
-  where
-    one_fault : (o : Option LineFault) → unless_fault {S = List Group} o
-        (Ok (groups_of buffers said)) ≡ Err fault → unless_fault {S = CycbuffSettings} o
-        (Ok (record { buffers = buffers; groups = groups_of buffers said })) ≡ Err fault
-    one_fault None e = cc
-    one_fault (Some found) e = cc
+  -- A fault of the groups is that of the file,
+  pub groups_fault : {T : Type 0} (view : T → List Group) (result : Result Buffers ConfError)
+      (error : ConfError) → IsErrAnd result (λ e. e ≡ error)
+      → ConfGives view (Err error) (groups_said known (map cycbuff_line again))
+      → ConfGives buffers_view result (cycbuff_of lines)
+  groups_fault view (Ok settings) error is gives = absurd is
+  groups_fault view (Err errors.Memory) error is gives = tt
+  groups_fault view (Err (errors.Faulty fault)) error is gives =
+      let says = groups_said known (map cycbuff_line again) in
+      let found : says ≡ Err fault =
+      rw (← is) at gives in
+      groups_decide
+      ∙ ap (λ (said : Result (List Group) LineFault). and_then said (with_groups buffers)) found
 
--- Without a fault there are settings.
-pub cycbuff_done : (said : List (Result CycbuffLine Fault)) (buffers : List BufferConf)
-    (groups : List Group) → buffers_said said ≡ Ok buffers → groups_said buffers said ≡ Ok groups
-    → cycbuff_said said ≡ Ok (record { buffers = buffers; groups = groups })
-cycbuff_done said buffers groups e g = groups_decide said buffers e
-    ∙ no_fault (first_fault (late_fault buffers) [] said) g
-  where
-    no_fault : (o : Option LineFault) → unless_fault {S = List Group} o
-        (Ok (groups_of buffers said)) ≡ Ok groups → unless_fault {S = CycbuffSettings} o
-        (Ok (record { buffers = buffers; groups = groups_of buffers said })) ≡ Ok
-        (record { buffers = buffers; groups = groups })
-    no_fault None e = let same : groups_of buffers said ≡ groups = cc in
-        ap (λ (gs : List Group). Ok (record { buffers = buffers; groups = gs })) same
-    no_fault (Some found) e = cc
+  -- and without one there are settings.
+  pub cycbuff_done : (groups : List Group)
+      → groups_said known (map cycbuff_line again) ≡ Ok groups
+      → cycbuff_of lines ≡ Ok (record { buffers = buffers; groups = groups })
+  cycbuff_done groups says =
+      groups_decide
+      ∙ ap (λ (said : Result (List Group) LineFault). and_then said (with_groups buffers)) says

@@ -1,8 +1,5 @@
 pub mod BuiltIn
 pub mod CycbuffReadings
-pub mod EachReading
-pub mod EachRelay
-pub mod EachStorage
 pub mod Entries
 pub mod FaultlessLines
 pub mod FileLines
@@ -12,6 +9,7 @@ pub mod LinesRead
 pub mod ListedOnce
 pub mod NameTexts
 pub mod Numbered
+pub mod OneExpression
 pub mod OneReading
 pub mod OneRelay
 pub mod OneStorage

@@ -1,13 +1,11 @@
 -- Groups that cycbuff.conf says have buffers, each of them once.
-use Rattle.std.proofs.Common.{◌≡◌, ℕ, zero, suc, ◌<◌, ◌≤◌, Bool, true, false, cond}
-use Rattle.std.proofs.Common.{not, ◌⊎◌, inl, inr, List, [], ◌∷◌, ◌++◌, length, map, All}
-use Rattle.std.proofs.Common.{None, Some, Result, Ok, Err, slice_get, get_or, refl, ap, ◌∙◌, sym}
-use Rattle.std.proofs.Common.{subst, append-nil, arith}
-use Rattle.std.specs.Prelude.{◌||◌, ◌==◌}
+use Rattle.std.proofs.Common.{◌≡◌, ℕ, zero, suc, ◌<◌, ◌≤◌, Bool, true, false, cond, not, ◌⊎◌, inl}
+use Rattle.std.proofs.Common.{inr, List, [], ◌∷◌, ◌++◌, length, map, All, None, Some, Result, Ok}
+use Rattle.std.proofs.Common.{slice_get, get_or, refl, ap, ◌∙◌, sym, subst, append-nil, arith}
+use Rattle.std.specs.Prelude.{◌==◌}
 use Rattle.std.specs.List.{list_any, list_all}
 use Rattle.std.specs.Option.{option_to_list}
-use Rattle.std.proofs.lemmas.Bool.{ltb-true, or_parts, eq-eqb}
-use Rattle.std.proofs.lemmas.Bool.{both_ways}
+use Rattle.std.proofs.lemmas.Bool.{ltb-true, eq-eqb, both_ways}
 use Rattle.std.proofs.lemmas.List.Elements.{All-nil, All-map, All-push}
 use Rattle.std.proofs.lemmas.List.Folds.{list_any-append}
 use Rattle.std.proofs.lemmas.List.Sums.{AllPass-from_list_all}
@@ -15,13 +13,10 @@ use Rattle.std.proofs.lemmas.Option.{same_Some}
 use Rattle.relay_conf.specs.declared.cycbuff.BufferConf.{BufferConf}
 use Rattle.relay_conf.specs.declared.faults.Fault.{Fault}
 use Rattle.relay_conf.specs.declared.faults.Fault.TheVariants.{UnknownName, Shared}
-use Rattle.relay_conf.specs.Cycbuff.{CycbuffLine, Group, Skipped, BufferLine}
-use Rattle.relay_conf.specs.Cycbuff.{GroupLine}
-use Rattle.relay_conf.specs.Cycbuff.{number_of, is_known, group_of, groups_of}
-use Rattle.relay_conf.specs.Cycbuff.{is_listed, is_shared, listed_fault, late_fault}
+use Rattle.relay_conf.specs.Cycbuff.{CycbuffLine, Group, GroupLine, number_of, is_known, group_of}
+use Rattle.relay_conf.specs.Cycbuff.{groups_of, is_listed, is_shared, listed_fault, late_fault}
 use Rattle.relay_conf.specs.Faults.{first_fault}
-use Rattle.relay_conf.proofs.FaultlessLines.{no_fault_keeps}
-use Rattle.relay_conf.proofs.FirstFaults.{filter_one}
+use Rattle.relay_conf.proofs.FaultlessLines.{given_keeps}
 use Rattle.news_terms.proofs.ListPlaces.{at_pushed, found_at}
 
 -- number n is at place i of the list of group g
@@ -47,37 +42,40 @@ listed_at groups g i n group there is =
     found_at (λ (one : Group). list_any (λ other. other == n) one.buffers) groups g group there
     (found_at (λ other. other == n) group.buffers i n is (eq-eqb n n refl))
 
+-- Where numbers are not shared, the first of them is neither listed nor among those before, and
+-- behind it they are not.
+shared_parts : (groups : List Group) (before : List ℕ) (x : ℕ) (more : List ℕ)
+    → is_shared groups before (x ∷ more) ≡ false
+    → (is_listed groups x ≡ false) × (list_any (λ other. other == x) before ≡ false)
+    × (is_shared groups (before ++ x ∷ []) more ≡ false)
+shared_parts groups before x more e = grind arith
+
+-- A number that isn't among those before is none of them, nor the last.
+not_last : (before : List ℕ) (x n : ℕ) → list_any (λ other. other == n) (before ++ x ∷ []) ≡ false
+    → (list_any (λ other. other == n) before ≡ false) × ((x == n) ≡ false)
+not_last before x n e = grind (arith, list_any-append)
+
 -- None of these that are not shared is listed, nor among those before.
 not_listed : (groups : List Group) (before numbers : List ℕ)
     → is_shared groups before numbers ≡ false → (i n : ℕ) → slice_get numbers i ≡ Some n
     → (is_listed groups n ≡ false) × (list_any (λ other. other == n) before ≡ false)
 not_listed groups before [] e i n at = cc
 not_listed groups before (x ∷ more) e zero n at =
-    let here = or_parts (is_listed groups x || list_any (λ other. other == x) before)
-    (is_shared groups (before ++ x ∷ []) more) e in
-    let both = or_parts (is_listed groups x) (list_any (λ other. other == x) before) here.0 in
+    let parts = shared_parts groups before x more e in
     subst (λ m. (is_listed groups m ≡ false) × (list_any (λ other. other == m) before ≡ false))
-    (same_Some x n at) both
+    (same_Some x n at) (parts.0, parts.1)
 not_listed groups before (x ∷ more) e (suc i) n at =
-    let here = or_parts (is_listed groups x || list_any (λ other. other == x) before)
-    (is_shared groups (before ++ x ∷ []) more) e in
-    let later = not_listed groups (before ++ x ∷ []) more here.1 i n at in
-    let parts = or_parts (list_any (λ other. other == n) before)
-    (list_any (λ other. other == n) (x ∷ []))
-    (sym (list_any-append (λ other. other == n) before (x ∷ [])) ∙ later.1) in
-    (later.0, parts.0)
+    let later = not_listed groups (before ++ x ∷ []) more (shared_parts groups before x more e).2 i
+    n at in
+    (later.0, (not_last before x n later.1).0)
 
--- A number of these isn't the last of those before.
-not_before : (groups : List Group) (before numbers : List ℕ) (x j n : ℕ)
-    → is_shared groups (before ++ x ∷ []) numbers ≡ false → slice_get numbers j ≡ Some n → x ≡ n
-    → ⊥
-not_before groups before numbers x j n e at same =
-    let later = not_listed groups (before ++ x ∷ []) numbers e j n at in
-    let parts = or_parts (list_any (λ other. other == n) before)
-    (list_any (λ other. other == n) (x ∷ []))
-    (sym (list_any-append (λ other. other == n) before (x ∷ [])) ∙ later.1) in
-    let last = or_parts (x == n) false parts.1 in
-    both_ways (x == n) last.0 (eq-eqb x n same)
+-- A number behind another of these isn't that.
+not_before : (groups : List Group) (before : List ℕ) (x : ℕ) (more : List ℕ) (j n : ℕ)
+    → is_shared groups before (x ∷ more) ≡ false → slice_get more j ≡ Some n → x ≡ n → ⊥
+not_before groups before x more j n e at same =
+    let later = not_listed groups (before ++ x ∷ []) more (shared_parts groups before x more e).2 j
+    n at in
+    both_ways (x == n) (not_last before x n later.1).1 (eq-eqb x n same)
 
 -- Each of these stands once.
 each_once : (groups : List Group) (before numbers : List ℕ)
@@ -86,17 +84,12 @@ each_once : (groups : List Group) (before numbers : List ℕ)
 each_once groups before [] e i j n at other = cc
 each_once groups before (x ∷ more) e zero zero n at other = refl
 each_once groups before (x ∷ more) e zero (suc j) n at other =
-    let here = or_parts (is_listed groups x || list_any (λ other. other == x) before)
-    (is_shared groups (before ++ x ∷ []) more) e in
-    absurd (not_before groups before more x j n here.1 other (same_Some x n at))
+    absurd (not_before groups before x more j n e other (same_Some x n at))
 each_once groups before (x ∷ more) e (suc i) zero n at other =
-    let here = or_parts (is_listed groups x || list_any (λ other. other == x) before)
-    (is_shared groups (before ++ x ∷ []) more) e in
-    absurd (not_before groups before more x i n here.1 at (same_Some x n other))
+    absurd (not_before groups before x more i n e at (same_Some x n other))
 each_once groups before (x ∷ more) e (suc i) (suc j) n at other =
-    let here = or_parts (is_listed groups x || list_any (λ other. other == x) before)
-    (is_shared groups (before ++ x ∷ []) more) e in
-    ap suc (each_once groups (before ++ x ∷ []) more here.1 i j n at other)
+    ap suc (each_once groups (before ++ x ∷ []) more (shared_parts groups before x more e).2 i j n
+    at other)
 
 -- No number is twice in all lists with one more whose numbers are not shared.
 once_more : (groups : List Group) (one : Group) → is_shared groups [] one.buffers ≡ false
@@ -138,20 +131,12 @@ pub record Are_right (buffers : List BufferConf) (groups : List Group) : Type 0 
 no_list_fault : (known shared : Bool)
     → cond (not known) (Some UnknownName) (cond shared (Some Shared) None) ≡ None
     → (known ≡ true) × (shared ≡ false)
-no_list_fault true true e = cc
-no_list_fault true false e = (refl, refl)
-no_list_fault false shared e = cc
+no_list_fault known shared e = grind arith
 
 -- Lists stay right behind a line without a fault.
 right_more : (buffers : List BufferConf) (groups : List Group) (line : Result CycbuffLine Fault)
     → listed_fault buffers groups line ≡ None → Are_right buffers groups
     → Are_right buffers (groups ++ option_to_list (group_of buffers line))
-right_more buffers groups (Err fault) e right =
-    subst (Are_right buffers) (sym (append-nil groups)) right
-right_more buffers groups (Ok Skipped) e right =
-    subst (Are_right buffers) (sym (append-nil groups)) right
-right_more buffers groups (Ok (BufferLine name file blocks)) e right =
-    subst (Are_right buffers) (sym (append-nil groups)) right
 right_more buffers groups (Ok (GroupLine name [] mode)) e right = cc
 right_more buffers groups (Ok (GroupLine name (first ∷ rest) mode)) e right =
     let members = first ∷ rest in
@@ -169,15 +154,14 @@ right_more buffers groups (Ok (GroupLine name (first ∷ rest) mode)) e right =
           });
       once = once_more groups one both.1 right.once;
     }
+right_more buffers groups line e right =
+    subst (Are_right buffers) (sym (append-nil groups)) right
 
 -- The groups of lines without a fault are right.
 pub right_said : (buffers : List BufferConf) (said : List (Result CycbuffLine Fault))
     → first_fault (late_fault buffers) [] said ≡ None
     → Are_right buffers (groups_of buffers said)
 right_said buffers said none =
-    no_fault_keeps (late_fault buffers) (λ before. Are_right buffers (groups_of buffers before))
-    (λ before line e right.
-    subst (Are_right buffers) (sym (filter_one (group_of buffers) before line))
-    (right_more buffers (groups_of buffers before) line e right))
-    [] said none
+    given_keeps (late_fault buffers) (group_of buffers) (Are_right buffers)
     (record { filled = All-nil (Is_filled (length buffers)); once = λ g h i j n at other. cc })
+    (λ before line. right_more buffers (groups_of buffers before) line) said none

@@ -1,6 +1,6 @@
 -- Names as text, and sets of them.
-use Rattle.std.proofs.Common.{◌≡◌, ℕ, ◌<◌, Bool, true, false, cond, List, [], ◌∷◌, ◌++◌, refl, sym}
-use Rattle.std.proofs.Common.{◌∙◌, arith, rules, tests, zero, suc}
+use Rattle.std.proofs.Common.{◌≡◌, ℕ, ◌<◌, Bool, true, cond, List, [], ◌∷◌, ◌++◌, sym, arith, rules}
+use Rattle.std.proofs.Common.{tests, zero, suc}
 use Rattle.std.specs.Prelude.{◌||◌, bytes_eq}
 use Rattle.std.specs.List.{list_all, list_any}
 use Rattle.std.specs.Str.{IsAscii, IsUtf8}
@@ -30,8 +30,7 @@ name_utf8 word h = IsUtf8-from_ascii word
 
 -- A choice of true is an or.
 pub cond_or : (b c : Bool) → cond b true c ≡ b || c
-cond_or true c = refl
-cond_or false c = refl
+cond_or b c = grind arith
 
 -- Texts are equal either way round.
 bytes_eq-sym : (xs ys : List ℕ) → bytes_eq xs ys ≡ bytes_eq ys xs
@@ -42,12 +41,4 @@ bytes_eq-sym xs ys =
 -- One name more is found as well.
 pub any_more : (names : List (List ℕ)) (name other : List ℕ) → bytes_eq name other || list_any
     (bytes_eq other) names ≡ list_any (bytes_eq other) (names ++ name ∷ [])
-any_more names name other =
-    rw (bytes_eq-sym name other) (swapped (bytes_eq other name) (list_any (bytes_eq other) names))
-    ∙ sym (list_any-append (bytes_eq other) names (name ∷ []))
-  where
-    swapped : (a b : Bool) → a || b ≡ (b || (a || false))
-    swapped true true = refl
-    swapped true false = refl
-    swapped false true = refl
-    swapped false false = refl
+any_more names name other = grind (arith, list_any-append, bytes_eq-sym)

@@ -1,220 +1,207 @@
 -- Lines that say nothing change nothing of what the others say.
-use Rattle.std.proofs.Common.{◌≡◌, ℕ, ◌+◌, Bool, true, false, List, [], ◌∷◌, ◌++◌, length, Option}
-use Rattle.std.proofs.Common.{Some, None, Result, Ok, Err, refl, ap, ◌∙◌, sym, subst, append_assoc}
-use Rattle.std.proofs.Common.{append-nil}
-use Rattle.std.specs.Prelude.{◌↔◌, filter_map}
-use Rattle.std.proofs.lemmas.List.Elements.{filter_map-append}
+use Rattle.std.proofs.Common.{◌≡◌, ℕ, ◌+◌, Bool, true, false, List, [], ◌∷◌, ◌++◌, Option, Some}
+use Rattle.std.proofs.Common.{None, Result, Ok, Err, refl, ap, ◌∙◌, sym, append_assoc, append-nil}
+use Rattle.std.proofs.Common.{arith}
+use Rattle.std.specs.Prelude.{◌↔◌}
 use Rattle.relay_conf.specs.declared.faults.Fault.{Fault}
 use Rattle.relay_conf.specs.declared.faults.LineFault.{LineFault}
-use Rattle.relay_conf.specs.Faults.{fault_or_later, first_fault, unless_fault}
-use Rattle.relay_conf.specs.LineByLine.{SayEach, SayTogether}
-use Rattle.relay_conf.proofs.OneReading.{SaysOnce}
+use Rattle.relay_conf.specs.Faults.{fault_or_later, first_fault, unless_fault, whole_fault}
+use Rattle.relay_conf.specs.LineByLine.{SayTogether}
+use Rattle.relay_conf.proofs.OneReading.{IsOne, answered, answers, say, saying}
+
+-- What is the same without a line, one line later, is the same behind one line more.
+pub same_behind : {S X : Type 0} (f : List S → X) (skip : S) (passed more : List S) (line : S)
+    → f (passed ++ skip ∷ (more ++ line ∷ [])) ≡ f (passed ++ (more ++ line ∷ []))
+    → f ((passed ++ skip ∷ more) ++ line ∷ []) ≡ f ((passed ++ more) ++ line ∷ [])
+same_behind f skip passed more line e =
+    ap f (append_assoc passed (skip ∷ more) (line ∷ [])) ∙ e
+    ∙ ap f (sym (append_assoc passed more (line ∷ [])))
+
+-- WHAT STANDS
+
+module _ {S X : Type 0} (f : List S → X) (next : X → S → X)
+    (grows : (before : List S) (line : S) → f (before ++ line ∷ []) ≡ next (f before) line) where
+  -- What stands of lines, by what stood before each of them, is the same behind the same.
+  same_from : (one other : List S) → f one ≡ f other → (after : List S)
+      → f (one ++ after) ≡ f (other ++ after)
+  same_from one other e [] = ap f (append-nil one) ∙ e ∙ ap f (sym (append-nil other))
+  same_from one other e (line ∷ after) =
+      ap f (sym (append_assoc one (line ∷ []) after))
+      ∙ same_from (one ++ line ∷ []) (other ++ line ∷ [])
+      (grows one line ∙ ap (λ (x : X). next x line) e ∙ sym (grows other line)) after
+      ∙ ap f (append_assoc other (line ∷ []) after)
+
+  -- So it is without a line that leaves what stands.
+  pub stands_without : (skip : S) → ((x : X) → next x skip ≡ x) → (before after : List S)
+      → f (before ++ skip ∷ after) ≡ f (before ++ after)
+  stands_without skip idle before after =
+      ap f (sym (append_assoc before (skip ∷ []) after))
+      ∙ same_from (before ++ skip ∷ []) before (grows before skip ∙ idle (f before)) after
+
+-- WHAT LINES SAY
+
+module _ {S : Type 0} (says : List S → List ℕ → S) (skip : S)
+    (alike : (before more : List S) (line : List ℕ)
+    → says (before ++ skip ∷ more) line ≡ says (before ++ more) line) where
+  -- Lines say the same without one that is skipped among those before.
+  saying_behind : (passed more : List S) (lines : List (List ℕ))
+      → saying says (passed ++ skip ∷ more) lines ≡ saying says (passed ++ more) lines
+  saying_behind passed more [] = refl
+  saying_behind passed more (line ∷ lines) =
+      let one = says (passed ++ more) line in
+      rw (alike passed more line) (ap (λ (said : List S). one ∷ said)
+      (same_behind (λ (before : List S). saying says before lines) skip passed more one
+      (saying_behind passed (more ++ one ∷ []) lines)))
+
+  -- With a line that is skipped, lines say the same and what is skipped.
+  saying_skip : (passed : List S) (before : List (List ℕ)) (line : List ℕ)
+      (after : List (List ℕ)) → ((b : List S) → says b line ≡ skip)
+      → (one : List S) × (two : List S)
+      × (saying says passed (before ++ line ∷ after) ≡ one ++ skip ∷ two)
+      × (saying says passed (before ++ after) ≡ one ++ two)
+  saying_skip passed [] line after skips = (
+    [],
+    saying says passed after,
+    ap (λ (u : S). u ∷ saying says (passed ++ u ∷ []) after) (skips passed)
+        ∙ ap (λ (said : List S). skip ∷ said)
+        (saying_behind passed [] after
+        ∙ ap (λ (b : List S). saying says b after) (append-nil passed)),
+    refl,
+  )
+  saying_skip passed (first ∷ before) line after skips =
+      let one = says passed first in
+      let rest = saying_skip (passed ++ one ∷ []) before line after skips in (
+        one ∷ rest.0,
+        rest.1,
+        ap (λ (said : List S). one ∷ said) rest.2,
+        ap (λ (said : List S). one ∷ said) rest.3,
+      )
+
+-- FIRST FAULTS
 
 -- there is no fault
-abbrev pub is_quiet : Option LineFault → Bool
+abbrev is_quiet : Option LineFault → Bool
 is_quiet None = true
 is_quiet (Some fault) = false
 
+-- A fault, or that of later lines, is there where it is there.
+quiet_or : (n m : ℕ) (o : Option Fault) (one other : Option LineFault)
+    → is_quiet one ≡ is_quiet other
+    → is_quiet (fault_or_later n o one) ≡ is_quiet (fault_or_later m o other)
+quiet_or n m o one other e = grind arith
+
+module _ {S : Type 0} (wrong : List S → S → Option Fault) (skip : S)
+    (none : (before : List S) → wrong before skip ≡ None)
+    (same : (before after : List S) (line : S)
+    → wrong (before ++ skip ∷ after) line ≡ wrong (before ++ after) line) where
+  -- Whether a later line has a fault is the same without one among those before,
+  quiet_behind : (passed more lines : List S)
+      → is_quiet (first_fault wrong (passed ++ skip ∷ more) lines)
+      ≡ is_quiet (first_fault wrong (passed ++ more) lines)
+  quiet_behind passed more [] = refl
+  quiet_behind passed more (line ∷ lines) =
+      rw (same passed more line) (quiet_or _ _ (wrong (passed ++ more) line) _ _
+      (same_behind (λ (before : List S). is_quiet (first_fault wrong before lines)) skip passed more
+      line (quiet_behind passed (more ++ line ∷ []) lines)))
+
+  -- and whether one of the lines has one.
+  quiet_same : (passed before after : List S)
+      → is_quiet (first_fault wrong passed (before ++ skip ∷ after))
+      ≡ is_quiet (first_fault wrong passed (before ++ after))
+  quiet_same passed [] after =
+      rw (none passed) (quiet_behind passed [] after
+      ∙ ap (λ (b : List S). is_quiet (first_fault wrong b after)) (append-nil passed))
+  quiet_same passed (line ∷ before) after =
+      quiet_or _ _ (wrong passed line) _ _ (quiet_same (passed ++ line ∷ []) before after)
+
+-- WHAT LINES COME TO
+
 -- the settings, where there is no fault
-abbrev pub settings_in : {S : Type 0} → Result S LineFault → Option S
+abbrev settings_in : {T : Type 0} → Result T LineFault → Option T
 settings_in (Err fault) = None
 settings_in (Ok settings) = Some settings
 
--- What is kept of lines is kept without one of which nothing is kept.
-pub kept_same : {L B : Type 0} (f : L → Option B) (before : List L) (skip : L) (after : List L)
-    → f skip ≡ None → filter_map f (before ++ skip ∷ after) ≡ filter_map f (before ++ after)
-kept_same {L} {B} f before skip after e =
-    let none : filter_map f (skip ∷ after) ≡ filter_map f after = rw e refl in
-    filter_map-append f before (skip ∷ after)
-    ∙ ap (λ (more : List B). filter_map f before ++ more) none
-    ∙ sym (filter_map-append f before after)
-
--- Whether a later line has a fault is the same behind lines behind which the same is wrong.
-pub quiet_behind : {L : Type 0} (wrong : List L → L → Option Fault) (one other lines : List L)
-    → ((more : List L) (line : L) → wrong (one ++ more) line ≡ wrong (other ++ more) line)
-    → is_quiet (first_fault wrong one lines) ≡ is_quiet (first_fault wrong other lines)
-quiet_behind wrong one other [] same = refl
-quiet_behind {L} wrong one other (line ∷ lines) same =
-    let here : wrong one line ≡ wrong other line =
-    ap (λ (b : List L). wrong b line) (sym (append-nil one)) ∙ same [] line
-    ∙ ap (λ (b : List L). wrong b line) (append-nil other) in
-    by_fault (wrong one line) (wrong other line) refl refl here
-    (quiet_behind wrong (one ++ line ∷ []) (other ++ line ∷ []) lines
-    (λ more next. ap (λ (b : List L). wrong b next) (append_assoc one (line ∷ []) more)
-    ∙ same (line ∷ more) next ∙ ap (λ (b : List L). wrong b next)
-    (sym (append_assoc other (line ∷ []) more))))
-  where
-    by_fault : (o p : Option Fault) → wrong one line ≡ o → wrong other line ≡ p
-        → wrong one line ≡ wrong other line
-        → is_quiet (first_fault wrong (one ++ line ∷ []) lines) ≡ is_quiet
-        (first_fault wrong (other ++ line ∷ []) lines)
-        → is_quiet (fault_or_later (length one + 1) (wrong one line)
-        (first_fault wrong (one ++ line ∷ []) lines))
-        ≡ is_quiet (fault_or_later (length other + 1) (wrong other line)
-        (first_fault wrong (other ++ line ∷ []) lines))
-    by_fault None None e k h r = rw (e, k) r
-    by_fault (Some fault) (Some found) e k h r = rw (e, k) refl
-    by_fault None (Some found) e k h r = let no : None ≡ Some found = sym e ∙ h ∙ k in cc
-    by_fault (Some fault) None e k h r = let no : Some fault ≡ None = sym e ∙ h ∙ k in cc
-
--- Whether a line has a fault is the same without one that has none and behind which the same is
--- wrong.
-pub quiet_same : {L : Type 0} (wrong : List L → L → Option Fault) (skip : L)
-    → ((before : List L) → wrong before skip ≡ None)
-    → ((before after : List L) (line : L) → wrong (before ++ skip ∷ after) line ≡ wrong
-    (before ++ after) line)
-    → (passed before after : List L)
-    → is_quiet (first_fault wrong passed (before ++ skip ∷ after)) ≡ is_quiet
-    (first_fault wrong passed (before ++ after))
-quiet_same {L} wrong skip none same passed [] after =
-    ap (λ (o : Option Fault). is_quiet (fault_or_later (length passed + 1) o
-    (first_fault wrong (passed ++ skip ∷ []) after))) (none passed)
-    ∙ quiet_behind wrong (passed ++ skip ∷ []) passed after
-    (λ more line. ap (λ (b : List L). wrong b line) (append_assoc passed (skip ∷ []) more)
-    ∙ same passed more line)
-quiet_same {L} wrong skip none same passed (line ∷ before) after =
-    by_fault (wrong passed line) refl (quiet_same wrong skip none same
-    (passed ++ line ∷ []) before after)
-  where
-    by_fault : (o : Option Fault) → wrong passed line ≡ o
-        → is_quiet (first_fault wrong (passed ++ line ∷ []) (before ++ skip ∷ after)) ≡ is_quiet
-        (first_fault wrong (passed ++ line ∷ []) (before ++ after))
-        → is_quiet (fault_or_later (length passed + 1) (wrong passed line)
-        (first_fault wrong (passed ++ line ∷ []) (before ++ skip ∷ after)))
-        ≡ is_quiet (fault_or_later (length passed + 1) (wrong passed line)
-        (first_fault wrong (passed ++ line ∷ []) (before ++ after)))
-    by_fault None e r = rw e r
-    by_fault (Some fault) e r = rw e refl
-
 -- Settings behind one trial are the same where the trials are.
-pub unless_same : {S : Type 0} (o p : Option LineFault) (r q : Result S LineFault)
+unless_same : {T : Type 0} (o p : Option LineFault) (r q : Result T LineFault)
     → is_quiet o ≡ is_quiet p → settings_in r ≡ settings_in q
     → settings_in (unless_fault o r) ≡ settings_in (unless_fault p q)
-unless_same None None r q h k = k
-unless_same (Some fault) (Some found) r q h k = refl
-unless_same None (Some found) r q h k = cc
-unless_same (Some fault) None r q h k = cc
+unless_same o p r q h k = grind arith
 
 -- The same settings are said.
-pub settings_to : {S : Type 0} (r q : Result S LineFault) (s : S) → settings_in r ≡ settings_in q
-    → r ≡ Ok s → q ≡ Ok s
-settings_to r (Err fault) s h k = let no : None ≡ Some s = sym h ∙ ap settings_in k in cc
-settings_to r (Ok t) s h k = let yes : Some t ≡ Some s = sym h ∙ ap settings_in k in cc
+settings_to : {T : Type 0} (r q : Result T LineFault) (t : T) → settings_in r ≡ settings_in q
+    → r ≡ Ok t → q ≡ Ok t
+settings_to r q t h k = grind arith
 
--- what a line says is the same with this among those before it as without
-abbrev pub SaysAlike : {S : Type 0} → (Says : List S → List ℕ → S → Type 0) → (skip : S) → Type 0
-SaysAlike {S} Says skip =
-    (before more : List S) → (line : List ℕ) → (one : S)
-    → Says (before ++ skip ∷ more) line one ↔ Says (before ++ more) line one
+module _ {S T K : Type 0} (early : List S → S → Option Fault) (whole : List S → Option Fault)
+    (key : List S → K) (late : K → List S → S → Option Fault) (made : List S → T) where
+  -- what a file's lines come to: the first fault of a line, else that of the whole file, else the
+  -- first that is looked for after the last line, else the settings
+  abbrev come_to : List S → Result T LineFault
+  come_to said =
+      unless_fault (first_fault early [] said)
+      (unless_fault (whole_fault (whole said))
+      (unless_fault (first_fault (late (key said)) [] said) (Ok (made said))))
 
--- what lines come to together has the same settings with this among what they say as without
-abbrev pub SettingsAlike : {S T : Type 0} → (together : List S → Result T LineFault) → (skip : S)
-    → Type 0
-SettingsAlike {S} together skip =
-    (before more : List S)
-    → settings_in (together (before ++ skip ∷ more)) ≡ settings_in (together (before ++ more))
+  -- a line has no fault, and among others it changes nothing
+  pub record IsIdle (skip : S) : Type 0 where
+    pub none : (before : List S) → early before skip ≡ None
+    pub none_late : (k : K) (before : List S) → late k before skip ≡ None
+    pub early_same : (before after : List S) (line : S)
+        → early (before ++ skip ∷ after) line ≡ early (before ++ after) line
+    pub whole_same : (before after : List S)
+        → whole (before ++ skip ∷ after) ≡ whole (before ++ after)
+    pub key_same : (before after : List S) → key (before ++ skip ∷ after) ≡ key (before ++ after)
+    pub late_same : (k : K) (before after : List S) (line : S)
+        → late k (before ++ skip ∷ after) line ≡ late k (before ++ after) line
+    pub made_same : (before after : List S)
+        → made (before ++ skip ∷ after) ≡ made (before ++ after)
 
--- Lines say the same behind lines behind which each of them does.
-say_behind : {S : Type 0} (Says : List S → List ℕ → S → Type 0) (one other : List S)
-    (lines : List (List ℕ)) (said : List S)
-    → ((more : List S) (line : List ℕ) (s : S) → Says (one ++ more) line s
-    → Says (other ++ more) line s)
-    → SayEach Says one lines said → SayEach Says other lines said
-say_behind Says one other [] [] same h = tt
-say_behind Says one other [] (s ∷ said) same h = absurd h
-say_behind Says one other (line ∷ lines) [] same h = absurd h
-say_behind {S} Says one other (line ∷ lines) (s ∷ said) same h =
-    let at : List S → Type 0 = λ before. Says before line s in (
-      subst at (append-nil other) (same [] line s (subst at (sym (append-nil one)) h.0)),
-      say_behind Says (one ++ s ∷ []) (other ++ s ∷ []) lines said
-          (λ more next t k. subst (λ (before : List S). Says before next t)
-          (sym (append_assoc other (s ∷ []) more))
-          (same (s ∷ more) next t
-          (subst (λ (before : List S). Says before next t) (append_assoc one (s ∷ []) more) k)))
-          h.1,
-    )
+  module _ (skip : S) (idle : IsIdle skip) where
+    -- So what lines come to has the same settings without it,
+    settings_same : (before after : List S)
+        → settings_in (come_to (before ++ skip ∷ after)) ≡ settings_in (come_to (before ++ after))
+    settings_same before after =
+        let all = before ++ skip ∷ after in
+        let others = before ++ after in
+        unless_same (first_fault early [] all) (first_fault early [] others) _ _
+        (quiet_same early skip idle.none idle.early_same [] before after)
+        (unless_same (whole_fault (whole all)) (whole_fault (whole others)) _ _
+        (ap (λ (o : Option Fault). is_quiet (whole_fault o)) (idle.whole_same before after))
+        (unless_same (first_fault (late (key all)) [] all)
+        (first_fault (late (key others)) [] others) _ _
+        (ap (λ (k : K). is_quiet (first_fault (late k) [] all)) (idle.key_same before after)
+        ∙ quiet_same (late (key others)) skip (idle.none_late (key others))
+        (idle.late_same (key others)) [] before after)
+        (ap (λ (t : T). Some t) (idle.made_same before after))))
 
--- They do behind one that is skipped and without it.
-passed_skip : {S : Type 0} (Says : List S → List ℕ → S → Type 0) (skip : S) → SaysAlike Says skip
-    → (passed more : List S) (line : List ℕ) (s : S)
-    → Says ((passed ++ skip ∷ []) ++ more) line s ↔ Says (passed ++ more) line s
-passed_skip {S} Says skip alike passed more line s =
-    subst (λ (before : List S). Says before line s ↔ Says (passed ++ more) line s)
-    (sym (append_assoc passed (skip ∷ []) more)) (alike passed more line s)
+    -- where a line says it.
+    pub come_without : (says : List S → List ℕ → S)
+        → ((before more : List S) (line : List ℕ)
+        → says (before ++ skip ∷ more) line ≡ says (before ++ more) line)
+        → (before after : List (List ℕ)) (line : List ℕ) (settings : T)
+        → ((b : List S) → says b line ≡ skip)
+        → (come_to (saying says [] (before ++ line ∷ after)) ≡ Ok settings)
+        ↔ (come_to (saying says [] (before ++ after)) ≡ Ok settings)
+    come_without says alike before after line settings skips =
+        let at = saying_skip says skip alike [] before line after skips in
+        let to : List S → Option T = λ said. settings_in (come_to said) in
+        let same = ap to at.2 ∙ settings_same at.0 at.1 ∙ sym (ap to at.3) in
+        (settings_to _ _ settings same, settings_to _ _ settings (sym same))
 
--- What lines say without one that is skipped.
-say_less : {S : Type 0} (Says : List S → List ℕ → S → Type 0) → SaysOnce Says → (skip : S)
-    → SaysAlike Says skip → (passed : List S) (before : List (List ℕ)) (line : List ℕ)
-    (after : List (List ℕ)) (said : List S) → ((b : List S) → Says b line skip)
-    → SayEach Says passed (before ++ line ∷ after) said
-    → (one : List S) × (two : List S) × (said ≡ one ++ skip ∷ two)
-    × SayEach Says passed (before ++ after) (one ++ two)
-say_less Says once skip alike passed [] line after [] skips h = absurd h
-say_less {S} Says once skip alike passed [] line after (s ∷ said) skips h =
-    let same : s ≡ skip = once passed line s skip h.0 (skips passed) in
-    let rest = subst (λ (u : S). SayEach Says (passed ++ u ∷ []) after said) same h.1 in (
-      [],
-      said,
-      ap (λ (u : S). u ∷ said) same,
-      say_behind Says (passed ++ skip ∷ []) passed after said
-          (λ more next t. (passed_skip Says skip alike passed more next t).0) rest,
-    )
-say_less Says once skip alike passed (first ∷ before) line after [] skips h = absurd h
-say_less {S} Says once skip alike passed (first ∷ before) line after (s ∷ said) skips h =
-    let rest = say_less Says once skip alike (passed ++ s ∷ []) before line after said skips h.1 in
-    (s ∷ rest.0, rest.1, ap (λ (more : List S). s ∷ more) rest.2, (h.0, rest.3))
-
--- What lines say with one more that is skipped.
-say_with : {S : Type 0} (Says : List S → List ℕ → S → Type 0) (skip : S) → SaysAlike Says skip
-    → (passed : List S) (before : List (List ℕ)) (line : List ℕ) (after : List (List ℕ))
-    (said : List S) → ((b : List S) → Says b line skip)
-    → SayEach Says passed (before ++ after) said
-    → (one : List S) × (two : List S) × (said ≡ one ++ two)
-    × SayEach Says passed (before ++ line ∷ after) (one ++ skip ∷ two)
-say_with Says skip alike passed [] line after said skips h = (
-  [],
-  said,
-  refl,
-  (
-    skips passed,
-    say_behind Says passed (passed ++ skip ∷ []) after said
-        (λ more next t. (passed_skip Says skip alike passed more next t).1) h,
-  ),
-)
-say_with Says skip alike passed (first ∷ before) line after [] skips h = absurd h
-say_with {S} Says skip alike passed (first ∷ before) line after (s ∷ said) skips h =
-    let rest = say_with Says skip alike (passed ++ s ∷ []) before line after said skips h.1 in
-    (s ∷ rest.0, rest.1, ap (λ (more : List S). s ∷ more) rest.2, (h.0, rest.3))
-
--- The settings of lines are the same without one that is skipped wherever it stands.
-pub settings_without : {S T : Type 0} (Says : List S → List ℕ → S → Type 0) → SaysOnce Says
-    → (skip : S) → SaysAlike Says skip → (together : List S → Result T LineFault)
-    → SettingsAlike together skip → (before after : List (List ℕ)) (line : List ℕ) (settings : T)
-    → ((b : List S) → Says b line skip)
-    → SayTogether Says together (before ++ line ∷ after) (Ok settings)
-    ↔ SayTogether Says together (before ++ after) (Ok settings)
-settings_without {S} {T} Says once skip alike together same before after line settings skips =
-    (less, with)
-  where
-    less : SayTogether Says together (before ++ line ∷ after) (Ok settings)
-        → SayTogether Says together (before ++ after) (Ok settings)
-    less h =
-        let s = say_less Says once skip alike [] before line after h.said skips h.says in
-        record {
-          said = s.0 ++ s.1;
-          says = s.3;
-          gives = settings_to (together h.said) (together (s.0 ++ s.1)) settings
-              (ap (λ (said : List S). settings_in (together said)) s.2 ∙ same s.0 s.1) h.gives;
-        }
-
-    with : SayTogether Says together (before ++ after) (Ok settings)
-        → SayTogether Says together (before ++ line ∷ after) (Ok settings)
-    with h =
-        let s = say_with Says skip alike [] before line after h.said skips h.says in
-        record {
-          said = s.0 ++ skip ∷ s.1;
-          says = s.3;
-          gives = settings_to (together h.said) (together (s.0 ++ skip ∷ s.1)) settings
-              (ap (λ (said : List S). settings_in (together said)) s.2 ∙ sym (same s.0 s.1))
-              h.gives;
-        }
+    -- So lines have the same settings without such a line.
+    pub settings_without : (Says : List S → List ℕ → S → Type 0)
+        (each : (before : List S) (line : List ℕ) → IsOne (Says before line))
+        → ((before more : List S) (line : List ℕ)
+        → say Says each (before ++ skip ∷ more) line ≡ say Says each (before ++ more) line)
+        → (before after : List (List ℕ)) (line : List ℕ) (settings : T)
+        → ((b : List S) → Says b line skip)
+        → SayTogether Says come_to (before ++ line ∷ after) (Ok settings)
+        ↔ SayTogether Says come_to (before ++ after) (Ok settings)
+    settings_without Says each alike before after line settings skips =
+        let both = come_without (say Says each) alike before after line settings
+        (λ b. sym ((each b line).only skip (skips b))) in (
+          λ h. answers Says each come_to (before ++ after) (Ok settings)
+              (both.0 (answered Says each come_to (before ++ line ∷ after) (Ok settings) h)),
+          λ h. answers Says each come_to (before ++ line ∷ after) (Ok settings)
+              (both.1 (answered Says each come_to (before ++ after) (Ok settings) h)),
+        )

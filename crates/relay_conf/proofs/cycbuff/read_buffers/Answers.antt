@@ -1,10 +1,10 @@
-use Rattle.std.proofs.Common.{◌∙◌, ap, sym, map, Ok, vec_items, vec_len, Global, arith, List, ℕ}
+use Rattle.std.proofs.Common.{sym, map, vec_items, vec_len, Global, arith, List, ℕ}
 use Rattle.std.proofs.lemmas.Bool.{eqb-true, eqb-false}
 use Rattle.std.specs.Borrow.{Bor}
 use Rattle.relay_conf.specs.Cycbuff.{early_fault}
 use Rattle.relay_conf.specs.CycbuffDraft.{HasBuffers}
 use Rattle.relay_conf.specs.declared.cycbuff.BufferConf.{BufferConf}
-use Rattle.relay_conf.proofs.CycbuffReadings.{draft_error, names_decide, without_names, with_names}
+use Rattle.relay_conf.proofs.CycbuffReadings.{draft_error, names_decide}
 use Rattle.relay_conf.proofs.cycbuff.read_buffers.Goals as goal
 
 pub returns-in_err-draft : goal.returns-in_err-draft
@@ -17,16 +17,13 @@ pub returns-then-is_empty : goal.returns-then-is_empty
 returns-then-is_empty c =
     let lines = map (λ (line : Bor (List ℕ)). line.now) c.args.lines.now in
     let draft = c.in_ok-draft.draft in
-    without_names draft.names.items _
-    (omega (arith, draft.names.ok.0, eqb-true (vec_len draft.names) 0 (sym c.if-is_empty.ensures)))
     (names_decide lines draft (c.in_ok-draft.ensures tt c.new.ensures)).0
+    (omega (arith, draft.names.ok.0, eqb-true (vec_len draft.names) 0 (sym c.if-is_empty.ensures)))
 
 pub returns : goal.returns
 returns c =
     let lines = map (λ (line : Bor (List ℕ)). line.now) c.args.lines.now in
     let draft = c.in_ok-draft.draft in
-    let decided = names_decide lines draft (c.in_ok-draft.ensures tt c.new.ensures) in
-    with_names draft.names.items _
+    (names_decide lines draft (c.in_ok-draft.ensures tt c.new.ensures)).1
     (λ e. eqb-false (vec_len draft.names) 0 (sym c.if-is_empty.ensures)
-    (omega (arith, e, draft.names.ok.0))) decided.0
-    ∙ ap Ok (sym decided.1)
+    (omega (arith, e, draft.names.ok.0)))

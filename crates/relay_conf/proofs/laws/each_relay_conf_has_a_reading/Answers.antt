@@ -1,5 +1,5 @@
-use Rattle.relay_conf.proofs.EachRelay.{each_relay}
+use Rattle.relay_conf.proofs.OneRelay.{relay_one}
 use Rattle.relay_conf.proofs.laws.each_relay_conf_has_a_reading.Goals as goal
 
 pub returns : goal.returns
-returns c = each_relay
+returns c = relay_one.some

@@ -1,10 +1,9 @@
-use Rattle.std.proofs.Common.{◌<◌, ◌^◌, arith, get_or, length, map}
-use Rattle.std.proofs.lemmas.List.{length-map}
+use Rattle.std.proofs.Common.{◌<◌, ◌^◌, arith, get_or, length}
 use Rattle.std.proofs.lemmas.List.Elements.{All-map}
 use Rattle.news_terms.specs.StorageClass.{Entry}
-use Rattle.relay_conf.specs.Places.{group_over, group_view, numbered_buffers}
 use Rattle.relay_conf.specs.Settings.{places_of_groups}
 use Rattle.relay_conf.specs.Storage.{entry_view}
+use Rattle.relay_conf.proofs.SoundCycbuff.{as_many_groups}
 use Rattle.relay_conf.proofs.laws.entries_are_sound.Goals as goal
 
 pub returns-clause-classes : goal.returns-clause-classes
@@ -16,13 +15,6 @@ returns-clause-classes c =
 pub returns-clause-groups : goal.returns-clause-groups
 returns-clause-groups c =
     let config = c.args.config.now in
-    let groups = map group_view config.buffers.groups.items in
     All-map (λ (entry : Entry). entry.group < length (places_of_groups config.buffers)) entry_view
     config.storage_entries.items
-    (λ k d within.
-    omega (
-      arith,
-      config.grouped k d within,
-      length-map groups (group_over (numbered_buffers config.buffers.buffers.items)),
-      length-map config.buffers.groups.items group_view,
-    ))
+    (λ k d within. omega (arith, config.grouped k d within, as_many_groups config.buffers))

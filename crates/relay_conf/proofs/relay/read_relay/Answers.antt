@@ -1,6 +1,6 @@
-use Rattle.std.proofs.Common.{◌∙◌, subst, map, List, ℕ, Err}
+use Rattle.std.proofs.Common.{◌∙◌, map, List, ℕ}
 use Rattle.std.specs.Borrow.{Bor}
-use Rattle.relay_conf.specs.Drafts.{DraftGives, IsDrawnFrom}
+use Rattle.relay_conf.specs.Drafts.{IsDrawnFrom}
 use Rattle.relay_conf.specs.Lines.{lines_of}
 use Rattle.relay_conf.specs.RelayLines.{LineSays}
 use Rattle.relay_conf.specs.Relay.{early_fault, relay_said}
@@ -13,15 +13,12 @@ use Rattle.relay_conf.proofs.relay.read_relay.Goals as goal
 
 pub returns-in_err-draft : goal.returns-in_err-draft
 returns-in_err-draft c =
-    let error = c.in_err-draft.field-0.0 in
     let lines =
-    read_of c.in_ok-lines.lines.items c.deref.result.now (lines_of c.args.text.now)
-    c.deref.ensures.value c.in_ok-lines.ensures in
-    draft_fails relay_view LineSays early_fault IsDraftOf relay_said (lines_of c.args.text.now)
-    error c.from_residual-in_err-draft.result c.from_residual-in_err-draft.ensures.1
-    (subst (λ (read : List (List ℕ)). DraftGives LineSays early_fault IsDraftOf read (Err error))
-    lines
-    (c.in_err-draft.ensures tt (no_draft c.new.result c.new.ensures.stand c.new.ensures.listed)))
+    read_of _ _ _ c.deref.ensures.value c.in_ok-lines.ensures in
+    draft_fails relay_view LineSays early_fault IsDraftOf relay_said _ (lines_of c.args.text.now)
+    lines c.from_residual-in_err-draft.result c.in_err-draft.field-0.0
+    c.from_residual-in_err-draft.ensures.1
+    (c.in_err-draft.ensures tt (no_draft c.new.result c.new.ensures.stand c.new.ensures.listed))
 
 -- The draft is that of the lines that were read.
 drawn : (c : goal.In_ok-draft)
@@ -44,11 +41,7 @@ finished-requires c =
 
 pub returns : goal.returns
 returns c =
-    let lines =
-    read_of c.in_ok-lines.lines.items c.deref.result.now (lines_of c.args.text.now)
-    c.deref.ensures.value c.in_ok-lines.ensures in
-    relay_gives (lines_of c.args.text.now) c.in_ok-draft.draft c.finished.result
-    (subst (λ (read : List (List ℕ)).
-    IsDrawnFrom LineSays early_fault IsDraftOf read c.in_ok-draft.draft) lines
-    (c.in_ok-draft.ensures tt (no_draft c.new.result c.new.ensures.stand c.new.ensures.listed)))
+    relay_gives _ (lines_of c.args.text.now)
+    (read_of _ _ _ c.deref.ensures.value c.in_ok-lines.ensures) c.in_ok-draft.draft c.finished.result
+    (c.in_ok-draft.ensures tt (no_draft c.new.result c.new.ensures.stand c.new.ensures.listed))
     c.finished.ensures

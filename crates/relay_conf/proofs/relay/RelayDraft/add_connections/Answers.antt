@@ -13,14 +13,7 @@ kept c = record { name = c.args.name.now; connections = c.args.connections }
 -- They join the others.
 pushed : (c : goal.In_ok-push-2) → c.push.new.self.items ≡ c.args.self.now.connections.items
     ++ kept c ∷ []
-pushed c =
-    let one : List ℕ → PeerConnections = λ name. record {
-      name = name;
-      connections = c.args.connections;
-    } in
-    c.in_ok-push.ensures.items
-    ∙ ap (λ (name : List ℕ). c.args.self.now.connections.items ++ one name ∷ [])
-    c.in_ok-copied.ensures
+pushed c = cc (c.in_ok-push.ensures.items, c.in_ok-copied.ensures)
 
 pub returns-clause-listed : goal.returns-clause-listed
 returns-clause-listed c = λ listed.

@@ -1,30 +1,31 @@
-use Rattle.std.proofs.Common.{◌≡◌, ◌∙◌, ap, sym, refl, map, List, ℕ, ◌++◌, ◌∷◌, [], Ok}
+use Rattle.std.proofs.Common.{◌≡◌, ◌∙◌, ap, sym, refl, map, List, ℕ, ◌++◌, ◌∷◌, [], Ok, Err}
 use Rattle.std.specs.Prelude.{bytes_eq, ◌||◌}
 use Rattle.std.specs.List.{list_any}
 use Rattle.std.specs.HashSet.{contains_text}
 use Rattle.std.proofs.lemmas.List.{map-append}
-use Rattle.relay_conf.specs.RelayDraft.{draft_view}
-use Rattle.relay_conf.specs.RelayLines.{FeedLine}
+use Rattle.relay_conf.specs.RelayDraft.{after_line, draft_view, fault_behind}
+use Rattle.relay_conf.specs.RelayLines.{FeedLine, FeedSays}
 use Rattle.relay_conf.specs.declared.relay.NamedFeed.{NamedFeed}
-use Rattle.relay_conf.specs.declared.relay.NamedLine.{NamedLine}
 use Rattle.relay_conf.proofs.NameTexts.{any_more}
-use Rattle.relay_conf.proofs.RelayReadings.{feed_err, name_taken, name_free}
+use Rattle.relay_conf.proofs.LinesRead.{unread}
+use Rattle.relay_conf.proofs.RelayReadings.{name_listed}
 use Rattle.relay_conf.proofs.relay.RelayDraft.add_feed.Goals as goal
 
 pub returns-in_err-expression-clause-step : goal.returns-in_err-expression-clause-step
 returns-in_err-expression-clause-step c = λ listed.
-    feed_err c.args.line c.args.name.now c.args.ring c.args.text.now (draft_view c.args.self.now)
-    (draft_view c.args.self.now) c.from_residual.result c.in_err-expression.field-0.0
-    c.from_residual.ensures.1 c.in_err-expression.ensures
+    unread (FeedSays c.args.name.now c.args.ring c.args.text.now) fault_behind
+    (after_line c.args.line) (draft_view c.args.self.now) (draft_view c.args.self.now)
+    c.from_residual.result c.args.text.now c.in_err-expression.field-0.0 c.from_residual.ensures.1
+    c.in_err-expression.ensures (λ fault g. record { said = Err fault; says = g; found = refl })
 
 pub returns-then-not-branch-clause-step : goal.returns-then-not-branch-clause-step
 returns-then-not-branch-clause-step c = λ listed. record {
   said = Ok (FeedLine c.args.name.now c.args.ring c.in_ok-expression.expression);
   says = (c.in_ok-expression.expression, c.in_ok-expression.ensures, refl);
-  found = name_taken (map (λ (feed : NamedFeed). feed.name) c.args.self.now.feeds.items)
+  found = (name_listed (map (λ (feed : NamedFeed). feed.name) c.args.self.now.feeds.items)
       c.args.name.now (contains_text c.args.self.now.feed_names.names c.args.name.now)
-      c.in_ok-add.field-0
-      (listed.0 c.args.name.now) c.in_ok-add.ensures.added c.if-not-branch.true;
+      c.in_ok-add.field-0 (listed.0 c.args.name.now) c.in_ok-add.ensures.added).0
+      c.if-not-branch.true;
 }
 
 -- the feed as it is kept
@@ -39,42 +40,17 @@ kept c = record {
 -- it joins the others
 pushed : (c : goal.In_ok-push-2)
     → c.push.new.self.items ≡ c.args.self.now.feeds.items ++ kept c ∷ []
-pushed c =
-    let feed : List ℕ → NamedFeed = λ name. record {
-      name = name;
-      ring =
-          c.args.ring;
-      expression = c.in_ok-expression.expression;
-    } in
-    c.in_ok-push.ensures.items
-    ∙ ap (λ (name : List ℕ). c.args.self.now.feeds.items ++ feed name ∷ []) c.in_ok-copied.ensures
-
--- The line joins those that say something of a peer.
-noted : (c : goal.In_ok-push-2) → c.push-2.new.self.items ≡ c.args.self.now.named.items ++ record {
-  line = c.args.line;
-  name = c.args.name.now;
-} ∷ []
-noted c =
-    let one : List ℕ → NamedLine = λ name. record { line = c.args.line; name = name } in
-    c.in_ok-push-2.ensures.items
-    ∙ ap (λ (name : List ℕ). c.args.self.now.named.items ++ one name ∷ []) c.in_ok-copied-2.ensures
+pushed c = cc (c.in_ok-push.ensures.items, c.in_ok-copied.ensures)
 
 pub returns-clause-step : goal.returns-clause-step
 returns-clause-step c = λ listed. record {
   line = FeedLine c.args.name.now c.args.ring c.in_ok-expression.expression;
   says = (c.in_ok-expression.expression, c.in_ok-expression.ensures, refl);
-  none = name_free (map (λ (feed : NamedFeed). feed.name) c.args.self.now.feeds.items)
+  none = (name_listed (map (λ (feed : NamedFeed). feed.name) c.args.self.now.feeds.items)
       c.args.name.now (contains_text c.args.self.now.feed_names.names c.args.name.now)
-      c.in_ok-add.field-0
-      (listed.0 c.args.name.now) c.in_ok-add.ensures.added c.if-not-branch.false;
-  reading = ap (λ (feeds : List NamedFeed). record (draft_view c.args.self.now) {
-    feeds = feeds;
-    named = c.push-2.new.self.items;
-  }) (pushed c)
-      ∙ ap (λ (named : List NamedLine). record (draft_view c.args.self.now) {
-        feeds = c.args.self.now.feeds.items ++ kept c ∷ [];
-        named = named;
-      }) (noted c);
+      c.in_ok-add.field-0 (listed.0 c.args.name.now) c.in_ok-add.ensures.added).1
+      c.if-not-branch.false;
+  reading = cc (pushed c, c.in_ok-push-2.ensures.items, c.in_ok-copied-2.ensures);
 }
 
 pub returns-clause-listed : goal.returns-clause-listed

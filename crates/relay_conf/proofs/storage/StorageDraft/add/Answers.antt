@@ -1,4 +1,4 @@
-use Rattle.std.proofs.Common.{refl, Some, ℕ, Bool, Option}
+use Rattle.std.proofs.Common.{refl, ℕ, Bool, Option}
 use Rattle.relay_conf.specs.StorageDraft.{Reading, draft_view, after_line}
 use Rattle.relay_conf.specs.StorageLines.{Skipped, Opens, Closes, Ends, ClassLine, OptionsLine}
 use Rattle.relay_conf.specs.StorageLines.{SizeLine, ExactLine}
@@ -13,7 +13,7 @@ returns-in-Skipped c =
 pub returns-in-Opens : goal.returns-in-Opens
 returns-in-Opens c =
     rw c.in-Opens.is
-    (read_by (λ (r : Reading). r) _ _ (after_line c.args.number) _
+    (read_by _ _ (after_line c.args.number) _ (λ (r : Reading). r)
     (draft_view c.open_entry.new.self) _ (Opens c.in-Opens.method.now)
     c.open_entry.result refl
     c.open_entry.ensures.taken c.open_entry.ensures.opened refl)
@@ -21,21 +21,21 @@ returns-in-Opens c =
 pub returns-in-Closes : goal.returns-in-Closes
 returns-in-Closes c =
     rw c.in-Closes.is
-    (read_by (λ (r : Reading). r) _ _ (after_line c.args.number) _
+    (read_by _ _ (after_line c.args.number) _ (λ (r : Reading). r)
     (draft_view c.close_entry.new.self) _ Closes c.close_entry.result refl
     c.close_entry.ensures.fault c.close_entry.ensures.entries refl)
 
 pub returns-in-Ends : goal.returns-in-Ends
 returns-in-Ends c =
     rw c.in-Ends.is
-    (read_by (λ (r : Reading). r) _ _ (after_line c.args.number) _
+    (read_by _ _ (after_line c.args.number) _ (λ (r : Reading). r)
     (draft_view c.end_entry.new.self) _ Ends c.end_entry.result refl
     c.end_entry.ensures.taken c.end_entry.ensures.ended refl)
 
 pub returns-in-Options : goal.returns-in-Options
 returns-in-Options c =
     rw c.in-Options.is
-    (read_by (λ (r : Reading). r) _ _ (after_line c.args.number) _
+    (read_by _ _ (after_line c.args.number) _ (λ (r : Reading). r)
     (draft_view c.add_options.new.self) _ (OptionsLine c.in-Options.name.now) c.add_options.result
     refl
     c.add_options.ensures.fault c.add_options.ensures.group refl)
@@ -45,33 +45,27 @@ returns-in-Newsgroups c = rw c.in-Newsgroups.is (c.add_newsgroups.ensures c.args
 
 pub returns-in-Class : goal.returns-in-Class
 returns-in-Class c =
-    let class = c.in-Class.class in
+    let set = c.set_once in
     let entry = c.args.self.now.entry in
     rw c.in-Class.is
-    (read_by (λ (slot : Option ℕ).
+    (read_by _ _ (after_line c.args.number) _ (λ (slot : Option ℕ).
     draft_view (record c.args.self.now { entry = record entry { class = slot } })) _ _
-    (after_line c.args.number) _ c.set_once.new.slot (Some class)
-    (ClassLine class) c.set_once.result
-    refl c.set_once.ensures.fault c.set_once.ensures.set refl)
+    (ClassLine c.in-Class.class) set.result refl set.ensures.fault set.ensures.set refl)
 
 pub returns-in-Size : goal.returns-in-Size
 returns-in-Size c =
-    let sizes = c.in-Size.sizes in
+    let set = c.set_once-in-Size in
     let entry = c.args.self.now.entry in
     rw c.in-Size.is
-    (read_by (λ (slot : Option Sizes).
+    (read_by _ _ (after_line c.args.number) _ (λ (slot : Option Sizes).
     draft_view (record c.args.self.now { entry = record entry { sizes = slot } })) _ _
-    (after_line c.args.number) _ c.set_once-in-Size.new.slot (Some sizes)
-    (SizeLine sizes) c.set_once-in-Size.result
-    refl c.set_once-in-Size.ensures.fault c.set_once-in-Size.ensures.set refl)
+    (SizeLine c.in-Size.sizes) set.result refl set.ensures.fault set.ensures.set refl)
 
 pub returns-in-ExactMatch : goal.returns-in-ExactMatch
 returns-in-ExactMatch c =
-    let exact = c.in-ExactMatch.exact in
+    let set = c.set_once-in-ExactMatch in
     let entry = c.args.self.now.entry in
     rw c.in-ExactMatch.is
-    (read_by (λ (slot : Option Bool).
+    (read_by _ _ (after_line c.args.number) _ (λ (slot : Option Bool).
     draft_view (record c.args.self.now { entry = record entry { exactmatch = slot } })) _ _
-    (after_line c.args.number) _ c.set_once-in-ExactMatch.new.slot (Some exact)
-    (ExactLine exact) c.set_once-in-ExactMatch.result
-    refl c.set_once-in-ExactMatch.ensures.fault c.set_once-in-ExactMatch.ensures.set refl)
+    (ExactLine c.in-ExactMatch.exact) set.result refl set.ensures.fault set.ensures.set refl)
