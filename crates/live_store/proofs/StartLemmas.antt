@@ -143,52 +143,47 @@ module _ (trusted : Bool) (register : Shelves) (h : History) (token : codes.Toke
       ]
 
 -- a listed token is a live one
-pub live_at : (h : History) (tokens items : List codes.Token) (n : ℕ) (d : codes.Token)
-    → items ≡ tokens → n < length items → ListsLive tokens h
-    → IsLiveToken h (token_view (slice_index_or items n d))
-live_at h tokens items n d same inside lists =
-    subst (λ (xs : List codes.Token). IsLiveToken h (token_view (slice_index_or xs n d))) (sym same)
-    ((lists.all (slice_index_or tokens n d)).0
-    (Contains-get_or tokens n d (omega (arith, inside, ap length same))))
+pub live_at : (h : History) (tokens : List codes.Token) (n : ℕ) (d : codes.Token)
+    → n < length tokens → ListsLive tokens h
+    → IsLiveToken h (token_view (slice_index_or tokens n d))
+live_at h tokens n d inside lists =
+    (lists.all (slice_index_or tokens n d)).0 (Contains-get_or tokens n d inside)
 
 -- with the record of one token more
 pub numbered_item : (trusted : Bool) (register : Shelves) (h : History)
-    (tokens items : List codes.Token) (n : ℕ) (d : codes.Token) (shown : Where Record)
+    (tokens : List codes.Token) (n : ℕ) (d : codes.Token) (shown : Where Record)
     (numbers : List (Option (Where Record)))
-    → items ≡ tokens → n < length items → ListsLive tokens h
-    → Shows register shown → named_in shown ≡ slice_index_or items n d
+    → n < length tokens → ListsLive tokens h
+    → Shows register shown → named_in shown ≡ slice_index_or tokens n d
     → (trusted ≡ true
-    → IsTextOfLive h (token_view (slice_index_or items n d)) (text_in shown))
-    → (slice_index_or items n d).first < length numbers
+    → IsTextOfLive h (token_view (slice_index_or tokens n d)) (text_in shown))
+    → (slice_index_or tokens n d).first < length numbers
     → AreNumberedTo trusted register h tokens n numbers
     → AreNumberedTo trusted register h tokens (n + 1)
-    (set numbers (slice_index_or items n d).first (Some shown))
-numbered_item trusted register h tokens items n d shown numbers same inside lists shows named text
-    within numbered =
-    let live = live_at h tokens items n d same inside lists in
-    numbered_next trusted register h (slice_index_or items n d) shown numbers live shows named
-    (λ honest. text honest live) within tokens n (omega (arith, inside, ap length same))
-    (get_or_default items n d (slice_index_or items n d) inside
-    ∙ ap (λ (xs : List codes.Token). slice_index_or xs n (slice_index_or items n d)) same)
-    numbered
+    (set numbers (slice_index_or tokens n d).first (Some shown))
+numbered_item trusted register h tokens n d shown numbers inside lists shows named text within
+    numbered =
+    let live = live_at h tokens n d inside lists in
+    numbered_next trusted register h (slice_index_or tokens n d) shown numbers live shows named
+    (λ honest. text honest live) within tokens n inside
+    (get_or_default tokens n d (slice_index_or tokens n d) inside) numbered
 
 -- with the number of one token's record more, each token so far has one at its article's first
 -- block
-pub firsts_item : (tokens items : List codes.Token) (n : ℕ) (d : codes.Token)
+pub firsts_item : (tokens : List codes.Token) (n : ℕ) (d : codes.Token)
     (shown : Where Record) (numbers : List (Option (Where Record)))
-    → items ≡ tokens → n < length items
-    → (named_in shown).first ≡ (slice_index_or items n d).first
-    → (slice_index_or items n d).first < length numbers
+    → n < length tokens
+    → (named_in shown).first ≡ (slice_index_or tokens n d).first
+    → (slice_index_or tokens n d).first < length numbers
     → HaveFirsts tokens n numbers
-    → HaveFirsts tokens (n + 1) (set numbers (slice_index_or items n d).first (Some shown))
-firsts_item tokens items n d shown numbers same inside named within firsts j other less in_tokens =
-    number_set numbers (slice_index_or items n d).first shown within named
+    → HaveFirsts tokens (n + 1) (set numbers (slice_index_or tokens n d).first (Some shown))
+firsts_item tokens n d shown numbers inside named within firsts j other less in_tokens =
+    number_set numbers (slice_index_or tokens n d).first shown within named
     (slice_index_or tokens j other).first (nat_lt j n)
     (elim (cases_order j n) [
       | inl e ↦ inl (ap (λ (t : codes.Token). t.first)
-          (ap (λ (xs : List codes.Token). slice_index_or xs j other) (sym same)
-          ∙ get_or_default items j other d (omega (arith, e, inside))
-          ∙ ap (λ m. slice_index_or items m d) e))
+          (get_or_default tokens j other d (omega (arith, e, inside))
+          ∙ ap (λ m. slice_index_or tokens m d) e))
       | inr o ↦ elim o [
         | inl l ↦ inr (lt-ltb j n l)
         | inr g ↦ absurd (omega (arith, less, g))

@@ -22,7 +22,7 @@ use std::sync::{Mutex, Wait};
 pub fn fetch<S: BlockStore, J: StorePremises, R: Wait>(
     rt: &R,
     alloc: Global,
-    buffers: &Vec<Mutex<NumberedBuffer<S, J>>>,
+    buffers: &[Mutex<NumberedBuffer<S, J>>],
     register: &ArticleLog,
     token: &Token,
 ) -> Result<Fetched<J>, AllocError>

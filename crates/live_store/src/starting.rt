@@ -267,21 +267,21 @@ fn numbers_of_articles<S: BlockStore, R: Wait>(
     alloc: Global,
     register: &ArticleLog,
     buffer: &mut Unopened<S>,
-    tokens: &Vec<Token>,
+    tokens: &[Token],
 ) -> Result<Vec<Option<RecordNumber>>, StartError>
     requires within { AreWithin (length (S.blocks (store_of (inside buffer.old))))
-        tokens.now.items }
+        tokens.now }
     ensures numbered { IfOk result (λ numbers. (trusted : Bool) (h : History)
-        → Agrees trusted (inside buffer.old) h → ListsLive tokens.now.items h
+        → Agrees trusted (inside buffer.old) h → ListsLive tokens.now h
         → AreNumbered trusted register.now h numbers.items) }
     ensures shown { IfOk result (λ numbers. AreShown register.now numbers.items) }
     ensures firsts { IfOk result (λ numbers.
-        HaveFirsts tokens.now.items (length tokens.now.items) numbers.items) }
+        HaveFirsts tokens.now (length tokens.now) numbers.items) }
     ensures length { IfOk result (λ numbers. length numbers.items
         ≡ length (S.blocks (store_of (inside buffer.old)))) }
     ensures read { IsMerelyRead (inside buffer.old) (inside buffer.new) }
     ensures refused { (h : History) → Agrees true (inside buffer.old) h
-        → ListsLive tokens.now.items h → IfErr result (IsUnentered (AreArticles h)) }
+        → ListsLive tokens.now h → IfErr result (IsUnentered (AreArticles h)) }
     ensures fault { IfErr result (IsUnentered ⊥) }
     ensures failed { IfErr result (IsBlamed S.BlockStore (store_of (inside buffer.old))
         (store_of (inside buffer.new))) }

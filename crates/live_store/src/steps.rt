@@ -280,8 +280,8 @@ impl<S: BlockStore, J: StorePremises> NumberedBuffer<S, J> {
 }
 
 /// The number that stands at a block.
-fn number_at(numbers: &Vec<Option<RecordNumber>>, block: u32) -> Option<RecordNumber>
-    ensures { result ≡ slice_index_or numbers.now.items block None }
+fn number_at(numbers: &[Option<RecordNumber>], block: u32) -> Option<RecordNumber>
+    ensures { result ≡ slice_index_or numbers.now block None }
 {
     match numbers.get(block as usize) {
         Some(Some(shown)) => Some(shown.again()),

@@ -75,17 +75,15 @@ fn write_all<S: BlockStore, J: StorePremises, R: Wait>(
     buffer: &Mutex<NumberedBuffer<S, J>>,
     register: &ArticleLog,
     entered: &Entered,
-    text: &Vec<u8>,
+    text: &[u8],
 ) -> Result<(), WriteFault>
     requires register { register.now ≡ J.register }
     requires shown { Shows J.register (shown_of entered.now) }
-    requires text { text.now.items ≡ text_in (shown_of entered.now) }
-    ensures { IfErr result (IsWriteFault text.now.items) }
+    requires text { text.now ≡ text_in (shown_of entered.now) }
+    ensures { IfErr result (IsWriteFault text.now) }
 {
     for _ in 0..text.len().div_ceil(CHUNK_OCTETS) {
-        let _last = buffer
-            .lock(rt)
-            .write_next(register, entered, text.as_slice())?;
+        let _last = buffer.lock(rt).write_next(register, entered, text)?;
     }
     Ok(())
 }

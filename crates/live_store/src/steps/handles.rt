@@ -12,11 +12,11 @@ use cyc_buffer::{BufError, Fault};
 pub struct Conflict(pub(super) ());
 
 /// The octets of a text, where it has some and no more than a token can say.
-pub(crate) fn octets_of(text: &Vec<u8>) -> Result<u32, Conflict>
-    ensures octets { IfOk result (λ n. n ≡ length text.now.items) }
+pub(crate) fn octets_of(text: &[u8]) -> Result<u32, Conflict>
+    ensures octets { IfOk result (λ n. n ≡ length text.now) }
     ensures some { IfOk result (λ n. 1 ≤ n) }
     ensures conflict { OnErr result
-        ((length text.now.items ≡ 0) ⊎ (2 ^ 32 ≤ length text.now.items)) }
+        ((length text.now ≡ 0) ⊎ (2 ^ 32 ≤ length text.now)) }
 {
     match u32::try_from(text.len()) {
         Ok(0) => Err(Conflict(())),

@@ -30,23 +30,23 @@ pub(crate) fn enter_articles<S: BlockStore, R: Wait>(
     alloc: Global,
     register: &ArticleLog,
     buffer: &mut Unopened<S>,
-    tokens: &Vec<Token>,
+    tokens: &[Token],
     numbers: &mut Vec<Option<RecordNumber>>,
 ) -> Result<(), StartError>
-    requires within { AreWithin (length numbers.old.items) tokens.now.items }
+    requires within { AreWithin (length numbers.old.items) tokens.now }
     ensures numbered { OnOk result ((trusted : Bool) (h : History)
-        → Agrees trusted (inside buffer.old) h → ListsLive tokens.now.items h
-        → AreNumberedTo trusted register.now h tokens.now.items (length tokens.now.items)
+        → Agrees trusted (inside buffer.old) h → ListsLive tokens.now h
+        → AreNumberedTo trusted register.now h tokens.now (length tokens.now)
         numbers.new.items) }
     ensures shown { OnOk result (AreShown register.now numbers.old.items
         → AreShown register.now numbers.new.items) }
-    ensures firsts { OnOk result (HaveFirsts tokens.now.items (length tokens.now.items)
+    ensures firsts { OnOk result (HaveFirsts tokens.now (length tokens.now)
         numbers.new.items) }
     ensures length { OnOk result (length numbers.new.items ≡ length numbers.old.items) }
     ensures read { IsMerelyRead (inside buffer.old) (inside buffer.new) }
     // Only what holds no article under a token, or not all of it, is damaged.
     ensures refused { (h : History) → Agrees true (inside buffer.old) h
-        → ListsLive tokens.now.items h → IfErr result (IsUnentered (AreArticles h)) }
+        → ListsLive tokens.now h → IfErr result (IsUnentered (AreArticles h)) }
     ensures fault { IfErr result (IsUnentered ⊥) }
     ensures failed { IfErr result (IsBlamed S.BlockStore (store_of (inside buffer.old))
         (store_of (inside buffer.new))) }
@@ -122,11 +122,11 @@ fn read_text<S: BlockStore>(
 }
 
 /// Judges a text an article.
-fn judge(alloc: Global, text: &Vec<u8>) -> Result<(), StartError>
-    ensures article { OnOk result ∥ IsArticle text.now.items ∥₁ }
-    ensures refused { IfErr result (IsNoArticle text.now.items) }
+fn judge(alloc: Global, text: &[u8]) -> Result<(), StartError>
+    ensures article { OnOk result ∥ IsArticle text.now ∥₁ }
+    ensures refused { IfErr result (IsNoArticle text.now) }
 {
-    let _article = match Article::parse(alloc, text.as_slice()) {
+    let _article = match Article::parse(alloc, text) {
         Ok(article) => article,
         Err(error) => return Err(told(error)),
     };

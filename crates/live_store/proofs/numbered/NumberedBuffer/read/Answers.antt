@@ -7,6 +7,7 @@ use Rattle.live_store.proofs.TiedLemmas.{tied_same}
 use Rattle.live_store.proofs.OpenLemmas.{device_fails}
 use Rattle.live_store.proofs.ReadLemmas.{read_numbered, read_chunk, read_shown, read_gone}
 use Rattle.live_store.proofs.ReadLemmas.{read_fails}
+use Rattle.live_store.specs.Tied.{number_at}
 use Rattle.live_store.proofs.numbered.NumberedBuffer.read.Goals as goal
 
 pub invariant_of-self : goal.invariant_of-self
@@ -28,7 +29,8 @@ unreachable-requires g c = read_numbered g.J.StorePremises.register g.J.StorePre
     c.args.self.now.tied c.args.token.now
     (subst (IsFoundBy c.args.self.now.buffer c.args.token.now c.args.k)
     (c.in-Ok-Chunk.is ∙ ap Ok c.in-Ok-Chunk.field-0-is) c.read_block.ensures.remembered)
-    (sym c.number_at.ensures ∙ c.in-None.is)
+    (ap (λ numbers. number_at numbers c.args.token.now.first) (sym c.deref.ensures.value)
+    ∙ sym c.number_at.ensures ∙ c.in-None.is)
 
 pub returns-in-Some-clause-chunk : goal.returns-in-Some-clause-chunk
 returns-in-Some-clause-chunk g c = read_chunk g.J.StorePremises.register g.J.StorePremises.trusted
@@ -38,13 +40,15 @@ returns-in-Some-clause-chunk g c = read_chunk g.J.StorePremises.register g.J.Sto
     (subst (λ r. ReadsBlock c.args.self.now.buffer c.args.token.now c.args.k c.args.chunk.now r
     c.read_block.new.chunk c.read_block.new.self)
     (c.in-Ok-Chunk.is ∙ ap Ok c.in-Ok-Chunk.field-0-is) c.read_block.ensures.reads)
-    (sym c.number_at.ensures ∙ c.in-Some.is)
+    (ap (λ numbers. number_at numbers c.args.token.now.first) (sym c.deref.ensures.value)
+    ∙ sym c.number_at.ensures ∙ c.in-Some.is)
 
 pub returns-in-Some-clause-shown : goal.returns-in-Some-clause-shown
 returns-in-Some-clause-shown g c = read_shown g.J.StorePremises.register g.J.StorePremises.trusted
     c.args.self.now.buffer c.args.self.now.open_write c.args.self.now.numbers.items
     c.args.self.now.tied c.args.token.now c.in-Some.shown
-    (sym c.number_at.ensures ∙ c.in-Some.is)
+    (ap (λ numbers. number_at numbers c.args.token.now.first) (sym c.deref.ensures.value)
+    ∙ sym c.number_at.ensures ∙ c.in-Some.is)
 
 pub returns-in-Ok-Gone-clause-gone : goal.returns-in-Ok-Gone-clause-gone
 returns-in-Ok-Gone-clause-gone g c = read_gone c.args.self.now.buffer c.args.token.now c.args.k

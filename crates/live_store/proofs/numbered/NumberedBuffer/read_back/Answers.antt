@@ -1,6 +1,8 @@
-use Rattle.std.proofs.Common.{subst}
+use Rattle.std.proofs.Common.{length, subst, sym}
 use Rattle.boxcar.specs.Table.{Shelves}
 use Rattle.cyc_buffer.specs.Head.{inside}
+use Rattle.cyc_buffer.specs.Starting.{ListsLive}
+use Rattle.live_store.specs.Started.{HaveFirsts}
 use Rattle.live_store.specs.Tied.{AreNumbered, AreShown}
 use Rattle.live_store.proofs.StartedLemmas.{have_numbers, tied_started}
 use Rattle.live_store.proofs.numbered.NumberedBuffer.read_back.Goals as goal
@@ -13,10 +15,13 @@ invariant_of-result g c = record {
       c.args.started.tokens.items c.requires.started c.requires.idle
       c.numbers_of_articles.ensures.read
       (have_numbers (inside c.args.started.buffer) c.args.started.tokens.items
-      c.in-Ok.numbers.items c.requires.listed c.in-Ok.ensures.length c.in-Ok.ensures.firsts)
+      c.in-Ok.numbers.items c.requires.listed c.in-Ok.ensures.length
+      (subst (λ tokens. HaveFirsts tokens (length tokens) c.in-Ok.numbers.items)
+      c.deref.ensures.value c.in-Ok.ensures.firsts))
       (λ trusted h agrees lists.
       subst (λ (r : Shelves). AreNumbered trusted r h c.in-Ok.numbers.items) c.requires.register
-      (c.in-Ok.ensures.numbered trusted h agrees lists))
+      (c.in-Ok.ensures.numbered trusted h agrees
+      (subst (λ tokens. ListsLive tokens h) (sym c.deref.ensures.value) lists)))
       (subst (λ (r : Shelves). AreShown r c.in-Ok.numbers.items) c.requires.register
       c.in-Ok.ensures.shown)
       c.in-Ok.ensures.length;
@@ -25,4 +30,5 @@ invariant_of-result g c = record {
 pub returns-in-Ok-clause-numbered : goal.returns-in-Ok-clause-numbered
 returns-in-Ok-clause-numbered g c trusted h agrees lists =
     subst (λ (r : Shelves). AreNumbered trusted r h c.in-Ok.numbers.items) c.requires.register
-    (c.in-Ok.ensures.numbered trusted h agrees lists)
+    (c.in-Ok.ensures.numbered trusted h agrees
+    (subst (λ tokens. ListsLive tokens h) (sym c.deref.ensures.value) lists))

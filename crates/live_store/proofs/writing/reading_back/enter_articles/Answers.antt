@@ -1,4 +1,4 @@
-use Rattle.std.proofs.Common.{◌∙◌, ◌<◌, ap, arith, subst, length, slice_index_or, List}
+use Rattle.std.proofs.Common.{◌∙◌, ◌<◌, ap, arith, subst, length, slice_index_or}
 use Rattle.std.proofs.Common.{Bool, true, Some}
 use Rattle.std.proofs.lemmas.List.{length-set}
 use Rattle.news_terms.specs.ArticleTexts.{IsArticle}
@@ -19,10 +19,9 @@ returns-in_err-shown-clause-read g c = merely_next (inside c.args.buffer.now)
 
 pub returns-in_err-shown-clause-refused : goal.returns-in_err-shown-clause-refused
 returns-in_err-shown-clause-refused g c h agrees lists =
-    let items = c.deref-token-items.result.now in
+    let items = c.args.tokens.now in
     let n = c.loop-token.token-index in
-    let live = live_at h c.args.tokens.now.items items n none_token
-    c.deref-token-items.ensures.value c.loop-token-test.true lists in
+    let live = live_at h items n none_token c.loop-token-test.true lists in
     let token = slice_index_or items n none_token in
     passed_on (IsUnentered (AreArticles h)) _ _ c.from_residual.ensures
     (unentered_by ∥ IsArticle live.article.text ∥₁ (AreArticles h) c.in_err-shown.field-0.0
@@ -33,36 +32,25 @@ returns-in_err-shown-clause-refused g c h agrees lists =
 pub loop-token-preserved : goal.loop-token-preserved
 loop-token-preserved g c =
     let was = c.loop-token.invariant in
-    let items = c.deref-token-items.result.now in
+    let items = c.args.tokens.now in
     let n = c.loop-token.token-index in
     let token = slice_index_or items n none_token in
     let numbers = c.loop-token.numbers.items in
     let now = c.in_ok-shown.ensures in
-    let at : (slice_index_or c.args.tokens.now.items n none_token).first
-    < length c.args.numbers.now.items = c.requires.within n none_token
-    (omega (arith, c.loop-token-test.true, ap length c.deref-token-items.ensures.value)) in
     let within : token.first < length numbers =
-    omega (
-      arith,
-      at,
-      was.room,
-      ap (λ (xs : List codes.Token). (slice_index_or xs n none_token).first)
-          c.deref-token-items.ensures.value,
-    ) in
+    omega (arith, c.requires.within n none_token c.loop-token-test.true, was.room) in
     record {
       read = merely_next (inside c.args.buffer.now) (inside c.loop-token.buffer)
           (inside c.enter_article.new.buffer) was.read now.read;
       failures = now.no_failure ∙ was.failures;
-      firsts = firsts_item c.args.tokens.now.items items n none_token c.in_ok-shown.shown numbers
-          c.deref-token-items.ensures.value c.loop-token-test.true
+      firsts = firsts_item items n none_token c.in_ok-shown.shown numbers c.loop-token-test.true
           (ap (λ (t : codes.Token). t.first) now.named) within was.firsts;
       room = length-set numbers token.first (Some c.in_ok-shown.shown) ∙ was.room;
       shown = λ all. shown_set c.args.register.now numbers token.first c.in_ok-shown.shown within
           now.shown (was.shown all);
       numbered = λ trusted h agrees lists.
-          numbered_item trusted c.args.register.now h c.args.tokens.now.items items n none_token
-          c.in_ok-shown.shown numbers c.deref-token-items.ensures.value c.loop-token-test.true
-          lists now.shown now.named
+          numbered_item trusted c.args.register.now h items n none_token c.in_ok-shown.shown
+          numbers c.loop-token-test.true lists now.shown now.named
           (λ honest. now.text h (subst (λ (b : Bool). Agrees b (inside c.loop-token.buffer) h)
           honest (was.read.same trusted h agrees)))
           within (was.numbered trusted h agrees lists);
@@ -71,19 +59,8 @@ loop-token-preserved g c =
 pub returns-clause-numbered : goal.returns-clause-numbered
 returns-clause-numbered g c trusted h agrees lists cycle first article there j less is =
     c.loop-token.invariant.numbered trusted h agrees lists cycle first article there j
-    (omega (
-      arith,
-      less,
-      c.loop-token-test.false,
-      ap length c.deref-token-items.ensures.value,
-    )) is
+    (omega (arith, less, c.loop-token-test.false)) is
 
 pub returns-clause-firsts : goal.returns-clause-firsts
 returns-clause-firsts g c j d less inside =
-    c.loop-token.invariant.firsts j d
-    (omega (
-      arith,
-      less,
-      c.loop-token-test.false,
-      ap length c.deref-token-items.ensures.value,
-    )) inside
+    c.loop-token.invariant.firsts j d (omega (arith, less, c.loop-token-test.false)) inside

@@ -13,10 +13,10 @@ invariant-loop-token g l = record {
   read : IsMerelyRead (inside l.initial.buffer) (inside l.buffer);
   failures : g.S.BlockStore.failures (store_of (inside l.buffer))
       ≡ g.S.BlockStore.failures (store_of (inside l.initial.buffer));
-  firsts : HaveFirsts l.tokens.items l.token-index l.numbers.items;
+  firsts : HaveFirsts l.tokens l.token-index l.numbers.items;
   room : length l.numbers.items ≡ length l.initial.numbers.items;
   shown : AreShown l.register l.initial.numbers.items → AreShown l.register l.numbers.items;
   numbered : (trusted : Bool) (h : History) → Agrees trusted (inside l.initial.buffer) h
-      → ListsLive l.tokens.items h
-      → AreNumberedTo trusted l.register h l.tokens.items l.token-index l.numbers.items;
+      → ListsLive l.tokens h
+      → AreNumberedTo trusted l.register h l.tokens l.token-index l.numbers.items;
 }
