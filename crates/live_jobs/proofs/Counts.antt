@@ -1,21 +1,19 @@
 -- The kept jobs of all writers, one writer more.
 use Rattle.std.proofs.Common.{◌≡◌, ℕ, zero, suc, ◌+◌, ◌≤◌, ◌≢◌, ⊎_elim, Bool, false, List, []}
 use Rattle.std.proofs.Common.{◌∷◌, take, Some, sym, ap, ◌∙◌, arith, add-one}
+use Rattle.std.proofs.lemmas.Option.{same_Some}
 use Rattle.std.specs.Prelude.{slice_get, slice_set}
 use Rattle.live_jobs.specs.declared.outcome.FinishedJob.{FinishedJob}
 use Rattle.live_jobs.specs.Taken.{kept_in}
 use Rattle.live_jobs.specs.Gathered.{kept_by_all}
 use Rattle.live_jobs.proofs.Passes.{get_set}
 
-pub some_is : {X : Type 0} (x y : X) → Some x ≡ Some y → x ≡ y
-some_is x y e = cc
-
 module _ {O : Type 0} (kept : O → Bool) where
   kept_suc : (dss : List (List (FinishedJob O))) (g : ℕ) (ds : List (FinishedJob O))
       → slice_get dss g ≡ Some ds
       → kept_by_all kept (take (suc g) dss) ≡ kept_by_all kept (take g dss) + kept_in kept ds
   kept_suc [] g ds at = absurd (cc)
-  kept_suc (x ∷ dss) zero ds at = let same = ap (kept_in kept) (some_is x ds at) in omega arith
+  kept_suc (x ∷ dss) zero ds at = let same = ap (kept_in kept) (same_Some x ds at) in omega arith
   kept_suc (x ∷ dss) (suc g) ds at = let h = kept_suc dss g ds at in omega arith
 
   pub kept_next : (dss : List (List (FinishedJob O))) (g : ℕ) (ds : List (FinishedJob O))

@@ -1,6 +1,7 @@
 -- The seats of the ends in a row.
 use Rattle.std.proofs.Common.{◌≡◌, ◌≢◌, ℕ, ◌+◌, ◌<◌, List, length}
 use Rattle.std.proofs.Common.{Some, sym, ap, ◌∙◌, subst, ⊎_elim, arith}
+use Rattle.std.proofs.lemmas.Option.{same_Some}
 use Rattle.std.specs.Prelude.{slice_get, slice_set, slice_index_or}
 use native.Mathlib.Decide.{ℕ_discrete}
 use mathlib.Core.Logic.{dite}
@@ -34,9 +35,6 @@ pub hands_set : (lefts : List LeftSeat) (e : ℕ) (left new : LeftSeat)
     → left_by new ≡ left_by left → hands_of (slice_set lefts e new) ≡ hands_of lefts
 hands_set lefts e left new at same = map_set_same left_by lefts e left new at same
 
-some_is : {X : Type 0} (x y : X) → Some x ≡ Some y → x ≡ y
-some_is x y e = cc
-
 pub hand_at : (lefts : List LeftSeat) (e : ℕ) (left : LeftSeat) (hands : List (List (List Handed)))
     → slice_get lefts e ≡ Some left → hands_of lefts ≡ hands
     → slice_get hands e ≡ Some (left_by left)
@@ -51,7 +49,7 @@ module _ {O : Type 0} (fits : O → Handed → Type 0) where
       → ToldBelow fits n g finished hands → ToldBelow fits (n + 1) g finished hands
   told_next n g finished hands h at told below e handed jobs less there job = dite (ℕ_discrete e n)
       (λ is.
-      let same : h ≡ handed = some_is h handed (sym at ∙ ap (slice_get hands) (sym is) ∙ there) in
+      let same : h ≡ handed = same_Some h handed (sym at ∙ ap (slice_get hands) (sym is) ∙ there) in
       subst (λ (k : ℕ). Told fits k finished jobs) (sym is)
       (told jobs (ap (λ (l : List (List Handed)). slice_get l g) same ∙ job)))
       (λ other. below e handed jobs (omega arith) there job)

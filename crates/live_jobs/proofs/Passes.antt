@@ -4,6 +4,7 @@ use Rattle.std.proofs.Common.{List, [], ◌∷◌, ◌++◌, length, map, Some, 
 use Rattle.std.proofs.Common.{⊎_elim, arith}
 use lib.Dec.{ltb}
 use Rattle.std.proofs.lemmas.Bool.Decides.{nat_tests}
+use Rattle.std.proofs.lemmas.Option.{same_Some}
 use Rattle.std.specs.Prelude.{slice_get, slice_set, slice_index_or}
 use Rattle.crossbeam_queue.specs.Passes.{view, IsPassOf}
 use Rattle.job_queue.specs.declared.parcel.Handed.{Handed}
@@ -221,15 +222,12 @@ pub jobs_at : (passes : List QueuePass) (g : ℕ) (pass : QueuePass) (jobs : Lis
     → jobs ≡ jobs_in pass
 jobs_at passes g pass jobs at is = let there = map_at jobs_in passes g pass at in cc
 
-some_is : {X : Type 0} (x y : X) → Some x ≡ Some y → x ≡ y
-some_is x y e = cc
-
 pub of_channel : (channels : List JobChannel) (g : ℕ) (channel : JobChannel) (pass : QueuePass)
     → g < length channels → channel ≡ slice_index_or channels g channel
     → IsPassOf (queue_of channel) pass → OfChannel channels g pass
 of_channel channels g channel pass h l is other there =
     let same : channel
-    ≡ other = some_is channel other (sym (read_at channels g channel h l) ∙ there) in
+    ≡ other = same_Some channel other (sym (read_at channels g channel h l) ∙ there) in
     subst (λ (q : JobChannel). IsPassOf (queue_of q) pass) same is
 
 -- ---- one group more

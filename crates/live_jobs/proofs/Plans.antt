@@ -3,6 +3,7 @@ use Rattle.std.proofs.Common.{◌≡◌, ◌≢◌, ⊎_elim, ◌+◌, ◌<◌, 
 use Rattle.std.proofs.Common.{◌∷◌, ◌++◌, length, map, refl, Some, sym, ap, ◌∙◌, subst}
 use Rattle.std.specs.Prelude.{slice_get, slice_set}
 use Rattle.std.proofs.lemmas.List.{map-append}
+use Rattle.std.proofs.lemmas.Option.{same_Some}
 use Rattle.crossbeam_queue.specs.Passes.{IsPassOf}
 use Rattle.job_queue.specs.Passes.{QueuePass}
 use Rattle.job_queue.specs.declared.parcel.Handed.{Handed}
@@ -27,16 +28,13 @@ same_seat channels now seat was end l p e fits = (
   ap end_of p ∙ sym e,
 )
 
-some_is : {X : Type 0} (x y : X) → Some x ≡ Some y → x ≡ y
-some_is x y e = cc
-
 pub ended : (channels : List JobChannel) (ends g : ℕ) (channel : JobChannel) (n : ℕ)
     (pass : QueuePass) (lent : Bool)
     (closed : List Bool) → Runs channels ends g channel n → IsPassOf (queue_of channel) pass
     → AllClosed n closed → lent ≡ false → Ended channels ends g pass lent closed
 ended channels ends g channel n pass lent closed runs is all here = (
   (λ other there. subst (λ (q : JobChannel). IsPassOf (queue_of q) pass)
-      (some_is channel other (sym runs.1 ∙ there)) is),
+      (same_Some channel other (sym runs.1 ∙ there)) is),
   subst (λ (k : ℕ). AllClosed k closed) runs.0 all,
   here,
 )

@@ -1,10 +1,11 @@
 -- What posts and takes keep of a desk whose posts are counted.
 use Rattle.std.proofs.Common.{◌≡◌, ℕ, ◌+◌, ◌≤◌, ◌<◌, ◌^◌, ◌==◌, Bool, true, false, sym, subst, ap}
 use Rattle.std.proofs.Common.{List, [], ◌∷◌, ◌++◌, length, Option, None, Some, Result, Ok, Err}
-use Rattle.std.proofs.Common.{if◌then◌else◌, refl, nat_eq, arith, take, max, suc, zero}
+use Rattle.std.proofs.Common.{if◌then◌else◌, refl, nat_eq, arith, max, suc, zero}
 use Rattle.std.proofs.Math.Logic.{∥∥₁_map, ∥∥₁_elim}
 use Rattle.std.proofs.Props.{props}
 use Rattle.std.proofs.lemmas.List.{length-append}
+use Rattle.std.proofs.lemmas.Option.{same_Some}
 use Rattle.std.specs.Coded.{le_prop}
 use Rattle.std.specs.List.{AllZip, list_any}
 use Rattle.std.specs.Prelude.{IfOk, IfSome, OnErr, slice_get, slice_index}
@@ -22,9 +23,6 @@ use Rattle.relay_model.specs.Shares.{after_take_of}
 use Rattle.relay_model.specs.State.{Feed, put_at}
 use Rattle.relay_model.specs.Writers.{gaining}
 use Rattle.live_jobs.specs.Posting.{KeepsAtMost, most_gained}
-
-same_some : {X : Type 0} → {x y : X} → Some x ≡ Some y → x ≡ y
-same_some e = cc
 
 -- each feed has gained one more at most
 few_gained : (feeds : ℕ → Feed) (permitted : List ℕ) (token : Token) (most : ℕ)
@@ -156,7 +154,7 @@ some_left law (k ∷ ks) (s ∷ ss) holds =
         → slice_get (k ∷ ks) f ≡ Some one
         → IsLeft one (slice_index (s ∷ ss) f) (in_front feed rest.feeds f)
     each_of feed rest left zero one is =
-        subst (λ (x : KeptFeed). IsLeft x s feed) (same_some is) left
+        subst (λ (x : KeptFeed). IsLeft x s feed) (same_Some k one is) left
     each_of feed rest left (suc f) one is = rest.each f one is
 
     few_of_all : (feed : Feed) → (rest : SomeLeft ks ss) → length feed.gained ≤ k.gained

@@ -1,6 +1,7 @@
 -- Rows that are taken from the front, and rows that grow.
 use Rattle.std.proofs.Common.{◌≡◌, ◌⊎◌, inl, inr, ℕ, zero, suc, ◌+◌, List, [], ◌∷◌, ◌++◌, length}
 use Rattle.std.proofs.Common.{Some, refl, sym, ap, ◌∙◌, subst, ⊎_elim, arith}
+use Rattle.std.proofs.lemmas.Option.{same_Some}
 use Rattle.std.specs.Prelude.{slice_get}
 use Rattle.live_jobs.specs.Rows.{From}
 
@@ -24,10 +25,7 @@ module _ {X : Type 0} where
 
   pub get_snoc : (xs : List X) (a : X) (k : ℕ) (b : X) → slice_get (xs ++ a ∷ []) k ≡ Some b
       → (slice_get xs k ≡ Some b) ⊎ ((k ≡ length xs) × (a ≡ b))
-  get_snoc [] a zero b e = inr (refl, some_is a b e)
-    where
-      some_is : (x y : X) → Some x ≡ Some y → x ≡ y
-      some_is x y e = cc
+  get_snoc [] a zero b e = inr (refl, same_Some a b e)
   get_snoc [] a (suc k) b e = absurd (cc)
   get_snoc (x ∷ xs) a zero b e = inl e
   get_snoc (x ∷ xs) a (suc k) b e =

@@ -1,6 +1,7 @@
 -- What a writer told of one end.
 use Rattle.std.proofs.Common.{◌≡◌, ◌≤◌, ◌<◌, ℕ, zero, suc, Bool, true, false, List, [], ◌∷◌, map}
 use Rattle.std.proofs.Common.{Some, refl, sym, ap, ◌∙◌, subst}
+use Rattle.std.proofs.lemmas.Option.{same_Some}
 use Rattle.std.specs.Prelude.{slice_get, ◌==◌, cond}
 use Rattle.crossbeam_queue.specs.Passes.{view}
 use Rattle.job_queue.specs.declared.parcel.Handed.{Handed}
@@ -43,9 +44,6 @@ same_head x y xs ys e = cc
 same_tail : {X : Type 0} (x y : X) (xs ys : List X) → x ∷ xs ≡ y ∷ ys → xs ≡ ys
 same_tail x y xs ys e = cc
 
-some_is : {X : Type 0} (x y : X) → Some x ≡ Some y → x ≡ y
-some_is x y e = cc
-
 no_names : {X Y : Type 0} (f : X → Y) (xs : List X) → map f xs ≡ [] → xs ≡ []
 no_names f [] e = refl
 no_names f (x ∷ xs) e = absurd (cc)
@@ -56,7 +54,7 @@ module _ {O : Type 0} (fits : O → Handed → Type 0) where
       → FitEach fits ds js → FitEach fits (d ∷ ds) (j ∷ js)
   fit_cons d ds j js this rest zero e i at there =
       subst (λ (x : FinishedJob O × Handed). ∥ fits x.0.outcome x.1 ∥₁)
-      (λ n. (some_is d e at n, some_is j i there n)) this
+      (λ n. (same_Some d e at n, same_Some j i there n)) this
   fit_cons d ds j js this rest (suc k) e i at there = rest k e i at there
 
   told_step : (b c : Bool) (d : FinishedJob O) (j : Handed) (ds : List (FinishedJob O))

@@ -2,6 +2,7 @@
 use Rattle.std.proofs.Common.{◌≡◌, ◌≢◌, ℕ, zero, suc, ◌+◌, ◌<◌, ◌≤◌, Bool, List}
 use Rattle.std.proofs.Common.{[], ◌∷◌, ◌++◌, length, map, Some, refl, sym, ap, ◌∙◌, subst, ⊎_elim}
 use Rattle.std.proofs.Common.{arith}
+use Rattle.std.proofs.lemmas.Option.{same_Some}
 use Rattle.std.specs.Prelude.{slice_get, slice_set, slice_index_or}
 use native.Mathlib.Decide.{ℕ_discrete}
 use mathlib.Core.Logic.{dite}
@@ -27,9 +28,6 @@ pub within : {X : Type 0} (xs : List X) (k : ℕ) (x : X) → slice_get xs k ≡
 within [] k x e = absurd (cc)
 within (y ∷ xs) zero x e = omega arith
 within (y ∷ xs) (suc k) x e = let h = within xs k x e in omega arith
-
-some_is : {X : Type 0} (x y : X) → Some x ≡ Some y → x ≡ y
-some_is x y e = cc
 
 module _ {X : Type 0} (f : X → QueuePass) (h : X → List Bool) where
   pub writers_at : (channels : List JobChannel) (n : ℕ) (xs : List X) (g : ℕ) (x : X)
@@ -99,7 +97,7 @@ module _ {O : Type 0} (fits : O → Handed → Type 0) where
       dite (ℕ_discrete k g)
       (λ here.
       let this : d
-      ≡ finished = some_is d finished (sym there ∙ ap (slice_get finished_lists) here ∙ at) in
+      ≡ finished = same_Some d finished (sym there ∙ ap (slice_get finished_lists) here ∙ at) in
       let hand' = ap (λ (l : List (List (List Handed))). slice_get l e) same ∙ hand in
       let below = within (hands_of lefts) e handed hand' in
       let long = length_map left_by lefts in
@@ -117,7 +115,7 @@ none_group {O} n g finished_lists finished at none before k e d less there from 
     dite (ℕ_discrete k g)
     (λ here.
     let this : d
-    ≡ finished = some_is d finished (sym there ∙ ap (slice_get finished_lists) here ∙ at) in
+    ≡ finished = same_Some d finished (sym there ∙ ap (slice_get finished_lists) here ∙ at) in
     subst (λ (x : List (FinishedJob O)). told_of e x ≡ []) (sym this) (none e from below))
     (λ other. before k e d (omega arith) there from below)
 

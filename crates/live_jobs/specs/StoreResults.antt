@@ -1,11 +1,10 @@
 -- What became of a job, and which of it fits the job.
-use Rattle.std.specs.Prelude.{◌≡◌, ℕ, Bool, true, false}
+use Rattle.std.specs.Prelude.{◌≡◌, ℕ, Bool, true, false, None, IsSomeAnd}
 use Rattle.cyc_buffer.specs.declared.answers.Fault.{Fault}
 use Rattle.job_queue.specs.declared.parcel.Handed.{Handed}
 use Rattle.live_jobs.specs.declared.store_result.StoreResult.{StoreResult}
 use Rattle.live_jobs.specs.declared.store_result.StoreResult.TheVariants as store_results
 use Rattle.live_jobs.specs.declared.store_result.JobAnswer.{JobAnswer}
-use Rattle.live_jobs.specs.declared.store_result.JobAnswer.TheVariants as told
 use Rattle.live_jobs.specs.Posted.{IsPostOf}
 use Rattle.live_jobs.specs.declared.desk.both.Posted.{Posted}
 use Rattle.live_store.specs.declared.record.StorePremises.{Ghosts}
@@ -43,10 +42,7 @@ FitsJob holds store_results.Conflict handed = Unit {0}
 
 -- what a store result tells: the same receipt, or that the job failed
 abbrev pub IsAnswerOf : {J : Type 0} {g : Ghosts J} → StoreResult J g → JobAnswer J g → Type 0
-IsAnswerOf (store_results.Kept one posted) (told.Kept other) =
-    (receipt_token one ≡ receipt_token other) × (one.shown ≡ other.shown)
-IsAnswerOf (store_results.Kept one posted) told.Failed = ⊥
-IsAnswerOf (store_results.Failed fault) (told.Kept other) = ⊥
-IsAnswerOf (store_results.Failed fault) told.Failed = Unit {0}
-IsAnswerOf store_results.Conflict (told.Kept other) = ⊥
-IsAnswerOf store_results.Conflict told.Failed = Unit {0}
+IsAnswerOf (store_results.Kept one posted) answer = IsSomeAnd answer.receipt
+    (λ other. (receipt_token one ≡ receipt_token other) × (one.shown ≡ other.shown))
+IsAnswerOf (store_results.Failed fault) answer = answer.receipt ≡ None
+IsAnswerOf store_results.Conflict answer = answer.receipt ≡ None

@@ -28,9 +28,9 @@ fn lend_all<L: Ledger, O: Outcome>(writers: &mut Vec<WriterSeat<L, O>>, all: &mu
 }
 
 /// How many jobs all writers kept, which are at most so many.
-fn sum_kept<L: Ledger, O: Outcome>(writers: &Vec<WriterSeat<L, O>>, most: u64) -> u64
-    requires { kept_by_all O.kept (map (λ w. w.finished.items) writers.now.items) ≤ most }
-    ensures { result ≡ kept_by_all O.kept (map (λ w. w.finished.items) writers.now.items) }
+fn sum_kept<L: Ledger, O: Outcome>(writers: &[WriterSeat<L, O>], most: u64) -> u64
+    requires { kept_by_all O.kept (map (λ w. w.finished.items) writers.now) ≤ most }
+    ensures { result ≡ kept_by_all O.kept (map (λ w. w.finished.items) writers.now) }
 {
     let _ = most;
     let mut accepted = 0u64;

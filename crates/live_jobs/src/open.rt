@@ -39,18 +39,18 @@ fn new_plans<V: Drop>(alloc: Global, services: Vec<V>) -> Result<Vec<Plan<V>>, A
 /// A channel more. Each end gets a pass of it; the writer's pass and the first are given back.
 fn add_channel<V>(
     alloc: Global,
-    channels: &Vec<JobChannel>,
+    channels: &[JobChannel],
     plans: &mut Vec<Plan<V>>,
 ) -> Result<(JobChannel, QueuePass, QueuePass), AllocError>
     requires few { length plans.old.items < 2 ^ 62 }
-    requires fit { From (λ e p. IsUnused channels.now.items e p.seat) 0 plans.old.items }
+    requires fit { From (λ e p. IsUnused channels.now e p.seat) 0 plans.old.items }
     ensures writer { IfOk result (λ r. IsPassOf (queue_of r.0) r.1 × (view r.1 ≡ writer_knows [])) }
     ensures rest { IfOk result (λ r. IsPassOf (queue_of r.0) r.2
         × IsRest (length plans.old.items) r.2) }
     ensures ends { IfOk result (λ r. length plans.new.items ≡ length plans.old.items) }
     ensures services { IfOk result (λ r. map (λ p. p.service) plans.new.items
         ≡ map (λ p. p.service) plans.old.items) }
-    ensures fit { IfOk result (λ r. From (λ e p. IsUnused (channels.now.items ++ r.0 ∷ []) e p.seat)
+    ensures fit { IfOk result (λ r. From (λ e p. IsUnused (channels.now ++ r.0 ∷ []) e p.seat)
         0 plans.new.items) }
 {
     let _ = channels.len();

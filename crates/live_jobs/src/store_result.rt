@@ -38,11 +38,13 @@ impl<J: StorePremises> Outcome for StoreResult<J> {
     }
 }
 
-/// What a writer tells the session whose job it had.
+/// What a writer tells the session whose job it had, and the session is told of it.
 #[derive(Drop)]
-pub enum JobAnswer<J: StorePremises> {
-    Kept(Receipt<J>),
-    Failed,
+pub struct JobAnswer<J: StorePremises> {
+    /// The number of the job among those of its end.
+    pub number: u64,
+    /// Its receipt, where the article is kept; none where the job failed.
+    pub receipt: Option<Receipt<J>>,
 }
 
 /// A job of this end's that was answered kept (239, 235): its number in the end's order, and the
@@ -72,12 +74,14 @@ impl<J: StorePremises> KeptJob<J> {
     }
 }
 
-/// What a store result tells the session.
-pub fn answer_of<J: StorePremises>(store_result: &StoreResult<J>) -> JobAnswer<J>
-    ensures { IsAnswerOf store_result.now result }
+/// What the store result of the job of this number tells the session.
+pub fn answer_of<J: StorePremises>(number: u64, store_result: &StoreResult<J>) -> JobAnswer<J>
+    ensures number { result.number ≡ number }
+    ensures receipt { IsAnswerOf store_result.now result }
 {
-    match store_result {
-        StoreResult::Kept(receipt, _) => JobAnswer::Kept(receipt.again()),
-        StoreResult::Failed(_) | StoreResult::Conflict => JobAnswer::Failed,
-    }
+    let receipt = match store_result {
+        StoreResult::Kept(receipt, _) => Some(receipt.again()),
+        StoreResult::Failed(_) | StoreResult::Conflict => None,
+    };
+    JobAnswer { number, receipt }
 }

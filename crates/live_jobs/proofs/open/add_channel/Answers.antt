@@ -24,7 +24,7 @@ loop-end-init g c =
       );
       services = refl;
       finished = λ k p none at. absurd (omega arith);
-      todo = λ k p from at. subst (λ (n : ℕ). IsUnused c.args.channels.now.items n p.seat)
+      todo = λ k p from at. subst (λ (n : ℕ). IsUnused c.args.channels.now n p.seat)
           (zero_add k) (c.requires.fit k p at);
     }
 
@@ -49,13 +49,13 @@ loop-end-preserved g c =
       );
       services = map_set_same (λ p. p.service) _ _ _ _ at refl ∙ inv.services;
       finished = finished_next
-          (λ n p. IsUnused (c.args.channels.now.items ++ c.in_ok-channel.channel ∷ []) n p.seat) _ _
+          (λ n p. IsUnused (c.args.channels.now ++ c.in_ok-channel.channel ∷ []) n p.seat) _ _
           _ inv.finished (
             (was.0.0, fits_snoc _ _ _ _ _ _ was.0.1 pushed cut.passes.1 fresh),
             was.1,
             unused_snoc _ _ _ _ _ _ was.2 pushed fresh,
           );
-      todo = todo_next (λ n p. IsUnused c.args.channels.now.items n p.seat) _ _ _ inv.todo;
+      todo = todo_next (λ n p. IsUnused c.args.channels.now n p.seat) _ _ _ inv.todo;
     }
 
 pub returns-clause-fit : goal.returns-clause-fit
@@ -65,5 +65,5 @@ returns-clause-fit g c =
     λ k p at.
     let less = within c.loop-end.plans.items k p at in
     let past = c.loop-end-test.false in
-    subst (λ (n : ℕ). IsUnused (c.args.channels.now.items ++ c.in_ok-channel.channel ∷ []) n p.seat)
+    subst (λ (n : ℕ). IsUnused (c.args.channels.now ++ c.in_ok-channel.channel ∷ []) n p.seat)
     (sym (zero_add k)) (inv.finished k p (omega (arith, inv.long, c.len-end-end.ensures)) at)

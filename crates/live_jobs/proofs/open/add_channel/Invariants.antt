@@ -13,7 +13,7 @@ invariant-loop-end g l = record {
   services : map (λ s. s.service) l.plans.items ≡ map (λ s. s.service) l.fn.plans.items;
   first : IsPassOf (queue_of l.channel) l.first × IsRest l.end l.first;
   finished : (k : ℕ) (s : Plan _) → k < l.end → slice_get l.plans.items k ≡ Some s
-      → IsUnused (l.channels.items ++ l.channel ∷ []) k s.seat;
+      → IsUnused (l.channels ++ l.channel ∷ []) k s.seat;
   todo : (k : ℕ) (s : Plan _) → l.end ≤ k → slice_get l.plans.items k ≡ Some s
-      → IsUnused l.channels.items k s.seat;
+      → IsUnused l.channels k s.seat;
 }

@@ -1,4 +1,4 @@
-use Rattle.std.proofs.Common.{◌∙◌, ◌+◌, sym, ap, subst, length, arith, List}
+use Rattle.std.proofs.Common.{◌∙◌, ◌+◌, ◌++◌, ◌∷◌, [], sym, ap, subst, length, arith, List}
 use Rattle.crossbeam_queue.specs.Passes.{IsPassOf}
 use Rattle.job_queue.specs.Passes.{QueuePass}
 use Rattle.live_jobs.specs.Gathered.{IsRest}
@@ -28,6 +28,11 @@ loop-group-init g c =
           w.pass w.lent w.closed.items) _ (ap length c.new-writers.ensures.items);
     }
 
+pub add_channel-requires-clause-fit : goal.add_channel-requires-clause-fit
+add_channel-requires-clause-fit g c =
+    subst (λ (ls : List JobChannel). From (λ e p. IsUnused ls e p.seat) 0
+    c.loop-group.plans.items) (sym c.deref.ensures.value) c.loop-group.invariant.plans
+
 pub loop-group-preserved : goal.loop-group-preserved
 loop-group-preserved g c =
     let inv = c.loop-group.invariant in
@@ -49,7 +54,9 @@ loop-group-preserved g c =
       );
       plans = subst
           (λ (ls : List JobChannel). From (λ e p. IsUnused ls e p.seat) 0
-          c.add_channel.new.plans.items) (sym channels) add.fit;
+          c.add_channel.new.plans.items)
+          (ap (λ ls. ls ++ c.in_ok-channel.channel ∷ []) c.deref.ensures.value ∙ sym channels)
+          add.fit;
       rests = rests_snoc c.loop-group.channels.items _ c.in_ok-channel.channel _
           c.loop-group.rests.items _ c.in_ok-channel.first inv.rests channels rests add.rest.0
           (subst (λ n. IsRest n c.in_ok-channel.first) inv.ends add.rest.1);
