@@ -182,7 +182,12 @@ impl Session {
         match answer {
             Answer::Take(told) => match self.take_owed(read) {
                 Some((transfer, id)) => {
-                    self.hear_take(number, transfer, id, copy, article, room, told)
+                    let job = Job {
+                        session: number,
+                        id: copy,
+                        article,
+                    };
+                    self.hear_take(transfer, id, job, room, told)
                 }
                 None => Vec::new(self.alloc),
             },
@@ -190,36 +195,30 @@ impl Session {
         }
     }
 
-    /// The article in the session's hand is to be stored, or the id is remembered, or another
-    /// article of the id is being stored.
+    /// The job comes into the session's hand, or the id is remembered, or another article of the id
+    /// is being stored.
     pub(crate) fn hear_take(
         &mut self,
-        number: u64,
         transfer: Transfer,
         id: MsgId,
-        copy: MsgId,
-        article: Accepted,
+        job: Job,
         room: Room,
         told: Take,
     ) -> Vec<u8>
-        ensures { copy ≡ id → self.old.phase ≡ Phase.Ready → self.old.cutter.dropped ≡ 0
-            → HeardIs result.items self.old (take_heard number (session_view self.old)
-            (transfer_view transfer) id (article_view article) (take_view told)) self.new }
+        ensures { job.id ≡ id → self.old.phase ≡ Phase.Ready → self.old.cutter.dropped ≡ 0
+            → HeardIs result.items self.old (take_heard job.session (session_view self.old)
+            (transfer_view transfer) id (article_view job.article) (take_view told)) self.new }
     {
         match told {
             Take::Mine => {
-                self.hand = Some(Job {
-                    session: number,
-                    id: copy,
-                    article,
-                });
+                self.hand = Some(job);
                 self.phase = Phase::Waits(transfer, id, room);
                 Vec::new(self.alloc)
             }
             Take::Seen => room.say(&rejected(transfer, &id)),
             Take::Held => match transfer {
                 Transfer::TakesThis => {
-                    self.phase = Phase::Holds(id, article, room);
+                    self.phase = Phase::Holds(id, job.article, room);
                     Vec::new(self.alloc)
                 }
                 Transfer::Has => room.say(&Reply::IhaveLater),

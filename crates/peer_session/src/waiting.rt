@@ -71,7 +71,12 @@ impl Session {
         match answer {
             Answer::Take(told) => match mem::replace(&mut self.phase, Phase::Ready) {
                 Phase::Holds(id, article, room) => {
-                    self.hear_take(number, Transfer::TakesThis, id, copy, article, room, told)
+                    let job = Job {
+                        session: number,
+                        id: copy,
+                        article,
+                    };
+                    self.hear_take(Transfer::TakesThis, id, job, room, told)
                 }
                 other => {
                     self.phase = other;
