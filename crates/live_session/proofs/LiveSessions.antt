@@ -432,6 +432,17 @@ unbegun honest register w s end peer hands read written = record {
   hands = refl;
 }
 
+-- so it is where its end, its connection and how it ended are those
+pub unbegun_as : (honest : Bool) (register : Shelves) (w : Terms) (s end peer : ℕ) (hands : Hands)
+    (read written : List ℕ) (finish : Finish) (after : Hands) (read' written' : List ℕ)
+    → finish ≡ finishes.Broken → after ≡ hands → read' ≡ read → written' ≡ written
+    → IsServedBy honest register w s end peer hands read written finish after read' written'
+unbegun_as honest register w s end peer hands read written finish after read' written' f a r t =
+    subst (λ (x : Finish × (Hands × (List ℕ × List ℕ))).
+    IsServedBy honest register w s end peer hands read written x.0 x.1.0 x.1.1.0 x.1.1.1)
+    (λ i. (sym f i, (sym a i, (sym r i, sym t i))))
+    (unbegun honest register w s end peer hands read written)
+
 module _ {J : Type 0} {g : Ghosts J} (w : Terms) where
   -- nothing more than the connection has changed
   pub then_same : (old new : LiveSession J g) (c mid c' : Carried) → ServesOn w old new c mid

@@ -16,5 +16,5 @@ mod wire;
 pub use commands::Command;
 pub use live::{Connection, Served, SessionContext};
 pub use serve::serve_session;
-pub use shares::{Clock, Gate, JobTold, Shares};
+pub use shares::{Clock, Gate, Shares};
 pub use wire::Finish;

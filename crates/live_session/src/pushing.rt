@@ -7,7 +7,7 @@ ghost use Rattle.peer_session.specs.declared.steps.Answer.TheVariants as answers
 ghost use Rattle.peer_session.specs.declared.steps.Step.TheVariants as steps;
 
 use crate::live::{LiveSession, SessionContext};
-use crate::shares::{JobTold, Shares};
+use crate::shares::Shares;
 use live_jobs::{JobAnswer, KeptJob};
 use live_store::StorePremises;
 use peer_session::{Answer, Outcome};
@@ -64,12 +64,12 @@ pub(crate) fn look_in_slot<S: Shares<J, R>, C, G, J: StorePremises, R: Wait>(
         return Answer::Memory;
     }
     let end = live.seat.end();
-    let JobTold { number, told } = context.shares.outcome(rt, end, handed - 1, &live.kept);
-    match told {
-        JobAnswer::Kept(receipt) => {
+    let JobAnswer { number, receipt } = context.shares.outcome(rt, end, handed - 1, &live.kept);
+    match receipt {
+        Some(receipt) => {
             live.kept.push_reserved(KeptJob::new(number, &receipt));
             Answer::Slot(Some(Outcome::Kept))
         }
-        JobAnswer::Failed => Answer::Slot(Some(Outcome::Failed)),
+        None => Answer::Slot(Some(Outcome::Failed)),
     }
 }

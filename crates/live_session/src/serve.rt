@@ -86,52 +86,28 @@ pub fn serve_session<
     // It is held only where the gate said no to a command.
     ensures held { result.finish ≡ finishes.Held → Refusal (G.refuses context.now.gate.now) }
 {
-    let Connection {
-        number,
-        peer,
-        reader,
-        writer,
-    } = connection;
     if seat.handed() >= MOST_JOBS {
-        return Served {
-            seat,
-            kept,
-            finish: Finish::Broken,
-            reader,
-            writer,
-            tally: Tally::none(),
-            turns: 0,
-        };
+        return unserved(seat, kept, connection);
     }
-    let opened = match open(alloc, hasher, context.config, peer) {
+    let opened = match open(alloc, hasher, context.config, connection.peer) {
         Ok(opened) => opened,
-        Err(_) => {
-            return Served {
-                seat,
-                kept,
-                finish: Finish::Broken,
-                reader,
-                writer,
-                tally: Tally::none(),
-                turns: 0,
-            };
-        }
+        Err(_) => return unserved(seat, kept, connection),
     };
     let mut live = LiveSession {
-        number,
+        number: connection.number,
         session: opened.session,
         reads: OneRecord::new(),
         seat,
         kept,
     };
     let mut wire = Wire {
-        reader,
-        writer,
+        reader: connection.reader,
+        writer: connection.writer,
         outbox: opened.greeting,
         piece: opened.piece,
         finish: None,
     };
-    let mut counts = Counts::of(peer);
+    let mut counts = Counts::of(connection.peer);
     converse(rt, alloc, context, &mut live, &mut wire, &mut counts);
     break_off(&mut live);
     leave(rt, alloc, context, &mut live, &mut wire, &mut counts);
@@ -146,6 +122,29 @@ pub fn serve_session<
         writer: wire.writer,
         tally: counts.told(),
         turns: counts.turns(),
+    }
+}
+
+/// What is left of a connection that is broken before its greeting.
+fn unserved<J: StorePremises, H: Hears, W: Says>(
+    seat: SessionSeat,
+    kept: Vec<KeptJob<J>>,
+    connection: Connection<H, W>,
+) -> Served<J, H, W>
+    ensures seat { result.seat ≡ seat }
+    ensures hands { hands_at result.seat result.kept.items ≡ hands_at seat kept.items }
+    ensures finish { result.finish ≡ finishes.Broken }
+    ensures heard { H.heard result.reader ≡ H.heard connection.reader }
+    ensures said { W.said result.writer ≡ W.said connection.writer }
+{
+    Served {
+        seat,
+        kept,
+        finish: Finish::Broken,
+        reader: connection.reader,
+        writer: connection.writer,
+        tally: Tally::none(),
+        turns: 0,
     }
 }
 

@@ -70,16 +70,9 @@ pub trait Shares<J: StorePremises, R> {
 
     /// Waits until the writer has told what became of this end's job of this number, and takes that
     /// out of the end's slot, once the end's list of kept jobs has room for one more.
-    fn outcome(&self, rt: &R, end: u64, number: u64, kept: &Vec<KeptJob<J>>) -> JobTold<J>
+    fn outcome(&self, rt: &R, end: u64, number: u64, kept: &Vec<KeptJob<J>>) -> JobAnswer<J>
         requires room { vec_len kept.now < vec_capacity kept.now }
         ensures { result.number ≡ number };
-}
-
-/// What a writer told of a job, with the number of the job that was looked for.
-#[derive(Drop)]
-pub struct JobTold<J: StorePremises> {
-    pub number: u64,
-    pub told: JobAnswer<J>,
 }
 
 /// A clock: seconds since the first of 1970, within the limits.

@@ -9,8 +9,8 @@ pub returns-then-handed-eq0-clause-shared : goal.returns-then-handed-eq0-clause-
 returns-then-handed-eq0-clause-shared g c =
     slot_empty (terms_of c.args.context.now.config.now) c.args.live.now
 
-pub returns-in-Kept-clause-shared : goal.returns-in-Kept-clause-shared
-returns-in-Kept-clause-shared g c =
+pub returns-in-Some-clause-shared : goal.returns-in-Some-clause-shared
+returns-in-Some-clause-shared g c =
     let live = c.args.live.now in
     let one : KeptJob g.row.J.Denot g.J.StorePremises = c.new.result in
     slot_kept (terms_of c.args.context.now.config.now) live
@@ -18,8 +18,8 @@ returns-in-Kept-clause-shared g c =
     (c.push_reserved.ensures.items ∙ ap (λ l. l ++ one ∷ []) c.reserve.ensures.items)
     (c.new.ensures.0 ∙ c.outcome-number.ensures ∙ ap (λ n. n - 1) c.handed-handed.ensures)
 
-pub returns-in-Failed-clause-shared : goal.returns-in-Failed-clause-shared
-returns-in-Failed-clause-shared g c =
+pub returns-in-None-clause-shared : goal.returns-in-None-clause-shared
+returns-in-None-clause-shared g c =
     let live = c.args.live.now in
     slot_failed (terms_of c.args.context.now.config.now) live
     (record live { kept = c.reserve.new.self }) refl
