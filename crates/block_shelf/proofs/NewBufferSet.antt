@@ -23,6 +23,7 @@ use Rattle.relay_conf.specs.Settings.{places_of_buffers, places_of_groups}
 use Rattle.relay_conf.specs.declared.cycbuff.BufferConf.{BufferConf}
 use Rattle.relay_conf.specs.declared.cycbuff.GroupConf.{GroupConf}
 use Rattle.relay_conf.specs.declared.settings.Buffers.{Buffers}
+use Rattle.relay_conf.proofs.SoundCycbuff.{as_many_groups}
 use Rattle.relay_model.specs.Terms.{Terms}
 use Rattle.block_shelf.specs.Filling.{IsNewOver, AreNewOver, AreNewPlacedGroups, failures_in}
 use Rattle.block_shelf.specs.Filling.{members, IsNamed}
@@ -205,10 +206,6 @@ pub buffers_count : (settings : Buffers)
     → length (places_of_buffers settings) ≡ length settings.buffers.items
 buffers_count settings = simp (length-map, length-enumerate_from)
 
-pub groups_count : (settings : Buffers)
-    → length (places_of_groups settings) ≡ length settings.groups.items
-groups_count settings = simp length-map
-
 module _ {S : Type 0} {g : Ghosts S} (settings : Buffers) (stores : List S)
     (buffer_set : BufferSet S g)
     (trusted : Bool) (honest : trusted ≡ true → All g.honest stores) (w : Terms)
@@ -268,6 +265,6 @@ module _ {S : Type 0} {g : Ghosts S} (settings : Buffers) (stores : List S)
     count = over.count ∙ same_count g settings stores sized
         ∙ sym (ap length all ∙ buffers_count settings);
     buffers = new_buffer;
-    placed_group_count = placed_groups_made ∙ sym (ap length groups ∙ groups_count settings);
+    placed_group_count = placed_groups_made ∙ sym (ap length groups ∙ as_many_groups settings);
     placed_groups = λ h group is. placed_groups h group (rw groups at is);
   }

@@ -16,9 +16,9 @@ use Rattle.relay_conf.specs.Places.{group_over, group_view, mode_view, numbered_
 use Rattle.relay_conf.specs.declared.cycbuff.Mode as confs
 use Rattle.relay_conf.specs.declared.cycbuff.Mode.TheVariants as modes
 use Rattle.relay_conf.specs.declared.settings.Buffers.{Buffers}
+use Rattle.relay_conf.proofs.SoundCycbuff.{as_many_groups}
 use Rattle.relay_model.specs.State.{Kept}
 use Rattle.relay_model.specs.Terms.{Terms}
-use Rattle.block_shelf.proofs.NewBufferSet.{groups_count}
 use Rattle.block_shelf.specs.Each.{AreEach}
 use Rattle.block_shelf.specs.Resuming.{AreUsed, HasCurrent, IsResumedAt, ResumesByUse}
 use Rattle.block_shelf.specs.Resuming.{ResumesPlacedGroup}
@@ -109,7 +109,7 @@ pub placed_groups_resumed
     → ResumesByUse settings positions used placed_groups
 placed_groups_resumed settings positions used placed_groups are w begun groups current_of are_at =
     record {
-      count = are.count ∙ sym (ap length groups ∙ groups_count settings);
+      count = are.count ∙ sym (ap length groups ∙ as_many_groups settings);
       each = λ h group at.
           let a = mapped_at (group_over (numbered_buffers settings.buffers.items))
           (map group_view settings.groups.items) h group

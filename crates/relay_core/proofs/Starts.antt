@@ -2,7 +2,6 @@
 use Rattle.std.proofs.Common.{◌≡◌, ◌∙◌, ◌≢◌, ℕ, Bool, true, false, List, [], ◌∷◌, Option, None}
 use Rattle.std.proofs.Common.{Some}
 use Rattle.std.proofs.Common.{refl, sym, ap, subst, length, map, slice_get, true≢false}
-use Rattle.std.proofs.lemmas.Option.{none-some}
 use Rattle.std.specs.Prelude.{option_map}
 use Rattle.std.specs.Global.{Vec}
 use Rattle.std.specs.List.{AllZip}
@@ -58,6 +57,7 @@ use Rattle.relay_core.specs.declared.desks.Desks.{Desks}
 use Rattle.block_shelf.specs.declared.starting.StopFault.TheVariants as faults
 use Rattle.block_shelf.specs.declared.starting.Unstarted.{Unstarted}
 use Rattle.block_shelf.specs.declared.opening.UnopenedBufferSet.{UnopenedBufferSet}
+use Rattle.block_shelf.proofs.Starts.{untouched_stores}
 use Rattle.relay_core.specs.declared.system.GroupWriter.{GroupWriter}
 use Rattle.relay_core.specs.declared.system.System.{System}
 
@@ -111,28 +111,6 @@ rings_hold config kept holds =
     by buffers [] (size ∷ sizes) all = all
     by buffers (feed ∷ feeds) [] all = all
     by buffers (feed ∷ feeds) (size ∷ sizes) all = (all.0.counts, by buffers feeds sizes all.1)
-
--- what is handed back as it was is unwritten
-pub unwritten_self : {S : Type 0} (g : Ghosts S) (stores : List S)
-    → AreEach (IsUnwritten g None) stores stores
-unwritten_self g stores =
-    record {
-      count = refl;
-      each = λ b one there. record {
-        item = one;
-        there = there;
-        belongs = record {
-          held = record {
-            honest = λ is. is;
-            blocks = λ is. refl;
-            heads = λ is. refl;
-            count = refl;
-          };
-          failed_here = λ e. absurd (none-some b e);
-          no_failure = λ other. refl;
-        };
-      };
-    }
 
 module _ {S : Type 0} {g : Ghosts S} (config : Config) (stores : List S) where
   -- the stores hold the same by the terms of the configuration
@@ -296,7 +274,7 @@ module _ {S : Type 0} {g : Ghosts S} (config : Config) (stores : List S) where
     unread_or_room errors.Memory is of_none same none =
         no_room is of_none
         (subst (λ items. AreEach (IsUnwritten g None) stores items) (sym same)
-        (unwritten_self g stores))
+        (untouched_stores g stores))
     unread_or_room errors.BadHistory is of_none same none =
         unread is of_none same (none refl)
 
