@@ -1,6 +1,6 @@
 -- cycbuff.conf line by line: the buffers, the names of groups and the groups so far.
-use Rattle.std.proofs.Common.{◌≡◌, ◌≢◌, ℕ, List, [], ◌∷◌, ◌++◌, length, map, Option, None, Result}
-use Rattle.std.proofs.Common.{Ok, Err, refl, ap, ◌∙◌, sym, arith}
+use Rattle.std.proofs.Common.{◌≡◌, ◌≢◌, ℕ, List, [], ◌∷◌, ◌++◌, length, map, Option, Result, Ok}
+use Rattle.std.proofs.Common.{Err, refl, ap, ◌∙◌, sym, arith}
 use Rattle.std.specs.Prelude.{IsErrAnd, OnOk}
 use Rattle.std.specs.Option.{option_to_list}
 use Rattle.relay_conf.specs.declared.cycbuff.BufferConf.{BufferConf}
@@ -98,19 +98,14 @@ pub names_decide : (lines : List (List ℕ)) (d : BufferDraft)
     ≡ Err (record { line = 0; fault = NoBuffers }))
     × (length d.names.items ≢ 0 → buffers_said (map cycbuff_line lines) ≡ Ok d.buffers.items)
 names_decide lines d from =
-    let all = said_alone lines from.said from.says in
-    let decided = by_names d.names.items (from.draws.names ∙ ap group_names all)
-    (ap (first_fault early_fault []) (sym all) ∙ from.none) in
-    (decided.0, λ some. decided.1 some ∙ ap Ok (sym (from.draws.buffers ∙ ap buffers_of all)))
+    rw (← said_alone lines from.said from.says) (by_names d.names.items from.draws.names)
   where
-    by_names : (ns : List (List ℕ)) → ns ≡ group_names (map cycbuff_line lines)
-        → first_fault early_fault [] (map cycbuff_line lines) ≡ None
-        → (length ns ≡ 0 → buffers_said (map cycbuff_line lines)
-        ≡ Err (record { line = 0; fault = NoBuffers }))
-        × (length ns ≢ 0 → buffers_said (map cycbuff_line lines)
-        ≡ Ok (buffers_of (map cycbuff_line lines)))
-    by_names [] e none = (λ n. rw (none, ← e) refl, λ n. absurd (n refl))
-    by_names (name ∷ more) e none = (λ n. absurd (omega (arith, n)), λ n. rw (none, ← e) refl)
+    by_names : (ns : List (List ℕ)) → ns ≡ group_names from.said
+        → (length ns ≡ 0 → buffers_said from.said ≡ Err (record { line = 0; fault = NoBuffers }))
+        × (length ns ≢ 0 → buffers_said from.said ≡ Ok d.buffers.items)
+    by_names [] e = (λ n. rw (from.none, ← e) refl, λ n. absurd (n refl))
+    by_names (name ∷ more) e =
+        (λ n. absurd (omega (arith, n)), λ n. rw (from.none, ← e, from.draws.buffers) refl)
 
 -- THE GROUPS
 

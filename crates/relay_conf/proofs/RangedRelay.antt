@@ -18,7 +18,7 @@ use Rattle.relay_conf.specs.RelayLines.{connections_numbered, connections_line, 
 use Rattle.relay_conf.specs.RelayLines.{feed_line, relay_words, relay_line}
 use Rattle.relay_conf.specs.Relay.{own_of, max_article_of, cutoff_of, remember_of, patience_of}
 use Rattle.relay_conf.specs.Relay.{peer_of, connections_of, feed_of}
-use Rattle.relay_conf.specs.Words.{words, is_name, is_identity}
+use Rattle.relay_conf.specs.Words.{is_name, is_identity}
 use Rattle.relay_conf.proofs.FaultlessLines.{all_given, all_said, within_range}
 use Rattle.relay_conf.proofs.PathIdentities.{identity_is_agent}
 

@@ -7,7 +7,6 @@ use Rattle.std.specs.Option.{option_to_list}
 use Rattle.std.proofs.lemmas.Bool.{cond_both}
 use Rattle.std.proofs.lemmas.List.{length-append, length-map}
 use Rattle.std.proofs.lemmas.List.Elements.{All-map}
-use Rattle.line_words.specs.Parts.{parts}
 use Rattle.relay_conf.specs.declared.cycbuff.BufferConf.{BufferConf}
 use Rattle.relay_conf.specs.declared.faults.Fault.{Fault}
 use Rattle.relay_conf.specs.Cycbuff.{CycbuffLine, BufferLine, buffer_sized, buffer_line, group_line}
@@ -90,6 +89,7 @@ as_many : (buffers : List BufferConf) (said : List (Result CycbuffLine Fault))
 as_many buffers [] = refl
 as_many buffers (line ∷ said) = grind (arith, as_many buffers said)
 
+-- So there are at most so many groups.
 pub few_groups : (buffers : List BufferConf) (said : List (Result CycbuffLine Fault))
     → first_fault early_fault [] said ≡ None → length (groups_of buffers said) ≤ 256
 few_groups buffers said none =

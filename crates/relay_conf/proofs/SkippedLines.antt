@@ -1,7 +1,6 @@
 -- Lines that say nothing change nothing of what the others say.
-use Rattle.std.proofs.Common.{◌≡◌, ℕ, ◌+◌, Bool, true, false, List, [], ◌∷◌, ◌++◌, Option, Some}
-use Rattle.std.proofs.Common.{None, Result, Ok, Err, refl, ap, ◌∙◌, sym, append_assoc, append-nil}
-use Rattle.std.proofs.Common.{arith}
+use Rattle.std.proofs.Common.{◌≡◌, ℕ, Bool, true, false, List, [], ◌∷◌, ◌++◌, Option, Some, None}
+use Rattle.std.proofs.Common.{Result, Ok, Err, refl, ap, ◌∙◌, sym, append_assoc, append-nil, arith}
 use Rattle.std.specs.Prelude.{◌↔◌}
 use Rattle.relay_conf.specs.declared.faults.Fault.{Fault}
 use Rattle.relay_conf.specs.declared.faults.LineFault.{LineFault}
@@ -163,12 +162,10 @@ module _ {S T K : Type 0} (early : List S → S → Option Fault) (whole : List 
     settings_same before after =
         let all = before ++ skip ∷ after in
         let others = before ++ after in
-        unless_same (first_fault early [] all) (first_fault early [] others) _ _
-        (quiet_same early skip idle.none idle.early_same [] before after)
-        (unless_same (whole_fault (whole all)) (whole_fault (whole others)) _ _
+        unless_same _ _ _ _ (quiet_same early skip idle.none idle.early_same [] before after)
+        (unless_same _ _ _ _
         (ap (λ (o : Option Fault). is_quiet (whole_fault o)) (idle.whole_same before after))
-        (unless_same (first_fault (late (key all)) [] all)
-        (first_fault (late (key others)) [] others) _ _
+        (unless_same _ _ _ _
         (ap (λ (k : K). is_quiet (first_fault (late k) [] all)) (idle.key_same before after)
         ∙ quiet_same (late (key others)) skip (idle.none_late (key others))
         (idle.late_same (key others)) [] before after)

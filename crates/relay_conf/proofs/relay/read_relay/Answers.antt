@@ -42,6 +42,6 @@ finished-requires c =
 pub returns : goal.returns
 returns c =
     relay_gives _ (lines_of c.args.text.now)
-    (read_of _ _ _ c.deref.ensures.value c.in_ok-lines.ensures) c.in_ok-draft.draft c.finished.result
+    (read_of _ _ _ c.deref.ensures.value c.in_ok-lines.ensures) _ c.finished.result
     (c.in_ok-draft.ensures tt (no_draft c.new.result c.new.ensures.stand c.new.ensures.listed))
     c.finished.ensures

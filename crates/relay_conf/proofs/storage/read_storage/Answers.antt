@@ -24,6 +24,6 @@ pub returns : goal.returns
 returns c =
     let groups = (buffers_view c.args.buffers.now).groups in
     storage_gives groups _ (lines_of c.args.text.now)
-    (read_of _ _ _ c.deref.ensures.value c.in_ok-lines.ensures) c.in_ok-draft.draft c.finished.result
+    (read_of _ _ _ c.deref.ensures.value c.in_ok-lines.ensures) _ c.finished.result
     (c.in_ok-draft.ensures groups (no_draft groups c.new.result c.new.ensures))
     c.finished.ensures
