@@ -142,6 +142,7 @@ module _ {S : Type 0} {g : Ghosts S} (old : BufferSet S g) (i : ℕ) {placed_gro
       → PlacedGroupsKeep (slice_set old.placed_groups.items i placed_group) w begun
   same_groups keep = rw (set_same old.placed_groups.items i found) keep
 
+  -- a group that was looked at and put back: all is kept
   pub keeps_placed_group : KeepsAll old
       (record { buffers = old.buffers; placed_groups = with_item old.placed_groups i placed_group })
   keeps_placed_group = λ trusted w begun kept openings failures keeps.
@@ -221,6 +222,7 @@ module _ {S : Type 0} {g : Ghosts S} {trusted : Bool} {old : BufferSet S g} {w :
       number_there =
           rw (has_group.numbers, slice_get-map, ap (λ (p : picks.Pick). p.index) picks_it, target.1)
 
+      -- the group has a number for the buffer that it picks
       pub has_number : {numbers : List ℕ} → numbers ≡ placed_group.numbers.items
           → false ≡ nat_lt picked.buffer (length numbers) → ⊥
       has_number {numbers} listed missing =
@@ -244,6 +246,7 @@ module _ {S : Type 0} {g : Ghosts S} {trusted : Bool} {old : BufferSet S g} {w :
                   (record { group = can.group; is_group = can.there; is_buffer = target.1 }),
             )
 
+        -- the buffer that was picked is one of the buffer set's
         pub has_buffer : false ≡ nat_lt number (length old.buffers.items) → ⊥
         has_buffer missing =
             none-some _ (sym (past_last (buffers_kept keeps) number missing) ∙ stands_there)
@@ -365,6 +368,7 @@ module _ {S : Type 0} {g : Ghosts S} {trusted : Bool} {old : BufferSet S g} {w :
                 (All-cons (FitsGroup can.group) size [] can.fits (All-nil (FitsGroup can.group)))))
                 (λ apart. keeps.fit k each at_group)
 
+            -- the article is begun, at the place that its group picked
             pub is_begun : (one : Place) × (place_in w h (begun h) size ≡ Some one)
                 × BegunAs trusted w h class octets begun kept openings failures one
                 (Some (record { «open» = write }))

@@ -66,6 +66,7 @@ pub record ComesFrom {X Y : Type 0} (P : ℕ → X → Y → Type 0) (xs : List 
     pub there : slice_get xs b ≡ Some item
     pub belongs : P b item y
 
+-- an item of the second list comes from the one there in the first
 pub comes_from : {X Y : Type 0} (P : ℕ → X → Y → Type 0) (xs : List X) (ys : List Y)
     → AreEach P xs ys → (b : ℕ) (y : Y) → slice_get ys b ≡ Some y → ComesFrom P xs b y
 comes_from P xs ys are b y is =

@@ -201,7 +201,7 @@ buffer_is g settings stores sized b buffer store at there =
     (rw (slice_get-map, slice_get-map, there, conf.1) at (ap (λ sizes. slice_get sizes b) sized)) in
     sym conf.2 ∙ ap (λ n. record { number = b; blocks = n; first_cycle = 0 }) (sym blocks)
 
--- there are as many buffers and groups as the settings have
+-- there are as many buffers as the settings have
 pub buffers_count : (settings : Buffers)
     → length (places_of_buffers settings) ≡ length settings.buffers.items
 buffers_count settings = simp (length-map, length-enumerate_from)

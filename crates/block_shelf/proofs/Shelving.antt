@@ -18,7 +18,6 @@ use Rattle.news_terms.specs.Places as places
 use Rattle.news_terms.specs.Places.{Group}
 use Rattle.news_terms.specs.Settings.{AreSound, IsBufferAt}
 use Rattle.news_terms.proofs.ListPlaces.{there_within}
-use Rattle.relay_facts.proofs.Puts.{put_at_here, put_at_both}
 use Rattle.relay_model.specs.State.{Kept, put_at}
 use Rattle.relay_model.specs.Terms.{Terms}
 use Rattle.relay_model.specs.World.{HasFailedAt, Rises}
@@ -115,6 +114,7 @@ pub record KeptAt {S : Type 0} {g : Ghosts S} (trusted : Bool) (w : Terms) (begu
 module _ {S : Type 0} {g : Ghosts S} {trusted : Bool} {codes : List (Buffer S g)} {w : Terms}
     {begun : ℕ → List ℕ} {kept : List Kept} {openings : ℕ → Option Opening} {failures : ℕ → ℕ}
     (are : AreKept trusted codes w begun kept openings failures) where
+  -- what is kept of the buffer at a place
   pub kept_at : {b : ℕ} {code : Buffer S g} → slice_get codes b ≡ Some code
       → KeptAt trusted w begun kept openings failures b code
   kept_at {b} {code} is =
@@ -191,9 +191,7 @@ module _ {S : Type 0} {g : Ghosts S} {trusted : Bool} {old : BufferSet S g} {w :
   pub opened_after : {h : ℕ} {after : Option Opening}
       → ((one : Opening) → after ≡ Some one → IsOpenIn w.groups h one) → (k : ℕ) (other : Opening)
       → put_at openings h after k ≡ Some other → IsOpenIn w.groups k other
-  opened_after {h} {after} there k other at =
-      put_at_both (λ each. each ≡ Some other → IsOpenIn w.groups k other) openings h after k
-      (λ same e. rw same (there other e)) (λ apart e. keeps.opened k other e) at
+  opened_after {h} {after} there k other at = grind (arith, nat_tests)
 
   module _ {b : ℕ} {code code' : Buffer S g} {placed_groups : Vec PlacedGroup}
       (at : KeptAt trusted w begun kept openings failures b code) where
@@ -217,10 +215,7 @@ module _ {S : Type 0} {g : Ghosts S} {trusted : Bool} {old : BufferSet S g} {w :
           (λ each. KeepsBuffer trusted each w.groups begun' kept' openings' failures' buffer)
           old.buffers.items b j code' had.there
           (λ here.
-          let same : at.now.buffer ≡ buffer =
-          same_Some at.now.buffer buffer
-          (sym at.there ∙ ap (slice_get w.buffers) (sym here) ∙ there)
-          in
+          let same : at.now.buffer ≡ buffer = grind (arith, nat_tests) in
           record {
             history = is.history;
             is_of_buffer = is.same ∙ same;
@@ -273,10 +268,7 @@ rises failures counted grown k = grind (arith, nat_tests)
 -- and one that has failed
 pub failed_once : (failures : ℕ → ℕ) {b was now : ℕ} → failures b ≡ was → was < now
     → HasFailedAt b failures (put_at failures b now)
-failed_once failures {b} {was} {now} counted more = record {
-  rises = rises failures counted (omega (arith, more));
-  here = omega (arith, more, counted, put_at_here failures b now b refl);
-}
+failed_once failures {b} {was} {now} counted more = grind (arith, nat_tests)
 
 -- THE CALLS OF THE DEVICES
 

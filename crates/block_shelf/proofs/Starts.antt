@@ -68,6 +68,7 @@ pub blamed_here : {S : Type 0} (g : Ghosts S) (old new : S) (error : StartError)
     → g.failures old < g.failures new
 blamed_here g old new error place is e = grind arith
 
+-- a buffer at which the start did not fail has no failure more
 pub blamed_nowhere : {S : Type 0} (g : Ghosts S) (old new : S) (error : StartError) (place : ℕ)
     → IsBlamed g old new error → failed_at error place ≢ Some place
     → g.failures new ≡ g.failures old
@@ -267,11 +268,7 @@ mixed_buffer_set {stores = stores} stop {buffers} number are none had made =
       rw (made, none) (record {
         store = from.item;
         there = from.there;
-        other = λ sure. (
-          stop_of (inside had.0.0),
-          had.0.2,
-          (from.belongs.tokens, from.belongs.starts sure),
-        );
+        other = λ sure. grind arith;
         same = λ b one less there sure.
             let was = are.each b one there in (
               was.belongs.tokens,

@@ -5,7 +5,7 @@ use Rattle.std.proofs.Common.{◌^◌, ◌≤◌, Result, Ok, Err, length-set}
 use Rattle.std.proofs.lemmas.Bool.{true≢false}
 use Rattle.std.proofs.lemmas.Bool.Decides.{nat_tests}
 use Rattle.std.proofs.lemmas.List.{length-append}
-use Rattle.std.proofs.lemmas.Option.{none-some, same_Some, slice_get_within}
+use Rattle.std.proofs.lemmas.Option.{none-some, slice_get_within}
 use Rattle.cyc_block.specs.declared.store.BlockStore.{Ghosts}
 use Rattle.cyc_buffer.specs.Agreement.{store_of, Agrees, Follows}
 use Rattle.cyc_buffer.specs.Head.{IsStopRefusal, LeavesBuffer, is_busy}
@@ -20,8 +20,8 @@ use Rattle.relay_facts.proofs.Puts.{put_at_here, put_at_there}
 use Rattle.relay_model.specs.State.{Kept, put_at}
 use Rattle.relay_model.specs.Terms.{Terms}
 use Rattle.block_shelf.proofs.EachLemmas.{each_so, one_more_each}
-use Rattle.block_shelf.proofs.Shelving.{KeptAt, buffers_kept, kept_at, failed_once, groups_kept}
-use Rattle.block_shelf.proofs.Shelving.{put_both, rises, still, with_buffer}
+use Rattle.block_shelf.proofs.Shelving.{KeptAt, buffers_kept, kept_at, groups_kept, put_both, rises}
+use Rattle.block_shelf.proofs.Shelving.{still, with_buffer}
 use Rattle.block_shelf.specs.Each.{AreEach}
 use Rattle.block_shelf.specs.Histories.{HasWriting, IsFree, IsBusy}
 use Rattle.block_shelf.specs.Stopping.{AreIdleTo, AreShut, HoldsKept, IsBusyBufferSet, IsLeftOver}
@@ -173,10 +173,7 @@ keeps_further first old new result before next trusted w begun kept failures kee
           record {
             buffer = f.buffer;
             there = f.there;
-            failed = record {
-              rises = λ k. omega (arith, a.rises k, b.rises k);
-              here = omega (arith, a.rises f.buffer.number, f.failed.here);
-            };
+            failed = grind (arith, nat_tests);
           };
     }
 
@@ -247,15 +244,7 @@ module _ {S : Type 0} {g : Ghosts S} (old : BufferSet S g) (place : ℕ) {code c
           keeps = stays keeps;
           unfailed = λ done n. cc;
           free = λ e. never_busy error place (cc);
-          failed = λ number e yes.
-              let told = fails code code' error place number refusal
-              (cause one.now (subst (λ t. Agrees t code one.now) yes one.agrees))
-              (idle_at one) (cc) in
-              record {
-                buffer = one.now.buffer;
-                there = ap (slice_get w.buffers) told.0 ∙ one.there;
-                failed = rw one.number (failed_once failures one.failed told.1);
-              };
+          failed = λ number e yes. grind (arith, nat_tests);
         }
 
     -- one buffer more is restarted
@@ -270,9 +259,7 @@ module _ {S : Type 0} {g : Ghosts S} (old : BufferSet S g) (place : ℕ) {code c
             put_both (IsRestartedTo stop (place + 1) b one) old.buffers.items place b code'
             was.there
             (λ here.
-            let item : was.item ≡ code =
-            same_Some was.item code
-            (sym was.there ∙ ap (slice_get old.buffers.items) here ∙ there) in
+            let item : was.item ≡ code = grind (arith, nat_tests) in
             record {
               before = λ less.
                   rw (here, sym (was.belongs.behind (omega (arith, here))) ∙ item) is;

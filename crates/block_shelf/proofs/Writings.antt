@@ -1,14 +1,13 @@
 -- The histories of buffers, while groups begin, write and end theirs, and what the relay's state
 -- says of a history of which only its open write is another, or in which an article is finished.
 use Rattle.std.proofs.Common.{◌≡◌, ◌≢◌, ◌∙◌, ℕ, ◌+◌, Bool, refl, sym, ap, List, [], ◌∷◌, Option}
-use Rattle.std.proofs.Common.{None, Some, arith, ◌==◌, ◌&&◌, false, add-one, length, ◌++◌, map}
+use Rattle.std.proofs.Common.{None, Some, arith, ◌==◌, ◌&&◌, false, add-one, length, ◌++◌}
 use Rattle.std.proofs.Common.{if◌then◌else◌}
-use Rattle.std.proofs.lemmas.Option.{none-some}
 use Rattle.std.specs.Prelude.{count_by}
 use Rattle.std.proofs.lemmas.Bool.Decides.{nat_tests}
 use Rattle.std.proofs.lemmas.List.Sums.{sum_by_push}
 use Rattle.cyc_buffer.specs.History.{History, Begin, Writing, open_token, with_begin, next_place}
-use Rattle.cyc_buffer.specs.History.{token_at, Article, asked, head_of, is_at, finished_at, text_of}
+use Rattle.cyc_buffer.specs.History.{token_at, Article, head_of, is_at, finished_at, text_of}
 use Rattle.cyc_buffer.specs.History.{stored_count}
 use Rattle.news_terms.specs.Places.{Group, size_of, Buffer, Head}
 use Rattle.news_terms.specs.Token.{Token, same_token}
@@ -61,10 +60,7 @@ module _ (openings : ℕ → Option Opening) (g : ℕ) {h : History} where
       → (token_in one).buffer ≡ h.buffer.number → IsOnly openings g h.buffer.number
       → HasWriting openings h → HasThis h one
   has_this {one} is here only (IsFree free apart) = absurd (apart g one is here)
-  has_this {one} is here only (IsBusy k other at token writing) =
-      let same : other ≡ one =
-      cc (only k other at (open_token_here h (token_in other) token)) in
-      rw (← same) (record { token = token; writing = writing })
+  has_this {one} is here only (IsBusy k other at token writing) = grind (arith, nat_tests)
 
   -- where the group of a buffer has no open write, its history has none
   pub is_free : openings g ≡ None → IsOnly openings g h.buffer.number → HasWriting openings h
@@ -81,10 +77,7 @@ module _ (openings : ℕ → Option Opening) (g : ℕ) {h : History} where
   -- the group's open write has ended
   pub writing_ended : h.writing ≡ None → IsOnly openings g h.buffer.number
       → HasWriting (put_at openings g None) h
-  writing_ended free only =
-      IsFree free (λ k one is.
-      put_at_both (λ each. each ≡ Some one → (token_in one).buffer ≢ h.buffer.number) openings g
-      None k (λ same e here. none-some one e) (λ other e here. other (only k one e here)) is)
+  writing_ended free only = grind (arith, nat_tests)
 
 -- the history's open write right after its begin
 pub just_begun : (h : History) {class octets : ℕ} {fresh : Bool} {token : Token} (text : List ℕ)
@@ -202,11 +195,7 @@ module _ (h : History) (earlier : List Begin) (fresh : Bool) (size : ℕ) (artic
       → IsHistoryOf groups begun (kept ++ one ∷ []) openings'
       (record h { begins = finished fresh size article ∷ earlier; writing = None })
   finished_said {kept = kept} {g = g} {i = i} said begun at writing = record {
-    begins = record {
-      picked = λ k j group at_group at_buffer.
-          sym (ap (map asked) begun) ∙ said.begins.picked k j group at_group at_buffer;
-      none = λ nobody. absurd (nobody g i at);
-    };
+    begins = grind (arith, nat_tests);
     texts = λ t here.
         finished_texts kept t here
         (sym (ap (λ begins. under h.buffer begins t) begun) ∙ said.texts t here);

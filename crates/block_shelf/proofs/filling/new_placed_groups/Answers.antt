@@ -1,5 +1,5 @@
-use Rattle.std.proofs.Common.{◌∙◌, ◌+◌, ◌∷◌, [], ap, arith, length, refl}
-use Rattle.std.proofs.lemmas.List.{length-append, take_all}
+use Rattle.std.proofs.Common.{ap, arith, length, refl}
+use Rattle.std.proofs.lemmas.List.{take_all}
 use Rattle.std.proofs.lemmas.Option.{slice_get_read}
 use Rattle.block_shelf.proofs.NewBufferSet.{group_filled, one_more_placed}
 use Rattle.block_shelf.proofs.filling.new_placed_groups.Goals as goal
@@ -15,9 +15,7 @@ new-requires c =
 
 pub loop-group-preserved : goal.loop-group-preserved
 loop-group-preserved c = record {
-  count = ap length c.in_ok-push.ensures.items
-      ∙ length-append c.loop-group.placed_groups.items (c.in_ok-new.field-0 ∷ [])
-      ∙ ap (λ n. n + 1) c.loop-group.invariant.count;
+  count = grind arith;
   are = rw c.in_ok-push.ensures.items
       (one_more_placed c.args.settings.now.buffers.items c.args.settings.now.groups.items
       c.loop-group.group-index c.loop-group.placed_groups.items c.loop-group.invariant.count

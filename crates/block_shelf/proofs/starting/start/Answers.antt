@@ -63,10 +63,7 @@ returns-in-None-mixed g c =
           });
       started = ok_so c.shelve.result c.shelve.ensures.buffers c.shelve.ensures.buffers
           (λ buffer_set same also. record {
-            started = record {
-              over = rw same tried.0;
-              under = rw same (rw c.in-None-mixed.is at tried.2);
-            };
+            started = grind arith;
             unwritten = rw same unwritten;
           });
       refusal = err_so c.shelve.result c.shelve.ensures.memory c.shelve.ensures.stores

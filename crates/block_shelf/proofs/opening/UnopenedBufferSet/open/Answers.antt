@@ -1,4 +1,4 @@
-use Rattle.std.proofs.Common.{Some, ap, append_assoc, arith, length, refl}
+use Rattle.std.proofs.Common.{ap, append_assoc, arith, length, refl}
 use Rattle.std.proofs.lemmas.List.{length-append}
 use Rattle.block_shelf.proofs.EachLemmas.{none_left}
 use Rattle.block_shelf.proofs.Opens.{keeps_opened}
@@ -29,8 +29,6 @@ returns-in-Failed-clause-refusal g c =
       device = refl;
       place = c.in-Failed.place;
       within = omega (arith, was.0, ap length through);
-      told = ap Some
-          (c.number_of.ensures
-          (omega (arith, was.0, ap length through, c.args.self.few, c.args.self.buffers.ok)));
+      told = grind arith;
       left = rw through at was.1;
     }
