@@ -3,6 +3,7 @@ use Rattle.std.proofs.Common.{◌≡◌, ℕ, zero, suc, Bool, List, [], ◌∷�
 use Rattle.std.proofs.Common.{◌+◌, refl, sym, ◌∙◌, subst, arith}
 use Rattle.std.specs.Prelude.{slice_get}
 use Rattle.std.proofs.lemmas.List.{map-append}
+use Rattle.std.proofs.lemmas.Option.{same_Some}
 use Rattle.job_queue.specs.declared.parcel.Handed.{Handed}
 use Rattle.live_jobs.specs.declared.store_result.KeptJob.{KeptJob}
 use Rattle.live_jobs.specs.Started.{no_jobs}
@@ -11,12 +12,9 @@ use Rattle.live_store.specs.declared.record.StorePremises.{Ghosts}
 use Rattle.relay_live.specs.Sessions.{Accounted, IsNothing, Sessions, NoneYet}
 use Rattle.relay_model.specs.Terms.{Terms}
 
-some_is : {X : Type 0} (x y : X) → Some x ≡ Some y → x ≡ y
-some_is x y e = cc
-
 nothing : (channels : List JobChannel) → IsNothing (no_jobs channels)
 nothing [] g list at = absurd (cc)
-nothing (channel ∷ channels) zero list at = sym (some_is [] list at)
+nothing (channel ∷ channels) zero list at = sym (same_Some [] list at)
 nothing (channel ∷ channels) (suc g) list at = nothing channels g list at
 
 -- an end that has handed nothing over and kept nothing has its accounts right
@@ -36,7 +34,7 @@ module _ {X Y : Type 0} (f : X → Y) where
   pub at_map : (xs : List X) (k : ℕ) (x : X) → slice_get xs k ≡ Some x
       → slice_get (map f xs) k ≡ Some (f x)
   at_map [] k x e = absurd (cc)
-  at_map (y ∷ xs) zero x e = ap (λ (z : X). Some (f z)) (some_is y x e)
+  at_map (y ∷ xs) zero x e = ap (λ (z : X). Some (f z)) (same_Some y x e)
   at_map (y ∷ xs) (suc k) x e = at_map xs k x e
 
   -- what is the same of all is so of each
@@ -47,7 +45,7 @@ module _ {X Y : Type 0} (f : X → Y) where
     where
       only : (es : List D) (j : ℕ) → slice_get (map (λ (d : D). y) es) j ≡ Some (f x) → f x ≡ y
       only [] j e = absurd (cc)
-      only (d ∷ es) zero e = sym (some_is y (f x) e)
+      only (d ∷ es) zero e = sym (same_Some y (f x) e)
       only (d ∷ es) (suc j) e = only es j e
 
   -- a row that is read from the front while another grows

@@ -249,8 +249,8 @@ pub next_stopped : {S J : Type 0} {s : blocks.Ghosts S} {j : store_premises.Ghos
     → (j.trusted ≡ true
     → ∥ WasStopped (s.heads store) (s.blocks store) (buffer_over s (length before) store) ∥₁)
     → IsNextStopped store state
-next_stopped {s = s} stop before store (states.Started buffers stores mixed) had stopped =
+next_stopped {s = s} stop before store (states.Started so_far) had stopped =
     λ trusted.
     subst (λ n. ∥ WasStopped (s.heads store) (s.blocks store) (buffer_over s n store) ∥₁)
-    (sym (buffers.ok.0 ∙ had.0.count)) (stopped trusted)
-next_stopped stop before store (states.Refused stores number error) had stopped = tt
+    (sym (so_far.buffers.ok.0 ∙ had.0.count)) (stopped trusted)
+next_stopped stop before store (states.Refused refused) had stopped = tt

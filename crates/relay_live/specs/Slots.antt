@@ -2,23 +2,22 @@
 use Rattle.std.specs.Prelude.{ℕ, Option, None, Some, nat_lt, ◌==◌, if◌then◌else◌}
 use Rattle.live_jobs.specs.declared.store_result.JobAnswer.{JobAnswer}
 use Rattle.live_store.specs.declared.record.StorePremises.{Ghosts}
-use Rattle.relay_live.specs.declared.slot.Answer.{Answer}
 
 -- after an answer is told: of two answers that of the later job stays
-abbrev pub after_tell : {J : Type 0} {g : Ghosts J} → Option (Answer J g) → Answer J g
-    → Option (Answer J g)
+abbrev pub after_tell : {J : Type 0} {g : Ghosts J} → Option (JobAnswer J g) → JobAnswer J g
+    → Option (JobAnswer J g)
 after_tell None answer = Some answer
 after_tell (Some held) answer =
     if nat_lt answer.number held.number then Some held else Some answer
 
 -- what who waits for the job of this number is told: the answer of this very job
-abbrev pub told_to : {J : Type 0} {g : Ghosts J} → Option (Answer J g) → (number : ℕ)
+abbrev pub told_to : {J : Type 0} {g : Ghosts J} → Option (JobAnswer J g) → (number : ℕ)
     → Option (JobAnswer J g)
 told_to None number = None
-told_to (Some held) number = if held.number == number then Some held.told else None
+told_to (Some held) number = if held.number == number then Some held else None
 
 -- what stays once it looked: the answer of a later job alone
-abbrev pub left_by : {J : Type 0} {g : Ghosts J} → Option (Answer J g) → (number : ℕ)
-    → Option (Answer J g)
+abbrev pub left_by : {J : Type 0} {g : Ghosts J} → Option (JobAnswer J g) → (number : ℕ)
+    → Option (JobAnswer J g)
 left_by None number = None
 left_by (Some held) number = if nat_lt number held.number then Some held else None

@@ -53,6 +53,7 @@ use Rattle.relay_live.specs.declared.desks.Desks.{Desks}
 use Rattle.relay_live.specs.declared.shared.Shared.{Shared}
 use Rattle.relay_live.specs.declared.started.Opening.{Opening}
 use Rattle.relay_live.specs.declared.started.Opening.TheVariants as openings
+use Rattle.relay_live.specs.declared.started.SoFar.{SoFar}
 use Rattle.relay_live.specs.declared.started.Starting.{Starting}
 use Rattle.relay_live.specs.declared.started.Starting.TheVariants as states
 use Rattle.relay_model.specs.Claims.{Claim}
@@ -316,20 +317,19 @@ IsTriedRefusal s before fault number back =
 abbrev pub HasTried : {S J : Type 0} {s : blocks.Ghosts S} {j : store_premises.Ghosts J}
     → (stop : ℕ)
     → (before : List S) → Starting S J s j → Type 0
-HasTried stop before (states.Started buffers stores mixed) =
-    AreEach IsStartedOver before buffers.items × (stores.items ≡ [])
-    × IsFirstOther stop (map unopened_in buffers.items) mixed
-HasTried {s = s} stop before (states.Refused stores number error) =
-    IsTriedRefusal s before error number stores.items
+HasTried stop before (states.Started so_far) =
+    AreEach IsStartedOver before so_far.buffers.items × (so_far.room.items ≡ [])
+    × IsFirstOther stop (map unopened_in so_far.buffers.items) so_far.mixed
+HasTried {s = s} stop before (states.Refused refused) =
+    IsTriedRefusal s before refused.error refused.buffer refused.stores.items
 
 -- the next buffer is started behind those that are, or not
 abbrev pub StartsNext : {S J : Type 0} {s : blocks.Ghosts S} {j : store_premises.Ghosts J}
     → (stop : ℕ)
-    → S → List (UnopenedNumbered S J s j) → (room : List S) → (mixed : Option ℕ)
-    → Starting S J s j → Type 0
-StartsNext {S} stop store buffers room mixed new =
-    (before : List S) → AreEach IsStartedOver before buffers → room ≡ []
-    → IsFirstOther stop (map unopened_in buffers) mixed
+    → S → SoFar S J s j → Starting S J s j → Type 0
+StartsNext {S} stop store so_far new =
+    (before : List S) → AreEach IsStartedOver before so_far.buffers.items → so_far.room.items ≡ []
+    → IsFirstOther stop (map unopened_in so_far.buffers.items) so_far.mixed
     → HasTried stop (before ++ store ∷ []) new
 
 -- the next store is tried, where none before it was refused
@@ -342,22 +342,23 @@ TriesNext {S} stop store old new =
 -- where none was refused, the next store holds the next buffer as it was stopped, if it is trusted
 abbrev pub IsNextStopped : {S J : Type 0} {s : blocks.Ghosts S} {j : store_premises.Ghosts J} → S
     → Starting S J s j → Type 0
-IsNextStopped {s = s} {j} store (states.Started buffers stores mixed) =
-    j.trusted ≡ true
-    → ∥ WasStopped (s.heads store) (s.blocks store) (buffer_over s (vec_len buffers) store) ∥₁
-IsNextStopped store (states.Refused stores number error) = Unit {0}
+IsNextStopped {s = s} {j} store (states.Started so_far) =
+    j.trusted ≡ true → ∥ WasStopped (s.heads store) (s.blocks store)
+    (buffer_over s (vec_len so_far.buffers) store) ∥₁
+IsNextStopped store (states.Refused refused) = Unit {0}
 
 -- how many buffers and stores it has
 abbrev pub tried_count : {S J : Type 0} {s : blocks.Ghosts S} {j : store_premises.Ghosts J}
     → Starting S J s j → ℕ
-tried_count (states.Started buffers stores mixed) = vec_len buffers + vec_len stores
-tried_count (states.Refused stores number error) = vec_len stores
+tried_count (states.Started so_far) = vec_len so_far.buffers + vec_len so_far.room
+tried_count (states.Refused refused) = vec_len refused.stores
 
 -- for how many it has room
 abbrev pub tried_room : {S J : Type 0} {s : blocks.Ghosts S} {j : store_premises.Ghosts J}
     → Starting S J s j → ℕ
-tried_room (states.Started buffers stores mixed) = min (vec_capacity buffers) (vec_capacity stores)
-tried_room (states.Refused stores number error) = vec_capacity stores
+tried_room (states.Started so_far) =
+    min (vec_capacity so_far.buffers) (vec_capacity so_far.room)
+tried_room (states.Refused refused) = vec_capacity refused.stores
 
 -- how an opening stands after these buffers: each is open, or the one at a place has failed
 abbrev pub HasOpened : {S J : Type 0} {s : blocks.Ghosts S} {j : store_premises.Ghosts J}

@@ -179,8 +179,8 @@ impl<
 > Store<L, StoreResult<J>, R> for Keeper<'a, S, J, L, C, Q> {
     fn store(&self, rt: &R, share: &mut Share<L>, handed: &Handed) -> StoreResult<J> {
         let store_result = self.keep(rt, share, handed);
-        self.shared
-            .tell(rt, handed.end, handed.number, answer_of(&store_result));
+        let answer = answer_of(handed.number, &store_result);
+        self.shared.tell(rt, handed.end, answer);
         store_result
     }
 }

@@ -34,6 +34,6 @@ pub use forgetting::{Round, expire_round};
 pub use keeper::Keeper;
 pub use peer_server::PeerServer;
 pub use register_ref::RegisterRef;
-pub use running::{Counted, LiveError, PeerSource, Serving, serve_all};
+pub use running::{Counted, CountedRun, LiveError, PeerSource, Serving, serve_all};
 pub use shared::{Shared, Unshut};
-pub use slot::{Answer, Slot};
+pub use slot::Slot;

@@ -19,8 +19,8 @@ use crate::peer_server::PeerServer;
 use crate::register_ref::RegisterRef;
 use cyc_block::BlockStore;
 use live_jobs::{
-    Opened, Posts, Seats, SeatsError, StoreResult, close, ids_stored_again, mismatched_receipts,
-    open_all, serve_seats,
+    Opened, Outcome, Posts, Seats, SeatsError, StoreResult, close, ids_stored_again,
+    mismatched_receipts, open_all, serve_seats,
 };
 use live_session::{Clock, Gate};
 use live_store::StorePremises;
@@ -113,6 +113,15 @@ pub struct Serving<'a, X, G> {
     pub peer_sources: Vec<PeerSource<X>>,
 }
 
+/// A run that was counted, once all its threads have ended.
+#[derive(Drop)]
+pub struct CountedRun<L: Ledger, O: Outcome, V> {
+    /// The seats that have come back.
+    pub seats: Seats<L, O, V>,
+    /// What was counted of them.
+    pub counted: Counted,
+}
+
 /// An end for each peer source, in this order, before its first connection.
 fn ends_of<
     'a,
@@ -201,13 +210,7 @@ pub fn serve_all<
     serving: Serving<'a, X, G>,
     groups: usize,
     all: Share<L>,
-) -> Result<
-    (
-        Seats<L, StoreResult<J>, PeerServer<'a, X, S, J, L, C, G, Q>>,
-        Counted,
-    ),
-    LiveError,
->
+) -> Result<CountedRun<L, StoreResult<J>, PeerServer<'a, X, S, J, L, C, G, Q>>, LiveError>
 where
     <X as Connections<R>>::Reader: Drop + Send,
     <X as Connections<R>>::Writer: Drop + Send,
@@ -217,37 +220,38 @@ where
 
     // The seats that come back are all: one for each peer source, with a list for each group, and
     // one for each group.
-    ensures lefts { IfOk result (λ ran.
-        length ran.0.lefts.items ≡ length serving.entry.peer_sources.items) }
-    ensures lists { IfOk result (λ ran. HasLists groups (hands_of ran.0.lefts.items)) }
-    ensures writers { IfOk result (λ ran. length ran.0.writers.items ≡ groups) }
+    ensures lefts { IfOk result (λ run.
+        length run.seats.lefts.items ≡ length serving.entry.peer_sources.items) }
+    ensures lists { IfOk result (λ run. HasLists groups (hands_of run.seats.lefts.items)) }
+    ensures writers { IfOk result (λ run. length run.seats.writers.items ≡ groups) }
 
     // Of each end each job was told once, in order, with an outcome that fits it, and of no other
     // end anything.
-    ensures jobs { IfOk result (λ ran. AllTold (FitsJob J.holds)
-        (map (λ w. w.finished.items) ran.0.writers.items) (hands_of ran.0.lefts.items)) }
-    ensures none { IfOk result (λ ran. NoneElse (length serving.entry.peer_sources.items)
-        (map (λ w. w.finished.items) ran.0.writers.items)) }
+    ensures jobs { IfOk result (λ run. AllTold (FitsJob J.holds)
+        (map (λ w. w.finished.items) run.seats.writers.items) (hands_of run.seats.lefts.items)) }
+    ensures none { IfOk result (λ run. NoneElse (length serving.entry.peer_sources.items)
+        (map (λ w. w.finished.items) run.seats.writers.items)) }
 
     // Each end that comes back has the peer of its source, and its terms are those of the
     // configuration; what it kept is what its sessions came to by these.
-    ensures peers { IfOk result (λ ran.
-        map peer_of ran.0.services.items
+    ensures peers { IfOk result (λ run.
+        map peer_of run.seats.services.items
         ≡ map (λ d. d.peer) serving.entry.peer_sources.items) }
-    ensures terms { IfOk result (λ ran. map terms_at ran.0.services.items
+    ensures terms { IfOk result (λ run. map terms_at run.seats.services.items
         ≡ map (λ d. terms_of serving.entry.config.now) serving.entry.peer_sources.items) }
-    ensures kept { IfOk result (λ ran. AllKept (λ end number count jobs.
+    ensures kept { IfOk result (λ run. AllKept (λ end number count jobs.
         Accounted J.trusted (terms_at end) number (peer_of end) count jobs (kept_of end))
-        (hands_of ran.0.lefts.items) ran.0.services.items) }
+        (hands_of run.seats.lefts.items) run.seats.services.items) }
 
-    ensures accepted { IfOk result (λ ran. accepted_in ran.1
-        ≡ kept_by_all is_kept (map (λ w. w.finished.items) ran.0.writers.items)) }
-    ensures posted { IfOk result (λ ran. posts_in (posted_in ran.1) ≡ accepted_in ran.1) }
-    ensures mismatched_receipts { IfOk result (λ ran. mismatched_receipts_of ran.1
-        ≡ mismatched_receipts_in (map kept_of ran.0.services.items)
-        (map (λ w. w.finished.items) ran.0.writers.items)) }
-    ensures ids_stored_again { IfOk result (λ ran. ids_stored_again_of ran.1
-        ≡ ids_stored_again_in (map (λ w. w.finished.items) ran.0.writers.items)) }
+    ensures accepted { IfOk result (λ run. accepted_in run.counted
+        ≡ kept_by_all is_kept (map (λ w. w.finished.items) run.seats.writers.items)) }
+    ensures posted { IfOk result (λ run.
+        posts_in (posted_in run.counted) ≡ accepted_in run.counted) }
+    ensures mismatched_receipts { IfOk result (λ run. mismatched_receipts_of run.counted
+        ≡ mismatched_receipts_in (map kept_of run.seats.services.items)
+        (map (λ w. w.finished.items) run.seats.writers.items)) }
+    ensures ids_stored_again { IfOk result (λ run. ids_stored_again_of run.counted
+        ≡ ids_stored_again_in (map (λ w. w.finished.items) run.seats.writers.items)) }
 {
     let Serving {
         config,
@@ -279,5 +283,5 @@ where
         mismatched_receipts,
         ids_stored_again,
     };
-    Ok((seats, counted))
+    Ok(CountedRun { seats, counted })
 }

@@ -137,14 +137,13 @@ impl<S: BlockStore + Drop, J: StorePremises, L: Ledger> Shared<S, J, L> {
         ensures refused { IfErr result (IsNotStarted S.BlockStore config.now
             stopped.stores.items stopped.history.items) }
     {
-        let Stopped { stores, history } = stopped;
-        let Ok(locks) = Locks::new(alloc, stores.len(), config.buffers.groups.len()) else {
-            return Err(NotStarted::Refused(refused(stores, StopFault::Memory)));
+        let Ok(locks) = Locks::new(alloc, stopped.stores.len(), config.buffers.groups.len()) else {
+            return Err(NotStarted::Refused(refused(stopped.stores, StopFault::Memory)));
         };
         let Ok(slots_and_rounds) = SlotsAndRounds::new(alloc, ends) else {
-            return Err(NotStarted::Refused(refused(stores, StopFault::Memory)));
+            return Err(NotStarted::Refused(refused(stopped.stores, StopFault::Memory)));
         };
-        match Alone::start(rt, alloc, config, register, stores, &history, book) {
+        match Alone::start(rt, alloc, config, register, stopped, book) {
             Ok(alone) => Ok(Shared::over(alone, locks, slots_and_rounds)),
             Err(not_started) => Err(not_started),
         }
@@ -275,9 +274,9 @@ impl<S: BlockStore + Drop, J: StorePremises, L: Ledger> Shared<S, J, L> {
     }
 
     /// Tells an end, where there is one of this number, what became of its job.
-    pub(crate) fn tell<R: Wait>(&self, rt: &R, end: u64, number: u64, told: JobAnswer<J>) {
+    pub(crate) fn tell<R: Wait>(&self, rt: &R, end: u64, answer: JobAnswer<J>) {
         if let Some(slot) = self.slot(end) {
-            slot.tell(rt, number, told);
+            slot.tell(rt, answer);
         }
     }
 

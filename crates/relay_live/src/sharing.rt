@@ -7,7 +7,7 @@ use cyc_token::Token;
 use feed_queue::Taken;
 use id_history::{Offer, Take};
 use live_jobs::{JobAnswer, KeptJob};
-use live_session::{JobTold, Shares};
+use live_session::Shares;
 use live_store::{ArticleLog, OneRecord, StorePremises};
 use nntp_text::MsgId;
 use std::alloc::{AllocError, Global};
@@ -71,11 +71,13 @@ impl<S: BlockStore + Drop, J: StorePremises, L: Ledger, R: Wait> Shares<J, R> fo
         }
     }
 
-    fn outcome(&self, rt: &R, end: u64, number: u64, _kept: &Vec<KeptJob<J>>) -> JobTold<J> {
-        let told = match self.slot(end) {
+    fn outcome(&self, rt: &R, end: u64, number: u64, _kept: &Vec<KeptJob<J>>) -> JobAnswer<J> {
+        match self.slot(end) {
             Some(slot) => slot.wait(rt, number),
-            None => JobAnswer::Failed,
-        };
-        JobTold { number, told }
+            None => JobAnswer {
+                number,
+                receipt: None,
+            },
+        }
     }
 }

@@ -1,5 +1,5 @@
 //! The slot of an end: what a writer told of the end's job.
-ghost use Rattle.std.specs.Prelude.{◌≡◌};
+ghost use Rattle.std.specs.Prelude.{◌≡◌, IfSome};
 ghost use Rattle.relay_live.specs.Slots.{after_tell, told_to, left_by};
 
 use crossbeam_utils::sync::EventCount;
@@ -8,17 +8,10 @@ use live_store::StorePremises;
 use std::sync::{Mutex, Wait};
 use std::thread;
 
-/// What became of a job, with its number among those of its end.
-#[derive(Drop)]
-pub struct Answer<J: StorePremises> {
-    pub number: u64,
-    pub told: JobAnswer<J>,
-}
-
 /// The slot of an end. Writers put answers, the end's session takes the one that it waits for.
 #[derive(Drop)]
 pub struct Slot<J: StorePremises> {
-    answer: Mutex<Option<Answer<J>>>,
+    answer: Mutex<Option<JobAnswer<J>>>,
     // Told of each answer that is put.
     filled: EventCount,
 }
@@ -32,23 +25,25 @@ impl<J: StorePremises> Slot<J> {
         }
     }
 
-    /// Puts what became of the end's job of this number. Where an answer of a later job stands
-    /// there nobody waits for this one, and it is dropped.
-    pub fn tell<R: Wait>(&self, rt: &R, number: u64, told: JobAnswer<J>) {
-        put(&mut self.answer.lock(rt), Answer { number, told });
+    /// Puts what became of a job of the end's. Where an answer of a later job stands there nobody
+    /// waits for this one, and it is dropped.
+    pub fn tell<R: Wait>(&self, rt: &R, answer: JobAnswer<J>) {
+        put(&mut self.answer.lock(rt), answer);
         self.filled.notify_all();
     }
 
     /// Waits until a writer has told what became of the end's job of this number, and takes that.
     /// What earlier jobs were told is dropped.
-    pub fn wait<R: Wait>(&self, rt: &R, number: u64) -> JobAnswer<J> {
+    pub fn wait<R: Wait>(&self, rt: &R, number: u64) -> JobAnswer<J>
+        ensures { result.number ≡ number }
+    {
         for _ in rt.forever() {
-            if let Some(told) = self.take_soon(rt, number) {
-                return told;
+            if let Some(answer) = self.take_soon(rt, number) {
+                return answer;
             }
             let key = self.filled.prepare_wait();
-            if let Some(told) = self.try_take(rt, number) {
-                return told;
+            if let Some(answer) = self.try_take(rt, number) {
+                return answer;
             }
             key.wait(rt);
         }
@@ -56,15 +51,19 @@ impl<J: StorePremises> Slot<J> {
     }
 
     // Looks once.
-    fn try_take<R: Wait>(&self, rt: &R, number: u64) -> Option<JobAnswer<J>> {
+    fn try_take<R: Wait>(&self, rt: &R, number: u64) -> Option<JobAnswer<J>>
+        ensures { IfSome result (λ answer. answer.number ≡ number) }
+    {
         take(&mut self.answer.lock(rt), number)
     }
 
     // Looks so often, and gives way between.
-    fn take_soon<R: Wait>(&self, rt: &R, number: u64) -> Option<JobAnswer<J>> {
+    fn take_soon<R: Wait>(&self, rt: &R, number: u64) -> Option<JobAnswer<J>>
+        ensures { IfSome result (λ answer. answer.number ≡ number) }
+    {
         for _ in 0..LOOKS {
-            if let Some(told) = self.try_take(rt, number) {
-                return Some(told);
+            if let Some(answer) = self.try_take(rt, number) {
+                return Some(answer);
             }
             thread::yield_now();
         }
@@ -73,7 +72,7 @@ impl<J: StorePremises> Slot<J> {
 }
 
 /// Puts an answer where none of a later job stands.
-fn put<J: StorePremises>(held: &mut Option<Answer<J>>, answer: Answer<J>)
+fn put<J: StorePremises>(held: &mut Option<JobAnswer<J>>, answer: JobAnswer<J>)
     ensures { held.new ≡ after_tell held.old answer }
 {
     match held {
@@ -84,8 +83,9 @@ fn put<J: StorePremises>(held: &mut Option<Answer<J>>, answer: Answer<J>)
 
 /// Takes the answer of the job of this number. One of an earlier job is dropped, one of a later job
 /// stays.
-fn take<J: StorePremises>(held: &mut Option<Answer<J>>, number: u64) -> Option<JobAnswer<J>>
+fn take<J: StorePremises>(held: &mut Option<JobAnswer<J>>, number: u64) -> Option<JobAnswer<J>>
     ensures told { result ≡ told_to held.old number }
+    ensures number { IfSome result (λ answer. answer.number ≡ number) }
     ensures left { held.new ≡ left_by held.old number }
 {
     let answer = held.take()?;
@@ -96,5 +96,5 @@ fn take<J: StorePremises>(held: &mut Option<Answer<J>>, number: u64) -> Option<J
     if answer.number < number {
         return None;
     }
-    Some(answer.told)
+    Some(answer)
 }

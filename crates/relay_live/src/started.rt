@@ -15,6 +15,7 @@ ghost use Rattle.relay_live.specs.Starting.{stores_of, tried_room};
 use block_shelf::{StopFault, Unstarted, blamed, fault_of, first_other, number_of, used_in};
 use cyc_block::BlockStore;
 use live_store::{ArticleLog, NumberedBuffer, StorePremises, UnopenedNumbered};
+use relay_core::refused;
 use std::alloc::{AllocError, Global};
 use std::sync::Wait;
 
@@ -41,22 +42,23 @@ struct Room<S: BlockStore + Drop, J: StorePremises> {
     stores: Vec<S>,
 }
 
+/// The buffers that are started so far.
+#[derive(Drop)]
+struct SoFar<S: BlockStore + Drop, J: StorePremises> {
+    buffers: Vec<UnopenedNumbered<S, J>>,
+    /// Room for their stores.
+    room: Vec<S>,
+    /// The number of the first that was stopped at another stop.
+    mixed: Option<u8>,
+}
+
 /// How far a start is.
 #[derive(Drop)]
 enum Starting<S: BlockStore + Drop, J: StorePremises> {
-    /// The buffers so far are started; room for their stores, and the number of the first that was
-    /// stopped at another stop.
-    Started {
-        buffers: Vec<UnopenedNumbered<S, J>>,
-        room: Vec<S>,
-        mixed: Option<u8>,
-    },
+    /// The buffers so far are started.
+    Started(SoFar<S, J>),
     /// One of them isn't: the stores so far, the buffer's number, and why.
-    Refused {
-        stores: Vec<S>,
-        buffer: Option<u8>,
-        error: StopFault,
-    },
+    Refused(Unstarted<S>),
 }
 
 /// How far the opening of heads is.
@@ -95,49 +97,33 @@ pub(crate) fn start_buffers<S: BlockStore + Drop, J: StorePremises, R: Wait>(
     ensures refusal { IfErr result (IsUnstarted S.BlockStore stores.items stop) }
 {
     let Ok(room) = Room::new(alloc, stores.len()) else {
-        return Err(Unstarted {
-            stores,
-            buffer: None,
-            error: StopFault::Memory,
-        });
+        return Err(refused(stores, StopFault::Memory));
     };
     let Room {
         unopened,
         opened,
         stores: room,
     } = room;
-    let mut starting = Starting::Started {
+    let mut starting = Starting::Started(SoFar {
         buffers: unopened,
         room,
         mixed: None,
-    };
+    });
     for store in stores {
         starting = starting.next(rt, alloc, register, store, stop);
     }
     match starting {
-        Starting::Refused {
-            stores,
-            buffer,
-            error,
-        } => Err(Unstarted {
-            stores,
-            buffer,
-            error,
-        }),
-        Starting::Started {
-            buffers,
-            room,
-            mixed,
-        } => match mixed {
+        Starting::Refused(unstarted) => Err(unstarted),
+        Starting::Started(so_far) => match so_far.mixed {
             Some(number) => Err(Unstarted {
-                stores: give_back(buffers, room),
+                stores: give_back(so_far.buffers, so_far.room),
                 buffer: Some(number),
                 error: StopFault::Mixed,
             }),
             None => Ok(StartedBuffers {
-                buffers,
+                buffers: so_far.buffers,
                 opened,
-                stores: room,
+                stores: so_far.room,
             }),
         },
     }
@@ -240,23 +226,11 @@ impl<S: BlockStore + Drop, J: StorePremises> Starting<S, J> {
         ensures room { tried_room self ≤ tried_room result }
     {
         match self {
-            Starting::Refused {
-                mut stores,
-                buffer,
-                error,
-            } => {
-                stores.push_reserved(store);
-                Starting::Refused {
-                    stores,
-                    buffer,
-                    error,
-                }
+            Starting::Refused(mut unstarted) => {
+                unstarted.stores.push_reserved(store);
+                Starting::Refused(unstarted)
             }
-            Starting::Started {
-                buffers,
-                room,
-                mixed,
-            } => next_started(rt, alloc, register, store, stop, buffers, room, mixed),
+            Starting::Started(so_far) => next_started(rt, alloc, register, store, stop, so_far),
         }
     }
 }
@@ -268,41 +242,46 @@ fn next_started<S: BlockStore + Drop, J: StorePremises, R: Wait>(
     register: &ArticleLog,
     store: S,
     stop: u64,
-    buffers: Vec<UnopenedNumbered<S, J>>,
-    room: Vec<S>,
-    mixed: Option<u8>,
+    so_far: SoFar<S, J>,
 ) -> Starting<S, J>
     requires register { register.now ≡ J.register }
     requires honest { J.trusted ≡ true → S.honest store }
     requires stopped { J.trusted ≡ true → ∥ WasStopped (S.heads store) (S.blocks store)
-        (buffer_over S.BlockStore (vec_len buffers) store) ∥₁ }
-    requires few { vec_len buffers < 256 }
-    requires buffers_room { vec_len buffers < vec_capacity buffers }
-    requires stores_room { vec_len buffers + vec_len room < vec_capacity room }
-    ensures tries { StartsNext stop store buffers.items room.items mixed result }
-    ensures count { tried_count result ≡ vec_len buffers + vec_len room + 1 }
-    ensures room { min (vec_capacity buffers) (vec_capacity room) ≤ tried_room result }
+        (buffer_over S.BlockStore (vec_len so_far.buffers) store) ∥₁ }
+    requires few { vec_len so_far.buffers < 256 }
+    requires buffers_room { vec_len so_far.buffers < vec_capacity so_far.buffers }
+    requires stores_room { vec_len so_far.buffers + vec_len so_far.room
+        < vec_capacity so_far.room }
+    ensures tries { StartsNext stop store so_far result }
+    ensures count { tried_count result
+        ≡ vec_len so_far.buffers + vec_len so_far.room + 1 }
+    ensures room { min (vec_capacity so_far.buffers) (vec_capacity so_far.room)
+        ≤ tried_room result }
 {
-    let mut buffers = buffers;
+    let SoFar {
+        mut buffers,
+        room,
+        mixed,
+    } = so_far;
     let number = buffers.len() as u8;
     match NumberedBuffer::start(rt, alloc, register, store, number, 0) {
         Ok((unopened, found)) => {
             let mixed = first_other(mixed, found, stop, number);
             buffers.push_reserved(unopened);
-            Starting::Started {
+            Starting::Started(SoFar {
                 buffers,
                 room,
                 mixed,
-            }
+            })
         }
         Err(refused) => {
             let mut stores = give_back(buffers, room);
             stores.push_reserved(refused.store);
-            Starting::Refused {
+            Starting::Refused(Unstarted {
                 stores,
                 buffer: blamed(refused.error, number),
                 error: fault_of(refused.error),
-            }
+            })
         }
     }
 }

@@ -3,12 +3,12 @@
 use crate::alone::Alone;
 use crate::desks::Desks;
 use crate::filling::all_filled;
-use crate::started::start_buffers;
+use crate::started::{StartedBuffers, start_buffers};
 use block_shelf::{StopFault, Unstarted};
 use cyc_block::BlockStore;
 use live_store::{ArticleLog, StorePremises};
 use relay_conf::Config;
-use relay_core::{NotStarted, is_ahead, read_history, refused, unread};
+use relay_core::{NotStarted, Stopped, is_ahead, read_history, refused, unread};
 use std::alloc::Global;
 use std::hash::RandomState;
 use std::random::RandomSource;
@@ -16,9 +16,11 @@ use std::sync::Wait;
 use std::sync::ledger::{Book, Ledger};
 
 impl<S: BlockStore + Drop, J: StorePremises, L: Ledger> Alone<S, J, L> {
-    ghost use Rattle.std.specs.Prelude.{◌≡◌, true, IfErr, IfOk, All, length, map};
-    ghost use Rattle.relay_live.specs.Starting.{IsNotStarted, IsRefusedRightly, StartsOver};
-    ghost use Rattle.relay_live.specs.Starting.{WereStopped};
+    ghost use Rattle.std.specs.Prelude.{◌≡◌, ◌≤◌, true, IfErr, IfOk, All, length, map};
+    ghost use Rattle.block_shelf.specs.Each.{AreEach};
+    ghost use Rattle.live_store.specs.Started.{unopened_in};
+    ghost use Rattle.relay_live.specs.Starting.{IsHeadFailed, IsNotStarted, IsOpenedFrom};
+    ghost use Rattle.relay_live.specs.Starting.{IsRefusedRightly, StartsOver, WereStopped};
 
     /// The relay over the stores of one that was stopped, the i-th for buffer i, from the text of
     /// its history, with the register's record for each live article. It is refused in the order of
@@ -30,25 +32,26 @@ impl<S: BlockStore + Drop, J: StorePremises, L: Ledger> Alone<S, J, L> {
         alloc: Global,
         config: &Config,
         register: &ArticleLog,
-        stores: Vec<S>,
-        text: &[u8],
+        stopped: Stopped<S>,
         book: Book<L>,
     ) -> Result<Alone<S, J, L>, NotStarted<S>>
         requires register { register.now ≡ J.register }
-        requires stores { map (λ store. length (S.blocks store)) stores.items
+        requires stores { map (λ store. length (S.blocks store)) stopped.stores.items
             ≡ map (λ buffer. buffer.blocks) config.now.buffers.buffers.items }
-        requires honest { J.trusted ≡ true → All S.honest stores.items }
-        requires stopped { J.trusted ≡ true → WereStopped S.BlockStore stores.items }
+        requires honest { J.trusted ≡ true → All S.honest stopped.stores.items }
+        requires stopped { J.trusted ≡ true → WereStopped S.BlockStore stopped.stores.items }
         requires book { book.total ≡ 0 }
-        ensures started { IfOk result (StartsOver config.now stores.items text.now) }
+        ensures started { IfOk result (StartsOver config.now stopped.stores.items
+            stopped.history.items) }
         ensures refused { IfErr result
-            (IsNotStarted S.BlockStore config.now stores.items text.now) }
+            (IsNotStarted S.BlockStore config.now
+            stopped.stores.items stopped.history.items) }
     {
         let hasher = match RandomState::new(rt) {
             Ok(hasher) => hasher,
-            Err(why) => return Err(NotStarted::Host(why, stores)),
+            Err(why) => return Err(NotStarted::Host(why, stopped.stores)),
         };
-        match Alone::start_with(rt, alloc, hasher, config, register, stores, text, book) {
+        match Alone::start_with(rt, alloc, hasher, config, register, stopped, book) {
             Ok(alone) => Ok(alone),
             Err(unstarted) => Err(NotStarted::Refused(unstarted)),
         }
@@ -61,24 +64,26 @@ impl<S: BlockStore + Drop, J: StorePremises, L: Ledger> Alone<S, J, L> {
         hasher: RandomState,
         config: &Config,
         register: &ArticleLog,
-        stores: Vec<S>,
-        text: &[u8],
+        stopped: Stopped<S>,
         book: Book<L>,
     ) -> Result<Alone<S, J, L>, Unstarted<S>>
         requires register { register.now ≡ J.register }
-        requires stores { map (λ store. length (S.blocks store)) stores.items
+        requires stores { map (λ store. length (S.blocks store)) stopped.stores.items
             ≡ map (λ buffer. buffer.blocks) config.now.buffers.buffers.items }
-        requires honest { J.trusted ≡ true → All S.honest stores.items }
-        requires stopped { J.trusted ≡ true → WereStopped S.BlockStore stores.items }
+        requires honest { J.trusted ≡ true → All S.honest stopped.stores.items }
+        requires stopped { J.trusted ≡ true → WereStopped S.BlockStore stopped.stores.items }
         requires book { book.total ≡ 0 }
-        ensures started { IfOk result (StartsOver config.now stores.items text.now) }
+        ensures started { IfOk result (StartsOver config.now stopped.stores.items
+            stopped.history.items) }
         ensures refused { IfErr result
-            (IsRefusedRightly S.BlockStore config.now stores.items text.now) }
+            (IsRefusedRightly S.BlockStore config.now
+            stopped.stores.items stopped.history.items) }
     {
         // A head block is of one buffer, so what a store holds is of one stop.
         news_terms::heads::one_head();
+        let Stopped { stores, history } = stopped;
         // A text that can't be read refuses before a store is called.
-        let history = match read_history(alloc, config, text) {
+        let history = match read_history(alloc, config, &history) {
             Ok(history) => history,
             Err(error) => return Err(refused(stores, unread(error))),
         };
@@ -99,6 +104,32 @@ impl<S: BlockStore + Drop, J: StorePremises, L: Ledger> Alone<S, J, L> {
             Err(_) => return Err(refused(started.into_stores(), StopFault::Memory)),
         };
         // No head is opened before all memory is taken: what is refused until here is unwritten.
+        match Alone::over(config, started, desks, stop) {
+            Ok(alone) => Ok(alone),
+            Err(unstarted) => Err(unstarted),
+        }
+    }
+
+    /// The relay over started buffers, whose heads are opened, and what was made of its history
+    /// beside them. Its last stop has this number.
+    fn over(
+        config: &Config,
+        started: StartedBuffers<S, J>,
+        desks: Desks<L>,
+        stop: u64,
+    ) -> Result<Alone<S, J, L>, Unstarted<S>>
+        requires few { length desks.placed_groups.items ≤ 256 }
+        ensures opened { IfOk result (λ alone.
+            AreEach IsOpenedFrom started.buffers.items alone.buffers.items) }
+        ensures desks { IfOk result (λ alone. (alone.shards ≡ desks.shards)
+            × (alone.desk ≡ desks.desk) × (alone.placed_groups ≡ desks.placed_groups)
+            × (alone.last ≡ desks.last)) }
+        ensures stop { IfOk result (λ alone. alone.stop ≡ stop) }
+        ensures settings { IfOk result (λ alone.
+            (alone.feeds ≡ length config.now.relay.feeds.items)
+            × (alone.remember ≡ config.now.relay.remember)) }
+        ensures refusal { IfErr result (IsHeadFailed (map unopened_in started.buffers.items)) }
+    {
         let buffers = match started.open() {
             Ok(buffers) => buffers,
             Err(unstarted) => return Err(unstarted),

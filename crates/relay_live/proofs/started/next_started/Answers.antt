@@ -10,7 +10,8 @@ use Rattle.relay_live.proofs.started.next_started.Goals as goal
 pub start-requires-clause-stopped : goal.start-requires-clause-stopped
 start-requires-clause-stopped g c = λ trusted.
     let store = c.args.store in
-    let number : c.len-number.result ≡ c.args.buffers.len = omega (arith, c.len-number.ensures) in
+    let number : c.len-number.result ≡ c.args.so_far.buffers.len =
+    omega (arith, c.len-number.ensures) in
     subst
     (λ n. ∥ WasStopped (g.S.BlockStore.heads store) (g.S.BlockStore.blocks store)
     (buffer_over g.S.BlockStore n store) ∥₁)
@@ -20,12 +21,12 @@ start-requires-clause-stopped g c = λ trusted.
 pub returns-in-Ok-clause-tries : goal.returns-in-Ok-clause-tries
 returns-in-Ok-clause-tries g c = λ before are none first.
     let number : c.len-number.result ≡ length before =
-    omega (arith, c.len-number.ensures, c.args.buffers.ok, are.count) in
+    omega (arith, c.len-number.ensures, c.args.so_far.buffers.ok, are.count) in
     let store = c.args.store in
     let one = c.in-Ok.unopened in (
       subst (AreEach IsStartedOver (before ++ store ∷ []))
           (sym c.push_reserved.ensures.items)
-          (one_more_each IsStartedOver before c.args.buffers.items store one are
+          (one_more_each IsStartedOver before c.args.so_far.buffers.items store one are
           (subst (λ n. IsStartedOver n store one) number
           (record {
             agrees = c.in-Ok.ensures.agrees;
@@ -43,26 +44,27 @@ returns-in-Ok-clause-tries g c = λ before are none first.
       none,
       subst (λ us. IsFirstOther c.args.stop (map unopened_in us) c.first_other-mixed.result)
           (sym c.push_reserved.ensures.items)
-          (subst (IsFirstOther c.args.stop (map unopened_in (c.args.buffers.items ++ one ∷ [])))
+          (subst (IsFirstOther c.args.stop
+          (map unopened_in (c.args.so_far.buffers.items ++ one ∷ [])))
           (sym c.first_other-mixed.ensures)
-          (other_joins c.args.stop c.args.buffers.items one c.args.mixed c.in-Ok.found
+          (other_joins c.args.stop c.args.so_far.buffers.items one c.args.so_far.mixed c.in-Ok.found
           c.len-number.result first c.in-Ok.ensures.under
-          (omega (arith, c.len-number.ensures, c.args.buffers.ok)))),
+          (omega (arith, c.len-number.ensures, c.args.so_far.buffers.ok)))),
     )
 
 -- it is refused
 pub returns-in-Err-clause-tries : goal.returns-in-Err-clause-tries
 returns-in-Err-clause-tries g c = λ before are none first.
     let number : c.len-number.result ≡ length before =
-    omega (arith, c.len-number.ensures, c.args.buffers.ok, are.count) in
+    omega (arith, c.len-number.ensures, c.args.so_far.buffers.ok, are.count) in
     let store = c.args.store in
     let error = c.in-Err.refused.error in
     told_refused g.S.BlockStore (before ++ store ∷ [])
-    (stores_of c.args.buffers.items ++ c.in-Err.refused.store ∷ [])
+    (stores_of c.args.so_far.buffers.items ++ c.in-Err.refused.store ∷ [])
     c.push_reserved-in-Err.new.self.items c.blamed.result c.fault_of.result error
     c.fault_of.ensures
-    (first_refused g.S.BlockStore before store c.args.buffers.items error c.in-Err.refused.store are
-    c.in-Err.ensures.held c.in-Err.ensures.failed
+    (first_refused g.S.BlockStore before store c.args.so_far.buffers.items error
+    c.in-Err.refused.store are c.in-Err.ensures.held c.in-Err.ensures.failed
     (λ yes.
     subst
     (λ n. IsRefusedFor (g.S.BlockStore.heads store) (g.S.BlockStore.blocks store)
@@ -75,4 +77,4 @@ returns-in-Err-clause-tries g c = λ before are none first.
     (c.push_reserved-in-Err.ensures.items
     ∙ ap (λ items. items ++ c.in-Err.refused.store ∷ [])
     (c.give_back-stores.ensures.items
-    ∙ ap (λ items. items ++ stores_of c.args.buffers.items) none))
+    ∙ ap (λ items. items ++ stores_of c.args.so_far.buffers.items) none))

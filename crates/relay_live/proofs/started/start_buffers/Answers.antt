@@ -10,12 +10,14 @@ use Rattle.block_shelf.specs.Starting.{IsFirstOther}
 use Rattle.live_store.specs.Started.{unopened_in}
 use Rattle.news_terms.proofs.ListPlaces.{holds_at}
 use Rattle.relay_live.proofs.StartedBuffers.{mixed_start, next_stopped, refused_start}
-use Rattle.relay_live.specs.Starting.{HasTried, IsStartedOver}
+use Rattle.relay_live.specs.Starting.{HasTried, IsStartedOver, IsUnstarted}
 use Rattle.relay_live.proofs.started.start_buffers.Goals as goal
 
 -- there is no room for the buffers
 pub returns-in_default-clause-refusal : goal.returns-in_default-clause-refusal
-returns-in_default-clause-refusal g c = (refl, untouched_stores g.S.BlockStore c.args.stores.items)
+returns-in_default-clause-refusal g c =
+    subst (IsUnstarted g.S.BlockStore c.args.stores.items c.args.stop) (sym c.refused.ensures)
+    (refl, untouched_stores g.S.BlockStore c.args.stores.items)
 
 pub loop-store-init : goal.loop-store-init
 loop-store-init g c =
@@ -100,8 +102,8 @@ returns-in-Refused-clause-refusal g c =
     (nil_from_length c.loop-store.store-iterator.rest.items
     (omega (arith, c.in-None.ensures.steps.0, c.loop-store.store-iterator.rest.ok))))
     c.loop-store.invariant.tried) in
-    refused_start g.S.BlockStore c.args.stores.items c.args.stop c.in-Refused.error
-    c.in-Refused.buffer c.in-Refused.stores.items tried
+    refused_start g.S.BlockStore c.args.stores.items c.args.stop c.in-Refused.unstarted.error
+    c.in-Refused.unstarted.buffer c.in-Refused.unstarted.stores.items tried
 
 -- one was stopped at another stop
 pub returns-in-Some-mixed-clause-refusal : goal.returns-in-Some-mixed-clause-refusal
@@ -114,9 +116,9 @@ returns-in-Some-mixed-clause-refusal g c =
     (nil_from_length c.loop-store.store-iterator.rest.items
     (omega (arith, c.in-None.ensures.steps.0, c.loop-store.store-iterator.rest.ok))))
     c.loop-store.invariant.tried) in
-    mixed_start c.args.stores.items c.args.stop c.in-Started.buffers.items c.in-Started.room.items
-    c.give_back.result.items c.in-Some-mixed.number tried.0 tried.1
-    (subst (IsFirstOther c.args.stop (map unopened_in c.in-Started.buffers.items))
+    mixed_start c.args.stores.items c.args.stop c.in-Started.so_far.buffers.items
+    c.in-Started.so_far.room.items c.give_back.result.items c.in-Some-mixed.number tried.0 tried.1
+    (subst (IsFirstOther c.args.stop (map unopened_in c.in-Started.so_far.buffers.items))
     c.in-Some-mixed.is tried.2)
     c.give_back.ensures.items
 
@@ -133,6 +135,6 @@ returns-in-None-mixed-clause-started g c =
     c.loop-store.invariant.tried) in
     record {
       over = tried.0;
-      under = subst (IsFirstOther c.args.stop (map unopened_in c.in-Started.buffers.items))
+      under = subst (IsFirstOther c.args.stop (map unopened_in c.in-Started.so_far.buffers.items))
           c.in-None-mixed.is tried.2;
     }

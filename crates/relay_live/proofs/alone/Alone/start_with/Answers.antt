@@ -1,5 +1,4 @@
-use Rattle.std.proofs.Common.{◌∙◌, List, None, ap, arith, map, refl, subst, sym}
-use Rattle.article_verdict.proofs.FewFeeds.{few_feeds}
+use Rattle.std.proofs.Common.{◌∙◌, List, None, ap, arith, map, subst, sym}
 use Rattle.block_shelf.proofs.NewBufferSet.{same_count}
 use Rattle.block_shelf.specs.Each.{AreEach}
 use Rattle.block_shelf.specs.Starting.{IsUnwritten}
@@ -10,45 +9,53 @@ use Rattle.relay_core.specs.declared.ahead.Filled as code
 use Rattle.relay_live.proofs.OpenedBuffers.{not_opened}
 use Rattle.relay_live.proofs.StartedBuffers.{started_stores}
 use Rattle.relay_live.proofs.StartedRelay.{ahead_as, ahead_of, no_head, no_room, not_started}
-use Rattle.relay_live.proofs.StartedRelay.{starts}
-use Rattle.relay_live.proofs.StartedRelay.{unread_or_room}
+use Rattle.relay_live.proofs.StartedRelay.{starts, unread_or_room}
+use Rattle.relay_live.specs.Starting.{IsRefusedRightly, StartsOver}
 use Rattle.relay_live.proofs.alone.Alone.start_with.Goals as goal
 
 -- the text isn't read
 pub returns-in-Err-clause-refused : goal.returns-in-Err-clause-refused
 returns-in-Err-clause-refused g c =
-    unread_or_room g.S.BlockStore c.args.config.now c.args.stores.items c.args.text.now
-    c.refused.result c.in-Err.error
+    subst (λ text. IsRefusedRightly g.S.BlockStore c.args.config.now c.args.stopped.stores.items
+    text c.refused.result)
+    c.deref.ensures.value
+    (unread_or_room g.S.BlockStore c.args.config.now c.args.stopped.stores.items
+    c.deref.result.now c.refused.result c.in-Err.error
     (ap (λ (u : Unstarted g.row.S.Denot). u.error) c.refused.ensures ∙ c.unread.ensures)
     (ap (λ (u : Unstarted g.row.S.Denot). u.buffer) c.refused.ensures)
-    (ap (λ (u : Unstarted g.row.S.Denot). u.stores.items) c.refused.ensures) c.in-Err.ensures.none
+    (ap (λ (u : Unstarted g.row.S.Denot). u.stores.items) c.refused.ensures) c.in-Err.ensures.none)
 
 pub start_buffers-requires-clause-few : goal.start_buffers-requires-clause-few
 start_buffers-requires-clause-few g c =
     omega (
       arith,
-      same_count g.S.BlockStore c.args.config.now.buffers c.args.stores.items c.requires.stores,
+      same_count g.S.BlockStore c.args.config.now.buffers c.args.stopped.stores.items
+          c.requires.stores,
       c.args.config.now.buffers.few_buffers,
     )
 
 -- a buffer isn't started
 pub returns-in-Err-start_buffers-clause-refused : goal.returns-in-Err-start_buffers-clause-refused
 returns-in-Err-start_buffers-clause-refused g c =
-    not_started g.S.BlockStore c.args.config.now c.args.stores.items c.requires.stores
-    c.args.text.now (history_view c.in-Ok.history) c.in-Ok.ensures.reads c.in-Ok.ensures.only
-    c.one_head.ensures.one c.in-Err-start_buffers.unstarted c.in-Err-start_buffers.ensures.refusal
+    subst (λ text. IsRefusedRightly g.S.BlockStore c.args.config.now c.args.stopped.stores.items
+    text c.in-Err-start_buffers.unstarted)
+    c.deref.ensures.value
+    (not_started g.S.BlockStore c.args.config.now c.args.stopped.stores.items c.requires.stores
+    c.deref.result.now (history_view c.in-Ok.history) c.in-Ok.ensures.reads
+    c.in-Ok.ensures.only c.one_head.ensures.one c.in-Err-start_buffers.unstarted
+    c.in-Err-start_buffers.ensures.refusal)
 
 -- there is no memory to see how far they are filled
 pub returns-in-Err-all_filled-clause-refused : goal.returns-in-Err-all_filled-clause-refused
 returns-in-Err-all_filled-clause-refused g c =
-    no_room g.S.BlockStore c.args.config.now c.args.stores.items c.args.text.now
-    c.refused-in-Err-all_filled.result
+    no_room g.S.BlockStore c.args.config.now c.args.stopped.stores.items
+    c.args.stopped.history.items c.refused-in-Err-all_filled.result
     (ap (λ (u : Unstarted g.row.S.Denot). u.error) c.refused-in-Err-all_filled.ensures)
     (ap (λ (u : Unstarted g.row.S.Denot). u.buffer) c.refused-in-Err-all_filled.ensures)
-    (subst (AreEach (IsUnwritten g.S.BlockStore None) c.args.stores.items)
+    (subst (AreEach (IsUnwritten g.S.BlockStore None) c.args.stopped.stores.items)
     (sym (ap (λ (u : Unstarted g.row.S.Denot). u.stores.items) c.refused-in-Err-all_filled.ensures
     ∙ c.into_stores.ensures))
-    (started_stores c.args.stores.items c.in-Ok-start_buffers.started.buffers.items
+    (started_stores c.args.stopped.stores.items c.in-Ok-start_buffers.started.buffers.items
     c.in-Ok-start_buffers.ensures.started.over))
 
 -- the history is ahead
@@ -58,20 +65,24 @@ returns-then-is_ahead-clause-refused g c =
     let kept = history_view c.in-Ok.history in
     let buffers = c.in-Ok-start_buffers.started.buffers.items in
     let are = c.in-Ok-start_buffers.ensures.started in
-    ahead_of g.S.BlockStore config c.args.stores.items c.requires.stores c.args.text.now kept
-    c.in-Ok.ensures.reads c.in-Ok.ensures.only c.one_head.ensures.one
+    subst (λ text. IsRefusedRightly g.S.BlockStore config c.args.stopped.stores.items text
+    c.refused-then-is_ahead.result)
+    c.deref.ensures.value
+    (ahead_of g.S.BlockStore config c.args.stopped.stores.items c.requires.stores
+    c.deref.result.now kept c.in-Ok.ensures.reads c.in-Ok.ensures.only c.one_head.ensures.one
     c.refused-then-is_ahead.result buffers are
-    (ahead_as config c.args.stores.items c.requires.stores c.args.text.now kept
+    (ahead_as config c.args.stopped.stores.items c.requires.stores c.deref.result.now kept
     c.in-Ok.ensures.reads c.in-Ok.ensures.only buffers are c.in-Ok-all_filled.filled.items _
     c.in-Ok-all_filled.ensures
     (sym c.if-is_ahead.true ∙ c.is_ahead.ensures
-    ∙ ap (λ (fs : List code.Filled). is_ahead (map filled_view fs) kept) c.deref.ensures.value))
+    ∙ ap (λ (fs : List code.Filled). is_ahead (map filled_view fs) kept)
+    c.deref-2.ensures.value))
     (ap (λ (u : Unstarted g.row.S.Denot). u.error) c.refused-then-is_ahead.ensures)
     (ap (λ (u : Unstarted g.row.S.Denot). u.buffer) c.refused-then-is_ahead.ensures)
-    (subst (AreEach (IsUnwritten g.S.BlockStore None) c.args.stores.items)
+    (subst (AreEach (IsUnwritten g.S.BlockStore None) c.args.stopped.stores.items)
     (sym (ap (λ (u : Unstarted g.row.S.Denot). u.stores.items) c.refused-then-is_ahead.ensures
     ∙ c.into_stores-then-is_ahead.ensures))
-    (started_stores c.args.stores.items buffers are.over))
+    (started_stores c.args.stopped.stores.items buffers are.over)))
 
 pub resume-requires-clause-holds : goal.resume-requires-clause-holds
 resume-requires-clause-holds g c = c.in-Ok.ensures.reads.holds
@@ -79,70 +90,64 @@ resume-requires-clause-holds g c = c.in-Ok.ensures.reads.holds
 -- there is no memory for what is made of it
 pub returns-in-Err-resume-clause-refused : goal.returns-in-Err-resume-clause-refused
 returns-in-Err-resume-clause-refused g c =
-    no_room g.S.BlockStore c.args.config.now c.args.stores.items c.args.text.now
-    c.refused-in-Err-resume.result
+    no_room g.S.BlockStore c.args.config.now c.args.stopped.stores.items
+    c.args.stopped.history.items c.refused-in-Err-resume.result
     (ap (λ (u : Unstarted g.row.S.Denot). u.error) c.refused-in-Err-resume.ensures)
     (ap (λ (u : Unstarted g.row.S.Denot). u.buffer) c.refused-in-Err-resume.ensures)
-    (subst (AreEach (IsUnwritten g.S.BlockStore None) c.args.stores.items)
+    (subst (AreEach (IsUnwritten g.S.BlockStore None) c.args.stopped.stores.items)
     (sym (ap (λ (u : Unstarted g.row.S.Denot). u.stores.items) c.refused-in-Err-resume.ensures
     ∙ c.into_stores-in-Err-resume.ensures))
-    (started_stores c.args.stores.items c.in-Ok-start_buffers.started.buffers.items
+    (started_stores c.args.stopped.stores.items c.in-Ok-start_buffers.started.buffers.items
     c.in-Ok-start_buffers.ensures.started.over))
 
 -- a head isn't opened
-pub returns-in-Err-open-clause-refused : goal.returns-in-Err-open-clause-refused
-returns-in-Err-open-clause-refused g c =
+pub returns-clause-refused : goal.returns-clause-refused
+returns-clause-refused g c =
     let config = c.args.config.now in
     let kept = history_view c.in-Ok.history in
     let buffers = c.in-Ok-start_buffers.started.buffers.items in
     let are = c.in-Ok-start_buffers.ensures.started in
-    no_head g.S.BlockStore config c.args.stores.items c.requires.stores c.args.text.now kept
-    c.in-Ok.ensures.reads c.in-Ok.ensures.only c.one_head.ensures.one c.in-Err-open.unstarted
-    buffers are
-    (ahead_as config c.args.stores.items c.requires.stores c.args.text.now kept
+    subst (λ text. IsRefusedRightly g.S.BlockStore config c.args.stopped.stores.items text
+    c.in-Err-over.unstarted)
+    c.deref.ensures.value
+    (no_head g.S.BlockStore config c.args.stopped.stores.items c.requires.stores
+    c.deref.result.now kept c.in-Ok.ensures.reads c.in-Ok.ensures.only c.one_head.ensures.one
+    c.in-Err-over.unstarted buffers are
+    (ahead_as config c.args.stopped.stores.items c.requires.stores c.deref.result.now kept
     c.in-Ok.ensures.reads c.in-Ok.ensures.only buffers are c.in-Ok-all_filled.filled.items _
     c.in-Ok-all_filled.ensures
     (sym c.if-is_ahead.false ∙ c.is_ahead.ensures
-    ∙ ap (λ (fs : List code.Filled). is_ahead (map filled_view fs) kept) c.deref.ensures.value))
-    (not_opened c.args.stores.items kept.stop buffers c.in-Err-open.unstarted are
-    c.in-Err-open.ensures.refusal)
+    ∙ ap (λ (fs : List code.Filled). is_ahead (map filled_view fs) kept)
+    c.deref-2.ensures.value))
+    (not_opened c.args.stopped.stores.items kept.stop buffers c.in-Err-over.unstarted are
+    c.in-Err-over.ensures.refusal))
 
 -- the parts start
-pub returns-clause-started : goal.returns-clause-started
-returns-clause-started g c =
+pub returns-in-Ok-over-clause-started : goal.returns-in-Ok-over-clause-started
+returns-in-Ok-over-clause-started g c =
     let config = c.args.config.now in
     let kept = history_view c.in-Ok.history in
     let buffers = c.in-Ok-start_buffers.started.buffers.items in
     let are = c.in-Ok-start_buffers.ensures.started in
-    starts config c.args.stores.items c.requires.stores c.args.text.now kept
-    c.in-Ok.ensures.reads c.in-Ok.ensures.only buffers are _ c.in-Ok-resume.desks
-    (ahead_as config c.args.stores.items c.requires.stores c.args.text.now kept
+    let is = c.in-Ok-over.ensures in
+    subst (λ text. StartsOver config c.args.stopped.stores.items text c.in-Ok-over.alone)
+    c.deref.ensures.value
+    (starts config c.args.stopped.stores.items c.requires.stores c.deref.result.now kept
+    c.in-Ok.ensures.reads c.in-Ok.ensures.only buffers are c.in-Ok-over.alone c.in-Ok-resume.desks
+    (ahead_as config c.args.stopped.stores.items c.requires.stores c.deref.result.now kept
     c.in-Ok.ensures.reads c.in-Ok.ensures.only buffers are c.in-Ok-all_filled.filled.items _
     c.in-Ok-all_filled.ensures
     (sym c.if-is_ahead.false ∙ c.is_ahead.ensures
-    ∙ ap (λ (fs : List code.Filled). is_ahead (map filled_view fs) kept) c.deref.ensures.value))
-    c.in-Ok-resume.ensures c.in-Ok-open.ensures.opened refl refl refl refl refl
-    (c.len.ensures ∙ config.relay.feeds.ok.0) refl
+    ∙ ap (λ (fs : List code.Filled). is_ahead (map filled_view fs) kept)
+    c.deref-2.ensures.value))
+    c.in-Ok-resume.ensures is.opened is.desks.0 is.desks.1 is.desks.2 is.desks.3 is.stop
+    is.settings.0 is.settings.1)
 
-pub invariant_of-result : goal.invariant_of-result
-invariant_of-result g c = record {
-  sixteen = c.in-Ok-resume.desks.sixteen;
+pub over-requires : goal.over-requires
+over-requires g c = record {
   few = omega (
-    arith,
-    c.in-Ok-open.ensures.opened.count,
-    c.in-Ok-start_buffers.ensures.started.over.count,
-    same_count g.S.BlockStore c.args.config.now.buffers c.args.stores.items c.requires.stores,
-    c.args.config.now.buffers.few_buffers,
-  );
-  few_placed_groups = omega (
     arith,
     c.in-Ok-resume.ensures.placed_group_count,
     c.args.config.now.buffers.few_groups,
-  );
-  few_feeds = omega (
-    arith,
-    few_feeds c.args.config.now,
-    c.len.ensures,
-    c.args.config.now.relay.feeds.ok,
   );
 }
