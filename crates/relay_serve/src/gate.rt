@@ -144,7 +144,8 @@ impl<R: Eprint> Gate<R> for CountingGate<'_> {
             return;
         };
         let _lost = eprintln!(rt;
-            "closed peer={} session={session} finish={} seconds={seconds} accepted={} known={} refused={} later={} octets={}",
+            "closed peer={} session={session} finish={} seconds={seconds} accepted={} known={} \
+            refused={} later={} octets={}",
             name_of(peer),
             word_of(finish),
             tally.accepted,

@@ -292,7 +292,7 @@ where
 {
     let groups = channels_of(serving.config);
     match serve_all(rt, alloc, keeper, serving, groups, all) {
-        Ok((_seats, counted)) => Ok(counted),
+        Ok(ran) => Ok(ran.counted),
         Err(error) => Err(ended(error)),
     }
 }

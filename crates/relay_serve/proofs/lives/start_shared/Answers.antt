@@ -12,4 +12,5 @@ returns-in-Err-clause-told g c = record {
 -- and names a buffer where it is one of a buffer
 pub returns-in-Err-clause-fault : goal.returns-in-Err-clause-fault
 returns-in-Err-clause-fault g c =
-    unstarted_stays _ c.args.config.now c.args.stopped.stores.items c.in-Err.refused _ c.unstarted.ensures
+    unstarted_stays _ c.args.config.now c.args.stopped.stores.items c.in-Err.refused _
+    c.unstarted.ensures

@@ -15,10 +15,11 @@ use Rattle.news_terms.proofs.ListPlaces.{mapped_at}
 pub returns-in-Ok-clause-ran : goal.returns-in-Ok-clause-ran
 returns-in-Ok-clause-ran g c =
     let ran = c.in-Ok.ensures in
-    let seats = c.in-Ok._seats in
+    let seats = c.in-Ok.ran.seats in
     let ends = seats.services.items in
     let config = c.args.serving.config.now in
-    let peer_sources = length-map c.args.serving.peer_sources.items (λ peer_source. peer_source.peer) in
+    let peer_sources =
+    length-map c.args.serving.peer_sources.items (λ peer_source. peer_source.peer) in
     record {
       finished = map (λ w. w.finished.items) seats.writers.items;
       hands = hands_of seats.lefts.items;
@@ -39,8 +40,8 @@ returns-in-Ok-clause-ran g c =
           let has = ran.kept end jobs at.0 handed at.1 in
           let its_peer = one_there _ _ end (peer_of at.0) peer ran.peers
           (made_there peer_of ends end at.0 at.1) at_peer in
-          let its_terms = same_there (terms_of config) c.args.serving.peer_sources.items end (terms_at at.0)
-          (ap (λ row. slice_get row end) (sym ran.terms)
+          let its_terms = same_there (terms_of config) c.args.serving.peer_sources.items end
+          (terms_at at.0) (ap (λ row. slice_get row end) (sym ran.terms)
           ∙ made_there terms_at ends end at.0 at.1) in (
             has.0,
             subst (λ (x : Terms × ℕ). Accounted g.J.StorePremises.trusted x.0 end x.1
