@@ -40,7 +40,7 @@ pub(crate) fn put_fetches<S: BlockStore + Drop, J: StorePremises, L: Ledger, R: 
     sheet: &mut Sheet,
     shared: &Shared<S, J, L>,
     register: &ArticleLog,
-    fetches: &Vec<Fetch>,
+    fetches: &[Fetch],
 ) -> Result<(), AllocError>
     requires { register.now ≡ J.register }
 {

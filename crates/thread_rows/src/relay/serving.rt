@@ -1,8 +1,9 @@
 //! A row, played.
 ghost use Rattle.std.specs.Prelude.{◌≡◌, ◌<◌, length};
 ghost use Rattle.relay_live.specs.Holding.{has_buffer};
-ghost use Rattle.relay_live.specs.Making.{ends_in};
+ghost use Rattle.relay_live.specs.Making.{slots_of};
 
+use crate::clock::Hands;
 use crate::failed;
 use crate::relay::board::{Board, Sign};
 use crate::relay::configs::row_config;
@@ -74,26 +75,23 @@ fn peer_sources_of<'a, R: Sync>(
     Ok(peer_sources)
 }
 
-/// Serves the sessions of a row over what is shared, in threads.
+/// Serves the sessions of a row in threads, over what keeps their articles.
 fn run<'a, J: StorePremises + Send + Sync, L: Ledger + Send + Sync, R>(
     rt: &'a R,
     alloc: Global,
     config: &'a Config,
-    register: &'a ArticleLog,
-    shared: &'a Shared<Waiting<'_, R>, J, L>,
+    keeper: &Keeper<'a, Waiting<'_, R>, J, L, Hands, ArticleLog>,
     all: Share<L>,
-    groups: usize,
     board: &'a Board,
     row: &'a Row,
 ) -> io::Result<Counted>
 where
     R: Threads + Wait + Clock + RandomSource + Sync + 'static,
-    requires register { register.now ≡ J.register }
-    requires holds { J.holds ≡ has_buffer config.now.buffers }
-    requires parts { (all.parts ≡ groups) × (all.amount ≡ 0) × (L.parts ≡ groups) × (0 < groups) }
-    requires slots { ends_in shared.now ≡ length row.now.sessions.items }
+    requires parts { (all.parts ≡ length config.now.buffers.groups.items) × (all.amount ≡ 0)
+        × (L.parts ≡ length config.now.buffers.groups.items)
+        × (0 < length config.now.buffers.groups.items) }
+    requires slots { slots_of keeper.now ≡ length row.now.sessions.items }
 {
-    let keeper = Keeper::new(shared, register, &config.buffers, &board.clock);
     let turns = Turns::new(board, row.manner, row.order.as_slice());
     let peers = config.relay.peers.len();
     let peer_sources = peer_sources_of(rt, alloc, board, &turns, row, peers)?;
@@ -107,8 +105,9 @@ where
         hasher,
         peer_sources,
     };
-    match serve_all(rt, alloc, &keeper, serving, groups, all) {
-        Ok((_seats, counted)) => Ok(counted),
+    let groups = config.buffers.groups.len();
+    match serve_all(rt, alloc, keeper, serving, groups, all) {
+        Ok(ran) => Ok(ran.counted),
         Err(_) => Err(failed()),
     }
 }
@@ -120,7 +119,6 @@ fn serve<J: StorePremises + Send + Sync, L: Ledger + Send + Sync, R>(
     config: &Config,
     register: &ArticleLog,
     blank: Blank,
-    groups: usize,
     row: &Row,
     failing: u64,
 ) -> io::Result<Sheet>
@@ -129,7 +127,9 @@ where
     requires register { register.now ≡ J.register }
     requires holds { J.holds ≡ has_buffer config.now.buffers }
     requires name { blank.name ≡ L.name }
-    requires parts { (blank.parts ≡ L.parts) × (blank.parts ≡ groups) × (0 < groups) }
+    requires parts { (blank.parts ≡ L.parts)
+        × (blank.parts ≡ length config.now.buffers.groups.items)
+        × (0 < length config.now.buffers.groups.items) }
 {
     let (book, all) = blank.open::<L>();
     let board = Board::new(alloc, row.sessions.len(), row.moment)?;
@@ -142,9 +142,8 @@ where
         Err(BeginError::Host(error)) => return Err(error),
         Err(BeginError::Device(_number, _store)) => return Err(failed()),
     };
-    let counted = run(
-        rt, alloc, config, register, &shared, all, groups, &board, row,
-    )?;
+    let keeper = Keeper::new(&shared, register, &config.buffers, &board.clock);
+    let counted = run(rt, alloc, config, &keeper, all, &board, row)?;
     let mut sheet = Sheet::new(alloc);
     if row.is_counted {
         put_codes(rt, &mut sheet, &board);
@@ -171,7 +170,7 @@ where
     }
     let register = ArticleLog::new(alloc)?;
     let blank = Blank::new(groups as u64);
-    serve::<Brand, Brand, R>(rt, alloc, &config, &register, blank, groups, row, failing)
+    serve::<Brand, Brand, R>(rt, alloc, &config, &register, blank, row, failing)
 }
 
 /// Plays the row of these lines, and says what came of it behind the line that it begins with.
