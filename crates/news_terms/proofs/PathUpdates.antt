@@ -81,7 +81,7 @@ abbrev pub all_agent : List ℕ → Bool
 all_agent text = list_all (λ c. is_ascii_graphic c && not (c == byte "!")) text
 
 -- an identity before a `!` is the first piece
-agent_first : (own more : List ℕ) → IsTrue (all_agent own)
+pub agent_first : (own more : List ℕ) → IsTrue (all_agent own)
     → path_pieces (own ++ byte "!" ∷ more) ≡ own ∷ path_pieces more
 agent_first [] more h = refl
 agent_first (c ∷ own) more h =
@@ -117,7 +117,7 @@ updated_begins own expected content =
     ]
 
 -- an identity does not say that the article was posted
-not_posted : (own : List ℕ) → IsTrue (is_identity own) → IsFalse (is_posted own)
+pub not_posted : (own : List ℕ) → IsTrue (is_identity own) → IsFalse (is_posted own)
 not_posted [] h = absurd (both_ways _ refl h)
 not_posted (c ∷ own) h =
     let no_dot : c ≢ byte "." =

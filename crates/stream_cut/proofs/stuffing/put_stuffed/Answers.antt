@@ -35,8 +35,9 @@ loop-end-preserved c =
     let dots : DotsAt (drop at t) end =
     subst (λ (x : List ℕ). DotsAt x end) (take_rest t at) c.in-Some.ensures in
     let put = c.put_stuffed_line.ensures in
+    let inside = (dots_within (drop at t) end dots).1 in
     record {
-      within = omega (arith, (dots_within (drop at t) end dots).1, c.loop-end.invariant.within, length-drop at t);
+      within = omega (arith, inside, c.loop-end.invariant.within, length-drop at t);
       told = ap (λ (x : List ℕ). x ++ stuffed (drop (at + end) t)) put.items
           ∙ stuffed_more t c.loop-end.block.items at end (at + end) dots refl
           ∙ c.loop-end.invariant.told;
