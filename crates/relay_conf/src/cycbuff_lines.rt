@@ -9,7 +9,7 @@ ghost use Rattle.relay_conf.specs.Words as words;
 
 use crate::cycbuff::Mode;
 use crate::faults::Fault;
-use crate::words::is_name;
+use crate::words::{is, is_name};
 use line_words::{cut, is_skipped, number_within, three_parts, trim, two_parts};
 
 /// What a line says, without fault.
@@ -32,11 +32,11 @@ pub(crate) fn cycbuff_line(line: &[u8]) -> Result<Line<'_>, Fault>
         return Ok(Line::Skipped);
     }
     let (word, rest) = cut(line, b':');
-    if word == b"cycbuff".as_slice() {
+    if is(word, b"cycbuff") {
         buffer_line(rest)
-    } else if word == b"metacycbuff".as_slice() {
+    } else if is(word, b"metacycbuff") {
         group_line(rest)
-    } else if word == b"cycbuffupdate".as_slice() || word == b"refreshinterval".as_slice() {
+    } else if is(word, b"cycbuffupdate") || is(word, b"refreshinterval") {
         ignored_line(rest)
     } else {
         Err(Fault::UnknownKey)
@@ -104,9 +104,9 @@ fn are_names(list: &[u8]) -> bool
 fn mode_of(word: &[u8]) -> Option<Mode>
     ensures { result ≡ terms.mode_of word.now }
 {
-    if word == b"INTERLEAVE".as_slice() {
+    if is(word, b"INTERLEAVE") {
         Some(Mode::Interleave)
-    } else if word == b"SEQUENTIAL".as_slice() {
+    } else if is(word, b"SEQUENTIAL") {
         Some(Mode::Sequential)
     } else {
         None

@@ -80,7 +80,7 @@ pub enum ConfError {
 }
 
 /// Why a line isn't taken.
-#[derive(Clone, Copy, Debug, PartialEq, Eq)]
+#[derive(Clone, Copy)]
 pub(crate) enum Refusal {
     /// Memory ran out, which says nothing of the line.
     Memory,

@@ -18,7 +18,7 @@ use crate::peers::{connected, is_peer, known_names, numbered};
 use crate::relay_lines::{Line, relay_line};
 use crate::settings::Relay;
 use line_words::Octets;
-use std::alloc::Global;
+use std::alloc::{AllocError, Global};
 use std::net::Ipv4Addr;
 use uwild::Expr;
 
@@ -193,12 +193,7 @@ impl RelayDraft {
         if is_peer(&self.peers, name) {
             return Err(Refusal::Faulty(Fault::Duplicate));
         }
-        self.peers.push(Peer {
-            name: Octets::copied(alloc, name)?,
-            identity: Octets::copied(alloc, identity)?,
-            port,
-            connections: 1,
-        })?;
+        push_peer(alloc, &mut self.peers, name, identity, port)?;
         Ok(())
     }
 
@@ -218,14 +213,8 @@ impl RelayDraft {
         if !self.connected_names.add(alloc, name)? {
             return Err(Refusal::Faulty(Fault::Duplicate));
         }
-        self.connections.push(PeerConnections {
-            name: Octets::copied(alloc, name)?,
-            connections,
-        })?;
-        self.named.push(NamedLine {
-            line,
-            name: Octets::copied(alloc, name)?,
-        })?;
+        push_connections(alloc, &mut self.connections, name, connections)?;
+        push_named(alloc, &mut self.named, line, name)?;
         Ok(())
     }
 
@@ -247,17 +236,82 @@ impl RelayDraft {
         if !self.feed_names.add(alloc, name)? {
             return Err(Refusal::Faulty(Fault::Duplicate));
         }
-        self.feeds.push(NamedFeed {
-            name: Octets::copied(alloc, name)?,
-            ring,
-            expression,
-        })?;
-        self.named.push(NamedLine {
-            line,
-            name: Octets::copied(alloc, name)?,
-        })?;
+        push_feed(alloc, &mut self.feeds, name, ring, expression)?;
+        push_named(alloc, &mut self.named, line, name)?;
         Ok(())
     }
+}
+
+/// Keeps a peer, one of whose connections is served at once.
+fn push_peer(
+    alloc: Global,
+    peers: &mut Vec<Peer>,
+    name: &[u8],
+    identity: &[u8],
+    port: u16,
+) -> Result<(), AllocError>
+    ensures { OnOk result (peers.new.items ≡ peers.old.items
+        ++ record { name = name.now; identity = identity.now; port = port; connections = 1 } ∷ []) }
+{
+    let name = Octets::copied(alloc, name)?;
+    let identity = Octets::copied(alloc, identity)?;
+    peers.push(Peer {
+        name,
+        identity,
+        port,
+        connections: 1,
+    })?;
+    Ok(())
+}
+
+/// Keeps the connections of a peer.
+fn push_connections(
+    alloc: Global,
+    kept: &mut Vec<PeerConnections>,
+    name: &[u8],
+    connections: u32,
+) -> Result<(), AllocError>
+    ensures { OnOk result (kept.new.items
+        ≡ kept.old.items ++ record { name = name.now; connections = connections } ∷ []) }
+{
+    let name = Octets::copied(alloc, name)?;
+    kept.push(PeerConnections { name, connections })?;
+    Ok(())
+}
+
+/// Keeps a feed by the name of its peer.
+fn push_feed(
+    alloc: Global,
+    feeds: &mut Vec<NamedFeed>,
+    name: &[u8],
+    ring: u32,
+    expression: Expr,
+) -> Result<(), AllocError>
+    ensures { OnOk result (feeds.new.items ≡ feeds.old.items
+        ++ record { name = name.now; ring = ring; expression = expression } ∷ []) }
+{
+    let name = Octets::copied(alloc, name)?;
+    feeds.push(NamedFeed {
+        name,
+        ring,
+        expression,
+    })?;
+    Ok(())
+}
+
+/// Keeps the number of a line and the name that it says something of.
+fn push_named(
+    alloc: Global,
+    named: &mut Vec<NamedLine>,
+    line: usize,
+    name: &[u8],
+) -> Result<(), AllocError>
+    ensures { OnOk result (named.new.items
+        ≡ named.old.items ++ record { line = line; name = name.now } ∷ []) }
+{
+    let name = Octets::copied(alloc, name)?;
+    named.push(NamedLine { line, name })?;
+    Ok(())
 }
 
 /// The settings, or the first fault that is looked for after the last line.
@@ -278,9 +332,11 @@ fn finished(alloc: Global, draft: RelayDraft) -> Result<Relay, ConfError>
         connections,
         feeds,
         named,
-        connected_names: _,
-        feed_names: _,
+        connected_names,
+        feed_names,
     } = draft;
+    drop(connected_names);
+    drop(feed_names);
     let Some(own) = own else {
         return Err(ConfError::Faulty(LineFault {
             line: 0,
@@ -288,6 +344,7 @@ fn finished(alloc: Global, draft: RelayDraft) -> Result<Relay, ConfError>
         }));
     };
     known_names(&peers, &named)?;
+    drop(named);
     let feeds = numbered(alloc, &peers, feeds)?;
     let peers = connected(alloc, peers, &connections)?;
     Ok(Relay {

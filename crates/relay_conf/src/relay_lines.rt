@@ -1,12 +1,12 @@
 //! The lines of relay.conf, each read alone.
-ghost use Rattle.std.specs.Prelude.{◌≡◌, ◌≤◌, IfOk};
+ghost use Rattle.std.specs.Prelude.{◌≡◌, ◌≤◌, ◌∷◌, IfOk};
 ghost use Rattle.line_words.specs.Parts.{one_of, two_of, three_of};
 ghost use Rattle.relay_conf.specs.RelayLines as terms;
 ghost use Rattle.relay_conf.specs.RelayViews.{raw_by, IsNamed};
 ghost use Rattle.relay_conf.specs.Words.{words};
 
 use crate::faults::Fault;
-use crate::words::{first_word, is_identity, is_name, one_word, three_words, two_words};
+use crate::words::{first_word, is, is_identity, is_name, one_word, three_words, two_words};
 use line_words::{cut, is_skipped, number_within, three_parts, trim};
 
 /// What a line says, without fault.
@@ -43,26 +43,34 @@ pub(crate) fn relay_line(line: &[u8]) -> Result<Line<'_>, Fault>
     if is_skipped(line) {
         return Ok(Line::Skipped);
     }
-    let Some((word, rest)) = first_word(line) else {
-        return Err(Fault::UnknownKey);
-    };
-    if word == b"own".as_slice() {
+    match first_word(line) {
+        Some((word, rest)) => line_of(word, rest),
+        None => Err(Fault::UnknownKey),
+    }
+}
+
+/// Reads a line by its first word and what follows it.
+fn line_of<'a>(word: &[u8], rest: &'a [u8]) -> Result<Line<'a>, Fault>
+    ensures says { raw_by result ≡ terms.relay_words (word.now ∷ words rest.now) }
+    ensures named { IfOk result IsNamed }
+{
+    if is(word, b"own") {
         own_line(rest)
-    } else if word == b"maxart".as_slice() {
+    } else if is(word, b"maxart") {
         Ok(Line::MaxArticle(number_line(1, 16_777_216, rest)? as u32))
-    } else if word == b"cutoff".as_slice() {
+    } else if is(word, b"cutoff") {
         Ok(Line::Cutoff(number_line(0, 4_000_000_000, rest)?))
-    } else if word == b"remember".as_slice() {
+    } else if is(word, b"remember") {
         Ok(Line::Remember(number_line(0, 4_000_000_000, rest)?))
-    } else if word == b"patience".as_slice() {
+    } else if is(word, b"patience") {
         Ok(Line::Patience(number_line(1, 86_400, rest)? as u32))
-    } else if word == b"bind".as_slice() {
+    } else if is(word, b"bind") {
         bind_line(rest)
-    } else if word == b"peer".as_slice() {
+    } else if is(word, b"peer") {
         peer_line(rest)
-    } else if word == b"connections".as_slice() {
+    } else if is(word, b"connections") {
         connections_line(rest)
-    } else if word == b"feed".as_slice() {
+    } else if is(word, b"feed") {
         feed_line(rest)
     } else {
         Err(Fault::UnknownKey)
@@ -114,12 +122,17 @@ fn address_of(word: &[u8]) -> Option<[u8; 4]>
 {
     let (first, rest) = cut(word, b'.');
     let (second, third, fourth) = three_parts(rest, b'.')?;
-    Some([
-        octet_of(first)?,
-        octet_of(second)?,
-        octet_of(third)?,
-        octet_of(fourth)?,
-    ])
+    match (
+        octet_of(first),
+        octet_of(second),
+        octet_of(third),
+        octet_of(fourth),
+    ) {
+        (Some(first), Some(second), Some(third), Some(fourth)) => {
+            Some([first, second, third, fourth])
+        }
+        _ => None,
+    }
 }
 
 /// The number of a part of an address: to 255, and without a 0 in front of further digits.

@@ -6,7 +6,7 @@ ghost use Rattle.relay_conf.specs.Words.{words};
 ghost use Rattle.line_words.specs.Parts.{parts};
 
 use crate::faults::Fault;
-use crate::words::{first_word, is_name, three_words};
+use crate::words::{first_word, is, is_name, three_words};
 use line_words::{cut, is_skipped, number_within, trim};
 
 /// The sizes that an entry takes, in octets; no upper limit is `None`.
@@ -66,7 +66,7 @@ pub(crate) fn storage_line(place: Place, line: &[u8]) -> Result<Line<'_>, Fault>
 fn other_line<'a>(line: &[u8]) -> Line<'a>
     ensures { raw_view result ≡ terms.other_line line.now }
 {
-    if line == b"}".as_slice() {
+    if is(line, b"}") {
         Line::Ends
     } else {
         Line::Skipped
@@ -83,7 +83,7 @@ fn outside_line(line: &[u8]) -> Result<Line<'_>, Fault>
     let Some((first, method, last)) = three_words(line) else {
         return Err(Fault::Syntax);
     };
-    if first == b"method".as_slice() && is_name(method) && last == b"{".as_slice() {
+    if is(first, b"method") && is_name(method) && is(last, b"{") {
         Ok(Line::Opens(method))
     } else {
         Err(Fault::Syntax)
@@ -97,7 +97,7 @@ fn inside_line(line: &[u8]) -> Result<Line<'_>, Fault>
     if is_skipped(line) {
         return Ok(Line::Skipped);
     }
-    if line == b"}".as_slice() {
+    if is(line, b"}") {
         return Ok(Line::Closes);
     }
     match key_and_value(line) {
@@ -128,18 +128,18 @@ fn bare_fault(line: &[u8]) -> Fault
 fn is_known_word(word: &[u8]) -> bool
     ensures { result ≡ terms.is_known_word word.now }
 {
-    is_key(word) || word == b"method".as_slice() || word == b"}".as_slice()
+    is_key(word) || is(word, b"method") || is(word, b"}")
 }
 
 /// Whether the word is a key of an entry.
 fn is_key(word: &[u8]) -> bool
     ensures { result ≡ terms.is_key word.now }
 {
-    word == b"class".as_slice()
-        || word == b"newsgroups".as_slice()
-        || word == b"options".as_slice()
-        || word == b"size".as_slice()
-        || word == b"exactmatch".as_slice()
+    is(word, b"class")
+        || is(word, b"newsgroups")
+        || is(word, b"options")
+        || is(word, b"size")
+        || is(word, b"exactmatch")
 }
 
 /// Reads a key and its value, which may not be quoted.
@@ -156,15 +156,15 @@ fn unquoted_line<'a>(key: &[u8], value: &'a [u8]) -> Result<Line<'a>, Fault>
 fn setting_line<'a>(key: &[u8], value: &'a [u8]) -> Result<Line<'a>, Fault>
     ensures { raw_by result ≡ terms.setting_line key.now value.now }
 {
-    if key == b"class".as_slice() {
+    if is(key, b"class") {
         class_line(value)
-    } else if key == b"newsgroups".as_slice() {
+    } else if is(key, b"newsgroups") {
         Ok(Line::Newsgroups(value))
-    } else if key == b"options".as_slice() {
+    } else if is(key, b"options") {
         options_line(value)
-    } else if key == b"size".as_slice() {
+    } else if is(key, b"size") {
         size_line(value)
-    } else if key == b"exactmatch".as_slice() {
+    } else if is(key, b"exactmatch") {
         exact_line(value)
     } else {
         Err(Fault::UnknownKey)

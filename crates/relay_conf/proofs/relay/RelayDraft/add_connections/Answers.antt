@@ -1,4 +1,4 @@
-use Rattle.std.proofs.Common.{◌≡◌, ◌∙◌, ap, sym, map, List, ℕ, ◌++◌, ◌∷◌, []}
+use Rattle.std.proofs.Common.{◌∙◌, ap, sym, map, List, ℕ, ◌∷◌, []}
 use Rattle.std.specs.Prelude.{bytes_eq, ◌||◌}
 use Rattle.std.specs.List.{list_any}
 use Rattle.std.proofs.lemmas.List.{map-append}
@@ -7,13 +7,8 @@ use Rattle.relay_conf.proofs.NameTexts.{any_more}
 use Rattle.relay_conf.proofs.relay.RelayDraft.add_connections.Goals as goal
 
 -- the connections as they are kept
-abbrev kept : goal.In_ok-push-2 → PeerConnections
+abbrev kept : goal.In_ok-push_named → PeerConnections
 kept c = record { name = c.args.name.now; connections = c.args.connections }
-
--- They join the others.
-pushed : (c : goal.In_ok-push-2) → c.push.new.self.items ≡ c.args.self.now.connections.items
-    ++ kept c ∷ []
-pushed c = cc (c.in_ok-push.ensures.items, c.in_ok-copied.ensures)
 
 pub returns-clause-listed : goal.returns-clause-listed
 returns-clause-listed c = λ listed.
@@ -24,5 +19,5 @@ returns-clause-listed c = λ listed.
           ∙ any_more (map name_of c.args.self.now.connections.items) c.args.name.now name
           ∙ ap (list_any (bytes_eq name))
           (sym (map-append name_of c.args.self.now.connections.items (kept c ∷ []))
-          ∙ ap (map name_of) (sym (pushed c))),
+          ∙ ap (map name_of) (sym c.in_ok-push_connections.ensures)),
     )

@@ -1,4 +1,4 @@
-use Rattle.std.proofs.Common.{◌≡◌, ◌∙◌, ap, sym, refl, map, List, ℕ, ◌++◌, ◌∷◌, [], Ok, Err}
+use Rattle.std.proofs.Common.{◌∙◌, ap, sym, refl, map, List, ℕ, ◌∷◌, [], Ok, Err}
 use Rattle.std.specs.Prelude.{bytes_eq, ◌||◌}
 use Rattle.std.specs.List.{list_any}
 use Rattle.std.specs.HashSet.{contains_text}
@@ -29,18 +29,13 @@ returns-then-not-branch-clause-step c = λ listed. record {
 }
 
 -- the feed as it is kept
-abbrev kept : goal.In_ok-push-2 → NamedFeed
+abbrev kept : goal.In_ok-push_named → NamedFeed
 kept c = record {
   name = c.args.name.now;
   ring = c.args.ring;
   expression =
       c.in_ok-expression.expression;
 }
-
--- it joins the others
-pushed : (c : goal.In_ok-push-2)
-    → c.push.new.self.items ≡ c.args.self.now.feeds.items ++ kept c ∷ []
-pushed c = cc (c.in_ok-push.ensures.items, c.in_ok-copied.ensures)
 
 pub returns-clause-step : goal.returns-clause-step
 returns-clause-step c = λ listed. record {
@@ -50,7 +45,7 @@ returns-clause-step c = λ listed. record {
       c.args.name.now (contains_text c.args.self.now.feed_names.names c.args.name.now)
       c.in_ok-add.field-0 (listed.0 c.args.name.now) c.in_ok-add.ensures.added).1
       c.if-not-branch.false;
-  reading = cc (pushed c, c.in_ok-push-2.ensures.items, c.in_ok-copied-2.ensures);
+  reading = cc (c.in_ok-push_feed.ensures, c.in_ok-push_named.ensures);
 }
 
 pub returns-clause-listed : goal.returns-clause-listed
@@ -61,6 +56,6 @@ returns-clause-listed c = λ listed.
           ∙ any_more (map name_of c.args.self.now.feeds.items) c.args.name.now name
           ∙ ap (list_any (bytes_eq name))
           (sym (map-append name_of c.args.self.now.feeds.items (kept c ∷ []))
-          ∙ ap (map name_of) (sym (pushed c))),
+          ∙ ap (map name_of) (sym c.in_ok-push_feed.ensures)),
       listed.1,
     )
