@@ -140,7 +140,7 @@ impl Session {
                 Some((transfer, id))
             }
             other => {
-                self.phase = other;
+                self.enter(other);
                 None
             }
         }
@@ -159,7 +159,10 @@ impl Session {
                 Some((transfer, id)) => room.say(&rejected(transfer, &id)),
                 None => Vec::new(self.alloc),
             },
-            _ => Vec::new(self.alloc),
+            other => {
+                drop(other);
+                Vec::new(self.alloc)
+            }
         }
     }
 
@@ -191,7 +194,10 @@ impl Session {
                 }
                 None => Vec::new(self.alloc),
             },
-            _ => Vec::new(self.alloc),
+            other => {
+                drop(other);
+                Vec::new(self.alloc)
+            }
         }
     }
 
@@ -211,17 +217,23 @@ impl Session {
     {
         match told {
             Take::Mine => {
-                self.hand = Some(job);
-                self.phase = Phase::Waits(transfer, id, room);
+                drop(self.hand.replace(job));
+                self.enter(Phase::Waits(transfer, id, room));
                 Vec::new(self.alloc)
             }
-            Take::Seen => room.say(&rejected(transfer, &id)),
+            Take::Seen => {
+                drop(job);
+                room.say(&rejected(transfer, &id))
+            }
             Take::Held => match transfer {
                 Transfer::TakesThis => {
-                    self.phase = Phase::Holds(id, job.article, room);
+                    self.enter(Phase::Holds(id, job.article, room));
                     Vec::new(self.alloc)
                 }
-                Transfer::Has => room.say(&Reply::IhaveLater),
+                Transfer::Has => {
+                    drop(job);
+                    room.say(&Reply::IhaveLater)
+                }
             },
         }
     }

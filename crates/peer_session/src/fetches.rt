@@ -58,16 +58,21 @@ impl Session {
     {
         match answer {
             Answer::Look(Some(token)) => {
+                drop(answer);
                 self.cutter.pass(read);
                 let asked = Asked::OfId(part, id);
-                self.phase = Phase::Fetches(Reading::new(self.alloc, asked, token));
+                self.enter(Phase::Fetches(Reading::new(self.alloc, asked, token)));
                 Vec::new(self.alloc)
             }
             Answer::Look(None) => {
+                drop(answer);
                 self.cutter.pass(read);
                 room.say(&Reply::NoArticle)
             }
-            _ => Vec::new(self.alloc),
+            other => {
+                drop(other);
+                Vec::new(self.alloc)
+            }
         }
     }
 
@@ -86,7 +91,10 @@ impl Session {
                 self.cutter.pass(read);
                 self.hear_block(reading, chunk)
             }
-            _ => Vec::new(self.alloc),
+            other => {
+                drop(other);
+                Vec::new(self.alloc)
+            }
         }
     }
 
@@ -97,7 +105,7 @@ impl Session {
         match mem::replace(&mut self.phase, Phase::Ready) {
             Phase::Fetches(reading) => Some(reading),
             other => {
-                self.phase = other;
+                self.enter(other);
                 None
             }
         }
@@ -123,7 +131,10 @@ impl Session {
                 Some(reading) => self.hear_block(reading, chunk),
                 None => Vec::new(self.alloc),
             },
-            _other => Vec::new(self.alloc),
+            other => {
+                drop(other);
+                Vec::new(self.alloc)
+            }
         }
     }
 
@@ -139,7 +150,7 @@ impl Session {
         match reading.hear(chunk) {
             Some(octets) => octets,
             None => {
-                self.phase = Phase::Fetches(reading);
+                self.enter(Phase::Fetches(reading));
                 Vec::new(self.alloc)
             }
         }
@@ -158,7 +169,10 @@ impl Session {
                 self.cutter.pass(read);
                 room.say_queue(taken.missed, &taken.items)
             }
-            _ => Vec::new(self.alloc),
+            other => {
+                drop(other);
+                Vec::new(self.alloc)
+            }
         }
     }
 }

@@ -49,8 +49,9 @@ impl Session {
         ensures memory { answer ≡ Answer.Memory → self.new ≡ self.old }
     {
         if let Answer::Nothing = answer {
-            let _ = self.offers.close_oldest();
+            drop(self.offers.close_oldest());
         }
+        drop(answer);
         Vec::new(self.alloc)
     }
 
@@ -61,8 +62,9 @@ impl Session {
         ensures memory { answer ≡ Answer.Memory → self.new ≡ self.old }
     {
         if let Answer::Nothing = answer {
-            self.phase = Phase::Ended;
+            self.enter(Phase::Ended);
         }
+        drop(answer);
         Vec::new(self.alloc)
     }
 }

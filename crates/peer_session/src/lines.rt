@@ -176,6 +176,7 @@ impl Session {
     {
         match answer {
             Answer::Offer(told) => {
+                drop(answer);
                 self.cutter.pass(read);
                 match told {
                     Offer::Wanted => {
@@ -187,7 +188,10 @@ impl Session {
                     Offer::Seen => self.decline(&id, room, &Reply::NotWanted(&id)),
                 }
             }
-            _ => Vec::new(self.alloc),
+            other => {
+                drop(other);
+                Vec::new(self.alloc)
+            }
         }
     }
 
@@ -208,18 +212,22 @@ impl Session {
     {
         match answer {
             Answer::Offer(told) => {
+                drop(answer);
                 self.cutter.pass(read);
                 match told {
                     Offer::Wanted => {
                         self.offers.open(id);
-                        self.phase = Phase::AwaitsBlock(Transfer::Has, Some(copy));
+                        self.enter(Phase::AwaitsBlock(Transfer::Has, Some(copy)));
                         room.say(&Reply::IhaveSend)
                     }
                     Offer::Later => self.decline(&id, room, &Reply::IhaveLater),
                     Offer::Seen => self.decline(&id, room, &Reply::IhaveNotWanted),
                 }
             }
-            _ => Vec::new(self.alloc),
+            other => {
+                drop(other);
+                Vec::new(self.alloc)
+            }
         }
     }
 

@@ -58,11 +58,12 @@ impl Session {
     ) -> Result<Session, AllocError>
         ensures { IfOk result (λ session. NewStands (terms_of config.now) session peer) }
     {
+        let offers = OpenOffers::new(alloc, hasher)?;
         Ok(Session {
             alloc,
             peer,
             cutter: Cutter::new(alloc, config.relay.max_article as usize),
-            offers: OpenOffers::new(alloc, hasher)?,
+            offers,
             phase: Phase::Ready,
             hand: None,
             planned: Planned {
@@ -148,11 +149,9 @@ impl Session {
         ensures bounded { IsAwaitingBlock self.old.phase → IsBounded self.new.cutter }
     {
         let due = self.due(config, now)?;
-        self.planned = Planned {
-            todo: due.todo,
-            read: due.read,
-        };
-        Ok(due.step)
+        let Due { todo, read, step } = due;
+        drop(mem::replace(&mut self.planned, Planned { todo, read }));
+        Ok(step)
     }
 
     /// What is due by the phase.
@@ -189,12 +188,27 @@ impl Session {
             todo: Todo::Rest,
             read: 0,
         };
-        let Planned { todo, read } = mem::replace(&mut self.planned, rest);
+        let planned = mem::replace(&mut self.planned, rest);
         if let Answer::Memory = answer {
+            drop(planned);
             return Vec::new(self.alloc);
         }
+        self.hear(number, planned, answer)
+    }
+
+    /// The answer to the step of this plan, which is the session's no more.
+    fn hear(&mut self, number: u64, planned: Planned, answer: Answer) -> Vec<u8>
+        ensures heard { Heeds number (record self.old { planned = planned }) answer result.items
+            self.new }
+        ensures given { HeedsRead (record self.old { planned = planned }) answer result.items
+            self.new }
+    {
+        let Planned { todo, read } = planned;
         match todo {
-            Todo::Rest => Vec::new(self.alloc),
+            Todo::Rest => {
+                drop(answer);
+                Vec::new(self.alloc)
+            }
             Todo::Owe(id) => self.hear_owed(read, id, answer),
             Todo::Say(octets) => self.hear_said(read, octets, answer),
             Todo::Leave(octets) => self.hear_left(read, octets, answer),
@@ -209,7 +223,10 @@ impl Session {
                 self.hear_taken(number, read, copy, article, room, answer)
             }
             Todo::TakeHeld(copy) => self.hear_held(number, copy, answer),
-            Todo::Push => Vec::new(self.alloc),
+            Todo::Push => {
+                drop(answer);
+                Vec::new(self.alloc)
+            }
             Todo::Slot => self.hear_slot(answer),
             Todo::Release => self.hear_released(answer),
             Todo::End => self.hear_ended(answer),
@@ -225,8 +242,9 @@ impl Session {
     {
         if let Answer::Nothing = answer {
             self.cutter.pass(read);
-            self.phase = Phase::AwaitsBlock(Transfer::TakesThis, id);
+            self.enter(Phase::AwaitsBlock(Transfer::TakesThis, id));
         }
+        drop(answer);
         Vec::new(self.alloc)
     }
 
@@ -239,11 +257,15 @@ impl Session {
     {
         match answer {
             Answer::Nothing => {
+                drop(answer);
                 self.cutter.pass(read);
-                self.phase = Phase::Ready;
+                self.enter(Phase::Ready);
                 octets
             }
-            _ => Vec::new(self.alloc),
+            other => {
+                drop(other);
+                Vec::new(self.alloc)
+            }
         }
     }
 
@@ -256,11 +278,15 @@ impl Session {
     {
         match answer {
             Answer::Nothing => {
+                drop(answer);
                 self.cutter.pass(read);
-                self.phase = Phase::Leaving;
+                self.enter(Phase::Leaving);
                 octets
             }
-            _ => Vec::new(self.alloc),
+            other => {
+                drop(other);
+                Vec::new(self.alloc)
+            }
         }
     }
 
@@ -288,6 +314,13 @@ impl Session {
     pub fn break_off(&mut self)
         ensures { BrokenOff self.old self.new }
     {
-        self.phase = Phase::Leaving;
+        self.enter(Phase::Leaving);
+    }
+
+    /// This phase follows, and what the one before it had is let go.
+    pub(crate) fn enter(&mut self, phase: Phase)
+        ensures { self.new ≡ record self.old { phase = phase } }
+    {
+        drop(mem::replace(&mut self.phase, phase));
     }
 }

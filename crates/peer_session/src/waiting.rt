@@ -79,11 +79,14 @@ impl Session {
                     self.hear_take(Transfer::TakesThis, id, job, room, told)
                 }
                 other => {
-                    self.phase = other;
+                    self.enter(other);
                     Vec::new(self.alloc)
                 }
             },
-            _ => Vec::new(self.alloc),
+            other => {
+                drop(other);
+                Vec::new(self.alloc)
+            }
         }
     }
 
@@ -100,11 +103,14 @@ impl Session {
             Answer::Slot(Some(outcome)) => match mem::replace(&mut self.phase, Phase::Ready) {
                 Phase::Waits(transfer, id, room) => self.hear_outcome(transfer, id, room, outcome),
                 other => {
-                    self.phase = other;
+                    self.enter(other);
                     Vec::new(self.alloc)
                 }
             },
-            _ => Vec::new(self.alloc),
+            other => {
+                drop(other);
+                Vec::new(self.alloc)
+            }
         }
     }
 
@@ -123,7 +129,7 @@ impl Session {
         match (transfer, outcome) {
             (Transfer::TakesThis, Outcome::Kept) => room.say(&Reply::Kept(&id)),
             (Transfer::TakesThis, Outcome::Failed) => {
-                self.phase = Phase::Leaving;
+                self.enter(Phase::Leaving);
                 room.say(&Reply::NotStored)
             }
             (Transfer::Has, Outcome::Kept) => room.say(&Reply::IhaveKept),

@@ -21,7 +21,7 @@ pub returns-in-None : goal.returns-in-None
 returns-in-None c =
     let old = c.args.self.now in
     let new = record old { phase = phases.Fetches c.hear.new.self } in
-    record {
+    rw c.enter.ensures (record {
       heard = λ found finds prepared ready kept.
           subst (λ said. ReadHeardIs said old (session_view old) c.args.reading found new)
           (sym c.new.ensures.items)
@@ -32,4 +32,4 @@ returns-in-None c =
           (sym c.new.ensures.items)
           (any_read old c.args.reading c.args.chunk c.hear.new.self kept
           (c.in-None.ensures.given prepared));
-    }
+    })
