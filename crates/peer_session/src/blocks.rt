@@ -125,7 +125,10 @@ impl Session {
                 let step = Step::Take(id.copied(self.alloc)?);
                 Ok((Todo::Take(copy, article, room), step))
             }
-            Err(_) => Ok((Todo::Refuse(room), Step::Refuse(id.copied(self.alloc)?))),
+            Err(_) => {
+                let step = Step::Refuse(id.copied(self.alloc)?);
+                Ok((Todo::Refuse(room), step))
+            }
         }
     }
 

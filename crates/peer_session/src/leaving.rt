@@ -29,7 +29,10 @@ pub(crate) fn leaving_due(
         return Ok(push_due(job));
     }
     let (todo, step) = match offers.oldest() {
-        Some(id) => (Todo::Release, Step::Release(id.copied(alloc)?)),
+        Some(id) => {
+            let copy = id.copied(alloc)?;
+            (Todo::Release, Step::Release(copy))
+        }
         None => (Todo::End, Step::Nothing),
     };
     Ok(Due {
