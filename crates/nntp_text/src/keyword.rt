@@ -28,49 +28,36 @@ pub(crate) fn keyword_of(word: &[u8]) -> Option<Keyword>
     ensures { option_map keyword_view result ≡ terms.keyword_of word.now }
 {
     if word.eq_ignore_ascii_case(b"CAPABILITIES") {
-        return Some(Keyword::Capabilities);
+        Some(Keyword::Capabilities)
+    } else if word.eq_ignore_ascii_case(b"HELP") {
+        Some(Keyword::Help)
+    } else if word.eq_ignore_ascii_case(b"DATE") {
+        Some(Keyword::Date)
+    } else if word.eq_ignore_ascii_case(b"QUIT") {
+        Some(Keyword::Quit)
+    } else if word.eq_ignore_ascii_case(b"MODE") {
+        Some(Keyword::Mode)
+    } else if word.eq_ignore_ascii_case(b"CHECK") {
+        Some(Keyword::Check)
+    } else if word.eq_ignore_ascii_case(b"IHAVE") {
+        Some(Keyword::Ihave)
+    } else if word.eq_ignore_ascii_case(b"TAKETHIS") {
+        Some(Keyword::TakeThis)
+    } else if word.eq_ignore_ascii_case(b"ARTICLE") {
+        Some(Keyword::Article)
+    } else if word.eq_ignore_ascii_case(b"HEAD") {
+        Some(Keyword::Head)
+    } else if word.eq_ignore_ascii_case(b"BODY") {
+        Some(Keyword::Body)
+    } else if word.eq_ignore_ascii_case(b"STAT") {
+        Some(Keyword::Stat)
+    } else if word.eq_ignore_ascii_case(b"OVER") {
+        Some(Keyword::Over)
+    } else if word.eq_ignore_ascii_case(b"XTAKE") {
+        Some(Keyword::Xtake)
+    } else if word.eq_ignore_ascii_case(b"XFETCH") {
+        Some(Keyword::Xfetch)
+    } else {
+        None
     }
-    if word.eq_ignore_ascii_case(b"HELP") {
-        return Some(Keyword::Help);
-    }
-    if word.eq_ignore_ascii_case(b"DATE") {
-        return Some(Keyword::Date);
-    }
-    if word.eq_ignore_ascii_case(b"QUIT") {
-        return Some(Keyword::Quit);
-    }
-    if word.eq_ignore_ascii_case(b"MODE") {
-        return Some(Keyword::Mode);
-    }
-    if word.eq_ignore_ascii_case(b"CHECK") {
-        return Some(Keyword::Check);
-    }
-    if word.eq_ignore_ascii_case(b"IHAVE") {
-        return Some(Keyword::Ihave);
-    }
-    if word.eq_ignore_ascii_case(b"TAKETHIS") {
-        return Some(Keyword::TakeThis);
-    }
-    if word.eq_ignore_ascii_case(b"ARTICLE") {
-        return Some(Keyword::Article);
-    }
-    if word.eq_ignore_ascii_case(b"HEAD") {
-        return Some(Keyword::Head);
-    }
-    if word.eq_ignore_ascii_case(b"BODY") {
-        return Some(Keyword::Body);
-    }
-    if word.eq_ignore_ascii_case(b"STAT") {
-        return Some(Keyword::Stat);
-    }
-    if word.eq_ignore_ascii_case(b"OVER") {
-        return Some(Keyword::Over);
-    }
-    if word.eq_ignore_ascii_case(b"XTAKE") {
-        return Some(Keyword::Xtake);
-    }
-    if word.eq_ignore_ascii_case(b"XFETCH") {
-        return Some(Keyword::Xfetch);
-    }
-    None
 }

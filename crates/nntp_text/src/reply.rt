@@ -154,11 +154,7 @@ fn parts_of<'a>(reply: &Reply<'a>) -> Parts<'a>
     ensures room { first_room result + terms.rest_room result.rest ≤ room_of reply.now }
 {
     let (words, named, rest): (&'static [u8], _, _) = match *reply {
-        Reply::Greeting => (
-            b"201 cnrelay ready, posting prohibited",
-            Named::Nothing,
-            Rest::Nothing,
-        ),
+        Reply::Greeting => (GREETING, Named::Nothing, Rest::Nothing),
         Reply::CapabilityList => (CAPABILITIES, Named::Nothing, Rest::Nothing),
         Reply::HelpText => (HELP, Named::Nothing, Rest::Nothing),
         Reply::DateIs(digits) => (b"111 ", Named::Digits(digits), Rest::Nothing),
@@ -184,13 +180,7 @@ fn parts_of<'a>(reply: &Reply<'a>) -> Parts<'a>
         Reply::NoArticle => (b"430 No such article", Named::Nothing, Rest::Nothing),
         Reply::NoGroup => (b"412 No group selected", Named::Nothing, Rest::Nothing),
         Reply::DeviceFault => (b"403 Device fault", Named::Nothing, Rest::Nothing),
-        Reply::QueueFollows(missed, items) => {
-            (
-                b"290 Queue follows",
-                Named::Nothing,
-                Rest::Queue(missed, items),
-            )
-        }
+        Reply::QueueFollows(missed, items) => (QUEUE, Named::Nothing, Rest::Queue(missed, items)),
         Reply::NoFeed => (b"490 No feed", Named::Nothing, Rest::Nothing),
         Reply::TokenFollows(token, text) => (b"292 ", Named::Token(token), Rest::Text(text)),
         Reply::TokenGone(token) => (b"492 ", Named::Gone(token), Rest::Nothing),
@@ -201,6 +191,12 @@ fn parts_of<'a>(reply: &Reply<'a>) -> Parts<'a>
     };
     Parts { words, named, rest }
 }
+
+/// The first line of a session, but its end.
+const GREETING: &[u8] = b"201 cnrelay ready, posting prohibited";
+
+/// The first line of what is taken of a queue, but its end.
+const QUEUE: &[u8] = b"290 Queue follows";
 
 /// CAPABILITIES: all lines but the end of the last.
 const CAPABILITIES: &[u8] = b"101 Capability list:\r\n\
