@@ -16,7 +16,7 @@ use std::alloc::{AllocError, Global};
 use stream_cut::put_stuffed;
 
 /// What a session says (docs/FORMATS.md, Replies).
-#[derive(Clone, Copy, Debug)]
+#[derive(Clone, Copy)]
 pub enum Reply<'a> {
     /// The first line of a session (RFC 3977 section 5.1).
     Greeting,
