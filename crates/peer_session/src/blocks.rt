@@ -119,16 +119,13 @@ impl Session {
             (IsJudged (terms_of config.now) self.now.peer now id.now (option_copied text.entry)) }
     {
         let room = Room::new(self.alloc)?;
+        let asked = id.copied(self.alloc)?;
         match verdict(self.alloc, config, id, self.peer, text, now)? {
             Ok(article) => {
                 let copy = id.copied(self.alloc)?;
-                let step = Step::Take(id.copied(self.alloc)?);
-                Ok((Todo::Take(copy, article, room), step))
+                Ok((Todo::Take(copy, article, room), Step::Take(asked)))
             }
-            Err(_) => {
-                let step = Step::Refuse(id.copied(self.alloc)?);
-                Ok((Todo::Refuse(room), step))
-            }
+            Err(_) => Ok((Todo::Refuse(room), Step::Refuse(asked))),
         }
     }
 

@@ -8,24 +8,24 @@ use Rattle.peer_session.specs.declared.phase.Todo.TheVariants as todos
 use Rattle.peer_session.specs.declared.steps.Step.TheVariants as steps
 use Rattle.peer_session.proofs.session.Session.judged.Goals as goal
 
-pub returns-in_ok-copied-in-Ok : goal.returns-in_ok-copied-in-Ok
-returns-in_ok-copied-in-Ok c =
+pub returns-in_ok-copy-in-Ok : goal.returns-in_ok-copy-in-Ok
+returns-in_ok-copy-in-Ok c =
     asking.IsAccepted c.in-Ok.article c.in_ok-room.room
     (subst (λ verdict. Judges (terms_of c.args.config.now) c.args.self.now.peer c.args.id.now
     c.args.now (option_copied c.args.text) (verdict_view verdict)) c.in-Ok.is
     c.in_ok-article.ensures)
     (ap (λ copy. (
       todos.Take copy c.in-Ok.article c.in_ok-room.room,
-      steps.Take c.in_ok-copied-in-Ok.field-0,
+      steps.Take c.in_ok-asked.asked,
     )) c.in_ok-copy-in-Ok.ensures
     ∙ ap (λ copy. (todos.Take c.args.id.now c.in-Ok.article c.in_ok-room.room, steps.Take copy))
-    c.in_ok-copied-in-Ok.ensures)
+    c.in_ok-asked.ensures)
 
-pub returns-in_ok-copied-in-Err : goal.returns-in_ok-copied-in-Err
-returns-in_ok-copied-in-Err c =
+pub returns-in-Err : goal.returns-in-Err
+returns-in-Err c =
     asking.IsRefused (reason_view c.in-Err.field-0) c.in_ok-room.room
     (subst (λ verdict. Judges (terms_of c.args.config.now) c.args.self.now.peer c.args.id.now
     c.args.now (option_copied c.args.text) (verdict_view verdict)) c.in-Err.is
     c.in_ok-article.ensures)
     (ap (λ copy. (todos.Refuse c.in_ok-room.room, steps.Refuse copy))
-    c.in_ok-copied-in-Err.ensures)
+    c.in_ok-asked.ensures)
