@@ -1,5 +1,7 @@
+pub mod Armed
 pub mod BegunBufferSet
 pub mod EachLemmas
+pub mod GivenBack
 pub mod HostFaults
 pub mod NewBufferSet
 pub mod OpenWrites

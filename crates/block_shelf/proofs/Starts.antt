@@ -297,3 +297,16 @@ pub err_so : {X E : Type 0} {P Q R : E → Type 0} (result : Result X E) → IfE
     → IfErr result Q → ((e : E) → P e → Q e → R e) → IfErr result R
 err_so (Ok x) one other so = tt
 err_so (Err e) one other so = so e one other
+
+-- there are no more stores than a buffer may have numbers
+pub few_stores : {S : Type 0} (g : Ghosts S) (settings : Buffers) (stores : List S)
+    → map (λ (store : S). length (g.blocks store)) stores
+    ≡ map (λ (buffer : BufferConf). buffer.blocks) settings.buffers.items
+    → length stores ≤ 256
+few_stores {S} g settings stores same = omega (
+  arith,
+  settings.few_buffers,
+  ap length same,
+  length-map stores (λ (store : S). length (g.blocks store)),
+  length-map settings.buffers.items (λ (buffer : BufferConf). buffer.blocks),
+)

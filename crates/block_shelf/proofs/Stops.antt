@@ -24,8 +24,8 @@ use Rattle.block_shelf.proofs.Shelving.{KeptAt, buffers_kept, kept_at, groups_ke
 use Rattle.block_shelf.proofs.Shelving.{still, with_buffer}
 use Rattle.block_shelf.specs.Each.{AreEach}
 use Rattle.block_shelf.specs.Histories.{HasWriting, IsFree, IsBusy}
-use Rattle.block_shelf.specs.Stopping.{AreIdleTo, AreShut, HoldsKept, IsBusyBufferSet, IsLeftOver}
-use Rattle.block_shelf.specs.Stopping.{IsShutOver, IsStopped}
+use Rattle.block_shelf.specs.Stopping.{AreIdle, AreIdleTo, AreShut, HoldsKept, IsBusyBufferSet}
+use Rattle.block_shelf.specs.Stopping.{IsLeftOver, IsShutOver, IsStopped}
 use Rattle.block_shelf.specs.declared.buffer_set.BufferSet.{BufferSet}
 use Rattle.block_shelf.specs.Keeping.{KeepsTexts}
 use Rattle.block_shelf.specs.Restarting.{AreRestarted, HaveRestarted, IsBusyRestart, IsOtherFault}
@@ -309,3 +309,8 @@ all_restarted stop place old new past had = record {
       (omega (arith, past, slice_get_within old.buffers.items b one there)));
   placed_groups = had.placed_groups;
 }
+
+-- a buffer set in whose buffers no write is open isn't busy
+pub not_idle : {S : Type 0} {g : Ghosts S} {buffer_set : BufferSet S g} → AreIdle buffer_set
+    → IsBusyBufferSet buffer_set → ⊥
+not_idle idle busy = true≢false (sym busy.busy ∙ idle busy.at busy.code busy.there)

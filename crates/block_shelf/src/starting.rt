@@ -3,7 +3,8 @@ ghost use Rattle.std.specs.Prelude.{◌≡◌, ◌≤◌, ◌<◌, ◌+◌, ◌+
 ghost use Rattle.std.specs.Prelude.{IfOk, vec_len, vec_capacity};
 ghost use Rattle.cyc_buffer.specs.Agreement.{store_of};
 ghost use Rattle.cyc_buffer.specs.Head.{inside};
-ghost use Rattle.block_shelf.specs.Starting.{HasCause, IsStartedBufferSet, IsUnstarted, KeepsHeld};
+ghost use Rattle.block_shelf.specs.Starting.{HasCause, HasTried, IsStartedBufferSet, IsUnstarted};
+ghost use Rattle.block_shelf.specs.Starting.{KeepsHeld};
 ghost use Rattle.block_shelf.specs.Starting.{ResumePlacedGroups, StartsNext, TriesNext};
 ghost use Rattle.block_shelf.specs.Starting.{WillKeepHeld};
 ghost use Rattle.block_shelf.specs.Starting.{buffers_inside, fault_of_start, number_told};
@@ -108,15 +109,7 @@ pub fn start<S: BlockStore + Drop>(
         opened,
         stores: room,
     } = room;
-    let mut starting = Starting::Started {
-        buffers: unopened,
-        room,
-        mixed: None,
-    };
-    for store in stores {
-        starting = starting.next(alloc, store, stop);
-    }
-    match starting {
+    match start_each(alloc, stores, stop, unopened, room) {
         Starting::Refused {
             stores,
             buffer,
@@ -139,6 +132,34 @@ pub fn start<S: BlockStore + Drop>(
             None => shelve(alloc, settings, positions, buffers, opened, room),
         },
     }
+}
+
+/// How the start of the buffers of these stores stands, one buffer after the other.
+fn start_each<S: BlockStore + Drop>(
+    alloc: Global,
+    stores: Vec<S>,
+    stop: u64,
+    buffers: Vec<Unopened<S>>,
+    room: Vec<S>,
+) -> Starting<S>
+    requires few { vec_len stores ≤ 256 }
+    requires none_started { buffers.items ≡ [] }
+    requires none_back { room.items ≡ [] }
+    requires buffers_room { vec_len stores ≤ vec_capacity buffers }
+    requires stores_room { vec_len stores ≤ vec_capacity room }
+    ensures tried { HasTried stop stores.items result }
+    ensures count { tried_count result ≡ vec_len stores }
+    ensures room { vec_len stores ≤ tried_room result }
+{
+    let mut starting = Starting::Started {
+        buffers,
+        room,
+        mixed: None,
+    };
+    for store in stores {
+        starting = starting.next(alloc, store, stop);
+    }
+    starting
 }
 
 /// The buffer set of started buffers, where memory isn't refused for its groups.

@@ -1,4 +1,6 @@
-use Rattle.std.proofs.Common.{◌≡◌, append_assoc, arith, length}
+use Rattle.std.proofs.Common.{◌≡◌, append_assoc, arith, length, refl}
+use Rattle.std.proofs.lemmas.Option.{none-some}
+use Rattle.block_shelf.proofs.EachLemmas.{count_through, none_left}
 use Rattle.block_shelf.proofs.NewBufferSet.{one_more_over}
 use Rattle.block_shelf.proofs.filling.new_buffers.Goals as goal
 
@@ -17,3 +19,28 @@ loop-store-preserved g c =
           c.in_ok-buffer.buffer c.loop-store.invariant.over
           (rw number at c.in_ok-buffer.ensures.is_new));
     }
+
+pub overflow_cast-number : goal.overflow_cast-number
+overflow_cast-number g c = omega (
+  arith,
+  c.requires,
+  c.len-number.ensures,
+  c.loop-store.buffers.ok,
+  c.loop-store.invariant.over.count,
+  count_through c.loop-store.yielded c.loop-store.store-iterator.rest.items c.args.stores.items
+      c.in-Some.store c.next.new.self.rest.items c.loop-store.invariant.all
+      c.in-Some.ensures.steps.0,
+)
+
+pub returns-clause-over : goal.returns-clause-over
+returns-clause-over g c =
+    rw (← none_left c.loop-store.yielded c.loop-store.store-iterator.rest.items
+    c.loop-store.invariant.all (omega (arith, c.in-None.ensures.steps.0)))
+    c.loop-store.invariant.over
+
+pub loop-store-init : goal.loop-store-init
+loop-store-init g c = record {
+  all = c.into_iter-store-iterator.ensures.into_iter_gives.0;
+  over = rw c.in_ok-buffers.ensures.items
+      (record { count = refl; each = λ b store is. absurd (none-some store is) });
+}

@@ -1,7 +1,7 @@
 use Rattle.std.proofs.Common.{◌<◌, length, map, rules, take}
 use Rattle.std.proofs.lemmas.List.{map_push, take_more}
 use Rattle.cyc_buffer.specs.Head.{inside}
-use Rattle.block_shelf.proofs.EachLemmas.{one_more_each}
+use Rattle.block_shelf.proofs.EachLemmas.{none_each, one_more_each}
 use Rattle.block_shelf.specs.Resuming.{IsUsed}
 use Rattle.block_shelf.proofs.resuming.all_used.Goals as goal
 
@@ -24,3 +24,11 @@ loop-unopened-preserved g c =
           (inside c.unopened-item.result) c.used_in.result c.loop-unopened.invariant.are
           (rw c.buffer.ensures at c.used_in.ensures));
     }
+
+-- none yet
+pub loop-unopened-init : goal.loop-unopened-init
+loop-unopened-init g c = record {
+  count = search rules;
+  room = search rules;
+  are = rw c.in_ok-used.ensures.items (none_each IsUsed);
+}

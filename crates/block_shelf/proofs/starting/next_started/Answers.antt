@@ -1,5 +1,8 @@
 use Rattle.std.proofs.Common.{◌≡◌, ◌∙◌, ap, arith, length}
+use Rattle.cyc_buffer.specs.Agreement.{store_of}
+use Rattle.cyc_buffer.specs.Head.{inside}
 use Rattle.block_shelf.proofs.EachLemmas.{one_more_each}
+use Rattle.block_shelf.proofs.GivenBack.{count_given}
 use Rattle.block_shelf.proofs.Starts.{first_refused, other_more}
 use Rattle.block_shelf.specs.Starting.{IsStartedOver, number_told}
 use Rattle.block_shelf.proofs.starting.next_started.Goals as goal
@@ -47,3 +50,39 @@ returns-in-Err-clause-tries g c = λ before are none first.
         c.blamed.ensures ∙ ap (number_told error) number,
       ),
     )
+
+pub push_reserved-requires-in-Err : goal.push_reserved-requires-in-Err
+push_reserved-requires-in-Err g c = omega (
+  arith,
+  c.requires.stores_room,
+  c.args.buffers.ok,
+  c.args.room.ok,
+  c.give_back-stores.result.ok,
+  c.give_back-stores.ensures.capacity,
+  count_given (λ one. store_of (inside one)) c.args.buffers.items c.args.room.items
+      c.give_back-stores.result.items c.give_back-stores.ensures.items,
+)
+
+pub returns-in-Ok-clause-count : goal.returns-in-Ok-clause-count
+returns-in-Ok-clause-count g c = omega (arith, c.push_reserved.ensures.len)
+
+pub returns-in-Ok-clause-room : goal.returns-in-Ok-clause-room
+returns-in-Ok-clause-room g c = omega (arith, c.push_reserved.ensures.capacity)
+
+pub returns-in-Err-clause-count : goal.returns-in-Err-clause-count
+returns-in-Err-clause-count g c = omega (
+  arith,
+  c.args.buffers.ok,
+  c.args.room.ok,
+  c.give_back-stores.result.ok,
+  c.push_reserved-in-Err.ensures.len,
+  count_given (λ one. store_of (inside one)) c.args.buffers.items c.args.room.items
+      c.give_back-stores.result.items c.give_back-stores.ensures.items,
+)
+
+pub returns-in-Err-clause-room : goal.returns-in-Err-clause-room
+returns-in-Err-clause-room g c = omega (
+  arith,
+  c.push_reserved-in-Err.ensures.capacity,
+  c.give_back-stores.ensures.capacity,
+)

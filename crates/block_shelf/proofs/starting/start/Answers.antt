@@ -1,54 +1,38 @@
-use Rattle.std.proofs.Common.{append_assoc, arith, None}
-use Rattle.std.proofs.lemmas.List.{length-append}
+use Rattle.std.proofs.Common.{arith, refl, None}
 use Rattle.std.proofs.lemmas.Option.{none-some}
 use Rattle.block_shelf.proofs.Starts.{buffers_keep, err_so, mixed_buffer_set, never_other, ok_so}
-use Rattle.block_shelf.proofs.Starts.{refused_buffer_set, refused_cause, started_stores, tried_all}
+use Rattle.block_shelf.proofs.Starts.{few_stores, refused_buffer_set, refused_cause, started_stores}
+use Rattle.block_shelf.proofs.Starts.{untouched_stores}
 use Rattle.block_shelf.proofs.starting.start.Goals as goal
-
-pub loop-store-preserved : goal.loop-store-preserved
-loop-store-preserved g c = record {
-  all = rw (append_assoc, ← c.in-Some.ensures.steps.0) c.loop-store.invariant.all;
-  tried = c.next-starting.ensures.tries c.loop-store.yielded c.loop-store.invariant.tried;
-  count = simp length-append (omega (arith, c.next-starting.ensures.count));
-  room = omega (arith, c.next-starting.ensures.room);
-}
 
 pub returns-in-Refused-clause-refusal : goal.returns-in-Refused-clause-refusal
 returns-in-Refused-clause-refusal g c =
     refused_buffer_set g.S.BlockStore c.args.stores.items c.args.stop
-    (tried_all c.args.stop c.loop-store.yielded c.loop-store.store-iterator.rest.items
-    c.loop-store.invariant.all (omega (arith, c.in-None.ensures.steps.0)) c.in-Refused.is
-    c.loop-store.invariant.tried)
+    (rw c.in-Refused.is at c.start_each.ensures.tried)
 
 pub returns-in-Refused-clause-cause : goal.returns-in-Refused-clause-cause
 returns-in-Refused-clause-cause g c = λ w begun kept failures held.
     refused_cause c.args.settings.now c.requires held
-    (tried_all c.args.stop c.loop-store.yielded c.loop-store.store-iterator.rest.items
-    c.loop-store.invariant.all (omega (arith, c.in-None.ensures.steps.0)) c.in-Refused.is
-    c.loop-store.invariant.tried)
+    (rw c.in-Refused.is at c.start_each.ensures.tried)
 
-pub returns-in-Some-mixed : goal.returns-in-Some-mixed
-returns-in-Some-mixed g c =
-    let tried = tried_all c.args.stop c.loop-store.yielded c.loop-store.store-iterator.rest.items
-    c.loop-store.invariant.all (omega (arith, c.in-None.ensures.steps.0)) c.in-Started.is
-    c.loop-store.invariant.tried in
-    let first = rw c.in-Some-mixed.is at tried.2 in
+pub returns-in-Some : goal.returns-in-Some
+returns-in-Some g c =
+    let tried = rw c.in-Started.is at c.start_each.ensures.tried in
+    let first = rw c.in-Some.is at tried.2 in
     record {
       held = tt;
       keeps = tt;
       started = tt;
-      refusal = mixed_buffer_set c.args.stop c.in-Some-mixed.number tried.0 tried.1 first
+      refusal = mixed_buffer_set c.args.stop c.in-Some.number tried.0 tried.1 first
           c.give_back.ensures.items;
       cause = λ w begun kept failures held.
-          absurd (never_other c.args.settings.now c.requires held tried.0 c.in-Some-mixed.number
+          absurd (never_other c.args.settings.now c.requires held tried.0 c.in-Some.number
           first);
     }
 
-pub returns-in-None-mixed : goal.returns-in-None-mixed
-returns-in-None-mixed g c =
-    let tried = tried_all c.args.stop c.loop-store.yielded c.loop-store.store-iterator.rest.items
-    c.loop-store.invariant.all (omega (arith, c.in-None.ensures.steps.0)) c.in-Started.is
-    c.loop-store.invariant.tried in
+pub returns-in-None : goal.returns-in-None
+returns-in-None g c =
+    let tried = rw c.in-Started.is at c.start_each.ensures.tried in
     let unwritten = started_stores None tried.0 (λ b within e. none-some b e) in
     record {
       held = ok_so c.shelve.result c.shelve.ensures.buffers c.shelve.ensures.buffers
@@ -71,3 +55,48 @@ returns-in-None-mixed g c =
       cause = err_so c.shelve.result c.shelve.ensures.memory c.shelve.ensures.memory
           (λ refused is also w begun kept failures held. rw is.1 tt);
     }
+
+pub returns-in_default-clause-refusal : goal.returns-in_default-clause-refusal
+returns-in_default-clause-refusal g c =
+    (refl, untouched_stores g.S.BlockStore c.args.stores.items)
+
+pub start_each-requires-clause-few : goal.start_each-requires-clause-few
+start_each-requires-clause-few g c =
+    omega (
+      arith,
+      c.args.stores.ok,
+      few_stores g.S.BlockStore c.args.settings.now c.args.stores.items c.requires,
+    )
+
+pub give_back-requires : goal.give_back-requires
+give_back-requires g c = omega (
+  arith,
+  rw c.in-Started.is at c.start_each.ensures.count,
+  rw c.in-Started.is at c.start_each.ensures.room,
+)
+
+pub shelve-requires-clause-few : goal.shelve-requires-clause-few
+shelve-requires-clause-few g c = omega (
+  arith,
+  c.args.stores.ok,
+  few_stores g.S.BlockStore c.args.settings.now c.args.stores.items c.requires,
+  rw c.in-Started.is at c.start_each.ensures.count,
+)
+
+pub shelve-requires-clause-none_back : goal.shelve-requires-clause-none_back
+shelve-requires-clause-none_back g c = (rw c.in-Started.is at c.start_each.ensures.tried).1
+
+pub shelve-requires-clause-stores_room : goal.shelve-requires-clause-stores_room
+shelve-requires-clause-stores_room g c = omega (
+  arith,
+  rw c.in-Started.is at c.start_each.ensures.count,
+  rw c.in-Started.is at c.start_each.ensures.room,
+)
+
+pub shelve-requires-clause-opened_room : goal.shelve-requires-clause-opened_room
+shelve-requires-clause-opened_room g c = omega (
+  arith,
+  rw c.in-Started.is at c.start_each.ensures.count,
+  c.in-Ok.ensures.room.1,
+  c.len.ensures,
+)

@@ -1,5 +1,6 @@
 use Rattle.std.proofs.Common.{◌∙◌, refl, sym}
-use Rattle.block_shelf.proofs.Shelving.{buffers_kept, groups_kept, kept_at, read_there, still}
+use Rattle.block_shelf.proofs.Shelving.{buffers_kept, calls_same, groups_kept, kept_at, read_there, still}
+use Rattle.block_shelf.proofs.Armed.{arms}
 use Rattle.block_shelf.proofs.arming.BufferSet+FailAt+S.arm.Goals as goal
 
 -- it keeps what it kept
@@ -9,3 +10,15 @@ returns-in-Some-clause-kept g c = λ trusted w begun kept openings failures keep
     (read_there c.args.self.now.buffers.items c.args.number c.in-Some.ensures.item) in
     still keeps at c.arm.ensures.same (at.failed ∙ sym c.arm.ensures.armed.seen.failures)
     (λ n apart. refl) (groups_kept keeps)
+
+pub returns-in-Some-clause-armed : goal.returns-in-Some-clause-armed
+returns-in-Some-clause-armed g c =
+    arms c.args.self.now c.args.number c.args.k c.arm.new.self
+    (read_there c.args.self.now.buffers.items c.args.number c.in-Some.ensures.item)
+    c.arm.ensures.armed
+
+pub returns-in-Some-clause-calls : goal.returns-in-Some-clause-calls
+returns-in-Some-clause-calls g c =
+    calls_same c.args.self.now c.args.number c.arm.new.self
+    (read_there c.args.self.now.buffers.items c.args.number c.in-Some.ensures.item)
+    c.arm.ensures.armed.seen.calls

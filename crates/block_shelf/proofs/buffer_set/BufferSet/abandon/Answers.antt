@@ -1,6 +1,6 @@
 use Rattle.std.proofs.Common.{◌∙◌, ap, sym}
 use Rattle.block_shelf.proofs.OpenWrites.{abandoned, not_missing}
-use Rattle.block_shelf.proofs.Shelving.{read_there}
+use Rattle.block_shelf.proofs.Shelving.{calls_same, read_there}
 use Rattle.cyc_token.specs.declared.Token as code
 use Rattle.news_terms.specs.Token.{Token}
 use Rattle.block_shelf.proofs.buffer_set.BufferSet.abandon.Goals as goal
@@ -21,3 +21,9 @@ returns-in-None-clause-abandoned g c =
     (c.from.ensures ∙ ap (λ (t : code.Token). t.buffer) c.token.ensures
     ∙ ap (λ (t : Token). t.buffer) (sym named))
     c.in-None.ensures.item.0)
+
+pub returns-in-Some-clause-calls : goal.returns-in-Some-clause-calls
+returns-in-Some-clause-calls g c =
+    calls_same c.args.self.now c.from.result c.abandon.new.self
+    (read_there c.args.self.now.buffers.items c.from.result c.in-Some.ensures.item)
+    (ap g.S.BlockStore.calls c.abandon.ensures.store)

@@ -1,6 +1,7 @@
-use Rattle.std.proofs.Common.{◌∙◌, refl, sym}
+use Rattle.std.proofs.Common.{◌∙◌, arith, refl, sym}
+use Rattle.std.proofs.lemmas.Bool.{true≢false}
 use Rattle.std.proofs.lemmas.Option.{slice_get_read}
-use Rattle.block_shelf.proofs.Stops.{busy_buffer_set}
+use Rattle.block_shelf.proofs.Stops.{busy_buffer_set, idle_more}
 use Rattle.block_shelf.proofs.buffer_set.BufferSet.is_busy.Goals as goal
 
 pub returns-then-is_busy-clause-busy : goal.returns-then-is_busy-clause-busy
@@ -10,3 +11,21 @@ returns-then-is_busy-clause-busy g c = λ yes.
     (slice_get_read c.deref-buffer-items.result.now _ c.loop-buffer.buffer-index
     c.buffer-item.result refl c.loop-buffer-test.true c.buffer-item.is))
     (sym c.is_busy.ensures ∙ c.if-is_busy.true)
+
+pub loop-buffer-init : goal.loop-buffer-init
+loop-buffer-init g c = λ b code below is. absurd (omega (arith, below))
+
+pub returns-then-is_busy-clause-idle : goal.returns-then-is_busy-clause-idle
+returns-then-is_busy-clause-idle g c = λ no. absurd (true≢false no)
+
+pub loop-buffer-preserved : goal.loop-buffer-preserved
+loop-buffer-preserved g c =
+    idle_more c.args.self.now c.loop-buffer.buffer-index
+    (rw c.deref-buffer-items.ensures.value at
+    (slice_get_read c.deref-buffer-items.result.now _ c.loop-buffer.buffer-index
+    c.buffer-item.result refl c.loop-buffer-test.true c.buffer-item.is))
+    (sym c.is_busy.ensures ∙ c.if-is_busy.false)
+    c.loop-buffer.invariant
+
+pub returns-clause-busy : goal.returns-clause-busy
+returns-clause-busy g c = λ yes. absurd (true≢false (sym yes))

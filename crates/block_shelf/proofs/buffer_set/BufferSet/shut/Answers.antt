@@ -1,7 +1,8 @@
-use Rattle.std.proofs.Common.{append_assoc, arith, length}
+use Rattle.std.proofs.Common.{append_assoc, arith, length, rules}
 use Rattle.std.proofs.lemmas.List.{length-append}
-use Rattle.block_shelf.proofs.EachLemmas.{here_through, none_left}
-use Rattle.block_shelf.proofs.Stops.{holds_kept}
+use Rattle.block_shelf.proofs.EachLemmas.{count_through, here_through, none_each, none_left}
+use Rattle.block_shelf.proofs.Stops.{holds_kept, not_idle}
+use Rattle.block_shelf.specs.Stopping.{IsShutOver}
 use Rattle.block_shelf.proofs.buffer_set.BufferSet.shut.Goals as goal
 
 pub loop-buffer-preserved : goal.loop-buffer-preserved
@@ -23,3 +24,39 @@ returns-clause-held g c =
     (rw (← none_left c.loop-buffer.yielded c.loop-buffer.buffer-iterator.rest.items
     c.loop-buffer.invariant.all (omega (arith, c.in-None.ensures.steps.0)))
     (rw c.in-None-failed.is at c.loop-buffer.invariant.stopped))
+
+pub shut_next-failed-requires : goal.shut_next-failed-requires
+shut_next-failed-requires g c = omega (
+  arith,
+  c.loop-buffer.invariant.count,
+  c.loop-buffer.invariant.room,
+  count_through c.loop-buffer.yielded c.loop-buffer.buffer-iterator.rest.items
+      c.args.self.buffers.items c.in-Some.buffer c.next.new.self.rest.items
+      c.loop-buffer.invariant.all c.in-Some.ensures.steps.0,
+)
+
+pub returns-in_default-clause-busy : goal.returns-in_default-clause-busy
+returns-in_default-clause-busy g c = λ busy.
+    absurd (not_idle (c.is_busy.ensures.idle c.if-is_busy.false) busy)
+
+pub returns-in-Some-failed-clause-busy : goal.returns-in-Some-failed-clause-busy
+returns-in-Some-failed-clause-busy g c = λ busy.
+    absurd (not_idle (c.is_busy.ensures.idle c.if-is_busy.false) busy)
+
+pub returns-clause-busy : goal.returns-clause-busy
+returns-clause-busy g c = λ busy.
+    absurd (not_idle (c.is_busy.ensures.idle c.if-is_busy.false) busy)
+
+pub returns-clause-shut : goal.returns-clause-shut
+returns-clause-shut g c =
+    rw (← none_left c.loop-buffer.yielded c.loop-buffer.buffer-iterator.rest.items
+    c.loop-buffer.invariant.all (omega (arith, c.in-None.ensures.steps.0)))
+    (rw c.in-None-failed.is at c.loop-buffer.invariant.stopped)
+
+pub loop-buffer-init : goal.loop-buffer-init
+loop-buffer-init g c = record {
+  all = c.into_iter-buffer-iterator.ensures.into_iter_gives.0;
+  stopped = rw c.in-Ok.ensures.items (none_each (IsShutOver c.args.stop));
+  count = search rules;
+  room = search rules;
+}

@@ -1,6 +1,7 @@
-use Rattle.std.proofs.Common.{refl}
+use Rattle.std.proofs.Common.{◌∙◌, refl}
 use Rattle.block_shelf.proofs.OpenWrites.{can_be_written, not_missing, wrote}
-use Rattle.block_shelf.proofs.Shelving.{called_once, read_there}
+use Rattle.block_shelf.proofs.Shelving.{called_once, calls_no_other, read_there}
+use Rattle.block_shelf.proofs.Starts.{err_so}
 use Rattle.block_shelf.proofs.buffer_set.BufferSet.write_next.Goals as goal
 
 pub returns-in-Some-clause-written : goal.returns-in-Some-clause-written
@@ -20,3 +21,16 @@ returns-in-None-clause-written g c = λ trusted w begun kept openings failures k
     left.
     absurd (not_missing keeps is
     (rw c.token.ensures at c.from.ensures) c.in-None.ensures.item.0)
+
+pub returns-in-Some-clause-calls : goal.returns-in-Some-clause-calls
+returns-in-Some-clause-calls g c = λ number apart.
+    calls_no_other c.args.self.now c.from.result c.write_next.new.self
+    (read_there c.args.self.now.buffers.items c.from.result c.in-Some.ensures.item) number
+    (λ same. apart (same ∙ (rw c.token.ensures at c.from.ensures)))
+
+pub returns-in-Some-clause-error : goal.returns-in-Some-clause-error
+returns-in-Some-clause-error g c =
+    err_so c.write_next.result c.write_next.ensures.error c.write_next.ensures.error
+    (λ fault can also. called_once c.args.self.now c.from.result c.write_next.new.self
+    (read_there c.args.self.now.buffers.items c.from.result c.in-Some.ensures.item)
+    (rw c.token.ensures at c.from.ensures) (c.write_next.ensures.written can).calls)

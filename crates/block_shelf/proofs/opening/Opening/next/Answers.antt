@@ -1,5 +1,7 @@
 use Rattle.std.proofs.Common.{arith}
+use Rattle.cyc_buffer.specs.Agreement.{store_of}
 use Rattle.block_shelf.proofs.EachLemmas.{one_more_each}
+use Rattle.block_shelf.proofs.GivenBack.{count_given}
 use Rattle.block_shelf.proofs.Opens.{behind_failed, first_failed}
 use Rattle.block_shelf.specs.Heads.{IsOpenedFrom}
 use Rattle.block_shelf.proofs.opening.Opening.next.Goals as goal
@@ -30,3 +32,57 @@ returns-in-Err-clause-opens g c = λ before had.
     (first_failed before c.args.unopened c.in-Opened.buffers.items c.in-Opened.room.items
     c.len-place.result c.in-Err.unopened was.0 was.1
     (omega (arith, c.len-place.ensures, c.in-Opened.buffers.ok)) c.in-Err.ensures.failed)
+
+pub push_reserved-requires : goal.push_reserved-requires
+push_reserved-requires g c = rw c.in-Failed.is at c.requires
+
+pub push_reserved-requires-in-Ok : goal.push_reserved-requires-in-Ok
+push_reserved-requires-in-Ok g c = omega (arith, rw c.in-Opened.is at c.requires)
+
+pub give_up-stores-requires : goal.give_up-stores-requires
+give_up-stores-requires g c = omega (arith, rw c.in-Opened.is at c.requires)
+
+pub push_reserved-requires-in-Err : goal.push_reserved-requires-in-Err
+push_reserved-requires-in-Err g c = omega (
+  arith,
+  rw c.in-Opened.is at c.requires,
+  c.in-Opened.buffers.ok,
+  c.in-Opened.room.ok,
+  c.give_up-stores.result.ok,
+  c.give_up-stores.ensures.capacity,
+  count_given (λ one. store_of one) c.in-Opened.buffers.items c.in-Opened.room.items
+      c.give_up-stores.result.items c.give_up-stores.ensures.items,
+)
+
+pub returns-in-Failed-clause-count : goal.returns-in-Failed-clause-count
+returns-in-Failed-clause-count g c = rw c.in-Failed.is (omega (arith, c.push_reserved.ensures.len))
+
+pub returns-in-Failed-clause-room : goal.returns-in-Failed-clause-room
+returns-in-Failed-clause-room g c =
+    rw c.in-Failed.is (omega (arith, c.push_reserved.ensures.capacity))
+
+pub returns-in-Ok-clause-count : goal.returns-in-Ok-clause-count
+returns-in-Ok-clause-count g c =
+    rw c.in-Opened.is (omega (arith, c.push_reserved-in-Ok.ensures.len))
+
+pub returns-in-Ok-clause-room : goal.returns-in-Ok-clause-room
+returns-in-Ok-clause-room g c =
+    rw c.in-Opened.is (omega (arith, c.push_reserved-in-Ok.ensures.capacity))
+
+pub returns-in-Err-clause-count : goal.returns-in-Err-clause-count
+returns-in-Err-clause-count g c = rw c.in-Opened.is (omega (
+  arith,
+  c.in-Opened.buffers.ok,
+  c.in-Opened.room.ok,
+  c.give_up-stores.result.ok,
+  c.push_reserved-in-Err.ensures.len,
+  count_given (λ one. store_of one) c.in-Opened.buffers.items c.in-Opened.room.items
+      c.give_up-stores.result.items c.give_up-stores.ensures.items,
+))
+
+pub returns-in-Err-clause-room : goal.returns-in-Err-clause-room
+returns-in-Err-clause-room g c = rw c.in-Opened.is (omega (
+  arith,
+  c.push_reserved-in-Err.ensures.capacity,
+  c.give_up-stores.ensures.capacity,
+))

@@ -1,7 +1,8 @@
 use Rattle.std.proofs.Common.{ap, append_assoc, arith, length, refl}
 use Rattle.std.proofs.lemmas.List.{length-append}
-use Rattle.block_shelf.proofs.EachLemmas.{none_left}
+use Rattle.block_shelf.proofs.EachLemmas.{count_through, none_each, none_left}
 use Rattle.block_shelf.proofs.Opens.{keeps_opened}
+use Rattle.block_shelf.specs.Heads.{IsOpenedFrom}
 use Rattle.block_shelf.proofs.opening.UnopenedBufferSet.open.Goals as goal
 
 pub loop-unopened-preserved : goal.loop-unopened-preserved
@@ -32,3 +33,38 @@ returns-in-Failed-clause-refusal g c =
       told = grind arith;
       left = rw through at was.1;
     }
+
+pub loop-unopened-init : goal.loop-unopened-init
+loop-unopened-init g c = record {
+  all = c.into_iter-unopened-iterator.ensures.into_iter_gives.0;
+  opened = rw c.args.self.none_opened (none_each IsOpenedFrom, c.args.self.none_back);
+  count = omega (
+    arith,
+    c.args.self.opened.ok,
+    c.args.self.stores.ok,
+    ap length c.args.self.none_opened,
+    ap length c.args.self.none_back,
+  );
+  room = omega (
+    arith,
+    c.args.self.buffers.ok,
+    c.args.self.opened_room,
+    c.args.self.stores_room,
+  );
+}
+
+pub next-opening-requires : goal.next-opening-requires
+next-opening-requires g c = omega (
+  arith,
+  c.loop-unopened.invariant.count,
+  c.loop-unopened.invariant.room,
+  count_through c.loop-unopened.yielded c.loop-unopened.unopened-iterator.rest.items
+      c.args.self.buffers.items c.in-Some.unopened c.next.new.self.rest.items
+      c.loop-unopened.invariant.all c.in-Some.ensures.steps.0,
+)
+
+pub returns-in-Opened-clause-opened : goal.returns-in-Opened-clause-opened
+returns-in-Opened-clause-opened g c =
+    rw (← none_left c.loop-unopened.yielded c.loop-unopened.unopened-iterator.rest.items
+    c.loop-unopened.invariant.all (omega (arith, c.in-None.ensures.steps.0)))
+    (rw c.in-Opened.is at c.loop-unopened.invariant.opened).0

@@ -1,6 +1,6 @@
 use Rattle.std.proofs.Common.{◌≡◌, ◌≤◌, ◌++◌, length}
 use Rattle.block_shelf.specs.Starting.{HasTried, tried_count, tried_room}
-use Rattle.block_shelf.proofs.starting.start.Given as goal
+use Rattle.block_shelf.proofs.starting.start_each.Given as goal
 
 -- the buffers so far are started, or one was refused
 abbrev pub invariant-loop-store : goal.invariant-loop-store
