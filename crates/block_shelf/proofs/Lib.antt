@@ -7,6 +7,7 @@ pub mod NewBufferSet
 pub mod OpenWrites
 pub mod Opens
 pub mod Placed
+pub mod RefusedOver
 pub mod Reported
 pub mod Resumes
 pub mod BufferSetReads

@@ -1,7 +1,8 @@
 use Rattle.std.proofs.Common.{◌≡◌, append_assoc, arith, length, refl}
 use Rattle.std.proofs.lemmas.Option.{none-some}
-use Rattle.block_shelf.proofs.EachLemmas.{count_through, none_left}
+use Rattle.block_shelf.proofs.EachLemmas.{count_through, here_through, none_left}
 use Rattle.block_shelf.proofs.NewBufferSet.{one_more_over}
+use Rattle.block_shelf.proofs.RefusedOver.{refused_over}
 use Rattle.block_shelf.proofs.filling.new_buffers.Goals as goal
 
 pub loop-store-preserved : goal.loop-store-preserved
@@ -44,3 +45,18 @@ loop-store-init g c = record {
   over = rw c.in_ok-buffers.ensures.items
       (record { count = refl; each = λ b store is. absurd (none-some store is) });
 }
+
+pub returns-in_err-buffer-clause-refusal : goal.returns-in_err-buffer-clause-refusal
+returns-in_err-buffer-clause-refusal g c =
+    let number : c.len-number.result ≡ length c.loop-store.yielded = omega (
+      arith,
+      c.len-number.ensures,
+      c.loop-store.buffers.ok,
+      c.loop-store.invariant.over.count,
+    ) in
+    refused_over g.S.BlockStore c.args.stores.items (length c.loop-store.yielded) c.in-Some.store
+    c.in_err-buffer.field-0.0 c.from_residual-in_err-buffer.result
+    (here_through c.loop-store.yielded c.loop-store.store-iterator.rest.items c.args.stores.items
+    c.in-Some.store c.next.new.self.rest.items c.loop-store.invariant.all
+    c.in-Some.ensures.steps.0)
+    (rw number at c.in_err-buffer.ensures.refusal) c.from_residual-in_err-buffer.ensures
