@@ -1,4 +1,4 @@
-use Rattle.std.proofs.Common.{append_assoc, arith, length, rules}
+use Rattle.std.proofs.Common.{ap, append_assoc, arith, length}
 use Rattle.std.proofs.lemmas.List.{length-append}
 use Rattle.block_shelf.proofs.EachLemmas.{count_through, here_through, none_each, none_left}
 use Rattle.block_shelf.proofs.Stops.{holds_kept, not_idle}
@@ -57,6 +57,18 @@ pub loop-buffer-init : goal.loop-buffer-init
 loop-buffer-init g c = record {
   all = c.into_iter-buffer-iterator.ensures.into_iter_gives.0;
   stopped = rw c.in-Ok.ensures.items (none_each (IsShutOver c.args.stop));
-  count = search rules;
-  room = search rules;
+  count = omega (arith, c.in-Ok.ensures.len);
+  room = omega (arith, c.args.self.buffers.ok, c.len.ensures, c.in-Ok.ensures.capacity);
 }
+
+pub returns-in-Some-failed-clause-refusal : goal.returns-in-Some-failed-clause-refusal
+returns-in-Some-failed-clause-refusal g c =
+    let through = none_left c.loop-buffer.yielded c.loop-buffer.buffer-iterator.rest.items
+    c.loop-buffer.invariant.all (omega (arith, c.in-None.ensures.steps.0)) in
+    let was = rw c.in-Some-failed.is at c.loop-buffer.invariant.stopped in
+    record {
+      place = c.in-Some-failed.place;
+      within = omega (arith, was.0, ap length through);
+      told = c.number_of.ensures;
+      left = rw through at was.1;
+    }
