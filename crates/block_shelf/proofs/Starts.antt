@@ -3,7 +3,7 @@ use Rattle.std.proofs.Common.{◌≡◌, ◌≢◌, ◌∙◌, ℕ, ◌<◌, ◌
 use Rattle.std.proofs.Common.{List, [], ◌∷◌, ◌++◌, length, map, Option, None, Some, slice_get}
 use Rattle.std.proofs.Common.{option_map, Result, Ok, Err, IfErr, IfOk}
 use Rattle.std.proofs.lemmas.Bool.{cases_eq, eq-eqb, ne_eqb}
-use Rattle.std.proofs.lemmas.List.{length-map, nil_from_length}
+use Rattle.std.proofs.lemmas.List.{length-map}
 use Rattle.std.proofs.lemmas.Option.{none-some, same_Some, slice_get-map, slice_get_within}
 use Rattle.cyc_block.specs.declared.store.BlockStore.{Ghosts}
 use Rattle.cyc_buffer.specs.Agreement.{store_of}
@@ -20,16 +20,15 @@ use Rattle.relay_conf.specs.declared.cycbuff.BufferConf.{BufferConf}
 use Rattle.relay_conf.specs.declared.settings.Buffers.{Buffers}
 use Rattle.relay_model.specs.State.{Kept}
 use Rattle.relay_model.specs.Terms.{Terms}
-use Rattle.block_shelf.proofs.EachLemmas.{all_through, comes_from, each_mapped, one_more_each}
+use Rattle.block_shelf.proofs.EachLemmas.{comes_from, each_mapped, one_more_each}
 pub use Rattle.block_shelf.proofs.NewBufferSet.{buffer_is}
 use Rattle.block_shelf.proofs.NewBufferSet.{pushed_before, pushed_last}
 use Rattle.block_shelf.specs.Each.{AreEach}
-use Rattle.block_shelf.specs.Starting.{BuffersKeep, EarlierStart, HasTried, IsFirstOther}
+use Rattle.block_shelf.specs.Starting.{BuffersKeep, EarlierStart, IsFirstOther}
 use Rattle.block_shelf.specs.Starting.{IsFromOutside, IsHeldBy, IsRefusedAt, IsStartedOver}
 use Rattle.block_shelf.specs.Starting.{IsTriedRefusal, IsUnstartedBy, IsUnwritten, buffer_over}
 use Rattle.block_shelf.specs.Starting.{buffers_inside, failed_at, fault_of_start, number_told}
 use Rattle.block_shelf.specs.Starting.{other_after}
-use Rattle.block_shelf.specs.declared.starting.Starting.{Starting}
 use Rattle.block_shelf.specs.declared.starting.StopFault.{StopFault}
 use Rattle.block_shelf.specs.declared.starting.StopFault.TheVariants as faults
 
@@ -278,13 +277,6 @@ mixed_buffer_set {stores = stores} stop {buffers} number are none had made =
         back_each = started_stores None are (λ b within e. none-some b e);
       }),
     )
-
--- what all of the stores came to, where none is left
-pub tried_all : {S : Type 0} {g : Ghosts S} (stop : ℕ) (through left : List S) {stores : List S}
-    {starting state : Starting S g} → through ++ left ≡ stores → length left ≡ 0
-    → starting ≡ state → HasTried stop through starting → HasTried stop stores state
-tried_all stop through left {stores} all none is had =
-    rw (← is, ← all_through through left stores all (nil_from_length left none)) had
 
 -- what follows of a value, where there is one
 pub ok_so : {X E : Type 0} {P Q R : X → Type 0} (result : Result X E) → IfOk result P
