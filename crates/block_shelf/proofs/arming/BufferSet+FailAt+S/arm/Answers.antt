@@ -1,5 +1,6 @@
 use Rattle.std.proofs.Common.{◌∙◌, refl, sym}
-use Rattle.block_shelf.proofs.Shelving.{buffers_kept, calls_same, groups_kept, kept_at, read_there, still}
+use Rattle.block_shelf.proofs.Shelving.{buffers_kept, calls_same, groups_kept, kept_at}
+use Rattle.block_shelf.proofs.Shelving.{read_there, still}
 use Rattle.block_shelf.proofs.Armed.{arms}
 use Rattle.block_shelf.proofs.arming.BufferSet+FailAt+S.arm.Goals as goal
 
