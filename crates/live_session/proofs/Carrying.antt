@@ -192,13 +192,11 @@ pub some_of : (v : Vec ℕ) (empty : Bool) → empty ≡ (vec_len v == 0) → em
 some_of v empty is none nil =
     cc (sym none ∙ is ∙ ap (λ n. n == 0) (v.ok.0 ∙ ap length nil))
 
--- what is said of a connection that was stopped for its turns, where it says that they are spent
-pub spent_by : (last stopped : Option Finish) (said : Finish)
-    → stopped ≡ Some (unwrap_or last finishes.TurnsSpent)
-    → said ≡ unwrap_or stopped finishes.Broken → said ≡ finishes.TurnsSpent
+-- a connection that was stopped for its turns is over for them where it had ended by nothing else
+pub spent_by : (last stopped : Option Finish)
+    → stopped ≡ Some (unwrap_or last finishes.TurnsSpent) → stopped ≡ Some finishes.TurnsSpent
     → unwrap_or last finishes.TurnsSpent ≡ finishes.TurnsSpent
-spent_by last stopped said stops says is =
-    sym (says ∙ ap (λ o. unwrap_or o finishes.Broken) stops) ∙ is
+spent_by last stopped stops is = ap (λ o. unwrap_or o finishes.Broken) (sym stops ∙ is)
 
 -- a connection that is over for its turns hadn't ended while it had them
 pub never_ended : {refuses : Command → Type 0} (conversed left last : Option Finish)
@@ -212,15 +210,13 @@ never_ended conversed left (Some finish) one two three is =
 spent-held : finishes.TurnsSpent ≡ finishes.Held → ⊥
 spent-held is = cc
 
--- what comes to be held once its turns would end it was held before
-pub held_by : (last stopped : Option Finish) (said : Finish)
-    → stopped ≡ Some (unwrap_or last finishes.TurnsSpent)
-    → said ≡ unwrap_or stopped finishes.Broken → said ≡ finishes.Held
+-- what is held once its turns would end it was held before
+pub held_by : (last stopped : Option Finish)
+    → stopped ≡ Some (unwrap_or last finishes.TurnsSpent) → stopped ≡ Some finishes.Held
     → last ≡ Some finishes.Held
-held_by None stopped said stops says is =
-    absurd (spent-held (sym (says ∙ ap (λ o. unwrap_or o finishes.Broken) stops) ∙ is))
-held_by (Some finish) stopped said stops says is =
-    ap Some (sym (says ∙ ap (λ o. unwrap_or o finishes.Broken) stops) ∙ is)
+held_by None stopped stops is =
+    absurd (spent-held (ap (λ o. unwrap_or o finishes.Broken) (sym stops ∙ is)))
+held_by (Some finish) stopped stops is = sym stops ∙ is
 
 -- a connection that was held had a gate that said no
 pub refused_by : {refuses : Command → Type 0} (conversed left last : Option Finish)

@@ -5,6 +5,7 @@
 
 mod commands;
 mod counts;
+mod leaving;
 mod live;
 mod pushing;
 mod serve;

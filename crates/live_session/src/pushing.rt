@@ -1,14 +1,14 @@
 //! A session's job is handed over, and its outcome looked for.
 ghost use Rattle.std.specs.Prelude.{◌≡◌, true};
-ghost use Rattle.article_verdict.specs.Config.{terms_of};
 ghost use Rattle.live_jobs.specs.Seats.{IsSeatOf};
 ghost use Rattle.live_session.specs.Going.{KeepsPlace, SharesFor, StaysSame};
 ghost use Rattle.peer_session.specs.declared.steps.Answer.TheVariants as answers;
 ghost use Rattle.peer_session.specs.declared.steps.Step.TheVariants as steps;
+ghost use Rattle.relay_model.specs.Terms.{Terms};
 
-use crate::live::{LiveSession, SessionContext};
+use crate::live::LiveSession;
 use crate::shares::Shares;
-use live_jobs::{JobAnswer, KeptJob};
+use live_jobs::{JobAnswer, JobChannel, KeptJob};
 use live_store::StorePremises;
 use peer_session::{Answer, Outcome};
 use std::sync::Wait;
@@ -18,25 +18,24 @@ use std::sync::Wait;
 const JOB_NUMBERS: u64 = 1 << 63;
 
 /// Hands the job in the session's hand over to its group. It waits until there is room.
-pub(crate) fn push<S, C, G, J: StorePremises, R: Wait>(
+pub(crate) fn push<J: StorePremises, R: Wait>(
     rt: &R,
-    context: &SessionContext<S, C, G>,
+    channels: &[JobChannel],
     live: &mut LiveSession<J>,
     group: usize,
 ) -> Answer
-    requires seat { IsSeatOf context.now.channels.now live.old.seat }
-    ensures seat { IsSeatOf context.now.channels.now live.new.seat }
+    requires seat { IsSeatOf channels.now live.old.seat }
+    ensures seat { IsSeatOf channels.now live.new.seat }
     ensures place { KeepsPlace live.old live.new }
-    ensures shared { SharesFor (terms_of context.now.config.now) (steps.Push group) live.old result
-        live.new }
+    ensures shared { (w : Terms) → SharesFor w (steps.Push group) live.old result live.new }
     ensures memory { result ≡ answers.Memory → ⊥ }
 {
-    if group >= context.channels.len() || live.seat.handed() >= JOB_NUMBERS {
+    if group >= channels.len() || live.seat.handed() >= JOB_NUMBERS {
         return Answer::Pushed(false);
     }
     match live.session.hand_over() {
         Some(job) => {
-            live.seat.hand_over(rt, context.channels, group, job);
+            live.seat.hand_over(rt, channels, group, job);
             Answer::Pushed(true)
         }
         None => Answer::Pushed(false),
@@ -45,15 +44,14 @@ pub(crate) fn push<S, C, G, J: StorePremises, R: Wait>(
 
 /// Waits for the outcome of the job that was handed over last. The receipt of one that is kept
 /// joins those of the end.
-pub(crate) fn look_in_slot<S: Shares<J, R>, C, G, J: StorePremises, R: Wait>(
+pub(crate) fn look_in_slot<S: Shares<J, R>, J: StorePremises, R: Wait>(
     rt: &R,
-    context: &SessionContext<S, C, G>,
+    shares: &S,
     live: &mut LiveSession<J>,
 ) -> Answer
     ensures seat { live.new.seat ≡ live.old.seat }
     ensures place { KeepsPlace live.old live.new }
-    ensures shared { SharesFor (terms_of context.now.config.now) steps.Slot
-        live.old result live.new }
+    ensures shared { (w : Terms) → SharesFor w steps.Slot live.old result live.new }
     ensures memory { result ≡ answers.Memory → StaysSame live.old live.new }
 {
     let handed = live.seat.handed();
@@ -64,10 +62,11 @@ pub(crate) fn look_in_slot<S: Shares<J, R>, C, G, J: StorePremises, R: Wait>(
         return Answer::Memory;
     }
     let end = live.seat.end();
-    let JobAnswer { number, receipt } = context.shares.outcome(rt, end, handed - 1, &live.kept);
+    let JobAnswer { number, receipt } = shares.outcome(rt, end, handed - 1, &live.kept);
     match receipt {
         Some(receipt) => {
             live.kept.push_reserved(KeptJob::new(number, &receipt));
+            drop(receipt);
             Answer::Slot(Some(Outcome::Kept))
         }
         None => Answer::Slot(Some(Outcome::Failed)),

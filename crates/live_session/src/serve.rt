@@ -1,8 +1,8 @@
 //! A session is served over a connection.
-ghost use Rattle.std.specs.Prelude.{◌≡◌, ◌≤◌, ◌^◌, true, false, IfOk, None};
+ghost use Rattle.std.specs.Prelude.{◌≡◌, ◌≤◌, ◌^◌, Bool, true, false, [], IfOk, None, Some, is_some};
 ghost use Rattle.article_verdict.specs.Config.{terms_of};
 ghost use Rattle.live_jobs.specs.Seats.{IsSeatOf, count_of, end_of};
-ghost use Rattle.live_session.specs.Carried.{Begins, Carried, CarriesSame, IsFormed, IsServed};
+ghost use Rattle.live_session.specs.Carried.{Begins, CarriesSame, IsFormed, IsServed, IsServedBy};
 ghost use Rattle.live_session.specs.Carried.{Lasts, LastsOrHeld, Refusal, ServesOn, carried};
 ghost use Rattle.live_session.specs.Counts.{most_turns, turns_in};
 ghost use Rattle.live_session.specs.Going.{hands_at};
@@ -13,10 +13,11 @@ ghost use Rattle.relay_model.specs.Terms.{Terms};
 
 use crate::commands::{Command, Commands};
 use crate::counts::Counts;
+use crate::leaving::{break_off, leave};
 use crate::live::{Connection, LiveSession, Served, SessionContext, Turned};
 use crate::shares::{Clock, Gate, Shares};
 use crate::turn::turn;
-use crate::wire::{Finish, Wire, flush, put, stop};
+use crate::wire::{Finish, Wire, flush, say, stop};
 use live_jobs::{KeptJob, SessionSeat};
 use live_store::{OneRecord, StorePremises};
 use live_wire::{Hears, Says, Tally};
@@ -27,7 +28,6 @@ use std::alloc::{AllocError, Global};
 use std::hash::RandomState;
 use std::io::ErrorKind;
 use std::sync::Wait;
-use std::thread;
 
 /// Turns of a session, at most.
 const TURNS: u64 = 1 << 40;
@@ -89,10 +89,37 @@ pub fn serve_session<
     if seat.handed() >= MOST_JOBS {
         return unserved(seat, kept, connection);
     }
-    let opened = match open(alloc, hasher, context.config, connection.peer) {
-        Ok(opened) => opened,
-        Err(_) => return unserved(seat, kept, connection),
-    };
+    match open(alloc, hasher, context.config, connection.peer) {
+        Ok(opened) => served(rt, alloc, context, opened, seat, kept, connection),
+        Err(_) => unserved(seat, kept, connection),
+    }
+}
+
+/// Serves a connection as the session that was opened for it, from the greeting until it is closed.
+fn served<S: Shares<J, R>, C: Clock, G: Gate<R>, J: StorePremises, H: Hears, W: Says, R: Wait>(
+    rt: &R,
+    alloc: Global,
+    context: &SessionContext<S, C, G>,
+    opened: Opened,
+    seat: SessionSeat,
+    kept: Vec<KeptJob<J>>,
+    connection: Connection<H, W>,
+) -> Served<J, H, W>
+    requires register { context.now.register.now ≡ J.register }
+    requires seat { IsSeatOf context.now.channels.now seat }
+    requires begins { Begins (terms_of context.now.config.now) connection.peer opened.session
+        opened.greeting.items }
+    ensures seat { IsSeatOf context.now.channels.now result.seat }
+    ensures end { end_of result.seat ≡ end_of seat }
+    ensures served { (honest : Bool) → (honest ≡ true → J.trusted ≡ true)
+        → ∥ IsServedBy honest J.register (terms_of context.now.config.now)
+        connection.number (end_of seat) connection.peer (hands_at seat kept.items)
+        (H.heard connection.reader) (W.said connection.writer)
+        result.finish (hands_at result.seat result.kept.items) (H.heard result.reader)
+        (W.said result.writer) ∥₁ }
+    ensures spent { result.finish ≡ finishes.TurnsSpent → result.turns ≡ most_turns }
+    ensures held { result.finish ≡ finishes.Held → Refusal (G.refuses context.now.gate.now) }
+{
     let mut live = LiveSession {
         number: connection.number,
         session: opened.session,
@@ -108,12 +135,9 @@ pub fn serve_session<
         finish: None,
     };
     let mut counts = Counts::of(connection.peer);
-    converse(rt, alloc, context, &mut live, &mut wire, &mut counts);
-    break_off(&mut live);
-    leave(rt, alloc, context, &mut live, &mut wire, &mut counts);
-    flush(&mut wire);
-    stop(&mut wire, Finish::TurnsSpent);
-    counts.tell(rt, context.gate);
+    serve_through(rt, alloc, context, &mut live, &mut wire, &mut counts);
+    drop(live.session);
+    drop(live.reads);
     Served {
         seat: live.seat,
         kept: live.kept,
@@ -123,6 +147,48 @@ pub fn serve_session<
         tally: counts.told(),
         turns: counts.turns(),
     }
+}
+
+/// Serves a session that has had no turn until it is closed and nothing waits to be written.
+fn serve_through<
+    S: Shares<J, R>,
+    C: Clock,
+    G: Gate<R>,
+    J: StorePremises,
+    H: Hears,
+    W: Says,
+    R: Wait,
+>(
+    rt: &R,
+    alloc: Global,
+    context: &SessionContext<S, C, G>,
+    live: &mut LiveSession<J>,
+    wire: &mut Wire<H, W>,
+    counts: &mut Counts,
+)
+    requires register { context.now.register.now ≡ J.register }
+    requires seat { IsSeatOf context.now.channels.now live.old.seat }
+    requires none { turns_in counts.old ≡ 0 }
+    requires begun { wire.old.finish ≡ None }
+    ensures seat { IsSeatOf context.now.channels.now live.new.seat }
+    ensures end { end_of live.new.seat ≡ end_of live.old.seat }
+    ensures served { ServesOn (terms_of context.now.config.now) live.old live.new
+        (carried (H.heard wire.old.reader) (W.said wire.old.writer) wire.old.outbox wire.old.finish)
+        (carried (H.heard wire.new.reader) (W.said wire.new.writer)
+        wire.new.outbox wire.new.finish) }
+    ensures closed { is_running (session_view live.new.session).phase ≡ false }
+    ensures waiting { wire.new.outbox.items ≡ [] }
+    ensures ended { is_some wire.new.finish ≡ true }
+    ensures spent { wire.new.finish ≡ Some finishes.TurnsSpent → turns_in counts.new ≡ most_turns }
+    ensures held { wire.new.finish ≡ Some finishes.Held
+        → Refusal (G.refuses context.now.gate.now) }
+{
+    converse(rt, alloc, context, live, wire, counts);
+    break_off(live);
+    leave(rt, alloc, context, live, wire, counts);
+    flush(wire);
+    stop(wire, Finish::TurnsSpent);
+    counts.tell(rt, context.gate);
 }
 
 /// What is left of a connection that is broken before its greeting.
@@ -166,10 +232,10 @@ fn open(
     ensures { IfOk result (λ opened. Begins (terms_of config.now) peer opened.session
         opened.greeting.items) }
 {
-    let session = Session::open(alloc, hasher, config, peer)?;
     let greeting = reply_bytes(alloc, &Reply::Greeting)?;
     let mut piece = Vec::new(alloc);
     piece.resize(PIECE, 0)?;
+    let session = Session::open(alloc, hasher, config, peer)?;
     Ok(Opened {
         session,
         greeting,
@@ -231,9 +297,8 @@ fn round<S: Shares<J, R>, C: Clock, G: Gate<R>, J: StorePremises, H: Hears, W: S
 {
     match turn(rt, alloc, context, live, commands) {
         Turned::Says(said) => {
-            counts.say(&said);
-            put(wire, said, live.session.has_parted());
-            write_on(rt, context, wire, commands.newest());
+            say(live, wire, counts, said);
+            write_on(rt, context.gate, wire, commands.newest());
         }
         Turned::Rests => {
             counts.tell(rt, context.gate);
@@ -250,9 +315,9 @@ fn round<S: Shares<J, R>, C: Clock, G: Gate<R>, J: StorePremises, H: Hears, W: S
 
 /// Writes what waits where that is much, or where the gate lets commands in one by one; that is
 /// told of the newest command then.
-fn write_on<S, C, G: Gate<R>, H: Hears, W: Says, R>(
+fn write_on<G: Gate<R>, H: Hears, W: Says, R>(
     rt: &R,
-    context: &SessionContext<S, C, G>,
+    gate: &G,
     wire: &mut Wire<H, W>,
     newest: Option<Command>,
 )
@@ -262,11 +327,11 @@ fn write_on<S, C, G: Gate<R>, H: Hears, W: Says, R>(
         wire.new.outbox wire.new.finish) }
     ensures ends { Lasts wire.old.finish wire.new.finish }
 {
-    if context.gate.is_one_by_one() {
+    if gate.is_one_by_one() {
         if !wire.outbox.is_empty() {
             flush(wire);
             if let Some(command) = newest {
-                context.gate.leave(rt, command);
+                gate.leave(rt, command);
             }
         }
         return;
@@ -304,82 +369,11 @@ fn receive<J: StorePremises, H: Hears, W: Says>(
             }
         }
         Err(error) => {
-            if error.kind() != ErrorKind::Interrupted {
+            let kind = error.kind();
+            drop(error);
+            if kind != ErrorKind::Interrupted {
                 wire.finish = Some(Finish::Broken);
             }
         }
-    }
-}
-
-/// Turns of a session that leaves, until it is closed: its job is handed over and its open offers
-/// end, since an id that stays offered is lost to every peer. What it still says is to be written.
-fn leave<S: Shares<J, R>, C: Clock, G: Gate<R>, J: StorePremises, H: Hears, W: Says, R: Wait>(
-    rt: &R,
-    alloc: Global,
-    context: &SessionContext<S, C, G>,
-    live: &mut LiveSession<J>,
-    wire: &mut Wire<H, W>,
-    counts: &mut Counts,
-)
-    requires register { context.now.register.now ≡ J.register }
-    requires seat { IsSeatOf context.now.channels.now live.old.seat }
-    ensures seat { IsSeatOf context.now.channels.now live.new.seat }
-    ensures end { end_of live.new.seat ≡ end_of live.old.seat }
-    ensures served { ServesOn (terms_of context.now.config.now) live.old live.new
-        (carried (H.heard wire.old.reader) (W.said wire.old.writer) wire.old.outbox wire.old.finish)
-        (carried (H.heard wire.new.reader) (W.said wire.new.writer)
-        wire.new.outbox wire.new.finish) }
-    ensures closed { is_running (session_view live.new.session).phase ≡ false }
-    ensures ends { Lasts wire.old.finish wire.new.finish }
-    ensures turns { turns_in counts.new ≡ turns_in counts.old }
-{
-    for _ in rt.forever() {
-        if !live.session.is_running() {
-            return;
-        }
-        last_turn(rt, alloc, context, live, wire, counts);
-    }
-    unreachable!()
-}
-
-/// One turn of a session that leaves. Where it is refused memory it gives way.
-fn last_turn<S: Shares<J, R>, C: Clock, G: Gate<R>, J: StorePremises, H: Hears, W: Says, R: Wait>(
-    rt: &R,
-    alloc: Global,
-    context: &SessionContext<S, C, G>,
-    live: &mut LiveSession<J>,
-    wire: &mut Wire<H, W>,
-    counts: &mut Counts,
-)
-    requires register { context.now.register.now ≡ J.register }
-    requires seat { IsSeatOf context.now.channels.now live.old.seat }
-    ensures seat { IsSeatOf context.now.channels.now live.new.seat }
-    ensures end { end_of live.new.seat ≡ end_of live.old.seat }
-    ensures served { ServesOn (terms_of context.now.config.now) live.old live.new
-        (carried (H.heard wire.old.reader) (W.said wire.old.writer) wire.old.outbox wire.old.finish)
-        (carried (H.heard wire.new.reader) (W.said wire.new.writer)
-        wire.new.outbox wire.new.finish) }
-    ensures ends { Lasts wire.old.finish wire.new.finish }
-    ensures turns { turns_in counts.new ≡ turns_in counts.old }
-{
-    let mut commands = Commands::of(live.number);
-    match turn(rt, alloc, context, live, &mut commands) {
-        Turned::Says(said) => {
-            counts.say(&said);
-            put(wire, said, live.session.has_parted());
-        }
-        Turned::Rests => {}
-        Turned::Held => {}
-        Turned::Memory => thread::yield_now(),
-    }
-}
-
-/// A session that still reads breaks off.
-fn break_off<J: StorePremises>(live: &mut LiveSession<J>)
-    ensures seat { live.new.seat ≡ live.old.seat }
-    ensures gone { (w : Terms) (c : Carried) → ServesOn w live.old live.new c c }
-{
-    if live.session.is_reading() {
-        live.session.break_off();
     }
 }

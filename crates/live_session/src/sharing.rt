@@ -4,7 +4,7 @@ ghost use Rattle.article_verdict.specs.Config.{terms_of};
 ghost use Rattle.cyc_token.specs.Token.{token_view};
 ghost use Rattle.id_history.specs.declared.claims.Take.TheVariants as takes;
 ghost use Rattle.live_jobs.specs.Seats.{IsSeatOf};
-ghost use Rattle.live_session.specs.Going.{IsFrontOf, KeepsButReads, KeepsPlace, ReadsFor};
+ghost use Rattle.live_session.specs.Going.{IsFrontOf, KeepsPlace, ReadsFor};
 ghost use Rattle.live_session.specs.Going.{SharesFor, StaysSame};
 ghost use Rattle.peer_session.specs.Session.{holds_article};
 ghost use Rattle.peer_session.specs.declared.steps.Answer.TheVariants as answers;
@@ -16,7 +16,7 @@ use article_fetch::Chunk;
 use cyc_block::CHUNK_OCTETS;
 use cyc_token::Token;
 use id_history::Take;
-use live_store::{OneRecord, StorePremises};
+use live_store::{ArticleLog, OneRecord, StorePremises};
 use nntp_text::MsgId;
 use peer_session::{Answer, Step};
 use std::alloc::{AllocError, Global};
@@ -28,49 +28,56 @@ pub(crate) fn share<S: Shares<J, R>, C, G, J: StorePremises, R: Wait>(
     alloc: Global,
     context: &SessionContext<S, C, G>,
     live: &mut LiveSession<J>,
-    step: Step,
+    step: &Step,
     now: u64,
 ) -> Answer
     requires register { context.now.register.now ≡ J.register }
     requires seat { IsSeatOf context.now.channels.now live.old.seat }
     ensures seat { IsSeatOf context.now.channels.now live.new.seat }
     ensures place { KeepsPlace live.old live.new }
-    ensures shared { SharesFor (terms_of context.now.config.now) step live.old result live.new }
+    ensures shared { SharesFor (terms_of context.now.config.now) step.now live.old result live.new }
     ensures memory { result ≡ answers.Memory → StaysSame live.old live.new }
 {
     match step {
         Step::Nothing => Answer::Nothing,
-        Step::Offer(id) => match context.shares.offer(rt, &id, live.number) {
+        Step::Offer(id) => match context.shares.offer(rt, id, live.number) {
             Ok(offer) => Answer::Offer(offer),
             Err(_) => Answer::Memory,
         },
-        Step::Look(id) => Answer::Look(context.shares.look(rt, &id)),
-        Step::Read(token, k) => Answer::Chunk(read(rt, context, live, &token, k)),
-        Step::TakeQueue(feed, most) => match context.shares.take_queue(rt, alloc, feed, most) {
+        Step::Look(id) => Answer::Look(context.shares.look(rt, id)),
+        Step::Read(token, k) => Answer::Chunk(read(
+            rt,
+            context.shares,
+            context.register,
+            &mut live.reads,
+            token,
+            *k,
+        )),
+        Step::TakeQueue(feed, most) => match context.shares.take_queue(rt, alloc, *feed, *most) {
             Ok(taken) => Answer::Queue(taken),
             Err(_) => Answer::Memory,
         },
-        Step::Refuse(id) => match context.shares.refuse(rt, &id, live.number, now) {
+        Step::Refuse(id) => match context.shares.refuse(rt, id, live.number, now) {
             Ok(()) => Answer::Nothing,
             Err(_) => Answer::Memory,
         },
-        Step::Take(id) => match take(rt, context, live, &id) {
+        Step::Take(id) => match take(rt, context.shares, live, id) {
             Ok(told) => Answer::Take(told),
             Err(_) => Answer::Memory,
         },
-        Step::Push(group) => push(rt, context, live, usize::from(group)),
-        Step::Slot => look_in_slot(rt, context, live),
+        Step::Push(group) => push(rt, context.channels, live, usize::from(*group)),
+        Step::Slot => look_in_slot(rt, context.shares, live),
         Step::Release(id) => {
-            context.shares.release(rt, &id, live.number);
+            context.shares.release(rt, id, live.number);
             Answer::Nothing
         }
     }
 }
 
 /// Takes an accepted article of the id. A session that holds one waits until no other stores one.
-fn take<S: Shares<J, R>, C, G, J: StorePremises, R: Wait>(
+fn take<S: Shares<J, R>, J: StorePremises, R: Wait>(
     rt: &R,
-    context: &SessionContext<S, C, G>,
+    shares: &S,
     live: &LiveSession<J>,
     id: &MsgId,
 ) -> Result<Take, AllocError>
@@ -78,33 +85,29 @@ fn take<S: Shares<J, R>, C, G, J: StorePremises, R: Wait>(
         → IfOk result (λ told. told ≢ takes.Held) }
 {
     if live.session.is_holding() {
-        context.shares.take_later(rt, id, live.number)
+        shares.take_later(rt, id, live.number)
     } else {
-        context.shares.take(rt, id, live.number)
+        shares.take(rt, id, live.number)
     }
 }
 
 /// Reads block k of the token's article. With block 0 the reads of a record begin.
-fn read<S: Shares<J, R>, C, G, J: StorePremises, R: Wait>(
+fn read<S: Shares<J, R>, J: StorePremises, R: Wait>(
     rt: &R,
-    context: &SessionContext<S, C, G>,
-    live: &mut LiveSession<J>,
+    shares: &S,
+    register: &ArticleLog,
+    reads: &mut OneRecord<J>,
     token: &Token,
     k: u32,
 ) -> Chunk
-    requires register { context.now.register.now ≡ J.register }
-    ensures rest { KeepsButReads live.old live.new }
-    ensures seat { live.new.seat ≡ live.old.seat }
-    ensures read { (honest : Bool) → (honest ≡ true → J.trusted ≡ true)
-        → ReadsFor honest J.register (token_view token.now) k live.old.reads.shown result
-        live.new.reads.shown }
+    requires register { register.now ≡ J.register }
+    ensures { (honest : Bool) → (honest ≡ true → J.trusted ≡ true)
+        → ReadsFor honest J.register (token_view token.now) k reads.old.shown result
+        reads.new.shown }
 {
-    begin_reads(&mut live.reads, k);
+    begin_reads(reads, k);
     let mut octets = [0; CHUNK_OCTETS];
-    let reads = &mut live.reads;
-    let found = context
-        .shares
-        .read(rt, context.register, reads, token, k, &mut octets);
+    let found = shares.read(rt, register, reads, token, k, &mut octets);
     Chunk::of_read(found, octets)
 }
 

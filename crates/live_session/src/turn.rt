@@ -1,5 +1,5 @@
 //! A turn: the session plans, its step is done, and it hears the answer.
-ghost use Rattle.std.specs.Prelude.{◌≡◌, ◌≢◌, false};
+ghost use Rattle.std.specs.Prelude.{◌≡◌, ◌≢◌, [], false};
 ghost use Rattle.article_verdict.specs.Config.{terms_of};
 ghost use Rattle.live_jobs.specs.Seats.{IsSeatOf, end_of};
 ghost use Rattle.live_session.specs.Carried.{Refusal};
@@ -38,27 +38,26 @@ pub(crate) fn turn<S: Shares<J, R>, C: Clock, G: Gate<R>, J: StorePremises, R: W
         return Turned::Memory;
     };
     if live.session.is_resting() {
-        hear(live, Answer::Memory);
+        drop(step);
+        forget(live);
         return Turned::Rests;
     }
-    if at_command && !is_let_in(rt, context, commands) {
-        hear(live, Answer::Memory);
+    if at_command && !is_let_in(rt, context.gate, commands) {
+        drop(step);
+        forget(live);
         return Turned::Held;
     }
-    let answer = share(rt, alloc, context, live, step, now);
+    let answer = share(rt, alloc, context, live, &step, now);
+    drop(step);
     hear(live, answer)
 }
 
 /// Whether the gate lets the next command in.
-fn is_let_in<S, C, G: Gate<R>, R>(
-    rt: &R,
-    context: &SessionContext<S, C, G>,
-    commands: &mut Commands,
-) -> bool
-    ensures { result ≡ false → Refusal (G.refuses context.now.gate.now) }
+fn is_let_in<G: Gate<R>, R>(rt: &R, gate: &G, commands: &mut Commands) -> bool
+    ensures { result ≡ false → Refusal (G.refuses gate.now) }
 {
     let command = commands.next();
-    context.gate.enter(rt, command)
+    gate.enter(rt, command)
 }
 
 /// The session hears the answer to what it planned. Where that is want of memory it forgets what it
@@ -71,8 +70,18 @@ fn hear<J: StorePremises>(live: &mut LiveSession<J>, answer: Answer) -> Turned
     ensures let_in { result ≢ turns.Held }
 {
     if let Answer::Memory = answer {
-        live.session.absorb(live.number, Answer::Memory);
+        drop(answer);
+        forget(live);
         return Turned::Memory;
     }
     Turned::Says(live.session.absorb(live.number, answer))
+}
+
+/// The session forgets what it planned, and says nothing.
+fn forget<J: StorePremises>(live: &mut LiveSession<J>)
+    ensures gone { LetsGo live.old [] live.new }
+    ensures rest { KeepsButSession live.old live.new }
+    ensures seat { live.new.seat ≡ live.old.seat }
+{
+    drop(live.session.absorb(live.number, Answer::Memory));
 }

@@ -3,7 +3,12 @@ ghost use Rattle.std.specs.Prelude.{◌≡◌, [], Some, true, false, is_some, u
 ghost use Rattle.live_session.specs.Carried.{CarriesOn, CarriesSame, Lasts, carried, finish_of};
 ghost use Rattle.live_session.specs.Carried.{is_break, part_finish};
 ghost use Rattle.live_session.specs.Carried as words;
+ghost use Rattle.live_session.specs.Counts.{turns_in};
+ghost use Rattle.peer_session.specs.Session.{has_parted};
 
+use crate::counts::Counts;
+use crate::live::LiveSession;
+use live_store::StorePremises;
 use live_wire::{Hears, Says, say_all};
 
 /// How a session ended.
@@ -62,7 +67,7 @@ pub(crate) fn flush<H: Hears, W: Says>(wire: &mut Wire<H, W>)
 }
 
 /// What a session said is to be written. Where it leaves, that was its last reply.
-pub(crate) fn put<H: Hears, W: Says>(wire: &mut Wire<H, W>, said: Vec<u8>, leaves: bool)
+fn put<H: Hears, W: Says>(wire: &mut Wire<H, W>, said: Vec<u8>, leaves: bool)
     ensures on { CarriesOn
         (carried (H.heard wire.old.reader) (W.said wire.old.writer) wire.old.outbox wire.old.finish)
         (carried (H.heard wire.new.reader) (W.said wire.new.writer) wire.new.outbox wire.new.finish)
@@ -78,6 +83,24 @@ pub(crate) fn put<H: Hears, W: Says>(wire: &mut Wire<H, W>, said: Vec<u8>, leave
         return;
     }
     append(wire, said);
+}
+
+/// What a session said is counted, and is to be written.
+pub(crate) fn say<J: StorePremises, H: Hears, W: Says>(
+    live: &LiveSession<J>,
+    wire: &mut Wire<H, W>,
+    counts: &mut Counts,
+    said: Vec<u8>,
+)
+    ensures on { CarriesOn
+        (carried (H.heard wire.old.reader) (W.said wire.old.writer) wire.old.outbox wire.old.finish)
+        (carried (H.heard wire.new.reader) (W.said wire.new.writer) wire.new.outbox wire.new.finish)
+        [] said.items (has_parted live.now.session) }
+    ensures ends { Lasts wire.old.finish wire.new.finish }
+    ensures turns { turns_in counts.new ≡ turns_in counts.old }
+{
+    counts.say(&said);
+    put(wire, said, live.session.has_parted());
 }
 
 /// How the connection ends once the last reply is said.

@@ -1,22 +1,21 @@
 use Rattle.std.proofs.Common.{refl}
-use Rattle.article_verdict.specs.Config.{terms_of}
 use Rattle.live_session.proofs.Sharings.{none_in_hand, not_pushed, pushed}
 use Rattle.live_session.proofs.pushing.push.Goals as goal
 
-pub returns-then-group-context-clause-shared : goal.returns-then-group-context-clause-shared
-returns-then-group-context-clause-shared g c =
-    not_pushed (terms_of c.args.context.now.config.now) c.args.live.now c.args.group
+pub returns-then-group-channels-clause-shared : goal.returns-then-group-channels-clause-shared
+returns-then-group-channels-clause-shared g c w =
+    not_pushed w c.args.live.now c.args.group
 
 pub returns-in-Some-clause-shared : goal.returns-in-Some-clause-shared
-returns-in-Some-clause-shared g c =
+returns-in-Some-clause-shared g c w =
     let live = c.args.live.now in
     let given = c.hand_over-in-Some in
-    pushed (terms_of c.args.context.now.config.now) live c.args.group c.in-Some.job
+    pushed w live c.args.group c.in-Some.job
     (record live { session = c.hand_over.new.self; seat = given.new.self }) c.in-Some.ensures
     given.ensures.taken given.ensures.count refl
 
 pub returns-in-None-clause-shared : goal.returns-in-None-clause-shared
-returns-in-None-clause-shared g c =
+returns-in-None-clause-shared g c w =
     let live = c.args.live.now in
-    none_in_hand (terms_of c.args.context.now.config.now) live c.args.group
+    none_in_hand w live c.args.group
     (record live { session = c.hand_over.new.self }) c.in-None.ensures

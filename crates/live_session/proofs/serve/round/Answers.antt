@@ -1,10 +1,10 @@
-use Rattle.std.proofs.Common.{[], subst, sym}
+use Rattle.std.proofs.Common.{subst, sym}
 use Rattle.article_verdict.specs.Config.{terms_of}
 use Rattle.live_jobs.specs.Seats.{IsSeatOf}
 use Rattle.live_jobs.specs.declared.session.SessionSeat.{SessionSeat}
 use Rattle.live_session.proofs.LiveSessions.{served_still, served_turn, then_on, then_same}
 use Rattle.live_session.proofs.serve.round.Goals as goal
-use Rattle.live_session.specs.Carried.{CarriesOn, carried}
+use Rattle.live_session.specs.Carried.{carried}
 
 pub returns-in-Says-clause-served : goal.returns-in-Says-clause-served
 returns-in-Says-clause-served g c =
@@ -12,17 +12,17 @@ returns-in-Says-clause-served g c =
     let live = c.args.live.now in
     let new = c.turn.new.live in
     let wire = c.args.wire.now in
-    let put = c.put.new.wire in
+    let said = c.say.new.wire in
     let last = c.write_on.new.wire in
     let before = carried (g.H.Hears.heard wire.reader) (g.W.Says.said wire.writer) wire.outbox
     wire.finish in
-    let mid = carried (g.H.Hears.heard put.reader) (g.W.Says.said put.writer) put.outbox
-    put.finish in
+    let mid = carried (g.H.Hears.heard said.reader) (g.W.Says.said said.writer) said.outbox
+    said.finish in
     let after = carried (g.H.Hears.heard last.reader) (g.W.Says.said last.writer) last.outbox
     last.finish in
     then_same w live new before mid after
     (served_turn w live new c.in-Says.said.items before mid c.in-Says.ensures.went
-    (subst (CarriesOn before mid [] c.in-Says.said.items) c.has_parted.ensures c.put.ensures.on))
+    c.say.ensures.on)
     c.write_on.ensures.same
 
 pub returns-in-Rests-clause-seat : goal.returns-in-Rests-clause-seat

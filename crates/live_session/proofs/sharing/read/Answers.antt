@@ -5,15 +5,15 @@ use Rattle.live_session.proofs.Sharings.{block_begun, block_read}
 use Rattle.live_session.proofs.sharing.read.Goals as goal
 use Rattle.live_session.specs.Going.{ReadsFor}
 
-pub returns-clause-read : goal.returns-clause-read
-returns-clause-read g c honest trust =
+pub returns : goal.returns
+returns g c honest trust =
     let token = token_view c.args.token.now in
     let mid = c.begin_reads.new.reads.shown in
     let given = c.read-found in
     let new = given.new.reads.shown in
     let P : Chunk → Type 0 =
     λ one. ReadsFor honest g.J.StorePremises.register token c.args.k mid one new in
-    block_begun g.J.StorePremises.register token c.args.k c.args.live.now.reads.shown new honest mid
+    block_begun g.J.StorePremises.register token c.args.k c.args.reads.now.shown new honest mid
     c.of_read.result c.begin_reads.ensures
     (subst P (sym c.of_read.ensures)
     (block_read g.J.StorePremises.register token c.args.k mid new honest

@@ -1,4 +1,4 @@
-use Rattle.std.proofs.Common.{subst, sym}
+use Rattle.std.proofs.Common.{refl, subst, sym}
 use Rattle.article_verdict.specs.Config.{terms_of}
 use Rattle.live_jobs.specs.Seats.{IsSeatOf}
 use Rattle.live_jobs.specs.declared.session.SessionSeat.{SessionSeat}
@@ -30,19 +30,16 @@ returns-in-Look-clause-shared g c =
     let P : Step → Type 0 = λ s. SharesFor w s live (answers.Look c.look.result) live in
     subst P (sym c.in-Look.is) (looked w live c.in-Look.id c.look.result)
 
-pub returns-in-Read-clause-seat : goal.returns-in-Read-clause-seat
-returns-in-Read-clause-seat g c =
-    let P : SessionSeat → Type 0 = λ s. IsSeatOf c.args.context.now.channels.now s in
-    subst P (sym c.read.ensures.seat) c.requires.seat
-
 pub returns-in-Read-clause-shared : goal.returns-in-Read-clause-shared
 returns-in-Read-clause-shared g c =
     let w = terms_of c.args.context.now.config.now in
     let live = c.args.live.now in
-    let P : Step → Type 0 = λ s. SharesFor w s live (answers.Chunk c.read.result) c.read.new.live in
+    let new = record live { reads = c.read.new.reads } in
+    let P : Step → Type 0 = λ s. SharesFor w s live (answers.Chunk c.read.result) new in
     subst P (sym c.in-Read.is)
-    (was_read w live c.in-Read.token c.in-Read.k c.read.result c.read.new.live c.read.ensures.rest
-    c.read.ensures.read)
+    (was_read w live c.in-Read.token c.in-Read.k c.read.result new
+    (record { session = refl; hands = refl; place = record { number = refl; end_is = refl } })
+    c.read.ensures)
 
 pub returns-in-Ok-take_queue-clause-shared : goal.returns-in-Ok-take_queue-clause-shared
 returns-in-Ok-take_queue-clause-shared g c =
@@ -73,8 +70,8 @@ returns-in-Slot-clause-seat g c =
     let P : SessionSeat → Type 0 = λ s. IsSeatOf c.args.context.now.channels.now s in
     subst P (sym c.look_in_slot.ensures.seat) c.requires.seat
 
-pub returns-clause-shared : goal.returns-clause-shared
-returns-clause-shared g c =
+pub returns-in-Release-clause-shared : goal.returns-in-Release-clause-shared
+returns-in-Release-clause-shared g c =
     let w = terms_of c.args.context.now.config.now in
     let live = c.args.live.now in
     let P : Step → Type 0 = λ s. SharesFor w s live answers.Nothing live in

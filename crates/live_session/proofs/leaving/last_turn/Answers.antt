@@ -1,22 +1,20 @@
-use Rattle.std.proofs.Common.{[], subst}
 use Rattle.article_verdict.specs.Config.{terms_of}
 use Rattle.live_session.proofs.LiveSessions.{served_still, served_turn}
-use Rattle.live_session.proofs.serve.last_turn.Goals as goal
-use Rattle.live_session.specs.Carried.{CarriesOn, carried}
+use Rattle.live_session.proofs.leaving.last_turn.Goals as goal
+use Rattle.live_session.specs.Carried.{carried}
 
 pub returns-in-Says-clause-served : goal.returns-in-Says-clause-served
 returns-in-Says-clause-served g c =
     let live = c.args.live.now in
     let new = c.turn.new.live in
     let wire = c.args.wire.now in
-    let put = c.put.new.wire in
+    let said = c.say.new.wire in
     let before = carried (g.H.Hears.heard wire.reader) (g.W.Says.said wire.writer) wire.outbox
     wire.finish in
-    let after = carried (g.H.Hears.heard put.reader) (g.W.Says.said put.writer) put.outbox
-    put.finish in
+    let after = carried (g.H.Hears.heard said.reader) (g.W.Says.said said.writer) said.outbox
+    said.finish in
     served_turn (terms_of c.args.context.now.config.now) live new c.in-Says.said.items before after
-    c.in-Says.ensures.went
-    (subst (CarriesOn before after [] c.in-Says.said.items) c.has_parted.ensures c.put.ensures.on)
+    c.in-Says.ensures.went c.say.ensures.on
 
 pub returns-in-Rests-clause-served : goal.returns-in-Rests-clause-served
 returns-in-Rests-clause-served g c =

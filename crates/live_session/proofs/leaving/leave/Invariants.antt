@@ -3,7 +3,7 @@ use Rattle.article_verdict.specs.Config.{terms_of}
 use Rattle.live_jobs.specs.Seats.{IsSeatOf, end_of}
 use Rattle.live_session.specs.Carried.{Lasts, ServesOn, carried}
 use Rattle.live_session.specs.Counts.{turns_in}
-use Rattle.live_session.proofs.serve.leave.Given as goal
+use Rattle.live_session.proofs.leaving.leave.Given as goal
 
 abbrev pub invariant-loop : goal.invariant-loop
 invariant-loop g l = record {

@@ -1,6 +1,6 @@
 use Rattle.std.proofs.Common.{◌∙◌, refl, sym}
 use Rattle.live_session.proofs.LiveSessions.{gone}
-use Rattle.live_session.proofs.serve.break_off.Goals as goal
+use Rattle.live_session.proofs.leaving.break_off.Goals as goal
 
 pub returns-then-is_reading-clause-gone : goal.returns-then-is_reading-clause-gone
 returns-then-is_reading-clause-gone g c w carried =
