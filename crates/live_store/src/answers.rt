@@ -4,7 +4,7 @@ use crate::steps::Conflict;
 use cyc_buffer::{Fault, Front};
 
 /// Why a block was not written, in the order of trial.
-#[derive(Debug, Drop)]
+#[derive(Drop)]
 pub enum WriteFault {
     /// The open write isn't the record's, or no further block of it can be written.
     Conflict(Conflict),

@@ -40,12 +40,33 @@ pub fn fetch<S: BlockStore, J: StorePremises, R: Wait>(
         Ok(Reading::Unknown) => return Ok(Fetched::Unknown),
         Err(fault) => return Ok(Fetched::Device(fault)),
     };
-    let mut text = Vec::with_capacity(alloc, token.length as usize)?;
-    text.extend_from_slice(&chunk[..octets])?;
-    match rest(rt, buffer, register, token, &shown, text)? {
-        Rest::All(text) => Ok(Fetched::Whole(whole(text, shown))),
-        Rest::Not(fetched) => Ok(fetched),
+    let text = match begun(alloc, token, &chunk[..octets]) {
+        Ok(text) => text,
+        Err(error) => {
+            drop(shown);
+            return Err(error);
+        }
+    };
+    match rest(rt, buffer, register, token, &shown, text) {
+        Ok(Rest::All(text)) => Ok(Fetched::Whole(whole(text, shown))),
+        Ok(Rest::Not(fetched)) => {
+            drop(shown);
+            Ok(fetched)
+        }
+        Err(error) => {
+            drop(shown);
+            Err(error)
+        }
     }
+}
+
+/// The first octets of a text, with room for all of it.
+fn begun(alloc: Global, token: &Token, octets: &[u8]) -> Result<Vec<u8>, AllocError>
+    ensures { IfOk result (λ text. text.items ≡ octets.now) }
+{
+    let mut text = Vec::with_capacity(alloc, token.length as usize)?;
+    text.extend_from_slice(octets)?;
+    Ok(text)
 }
 
 /// Reads the blocks after the first one, each of the record of this number.
@@ -66,7 +87,10 @@ fn rest<S: BlockStore, J: StorePremises, R: Wait>(
     for k in 1..size_of(token.length) {
         let reading = read_block(rt, buffer, register, token, k, Some(shown), &mut chunk);
         match reading {
-            Ok(Reading::Chunk(octets, _same)) => text.extend_from_slice(&chunk[..octets])?,
+            Ok(Reading::Chunk(octets, same)) => {
+                drop(same);
+                text.extend_from_slice(&chunk[..octets])?;
+            }
             Ok(Reading::Gone(front)) => return Ok(Rest::Not(Fetched::Gone(front))),
             Ok(Reading::Unknown) => return Ok(Rest::Not(Fetched::Unknown)),
             Err(fault) => return Ok(Rest::Not(Fetched::Device(fault))),

@@ -64,7 +64,9 @@ impl<J: StorePremises> OneRecord<J> {
         match read_block(rt, buffer, register, token, k, own, chunk)? {
             Reading::Chunk(octets, shown) => {
                 if self.shown.is_none() {
-                    self.shown = Some(shown);
+                    drop(self.shown.replace(shown));
+                } else {
+                    drop(shown);
                 }
                 Ok(Found::Chunk(octets))
             }

@@ -288,7 +288,15 @@ fn numbers_of_articles<S: BlockStore, R: Wait>(
     ensures no_failure { OnOk result (S.failures (store_of (inside buffer.new))
         ≡ S.failures (store_of (inside buffer.old))) }
 {
-    let mut numbers = no_numbers(alloc, buffer.buffer().blocks())?;
-    enter_articles(rt, alloc, register, buffer, tokens, &mut numbers)?;
-    Ok(numbers)
+    let mut numbers = match no_numbers(alloc, buffer.buffer().blocks()) {
+        Ok(numbers) => numbers,
+        Err(_refused) => return Err(StartError::Memory),
+    };
+    match enter_articles(rt, alloc, register, buffer, tokens, &mut numbers) {
+        Ok(()) => Ok(numbers),
+        Err(error) => {
+            drop(numbers);
+            Err(error)
+        }
+    }
 }

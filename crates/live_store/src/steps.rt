@@ -116,7 +116,7 @@ impl<S: BlockStore, J: StorePremises> NumberedBuffer<S, J> {
         let Some(
             OpenWrite {
                 write,
-                shown: _,
+                shown: before,
                 written,
                 broken: _,
             },
@@ -124,6 +124,7 @@ impl<S: BlockStore, J: StorePremises> NumberedBuffer<S, J> {
         else {
             unreachable!()
         };
+        drop(before);
         match self.buffer.write_next(&write, text) {
             Ok(last) => {
                 put(
@@ -186,7 +187,7 @@ impl<S: BlockStore, J: StorePremises> NumberedBuffer<S, J> {
         let Some(
             OpenWrite {
                 write,
-                shown: _,
+                shown: before,
                 written: _,
                 broken: _,
             },
@@ -194,6 +195,7 @@ impl<S: BlockStore, J: StorePremises> NumberedBuffer<S, J> {
         else {
             unreachable!()
         };
+        drop(before);
         let token = self.buffer.finish(write);
         self.numbers[token.first as usize] = Some(shown.again());
         let receipt = Receipt {
@@ -225,14 +227,15 @@ impl<S: BlockStore, J: StorePremises> NumberedBuffer<S, J> {
             Some(open_write) => is_named(register, open_write, &entered),
             None => false,
         };
-        let Entered { token: _, shown: _ } = entered;
+        let Entered { shown, token: _ } = entered;
+        drop(shown);
         if !named {
             return Err(Conflict(()));
         }
         let Some(
             OpenWrite {
                 write,
-                shown: _,
+                shown: before,
                 written: _,
                 broken: _,
             },
@@ -240,6 +243,7 @@ impl<S: BlockStore, J: StorePremises> NumberedBuffer<S, J> {
         else {
             unreachable!()
         };
+        drop(before);
         self.buffer.abandon(write);
         Ok(())
     }

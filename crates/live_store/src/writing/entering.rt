@@ -85,7 +85,10 @@ impl Record {
             };
             match register.enter(rt, record) {
                 Ok(shown) => return Entered::new(token, shown),
-                Err(_) => thread::yield_now(),
+                Err(refused) => {
+                    drop(refused);
+                    thread::yield_now();
+                }
             }
         }
         unreachable!()
@@ -111,7 +114,10 @@ impl Record {
         };
         match register.enter(rt, record) {
             Ok(shown) => Ok(shown),
-            Err(_) => Err(AllocError),
+            Err(refused) => {
+                drop(refused);
+                Err(AllocError)
+            }
         }
     }
 }

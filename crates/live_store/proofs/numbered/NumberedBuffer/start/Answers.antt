@@ -1,7 +1,9 @@
 use Rattle.std.proofs.Common.{length, true, inl}
+use Rattle.cyc_buffer.proofs.Refusals.{held_on}
+use Rattle.cyc_buffer.specs.Agreement.{store_of}
 use Rattle.cyc_buffer.specs.Head.{inside}
-use Rattle.live_store.specs.Started.{AreArticles}
-use Rattle.live_store.proofs.StartedLemmas.{outside_unentered, refused_for, started_of}
+use Rattle.live_store.specs.Started.{AreArticles, unopened_in}
+use Rattle.live_store.proofs.StartedLemmas.{blamed_later, outside_unentered, refused_for, started_of}
 use Rattle.live_store.proofs.numbered.NumberedBuffer.start.Goals as goal
 
 pub returns-in-Err-clause-refused : goal.returns-in-Err-clause-refused
@@ -54,3 +56,28 @@ returns-in-Err-read_back-clause-reason g c honest =
       first_cycle = c.args.first_cycle;
     }) c.in-Ok.started.stop c.in-Ok.started.tokens.items (c.in-Ok.ensures.started honest)
     c.in-Err-read_back.refused.error c.in-Err-read_back.ensures.fault
+
+pub returns-in-Err-clause-held : goal.returns-in-Err-clause-held
+returns-in-Err-clause-held g c = record {
+  honest = c.in-Err.ensures.honest;
+  blocks = c.in-Err.ensures.blocks;
+  heads = c.in-Err.ensures.heads;
+  count = c.in-Err.ensures.count;
+}
+
+pub returns-in-Ok-read_back-clause-same : goal.returns-in-Ok-read_back-clause-same
+returns-in-Ok-read_back-clause-same g c =
+    held_on g.S.BlockStore c.args.store (store_of (inside c.in-Ok.started.buffer))
+    (store_of (inside (unopened_in c.in-Ok-read_back.numbered))) c.in-Ok.ensures.same
+    c.in-Ok-read_back.ensures.read.held
+
+pub returns-in-Err-read_back-clause-held : goal.returns-in-Err-read_back-clause-held
+returns-in-Err-read_back-clause-held g c =
+    held_on g.S.BlockStore c.args.store (store_of (inside c.in-Ok.started.buffer))
+    c.in-Err-read_back.refused.store c.in-Ok.ensures.same c.in-Err-read_back.ensures.held
+
+pub returns-in-Err-read_back-clause-failed : goal.returns-in-Err-read_back-clause-failed
+returns-in-Err-read_back-clause-failed g c =
+    blamed_later g.S.BlockStore c.args.store (store_of (inside c.in-Ok.started.buffer))
+    c.in-Err-read_back.refused.store c.in-Err-read_back.refused.error
+    c.in-Ok.ensures.no_failure c.in-Err-read_back.ensures.failed
