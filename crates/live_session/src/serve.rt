@@ -369,9 +369,7 @@ fn receive<J: StorePremises, H: Hears, W: Says>(
             }
         }
         Err(error) => {
-            let kind = error.kind();
-            drop(error);
-            if kind != ErrorKind::Interrupted {
+            if error.kind() != ErrorKind::Interrupted {
                 wire.finish = Some(Finish::Broken);
             }
         }

@@ -70,7 +70,6 @@ fn hear<J: StorePremises>(live: &mut LiveSession<J>, answer: Answer) -> Turned
     ensures let_in { result ≢ turns.Held }
 {
     if let Answer::Memory = answer {
-        drop(answer);
         forget(live);
         return Turned::Memory;
     }

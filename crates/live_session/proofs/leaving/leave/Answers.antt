@@ -1,0 +1,20 @@
+use Rattle.std.proofs.Common.{◌∙◌}
+use Rattle.live_session.proofs.leaving.leave.Goals as goal
+
+pub loop-preserved : goal.loop-preserved
+loop-preserved g c =
+    let so = c.loop.invariant in
+    let turn = c.last_turn.ensures in
+    record {
+      seat = turn.seat;
+      end_is = turn.end ∙ so.end_is;
+      served = λ honest trust s end first read written here.
+          turn.served honest trust s end first read written
+          (so.served honest trust s end first read written here);
+      ends = record {
+        ended = λ none. so.ends.ended (turn.ends.ended none);
+        unspent = λ spent. so.ends.unspent (turn.ends.unspent spent);
+        unheld = λ held. so.ends.unheld (turn.ends.unheld held);
+      };
+      turns = turn.turns ∙ so.turns;
+    }
