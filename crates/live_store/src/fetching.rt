@@ -33,14 +33,32 @@ pub fn fetch<S: BlockStore, J: StorePremises, R: Wait>(
         return Ok(Fetched::Unknown);
     };
     let mut chunk = [0; CHUNK_OCTETS];
-    let first = read_block(rt, buffer, register, token, 0, None, &mut chunk);
-    let (octets, shown) = match first {
-        Ok(Reading::Chunk(octets, shown)) => (octets, shown),
-        Ok(Reading::Gone(front)) => return Ok(Fetched::Gone(front)),
-        Ok(Reading::Unknown) => return Ok(Fetched::Unknown),
-        Err(fault) => return Ok(Fetched::Device(fault)),
-    };
-    let text = match begun(alloc, token, &chunk[..octets]) {
+    match read_block(rt, buffer, register, token, 0, None, &mut chunk) {
+        Ok(Reading::Chunk(octets, shown)) => {
+            fetch_from(rt, alloc, buffer, register, token, shown, &chunk[..octets])
+        }
+        Ok(Reading::Gone(front)) => Ok(Fetched::Gone(front)),
+        Ok(Reading::Unknown) => Ok(Fetched::Unknown),
+        Err(fault) => Ok(Fetched::Device(fault)),
+    }
+}
+
+/// Fetches the text of the record of this number, which begins with these octets.
+fn fetch_from<S: BlockStore, J: StorePremises, R: Wait>(
+    rt: &R,
+    alloc: Global,
+    buffer: &Mutex<NumberedBuffer<S, J>>,
+    register: &ArticleLog,
+    token: &Token,
+    shown: RecordNumber,
+    first: &[u8],
+) -> Result<Fetched<J>, AllocError>
+    requires register { register.now ≡ J.register }
+    requires shown { Shows J.register shown }
+    requires first { J.trusted ≡ true → IsFirst (token_view token.now) shown first.now }
+    ensures { IfOk result (IsFetched J.trusted (token_view token.now)) }
+{
+    let text = match begun(alloc, token, first) {
         Ok(text) => text,
         Err(error) => {
             drop(shown);

@@ -59,3 +59,18 @@ returns-in-Ok-Gone-clause-gone g c = read_gone c.args.self.now.buffer c.args.tok
 pub returns-in-Err-clause-fault : goal.returns-in-Err-clause-fault
 returns-in-Err-clause-fault g c = read_fails c.args.self.now.buffer c.args.token.now
     c.in-Err.error c.device_fault.result c.in-Err.ensures.remembered c.device_fault.ensures
+
+pub returns-in-Some-clause-reads : goal.returns-in-Some-clause-reads
+returns-in-Some-clause-reads g c = subst (λ r. ReadsBlock c.args.self.now.buffer c.args.token.now
+    c.args.k c.args.chunk.now r c.read_block.new.chunk c.read_block.new.self)
+    (c.in-Ok-Chunk.is ∙ ap Ok c.in-Ok-Chunk.field-0-is) c.read_block.ensures.reads
+
+pub returns-in-Ok-Gone-clause-reads : goal.returns-in-Ok-Gone-clause-reads
+returns-in-Ok-Gone-clause-reads g c = subst (λ r. ReadsBlock c.args.self.now.buffer
+    c.args.token.now c.args.k c.args.chunk.now r c.read_block.new.chunk c.read_block.new.self)
+    (c.in-Ok-Gone.is ∙ ap Ok c.in-Ok-Gone.field-0-is) c.read_block.ensures.reads
+
+pub returns-in-Ok-Unknown-clause-reads : goal.returns-in-Ok-Unknown-clause-reads
+returns-in-Ok-Unknown-clause-reads g c = subst (λ r. ReadsBlock c.args.self.now.buffer
+    c.args.token.now c.args.k c.args.chunk.now r c.read_block.new.chunk c.read_block.new.self)
+    (c.in-Ok-Unknown.is ∙ ap Ok c.in-Ok-Unknown.field-0-is) c.read_block.ensures.reads
