@@ -2,7 +2,7 @@
 use buffer_group::Job;
 
 /// A job as its end hands it over.
-#[derive(Debug, Drop)]
+#[derive(Drop)]
 pub struct Handed {
     /// The number of the end.
     pub end: u64,
@@ -12,7 +12,7 @@ pub struct Handed {
 }
 
 /// A job, or the closing mark of an end: the end hands nothing over after it.
-#[derive(Debug, Drop)]
+#[derive(Drop)]
 pub enum Parcel {
     Job(Handed),
     /// With the number of the end.
