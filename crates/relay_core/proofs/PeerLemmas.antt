@@ -1,5 +1,5 @@
 -- What a change of the map does to the peers and to their places.
-use Rattle.std.proofs.Common.{◌≡◌, ◌≢◌, ◌∙◌, ap, refl, sym, rules, ℕ}
+use Rattle.std.proofs.Common.{◌≡◌, ◌≢◌, ◌∙◌, ap, refl, subst, sym, rules, ℕ}
 use Rattle.std.proofs.Common.{Option, None, Some, nat_eq, arith, ◌+◌}
 use Rattle.std.specs.Prelude.{is_some, option_and_then, if◌then◌else◌}
 use Rattle.std.specs.HashMap.{get, hash_map_len, UpdatesBy, WritesThrough}
@@ -126,11 +126,12 @@ ClosesPeer-from_remove old new number had is changes count = record {
 
 -- a place gets a peer
 pub GivesPeer-from_write : (old new : Peers) (number : ℕ) (peer : Peer)
-    (had : Option Peer) → get nat_eq old.peers number ≡ Some had
-    → Writes old new number (Some peer) → GivesPeer number peer old new
-GivesPeer-from_write old new number peer had has writes =
+    (had left : Option Peer) → get nat_eq old.peers number ≡ Some had → left ≡ Some peer
+    → Writes old new number left → GivesPeer number peer old new
+GivesPeer-from_write old new number peer had left has given writes =
     let count : hash_map_len new.peers ≡ hash_map_len old.peers + 0 = omega (arith, writes.2) in
-    GivesPeer-from_insert old new number peer (Some had) (sym has) (writes.3 (ap is_some has)) count
+    GivesPeer-from_insert old new number peer (Some had) (sym has)
+    (subst (λ place. Changes old new number (Some place)) given (writes.3 (ap is_some has))) count
 
 -- a place loses its peer
 pub TakesPeer-from_write : (old new : Peers) (number : ℕ) (had left : Option Peer)

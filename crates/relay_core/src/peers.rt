@@ -77,7 +77,7 @@ impl Peers {
             session,
             slot: None,
         };
-        self.peers.insert(number, Some(peer))?;
+        drop(self.peers.insert(number, Some(peer))?);
         Ok(())
     }
 
@@ -99,8 +99,9 @@ impl Peers {
         ensures dropped { has_place self.old number ≡ false → SamePeers self.old self.new }
         ensures places { SamePlaces self.old self.new }
     {
-        if let Some(place) = self.peers.get_mut(&number) {
-            *place = Some(peer);
+        match self.peers.get_mut(&number) {
+            Some(place) => drop(place.replace(peer)),
+            None => drop(peer),
         }
     }
 
@@ -108,7 +109,7 @@ impl Peers {
     pub fn close(&mut self, number: u64)
         ensures { ClosesPeer number self.old self.new }
     {
-        self.peers.remove(&number);
+        drop(self.peers.remove(&number));
     }
 
     /// The outcome of the article comes into the slot of this number's peer. What was in the slot

@@ -74,6 +74,7 @@ fn take_back(peers: &mut Peers, number: u64, peer: Peer)
     if peer.session.is_running() {
         peers.give_back(number, peer);
     } else {
+        drop(peer);
         peers.close(number);
     }
 }
