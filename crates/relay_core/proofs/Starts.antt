@@ -39,7 +39,8 @@ use Rattle.relay_core.specs.Agreement.{AgreesBy, GroupWriterIs, PeerIs, ring_siz
 use Rattle.relay_core.specs.Ahead.{TellsFilled, filled_of, filled_view, is_ahead}
 use Rattle.relay_core.specs.Desks.{AreOf, Reads, setting_of}
 use Rattle.relay_core.specs.Expiring.{expirer_view}
-use Rattle.relay_core.specs.Starting.{IsAheadAs, IsRefusedRightly, StartsOver}
+use Rattle.relay_core.specs.Starting.{IsAheadAs, IsAheadOf, IsHistoryRefusal, IsRefusedRightly}
+use Rattle.relay_core.specs.Starting.{StartsOver}
 use Rattle.relay_core.specs.Starting.{unread_as}
 use Rattle.relay_core.specs.Starting as reasons
 use Rattle.relay_core.specs.Stopping.{IsHistory, IsShut, Tells, stop_of}
@@ -54,6 +55,7 @@ use Rattle.block_shelf.specs.Heads.{KeepsOpened}
 use Rattle.block_shelf.specs.Starting.{IsStartedBufferSet, WillKeepHeld}
 use Rattle.relay_core.specs.declared.ahead.Filled as code
 use Rattle.relay_core.specs.declared.desks.Desks.{Desks}
+use Rattle.block_shelf.specs.declared.starting.StopFault.{StopFault}
 use Rattle.block_shelf.specs.declared.starting.StopFault.TheVariants as faults
 use Rattle.block_shelf.specs.declared.starting.Unstarted.{Unstarted}
 use Rattle.block_shelf.specs.declared.opening.UnopenedBufferSet.{UnopenedBufferSet}
@@ -350,3 +352,39 @@ module _ {S : Type 0} {g : Ghosts S} (config : Config) (stores : List S) where
       ap (λ fs. is_ahead fs kept)
       (sym (tells w σ failures held.0 (keeps w σ.begun σ.kept failures held)))
       ∙ sym is
+
+  -- the same of the buffers themselves
+  pub ahead_of
+      : (kept : texts.Kept) (buffer_set : UnopenedBufferSet S g) (answer : Bool)
+      → IsAheadOf config.buffers buffer_set kept answer
+      → KeepsHeld config.buffers stores kept.stop buffer_set → IsAheadAs g config stores kept answer
+  ahead_of kept buffer_set answer of keeps =
+      ahead_as kept buffer_set of.0 answer of.1 keeps of.2
+
+  -- why nothing is made of a history refuses the start
+  pub history_refused : (text : List ℕ) (refused : Unstarted S) (kept : texts.Kept)
+      (buffer_set : UnopenedBufferSet S g) (fault : StopFault) → Reads config text kept
+      → ((one : texts.Kept) → Reads config text one → kept ≡ one)
+      → IsStartedBufferSet stores kept.stop buffer_set
+      → KeepsHeld config.buffers stores kept.stop buffer_set
+      → IsHistoryRefusal config.buffers buffer_set kept fault → refused.error ≡ fault
+      → refused.buffer ≡ None → AreEach (IsUnwritten g None) stores refused.stores.items
+      → IsRefusedRightly g config stores text refused
+  history_refused text refused kept buffer_set faults.Memory reads one_text from keeps is error
+      of_none unwritten = no_room text refused error of_none unwritten
+  history_refused text refused kept buffer_set faults.Ahead reads one_text from keeps is error
+      of_none unwritten =
+      ahead text refused kept reads one_text buffer_set from
+      (ahead_of kept buffer_set true is keeps) error of_none unwritten
+  history_refused text refused kept buffer_set faults.Device reads one_text from keeps is error
+      of_none unwritten = absurd is
+  history_refused text refused kept buffer_set faults.NoHead reads one_text from keeps is error
+      of_none unwritten = absurd is
+  history_refused text refused kept buffer_set faults.Unclosed reads one_text from keeps is error
+      of_none unwritten = absurd is
+  history_refused text refused kept buffer_set faults.Damaged reads one_text from keeps is error
+      of_none unwritten = absurd is
+  history_refused text refused kept buffer_set faults.BadHistory reads one_text from keeps is error
+      of_none unwritten = absurd is
+  history_refused text refused kept buffer_set faults.Mixed reads one_text from keeps is error
+      of_none unwritten = absurd is

@@ -1,14 +1,20 @@
 -- The relay before anything has come.
-use Rattle.std.specs.Prelude.{◌≡◌, ℕ, Bool, true, All, List, [], length}
+use Rattle.std.specs.Prelude.{◌≡◌, ℕ, Bool, true, All, List, [], length, map}
 use Rattle.block_shelf.specs.Filling.{failures_in}
 use Rattle.buffer_group.specs.declared.writer.Writer.TheVariants as writers
 use Rattle.cyc_block.specs.declared.store.BlockStore.{Ghosts}
+use Rattle.feed_queue.specs.Feeds.{KeepsFeeds, no_feed, ring_size}
+use Rattle.id_history.specs.Shards.{KeepsAll}
 use Rattle.relay_conf.specs.declared.settings.Config.{Config}
+use Rattle.relay_model.specs.Claims.{Unknown}
+use Rattle.relay_model.specs.World as world
 use Rattle.relay_model.specs.World.{empty_world}
 use Rattle.relay_core.specs.Agreement.{Agrees}
+use Rattle.relay_core.specs.Expiring.{expirer_view}
 use Rattle.relay_core.specs.Queues.{jobs_of}
 use Rattle.relay_core.specs.Refusals.{HasGroupWriters}
 use Rattle.relay_core.specs.Stopping.{stop_of}
+use Rattle.relay_core.specs.declared.desks.Desks.{Desks}
 use Rattle.relay_core.specs.declared.system.GroupWriter.{GroupWriter}
 use Rattle.relay_core.specs.declared.system.System.{System}
 
@@ -21,6 +27,13 @@ pub record IsIdle (group_writer : GroupWriter) : Type 0 where
 pub record AreIdle (count : ℕ) (group_writers : List GroupWriter) : Type 0 where
   pub count_is : length group_writers ≡ count
   pub each : All IsIdle group_writers
+
+-- what is kept in memory beside the buffers, before anything has come
+pub record AreNew (config : Config) (desks : Desks) : Type 0 where
+  pub claims : KeepsAll desks.shards (λ id. Unknown)
+  pub desk : KeepsFeeds desks.desk (map ring_size config.relay.feeds.items) (λ f. no_feed)
+  pub group_writers : AreIdle (length config.buffers.groups.items) desks.group_writers.items
+  pub expirer : expirer_view desks.expirer ≡ world.Reading []
 
 -- The relay of this configuration over these stores agrees with the empty world, in which each
 -- device has failed as often as it had.

@@ -17,5 +17,6 @@ pub mod Starting
 pub mod Steps
 pub mod Stopping
 pub mod Turns
+pub mod Unbuffered
 pub mod Views
 pub mod Writing

@@ -1,26 +1,30 @@
 -- A start of the relay: from what, and why not (docs/PROTOCOL.md, Clean stop and start).
-use Rattle.std.specs.Prelude.{◌≡◌, ℕ, Bool, true, false, List, Some, None}
+use Rattle.std.specs.Prelude.{◌≡◌, ℕ, Bool, true, false, List, Some, None, length, map}
 use Rattle.article_verdict.specs.Config.{terms_of}
 use Rattle.cyc_block.specs.declared.store.BlockStore.{Ghosts}
 use Rattle.id_history.specs.History as texts
 use Rattle.id_history.specs.declared.fault.HistoryError.{HistoryError}
 use Rattle.id_history.specs.declared.fault.HistoryError.TheVariants as errors
+use Rattle.relay_conf.specs.declared.settings.Buffers.{Buffers}
 use Rattle.relay_conf.specs.declared.settings.Config.{Config}
 use Rattle.relay_facts.specs.Started.{HasSameStore, started}
 use Rattle.relay_model.specs.State.{State}
 use Rattle.relay_model.specs.Terms.{Terms}
 use Rattle.relay_model.specs.World.{World}
 use Rattle.relay_core.specs.Agreement.{Agrees}
-use Rattle.relay_core.specs.Ahead.{filled_of, is_ahead}
-use Rattle.relay_core.specs.Desks.{Reads}
+use Rattle.relay_core.specs.Ahead.{TellsFilled, filled_of, filled_view, is_ahead}
+use Rattle.relay_core.specs.Desks.{AreOf, Reads}
 use Rattle.relay_core.specs.Refusals.{HasGroupWriters}
 use Rattle.relay_core.specs.Stopping.{IsShut, stop_of}
 use Rattle.block_shelf.specs.Each.{AreEach}
 use Rattle.block_shelf.specs.Starting.{IsFromOutside, IsHeldBy, IsStartedBufferSet, IsUnwritten}
+use Rattle.block_shelf.specs.Starting.{WillKeepHeld}
 use Rattle.block_shelf.specs.Heads.{IsOpened}
 use Rattle.block_shelf.specs.Heads as heads
 use Rattle.block_shelf.specs.Starting as shelves
 use Rattle.block_shelf.specs.declared.opening.UnopenedBufferSet.{UnopenedBufferSet}
+use Rattle.relay_core.specs.declared.ahead.Filled.{Filled}
+use Rattle.relay_core.specs.declared.starting.Readied.{Readied}
 use Rattle.relay_core.specs.declared.stopped.NotStarted.{NotStarted}
 use Rattle.relay_core.specs.declared.stopped.NotStarted.TheVariants as nots
 use Rattle.block_shelf.specs.declared.starting.StopFault.{StopFault}
@@ -35,6 +39,40 @@ IsAheadAs g config stores kept answer =
     (w : Terms) (σ : State) (failures : ℕ → ℕ)
     → IsHeldBy g config.buffers stores kept.stop w σ.begun σ.kept failures
     → is_ahead (filled_of w σ) kept ≡ answer
+
+-- whether a history is ahead of what these buffers hold is this
+abbrev pub IsAheadOf : {S : Type 0} {g : Ghosts S} → Buffers → UnopenedBufferSet S g → texts.Kept
+    → Bool → Type 0
+IsAheadOf settings unopened kept answer =
+    (filled : List Filled) × TellsFilled settings unopened filled
+    × (answer ≡ is_ahead (map filled_view filled) kept)
+
+-- why nothing is made of a history: memory was refused, or it is ahead of these buffers
+abbrev pub IsHistoryRefusal : {S : Type 0} {g : Ghosts S} → Buffers → UnopenedBufferSet S g
+    → texts.Kept → StopFault → Type 0
+IsHistoryRefusal settings unopened kept faults.Memory = Unit {0}
+IsHistoryRefusal settings unopened kept faults.Device = ⊥
+IsHistoryRefusal settings unopened kept faults.NoHead = ⊥
+IsHistoryRefusal settings unopened kept faults.Unclosed = ⊥
+IsHistoryRefusal settings unopened kept faults.Damaged = ⊥
+IsHistoryRefusal settings unopened kept faults.BadHistory = ⊥
+IsHistoryRefusal settings unopened kept faults.Mixed = ⊥
+IsHistoryRefusal settings unopened kept faults.Ahead = IsAheadOf settings unopened kept true
+
+-- A relay started from stores and text but for the heads of its buffers: the text is of a history
+-- that isn't ahead of them, and of no other; all else is made of it.
+pub record IsReadied {S : Type 0} {g : Ghosts S} (config : Config) (stores : List S)
+    (text : List ℕ) (readied : Readied S g)
+    : Type 0 where
+  pub history : texts.Kept
+  pub reads : Reads config text history
+  pub only : (kept : texts.Kept) → Reads config text kept → history ≡ kept
+  pub behind : IsAheadAs g config stores history false
+  pub from_stores : IsStartedBufferSet stores history.stop readied.unopened
+  pub keeps : WillKeepHeld config.buffers stores history.stop history.positions readied.unopened
+  pub desks : AreOf config history (length config.buffers.groups.items) readied.desks
+  pub stop_is : readied.stop ≡ history.stop
+  pub newest_is : readied.newest ≡ history.newest
 
 -- A relay started from stores and text. The text is of a history that isn't ahead of them, whose
 -- stop and newest session it has; the buffers were started at this stop, and their heads are open.

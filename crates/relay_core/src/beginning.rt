@@ -1,12 +1,13 @@
 //! How the relay begins.
 ghost use Rattle.std.specs.Prelude.{◌≡◌, IfErr, IfOk, length, map};
 ghost use Rattle.block_shelf.specs.Filling.{IsBeginRefusal};
-ghost use Rattle.relay_core.specs.Beginning.{AreIdle, BeginsOver};
+ghost use Rattle.relay_core.specs.Beginning.{AreIdle, AreNew, BeginsOver};
 
+use crate::desks::Desks;
 use crate::expiring::Expirer;
-use crate::peers::Peers;
 use crate::queue::Queue;
 use crate::system::{GroupWriter, System};
+use crate::unbuffered::Unbuffered;
 use block_shelf::{BeginError, BufferSet, unbegun};
 use buffer_group::Writer;
 use cyc_block::BlockStore;
@@ -15,6 +16,7 @@ use id_history::Shards;
 use relay_conf::Config;
 use std::alloc::{AllocError, Global};
 use std::hash::RandomState;
+use std::io;
 use std::random::RandomSource;
 
 impl<S: BlockStore> System<S> {
@@ -34,29 +36,40 @@ impl<S: BlockStore> System<S> {
         ensures begins { IfOk result (BeginsOver config stores.items) }
         ensures refusal { IfErr result (IsBeginRefusal ⟦<S as BlockStore>⟧ stores.items) }
     {
-        let hasher = RandomState::new(rt)?;
-        let shards = Shards::new(rt, alloc)?;
-        let desk = FeedDesk::new(alloc, &config.relay.feeds)?;
-        let expirer = Expirer::new(alloc)?;
-        let group_writers = new_group_writers(alloc, config.buffers.groups.len())?;
-        let buffer_set = match BufferSet::new(alloc, &config.buffers, stores) {
-            Ok(buffer_set) => buffer_set,
-            Err(error) => return Err(unbegun(error)),
+        let unbuffered = match Unbuffered::new(rt, alloc, config) {
+            Ok(unbuffered) => unbuffered,
+            Err(error) => return Err(BeginError::Host(error)),
         };
-        Ok(System {
-            alloc,
-            config,
-            hasher,
-            newest: None,
-            peers: Peers::new(alloc, hasher),
-            shards,
-            desk,
-            buffer_set,
-            group_writers,
-            expirer,
-            stop: 0,
-        })
+        match BufferSet::new(alloc, &unbuffered.config.buffers, stores) {
+            Ok(buffer_set) => Ok(unbuffered.with(buffer_set)),
+            Err(error) => {
+                drop(unbuffered);
+                Err(unbegun(error))
+            }
+        }
     }
+}
+
+/// The seed of the relay's tables, and what is kept beside its buffers before anything has come.
+pub(crate) fn new_desks(
+    rt: &impl RandomSource,
+    alloc: Global,
+    config: &Config,
+) -> io::Result<(RandomState, Desks)>
+    ensures { IfOk result (λ made. AreNew config.now made.1) }
+{
+    let hasher = RandomState::new(rt)?;
+    let shards = Shards::new(rt, alloc)?;
+    let desk = FeedDesk::new(alloc, &config.relay.feeds)?;
+    let expirer = Expirer::new(alloc)?;
+    let group_writers = new_group_writers(alloc, config.buffers.groups.len())?;
+    let desks = Desks {
+        shards,
+        desk,
+        group_writers,
+        expirer,
+    };
+    Ok((hasher, desks))
 }
 
 /// So many group writers, without jobs.

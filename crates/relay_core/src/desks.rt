@@ -43,6 +43,7 @@ impl Desks {
     {
         let History { feeds, ids, .. } = history;
         let desk = FeedDesk::resume(alloc, &config.relay.feeds, &feeds)?;
+        drop(feeds);
         let shards = Shards::resume(alloc, hasher, ids)?;
         let group_writers = new_group_writers(alloc, count)?;
         let expirer = Expirer::new(alloc)?;

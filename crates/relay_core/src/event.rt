@@ -3,7 +3,7 @@ use line_words::Octets;
 
 /// What happens to the relay (docs/PROTOCOL.md, Events and outputs). Sessions, peers and groups are
 /// named by number; moments are seconds since the first of 1970, UTC.
-#[derive(Debug, Drop)]
+#[derive(Drop)]
 pub enum Event {
     /// A session of a peer opens. Its number is above that of every earlier one.
     Open { session: u64, peer: usize },

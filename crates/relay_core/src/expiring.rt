@@ -15,7 +15,7 @@ const BUFFER_LIMIT: usize = 256;
 const MORE_FORGET: u8 = 15;
 
 /// What an Expire does next.
-#[derive(Clone, Copy, Debug, PartialEq, Eq)]
+#[derive(Clone, Copy)]
 pub(crate) enum Stage {
     /// It reads the next front, or with all of them it forgets.
     Reading,
@@ -25,7 +25,7 @@ pub(crate) enum Stage {
 
 /// How far forgetting has come: the fronts that were read, in the order of the buffers, and what an
 /// Expire does next. The fronts of all buffers have room from the start.
-#[derive(Debug, Drop)]
+#[derive(Drop)]
 pub(crate) struct Expirer {
     pub(crate) fronts: Vec<Front>,
     pub(crate) stage: Stage,

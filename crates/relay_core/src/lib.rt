@@ -26,6 +26,7 @@ mod stopped;
 mod stopping;
 mod system;
 mod turns;
+mod unbuffered;
 mod watching;
 mod writing;
 

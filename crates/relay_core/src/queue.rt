@@ -11,7 +11,7 @@ const QUEUE_LIMIT: usize = 64;
 
 /// The jobs that wait for the writer of a group, at most 64, from the oldest on. Their room is
 /// taken when the queue is made.
-#[derive(Debug, Drop)]
+#[derive(Drop)]
 pub(crate) struct Queue {
     jobs: VecDeque<Job>,
     ghost room: { 64 ≤ deque_capacity jobs },

@@ -42,7 +42,10 @@ impl<S: BlockStore> System<S> {
                 self.begin_again(desks, stop);
                 Output::Quiet
             }
-            Err(fault) => Output::Refused(refused_as(fault)),
+            Err(fault) => {
+                drop(desks);
+                Output::Refused(refused_as(fault))
+            }
         }
     }
 

@@ -12,35 +12,35 @@ impl<S: BlockStore> System<S> {
     ghost use Rattle.relay_core.specs.Sharing.{KeepsFrame, LeavesAll, SharesStep, WantsMemory};
 
     /// Does the step that a session planned. The session's peer is taken out.
-    pub(crate) fn share(&mut self, peer: &mut Peer, number: u64, step: Step, now: u64) -> Answer
-        ensures shared { SharesStep number now step self.old peer.old result self.new peer.new }
+    pub(crate) fn share(&mut self, peer: &mut Peer, number: u64, step: &Step, now: u64) -> Answer
+        ensures shared { SharesStep number now step.now self.old peer.old result self.new peer.new }
         ensures memory { result ≡ answers.Memory
             → LeavesAll number self.old peer.old self.new peer.new }
-        ensures wants { result ≡ answers.Memory → WantsMemory step }
+        ensures wants { result ≡ answers.Memory → WantsMemory step.now }
         ensures frame { KeepsFrame self.old self.new }
         ensures peers { self.new.peers ≡ self.old.peers }
     {
         match step {
             Step::Nothing => Answer::Nothing,
-            Step::Offer(id) => match self.shards.offer(&id, number) {
+            Step::Offer(id) => match self.shards.offer(id, number) {
                 Ok(answer) => Answer::Offer(answer),
                 Err(_) => Answer::Memory,
             },
-            Step::Look(id) => Answer::Look(self.shards.look(&id)),
-            Step::Read(token, k) => Answer::Chunk(read_chunk(&mut self.buffer_set, &token, k)),
-            Step::TakeQueue(feed, most) => self.take_queue(feed, most),
-            Step::Refuse(id) => match self.shards.refuse(&id, number, now) {
+            Step::Look(id) => Answer::Look(self.shards.look(id)),
+            Step::Read(token, k) => Answer::Chunk(read_chunk(&mut self.buffer_set, token, *k)),
+            Step::TakeQueue(feed, most) => self.take_queue(*feed, *most),
+            Step::Refuse(id) => match self.shards.refuse(id, number, now) {
                 Ok(()) => Answer::Nothing,
                 Err(_) => Answer::Memory,
             },
-            Step::Take(id) => match self.shards.take(&id, number) {
+            Step::Take(id) => match self.shards.take(id, number) {
                 Ok(answer) => Answer::Take(answer),
                 Err(_) => Answer::Memory,
             },
-            Step::Push(group) => self.push(peer, usize::from(group)),
+            Step::Push(group) => self.push(peer, usize::from(*group)),
             Step::Slot => Answer::Slot(peer.slot.take()),
             Step::Release(id) => {
-                self.shards.release(&id, number);
+                self.shards.release(id, number);
                 Answer::Nothing
             }
         }

@@ -1,15 +1,22 @@
 //! How the relay is started from what a stop left (docs/PROTOCOL.md, Clean stop and start).
-ghost use Rattle.std.specs.Prelude.{◌≡◌, None};
-ghost use Rattle.relay_core.specs.Starting.{unread_as};
+ghost use Rattle.std.specs.Prelude.{◌≡◌, None, IfErr, IfOk, false, length, map};
+ghost use Rattle.std.specs.List.{AllZip};
+ghost use Rattle.feed_queue.specs.Feeds.{ring_size};
+ghost use Rattle.id_history.specs.History.{RingHolds};
+ghost use Rattle.id_history.specs.Views.{feed_view, history_view};
+ghost use Rattle.relay_core.specs.Desks.{AreOf};
+ghost use Rattle.relay_core.specs.Starting.{IsAheadOf, IsHistoryRefusal, IsReadied};
+ghost use Rattle.relay_core.specs.Starting.{IsRefusedRightly, unread_as};
 
 use crate::ahead::{all_filled, is_ahead};
 use crate::desks::{Desks, read_history};
 use crate::peers::Peers;
 use crate::stopped::NotStarted;
 use crate::system::System;
-use block_shelf::{StopFault, Unstarted, start};
+use crate::unbuffered::Unbuffered;
+use block_shelf::{StopFault, UnopenedBufferSet, Unstarted, start};
 use cyc_block::BlockStore;
-use id_history::HistoryError;
+use id_history::{History, HistoryError};
 use relay_conf::Config;
 use std::alloc::Global;
 use std::hash::RandomState;
@@ -37,7 +44,10 @@ impl<S: BlockStore + Drop> System<S> {
     {
         let hasher = match RandomState::new(rt) {
             Ok(hasher) => hasher,
-            Err(why) => return Err(NotStarted::Host(why, stores)),
+            Err(why) => {
+                drop(config);
+                return Err(NotStarted::Host(why, stores));
+            }
         };
         match System::start_with(alloc, hasher, config, stores, text) {
             Ok(system) => Ok(system),
@@ -59,59 +69,125 @@ impl<S: BlockStore + Drop> System<S> {
         ensures refused { IfErr result
             (IsRefusedRightly S.BlockStore config stores.items text.now) }
     {
-        // A text that can't be read refuses before a store is called.
-        let history = match read_history(alloc, &config, text) {
-            Ok(history) => history,
-            Err(error) => return Err(refused(stores, unread(error))),
+        let readied = match ready(alloc, hasher, &config, stores, text) {
+            Ok(readied) => readied,
+            Err(unstarted) => {
+                drop(config);
+                return Err(unstarted);
+            }
         };
-        let unopened = match start(
-            alloc,
-            &config.buffers,
-            stores,
-            history.stop,
-            &history.positions,
-        ) {
-            Ok(unopened) => unopened,
-            Err(unstarted) => return Err(unstarted),
-        };
-        let filled = match all_filled(alloc, &config.buffers, &unopened) {
-            Ok(filled) => filled,
-            Err(_) => return Err(refused(unopened.into_stores(), StopFault::Memory)),
-        };
-        if is_ahead(&filled, &history) {
-            return Err(refused(unopened.into_stores(), StopFault::Ahead));
-        }
-        let stop = history.stop;
-        let newest = history.newest;
-        let count = config.buffers.groups.len();
-        let desks = match Desks::resume(alloc, hasher, &config, history, count) {
-            Ok(desks) => desks,
-            Err(_) => return Err(refused(unopened.into_stores(), StopFault::Memory)),
-        };
-        // No head is opened before all memory is taken: what is refused until here is unwritten.
-        let buffer_set = match unopened.open() {
-            Ok(buffer_set) => buffer_set,
-            Err(unstarted) => return Err(unstarted),
-        };
-        let Desks {
-            shards,
-            desk,
-            group_writers,
-            expirer,
-        } = desks;
-        Ok(System {
+        let Readied {
+            unopened,
+            desks,
+            newest,
+            stop,
+        } = readied;
+        let unbuffered = Unbuffered {
             alloc,
             config,
             hasher,
             newest: Some(newest),
             peers: Peers::new(alloc, hasher),
-            shards,
-            desk,
-            buffer_set,
-            group_writers,
-            expirer,
+            desks,
             stop,
-        })
+        };
+        // No head is opened before all memory is taken: what is refused until here is unwritten.
+        match unopened.open() {
+            Ok(buffer_set) => Ok(unbuffered.with(buffer_set)),
+            Err(unstarted) => {
+                drop(unbuffered);
+                Err(unstarted)
+            }
+        }
+    }
+}
+
+/// A relay that is started but for the heads of its buffers, which aren't open.
+#[derive(Drop)]
+struct Readied<S: BlockStore> {
+    unopened: UnopenedBufferSet<S>,
+    desks: Desks,
+    newest: u64,
+    stop: u64,
+}
+
+/// All of a start that comes before the first head is opened.
+fn ready<S: BlockStore + Drop>(
+    alloc: Global,
+    hasher: RandomState,
+    config: &Config,
+    stores: Vec<S>,
+    text: &[u8],
+) -> Result<Readied<S>, Unstarted<S>>
+    requires { map (λ store. length (S.blocks store)) stores.items
+        ≡ map (λ buffer. buffer.blocks) config.now.buffers.buffers.items }
+    ensures readied { IfOk result (IsReadied config.now stores.items text.now) }
+    ensures refused { IfErr result
+        (IsRefusedRightly ⟦<S as BlockStore>⟧ config.now stores.items text.now) }
+{
+    // A text that can't be read refuses before a store is called.
+    let history = match read_history(alloc, config, text) {
+        Ok(history) => history,
+        Err(error) => return Err(refused(stores, unread(error))),
+    };
+    let unopened = match start(
+        alloc,
+        &config.buffers,
+        stores,
+        history.stop,
+        &history.positions,
+    ) {
+        Ok(unopened) => unopened,
+        Err(unstarted) => {
+            drop(history);
+            return Err(unstarted);
+        }
+    };
+    let stop = history.stop;
+    let newest = history.newest;
+    match desks_behind(alloc, hasher, config, &unopened, history) {
+        Ok(desks) => Ok(Readied {
+            unopened,
+            desks,
+            newest,
+            stop,
+        }),
+        Err(fault) => Err(refused(unopened.into_stores(), fault)),
+    }
+}
+
+/// What is made of a history that isn't ahead of the buffers.
+fn desks_behind<S: BlockStore + Drop>(
+    alloc: Global,
+    hasher: RandomState,
+    config: &Config,
+    unopened: &UnopenedBufferSet<S>,
+    history: History,
+) -> Result<Desks, StopFault>
+    requires { AllZip RingHolds (map feed_view history.feeds.items)
+        (map ring_size config.now.relay.feeds.items) }
+    ensures desks { IfOk result (AreOf config.now (history_view history)
+        (length config.now.buffers.groups.items)) }
+    ensures behind { IfOk result (λ _.
+        IsAheadOf config.now.buffers unopened.now (history_view history) false) }
+    ensures refused { IfErr result
+        (IsHistoryRefusal config.now.buffers unopened.now (history_view history)) }
+{
+    let filled = match all_filled(alloc, &config.buffers, unopened) {
+        Ok(filled) => filled,
+        Err(_) => {
+            drop(history);
+            return Err(StopFault::Memory);
+        }
+    };
+    if is_ahead(&filled, &history) {
+        drop(history);
+        return Err(StopFault::Ahead);
+    }
+    let count = config.buffers.groups.len();
+    match Desks::resume(alloc, hasher, config, history, count) {
+        Ok(desks) => Ok(desks),
+        Err(_) => Err(StopFault::Memory),
     }
 }
 

@@ -48,48 +48,19 @@ impl<S: BlockStore> System<S> {
         ensures history { IfOk result (λ shut. shut.history.items ≡ history.items) }
         ensures back { IfErr result (IsFromBufferSet self) }
     {
-        let System {
-            alloc,
-            config,
-            hasher,
-            newest,
-            peers,
-            shards,
-            desk,
-            buffer_set,
-            group_writers,
-            expirer,
-            stop: last,
-        } = self;
+        let alloc = self.alloc;
+        let (buffer_set, unbuffered) = self.take_apart();
         match buffer_set.shut(alloc, stop) {
-            Ok(stores) => Ok(Stopped { stores, history }),
-            Err(Unshut::Device(number, stores)) => Err(Unstopped::Device(number, stores)),
-            Err(Unshut::Busy(buffer_set)) => Err(Unstopped::NotIdle(System {
-                alloc,
-                config,
-                hasher,
-                newest,
-                peers,
-                shards,
-                desk,
-                buffer_set,
-                group_writers,
-                expirer,
-                stop: last,
-            })),
-            Err(Unshut::Memory(buffer_set)) => Err(Unstopped::Memory(System {
-                alloc,
-                config,
-                hasher,
-                newest,
-                peers,
-                shards,
-                desk,
-                buffer_set,
-                group_writers,
-                expirer,
-                stop: last,
-            })),
+            Ok(stores) => {
+                drop(unbuffered);
+                Ok(Stopped { stores, history })
+            }
+            Err(Unshut::Device(number, stores)) => {
+                drop(unbuffered);
+                Err(Unstopped::Device(number, stores))
+            }
+            Err(Unshut::Busy(buffer_set)) => Err(Unstopped::NotIdle(unbuffered.with(buffer_set))),
+            Err(Unshut::Memory(buffer_set)) => Err(Unstopped::Memory(unbuffered.with(buffer_set))),
         }
     }
 
@@ -118,8 +89,9 @@ impl<S: BlockStore> System<S> {
             feeds,
             ids,
         };
-        let text = write(self.alloc, &history)?;
-        Ok(text)
+        let text = write(self.alloc, &history);
+        drop(history);
+        Ok(text?)
     }
 
     /// What is left of all feeds.

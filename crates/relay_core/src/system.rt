@@ -15,7 +15,6 @@ use std::hash::RandomState;
 pub(crate) const LAST_MOMENT: u64 = 253_370_764_799;
 
 /// A group's jobs that wait, and how far its writer is.
-#[derive(Debug)]
 pub(crate) struct GroupWriter {
     pub(crate) queue: Queue,
     pub(crate) writer: Writer<Begun>,
@@ -34,14 +33,19 @@ impl Drop for GroupWriter {
 /// Lets a writer go, with the handle of its open write if it has one.
 pub(crate) fn let_go(writer: Writer<Begun>) {
     match writer {
-        Writer::Writing(_job, begun, _written) => begun.let_go(),
-        Writer::Failed(_job, open_one) => match open_one {
-            Some(begun) => begun.let_go(),
-            None => {}
-        },
+        Writer::Writing(job, begun, _written) => {
+            drop(job);
+            begun.let_go();
+        }
+        Writer::Failed(job, open_one) => {
+            drop(job);
+            if let Some(begun) = open_one {
+                begun.let_go();
+            }
+        }
         Writer::Idle => {}
-        Writer::Popped(_job) => {}
-        Writer::Finished(_job, _token) => {}
+        Writer::Popped(job) => drop(job),
+        Writer::Finished(job, _token) => drop(job),
         Writer::Settled(_session) => {}
         Writer::Forgotten(_session) => {}
     }

@@ -58,7 +58,8 @@ impl<S: BlockStore> System<S> {
     {
         match peer.session.plan(&self.config, now) {
             Ok(step) => {
-                let answer = self.share(peer, number, step, now);
+                let answer = self.share(peer, number, &step, now);
+                drop(step);
                 hear(&mut peer.session, number, answer)
             }
             Err(_) => Output::Refused(CoreError::Memory),

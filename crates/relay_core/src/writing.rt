@@ -109,12 +109,17 @@ impl<S: BlockStore> System<S> {
             → Advances group now (writers.Finished job token) self.old result self.new }
         ensures frame { KeepsFrame self.old self.new }
     {
-        match self.shards.settle(&job.id, job.session, token, now) {
+        let session = job.session;
+        match self.shards.settle(&job.id, session, token, now) {
             Some(settled) => {
                 self.desk.post(&job.article.permitted, settled);
-                Writer::Settled(job.session)
+                drop(job);
+                Writer::Settled(session)
             }
-            None => Writer::Settled(job.session),
+            None => {
+                drop(job);
+                Writer::Settled(session)
+            }
         }
     }
 
@@ -134,8 +139,10 @@ impl<S: BlockStore> System<S> {
             → Advances group now (writers.Failed job None) self.old result self.new }
         ensures frame { KeepsFrame self.old self.new }
     {
-        self.shards.forget(&job.id, job.session);
-        Writer::Forgotten(job.session)
+        let session = job.session;
+        self.shards.forget(&job.id, session);
+        drop(job);
+        Writer::Forgotten(session)
     }
 
     /// It puts the outcome in the session's slot.

@@ -6,7 +6,7 @@ use Rattle.relay_core.proofs.system.System.text.Goals as goal
 -- the text is that of its parts
 pub returns : goal.returns
 returns g c =
-    tells_of c.args.self.now c.args.stop c.in_ok-text.text.items
+    tells_of c.args.self.now c.args.stop c.in_ok-text.field-0.items
     (history_view (record {
       stop = c.args.stop;
       newest = c.unwrap_or.result;
