@@ -2,14 +2,14 @@
 ghost use Rattle.std.specs.Prelude.{◌<◌};
 
 /// How many octets a piece has.
-#[derive(Clone, Copy, Debug)]
+#[derive(Clone, Copy)]
 pub struct PieceSize {
     pub octets: usize,
     ghost some: { 0 < octets },
 }
 
 /// What a line of a script asks.
-#[derive(Debug, Drop)]
+#[derive(Drop)]
 pub enum Line {
     /// `open`: this session opens, of the peer of this number.
     Open(u64, usize),

@@ -129,9 +129,14 @@ fn open<W: Write>(
         (next (stand_view stand.new))
         relay.old relay.new (W.contents writer.old) (W.contents writer.new) }
 {
-    let output = relay.step(&Event::Open { session, peer });
-    print(writer, &output)?;
-    if is_refused(&output) {
+    let event = Event::Open { session, peer };
+    let output = relay.step(&event);
+    drop(event);
+    let printed = print(writer, &output);
+    let refused = is_refused(&output);
+    drop(output);
+    printed?;
+    if refused {
         return Ok(());
     }
     stand.sessions.push(session)?;
@@ -163,7 +168,7 @@ fn bring<W: Write>(
     while !rest.is_empty() {
         let (piece, after) = rest.split_at(size.min(rest.len()));
         let piece = Octets::copied(alloc, piece)?;
-        perform(relay, &Event::Bytes { session, piece }, writer)?;
+        perform(relay, Event::Bytes { session, piece }, writer)?;
         rest = after;
     }
     Ok(())
@@ -249,7 +254,7 @@ fn turn<W: Write>(
     ensures { (more : Todo) → Performs result (todo.Next (run.Turn session now) more) more
         relay.old relay.new (W.contents writer.old) (W.contents writer.new) }
 {
-    perform(relay, &Event::Turn { session, now }, writer)
+    perform(relay, Event::Turn { session, now }, writer)
 }
 
 /// The writer of a group has its Write.
@@ -262,7 +267,7 @@ fn write<W: Write>(
     ensures { (more : Todo) → Performs result (todo.Next (run.Write group now) more) more
         relay.old relay.new (W.contents writer.old) (W.contents writer.new) }
 {
-    perform(relay, &Event::Write { group, now }, writer)
+    perform(relay, Event::Write { group, now }, writer)
 }
 
 /// A session's connection is gone.
@@ -270,7 +275,7 @@ fn break_off<W: Write>(relay: &mut Relay, session: u64, writer: &mut W) -> Resul
     ensures { (more : Todo) → Performs result (todo.Next (run.Break session) more) more
         relay.old relay.new (W.contents writer.old) (W.contents writer.new) }
 {
-    perform(relay, &Event::Break { session }, writer)
+    perform(relay, Event::Break { session }, writer)
 }
 
 /// The next bit of forgetting.
@@ -283,7 +288,7 @@ fn expire<W: Write>(
     ensures { (more : Todo) → Performs result (todo.Next (run.Expire shard now) more) more
         relay.old relay.new (W.contents writer.old) (W.contents writer.new) }
 {
-    perform(relay, &Event::Expire { shard, now }, writer)
+    perform(relay, Event::Expire { shard, now }, writer)
 }
 
 /// The relay is closed and started again, and it is printed whether it was.
@@ -291,17 +296,24 @@ fn restart<W: Write>(relay: &mut Relay, writer: &mut W) -> Result<(), DrillError
     ensures { (more : Todo) → Performs result (todo.Restarting more) more
         relay.old relay.new (W.contents writer.old) (W.contents writer.new) }
 {
-    let output = relay.step(&Event::Restart);
-    print_restart(writer, &output)?;
+    let event = Event::Restart;
+    let output = relay.step(&event);
+    drop(event);
+    let printed = print_restart(writer, &output);
+    drop(output);
+    printed?;
     Ok(())
 }
 
 /// Does one event, and prints what it is answered.
-fn perform<W: Write>(relay: &mut Relay, event: &Event, writer: &mut W) -> Result<(), DrillError>
-    ensures { (more : Todo) → Performs result (todo.Next (event_view event.now) more) more
+fn perform<W: Write>(relay: &mut Relay, event: Event, writer: &mut W) -> Result<(), DrillError>
+    ensures { (more : Todo) → Performs result (todo.Next (event_view event) more) more
         relay.old relay.new (W.contents writer.old) (W.contents writer.new) }
 {
-    let output = relay.step(event);
-    print(writer, &output)?;
+    let output = relay.step(&event);
+    drop(event);
+    let printed = print(writer, &output);
+    drop(output);
+    printed?;
     Ok(())
 }

@@ -1,5 +1,5 @@
 //! Reading a drill script (docs/FORMATS.md, Drill scripts): all of it, before anything runs.
-ghost use Rattle.std.specs.Prelude.{◌≡◌, ◌++◌, map, option_map, vec_items, IfOk};
+ghost use Rattle.std.specs.Prelude.{◌≡◌, ◌++◌, bytes_eq, map, option_map, vec_items, IfOk};
 ghost use Rattle.std.specs.List.{join_with_byte};
 ghost use Rattle.std.specs.Option.{option_and_then};
 ghost use Rattle.news_terms.specs.Lines.{crlf};
@@ -82,33 +82,40 @@ fn read_line(alloc: Global, config: &Config, line: &[u8]) -> Result<Option<Line>
 fn keyword_of(word: &[u8]) -> Option<Keyword>
     ensures { option_map keyword_view result ≡ terms.keyword_of word.now }
 {
-    if word == b"open".as_slice() {
+    if is(word, b"open") {
         Some(Keyword::Open)
-    } else if word == b"send".as_slice() {
+    } else if is(word, b"send") {
         Some(Keyword::Send)
-    } else if word == b"raw".as_slice() {
+    } else if is(word, b"raw") {
         Some(Keyword::Raw)
-    } else if word == b"split".as_slice() {
+    } else if is(word, b"split") {
         Some(Keyword::Split)
-    } else if word == b"turn".as_slice() {
+    } else if is(word, b"turn") {
         Some(Keyword::Turn)
-    } else if word == b"write".as_slice() {
+    } else if is(word, b"write") {
         Some(Keyword::Write)
-    } else if word == b"rounds".as_slice() {
+    } else if is(word, b"rounds") {
         Some(Keyword::Rounds)
-    } else if word == b"break".as_slice() {
+    } else if is(word, b"break") {
         Some(Keyword::Break)
-    } else if word == b"expire".as_slice() {
+    } else if is(word, b"expire") {
         Some(Keyword::Expire)
-    } else if word == b"fail".as_slice() {
+    } else if is(word, b"fail") {
         Some(Keyword::Fail)
-    } else if word == b"restart".as_slice() {
+    } else if is(word, b"restart") {
         Some(Keyword::Restart)
-    } else if word == b"report".as_slice() {
+    } else if is(word, b"report") {
         Some(Keyword::Report)
     } else {
         None
     }
+}
+
+/// Whether the word is this one.
+fn is(word: &[u8], name: &[u8]) -> bool
+    ensures { result ≡ bytes_eq word.now name.now }
+{
+    word == name
 }
 
 /// `open S PEER`, by what follows the keyword.

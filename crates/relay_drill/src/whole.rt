@@ -52,12 +52,31 @@ pub fn drill_failing<R: Read, W: Write>(
     ensures { DrillGives config result (R.remaining reader.old)
         (W.contents writer.old) (W.contents writer.new) }
 {
-    let script = read_all(alloc, reader)?;
-    let lines = read_script(alloc, &config, &script)?;
-    let stores = new_stores(alloc, &config.buffers.buffers, failing)?;
+    let script = match read_all(alloc, reader) {
+        Ok(script) => script,
+        Err(error) => {
+            drop(config);
+            return Err(error);
+        }
+    };
+    let lines = match read_script(alloc, &config, &script) {
+        Ok(lines) => lines,
+        Err(error) => {
+            drop(config);
+            return Err(error);
+        }
+    };
+    let Ok(stores) = new_stores(alloc, &config.buffers.buffers, failing) else {
+        drop(config);
+        return Err(DrillError::Memory);
+    };
     let groups = config.buffers.groups.len();
     match System::new(rt, alloc, config, stores) {
-        Ok(mut relay) => play(alloc, &mut relay, groups, &lines, writer),
+        Ok(mut relay) => {
+            let played = play(alloc, &mut relay, groups, &lines, writer);
+            drop(relay);
+            played
+        }
         Err(error) => Err(refused(error)),
     }
 }
@@ -110,7 +129,7 @@ pub fn read_all<R: Read>(alloc: Global, reader: &mut R) -> Result<Vec<u8>, Drill
 }
 
 /// Why a reader wasn't read to its end.
-#[derive(Debug, Drop)]
+#[derive(Drop)]
 enum Unread {
     /// Memory was refused.
     Memory,

@@ -5,18 +5,18 @@ use Rattle.relay_drill.proofs.play.perform.Goals as goal
 
 pub returns : goal.returns
 returns g c = λ more.
-    goes_told _ _ _ _ _ _ _ (tells_event (event_view c.args.event.now) _ more c.args.relay.now
+    goes_told _ _ _ _ _ _ _ (tells_event (event_view c.args.event) _ more c.args.relay.now
     c.step-output.result _ c.step-output.new.self
-    (does_next (event_view c.args.event.now) more (output_view c.step-output.result))
+    (does_next (event_view c.args.event) more (output_view c.step-output.result))
     c.step-output.ensures.steps c.step-output.ensures.frame)
-    c.in_ok-print.ensures
+    c.in_ok-printed.ensures
 
-pub returns-in_err-print : goal.returns-in_err-print
-returns-in_err-print g c = λ more.
+pub returns-in_err-printed : goal.returns-in_err-printed
+returns-in_err-printed g c = λ more.
     fails_unwritten c.from_residual.result _ more _ _ _ _
     c.from_residual.ensures.0 c.from_residual.ensures.1
-    (breaks_told _ _ _ _ _ _ _ (tells_event (event_view c.args.event.now) _ more c.args.relay.now
+    (breaks_told _ _ _ _ _ _ _ (tells_event (event_view c.args.event) _ more c.args.relay.now
     c.step-output.result _ c.step-output.new.self
-    (does_next (event_view c.args.event.now) more (output_view c.step-output.result))
+    (does_next (event_view c.args.event) more (output_view c.step-output.result))
     c.step-output.ensures.steps c.step-output.ensures.frame)
-    c.in_err-print.ensures)
+    c.in_err-printed.ensures)

@@ -10,14 +10,14 @@ returns g c = λ more.
     c.step-output.result _ c.step-output.new.self
     (does_restart more (output_view c.step-output.result))
     c.step-output.ensures.steps c.step-output.ensures.frame)
-    c.in_ok-print_restart.ensures
+    c.in_ok-printed.ensures
 
-pub returns-in_err-print_restart : goal.returns-in_err-print_restart
-returns-in_err-print_restart g c = λ more.
+pub returns-in_err-printed : goal.returns-in_err-printed
+returns-in_err-printed g c = λ more.
     fails_unwritten c.from_residual.result _ more _ _ _ _
     c.from_residual.ensures.0 c.from_residual.ensures.1
     (breaks_told _ _ _ _ _ _ _ (tells_event Restart _ more c.args.relay.now
     c.step-output.result _ c.step-output.new.self
     (does_restart more (output_view c.step-output.result))
     c.step-output.ensures.steps c.step-output.ensures.frame)
-    c.in_err-print_restart.ensures)
+    c.in_err-printed.ensures)
