@@ -1,3 +1,4 @@
 pub mod AfterRestart
+mod Lines
 pub mod Printed
 pub mod Writes

@@ -3,7 +3,7 @@ use Rattle.relay_report.specs.Figures.{buffer_view}
 use Rattle.relay_report.specs.Text.{buffer_line}
 use Rattle.relay_report.proofs.text.put_buffers.Given as goal
 
--- the lines so far are there
+-- the lines of those so far are put
 abbrev pub invariant-loop-buffer : goal.invariant-loop-buffer
 invariant-loop-buffer l =
     l.text.items

@@ -3,7 +3,7 @@ use Rattle.relay_report.specs.Figures.{feed_view}
 use Rattle.relay_report.specs.Text.{feed_line}
 use Rattle.relay_report.proofs.text.put_feeds.Given as goal
 
--- the lines so far are there
+-- the lines of those so far are put
 abbrev pub invariant-loop-feed : goal.invariant-loop-feed
 invariant-loop-feed l =
     l.text.items
