@@ -27,7 +27,7 @@ pub enum Unstopped<S: BlockStore> {
 }
 
 /// Why a relay isn't started.
-#[derive(Debug, Drop)]
+#[derive(Drop)]
 pub enum NotStarted<S> {
     /// The host had no seed for its tables; all stores, in their order.
     Host(io::Error, Vec<S>),
