@@ -1,5 +1,6 @@
 //! A session is served over a connection.
-ghost use Rattle.std.specs.Prelude.{◌≡◌, ◌≤◌, ◌^◌, Bool, true, false, [], IfOk, None, Some, is_some};
+ghost use Rattle.std.specs.Prelude.{◌≡◌, ◌≤◌, ◌^◌, Bool, true, false, [], IfOk, None, Some};
+ghost use Rattle.std.specs.Prelude.{is_some};
 ghost use Rattle.article_verdict.specs.Config.{terms_of};
 ghost use Rattle.live_jobs.specs.Seats.{IsSeatOf, count_of, end_of};
 ghost use Rattle.live_session.specs.Carried.{Begins, CarriesSame, IsFormed, IsServed, IsServedBy};

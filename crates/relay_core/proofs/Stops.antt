@@ -25,7 +25,6 @@ use Rattle.id_history.specs.Shards.{KeepsAll}
 use Rattle.news_terms.proofs.ListPlaces.{at_pushed}
 use Rattle.relay_conf.specs.declared.settings.Config.{Config}
 use Rattle.relay_facts.specs.Started.{newest_kept}
-use Rattle.relay_model.specs.Claims as claims
 use Rattle.relay_model.specs.Claims.{Claim, is_storing}
 use Rattle.relay_model.specs.Invariants.{IsAt, IsWell}
 use Rattle.relay_model.specs.State as model

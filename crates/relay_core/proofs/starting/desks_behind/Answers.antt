@@ -12,7 +12,8 @@ returns-then-is_ahead-clause-refused g c =
       c.in-Ok.filled.items,
       c.in-Ok.ensures,
       sym c.if-is_ahead.true ∙ c.is_ahead.ensures
-          ∙ ap (λ (fs : List code.Filled). is_ahead (map filled_view fs) kept) c.deref.ensures.value,
+          ∙ ap (λ (fs : List code.Filled). is_ahead (map filled_view fs) kept)
+          c.deref.ensures.value,
     )
 
 -- it isn't
@@ -22,7 +23,8 @@ returns-in-Ok-resume-clause-behind g c =
       c.in-Ok.filled.items,
       c.in-Ok.ensures,
       sym c.if-is_ahead.false ∙ c.is_ahead.ensures
-          ∙ ap (λ (fs : List code.Filled). is_ahead (map filled_view fs) kept) c.deref.ensures.value,
+          ∙ ap (λ (fs : List code.Filled). is_ahead (map filled_view fs) kept)
+          c.deref.ensures.value,
     )
 
 -- all is made of it

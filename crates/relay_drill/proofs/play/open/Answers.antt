@@ -21,7 +21,8 @@ returns g c = λ next.
     rw c.in_ok-push.ensures.items
     (goes_told _ _ _ _ _ _ _ (tells_event _ _ _ _ _ _ _ (does_open c.args.session c.args.peer
     (next (with_session stand c.args.session)) (next stand)
-    (output_view c.step-output.result) false (sym c.is_refused-refused.ensures ∙ c.if-refused.false))
+    (output_view c.step-output.result) false
+    (sym c.is_refused-refused.ensures ∙ c.if-refused.false))
     c.step-output.ensures.steps c.step-output.ensures.frame) c.in_ok-printed.ensures)
 
 pub returns-in_err-printed : goal.returns-in_err-printed
@@ -41,5 +42,6 @@ returns-in_err-push g c = λ next.
     c.from_residual-in_err-push.ensures.0 c.from_residual-in_err-push.ensures.1
     (goes_told _ _ _ _ _ _ _ (tells_event _ _ _ _ _ _ _ (does_open c.args.session c.args.peer
     (next (with_session stand c.args.session)) (next stand)
-    (output_view c.step-output.result) false (sym c.is_refused-refused.ensures ∙ c.if-refused.false))
+    (output_view c.step-output.result) false
+    (sym c.is_refused-refused.ensures ∙ c.if-refused.false))
     c.step-output.ensures.steps c.step-output.ensures.frame) c.in_ok-printed.ensures)

@@ -45,7 +45,8 @@ returns-in-Ok-new g c =
     c.play-played.new.relay (g.W.Write.contents c.args.writer.now)
     (g.W.Write.contents c.play-played.new.writer) in
     let R : ℕ → Type 0 = λ groups. Performs c.play-played.result
-    (lines_ask groups (map line_view c.in-Ok-read_script.lines.items) first_stand) Done c.in-Ok-new.relay
+    (lines_ask groups (map line_view c.in-Ok-read_script.lines.items) first_stand) Done
+    c.in-Ok-new.relay
     c.play-played.new.relay (g.W.Write.contents c.args.writer.now)
     (g.W.Write.contents c.play-played.new.writer) in
     drill_gives c.args.config c.play-played.new.relay c.play-played.result
@@ -53,5 +54,6 @@ returns-in-Ok-new g c =
     (performs_at c.play-played.result _ Done c.in-Ok-new.relay c.play-played.new.relay before after
     c.args.config first_world
     (subst R c.len-groups.ensures (subst Q c.deref-in-Ok-new.ensures.value c.play-played.ensures))
-    (begun c.args.config _ c.in-Ok-new_stores.stores.items c.in-Ok-new.relay c.in-Ok-new_stores.ensures
+    (begun c.args.config _ c.in-Ok-new_stores.stores.items c.in-Ok-new.relay
+    c.in-Ok-new_stores.ensures
     c.in-Ok-new.ensures.begins))

@@ -9,12 +9,16 @@ returns c =
     let text = c.args.text.now.items in
     let feed = c.args.feed.now in
     let to_0 = codes "feed   " in
-    let is_1 = behind text to_0 (name_column feed.peer) _ _ c.in_ok-extend_from_slice.ensures.items (rw c.as_slice.ensures at c.in_ok-put_name.ensures) in
+    let is_1 = behind text to_0 (name_column feed.peer) _ _
+    c.in_ok-extend_from_slice.ensures.items (rw c.as_slice.ensures at c.in_ok-put_name.ensures) in
     let to_1 = to_0 ++ name_column feed.peer in
     let is_2 = behind text to_1 (column feed.figures.waiting) _ _ is_1 c.in_ok-put_number.ensures in
     let to_2 = to_1 ++ column feed.figures.waiting in
-    let is_3 = behind text to_2 (wide_column feed.figures.gained) _ _ is_2 c.in_ok-put_number-2.ensures in
+    let is_3 = behind text to_2 (wide_column feed.figures.gained) _ _ is_2
+    c.in_ok-put_number-2.ensures in
     let to_3 = to_2 ++ wide_column feed.figures.gained in
-    let is_4 = behind text to_3 (column feed.figures.overwritten) _ _ is_3 c.in_ok-put_number-3.ensures in
+    let is_4 = behind text to_3 (column feed.figures.overwritten) _ _ is_3
+    c.in_ok-put_number-3.ensures in
     let to_4 = to_3 ++ column feed.figures.overwritten in
-    ends c.extend_from_slice-2.result text to_4 (codes "\n") _ _ is_4 c.extend_from_slice-2.ensures.items
+    ends c.extend_from_slice-2.result text to_4 (codes "\n") _ _ is_4
+    c.extend_from_slice-2.ensures.items

@@ -3,7 +3,8 @@ use Rattle.cyc_buffer.proofs.Refusals.{held_on}
 use Rattle.cyc_buffer.specs.Agreement.{store_of}
 use Rattle.cyc_buffer.specs.Head.{inside}
 use Rattle.live_store.specs.Started.{AreArticles, unopened_in}
-use Rattle.live_store.proofs.StartedLemmas.{blamed_later, outside_unentered, refused_for, started_of}
+use Rattle.live_store.proofs.StartedLemmas.{blamed_later, outside_unentered, refused_for}
+use Rattle.live_store.proofs.StartedLemmas.{started_of}
 use Rattle.live_store.proofs.numbered.NumberedBuffer.start.Goals as goal
 
 pub returns-in-Err-clause-refused : goal.returns-in-Err-clause-refused

@@ -4,7 +4,8 @@ use Rattle.news_terms.specs.BlockImage.{chunk_size}
 use Rattle.cyc_buffer.specs.Calls.{ReadsBlock}
 use Rattle.cyc_buffer.specs.Head.{inside}
 use Rattle.live_store.proofs.FetchLemmas.{one_more}
-use Rattle.live_store.proofs.ReadBackLemmas.{chunk_read, covers, merely_next, merely_none, merely_read}
+use Rattle.live_store.proofs.ReadBackLemmas.{chunk_read, covers, merely_next, merely_none}
+use Rattle.live_store.proofs.ReadBackLemmas.{merely_read}
 use Rattle.live_store.proofs.ReadBackLemmas.{not_gone, not_unknown, unfailed}
 use Rattle.live_store.proofs.writing.reading_back.read_text.Goals as goal
 

@@ -13,7 +13,8 @@ returns-in-Ok-new-clause-begins g c =
     let is = c.in-Ok.ensures in
     let K : Config → Type 0 = λ config. KeepsNothing config.buffers c.args.stores.items
     c.in-Ok-new.buffer_set in
-    subst (λ (s : System g.row.S.Denot g.S.BlockStore). BeginsOver c.args.config c.args.stores.items s)
+    subst (λ (s : System g.row.S.Denot g.S.BlockStore). BeginsOver c.args.config
+    c.args.stores.items s)
     (sym c.with.ensures)
     (begins (with_buffers c.in-Ok.unbuffered c.in-Ok-new.buffer_set) c.args.config
     c.args.stores.items is.config_is is.newest_is is.stop_is is.nobody is.desks.claims is.desks.desk

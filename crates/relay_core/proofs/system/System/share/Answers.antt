@@ -64,7 +64,8 @@ returns-in-Push-clause-memory g c = c.push.ensures.memory c.args.number
 pub returns-in-Slot-clause-shared : goal.returns-in-Slot-clause-shared
 returns-in-Slot-clause-shared g c =
     slot_shared c.args.number c.args.now c.args.self.now c.args.peer.now c.take-in-Slot.result
-    c.take-in-Slot.new.self c.take-in-Slot.ensures.value c.take-in-Slot.ensures.after c.args.step.now
+    c.take-in-Slot.new.self c.take-in-Slot.ensures.value c.take-in-Slot.ensures.after
+    c.args.step.now
     c.in-Slot.is
 
 pub returns-in-Release-clause-shared : goal.returns-in-Release-clause-shared
