@@ -20,4 +20,4 @@ pub use octets::Octets;
 pub use parts::{cut, one_part, three_parts, two_parts};
 pub use room::{put_decimal, put_octets};
 pub use white::{is_white, trim};
-pub use words::{Between, first_word};
+pub use words::{Between, first_word, is};

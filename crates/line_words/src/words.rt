@@ -1,5 +1,5 @@
 //! The words of a line.
-ghost use Rattle.std.specs.Prelude.{◌≡◌, ◌≤◌, ◌∷◌, [], length, not, MatchOption};
+ghost use Rattle.std.specs.Prelude.{◌≡◌, ◌≤◌, ◌∷◌, [], bytes_eq, length, not, MatchOption};
 ghost use Rattle.std.specs.List.{position_or_len};
 ghost use Rattle.line_words.specs.Words.{words};
 ghost use Rattle.line_words.specs.Words as terms;
@@ -13,6 +13,13 @@ pub enum Between {
     Spaces,
     /// SPs and TABs (docs/FORMATS.md, Command lines).
     White,
+}
+
+/// Whether the word is this one.
+pub fn is(word: &[u8], this: &[u8]) -> bool
+    ensures { result ≡ bytes_eq word.now this.now }
+{
+    word == this
 }
 
 /// The first word of a line and what follows it, or `None` where the line has no word.

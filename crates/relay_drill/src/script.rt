@@ -1,5 +1,5 @@
 //! Reading a drill script (docs/FORMATS.md, Drill scripts): all of it, before anything runs.
-ghost use Rattle.std.specs.Prelude.{◌≡◌, ◌++◌, bytes_eq, map, option_map, vec_items, IfOk};
+ghost use Rattle.std.specs.Prelude.{◌≡◌, ◌++◌, map, option_map, vec_items, IfOk};
 ghost use Rattle.std.specs.List.{join_with_byte};
 ghost use Rattle.std.specs.Option.{option_and_then};
 ghost use Rattle.news_terms.specs.Lines.{crlf};
@@ -15,7 +15,7 @@ ghost use Rattle.relay_drill.specs.Fault.{LineGives, ScriptGives, keyword_view, 
 use crate::fault::DrillError;
 use crate::line::{Line, PieceSize};
 use crate::words::{buffer_of, number, number_within, octets_of, peer_of};
-use line_words::{cut, is_skipped, one_part, two_parts};
+use line_words::{cut, is, is_skipped, one_part, two_parts};
 use relay_conf::{BufferConf, Config, Peer};
 use std::alloc::{AllocError, Global};
 
@@ -109,13 +109,6 @@ fn keyword_of(word: &[u8]) -> Option<Keyword>
     } else {
         None
     }
-}
-
-/// Whether the word is this one.
-fn is(word: &[u8], name: &[u8]) -> bool
-    ensures { result ≡ bytes_eq word.now name.now }
-{
-    word == name
 }
 
 /// `open S PEER`, by what follows the keyword.
