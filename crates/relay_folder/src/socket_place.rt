@@ -42,12 +42,22 @@ pub(crate) fn listen_in<R: Files + Net>(
     folder: &str,
 ) -> io::Result<(UnixListener, Identity)> {
     let path = Path::new(folder).join(alloc, NAME)?;
-    clear(rt, path.as_str())?;
     let room = Path::new(folder).join(alloc, ROOM)?;
     let there = Path::new(room.as_str()).join(alloc, THERE)?;
-    leave_room(rt, room.as_str(), there.as_str());
-    let made = listen_at(rt, room.as_str(), there.as_str(), path.as_str());
-    leave_room(rt, room.as_str(), there.as_str());
+    listen_over(rt, room.as_str(), there.as_str(), path.as_str())
+}
+
+/// Listens at this path, over what another relay left there, by this folder, which is gone then.
+fn listen_over<R: Files + Net>(
+    rt: &R,
+    room: &str,
+    there: &str,
+    path: &str,
+) -> io::Result<(UnixListener, Identity)> {
+    clear(rt, path)?;
+    leave_room(rt, room, there);
+    let made = listen_at(rt, room, there, path);
+    leave_room(rt, room, there);
     made
 }
 
