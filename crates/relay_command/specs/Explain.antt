@@ -30,6 +30,13 @@ pub record IsTold (folder : List ℕ) (text : List ℕ) : Type 0 where
   pub each : length found ≡ length config.buffers.buffers.items
   pub told : text ≡ explained config sources found
 
+-- The text is what this configuration does, which these texts say, with what lay where the files of
+-- its buffers are to be, in their order.
+pub record IsToldOf (config : Config) (sources : Sources) (text : List ℕ) : Type 0 where
+  pub found : List Found
+  pub each : length found ≡ length config.buffers.buffers.items
+  pub told : text ≡ explained config sources found
+
 -- The text is where an article goes by the configuration that the folder's files say.
 pub record IsChosen (folder : List ℕ) (question : Asking) (text : List ℕ) : Type 0 where
   pub config : Config

@@ -21,10 +21,14 @@ pub fn check<R: Files, W: Write>(
     ensures { CheckGives result folder.now (W.contents writer.old) (W.contents writer.new) }
 {
     match load(rt, alloc, folder) {
-        Ok(config) => match print_counts(writer, &config) {
-            Ok(()) => Ok(()),
-            Err(_) => Err(CheckError::Unwritten),
-        },
+        Ok(config) => {
+            let printed = print_counts(writer, &config);
+            drop(config);
+            match printed {
+                Ok(()) => Ok(()),
+                Err(_) => Err(CheckError::Unwritten),
+            }
+        }
         Err(error) => Err(error),
     }
 }

@@ -1,6 +1,7 @@
 //! Reading the program's words (docs/PROTOCOL.md, Commands).
-ghost use Rattle.std.specs.Prelude.{◌≡◌, false, map, string_bytes, None, Some, IfOk};
-ghost use Rattle.clap.specs.Words.{found_of, rows_of, rule_of, subcommand_rows_of};
+ghost use Rattle.std.specs.Prelude.{◌≡◌, bytes_eq, false, map, string_bytes, None, Some, IfOk};
+ghost use Rattle.clap.specs.Words.{App, Rule, found_of, new_app, rows_of, rule_of};
+ghost use Rattle.clap.specs.Words.{subcommand_rows_of, with_rule, with_subcommand};
 ghost use Rattle.relay_command.specs.CommandLine.{Reads, ReadsWords, asked, asked_by};
 ghost use Rattle.relay_command.specs.CommandLine.{word_given, check_words, drill_words};
 ghost use Rattle.relay_command.specs.CommandLine.{explains_by, fresh_given, fresh_rule};
@@ -13,8 +14,14 @@ use crate::version::VERSION;
 use clap::{Arg, ArgAction, ArgMatches, Command, Error, value_parser};
 use std::alloc::{AllocError, Global};
 
+/// What is told of the folder whose configuration is read.
+pub(crate) const CONFIGURED: &str = "The folder of the configuration: K1 is the built-in one";
+
+/// What is told of the folder of a relay that is asked.
+const SERVED: &str = "The folder in which the relay is served";
+
 /// What the words ask for.
-#[derive(Debug, Drop)]
+#[derive(Drop)]
 pub enum Job {
     /// To run a script with the configuration in this folder, or the built-in one.
     Drill {
@@ -50,7 +57,11 @@ pub fn read_words(alloc: Global, words: &[String]) -> Result<Job, Error>
     ensures { ReadsWords (map string_bytes words.now) result }
 {
     match command(alloc)?.try_get_matches_from(words) {
-        Ok(matches) => Ok(job_of(alloc, &matches)?),
+        Ok(matches) => {
+            let job = job_of(alloc, &matches);
+            drop(matches);
+            Ok(job?)
+        }
         Err(error) => Err(error),
     }
 }
@@ -76,27 +87,34 @@ fn first_drill(alloc: Global) -> Result<Job, AllocError>
     })
 }
 
+/// Whether these are the same word.
+fn is(word: &str, other: &str) -> bool
+    ensures { result ≡ bytes_eq word.now other.now }
+{
+    word == other
+}
+
 /// What the subcommand of this name asks for, with what was given for its words.
 fn job_named(alloc: Global, name: &str, given: &ArgMatches<'_>) -> Result<Job, AllocError>
     ensures { IfOk result (λ job. asked job
         ≡ asked_by (Some (name.now, rows_of (found_of given.now)))) }
 {
-    if name == "check" {
+    if is(name, "check") {
         return Ok(Job::Check(word(alloc, given, "DIR")?));
     }
-    if name == "explain" {
+    if is(name, "explain") {
         return explanation(alloc, given);
     }
-    if name == "token" {
+    if is(name, "token") {
         return Ok(Job::Token(word(alloc, given, "TEXT")?));
     }
-    if name == "serve" {
+    if is(name, "serve") {
         return service(alloc, given);
     }
-    if name == "stop" {
+    if is(name, "stop") {
         return Ok(Job::Stop(word(alloc, given, "DIR")?));
     }
-    if name == "report" {
+    if is(name, "report") {
         return Ok(Job::Report(word(alloc, given, "DIR")?));
     }
     Ok(Job::Drill {
@@ -163,16 +181,70 @@ fn word(alloc: Global, given: &ArgMatches<'_>, name: &str) -> Result<String, All
 fn command<'a>(alloc: Global) -> Result<Command<'a>, AllocError>
     ensures { IfOk result (λ command. Reads command program_words) }
 {
-    Ok(
-        program(alloc)
-            .subcommand(check(alloc)?)?
-            .subcommand(drill(alloc)?)?
-            .subcommand(explain(alloc)?)?
-            .subcommand(report(alloc)?)?
-            .subcommand(serve(alloc)?)?
-            .subcommand(stop(alloc)?)?
-            .subcommand(token(alloc)?)?,
-    )
+    let words = with_command(Ok(program(alloc)), check(alloc));
+    let words = with_command(words, drill(alloc));
+    let words = with_command(words, explain(alloc));
+    let words = with_command(words, report(alloc));
+    let words = with_command(words, serve(alloc));
+    let words = with_command(words, stop(alloc));
+    with_command(words, token(alloc))
+}
+
+/// A command with one more below it, where both could be made.
+fn with_command<'a>(
+    command: Result<Command<'a>, AllocError>,
+    below: Result<Command<'a>, AllocError>,
+) -> Result<Command<'a>, AllocError>
+    ensures { (app under : App) → IfOk command.entry (λ one. Reads one app)
+        → IfOk below.entry (λ one. Reads one under)
+        → IfOk result (λ one. Reads one (with_subcommand app under.top)) }
+{
+    match command {
+        Ok(command) => match below {
+            Ok(below) => command.subcommand(below),
+            Err(error) => {
+                drop(command);
+                Err(error)
+            }
+        },
+        Err(error) => {
+            drop(below);
+            Err(error)
+        }
+    }
+}
+
+/// A command of this name, what it does, and its first word.
+pub(crate) fn of_word<'a>(
+    alloc: Global,
+    name: &'a str,
+    about: &'a str,
+    word: Arg<'a>,
+) -> Result<Command<'a>, AllocError>
+    requires { word.global ≡ false }
+    ensures { (rule : Rule) → rule_of word.entry ≡ rule
+        → IfOk result (λ one. Reads one (with_rule (new_app name.entry.now) rule)) }
+{
+    Command::new(alloc, name).about(about).arg(word)
+}
+
+/// A command with one more word, where it could be made.
+pub(crate) fn with_word<'a>(
+    command: Result<Command<'a>, AllocError>,
+    word: Arg<'a>,
+) -> Result<Command<'a>, AllocError>
+    requires { word.global ≡ false }
+    ensures { (app : App) (rule : Rule) → rule_of word.entry ≡ rule
+        → IfOk command.entry (λ one. Reads one app)
+        → IfOk result (λ one. Reads one (with_rule app rule)) }
+{
+    match command {
+        Ok(command) => command.arg(word),
+        Err(error) => {
+            drop(word);
+            Err(error)
+        }
+    }
 }
 
 /// The words without a command: `--version` alone.
@@ -188,13 +260,12 @@ fn program<'a>(alloc: Global) -> Command<'a>
 fn check<'a>(alloc: Global) -> Result<Command<'a>, AllocError>
     ensures { IfOk result (λ command. Reads command check_words) }
 {
-    let folder = needed(alloc, "DIR").help(
-        "The folder of the configuration: K1 is the built-in one",
-    );
-    Ok(
-        Command::new(alloc, "check")
-            .about("Reads a configuration and says what it has")
-            .arg(folder)?,
+    let folder = needed(alloc, "DIR", CONFIGURED);
+    of_word(
+        alloc,
+        "check",
+        "Reads a configuration and says what it has",
+        folder,
     )
 }
 
@@ -202,27 +273,26 @@ fn check<'a>(alloc: Global) -> Result<Command<'a>, AllocError>
 fn drill<'a>(alloc: Global) -> Result<Command<'a>, AllocError>
     ensures { IfOk result (λ command. Reads command drill_words) }
 {
-    let folder = needed(alloc, "DIR").help(
-        "The folder of the configuration: K1 is the built-in one",
+    let folder = needed(alloc, "DIR", CONFIGURED);
+    let script = needed(
+        alloc,
+        "SCRIPT",
+        "The script's file: stdin is standard input",
     );
-    let script = needed(alloc, "SCRIPT").help("The script's file: stdin is standard input");
-    Ok(
-        Command::new(alloc, "drill")
-            .about("Runs a script over memory")
-            .arg(folder)?
-            .arg(script)?,
-    )
+    let command = of_word(alloc, "drill", "Runs a script over memory", folder);
+    with_word(command, script)
 }
 
 /// `report DIR`.
 fn report<'a>(alloc: Global) -> Result<Command<'a>, AllocError>
     ensures { IfOk result (λ command. Reads command report_words) }
 {
-    let folder = needed(alloc, "DIR").help("The folder in which the relay is served");
-    Ok(
-        Command::new(alloc, "report")
-            .about("Prints the report of a relay that is served")
-            .arg(folder)?,
+    let folder = needed(alloc, "DIR", SERVED);
+    of_word(
+        alloc,
+        "report",
+        "Prints the report of a relay that is served",
+        folder,
     )
 }
 
@@ -230,18 +300,15 @@ fn report<'a>(alloc: Global) -> Result<Command<'a>, AllocError>
 fn serve<'a>(alloc: Global) -> Result<Command<'a>, AllocError>
     ensures { IfOk result (λ command. Reads command serve_words) }
 {
-    let folder = needed(alloc, "DIR").help(
-        "The folder of the configuration: K1 is the built-in one",
+    let folder = needed(alloc, "DIR", CONFIGURED);
+    let command = of_word(
+        alloc,
+        "serve",
+        "Serves a configuration on its peers' ports",
+        folder,
     );
-    let sessions = limit(alloc).help("Each port ends after so many connections: 1 to 1000000");
-    let fresh = anew(alloc).help("Begins with empty buffers, whatever the files have");
-    Ok(
-        Command::new(alloc, "serve")
-            .about("Serves a configuration on its peers' ports")
-            .arg(folder)?
-            .arg(sessions)?
-            .arg(fresh)?,
-    )
+    let command = with_word(command, limit(alloc));
+    with_word(command, anew(alloc))
 }
 
 /// `--sessions N`.
@@ -254,6 +321,7 @@ fn limit<'a>(alloc: Global) -> Arg<'a>
         .value_name("N")
         .value_parser(value_parser!(u32).range(1..1_000_001))
         .action(ArgAction::Set)
+        .help("Each port ends after so many connections: 1 to 1000000")
 }
 
 /// `--fresh`.
@@ -264,36 +332,32 @@ fn anew<'a>(alloc: Global) -> Arg<'a>
     Arg::new(alloc, "fresh")
         .long("fresh")
         .action(ArgAction::SetTrue)
+        .help("Begins with empty buffers, whatever the files have")
 }
 
 /// `stop DIR`.
 fn stop<'a>(alloc: Global) -> Result<Command<'a>, AllocError>
     ensures { IfOk result (λ command. Reads command stop_words) }
 {
-    let folder = needed(alloc, "DIR").help("The folder in which the relay is served");
-    Ok(
-        Command::new(alloc, "stop")
-            .about("Ends a relay that is served")
-            .arg(folder)?,
-    )
+    let folder = needed(alloc, "DIR", SERVED);
+    of_word(alloc, "stop", "Ends a relay that is served", folder)
 }
 
 /// `token TEXT`.
 fn token<'a>(alloc: Global) -> Result<Command<'a>, AllocError>
     ensures { IfOk result (λ command. Reads command token_words) }
 {
-    let text = needed(alloc, "TEXT").help("The text of the token");
-    Ok(
-        Command::new(alloc, "token")
-            .about("Says what a token stands for")
-            .arg(text)?,
-    )
+    let text = needed(alloc, "TEXT", "The text of the token");
+    of_word(alloc, "token", "Says what a token stands for", text)
 }
 
-/// A word that has to be there.
-pub(crate) fn needed<'a>(alloc: Global, name: &'a str) -> Arg<'a>
+/// A word that has to be there, and what is told of it.
+pub(crate) fn needed<'a>(alloc: Global, name: &'a str, told: &'a str) -> Arg<'a>
     ensures rule { rule_of result ≡ needed name.entry.now }
     ensures own { result.global ≡ false }
 {
-    Arg::new(alloc, name).required(true).action(ArgAction::Set)
+    Arg::new(alloc, name)
+        .required(true)
+        .action(ArgAction::Set)
+        .help(told)
 }

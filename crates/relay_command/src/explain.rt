@@ -1,16 +1,19 @@
 //! Saying what a configuration does (docs/PROTOCOL.md, `explain`).
-ghost use Rattle.std.specs.Prelude.{◌≡◌, IfErr, IfOk, Some};
+ghost use Rattle.std.specs.Prelude.{◌≡◌, string_bytes, IfErr, IfOk, Some};
+ghost use Rattle.relay_explain.specs.Choice.{choice_text};
 ghost use Rattle.relay_command.specs.Explain.{ExplainGives, ExplainsFolder, IsAnswer, IsChosen};
-ghost use Rattle.relay_command.specs.Explain.{IsTold, IsUntold, explain_text};
+ghost use Rattle.relay_command.specs.Explain.{IsTold, IsToldOf, IsUntold, explain_text};
 ghost use Rattle.relay_command.specs.Questions.{asked_of, question_of};
 ghost use Rattle.relay_command.specs.Explain as terms;
+ghost use Rattle.relay_command.specs.declared.load.CheckError.TheVariants.{Memory};
 
 use crate::failure::Failure;
 use crate::load::{CheckError, ConfFile};
 use crate::look::look_at_files;
 use crate::question::Question;
 use crate::sources::load_both;
-use relay_explain::{explain, explain_choice};
+use relay_conf::Config;
+use relay_explain::{Sources, explain, explain_choice};
 use relay_report::put;
 use std::alloc::Global;
 use std::error::Error;
@@ -154,12 +157,30 @@ fn whole_text<R: Files>(rt: &R, alloc: Global, folder: &str) -> Result<Vec<u8>, 
     ensures text { IfOk result (λ text. IsTold folder.now text.items) }
     ensures error { IfErr result (IsUntold folder.now) }
 {
-    let (config, sources) = match load_both(rt, alloc, folder) {
-        Ok(both) => both,
-        Err(error) => return Err(error),
-    };
+    match load_both(rt, alloc, folder) {
+        Ok(both) => {
+            let text = text_of(rt, alloc, folder, &both.0, &both.1);
+            drop(both);
+            text
+        }
+        Err(error) => Err(error),
+    }
+}
+
+/// The text of what this configuration does, which these texts say, with what lies where the files
+/// of its buffers are to be.
+fn text_of<R: Files>(
+    rt: &R,
+    alloc: Global,
+    folder: &str,
+    config: &Config,
+    sources: &Sources,
+) -> Result<Vec<u8>, CheckError>
+    ensures text { IfOk result (λ text. IsToldOf config.now sources.now text.items) }
+    ensures memory { IfErr result (λ error. error ≡ Memory) }
+{
     let found = look_at_files(rt, alloc, &config.buffers, folder)?;
-    let text = explain(alloc, &config, &sources, &found)?;
+    let text = explain(alloc, config, sources, &found)?;
     Ok(text)
 }
 
@@ -173,11 +194,23 @@ fn choice_text<R: Files>(
     ensures text { IfOk result (λ text. IsChosen folder.now (asked_of question.now) text.items) }
     ensures error { IfErr result (IsUntold folder.now) }
 {
-    let (config, _sources) = match load_both(rt, alloc, folder) {
-        Ok(both) => both,
-        Err(error) => return Err(error),
-    };
+    match load_both(rt, alloc, folder) {
+        Ok(both) => {
+            let text = choice_of(alloc, &both.0, question);
+            drop(both);
+            text
+        }
+        Err(error) => Err(error),
+    }
+}
+
+/// The text of where an article goes by this configuration.
+fn choice_of(alloc: Global, config: &Config, question: &Question) -> Result<Vec<u8>, CheckError>
+    ensures text { IfOk result (λ text. text.items
+        ≡ choice_text config.now (string_bytes question.now.newsgroups) question.now.size) }
+    ensures memory { IfErr result (λ error. error ≡ Memory) }
+{
     let newsgroups = question.newsgroups.as_bytes();
-    let text = explain_choice(alloc, &config, newsgroups, u64::from(question.size))?;
+    let text = explain_choice(alloc, config, newsgroups, u64::from(question.size))?;
     Ok(text)
 }

@@ -42,7 +42,7 @@ impl Display for Unbegun {
 impl error::Error for Unbegun {}
 
 /// Why the program ends with a status other than 0. Its text is what the program prints.
-#[derive(Debug, Drop, Error)]
+#[derive(Drop, Error)]
 pub enum Failure {
     /// The words could not be had, or there was no memory for the output.
     #[error(transparent)]
@@ -71,6 +71,12 @@ pub enum Failure {
     /// Standard output took no more. What it took before stands.
     #[error("stdout: unwritten")]
     Unwritten,
+}
+
+impl fmt::Debug for Failure {
+    fn fmt<W: fmt::Write>(&self, formatter: &mut Formatter<W>) -> fmt::Result {
+        Display::fmt(self, formatter)
+    }
 }
 
 impl Failure {

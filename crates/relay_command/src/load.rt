@@ -122,11 +122,17 @@ pub fn load<R: Files>(rt: &R, alloc: Global, folder: &str) -> Result<Config, Che
     };
     let storage_entries = match load_storage(rt, alloc, folder, &buffers) {
         Ok(storage_entries) => storage_entries,
-        Err(error) => return Err(error),
+        Err(error) => {
+            drop(buffers);
+            return Err(error);
+        }
     };
     match load_relay(rt, alloc, folder) {
         Ok(relay) => Ok(Config::new(buffers, storage_entries, relay)),
-        Err(error) => Err(error),
+        Err(error) => {
+            drop(buffers);
+            Err(error)
+        }
     }
 }
 

@@ -47,11 +47,26 @@ fn look_at_file<R: Files>(
         return Ok(Found::Unseen);
     };
     let path = Path::new(folder).join(alloc, file)?;
-    match fs::metadata(rt, path.as_str()) {
-        Ok(there) if there.is_file() => look_into(rt, alloc, path.as_str()),
-        Ok(_) => Ok(Found::NotRegular),
-        Err(error) if error.kind() == ErrorKind::NotFound => Ok(absent(rt, path.as_str())),
+    look_at(rt, alloc, path.as_str())
+}
+
+/// What lies at a path.
+fn look_at<R: Files>(rt: &R, alloc: Global, path: &str) -> Result<Found, CheckError>
+    ensures { IfErr result (λ error. error ≡ Memory) }
+{
+    match is_regular(rt, path) {
+        Ok(true) => look_into(rt, alloc, path),
+        Ok(false) => Ok(Found::NotRegular),
+        Err(ErrorKind::NotFound) => Ok(absent(rt, path)),
         Err(_) => Ok(Found::Unseen),
+    }
+}
+
+/// Whether a regular file lies at a path, or why that can't be told.
+fn is_regular<R: Files>(rt: &R, path: &str) -> Result<bool, ErrorKind> {
+    match fs::metadata(rt, path) {
+        Ok(there) => Ok(there.is_file()),
+        Err(error) => Err(error.kind()),
     }
 }
 
@@ -62,11 +77,20 @@ fn absent<R: Files>(rt: &R, path: &str) -> Found {
         Some(folder) => {
             let name = folder.as_str();
             let name = if name.is_empty() { "." } else { name };
-            match fs::metadata(rt, name) {
-                Ok(there) if there.is_dir() => Found::Absent,
-                _ => Found::NoFolder,
+            if is_folder(rt, name) {
+                Found::Absent
+            } else {
+                Found::NoFolder
             }
         }
+    }
+}
+
+/// Whether a folder lies at a path.
+fn is_folder<R: Files>(rt: &R, path: &str) -> bool {
+    match fs::metadata(rt, path) {
+        Ok(there) => there.is_dir(),
+        Err(_) => false,
     }
 }
 
@@ -77,9 +101,21 @@ fn look_into<R: Files>(rt: &R, alloc: Global, path: &str) -> Result<Found, Check
     let Ok(file) = fs::File::open(rt, path) else {
         return Ok(Found::Unseen);
     };
-    match read_all(alloc, &mut file.take(FRONT_OCTETS)) {
-        Ok(front) => Ok(found_of(&front)),
-        Err(DrillError::Memory) => Err(CheckError::Memory),
-        Err(_) => Ok(Found::Unseen),
+    let mut front = file.take(FRONT_OCTETS);
+    let read = read_all(alloc, &mut front);
+    drop(front);
+    match read {
+        Ok(octets) => Ok(found_of(&octets)),
+        Err(error) => unread(&error),
+    }
+}
+
+/// What a file is that can't be read; want of memory says nothing of it.
+fn unread(error: &DrillError) -> Result<Found, CheckError>
+    ensures { IfErr result (λ error. error ≡ Memory) }
+{
+    match error {
+        DrillError::Memory => Err(CheckError::Memory),
+        _ => Ok(Found::Unseen),
     }
 }

@@ -116,7 +116,11 @@ where
         (W.contents writer.new) }
 {
     match read_words(alloc, words) {
-        Ok(job) => perform(rt, alloc, &job, reader, writer, serve, ask),
+        Ok(job) => {
+            let done = perform(rt, alloc, &job, reader, writer, serve, ask);
+            drop(job);
+            done
+        }
         Err(error) => Err(Failure::Words(error)),
     }
 }
@@ -201,7 +205,10 @@ fn drill_script<S: Files + RandomSource, R: Read, W: Write>(
     }
     match read_file(rt, alloc, script) {
         Ok(text) => drill(rt, alloc, config, &mut text.as_slice(), writer),
-        Err(error) => Err(error),
+        Err(error) => {
+            drop(config);
+            Err(error)
+        }
     }
 }
 

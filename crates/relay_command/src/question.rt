@@ -5,7 +5,7 @@ ghost use Rattle.relay_command.specs.CommandLine.{Reads, explain_words};
 ghost use Rattle.relay_command.specs.Questions.{optional, question_given, question_of};
 ghost use Rattle.relay_command.specs.Questions.{size_given, size_rule, size_said};
 
-use crate::command_line::needed;
+use crate::command_line::{CONFIGURED, needed, of_word, with_word};
 use clap::{Arg, ArgAction, ArgMatches, Command, value_parser};
 use std::alloc::{AllocError, Global};
 
@@ -13,7 +13,7 @@ use std::alloc::{AllocError, Global};
 const USUAL_SIZE: u32 = 2_000;
 
 /// Of which article it is asked where it goes.
-#[derive(Debug, Drop)]
+#[derive(Drop)]
 pub struct Question {
     /// Its newsgroups, with commas between them.
     pub newsgroups: String,
@@ -60,28 +60,24 @@ fn size_in(given: &ArgMatches<'_>) -> Option<u32>
 pub(crate) fn explain<'a>(alloc: Global) -> Result<Command<'a>, AllocError>
     ensures { IfOk result (λ command. Reads command explain_words) }
 {
-    let folder = needed(alloc, "DIR").help(
-        "The folder of the configuration: K1 is the built-in one",
-    );
-    let newsgroups = optional(alloc, "NEWSGROUPS").help(
+    let folder = needed(alloc, "DIR", CONFIGURED);
+    let newsgroups = optional(
+        alloc,
+        "NEWSGROUPS",
         "Says where an article goes of these newsgroups, with commas between them",
     );
-    let size = size_word(alloc).help("The octets of that article, 2000 without it");
-    Ok(
-        Command::new(alloc, "explain")
-            .about("Says what a configuration does, and what in it is odd")
-            .arg(folder)?
-            .arg(newsgroups)?
-            .arg(size)?,
-    )
+    let told = "Says what a configuration does, and what in it is odd";
+    let command = of_word(alloc, "explain", told, folder);
+    let command = with_word(command, newsgroups);
+    with_word(command, size_word(alloc))
 }
 
-/// A word that may be left out.
-fn optional<'a>(alloc: Global, name: &'a str) -> Arg<'a>
+/// A word that may be left out, and what is told of it.
+fn optional<'a>(alloc: Global, name: &'a str, told: &'a str) -> Arg<'a>
     ensures rule { rule_of result ≡ optional name.entry.now }
     ensures own { result.global ≡ false }
 {
-    Arg::new(alloc, name).action(ArgAction::Set)
+    Arg::new(alloc, name).action(ArgAction::Set).help(told)
 }
 
 /// SIZE.
@@ -92,4 +88,5 @@ fn size_word<'a>(alloc: Global) -> Arg<'a>
     Arg::new(alloc, "SIZE")
         .value_parser(value_parser!(u32).range(1..16_777_357))
         .action(ArgAction::Set)
+        .help("The octets of that article, 2000 without it")
 }

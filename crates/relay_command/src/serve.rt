@@ -34,7 +34,9 @@ where
         Ok(config) => config,
         Err(error) => return Err(Failure::Check(error)),
     };
-    match serve(&config, folder, sessions, fresh, writer) {
+    let served = serve(&config, folder, sessions, fresh, writer);
+    drop(config);
+    match served {
         Ok(()) => Ok(()),
         Err(error) => Err(Failure::Serve(error)),
     }

@@ -25,7 +25,10 @@ pub(crate) fn load_both<R: Files>(
     };
     let (storage_entries, storage) = match storage_in(rt, alloc, folder, &buffers) {
         Ok(both) => both,
-        Err(error) => return Err(error),
+        Err(error) => {
+            drop(buffers);
+            return Err(error);
+        }
     };
     match relay_in(rt, alloc, folder) {
         Ok((settings, relay)) => Ok((
@@ -36,7 +39,10 @@ pub(crate) fn load_both<R: Files>(
                 relay,
             },
         )),
-        Err(error) => Err(error),
+        Err(error) => {
+            drop(buffers);
+            Err(error)
+        }
     }
 }
 

@@ -8,4 +8,5 @@ pub returns-clause-rule : goal.returns-clause-rule
 returns-clause-rule c =
     let set : Arg → Arg = λ a. record a { action = Some Set } in
     let both : Rule → Rule = λ r. record r { required = true; action = Some Set } in
-    ap rule_of (c.action.ensures ∙ ap set c.required.ensures) ∙ ap both c.new.ensures.rule
+    ap rule_of c.help.ensures ∙ ap rule_of (c.action.ensures ∙ ap set c.required.ensures)
+    ∙ ap both c.new.ensures.rule

@@ -1,17 +1,20 @@
-use Rattle.std.proofs.Common.{◌∙◌, ap₂, inr}
-use Rattle.relay_explain.specs.Choice.{choice_text}
+use Rattle.std.proofs.Common.{inl, inr}
+use Rattle.std.proofs.lemmas.Result.{IfErr-weaker, IfOk-weaker}
 use Rattle.relay_command.proofs.explain.choice_text.Goals as goal
+
+pub returns-in-Ok-clause-text : goal.returns-in-Ok-clause-text
+returns-in-Ok-clause-text g c =
+    IfOk-weaker c.choice_of-text.result _ _ (λ text told. record {
+      config = c.in-Ok.both.0;
+      sources = c.in-Ok.both.1;
+      said = c.in-Ok.ensures;
+      told = told;
+    }) c.choice_of-text.ensures.text
+
+pub returns-in-Ok-clause-error : goal.returns-in-Ok-clause-error
+returns-in-Ok-clause-error g c =
+    IfErr-weaker c.choice_of-text.result _ _ (λ error memory. inl memory)
+    c.choice_of-text.ensures.memory
 
 pub returns-in-Err-clause-error : goal.returns-in-Err-clause-error
 returns-in-Err-clause-error g c = inr c.in-Err.ensures
-
-pub returns-clause-text : goal.returns-clause-text
-returns-clause-text g c =
-    let both = c.in-Ok.both in
-    record {
-      config = both.0;
-      sources = both.1;
-      said = c.in-Ok.ensures;
-      told = c.in_ok-text.ensures
-          ∙ ap₂ (choice_text both.0) c.as_bytes-newsgroups.ensures.value c.from.ensures;
-    }

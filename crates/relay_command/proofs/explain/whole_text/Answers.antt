@@ -1,18 +1,22 @@
-use Rattle.std.proofs.Common.{◌∙◌, ap, inr}
-use Rattle.relay_explain.specs.Explained.{explained}
+use Rattle.std.proofs.Common.{inl, inr}
+use Rattle.std.proofs.lemmas.Result.{IfErr-weaker, IfOk-weaker}
 use Rattle.relay_command.proofs.explain.whole_text.Goals as goal
+
+pub returns-in-Ok-clause-text : goal.returns-in-Ok-clause-text
+returns-in-Ok-clause-text g c =
+    IfOk-weaker c.text_of-text.result _ _ (λ text of. record {
+      config = c.in-Ok.both.0;
+      sources = c.in-Ok.both.1;
+      found = of.found;
+      said = c.in-Ok.ensures;
+      each = of.each;
+      told = of.told;
+    }) c.text_of-text.ensures.text
+
+pub returns-in-Ok-clause-error : goal.returns-in-Ok-clause-error
+returns-in-Ok-clause-error g c =
+    IfErr-weaker c.text_of-text.result _ _ (λ error memory. inl memory)
+    c.text_of-text.ensures.memory
 
 pub returns-in-Err-clause-error : goal.returns-in-Err-clause-error
 returns-in-Err-clause-error g c = inr c.in-Err.ensures
-
-pub returns-clause-text : goal.returns-clause-text
-returns-clause-text g c =
-    let both = c.in-Ok.both in
-    record {
-      config = both.0;
-      sources = both.1;
-      found = c.in_ok-found.found.items;
-      said = c.in-Ok.ensures;
-      each = c.in_ok-found.ensures.count;
-      told = c.in_ok-text.ensures ∙ ap (explained both.0 both.1) c.deref.ensures.value;
-    }

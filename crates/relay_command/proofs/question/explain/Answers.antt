@@ -1,23 +1,7 @@
-use Rattle.std.proofs.Common.{rules, ◌∙◌, ap, codes}
-use Rattle.clap.specs.Words.{new_app, rule_of}
-use Rattle.clap.specs.declared.builder.Arg.{Arg}
-use Rattle.relay_command.specs.CommandLine.{Reads}
-use Rattle.relay_command.proofs.CommandLines.{with_word}
 use Rattle.relay_command.proofs.question.explain.Goals as goal
 
 pub returns : goal.returns
 returns c =
-    let start : Reads c.about.result (new_app (codes "explain")) = record {
-      words = search rules;
-      own = search rules;
-    } in
-    let is_global : Arg → _ = λ a. a.global in
-    let named = with_word c.about.result c.in_ok-arg.field-0 c.help-folder.result _ _ start
-    (ap is_global c.help-folder.ensures ∙ c.needed.ensures.own)
-    (ap rule_of c.help-folder.ensures ∙ c.needed.ensures.rule) c.in_ok-arg.ensures in
-    let asked = with_word c.in_ok-arg.field-0 c.in_ok-arg-2.field-0 c.help-newsgroups.result _ _
-    named (ap is_global c.help-newsgroups.ensures ∙ c.optional.ensures.own)
-    (ap rule_of c.help-newsgroups.ensures ∙ c.optional.ensures.rule) c.in_ok-arg-2.ensures in
-    with_word c.in_ok-arg-2.field-0 c.in_ok-arg-3.field-0 c.help-size.result _ _ asked
-    (ap is_global c.help-size.ensures ∙ c.size_word.ensures.own)
-    (ap rule_of c.help-size.ensures ∙ c.size_word.ensures.rule) c.in_ok-arg-3.ensures
+    let of_folder = c.of_word-command.ensures _ c.needed-folder.ensures.rule in
+    let asked = c.with_word-command.ensures _ _ c.optional-newsgroups.ensures.rule of_folder in
+    c.with_word.ensures _ _ c.size_word.ensures.rule asked
