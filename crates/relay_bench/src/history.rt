@@ -20,18 +20,35 @@ const MOMENT: u64 = 1_609_459_200;
 /// in KB.
 pub fn time(rt: &HostRuntime, count: u32) -> io::Result<()> {
     let alloc = rt.alloc();
-    let shards = filled(rt, alloc, count)?;
-    let text = stopped(rt, alloc, &shards)?;
-    drop(shards);
+    let text = kept(rt, alloc, count)?;
     println!(rt; "text {} octets", text.len())?;
     started(rt, alloc, &text, count)
+}
+
+/// The text of the history of shards that know so many ids.
+fn kept(rt: &HostRuntime, alloc: Global, count: u32) -> io::Result<Vec<u8>> {
+    let shards = filled(rt, alloc, count)?;
+    let text = stopped(rt, alloc, &shards);
+    drop(shards);
+    text
 }
 
 /// Shards that know so many ids.
 fn filled(rt: &HostRuntime, alloc: Global, count: u32) -> io::Result<Shards> {
     let start = Instant::now(rt)?;
-    let shards = Shards::resume(alloc, RandomState::new(rt)?, ids(alloc, count)?)?;
-    print(rt, "filled", start)?;
+    resumed(rt, alloc, "filled", start, ids(alloc, count)?)
+}
+
+/// Shards that know these ids; prints the line of this part, which began at this instant.
+fn resumed(
+    rt: &HostRuntime,
+    alloc: Global,
+    name: &str,
+    start: Instant,
+    ids: Vec<KeptId>,
+) -> io::Result<Shards> {
+    let shards = Shards::resume(alloc, RandomState::new(rt)?, ids)?;
+    print(rt, name, start)?;
     Ok(shards)
 }
 
@@ -69,8 +86,17 @@ fn stopped(rt: &HostRuntime, alloc: Global, shards: &Shards) -> io::Result<Vec<u
     let ids = shards.entries(alloc)?;
     print(rt, "entries", start)?;
     let history = history(alloc, ids)?;
+    let text = written(rt, alloc, &history);
+    drop(history);
+    text
+}
+
+/// The text of a history.
+fn written(rt: &HostRuntime, alloc: Global, history: &History) -> io::Result<Vec<u8>>
+    requires { HasRoom history.now }
+{
     let start = Instant::now(rt)?;
-    let text = write(alloc, &history)?;
+    let text = write(alloc, history)?;
     print(rt, "write", start)?;
     Ok(text)
 }
@@ -91,26 +117,27 @@ fn history(alloc: Global, ids: Vec<KeptId>) -> Result<History, AllocError>
 /// Shards of what the text says, which has to be so many ids.
 fn started(rt: &HostRuntime, alloc: Global, text: &[u8], count: u32) -> io::Result<()> {
     let start = Instant::now(rt)?;
-    let history = taken(alloc, text)?;
+    let ids = taken(alloc, text)?;
     print(rt, "read", start)?;
     let start = Instant::now(rt)?;
-    let shards = Shards::resume(alloc, RandomState::new(rt)?, history.ids)?;
-    print(rt, "resume", start)?;
+    let shards = resumed(rt, alloc, "resume", start, ids)?;
     if shards.counts().stored != u128::from(count) {
         return Err(io::Error::from(ErrorKind::InvalidData));
     }
     Ok(())
 }
 
-/// The history that the text says.
-fn taken(alloc: Global, text: &[u8]) -> io::Result<History> {
+/// The ids of the history that the text says.
+fn taken(alloc: Global, text: &[u8]) -> io::Result<Vec<KeptId>> {
     let setting = Setting {
         buffers: 1,
         groups: vec![in alloc; 1u32; 1]?,
         rings: Vec::new(alloc),
     };
-    match read(alloc, text, &setting) {
-        Ok(history) => Ok(history),
+    let history = read(alloc, text, &setting);
+    drop(setting);
+    match history {
+        Ok(history) => Ok(history.ids),
         Err(HistoryError::Memory) => Err(io::Error::from(ErrorKind::OutOfMemory)),
         Err(HistoryError::BadHistory) => Err(io::Error::from(ErrorKind::InvalidData)),
     }
@@ -120,7 +147,16 @@ fn taken(alloc: Global, text: &[u8]) -> io::Result<History> {
 fn print(rt: &HostRuntime, name: &str, start: Instant) -> io::Result<()> {
     let took = start.elapsed(rt)?.as_secs_f64();
     let status = fs::read_to_string(rt, "/proc/self/status")?;
-    let mut lines = status.as_str().lines();
-    let peak = lines.find(|line| line.starts_with("VmHWM")).unwrap_or("");
+    let peak = peak_in(status.as_str());
     println!(rt; "{name} {took:.6} {peak}")
+}
+
+/// The line that says the most memory so far, empty where none does.
+fn peak_in(status: &str) -> &str {
+    for line in status.lines() {
+        if line.starts_with("VmHWM") {
+            return line;
+        }
+    }
+    ""
 }

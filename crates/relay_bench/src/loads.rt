@@ -41,7 +41,12 @@ pub enum Block {
 
 /// The load of this name.
 pub fn named(name: &str) -> Option<&'static Load> {
-    LOADS.iter().find(|load| load.name == name)
+    for load in LOADS.iter() {
+        if load.name == name {
+            return Some(load);
+        }
+    }
+    None
 }
 
 /// All numbers are one session's.

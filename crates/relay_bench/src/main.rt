@@ -9,8 +9,8 @@ mod loads;
 mod relay;
 mod work;
 
+use loads::Load;
 use relay::Bench;
-use std::env::Args;
 use std::process::ExitCode;
 use std::{env, fs, io};
 use work::{Job, seconds};
@@ -25,27 +25,30 @@ fn main(rt: HostRuntime) -> ExitCode {
     }
 }
 
-/// Does what the words ask. A word with a colon names a load of the relay, `history` is a stop and
-/// a start, any other word a work on texts. Without words nothing is asked.
+/// Does what the words ask. Without words nothing is asked.
 fn run(rt: &HostRuntime) -> io::Result<()> {
-    let mut words = env::args(rt)?;
-    let _program = words.next();
-    let Some(word) = words.next() else {
-        return Ok(());
-    };
+    let words: Vec<String> = env::args(rt)?.collect(rt.alloc())?;
+    match words.get(1) {
+        Some(word) => asked(rt, word.as_str(), words.get(2..).unwrap_or(&[])),
+        None => Ok(()),
+    }
+}
+
+/// Does what a word asks, with those behind it. A word with a colon names a load of the relay,
+/// `history` is a stop and a start, any other word a work on texts.
+fn asked(rt: &HostRuntime, word: &str, behind: &[String]) -> io::Result<()> {
     if word.contains(':') {
-        serve_all(rt, word, words)
-    } else if word.as_str() == "history" {
-        keep_all(rt, words)
+        serve_all(rt, word, behind)
+    } else if word == "history" {
+        keep_all(rt, behind)
     } else {
-        time_all(rt, word.as_str(), words)
+        time_all(rt, word, behind)
     }
 }
 
 /// Goes through a stop and a start with as many message-ids as the next word says.
-fn keep_all(rt: &HostRuntime, words: Args) -> io::Result<()> {
-    let mut words = words;
-    let Some(word) = words.next() else {
+fn keep_all(rt: &HostRuntime, words: &[String]) -> io::Result<()> {
+    let Some(word) = words.first() else {
         return Err(unknown());
     };
     match word.as_str().parse::<u32>() {
@@ -55,28 +58,49 @@ fn keep_all(rt: &HostRuntime, words: Args) -> io::Result<()> {
 }
 
 /// Has one relay serve the load that each word names, in order.
-fn serve_all(rt: &HostRuntime, first: String, words: Args) -> io::Result<()> {
+fn serve_all(rt: &HostRuntime, first: &str, others: &[String]) -> io::Result<()> {
     let mut bench = Bench::new(rt)?;
-    serve(rt, &mut bench, first.as_str())?;
-    for word in words {
-        serve(rt, &mut bench, word.as_str())?;
+    let served = serve_each(rt, &mut bench, first, others);
+    drop(bench);
+    served
+}
+
+/// Serves the load that each word names, in order.
+fn serve_each(
+    rt: &HostRuntime,
+    bench: &mut Bench,
+    first: &str,
+    others: &[String],
+) -> io::Result<()> {
+    serve(rt, bench, first)?;
+    for word in others {
+        serve(rt, bench, word.as_str())?;
     }
     Ok(())
 }
 
-/// Serves what a word as `take:10000` names, and prints a line: the word, how many events there
-/// were, the seconds that they took, and the memory that the program has afterwards.
+/// Serves what a word as `take:10000` names, and prints its line.
 fn serve(rt: &HostRuntime, bench: &mut Bench, word: &str) -> io::Result<()> {
-    let Some((name, count)) = word.split_once(':') else {
-        return Err(unknown());
-    };
-    let Some(load) = loads::named(name) else {
-        return Err(unknown());
-    };
-    let Ok(count) = count.parse::<u32>() else {
+    let Some((load, count)) = load_named(word) else {
         return Err(unknown());
     };
     let (events, seconds) = bench.serve(rt, load, u64::from(count))?;
+    print_served(rt, word, events, seconds)
+}
+
+/// The load that a word as `take:10000` names, and for how many ids.
+fn load_named(word: &str) -> Option<(&'static Load, u32)> {
+    let (name, count) = word.split_once(':')?;
+    let load = loads::named(name)?;
+    match count.parse::<u32>() {
+        Ok(count) => Some((load, count)),
+        Err(_) => None,
+    }
+}
+
+/// Prints the line of a load: the word, how many events there were, the seconds that they took, and
+/// the memory that the program has afterwards.
+fn print_served(rt: &HostRuntime, word: &str, events: usize, seconds: f64) -> io::Result<()> {
     let memory = fs::read_to_string(rt, "/proc/self/statm")?;
     let pages = memory.as_str().split(' ').nth(1).unwrap_or("0");
     println!(rt; "{word} {events} {seconds:.6} {pages}")
@@ -89,22 +113,26 @@ fn unknown() -> io::Error {
 
 /// Times the work of this name. The words are the number that it needs, how often it is done on
 /// each text, and the files of the texts.
-fn time_all(rt: &HostRuntime, name: &str, words: Args) -> io::Result<()> {
-    let mut words = words;
+fn time_all(rt: &HostRuntime, name: &str, words: &[String]) -> io::Result<()> {
     let job = Job {
         work: work::named(name),
-        number: count(words.next()),
+        number: count(words.first()),
     };
-    let runs = count(words.next());
-    let mut texts = Vec::new(rt.alloc());
-    for path in words {
-        texts.push(fs::read(rt, path.as_str())?)?;
-    }
-    for run in 0..runs {
+    let texts = texts_of(rt, words.get(2..).unwrap_or(&[]))?;
+    for run in 0..count(words.get(1)) {
         let _run = run;
         print_times(rt, job, &texts)?;
     }
     Ok(())
+}
+
+/// The texts of these files.
+fn texts_of(rt: &HostRuntime, paths: &[String]) -> io::Result<Vec<Vec<u8>>> {
+    let mut texts = Vec::new(rt.alloc());
+    for path in paths {
+        texts.push(fs::read(rt, path.as_str())?)?;
+    }
+    Ok(texts)
 }
 
 /// Does the work on each text in turn, and prints a line for each: the seconds that it took.
@@ -117,7 +145,7 @@ fn print_times(rt: &HostRuntime, job: Job, texts: &[Vec<u8>]) -> io::Result<()> 
 }
 
 /// The count that a word names, or none.
-fn count(word: Option<String>) -> usize {
+fn count(word: Option<&String>) -> usize {
     match word {
         Some(word) => word.as_str().parse::<usize>().unwrap_or(0),
         None => 0,

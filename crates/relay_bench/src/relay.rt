@@ -132,7 +132,13 @@ fn relay(rt: &HostRuntime, alloc: Global) -> io::Result<System<MemoryBlocks>> {
     let Some(config) = config(alloc) else {
         return Err(io::Error::from(ErrorKind::InvalidData));
     };
-    let stores = stores_of(alloc, &config.buffers)?;
+    let stores = match stores_of(alloc, &config.buffers) {
+        Ok(stores) => stores,
+        Err(error) => {
+            drop(config);
+            return Err(io::Error::from(error));
+        }
+    };
     match System::new(rt, alloc, config, stores) {
         Ok(system) => Ok(system),
         Err(BeginError::Host(error)) => Err(error),
@@ -155,7 +161,11 @@ fn stores_of(alloc: Global, settings: &Buffers) -> Result<Vec<MemoryBlocks>, All
 
 /// K1, but for its buffers. `None` where memory is refused.
 fn config(alloc: Global) -> Option<Config> {
-    let (Ok(ring), Ok(k1)) = (read_cycbuff(alloc, CYCBUFF), Config::k1(alloc)) else {
+    let Ok(k1) = Config::k1(alloc) else {
+        return None;
+    };
+    let Ok(ring) = read_cycbuff(alloc, CYCBUFF) else {
+        drop(k1);
         return None;
     };
     let Config {
@@ -163,7 +173,11 @@ fn config(alloc: Global) -> Option<Config> {
         storage_entries,
         relay,
     } = k1;
-    if ring.groups.len() != buffers.groups.len() {
+    let groups = buffers.groups.len();
+    drop(buffers);
+    if ring.groups.len() != groups {
+        drop(ring);
+        drop(relay);
         return None;
     }
     Some(Config::new(ring, storage_entries, relay))

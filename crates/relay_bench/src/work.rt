@@ -75,10 +75,12 @@ static WORDS: [(&str, Work); 14] = [
 
 /// The work of this name.
 pub fn named(name: &str) -> Work {
-    match WORDS.iter().find(|row| row.0 == name) {
-        Some(row) => row.1,
-        None => Work::Lines,
+    for (word, work) in WORDS.iter() {
+        if *word == name {
+            return *work;
+        }
     }
+    Work::Lines
 }
 
 /// The seconds that the work takes; what it stands on is not timed.
@@ -113,26 +115,32 @@ fn whole(rt: &HostRuntime, job: Job, text: &[u8]) -> io::Result<f64> {
 fn is_done(alloc: Global, job: Job, text: &[u8]) -> bool {
     match job.work {
         Work::Lines | Work::Blocks | Work::Find => cut(alloc, text, job).is_ok(),
-        Work::Stuff => stuff(alloc, text).is_ok(),
-        Work::Parse => Article::parse(alloc, text).is_ok(),
-        Work::Expression => Expr::parse(alloc, text).is_ok(),
+        Work::Stuff => is_had(stuff(alloc, text)),
+        Work::Parse => is_had(Article::parse(alloc, text)),
+        Work::Expression => is_had(Expr::parse(alloc, text)),
         Work::Storage => configure_storage(alloc, text),
         Work::Relay => {
-            let _settings = read_relay(alloc, text);
+            drop(read_relay(alloc, text));
             true
         }
         _ => {
-            let _settings = read_cycbuff(alloc, text);
+            drop(read_cycbuff(alloc, text));
             true
         }
     }
+}
+
+/// Whether there is what was to be had, which is let go.
+fn is_had<T: Drop, E: Drop>(had: Result<T, E>) -> bool {
+    had.is_ok()
 }
 
 /// Reads the text as a storage.conf over one group; a fault of it is none here.
 fn configure_storage(alloc: Global, text: &[u8]) -> bool {
     match read_cycbuff(alloc, b"cycbuff:A:a:1\nmetacycbuff:G:A\n") {
         Ok(buffers) => {
-            let _settings = read_storage(alloc, text, &buffers);
+            drop(read_storage(alloc, text, &buffers));
+            drop(buffers);
             true
         }
         Err(_) => false,
@@ -144,22 +152,28 @@ fn of_article(rt: &HostRuntime, work: Work, text: &[u8]) -> io::Result<f64> {
     let Ok(article) = Article::parse(rt.alloc(), text) else {
         return Err(io::Error::from(ErrorKind::InvalidData));
     };
+    let took = working(rt, work, &article);
+    drop(article);
+    took
+}
+
+/// The seconds that work on an article takes.
+fn working(rt: &HostRuntime, work: Work, article: &Article) -> io::Result<f64> {
     let start = Instant::now(rt)?;
+    work_on(rt.alloc(), work, article);
+    since(rt, start)
+}
+
+/// Does work on an article, and lets go what is answered.
+fn work_on(alloc: Global, work: Work, article: &Article) {
     match work {
-        Work::Groups => {
-            let _groups = article.groups(rt.alloc());
-        }
-        Work::Updated => {
-            let _update = updated(rt.alloc(), &article, OWN, b"one.example");
-        }
+        Work::Groups => drop(article.groups(alloc)),
+        Work::Updated => drop(updated(alloc, article, OWN, b"one.example")),
         Work::Loops => {
             let _looped = loops(article.field(b"Path").unwrap_or(b""), OWN);
         }
-        _ => {
-            let _list = identities(rt.alloc(), article.field(b"Path").unwrap_or(b""));
-        }
+        _ => drop(identities(alloc, article.field(b"Path").unwrap_or(b""))),
     }
-    since(rt, start)
 }
 
 /// The seconds that judging a name of so many `a` and a `b` takes.
@@ -169,18 +183,32 @@ fn judging(rt: &HostRuntime, pattern: &[u8], count: usize) -> io::Result<f64> {
     let Ok(expression) = Expr::parse(rt.alloc(), pattern) else {
         return Err(io::Error::from(ErrorKind::InvalidData));
     };
+    let took = judged(rt, &expression, &name);
+    drop(expression);
+    took
+}
+
+/// The seconds that judging a name takes.
+fn judged(rt: &HostRuntime, expression: &Expr, name: &[u8]) -> io::Result<f64> {
     let start = Instant::now(rt)?;
-    let _verdict = expression.judge(&name);
+    let _verdict = expression.judge(name);
     since(rt, start)
 }
 
 /// Cuts the whole stream, which comes in pieces of so many octets.
 fn cut(alloc: Global, stream: &[u8], job: Job) -> Result<(), CutError> {
     let mut cutter = Cutter::new(alloc, MAX_BLOCK);
+    let cut = cut_all(&mut cutter, stream, job);
+    drop(cutter);
+    cut
+}
+
+/// Feeds the whole stream in such pieces, and cuts what is whole of each.
+fn cut_all(cutter: &mut Cutter, stream: &[u8], job: Job) -> Result<(), CutError> {
     for octets in stream.chunks(job.number.max(1)) {
         cutter.feed(octets)?;
         for _ in 0..u64::MAX {
-            if !cut_one(&mut cutter, job.work)? {
+            if !cut_one(cutter, job.work)? {
                 break;
             }
         }
