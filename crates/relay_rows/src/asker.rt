@@ -1,5 +1,6 @@
 //! What asks in a row: it opens no socket, fails as a line of the row says, and tells what it was
 //! asked.
+use crate::words::is;
 use relay_command::Request;
 use std::alloc::Global;
 use std::io;
@@ -20,16 +21,16 @@ pub fn ask(alloc: Global, manner: &[u8], folder: &str, request: Request) -> io::
 /// The failure that a row's line names: no socket is there, nobody hears at it, it is another
 /// user's, or there is no memory.
 fn failure_of(manner: &[u8]) -> Option<ErrorKind> {
-    if manner == b"no socket".as_slice() {
+    if is(manner, b"no socket") {
         return Some(ErrorKind::NotFound);
     }
-    if manner == b"nobody".as_slice() {
+    if is(manner, b"nobody") {
         return Some(ErrorKind::ConnectionRefused);
     }
-    if manner == b"denied".as_slice() {
+    if is(manner, b"denied") {
         return Some(ErrorKind::PermissionDenied);
     }
-    if manner == b"memory".as_slice() {
+    if is(manner, b"memory") {
         return Some(ErrorKind::OutOfMemory);
     }
     None

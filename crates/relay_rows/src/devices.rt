@@ -1,4 +1,5 @@
 //! A drill over devices that fail.
+use crate::words::is;
 use relay_command::Failure;
 use relay_conf::Config;
 use relay_drill::{DrillError, drill_failing};
@@ -9,10 +10,10 @@ use std::random::RandomSource;
 /// The call of each device that fails by the line of a row about its machine. `None` where that
 /// says nothing of devices.
 pub fn failing_call(machine: &[u8]) -> Option<u64> {
-    if machine == b"first call".as_slice() {
+    if is(machine, b"first call") {
         return Some(1);
     }
-    if machine == b"second call".as_slice() {
+    if is(machine, b"second call") {
         return Some(2);
     }
     None

@@ -1,4 +1,5 @@
 //! Texts with long repeats, written short.
+use crate::words::is;
 use line_words::{cut, number_within, three_parts};
 use std::alloc::{AllocError, Global};
 
@@ -35,11 +36,11 @@ pub fn expanded(alloc: Global, text: &[u8]) -> Result<Vec<u8>, AllocError> {
 /// Adds what `article S I K`, `hex TEXT`, `FIRST-LAST TEXT` or `N TEXT` stands for.
 fn add_marked(alloc: Global, whole: &mut Vec<u8>, inside: &[u8]) -> Result<(), AllocError> {
     let (word, behind) = cut(inside, b' ');
-    if word == b"article".as_slice() {
+    if is(word, b"article") {
         return add_article(whole, behind);
     }
     let text = behind.unwrap_or(b"");
-    if word == b"hex".as_slice() {
+    if is(word, b"hex") {
         return add_hex(whole, text);
     }
     match cut(word, b'-') {

@@ -1,5 +1,6 @@
 //! The machine of a row: the files of the system, and its random numbers, of which it may have
 //! none.
+use crate::words::is;
 use std::alloc::Allocator;
 use std::fs::{Files, Metadata, OpenOptions};
 use std::io;
@@ -18,7 +19,7 @@ impl<'a> Machine<'a> {
     pub fn new(rt: &'a HostRuntime, manner: &[u8]) -> Machine<'a> {
         Machine {
             rt,
-            unseeded: manner == b"unseeded".as_slice(),
+            unseeded: is(manner, b"unseeded"),
         }
     }
 }

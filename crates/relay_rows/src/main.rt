@@ -21,24 +21,31 @@ mod words;
 use manner::{Manner, manner_of};
 use relay_drill::read_all;
 use row::Row;
-use std::io;
 use std::io::{ErrorKind, Write};
+use std::{io, mem};
 
 fn main(rt: HostRuntime) -> io::Result<()> {
     let Ok(text) = read_all(rt.alloc(), &mut rt.reader()) else {
         return Err(io::Error::from(ErrorKind::InvalidInput));
     };
     let mut row = Row::new(rt.alloc(), Manner::Once, b"");
-    for line in text.as_slice().split(|octet| *octet == b'\n') {
+    let played = play(&rt, text.as_slice(), &mut row);
+    drop(row);
+    played
+}
+
+/// Plays the rows of a text, behind this one.
+fn play<'a>(rt: &HostRuntime, text: &'a [u8], row: &mut Row<'a>) -> io::Result<()> {
+    for line in text.split(|octet| *octet == b'\n') {
         match manner_of(line) {
             Some(manner) => {
-                print(&rt, &row)?;
-                row = Row::new(rt.alloc(), manner, line);
+                print(rt, row)?;
+                drop(mem::replace(row, Row::new(rt.alloc(), manner, line)));
             }
             None => row.add(line)?,
         }
     }
-    print(&rt, &row)
+    print(rt, row)
 }
 
 /// Prints a row and what it gives. What stands before the first row is none.

@@ -7,12 +7,12 @@ use crate::machine::Machine;
 use crate::manner::{Manner, add_cut, counted, joined};
 use crate::server::{ending_of, serve};
 use crate::streams::{Input, Output};
-use crate::words::Words;
+use crate::words::{Words, behind};
 use line_words::cut;
 use relay_command::{Failure, gathering, print_failure, program_words, run};
 use std::alloc::{AllocError, Global};
-use std::io;
 use std::io::{BufWriter, ErrorKind};
+use std::{io, mem};
 
 /// The line before a script whose octets come one by one.
 const SPLIT: &[u8] = b"split 1\n";
@@ -60,19 +60,19 @@ impl<'a> Row<'a> {
     pub fn add(&mut self, line: &'a [u8]) -> Result<(), AllocError> {
         if self.begun {
             self.script.push(b'\n')?;
-        } else if let Some(word) = line.strip_prefix(b"$ ".as_slice()) {
+        } else if let Some(word) = behind(line, b"$ ") {
             self.words.push(word)?;
             return Ok(());
-        } else if let Some(input) = line.strip_prefix(b"< ".as_slice()) {
+        } else if let Some(input) = behind(line, b"< ") {
             self.input = input;
             return Ok(());
-        } else if let Some(output) = line.strip_prefix(b"> ".as_slice()) {
+        } else if let Some(output) = behind(line, b"> ") {
             self.output = output;
             return Ok(());
-        } else if let Some(machine) = line.strip_prefix(b"! ".as_slice()) {
+        } else if let Some(machine) = behind(line, b"! ") {
             self.machine = machine;
             return Ok(());
-        } else if let Some(server) = line.strip_prefix(b"@ ".as_slice()) {
+        } else if let Some(server) = behind(line, b"@ ") {
             self.server = server;
             return Ok(());
         }
@@ -108,31 +108,49 @@ impl<'a> Row<'a> {
         let mut printed = Vec::new(rt.alloc());
         let mut last = Vec::new(rt.alloc());
         for octets in 1..=digits.len() / 2 {
-            let mut script = Vec::from_slice(rt.alloc(), front)?;
-            script.extend_from_slice(digits.get(..octets * 2).unwrap_or(b""))?;
-            script.extend_from_slice(behind.unwrap_or(b""))?;
-            let played = self.play_script(rt, &script)?;
-            add_cut(rt.alloc(), &mut printed, octets, &last, &played)?;
-            last = played;
+            let come = digits.get(..octets * 2).unwrap_or(b"");
+            let parts = [front, come, behind.unwrap_or(b"")];
+            self.play_cut(rt, octets, parts, &mut printed, &mut last)?;
         }
         Ok(printed)
+    }
+
+    /// Plays the row where so many octets come, by the parts of its script, and adds what is printed
+    /// of that to what was printed of earlier cuts, of which the last one gave this.
+    fn play_cut(
+        &self,
+        rt: &HostRuntime,
+        octets: usize,
+        parts: [&[u8]; 3],
+        printed: &mut Vec<u8>,
+        last: &mut Vec<u8>,
+    ) -> io::Result<()> {
+        let script = parts.concat(rt.alloc())?;
+        let played = self.play_script(rt, &script)?;
+        add_cut(rt.alloc(), printed, octets, last, &played)?;
+        drop(mem::replace(last, played));
+        Ok(())
     }
 
     /// What the row gives with this script: what the program wrote, and its failure.
     fn play_script(&self, rt: &HostRuntime, script: &[u8]) -> io::Result<Vec<u8>> {
         let alloc = rt.alloc();
-        let Ok(mut output) = gathering(alloc, Output::new(alloc, self.output)) else {
-            return Err(io::Error::from(ErrorKind::OutOfMemory));
+        let mut output = match gathering(alloc, Output::new(alloc, self.output)) {
+            Ok(output) => output,
+            Err(failure) => {
+                drop(failure);
+                return Err(io::Error::from(ErrorKind::OutOfMemory));
+            }
         };
         let ran = self.run_with(rt, script, &mut output);
         let (device, _unwritten) = output.into_parts();
         let mut played = device.written;
-        print_failure(&ran, &mut played)?;
-        if let Err(failure) = ran {
-            let status = format!(in alloc; "status {}\n", failure.status())?;
-            played.extend_from_slice(status.as_bytes())?;
+        let told = tell(alloc, &ran, &mut played);
+        drop(ran);
+        match told {
+            Ok(()) => Ok(played),
+            Err(error) => Err(error),
         }
-        Ok(played)
     }
 
     /// Does what the row's words ask for, with this script.
@@ -144,18 +162,32 @@ impl<'a> Row<'a> {
     ) -> Result<(), Failure> {
         let words = program_words(&(Words(&self.words), rt.alloc()))?;
         let mut input = Input::new(script, self.input);
+        match failing_call(self.machine) {
+            Some(failing) => {
+                let machine = Machine::new(rt, self.machine);
+                drill_k1(&machine, rt.alloc(), failing, &mut input, output)
+            }
+            None => self.run_words(rt, &words, &mut input, output),
+        }
+    }
+
+    /// Does what these words ask for.
+    fn run_words(
+        &self,
+        rt: &HostRuntime,
+        words: &[String],
+        input: &mut Input<'_>,
+        output: &mut BufWriter<Output>,
+    ) -> Result<(), Failure> {
         let machine = Machine::new(rt, self.machine);
         let alloc = rt.alloc();
-        if let Some(failing) = failing_call(self.machine) {
-            return drill_k1(&machine, alloc, failing, &mut input, output);
-        }
         let manner = self.server;
         let ending = ending_of(manner);
         run(
             &machine,
             alloc,
-            &words,
-            &mut input,
+            words,
+            input,
             output,
             move |config, folder, sessions, fresh, writer| {
                 serve(alloc, ending, config, folder, sessions, fresh, writer)
@@ -163,4 +195,14 @@ impl<'a> Row<'a> {
             move |folder, request| ask(alloc, manner, folder, request),
         )
     }
+}
+
+/// Adds the text of a failure, if there is one, and its status.
+fn tell(alloc: Global, ran: &Result<(), Failure>, played: &mut Vec<u8>) -> io::Result<()> {
+    print_failure(ran, played)?;
+    if let Err(failure) = ran {
+        let status = format!(in alloc; "status {}\n", failure.status())?;
+        played.extend_from_slice(status.as_bytes())?;
+    }
+    Ok(())
 }

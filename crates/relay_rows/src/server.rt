@@ -5,6 +5,7 @@ ghost use Rattle.relay_conf.specs.declared.settings.Config.{Config};
 ghost use Rattle.relay_report.specs.Figures.{name_of};
 ghost use Rattle.relay_report.specs.Serve.{AreOf, ServeGives};
 
+use crate::words::{behind, is};
 use block_shelf::BufferFigures;
 use id_history::Counts;
 use line_words::Octets;
@@ -49,31 +50,31 @@ pub enum Ending {
 
 /// The ending that a row's line names.
 pub fn ending_of(manner: &[u8]) -> Ending {
-    if manner == b"file".as_slice() {
+    if is(manner, b"file") {
         return Ending::File;
     }
-    if manner == b"port".as_slice() {
+    if is(manner, b"port") {
         return Ending::Port;
     }
-    if manner == b"control".as_slice() {
+    if is(manner, b"control") {
         return Ending::Control;
     }
-    if manner == b"unseeded".as_slice() {
+    if is(manner, b"unseeded") {
         return Ending::Unseeded;
     }
-    if manner == b"memory".as_slice() {
+    if is(manner, b"memory") {
         return Ending::Memory;
     }
-    if manner == b"thread".as_slice() {
+    if is(manner, b"thread") {
         return Ending::Thread;
     }
-    if manner == b"unwritten".as_slice() {
+    if is(manner, b"unwritten") {
         return Ending::Unwritten;
     }
-    if let Some(fault) = manner.strip_prefix(b"start ".as_slice()) {
+    if let Some(fault) = behind(manner, b"start ") {
         return start_of(fault);
     }
-    if let Some(fault) = manner.strip_prefix(b"stop ".as_slice()) {
+    if let Some(fault) = behind(manner, b"stop ") {
         return stop_of(fault);
     }
     Ending::Reported
@@ -81,25 +82,25 @@ pub fn ending_of(manner: &[u8]) -> Ending {
 
 /// The ending by the fault of a start of this name.
 fn start_of(fault: &[u8]) -> Ending {
-    if fault == b"Device".as_slice() {
+    if is(fault, b"Device") {
         return Ending::Buffer(BufferFault::Device);
     }
-    if fault == b"NoHead".as_slice() {
+    if is(fault, b"NoHead") {
         return Ending::Buffer(BufferFault::NoHead);
     }
-    if fault == b"Unclosed".as_slice() {
+    if is(fault, b"Unclosed") {
         return Ending::Buffer(BufferFault::Unclosed);
     }
-    if fault == b"Damaged".as_slice() {
+    if is(fault, b"Damaged") {
         return Ending::Buffer(BufferFault::Damaged);
     }
-    if fault == b"Mixed".as_slice() {
+    if is(fault, b"Mixed") {
         return Ending::Buffer(BufferFault::Mixed);
     }
-    if fault == b"BadHistory".as_slice() {
+    if is(fault, b"BadHistory") {
         return Ending::BadHistory;
     }
-    if fault == b"Ahead".as_slice() {
+    if is(fault, b"Ahead") {
         return Ending::Ahead;
     }
     Ending::History
@@ -107,10 +108,10 @@ fn start_of(fault: &[u8]) -> Ending {
 
 /// The ending by the fault of a stop of this name.
 fn stop_of(fault: &[u8]) -> Ending {
-    if fault == b"NotIdle".as_slice() {
+    if is(fault, b"NotIdle") {
         return Ending::Stop(StopFault::NotIdle);
     }
-    if fault == b"Device".as_slice() {
+    if is(fault, b"Device") {
         return Ending::Stop(StopFault::Device);
     }
     Ending::Stop(StopFault::History)
@@ -129,12 +130,28 @@ pub fn serve<W: Write>(
     ensures { ServeGives config.now result (W.contents writer.old) (W.contents writer.new) }
 {
     let totals = totals_of(alloc, config, folder, sessions, fresh)?;
+    let served = end(alloc, ending, config, &totals, writer);
+    drop(totals);
+    served
+}
+
+/// Ends what serves, with these totals.
+fn end<W: Write>(
+    alloc: Global,
+    ending: Ending,
+    config: &Config,
+    totals: &Totals,
+    writer: &mut W,
+) -> Result<(), ServeError>
+    requires { AreOf config.now totals.now }
+    ensures { ServeGives config.now result (W.contents writer.old) (W.contents writer.new) }
+{
     if matches!(ending, Ending::Unwritten) {
         return Err(ServeError::Unwritten);
     }
     match failure_of(alloc, config, ending)? {
         Some(error) => Err(error),
-        None => print_totals(alloc, &totals, writer),
+        None => print_totals(alloc, totals, writer),
     }
 }
 

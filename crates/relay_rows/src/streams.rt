@@ -1,4 +1,5 @@
 //! The streams of a row: octets in memory, and streams that give little, break off or fill up.
+use crate::words::is;
 use std::alloc::Global;
 use std::io;
 use std::io::{ErrorKind, Read, Write};
@@ -16,10 +17,10 @@ pub struct Input<'a> {
 impl<'a> Input<'a> {
     /// These octets, given in this manner.
     pub fn new(rest: &'a [u8], manner: &[u8]) -> Input<'a> {
-        let broken = manner == b"broken".as_slice();
+        let broken = is(manner, b"broken");
         Input {
             rest,
-            by_octets: broken || manner == b"octets".as_slice(),
+            by_octets: broken || is(manner, b"octets"),
             broken,
             interrupted: false,
         }
@@ -64,13 +65,13 @@ impl Output {
 
 /// How many octets are taken before it fails.
 fn most_of(manner: &[u8]) -> usize {
-    if manner == b"closed".as_slice() {
+    if is(manner, b"closed") {
         return 0;
     }
-    if manner == b"full".as_slice() {
+    if is(manner, b"full") {
         return 40;
     }
-    if manner == b"large".as_slice() {
+    if is(manner, b"large") {
         return 65_600;
     }
     usize::MAX
