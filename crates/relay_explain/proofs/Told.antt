@@ -19,6 +19,25 @@ numbered_more xs k d there =
     (get_or-enumerate_from 0 xs k (k, d) there
     ∙ ap (λ number. (number, get_or xs k d)) (zero-add k))
 
+-- What is told of one element more stands behind what is told of the others.
+pub told_next : {X : Type 0} (f : X → List ℕ) (xs : List X) (k : ℕ) (d : X)
+    (before had after : List ℕ) → k < length xs → had ≡ before ++ flat_map f (take k xs)
+    → after ≡ had ++ f (get_or xs k d) → after ≡ before ++ flat_map f (take (k + 1) xs)
+told_next f xs k d before had after there so_far told =
+    let one = get_or xs k d in
+    let front = flat_map f (take k xs) in
+    let more : flat_map f (take (k + 1) xs) ≡ front ++ f one =
+    ap (flat_map f) (take_more xs k d there) ∙ flat_map-append f (take k xs) (one ∷ [])
+    ∙ ap (λ last. front ++ last) (append-nil (f one)) in
+    told ∙ ap (λ text. text ++ f one) so_far ∙ append_assoc before front (f one)
+    ∙ ap (λ text. before ++ text) (sym more)
+
+-- At the end it is told of all.
+pub told_each : {X : Type 0} (f : X → List ℕ) (xs : List X) (k : ℕ) (before had : List ℕ)
+    → length xs ≤ k → had ≡ before ++ flat_map f (take k xs) → had ≡ before ++ flat_map f xs
+told_each f xs k before had end so_far =
+    so_far ∙ ap (λ front. before ++ flat_map f front) (take_all k xs end)
+
 -- What is told of one numbered element more stands behind what is told of the others.
 pub told_more : {X : Type 0} (f : ℕ × X → List ℕ) (xs : List X) (k : ℕ) (d : X)
     (before had after : List ℕ) → k < length xs

@@ -96,7 +96,7 @@ fn put_class(
 }
 
 /// The group of this number, where it is there.
-fn group_at(config: &Config, group: u16) -> Option<&GroupConf>
+pub(crate) fn group_at(config: &Config, group: u16) -> Option<&GroupConf>
     ensures { option_copied result ≡ slice_get config.now.buffers.groups.items group }
 {
     config.buffers.groups.get(usize::from(group))

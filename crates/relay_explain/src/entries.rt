@@ -5,6 +5,7 @@ ghost use Rattle.relay_explain.specs.Entries as terms;
 ghost use Rattle.relay_explain.specs.Lines.{told_line};
 
 use crate::buffers::largest_stored;
+use crate::choice::group_at;
 use crate::patterns::put_pattern_odds;
 use crate::rows::{Row, rows_of};
 use crate::text::{put, put_line, put_odd};
@@ -159,7 +160,7 @@ fn group_name(config: &Config, group: u16) -> &[u8]
     ensures { result.now
         ≡ terms.group_name (slice_get config.now.buffers.groups.items group) }
 {
-    match config.buffers.groups.get(usize::from(group)) {
+    match group_at(config, group) {
         Some(group) => group.name.as_slice(),
         None => b"",
     }

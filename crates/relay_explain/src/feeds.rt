@@ -3,8 +3,9 @@ ghost use Rattle.std.specs.Prelude.{◌≡◌, ◌++◌, drop, map, slice_get, O
 ghost use Rattle.std.specs.Option.{option_copied};
 ghost use Rattle.line_words.specs.Words.{words};
 ghost use Rattle.line_words.specs.declared.words.Between.TheVariants.{Spaces};
-ghost use Rattle.relay_explain.specs.Lines.{line_at};
+ghost use Rattle.relay_explain.specs.Lines.{line_at, told_line};
 ghost use Rattle.relay_explain.specs.Peers as terms;
+ghost use Rattle.relay_explain.specs.Settings.{relay_conf};
 
 use crate::lines::{line_at, peer_line};
 use crate::patterns::put_pattern_odds;
@@ -63,7 +64,7 @@ fn newsgroups_at<'a>(lines: &[&'a [u8]], line: usize) -> &'a [u8]
 }
 
 /// Puts what is told of a feed of this peer, which this line says with these newsgroups.
-#[tactic(auto, unfolding(crate::specs::Peers::feed_told, crate::specs::Peers::feed_told_on))]
+#[tactic(auto, unfolding(crate::specs::Peers::feed_told_on))]
 fn put_told_on(
     text: &mut Vec<u8>,
     line: usize,
@@ -74,20 +75,7 @@ fn put_told_on(
     ensures { OnOk result (text.new.items ≡ text.old.items
         ++ terms.feed_told_on line newsgroups.now (option_copied peer.entry) feed.now) }
 {
-    let mut ring = Buffer::new();
-    put_line(
-        text,
-        RELAY,
-        line,
-        &[
-            b"feed of ",
-            name_of(peer),
-            b": newsgroups ",
-            newsgroups,
-            b", tokens that wait at most: ",
-            ring.format(feed.ring).as_bytes(),
-        ],
-    )?;
+    put_feed_line(text, line, newsgroups, name_of(peer), feed.ring)?;
     put_pattern_odds(text, RELAY, line, newsgroups)?;
     put_odd(
         text,
@@ -102,6 +90,34 @@ fn put_told_on(
         RELAY,
         line,
         &[b"of a ring of 1 only the newest token is ever there"],
+    )
+}
+
+/// Puts the line of a feed of the peer of this name.
+#[tactic(auto, unfolding(crate::specs::Peers::feed_told))]
+fn put_feed_line(
+    text: &mut Vec<u8>,
+    line: usize,
+    newsgroups: &[u8],
+    name: &[u8],
+    ring: u32,
+) -> Result<(), AllocError>
+    ensures { OnOk result (text.new.items ≡ text.old.items
+        ++ told_line relay_conf line (terms.feed_told name.now newsgroups.now ring)) }
+{
+    let mut digits = Buffer::new();
+    put_line(
+        text,
+        RELAY,
+        line,
+        &[
+            b"feed of ",
+            name,
+            b": newsgroups ",
+            newsgroups,
+            b", tokens that wait at most: ",
+            digits.format(ring).as_bytes(),
+        ],
     )
 }
 
