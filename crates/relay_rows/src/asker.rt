@@ -1,6 +1,6 @@
 //! What asks in a row: it opens no socket, fails as a line of the row says, and tells what it was
 //! asked.
-use crate::words::is;
+use line_words::is;
 use relay_command::Request;
 use std::alloc::Global;
 use std::io;

@@ -1,5 +1,5 @@
 //! A drill over devices that fail.
-use crate::words::is;
+use line_words::is;
 use relay_command::Failure;
 use relay_conf::Config;
 use relay_drill::{DrillError, drill_failing};

@@ -1,6 +1,5 @@
 //! Texts with long repeats, written short.
-use crate::words::is;
-use line_words::{cut, number_within, three_parts};
+use line_words::{cut, is, number_within, three_parts};
 use std::alloc::{AllocError, Global};
 
 /// The most that a number of a repeat can be.

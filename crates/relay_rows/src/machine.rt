@@ -1,6 +1,6 @@
 //! The machine of a row: the files of the system, and its random numbers, of which it may have
 //! none.
-use crate::words::is;
+use line_words::is;
 use std::alloc::Allocator;
 use std::fs::{Files, Metadata, OpenOptions};
 use std::io;

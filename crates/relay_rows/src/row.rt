@@ -115,8 +115,8 @@ impl<'a> Row<'a> {
         Ok(printed)
     }
 
-    /// Plays the row where so many octets come, by the parts of its script, and adds what is printed
-    /// of that to what was printed of earlier cuts, of which the last one gave this.
+    /// Plays the row where so many octets come, by the parts of its script, and adds what is
+    /// printed of that to what was printed of earlier cuts, of which the last one gave this.
     fn play_cut(
         &self,
         rt: &HostRuntime,

@@ -5,10 +5,10 @@ ghost use Rattle.relay_conf.specs.declared.settings.Config.{Config};
 ghost use Rattle.relay_report.specs.Figures.{name_of};
 ghost use Rattle.relay_report.specs.Serve.{AreOf, ServeGives};
 
-use crate::words::{behind, is};
+use crate::words::behind;
 use block_shelf::BufferFigures;
 use id_history::Counts;
-use line_words::Octets;
+use line_words::{Octets, is};
 use relay_conf::{BufferConf, Config, Peer, Relay};
 use relay_report::{
     BufferFault, FeedFigures, Figures, LostFile, LostPort, NamedBuffer, NamedFeed, Reason,

@@ -1,5 +1,5 @@
 //! The streams of a row: octets in memory, and streams that give little, break off or fill up.
-use crate::words::is;
+use line_words::is;
 use std::alloc::Global;
 use std::io;
 use std::io::{ErrorKind, Read, Write};

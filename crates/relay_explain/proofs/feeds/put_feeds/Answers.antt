@@ -10,14 +10,16 @@ loop-feed-preserved c =
     omega (arith, ap length same, c.loop-feed-test.true) in
     let one = c.feed-item.is
     ∙ ap (λ all. get_or all c.loop-feed.feed-index c.feed-item.result) same in
-    told_next (feed_text c.args.relay.now (map (λ line. line.now) c.args.lines.now)) c.args.relay.now.feeds.items
+    told_next (feed_text c.args.relay.now (map (λ line. line.now) c.args.lines.now))
+    c.args.relay.now.feeds.items
     c.loop-feed.feed-index c.feed-item.result _ _ _ there c.loop-feed.invariant
     (rw (← one) c.in_ok-put_feed.ensures)
 
 pub returns : goal.returns
 unfolding feeds_text
 returns c =
-    told_each (feed_text c.args.relay.now (map (λ line. line.now) c.args.lines.now)) c.args.relay.now.feeds.items
+    told_each (feed_text c.args.relay.now (map (λ line. line.now) c.args.lines.now))
+    c.args.relay.now.feeds.items
     c.loop-feed.feed-index _ _
     (omega (arith, ap length c.deref-feed-items.ensures.value, c.loop-feed-test.false))
     c.loop-feed.invariant

@@ -10,14 +10,16 @@ loop-group-preserved c =
     omega (arith, ap length same, c.loop-group-test.true) in
     let one = c.group-item.is
     ∙ ap (λ all. get_or all c.loop-group.group-index c.group-item.result) same in
-    told_next (group_text c.args.config.now (map (λ line. line.now) c.args.lines.now)) c.args.config.now.buffers.groups.items
+    told_next (group_text c.args.config.now (map (λ line. line.now) c.args.lines.now))
+    c.args.config.now.buffers.groups.items
     c.loop-group.group-index c.group-item.result _ _ _ there c.loop-group.invariant
     (rw (← one) c.in_ok-put_group.ensures)
 
 pub returns : goal.returns
 unfolding groups_text
 returns c =
-    told_each (group_text c.args.config.now (map (λ line. line.now) c.args.lines.now)) c.args.config.now.buffers.groups.items
+    told_each (group_text c.args.config.now (map (λ line. line.now) c.args.lines.now))
+    c.args.config.now.buffers.groups.items
     c.loop-group.group-index _ _
     (omega (arith, ap length c.deref-group-items.ensures.value, c.loop-group-test.false))
     c.loop-group.invariant
