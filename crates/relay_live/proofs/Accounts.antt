@@ -1,6 +1,6 @@
 -- Ends that have served nothing yet.
 use Rattle.std.proofs.Common.{◌≡◌, ℕ, zero, suc, Bool, List, [], ◌∷◌, ◌++◌, length, map, Some, ap}
-use Rattle.std.proofs.Common.{◌+◌, refl, sym, ◌∙◌, subst, arith}
+use Rattle.std.proofs.Common.{◌+◌, append-nil, refl, sym, ◌∙◌, subst, arith}
 use Rattle.std.specs.Prelude.{slice_get}
 use Rattle.std.proofs.lemmas.List.{map-append}
 use Rattle.std.proofs.lemmas.Option.{same_Some}
@@ -63,6 +63,12 @@ module _ {X Y : Type 0} (f : X → Y) where
       front : (ys : List Y) → (ys ++ g p ∷ []) ++ map f next ≡ ys ++ g p ∷ map f next
       front [] = refl
       front (y ∷ ys) = ap (λ (l : List Y). y ∷ l) (front ys)
+
+  -- and has been read
+  pub all_read : {P : Type 0} (g : P → Y) (ps : List P) (rest : List X) (all : List Y)
+      → map g ps ++ map f rest ≡ all → rest ≡ [] → map g ps ≡ all
+  all_read {P} g ps rest all so_far none =
+      sym (append-nil (map g ps)) ∙ ap (λ (l : List X). map g ps ++ map f l) (sym none) ∙ so_far
 
 pub length_snoc : {X : Type 0} (xs now : List X) (x : X) → now ≡ xs ++ x ∷ []
     → length now ≡ length xs + 1

@@ -212,6 +212,15 @@ no_room s config stores text refused is of_none unwritten = record {
   cause = λ register w stop x store shut known. subst IsFromOutside (sym is) tt;
 }
 
+-- and no store was called yet
+pub no_room_before : {S : Type 0} (s : blocks.Ghosts S) (config : Config) (stores : List S)
+    (text : List ℕ) (refused : Unstarted S) → refused.error ≡ faults.Memory
+    → refused.buffer ≡ None → refused.stores.items ≡ stores
+    → IsRefusedRightly s config stores text refused
+no_room_before s config stores text refused is of_none same =
+    no_room s config stores text refused is of_none
+    (subst (AreEach (IsUnwritten s None) stores) (sym same) (untouched_stores s stores))
+
 -- the text is of no history, or memory was refused for it
 pub unread_or_room : {S : Type 0} (s : blocks.Ghosts S) (config : Config) (stores : List S)
     (text : List ℕ) (refused : Unstarted S) (error : HistoryError)
@@ -219,8 +228,7 @@ pub unread_or_room : {S : Type 0} (s : blocks.Ghosts S) (config : Config) (store
     → (error ≡ errors.BadHistory → (kept : texts.Kept) → Reads config text kept → ⊥)
     → IsRefusedRightly s config stores text refused
 unread_or_room s config stores text refused errors.Memory is of_none same none =
-    no_room s config stores text refused is of_none
-    (subst (AreEach (IsUnwritten s None) stores) (sym same) (untouched_stores s stores))
+    no_room_before s config stores text refused is of_none same
 unread_or_room s config stores text refused errors.BadHistory is of_none same none = record {
   reason = reasons.IsUnread is of_none same (none refl);
   cause = λ register w stop x store shut known.

@@ -59,13 +59,16 @@ impl<S: BlockStore + Drop, J: StorePremises, L: Ledger> Alone<S, J, L> {
         ensures begins { IfOk result (BeginsOver config.now stores.items) }
         ensures refusal { IfErr result (IsBeginRefusal ⟦<S as BlockStore>⟧ stores.items) }
     {
-        let last = Last::new(&book);
         let shards = new_shards(rt, alloc)?;
-        let desk = new_desk(alloc, config, book)?;
         let placed_groups = new_placed_groups(alloc, &config.buffers)?;
+        let last = Last::new(&book);
+        let desk = new_desk(alloc, config, book)?;
         let buffers = match new_buffers(alloc, stores) {
             Ok(buffers) => buffers,
-            Err(error) => return Err(unbegun(error)),
+            Err(error) => {
+                drop(desk);
+                return Err(unbegun(error));
+            }
         };
         Ok(Alone {
             shards,

@@ -53,10 +53,12 @@ impl<L: Ledger> Desks<L> {
             feeds,
             ids,
         } = history;
-        let last = Last::after(&book, newest);
         let used = started.used(alloc)?;
         let placed_groups = resume_placed_groups(alloc, &config.buffers, &used, &positions)?;
+        drop(used);
+        drop(positions);
         let shards = Shards::resume(alloc, hasher, ids)?.into_shards();
+        let last = Last::after(&book, newest);
         let desk = CountedDesk::resume(alloc, &config.relay.feeds, &feeds, book)?;
         Ok(Desks {
             shards,

@@ -9,18 +9,18 @@ ghost use Rattle.relay_live.specs.Holding.{has_buffer};
 use crate::holding;
 use crate::register_ref::RegisterRef;
 use crate::shared::Shared;
-use block_shelf::Place;
-use buffer_group::{Accepted, Job};
+use block_shelf::{Place, PlacedGroup};
+use buffer_group::{Accepted, Job, Pick};
 use cyc_block::BlockStore;
 use cyc_buffer::FaultKind;
 use cyc_token::Token;
 use job_queue::Handed;
-use live_jobs::{Posted, Store, StoreResult, Unsettled, answer_of};
+use live_jobs::{CountedDesk, Posted, Store, StoreResult, Unsettled, answer_of};
 use live_session::Clock;
 use live_store::{StorePremises, Stored};
 use relay_conf::Buffers;
-use std::sync::Wait;
 use std::sync::ledger::{Ledger, Share};
+use std::sync::{Mutex, Wait};
 use std::thread;
 
 /// What all writers store by: what the threads share, the register of these store premises, the
@@ -72,8 +72,7 @@ impl<'a, S: BlockStore + Drop, J: StorePremises, L: Ledger, C: Clock, Q: Registe
     {
         let placed_group = self.shared.placed_groups.get(usize::from(article.group))?;
         let length = article.length();
-        let picked = placed_group.lock(rt).pick(length);
-        let Place { pick, number } = picked?;
+        let Place { pick, number } = place_of(rt, placed_group, length)?;
         let buffer = self.shared.buffers.get(number)?;
         let text = article.text.as_vec();
         let stored = live_store::store(
@@ -85,13 +84,41 @@ impl<'a, S: BlockStore + Drop, J: StorePremises, L: Ledger, C: Clock, Q: Registe
             text,
         );
         if is_begun(&stored) {
-            placed_group.lock(rt).begun(&pick, length);
+            take_up(rt, placed_group, &pick, length);
         }
         Some(stored)
     }
 
-    /// The article is settled at the moment that the clock gives. It is tried again until the job's
-    /// id is its session's, and `None` only where the desk makes no further post.
+    /// The article is settled at the moment that the clock gives, where the job's id is its
+    /// session's and the desk makes a further post.
+    fn try_settle<R: Wait>(
+        &self,
+        rt: &R,
+        share: &mut Share<L>,
+        job: &Job,
+        token: Token,
+    ) -> Option<Posted>
+        requires { 0 < share.old.parts }
+        ensures posted { IfSome result (IsPostOf job.now.id job.now.session token
+            job.now.article.permitted.items) }
+        ensures counted { IfSome result (λ posted. share.new.amount ≡ share.old.amount + 1) }
+        ensures same { result ≡ None → share.new.amount ≡ share.old.amount }
+        ensures parts { share.new.parts ≡ share.old.parts }
+    {
+        let permitted = &job.article.permitted;
+        let article = Unsettled {
+            id: &job.id,
+            session: job.session,
+            token,
+            permitted,
+            moment: self.clock.now(),
+        };
+        let claims = self.shared.claims(&job.id);
+        claims.settle(rt, &self.shared.desk, share, &article)
+    }
+
+    /// The article is settled. It is tried again until the job's id is its session's, and `None`
+    /// only where the desk makes no further post.
     fn settle<R: Wait>(
         &self,
         rt: &R,
@@ -106,23 +133,11 @@ impl<'a, S: BlockStore + Drop, J: StorePremises, L: Ledger, C: Clock, Q: Registe
         ensures same { result ≡ None → share.new.amount ≡ share.old.amount }
         ensures parts { share.new.parts ≡ share.old.parts }
     {
-        let claims = self.shared.claims(&job.id);
-        let desk = &self.shared.desk;
-        let permitted = &job.article.permitted;
         for _ in rt.forever() {
-            let now = self.clock.now();
-            let article = Unsettled {
-                id: &job.id,
-                session: job.session,
-                token,
-                permitted,
-                moment: now,
-            };
-            let posted = claims.settle(rt, desk, share, &article);
-            if posted.is_some() {
-                return posted;
+            if let Some(posted) = self.try_settle(rt, share, job, token) {
+                return Some(posted);
             }
-            if desk.lock(rt).is_full() {
+            if is_full(rt, &self.shared.desk) {
                 return None;
             }
             thread::yield_now();
@@ -157,6 +172,21 @@ impl<'a, S: BlockStore + Drop, J: StorePremises, L: Ledger, C: Clock, Q: Registe
         self.shared.claims(&job.id).forget(rt, &job.id, job.session);
         store_result
     }
+}
+
+/// Whether the desk makes no further post.
+fn is_full<L: Ledger, R: Wait>(rt: &R, desk: &Mutex<CountedDesk<L>>) -> bool {
+    desk.lock(rt).is_full()
+}
+
+/// Where the group stores a text of this length, picked under its lock.
+fn place_of<R: Wait>(rt: &R, placed_group: &Mutex<PlacedGroup>, length: u32) -> Option<Place> {
+    placed_group.lock(rt).pick(length)
+}
+
+/// Takes up for the group, under its lock, that a text of this length was begun where it picked.
+fn take_up<R: Wait>(rt: &R, placed_group: &Mutex<PlacedGroup>, pick: &Pick, length: u32) {
+    placed_group.lock(rt).begun(pick, length);
 }
 
 /// Whether the text was begun in its buffer.

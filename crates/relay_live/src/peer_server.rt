@@ -187,6 +187,49 @@ impl<
     }
 }
 
+impl<
+    'a,
+    X,
+    S: BlockStore + Drop,
+    J: StorePremises,
+    L: Ledger,
+    C: Clock,
+    G,
+    Q: RegisterRef,
+> PeerServer<'a, X, S, J, L, C, G, Q> {
+    ghost use Rattle.live_jobs.specs.Seats.{count_of, handed_by};
+    ghost use Rattle.relay_live.specs.Sessions.{Accounted};
+
+    /// Serves a connection as a session of a number of its own, and lets go of it; where no number
+    /// is left it isn't served.
+    fn serve_next<R: Wait>(
+        &mut self,
+        rt: &R,
+        channels: &[JobChannel],
+        seat: SessionSeat,
+        reader: <X as Connections<R>>::Reader,
+        writer: <X as Connections<R>>::Writer,
+    ) -> SessionSeat
+    where
+        X: Connections<R>,
+        G: Gate<R>,
+        requires seat { IsSeatOf channels.now seat }
+        requires new { (X.Reader.heard reader ≡ []) × (X.Writer.said writer ≡ []) }
+        ensures seat { IsSeatOf channels.now result }
+        ensures end { end_of result ≡ end_of seat }
+        ensures kept { Accounted J.trusted (terms_of self.old.config.now) (end_of seat)
+            self.old.peer (count_of seat) (handed_by seat) self.old.kept.items
+            → Accounted J.trusted (terms_of self.new.config.now) (end_of result)
+            self.new.peer (count_of result) (handed_by result) self.new.kept.items }
+        ensures same { (self.new.config ≡ self.old.config) × (self.new.peer ≡ self.old.peer) }
+    {
+        match self.shared.draw(rt) {
+            Some(number) => self.serve_one(rt, channels, seat, number, reader, writer),
+            None => seat,
+        }
+    }
+}
+
 /// What is left of a connection whose session has ended: the end's seat, and its two sides.
 #[derive(Drop)]
 struct Conversed<H: Hears, W: Says> {
@@ -227,11 +270,8 @@ where
                 return seat;
             };
             // Before its session is told of any id.
-            let _round = expire_round(rt, self.shared, self.clock.now());
-            let Some(number) = self.shared.draw(rt) else {
-                continue;
-            };
-            seat = self.serve_one(rt, channels, seat, number, reader, writer);
+            drop(expire_round(rt, self.shared, self.clock.now()));
+            seat = self.serve_next(rt, channels, seat, reader, writer);
         }
         unreachable!()
     }

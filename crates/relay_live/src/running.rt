@@ -19,7 +19,7 @@ use crate::peer_server::PeerServer;
 use crate::register_ref::RegisterRef;
 use cyc_block::BlockStore;
 use live_jobs::{
-    Opened, Outcome, Posts, Seats, SeatsError, StoreResult, close, ids_stored_again,
+    Opened, Outcome, Posts, Seats, SeatsError, StoreResult, Totals, close, ids_stored_again,
     mismatched_receipts, open_all, serve_seats,
 };
 use live_session::{Clock, Gate};
@@ -122,6 +122,14 @@ pub struct CountedRun<L: Ledger, O: Outcome, V> {
     pub counted: Counted,
 }
 
+/// Why nothing is counted, where no seats come back.
+fn live_error(why: SeatsError) -> LiveError {
+    match why {
+        SeatsError::Memory => LiveError::Memory,
+        SeatsError::NoThread => LiveError::NoThread,
+    }
+}
+
 /// An end for each peer source, in this order, before its first connection.
 fn ends_of<
     'a,
@@ -184,6 +192,39 @@ fn mismatched_receipts_of<
         answers.push_reserved(end.kept());
     }
     mismatched_receipts(alloc, answers.as_slice(), seats.writers.as_slice())
+}
+
+/// What is counted of the seats that have come back, beside these totals of theirs.
+fn counted_of<
+    'a,
+    X,
+    S: BlockStore + Drop,
+    J: StorePremises,
+    L: Ledger,
+    C: Clock,
+    G,
+    Q: RegisterRef,
+>(
+    alloc: Global,
+    totals: Totals,
+    seats: &Seats<L, StoreResult<J>, PeerServer<'a, X, S, J, L, C, G, Q>>,
+) -> Result<Counted, AllocError>
+    ensures totals { IfOk result (λ counted. (accepted_in counted ≡ totals.accepted)
+        × (posted_in counted ≡ totals.posted)) }
+    ensures mismatched_receipts { IfOk result (λ counted. mismatched_receipts_of counted
+        ≡ mismatched_receipts_in (map kept_of seats.now.services.items)
+        (map (λ w. w.finished.items) seats.now.writers.items)) }
+    ensures ids_stored_again { IfOk result (λ counted. ids_stored_again_of counted
+        ≡ ids_stored_again_in (map (λ w. w.finished.items) seats.now.writers.items)) }
+{
+    let mismatched_receipts = mismatched_receipts_of(alloc, seats)?;
+    let ids_stored_again = ids_stored_again(alloc, seats.writers.as_slice())?;
+    Ok(Counted {
+        accepted: totals.accepted,
+        posted: totals.posted,
+        mismatched_receipts,
+        ids_stored_again,
+    })
 }
 
 /// Serves an end behind each peer source, one thread for each of them and for each group's writer,
@@ -271,17 +312,9 @@ where
     let channels = channels.as_slice();
     let mut seats = match serve_seats(rt, channels, keeper, plans, writers) {
         Ok(seats) => seats,
-        Err(SeatsError::Memory) => return Err(LiveError::Memory),
-        Err(SeatsError::NoThread) => return Err(LiveError::NoThread),
+        Err(why) => return Err(live_error(why)),
     };
     let totals = close(rt, channels, &keeper.shared.desk, &mut rests, &mut seats);
-    let mismatched_receipts = mismatched_receipts_of(alloc, &seats)?;
-    let ids_stored_again = ids_stored_again(alloc, seats.writers.as_slice())?;
-    let counted = Counted {
-        accepted: totals.accepted,
-        posted: totals.posted,
-        mismatched_receipts,
-        ids_stored_again,
-    };
+    let counted = counted_of(alloc, totals, &seats)?;
     Ok(CountedRun { seats, counted })
 }

@@ -100,8 +100,14 @@ impl<S: BlockStore + Drop, J: StorePremises, L: Ledger> Shared<S, J, L> {
     {
         let locks = Locks::new(alloc, stores.len(), config.buffers.groups.len())?;
         let slots_and_rounds = SlotsAndRounds::new(alloc, ends)?;
-        let alone = Alone::new(rt, alloc, config, stores, book)?;
-        Ok(Shared::over(alone, locks, slots_and_rounds))
+        match Alone::new(rt, alloc, config, stores, book) {
+            Ok(alone) => Ok(Shared::over(alone, locks, slots_and_rounds)),
+            Err(error) => {
+                drop(locks);
+                drop(slots_and_rounds);
+                Err(error)
+            }
+        }
     }
 
     /// What so many ends share over what a relay was stopped with: its stores, the i-th for buffer
@@ -145,7 +151,11 @@ impl<S: BlockStore + Drop, J: StorePremises, L: Ledger> Shared<S, J, L> {
         };
         match Alone::start(rt, alloc, config, register, stopped, book) {
             Ok(alone) => Ok(Shared::over(alone, locks, slots_and_rounds)),
-            Err(not_started) => Err(not_started),
+            Err(not_started) => {
+                drop(locks);
+                drop(slots_and_rounds);
+                Err(not_started)
+            }
         }
     }
 
@@ -165,14 +175,22 @@ impl<S: BlockStore + Drop, J: StorePremises, L: Ledger> Shared<S, J, L> {
         };
         let (alone, slots_and_rounds) = self.into_alone(parts);
         match alone.shut(alloc) {
-            Ok(stopped) => Ok(stopped),
+            Ok(stopped) => {
+                drop(locks);
+                drop(slots_and_rounds);
+                Ok(stopped)
+            }
             Err(Unstopped::NotIdle(alone)) => {
                 Err(Unshut::NotIdle(Shared::over(alone, locks, slots_and_rounds)))
             }
             Err(Unstopped::Memory(alone)) => {
                 Err(Unshut::Memory(Shared::over(alone, locks, slots_and_rounds)))
             }
-            Err(Unstopped::Device(number, stores)) => Err(Unshut::Device(number, stores)),
+            Err(Unstopped::Device(number, stores)) => {
+                drop(locks);
+                drop(slots_and_rounds);
+                Err(Unshut::Device(number, stores))
+            }
         }
     }
 

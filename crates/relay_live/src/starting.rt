@@ -89,13 +89,20 @@ impl<S: BlockStore + Drop, J: StorePremises, L: Ledger> Alone<S, J, L> {
         };
         let started = match start_buffers(rt, alloc, register, stores, history.stop) {
             Ok(started) => started,
-            Err(unstarted) => return Err(unstarted),
+            Err(unstarted) => {
+                drop(history);
+                return Err(unstarted);
+            }
         };
         let filled = match all_filled(alloc, &started) {
             Ok(filled) => filled,
-            Err(_) => return Err(refused(started.into_stores(), StopFault::Memory)),
+            Err(_) => {
+                drop(history);
+                return Err(refused(started.into_stores(), StopFault::Memory));
+            }
         };
         if is_ahead(&filled, &history) {
+            drop(history);
             return Err(refused(started.into_stores(), StopFault::Ahead));
         }
         let stop = history.stop;
@@ -132,7 +139,10 @@ impl<S: BlockStore + Drop, J: StorePremises, L: Ledger> Alone<S, J, L> {
     {
         let buffers = match started.open() {
             Ok(buffers) => buffers,
-            Err(unstarted) => return Err(unstarted),
+            Err(unstarted) => {
+                drop(desks);
+                return Err(unstarted);
+            }
         };
         let Desks {
             shards,

@@ -47,7 +47,8 @@ impl<S: BlockStore + Drop, J: StorePremises, L: Ledger> Alone<S, J, L> {
         let Ok(room) = Vec::with_capacity(alloc, self.buffers.len()) else {
             return Err(Unstopped::Memory(self));
         };
-        let Alone { buffers, .. } = self;
+        let Alone { buffers, desk, .. } = self;
+        drop(desk);
         match shut_all(buffers, stop, room) {
             (None, stores) => Ok(Stopped { stores, history }),
             (Some(number), stores) => Err(Unstopped::Device(number, stores)),

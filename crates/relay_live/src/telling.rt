@@ -34,8 +34,16 @@ impl<S: BlockStore + Drop, J: StorePremises, L: Ledger> Alone<S, J, L> {
             feeds,
             ids,
         };
-        let text = write(alloc, &history)?;
-        Ok(text)
+        match write(alloc, &history) {
+            Ok(text) => {
+                drop(history);
+                Ok(text)
+            }
+            Err(error) => {
+                drop(history);
+                Err(error)
+            }
+        }
     }
 }
 

@@ -1,7 +1,9 @@
-use Rattle.std.proofs.Common.{[], arith}
+use Rattle.std.proofs.Common.{◌≡◌, [], arith}
+use Rattle.std.proofs.lemmas.List.{nil_from_length}
+use Rattle.std.specs.Vec.Iter.{into_iter_items}
 use Rattle.article_verdict.specs.Config.{terms_of}
 use Rattle.relay_live.specs.PeerServers.{kept_of, peer_of, terms_at}
-use Rattle.relay_live.proofs.Accounts.{length_snoc, map_next}
+use Rattle.relay_live.proofs.Accounts.{all_read, length_snoc, map_next}
 use Rattle.relay_live.proofs.running.ends_of.Goals as goal
 
 pub loop-peer_source-preserved : goal.loop-peer_source-preserved
@@ -20,3 +22,24 @@ loop-peer_source-preserved g c =
       new = map_next (λ d. []) kept_of _ _ _ _ _ _ _ inv.new pushed.items steps.0
           c.new.ensures.none;
     }
+
+pub returns-clause-peers : goal.returns-clause-peers
+returns-clause-peers g c =
+    let rest = c.loop-peer_source.peer_source-iterator in
+    let none : into_iter_items rest ≡ [] = nil_from_length rest.rest.items
+    (omega (arith, c.in-None.ensures.steps.0, rest.rest.ok)) in
+    all_read (λ d. d.peer) peer_of _ _ _ c.loop-peer_source.invariant.peers none
+
+pub returns-clause-terms : goal.returns-clause-terms
+returns-clause-terms g c =
+    let rest = c.loop-peer_source.peer_source-iterator in
+    let none : into_iter_items rest ≡ [] = nil_from_length rest.rest.items
+    (omega (arith, c.in-None.ensures.steps.0, rest.rest.ok)) in
+    all_read (λ d. terms_of c.args.config.now) terms_at _ _ _ c.loop-peer_source.invariant.terms none
+
+pub returns-clause-new : goal.returns-clause-new
+returns-clause-new g c =
+    let rest = c.loop-peer_source.peer_source-iterator in
+    let none : into_iter_items rest ≡ [] = nil_from_length rest.rest.items
+    (omega (arith, c.in-None.ensures.steps.0, rest.rest.ok)) in
+    all_read (λ d. []) kept_of _ _ _ c.loop-peer_source.invariant.new none

@@ -4,8 +4,9 @@ use Rattle.std.specs.Prelude.{slice_get}
 use Rattle.std.proofs.lemmas.List.{length-map}
 use Rattle.article_verdict.specs.Config.{terms_of}
 use Rattle.job_queue.specs.declared.parcel.Handed.{Handed}
-use Rattle.live_jobs.specs.StoreResults.{FitsJob}
-use Rattle.live_jobs.specs.Gathered.{AllTold, NoneElse, RestsFit, hands_of}
+use Rattle.live_jobs.specs.Desks.{posts_in}
+use Rattle.live_jobs.specs.StoreResults.{FitsJob, is_kept}
+use Rattle.live_jobs.specs.Gathered.{AllTold, NoneElse, RestsFit, hands_of, kept_by_all}
 use Rattle.live_jobs.specs.Rows.{From}
 use Rattle.live_jobs.specs.Seats.{left_by}
 use Rattle.live_jobs.specs.Started.{AllKept, Ended, Open, Ready}
@@ -127,3 +128,20 @@ returns-clause-kept g c =
 -- what was posted has parts for contracts alone, which any thread may have
 pub serve_seats-requires-send-O : goal.serve_seats-requires-send-O
 serve_seats-requires-send-O g c κs within = search (sendable, store_result_send)
+
+-- what was counted is of the seats that come back
+pub returns-clause-accepted : goal.returns-clause-accepted
+returns-clause-accepted g c =
+    c.in_ok-counted.ensures.totals.0 ∙ c.close-totals.ensures.accepted
+    ∙ ap (kept_by_all is_kept) (sym c.close-totals.ensures.finished)
+
+pub returns-clause-posted : goal.returns-clause-posted
+returns-clause-posted g c =
+    ap posts_in c.in_ok-counted.ensures.totals.1 ∙ c.close-totals.ensures.posted
+    ∙ sym c.in_ok-counted.ensures.totals.0
+
+pub returns-clause-mismatched_receipts : goal.returns-clause-mismatched_receipts
+returns-clause-mismatched_receipts g c = c.in_ok-counted.ensures.mismatched_receipts
+
+pub returns-clause-ids_stored_again : goal.returns-clause-ids_stored_again
+returns-clause-ids_stored_again g c = c.in_ok-counted.ensures.ids_stored_again

@@ -7,9 +7,9 @@ use Rattle.relay_live.specs.Telling.{AreEntries}
 use Rattle.relay_live.proofs.alone.Alone.text.Goals as goal
 
 -- the text is that of its parts
-pub returns : goal.returns
-returns g c =
-    tells_of c.args.self.now c.args.stop c.in_ok-text.text.items
+pub returns-in-Ok : goal.returns-in-Ok
+returns-in-Ok g c =
+    tells_of c.args.self.now c.args.stop c.in-Ok.text.items
     (history_view (record {
       stop = c.args.stop;
       newest = c.number.result;
@@ -18,7 +18,7 @@ returns g c =
       ids = c.in_ok-ids.ids;
     }))
     c.in_ok-feeds.feeds.items c.in_ok-ids.ids.items
-    c.in_ok-text.ensures.fits c.in_ok-text.ensures.octets refl c.number.ensures
+    c.in-Ok.ensures.fits c.in-Ok.ensures.octets refl c.number.ensures
     (subst (λ placed_groups. AreEach TellsPosition placed_groups c.in_ok-positions.positions.items)
     c.deref.ensures.value c.in_ok-positions.ensures)
     refl c.in_ok-feeds.ensures.left refl

@@ -7,7 +7,7 @@ use Rattle.block_shelf.specs.Heads.{IsLeftUnopened}
 use Rattle.live_store.specs.Started.{unopened_in}
 use Rattle.live_store.specs.Steps.{buffer_of}
 use Rattle.relay_live.proofs.OpenedBuffers.{failed_behind, failed_first}
-use Rattle.relay_live.specs.Starting.{HasOpened, IsOpenedFrom, opening_count}
+use Rattle.relay_live.specs.Starting.{HasOpened, IsOpenedFrom, opening_count, opening_room}
 use Rattle.relay_live.proofs.started.Opening.next.Goals as goal
 
 pub returns-in-Failed-clause-opens : goal.returns-in-Failed-clause-opens
@@ -78,4 +78,59 @@ returns-in-Err-clause-count g c =
       c.in-Opened.buffers.ok,
       c.in-Opened.room.ok,
       ap opening_count c.in-Opened.is,
+    )
+
+-- there is room for a store or a buffer more
+pub push_reserved-requires : goal.push_reserved-requires
+push_reserved-requires g c =
+    omega (arith, c.requires, ap opening_count c.in-Failed.is, ap opening_room c.in-Failed.is)
+
+pub push_reserved-requires-in-Ok : goal.push_reserved-requires-in-Ok
+push_reserved-requires-in-Ok g c =
+    omega (arith, c.requires, ap opening_count c.in-Opened.is, ap opening_room c.in-Opened.is)
+
+pub give_up-stores-requires : goal.give_up-stores-requires
+give_up-stores-requires g c =
+    omega (arith, c.requires, ap opening_count c.in-Opened.is, ap opening_room c.in-Opened.is)
+
+pub push_reserved-requires-in-Err : goal.push_reserved-requires-in-Err
+push_reserved-requires-in-Err g c =
+    omega (
+      arith,
+      c.requires,
+      c.give_up-stores.result.ok,
+      c.give_up-stores.ensures.capacity,
+      ap length c.give_up-stores.ensures.items,
+      length-append c.in-Opened.room.items
+          (map (λ buffer. store_of (buffer_of buffer)) c.in-Opened.buffers.items),
+      length-map c.in-Opened.buffers.items (λ buffer. store_of (buffer_of buffer)),
+      c.in-Opened.buffers.ok,
+      c.in-Opened.room.ok,
+      ap opening_count c.in-Opened.is,
+      ap opening_room c.in-Opened.is,
+    )
+
+pub returns-in-Failed-clause-count : goal.returns-in-Failed-clause-count
+returns-in-Failed-clause-count g c =
+    omega (arith, c.push_reserved.ensures.len, ap opening_count c.in-Failed.is)
+
+pub returns-in-Failed-clause-room : goal.returns-in-Failed-clause-room
+returns-in-Failed-clause-room g c =
+    omega (arith, c.push_reserved.ensures.capacity, ap opening_room c.in-Failed.is)
+
+pub returns-in-Ok-clause-count : goal.returns-in-Ok-clause-count
+returns-in-Ok-clause-count g c =
+    omega (arith, c.push_reserved-in-Ok.ensures.len, ap opening_count c.in-Opened.is)
+
+pub returns-in-Ok-clause-room : goal.returns-in-Ok-clause-room
+returns-in-Ok-clause-room g c =
+    omega (arith, c.push_reserved-in-Ok.ensures.capacity, ap opening_room c.in-Opened.is)
+
+pub returns-in-Err-clause-room : goal.returns-in-Err-clause-room
+returns-in-Err-clause-room g c =
+    omega (
+      arith,
+      c.push_reserved-in-Err.ensures.capacity,
+      c.give_up-stores.ensures.capacity,
+      ap opening_room c.in-Opened.is,
     )
