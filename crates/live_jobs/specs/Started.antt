@@ -2,10 +2,11 @@
 use Rattle.std.specs.Prelude.{◌≡◌, ℕ, Bool, false, List, [], length, map, Some, slice_get}
 use Rattle.job_queue.specs.Passes.{QueuePass}
 use Rattle.job_queue.specs.declared.parcel.Handed.{Handed}
-use Rattle.live_jobs.specs.Gathered.{OfChannel, AllClosed, hands_of}
+use Rattle.live_jobs.specs.Gathered.{OfChannel, AllClosed, RestsFit, hands_of}
 use Rattle.live_jobs.specs.Rows.{From}
 use Rattle.live_jobs.specs.Seats.{IsSeatOf, HasLeft, end_of, count_of, handed_by, left_end}
 use Rattle.live_jobs.specs.declared.gather.Seats.{Seats}
+use Rattle.live_jobs.specs.declared.open.Opened.{Opened}
 use Rattle.live_jobs.specs.declared.channel.JobChannel.{JobChannel}
 use Rattle.live_jobs.specs.declared.outcome.Outcome.{Ghosts}
 use Rattle.live_jobs.specs.declared.session.LeftSeat.{LeftSeat}
@@ -84,6 +85,17 @@ abbrev pub AllRight : {V : Type 0} → (V → (end count : ℕ) → List (List H
     → List (Plan V) → Type 0
 AllRight fits plans =
     From (λ e p. fits p.service e (count_of p.seat) (handed_by p.seat)) 0 plans
+
+-- So many groups are opened to so many ends: a channel, a first pass and a writer for each group;
+-- the ends have handed nothing over.
+pub record AreOpened {L O V : Type 0} {o : Ghosts O} (groups ends : ℕ) (opened : Opened L O V o)
+    : Type 0 where
+  pub channels : length opened.channels.items ≡ groups
+  pub count : length opened.writers.items ≡ groups
+  pub ends_count : length opened.plans.items ≡ ends
+  pub plans : From (λ e p. IsUnused opened.channels.items e p.seat) 0 opened.plans.items
+  pub rests : RestsFit opened.channels.items ends opened.rests.items
+  pub writers : AllReady opened.channels.items ends opened.writers.items
 
 -- each writer took the closing mark of each of so many ends
 abbrev pub AllEnded : {L O : Type 0} {o : Ghosts O} → List JobChannel → (ends : ℕ)

@@ -1,12 +1,12 @@
 //! The channels and the seats of a run are made.
 ghost use Rattle.std.specs.Prelude.{◌≡◌, ◌+◌, ◌<◌, ◌^◌, ◌++◌, [], ◌∷◌, false};
-ghost use Rattle.std.specs.Prelude.{length, map, IfOk};
+ghost use Rattle.std.specs.Prelude.{length, map, vec_capacity, vec_len, IfOk};
 ghost use Rattle.crossbeam_queue.specs.Passes.{view, IsPassOf};
 ghost use Rattle.job_queue.specs.Delivery.{writer_knows};
 ghost use Rattle.live_jobs.specs.JobChannels.{queue_of};
 ghost use Rattle.live_jobs.specs.Rows.{From};
 ghost use Rattle.live_jobs.specs.Gathered.{IsRest, RestsFit};
-ghost use Rattle.live_jobs.specs.Started.{AllReady, Fresh, IsUnused};
+ghost use Rattle.live_jobs.specs.Started.{AllReady, AreOpened, Fresh, IsUnused};
 
 use crate::channel::JobChannel;
 use crate::finished::FinishedList;
@@ -53,14 +53,43 @@ fn add_channel<V>(
     ensures fit { IfOk result (λ r. From (λ e p. IsUnused (channels.now ++ r.0 ∷ []) e p.seat)
         0 plans.new.items) }
 {
-    let _ = channels.len();
     let (channel, mut first) = JobChannel::new(alloc)?;
     let writer = job_queue::writer_pass(&channel.queue, &mut first);
+    match give_passes(channels, &channel, &mut first, plans) {
+        Ok(()) => Ok((channel, writer, first)),
+        Err(error) => {
+            drop(channel);
+            drop(writer);
+            drop(first);
+            Err(error)
+        }
+    }
+}
+
+/// Gives each end a pass of a channel that is new, cut off the first one.
+fn give_passes<V>(
+    channels: &[JobChannel],
+    channel: &JobChannel,
+    first: &mut QueuePass,
+    plans: &mut Vec<Plan<V>>,
+) -> Result<(), AllocError>
+    requires few { length plans.old.items < 2 ^ 62 }
+    requires first { IsPassOf (queue_of channel.now) first.old × IsRest 0 first.old }
+    requires fit { From (λ e p. IsUnused channels.now e p.seat) 0 plans.old.items }
+    ensures rest { IfOk result (λ _. IsPassOf (queue_of channel.now) first.new
+        × IsRest (length plans.old.items) first.new) }
+    ensures ends { IfOk result (λ _. length plans.new.items ≡ length plans.old.items) }
+    ensures services { IfOk result (λ _. map (λ p. p.service) plans.new.items
+        ≡ map (λ p. p.service) plans.old.items) }
+    ensures fit { IfOk result (λ _. From (λ e p. IsUnused (channels.now ++ channel.now ∷ []) e
+        p.seat) 0 plans.new.items) }
+{
+    let _ = channels.len();
     for end in 0..plans.len() {
-        let pass = job_queue::end_pass(&channel.queue, &mut first);
+        let pass = job_queue::end_pass(&channel.queue, first);
         plans[end].seat.passes.push(pass)?;
     }
-    Ok((channel, writer, first))
+    Ok(())
 }
 
 /// A writer that has taken nothing yet.
@@ -119,21 +148,66 @@ pub fn open_all<L: Ledger, O: Outcome + Drop, V: Drop>(
 {
     let ends = services.len();
     let mut rest = all;
-    let mut plans = new_plans(alloc, services)?;
-    let mut channels = Vec::new(alloc);
-    let mut rests = Vec::new(alloc);
-    let mut writers = Vec::new(alloc);
-    for _group in 0..groups {
-        let (channel, pass, first) = add_channel(alloc, &channels, &mut plans)?;
-        let share = rest.split_off(1, 0);
-        writers.push(new_writer(alloc, pass, share, ends)?)?;
-        rests.push(first)?;
-        channels.push(channel)?;
-    }
-    Ok(Opened {
-        channels,
-        rests,
+    let plans = new_plans(alloc, services)?;
+    let mut opened = Opened {
+        channels: Vec::new(alloc),
+        rests: Vec::new(alloc),
         plans,
-        writers,
-    })
+        writers: Vec::new(alloc),
+    };
+    for _group in 0..groups {
+        let share = rest.split_off(1, 0);
+        add_group(alloc, ends, share, &mut opened)?;
+    }
+    Ok(opened)
+}
+
+/// A group more, of so many ends: its channel, of which each end gets a pass, its writer with this
+/// share, and its first pass.
+fn add_group<L: Ledger, O: Outcome + Drop, V: Drop>(
+    alloc: Global,
+    ends: usize,
+    share: Share<L>,
+    opened: &mut Opened<L, O, V>,
+) -> Result<(), AllocError>
+    requires few { ends < 2 ^ 62 }
+    requires share { (share.parts ≡ 1) × (share.amount ≡ 0) }
+    requires fit { AreOpened (length opened.old.channels.items) ends opened.old }
+    ensures fit { IfOk result (λ _. AreOpened (length opened.old.channels.items + 1) ends
+        opened.new) }
+    ensures services { IfOk result (λ _. map (λ p. p.service) opened.new.plans.items
+        ≡ map (λ p. p.service) opened.old.plans.items) }
+{
+    reserve_group(opened)?;
+    let (channel, pass, first) = add_channel(alloc, &opened.channels, &mut opened.plans)?;
+    match new_writer(alloc, pass, share, ends) {
+        Ok(writer) => {
+            opened.channels.push_reserved(channel);
+            opened.rests.push_reserved(first);
+            opened.writers.push_reserved(writer);
+            Ok(())
+        }
+        Err(error) => {
+            drop(channel);
+            drop(first);
+            Err(error)
+        }
+    }
+}
+
+/// Finds room for a group more.
+fn reserve_group<L: Ledger, O: Outcome + Drop, V: Drop>(
+    opened: &mut Opened<L, O, V>,
+) -> Result<(), AllocError>
+    ensures same { (opened.new.channels.items ≡ opened.old.channels.items)
+        × (opened.new.rests.items ≡ opened.old.rests.items)
+        × (opened.new.plans.items ≡ opened.old.plans.items)
+        × (opened.new.writers.items ≡ opened.old.writers.items) }
+    ensures room { IfOk result (λ _. (vec_len opened.new.channels < vec_capacity opened.new.channels)
+        × (vec_len opened.new.rests < vec_capacity opened.new.rests)
+        × (vec_len opened.new.writers < vec_capacity opened.new.writers)) }
+{
+    opened.channels.reserve(1)?;
+    opened.rests.reserve(1)?;
+    opened.writers.reserve(1)
 }

@@ -201,19 +201,10 @@ fn run_threads<
     let ends = plans.len();
     let groups = writers.len();
     let alloc = *plans.allocator();
-    let Ok(mut running) = Vec::with_capacity(alloc, groups) else {
+    let Ok((mut running, mut serving)) = no_handles(alloc, groups, ends) else {
         return Err(SeatsError::Memory);
     };
-    let Ok(mut serving) = Vec::with_capacity(alloc, ends) else {
-        return Err(SeatsError::Memory);
-    };
-    let Ok(mut finished) = Vec::with_capacity(alloc, groups) else {
-        return Err(SeatsError::Memory);
-    };
-    let Ok(mut lefts) = Vec::with_capacity(alloc, ends) else {
-        return Err(SeatsError::Memory);
-    };
-    let Ok(mut services) = Vec::with_capacity(alloc, ends) else {
+    let Ok(mut seats) = no_seats(alloc, groups, ends) else {
         return Err(SeatsError::Memory);
     };
     if !start_writers(scope, rt, channels, store, writers, ends, &mut running) {
@@ -221,15 +212,54 @@ fn run_threads<
         return Err(SeatsError::NoThread);
     }
     let all = start_ends(scope, rt, channels, plans, leaves, &mut serving);
-    join_ends(rt, channels, serving, &mut lefts, &mut services);
-    join_writers(rt, channels, ends, running, &mut finished);
+    join_ends(rt, channels, serving, &mut seats.lefts, &mut seats.services);
+    join_writers(rt, channels, ends, running, &mut seats.writers);
     if !all {
         return Err(SeatsError::NoThread);
     }
+    Ok(seats)
+}
+
+/// Room for the handles of so many writers and ends.
+fn no_handles<'s, L: Ledger, O: Outcome + Drop, V: Accounts + Drop>(
+    alloc: Global,
+    groups: usize,
+    ends: usize,
+) -> Result<
+    (
+        Vec<PromisedHandle<WriterSeat<L, O>, WriterFinished<'s>>>,
+        Vec<PromisedHandle<Leaver<V>, EndFinished<'s, V>>>,
+    ),
+    AllocError,
+>
+    ensures none { IfOk result (λ handles. (length handles.0.items ≡ 0)
+        × (length handles.1.items ≡ 0)) }
+    ensures room { IfOk result (λ handles. (groups ≤ vec_capacity handles.0)
+        × (ends ≤ vec_capacity handles.1)) }
+{
+    let running = Vec::with_capacity(alloc, groups)?;
+    let serving = Vec::with_capacity(alloc, ends)?;
+    Ok((running, serving))
+}
+
+/// Room for the seats of so many writers and ends.
+fn no_seats<L: Ledger, O: Outcome + Drop, V: Drop>(
+    alloc: Global,
+    groups: usize,
+    ends: usize,
+) -> Result<Seats<L, O, V>, AllocError>
+    ensures none { IfOk result (λ seats. (length seats.lefts.items ≡ 0)
+        × (length seats.services.items ≡ 0) × (length seats.writers.items ≡ 0)) }
+    ensures room { IfOk result (λ seats. (ends ≤ vec_capacity seats.lefts)
+        × (ends ≤ vec_capacity seats.services) × (groups ≤ vec_capacity seats.writers)) }
+{
+    let lefts = Vec::with_capacity(alloc, ends)?;
+    let services = Vec::with_capacity(alloc, ends)?;
+    let writers = Vec::with_capacity(alloc, groups)?;
     Ok(Seats {
         lefts,
         services,
-        writers: finished,
+        writers,
     })
 }
 

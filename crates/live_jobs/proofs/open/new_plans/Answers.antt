@@ -1,4 +1,6 @@
-use Rattle.std.proofs.Common.{refl, arith}
+use Rattle.std.proofs.Common.{◌≡◌, ◌∙◌, ◌++◌, [], ap, append-nil, arith, map, refl, sym}
+use Rattle.std.proofs.lemmas.List.{nil_from_length}
+use Rattle.std.specs.Vec.Iter.{into_iter_items}
 use Rattle.live_jobs.specs.Started.{Fresh}
 use Rattle.live_jobs.proofs.Plans.{services_next}
 use Rattle.live_jobs.proofs.Rows.{each_snoc, length_snoc}
@@ -20,3 +22,21 @@ loop-service-preserved g c =
       services = services_next (λ p. p.service) _ _ _ _ _ _ _ inv.services
           pushed.items steps.0 refl;
     }
+
+-- that was the last
+pub returns-clause-ends : goal.returns-clause-ends
+returns-clause-ends g c =
+    omega (arith, c.loop-service.invariant.count, c.in-None.ensures.steps.0)
+
+pub returns-clause-fresh : goal.returns-clause-fresh
+returns-clause-fresh g c = c.loop-service.invariant.fresh
+
+pub returns-clause-services : goal.returns-clause-services
+returns-clause-services g c =
+    let rest = c.loop-service.service-iterator in
+    let none : into_iter_items rest ≡ [] = nil_from_length rest.rest.items
+    (omega (arith, c.in-None.ensures.steps.0, rest.rest.ok)) in
+    let plans = c.loop-service.plans.items in
+    sym (append-nil (map (λ p. p.service) plans))
+    ∙ ap (λ services. map (λ p. p.service) plans ++ services) (sym none)
+    ∙ c.loop-service.invariant.services

@@ -1,19 +1,67 @@
-use Rattle.std.proofs.Common.{arith}
+use Rattle.std.proofs.Common.{◌∙◌, ℕ, arith, subst, sym}
+use Rattle.live_jobs.specs.Started.{AllEnded, AllReady}
 use Rattle.live_jobs.proofs.serve.run_threads.Goals as goal
+
+-- there is room for the handles
+pub start_writers-requires-clause-none : goal.start_writers-requires-clause-none
+start_writers-requires-clause-none g c κs within = c.in-Ok.ensures.none.0
+
+pub start_writers-requires-clause-room : goal.start_writers-requires-clause-room
+start_writers-requires-clause-room g c κs within =
+    omega (arith, c.in-Ok.ensures.room.0, c.len-groups.ensures)
+
+pub start_writers-requires-clause-fit : goal.start_writers-requires-clause-fit
+start_writers-requires-clause-fit g c κs within =
+    subst (λ (n : ℕ). AllReady c.args.channels.now n c.args.writers.items)
+    (sym (c.len-ends.ensures ∙ c.args.plans.ok.0)) c.requires.writers
+
+pub start_ends-all-requires-clause-none : goal.start_ends-all-requires-clause-none
+start_ends-all-requires-clause-none g c κs within = c.in-Ok.ensures.none.1
+
+pub start_ends-all-requires-clause-room : goal.start_ends-all-requires-clause-room
+start_ends-all-requires-clause-room g c κs within = (
+  omega (arith, c.args.plans.ok.0, c.in-Ok.ensures.room.1, c.len-ends.ensures),
+  c.requires.leaves,
+)
+
+-- and for the seats
+pub join_ends-requires-clause-none : goal.join_ends-requires-clause-none
+join_ends-requires-clause-none g c =
+    (c.in-Ok-no_seats.ensures.none.0, c.in-Ok-no_seats.ensures.none.1)
 
 pub join_ends-requires-clause-room : goal.join_ends-requires-clause-room
 join_ends-requires-clause-room g c =
+    let room = c.in-Ok-no_seats.ensures.room in
     let all = c.args.plans.ok.0 in (
-      omega (
-        arith,
-        c.start_ends-all.ensures.some,
-        c.in-Ok-with_capacity-3.ensures.capacity,
-        c.len-ends.ensures,
-      ),
-      omega (
-        arith,
-        c.start_ends-all.ensures.some,
-        c.in-Ok-with_capacity-4.ensures.capacity,
-        c.len-ends.ensures,
-      ),
+      omega (arith, all, c.start_ends-all.ensures.some, room.0, c.len-ends.ensures),
+      omega (arith, all, c.start_ends-all.ensures.some, room.1, c.len-ends.ensures),
     )
+
+pub join_writers-requires-clause-room : goal.join_writers-requires-clause-room
+join_writers-requires-clause-room g c =
+    omega (
+      arith,
+      c.start_writers.ensures.some,
+      c.in-Ok-no_seats.ensures.room.2,
+      c.len-groups.ensures,
+      c.args.writers.ok.0,
+    )
+
+-- all come back
+pub returns : goal.returns
+returns g c =
+    let ends = c.start_ends-all.ensures in
+    let joined = c.join_ends.ensures in
+    let all = ends.all c.if-not-all.false in
+    record {
+      lefts = (joined.all.0 ∙ all, joined.left);
+      services = joined.all.1 ∙ all;
+      marks = joined.marks ∙ ends.marks c.if-not-all.false;
+      kept = joined.kept;
+      writers = (
+        c.join_writers.ensures.all
+            ∙ c.start_writers.ensures.all c.if-not-start_writers.false,
+        subst (λ (n : ℕ). AllEnded c.args.channels.now n c.join_writers.new.writers.items)
+            (c.len-ends.ensures ∙ c.args.plans.ok.0) c.join_writers.ensures.ended,
+      );
+    }

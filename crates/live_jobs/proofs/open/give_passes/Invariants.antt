@@ -5,7 +5,7 @@ use Rattle.live_jobs.specs.Gathered.{IsRest}
 use Rattle.live_jobs.specs.JobChannels.{queue_of}
 use Rattle.live_jobs.specs.Started.{IsUnused}
 use Rattle.live_jobs.specs.declared.start.Plan.{Plan}
-use Rattle.live_jobs.proofs.open.add_channel.Given as goal
+use Rattle.live_jobs.proofs.open.give_passes.Given as goal
 
 abbrev pub invariant-loop-end : goal.invariant-loop-end
 invariant-loop-end g l = record {
