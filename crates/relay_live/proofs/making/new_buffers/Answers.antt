@@ -5,6 +5,7 @@ use Rattle.std.specs.Vec.Iter.{into_iter_items}
 use Rattle.std.proofs.lemmas.List.{nil_from_length}
 use Rattle.block_shelf.proofs.EachLemmas.{all_through, none_each, one_more_each}
 use Rattle.block_shelf.specs.Each.{AreEach}
+use Rattle.relay_live.proofs.Accounts.{length_snoc}
 use Rattle.relay_live.proofs.Blamed.{blamed_at}
 use Rattle.relay_live.specs.Beginning.{IsNewOver}
 use Rattle.relay_live.proofs.making.new_buffers.Goals as goal
@@ -17,6 +18,28 @@ loop-store-init g c = record {
   room = search rules;
   honest = search rules;
 }
+
+-- there is room for one more, and its number fits
+pub push_reserved-requires : goal.push_reserved-requires
+push_reserved-requires g c =
+    omega (
+      arith,
+      c.loop-store.invariant.count,
+      c.loop-store.invariant.room,
+      c.in-Some.ensures.steps.1,
+      c.loop-store.buffers.ok,
+    )
+
+pub overflow_cast-number : goal.overflow_cast-number
+overflow_cast-number g c =
+    omega (
+      arith,
+      c.len-number.ensures,
+      c.requires.few,
+      c.loop-store.invariant.count,
+      c.in-Some.ensures.steps.1,
+      c.loop-store.buffers.ok,
+    )
 
 -- one buffer more
 pub loop-store-preserved : goal.loop-store-preserved
@@ -44,8 +67,13 @@ loop-store-preserved g c =
             free = c.in-Ok.ensures.free;
             unnumbered = c.in-Ok.ensures.numbers;
           })));
-      count = search rules;
-      room = search rules;
+      count = omega (
+        arith,
+        length_snoc _ _ _ c.push_reserved.ensures.items,
+        c.loop-store.invariant.count,
+        c.in-Some.ensures.steps.1,
+      );
+      room = omega (arith, c.loop-store.invariant.room, c.push_reserved.ensures.capacity);
       honest = λ trusted. All-rest g.S.BlockStore.honest c.in-Some.store
           (into_iter_items c.next.new.self) (into_iter_items c.loop-store.store-iterator)
           c.in-Some.ensures.steps.0 (c.loop-store.invariant.honest trusted);

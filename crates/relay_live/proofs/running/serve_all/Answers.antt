@@ -1,4 +1,4 @@
-use Rattle.std.proofs.Common.{◌∙◌, ℕ, List, [], ap, length, map, subst, sym}
+use Rattle.std.proofs.Common.{◌∙◌, ◌<◌, ℕ, List, [], ap, arith, length, map, subst, sym}
 use denote.Param.Send.{sendable}
 use Rattle.std.specs.Prelude.{slice_get}
 use Rattle.std.proofs.lemmas.List.{length-map}
@@ -145,3 +145,21 @@ returns-clause-mismatched_receipts g c = c.in_ok-counted.ensures.mismatched_rece
 
 pub returns-clause-ids_stored_again : goal.returns-clause-ids_stored_again
 returns-clause-ids_stored_again g c = c.in_ok-counted.ensures.ids_stored_again
+
+-- there is a writer for each part of the ledger
+pub close-totals-requires-clause-parts : goal.close-totals-requires-clause-parts
+close-totals-requires-clause-parts g c =
+    let long = c.in-Ok.ensures.writers.0 ∙ c.in_ok-channels.ensures.channels.1 in
+    (c.requires.parts.2 ∙ sym long, subst (λ (n : ℕ). 0 < n) (sym long) c.requires.parts.3)
+
+pub close-totals-requires-clause-lefts : goal.close-totals-requires-clause-lefts
+close-totals-requires-clause-lefts g c = c.in-Ok.ensures.lefts.1
+
+pub serve_seats-requires-clause-channels : goal.serve_seats-requires-clause-channels
+serve_seats-requires-clause-channels g c κs within =
+    omega (
+      arith,
+      c.in_ok-channels.ensures.channels.0,
+      c.in_ok-channels.ensures.channels.1,
+      ap length c.as_slice-channels.ensures.value,
+    )

@@ -10,7 +10,8 @@ use Rattle.block_shelf.specs.Starting.{IsFirstOther}
 use Rattle.live_store.specs.Started.{unopened_in}
 use Rattle.news_terms.proofs.ListPlaces.{holds_at}
 use Rattle.relay_live.proofs.StartedBuffers.{mixed_start, next_stopped, refused_start}
-use Rattle.relay_live.specs.Starting.{HasTried, IsStartedOver, IsUnstarted}
+use Rattle.relay_live.specs.Starting.{HasTried, IsStartedOver, IsUnstarted, tried_count}
+use Rattle.relay_live.specs.Starting.{tried_room}
 use Rattle.relay_live.proofs.started.start_buffers.Goals as goal
 
 -- there is no room for the buffers
@@ -138,3 +139,50 @@ returns-in-None-mixed-clause-started g c =
       under = subst (IsFirstOther c.args.stop (map unopened_in c.in-Started.so_far.buffers.items))
           c.in-None-mixed.is tried.2;
     }
+
+-- and there is room for them once they are open, and for their stores
+pub invariant_of-result : goal.invariant_of-result
+invariant_of-result g c =
+    let tried =
+    subst (HasTried c.args.stop c.args.stores.items) c.in-Started.is
+    (subst (λ before. HasTried c.args.stop before c.loop-store.starting)
+    (all_through c.loop-store.yielded c.loop-store.store-iterator.rest.items c.args.stores.items
+    c.loop-store.invariant.all
+    (nil_from_length c.loop-store.store-iterator.rest.items
+    (omega (arith, c.in-None.ensures.steps.0, c.loop-store.store-iterator.rest.ok))))
+    c.loop-store.invariant.tried) in
+    let count = tried.0.count in
+    record {
+      few = omega (arith, count, c.in-Started.so_far.buffers.ok, c.requires.few);
+      none_opened = c.in-Ok.ensures.none.1;
+      none_back = tried.1;
+      opened_room = omega (
+        arith,
+        count,
+        c.in-Started.so_far.buffers.ok,
+        c.in-Ok.ensures.room.1,
+        c.len.ensures,
+        c.args.stores.ok,
+      );
+      stores_room = omega (
+        arith,
+        count,
+        c.in-Started.so_far.buffers.ok,
+        c.loop-store.invariant.room,
+        ap tried_room c.in-Started.is,
+      );
+    }
+
+pub give_back-requires : goal.give_back-requires
+give_back-requires g c =
+    omega (
+      arith,
+      c.loop-store.invariant.count,
+      c.loop-store.invariant.room,
+      ap tried_count c.in-Started.is,
+      ap tried_room c.in-Started.is,
+      ap length (all_through c.loop-store.yielded c.loop-store.store-iterator.rest.items
+          c.args.stores.items c.loop-store.invariant.all
+          (nil_from_length c.loop-store.store-iterator.rest.items
+          (omega (arith, c.in-None.ensures.steps.0, c.loop-store.store-iterator.rest.ok)))),
+    )

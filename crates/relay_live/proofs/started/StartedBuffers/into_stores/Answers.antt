@@ -1,4 +1,4 @@
-use Rattle.std.proofs.Common.{◌∙◌, ◌++◌, ap}
+use Rattle.std.proofs.Common.{◌∙◌, ◌++◌, ap, arith, length}
 use Rattle.relay_live.specs.Starting.{stores_of}
 use Rattle.relay_live.proofs.started.StartedBuffers.into_stores.Goals as goal
 
@@ -7,3 +7,12 @@ pub returns : goal.returns
 returns g c =
     c.give_back.ensures.items
     ∙ ap (λ room. room ++ stores_of c.args.self.buffers.items) c.args.self.none_back
+
+pub give_back-requires : goal.give_back-requires
+give_back-requires g c =
+    omega (
+      arith,
+      c.args.self.stores_room,
+      ap length c.args.self.none_back,
+      c.args.self.stores.ok,
+    )

@@ -1,4 +1,4 @@
-use Rattle.std.proofs.Common.{◌∙◌, ◌+◌, ◌<◌, ◌++◌, ◌∷◌, [], ap, get_or, length, map, rules}
+use Rattle.std.proofs.Common.{◌∙◌, ◌+◌, ◌<◌, ◌++◌, ◌∷◌, [], ap, arith, get_or, length, map, rules}
 use Rattle.std.proofs.Common.{subst, sym, take}
 use Rattle.std.proofs.lemmas.List.{map_push, take_all, take_more}
 use Rattle.cyc_buffer.specs.Agreement.{Agrees}
@@ -26,8 +26,8 @@ loop-unopened-preserved g c =
     let here = c.unopened-item.is
     ∙ ap (λ items. get_or items k one) c.deref-unopened-items.ensures.value in
     record {
-      count = search rules;
-      room = search rules;
+      count = omega (arith, c.push_reserved.ensures.len, c.loop-unopened.invariant.count);
+      room = omega (arith, c.push_reserved.ensures.capacity, c.loop-unopened.invariant.room);
       are = subst (AreUsed (buffers_inside (map unopened_in (take (k + 1) all))))
           (sym c.push_reserved.ensures.items)
           (subst (λ codes. AreUsed codes (c.loop-unopened.used.items ++ c.used_in.result ∷ []))

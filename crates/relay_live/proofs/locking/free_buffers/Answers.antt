@@ -1,0 +1,29 @@
+use Rattle.std.proofs.Common.{arith}
+use Rattle.relay_live.proofs.Accounts.{length_snoc}
+use Rattle.relay_live.proofs.locking.free_buffers.Goals as goal
+
+-- there is room for a buffer more
+pub push_reserved-requires : goal.push_reserved-requires
+push_reserved-requires g c =
+    omega (
+      arith,
+      c.loop-lock.invariant.count,
+      c.loop-lock.invariant.room,
+      c.in-Some.ensures.steps.1,
+      c.loop-lock.buffers.ok,
+    )
+
+pub loop-lock-preserved : goal.loop-lock-preserved
+loop-lock-preserved g c = record {
+  count = omega (
+    arith,
+    length_snoc _ _ _ c.push_reserved.ensures.items,
+    c.loop-lock.invariant.count,
+    c.in-Some.ensures.steps.1,
+  );
+  room = omega (arith, c.loop-lock.invariant.room, c.push_reserved.ensures.capacity);
+}
+
+-- that was the last
+pub returns : goal.returns
+returns g c = omega (arith, c.loop-lock.invariant.count, c.in-None.ensures.steps.0)
