@@ -1,4 +1,7 @@
-use Rattle.std.proofs.Common.{◌∙◌, ap, sym, map, refl, subst, true≢false, length, arith}
+use Rattle.std.proofs.Common.{◌≡◌, ◌∙◌, ◌++◌, [], ap, append-nil, sym, map, refl, subst, true≢false}
+use Rattle.std.proofs.Common.{length, arith}
+use Rattle.std.proofs.lemmas.List.{nil_from_length}
+use Rattle.std.specs.Vec.Iter.{into_iter_items}
 use Rattle.live_jobs.specs.Seats.{IsSeatOf, count_of, handed_by}
 use Rattle.live_jobs.specs.Started.{Open, Serves}
 use Rattle.live_jobs.proofs.Rows.{from_head, from_next, from_start, from_none, from_any, each_snoc}
@@ -110,3 +113,35 @@ loop-plan-preserved g c =
       marks = λ yes. absurd (true≢false (sym yes));
       fit = inv.fit;
     }
+
+pub push_reserved-requires : goal.push_reserved-requires
+push_reserved-requires g c =
+    omega (
+      arith,
+      c.loop-plan.invariant.within,
+      c.loop-plan.invariant.room.0,
+      c.in-Some.ensures.steps.1,
+      c.loop-plan.serving.ok,
+    )
+
+-- that was the last
+pub returns-clause-all : goal.returns-clause-all
+returns-clause-all g c = λ yes.
+    let count = c.loop-plan.invariant.count yes in
+    omega (arith, count, c.in-None.ensures.steps.0)
+
+pub returns-clause-some : goal.returns-clause-some
+returns-clause-some g c = omega (arith, c.loop-plan.invariant.within)
+
+pub returns-clause-fit : goal.returns-clause-fit
+returns-clause-fit g c = c.loop-plan.invariant.fit
+
+pub returns-clause-marks : goal.returns-clause-marks
+returns-clause-marks g c = λ yes.
+    let rest = c.loop-plan.plan-iterator in
+    let none : into_iter_items rest ≡ [] = nil_from_length rest.rest.items
+    (omega (arith, c.in-None.ensures.steps.0, rest.rest.ok)) in
+    let marks = map (λ h. g.V.Accounts.mark h.promise.service.value) c.loop-plan.serving.items in
+    sym (append-nil marks)
+    ∙ ap (λ plans. marks ++ map (λ p. g.V.Accounts.mark p.service) plans) (sym none)
+    ∙ c.loop-plan.invariant.marks yes

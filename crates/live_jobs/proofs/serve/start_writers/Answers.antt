@@ -86,3 +86,21 @@ loop-seat-preserved g c =
           (λ n h. Runs c.args.channels.now c.args.ends n h.promise.channel.now h.promise.ends) _ _ _
           c.loop-seat.invariant.fit pushed.items (told.1, at ∙ ap Some (sym told.0));
     }
+
+-- that was the last
+pub returns-clause-all : goal.returns-clause-all
+returns-clause-all g c = λ yes.
+    omega (arith, c.loop-seat.invariant.count, c.in-None.ensures.steps.0)
+
+pub returns-clause-some : goal.returns-clause-some
+returns-clause-some g c = omega (arith, c.loop-seat.invariant.count)
+
+pub returns-clause-fit : goal.returns-clause-fit
+returns-clause-fit g c = c.loop-seat.invariant.fit
+
+-- or one couldn't be started
+pub returns-in-None-start_writer-clause-some : goal.returns-in-None-start_writer-clause-some
+returns-in-None-start_writer-clause-some g c = omega (arith, c.loop-seat.invariant.count)
+
+pub returns-in-None-start_writer-clause-fit : goal.returns-in-None-start_writer-clause-fit
+returns-in-None-start_writer-clause-fit g c = c.loop-seat.invariant.fit
