@@ -1,4 +1,4 @@
-use Rattle.std.proofs.Common.{arith}
+use Rattle.std.proofs.Common.{ap, arith, length}
 use Rattle.relay_live.proofs.Accounts.{length_snoc}
 use Rattle.relay_live.proofs.locking.free_buffers.Goals as goal
 
@@ -12,6 +12,13 @@ push_reserved-requires g c =
       c.in-Some.ensures.steps.1,
       c.loop-lock.buffers.ok,
     )
+
+pub loop-lock-init : goal.loop-lock-init
+loop-lock-init g c = record {
+  count = let gives = c.into_iter-lock-iterator.ensures.into_iter_gives in
+      omega (arith, gives.1, ap length c.requires.none);
+  room = c.requires.room;
+}
 
 pub loop-lock-preserved : goal.loop-lock-preserved
 loop-lock-preserved g c = record {

@@ -1,4 +1,4 @@
-use Rattle.std.proofs.Common.{arith}
+use Rattle.std.proofs.Common.{ap, arith, length}
 use Rattle.relay_live.proofs.Accounts.{length_snoc}
 use Rattle.relay_live.proofs.locking.lock_buffers.Goals as goal
 
@@ -12,6 +12,13 @@ push_reserved-requires g c =
       c.in-Some.ensures.steps.1,
       c.loop-buffer.locks.ok,
     )
+
+pub loop-buffer-init : goal.loop-buffer-init
+loop-buffer-init g c = record {
+  count = let gives = c.into_iter-buffer-iterator.ensures.into_iter_gives in
+      omega (arith, gives.1, ap length c.requires.none);
+  room = c.requires.room;
+}
 
 pub loop-buffer-preserved : goal.loop-buffer-preserved
 loop-buffer-preserved g c = record {

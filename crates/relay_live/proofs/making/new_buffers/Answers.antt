@@ -1,4 +1,4 @@
-use Rattle.std.proofs.Common.{◌≡◌, ◌∙◌, ◌++◌, ◌∷◌, [], ap, append_assoc, arith, length, rules}
+use Rattle.std.proofs.Common.{◌≡◌, ◌∙◌, ◌++◌, ◌∷◌, [], ap, append_assoc, arith, length, All}
 use Rattle.std.proofs.Common.{subst, sym}
 use Rattle.std.proofs.lemmas.List.Elements.{All-rest}
 use Rattle.std.specs.Vec.Iter.{into_iter_items}
@@ -11,13 +11,22 @@ use Rattle.relay_live.specs.Beginning.{IsNewOver}
 use Rattle.relay_live.proofs.making.new_buffers.Goals as goal
 
 pub loop-store-init : goal.loop-store-init
-loop-store-init g c = record {
-  all = search rules;
-  over = subst (AreEach IsNewOver []) (sym c.in_ok-buffers.ensures.items) (none_each IsNewOver);
-  count = search rules;
-  room = search rules;
-  honest = search rules;
-}
+loop-store-init g c =
+    let gives = c.into_iter-store-iterator.ensures.into_iter_gives in
+    record {
+      all = gives.0;
+      over = subst (AreEach IsNewOver []) (sym c.in_ok-buffers.ensures.items)
+          (none_each IsNewOver);
+      count = omega (arith, gives.1, ap length c.in_ok-buffers.ensures.items);
+      room = omega (
+        arith,
+        c.in_ok-buffers.ensures.capacity,
+        c.len.ensures,
+        c.args.stores.ok,
+      );
+      honest = λ trusted. subst (All g.S.BlockStore.honest) (sym gives.0)
+          (c.requires.honest trusted);
+    }
 
 -- there is room for one more, and its number fits
 pub push_reserved-requires : goal.push_reserved-requires

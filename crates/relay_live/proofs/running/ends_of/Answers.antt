@@ -1,10 +1,27 @@
-use Rattle.std.proofs.Common.{◌≡◌, [], arith}
+use Rattle.std.proofs.Common.{◌≡◌, ◌++◌, [], ap, arith, length, map}
 use Rattle.std.proofs.lemmas.List.{nil_from_length}
 use Rattle.std.specs.Vec.Iter.{into_iter_items}
 use Rattle.article_verdict.specs.Config.{terms_of}
 use Rattle.relay_live.specs.PeerServers.{kept_of, peer_of, terms_at}
 use Rattle.relay_live.proofs.Accounts.{all_read, length_snoc, map_next}
 use Rattle.relay_live.proofs.running.ends_of.Goals as goal
+
+pub loop-peer_source-init : goal.loop-peer_source-init
+loop-peer_source-init g c =
+    let gives = c.into_iter-peer_source-iterator.ensures.into_iter_gives in
+    let none = c.in_ok-ends.ensures.items in
+    record {
+      count = omega (arith, gives.1, ap length none);
+      room = omega (
+        arith,
+        c.in_ok-ends.ensures.capacity,
+        c.len.ensures,
+        c.args.peer_sources.ok,
+      );
+      peers = λ i. map peer_of (none i) ++ map (λ d. d.peer) (gives.0 i);
+      terms = λ i. map terms_at (none i) ++ map (λ d. terms_of c.args.config.now) (gives.0 i);
+      new = λ i. map kept_of (none i) ++ map (λ d. []) (gives.0 i);
+    }
 
 pub loop-peer_source-preserved : goal.loop-peer_source-preserved
 loop-peer_source-preserved g c =

@@ -1,4 +1,7 @@
 use Rattle.std.proofs.Common.{◌≡◌, ◌∙◌, ◌++◌, ◌∷◌, [], ap, arith, length, map, subst, sym}
+use Rattle.std.proofs.lemmas.List.{length-append, length-map}
+use Rattle.cyc_buffer.specs.Agreement.{store_of}
+use Rattle.cyc_buffer.specs.Head.{inside}
 use Rattle.block_shelf.proofs.EachLemmas.{one_more_each}
 use Rattle.block_shelf.specs.Each.{AreEach}
 use Rattle.block_shelf.specs.Starting.{CanStart, IsFirstOther, buffer_over, number_told}
@@ -78,3 +81,54 @@ returns-in-Err-clause-tries g c = λ before are none first.
     ∙ ap (λ items. items ++ c.in-Err.refused.store ∷ [])
     (c.give_back-stores.ensures.items
     ∙ ap (λ items. items ++ stores_of c.args.so_far.buffers.items) none))
+
+-- there is room for a buffer more, and for the stores
+pub overflow_cast-number : goal.overflow_cast-number
+overflow_cast-number g c = omega (arith, c.len-number.ensures, c.requires.few)
+
+pub push_reserved-requires : goal.push_reserved-requires
+push_reserved-requires g c = c.requires.buffers_room
+
+pub give_back-stores-requires : goal.give_back-stores-requires
+give_back-stores-requires g c = omega (arith, c.requires.stores_room)
+
+pub push_reserved-requires-in-Err : goal.push_reserved-requires-in-Err
+push_reserved-requires-in-Err g c =
+    omega (
+      arith,
+      c.requires.stores_room,
+      c.give_back-stores.ensures.capacity,
+      c.give_back-stores.result.ok,
+      ap length c.give_back-stores.ensures.items,
+      length-append c.args.so_far.room.items (stores_of c.args.so_far.buffers.items),
+      length-map c.args.so_far.buffers.items (λ one. store_of (inside (unopened_in one))),
+      c.args.so_far.buffers.ok,
+      c.args.so_far.room.ok,
+    )
+
+pub returns-in-Ok-clause-count : goal.returns-in-Ok-clause-count
+returns-in-Ok-clause-count g c = omega (arith, c.push_reserved.ensures.len)
+
+pub returns-in-Ok-clause-room : goal.returns-in-Ok-clause-room
+returns-in-Ok-clause-room g c = omega (arith, c.push_reserved.ensures.capacity)
+
+pub returns-in-Err-clause-count : goal.returns-in-Err-clause-count
+returns-in-Err-clause-count g c =
+    omega (
+      arith,
+      c.push_reserved-in-Err.ensures.len,
+      c.give_back-stores.result.ok,
+      ap length c.give_back-stores.ensures.items,
+      length-append c.args.so_far.room.items (stores_of c.args.so_far.buffers.items),
+      length-map c.args.so_far.buffers.items (λ one. store_of (inside (unopened_in one))),
+      c.args.so_far.buffers.ok,
+      c.args.so_far.room.ok,
+    )
+
+pub returns-in-Err-clause-room : goal.returns-in-Err-clause-room
+returns-in-Err-clause-room g c =
+    omega (
+      arith,
+      c.push_reserved-in-Err.ensures.capacity,
+      c.give_back-stores.ensures.capacity,
+    )

@@ -11,8 +11,13 @@ use Rattle.relay_live.proofs.started.StartedBuffers.used.Goals as goal
 
 pub loop-unopened-init : goal.loop-unopened-init
 loop-unopened-init g c = record {
-  count = search rules;
-  room = search rules;
+  count = c.in_ok-used.ensures.len;
+  room = omega (
+    arith,
+    c.in_ok-used.ensures.capacity,
+    c.len.ensures,
+    c.args.self.now.buffers.ok,
+  );
   are = subst (AreUsed []) (sym c.in_ok-used.ensures.items) (none_each IsUsed);
 }
 
