@@ -4,6 +4,21 @@ use Rattle.relay_live.specs.PeerServers.{kept_of}
 use Rattle.relay_live.proofs.Accounts.{length_snoc}
 use Rattle.relay_live.proofs.running.mismatched_receipts_of.Goals as goal
 
+pub loop-end-init : goal.loop-end-init
+loop-end-init g c =
+    let none = c.in_ok-answers.ensures.items in
+    record {
+      room = omega (
+        arith,
+        c.in_ok-answers.ensures.capacity,
+        c.len.ensures,
+        ap length c.as_slice-ends.ensures.value,
+        c.args.seats.now.services.ok,
+      );
+      long = ap length none;
+      finished = ap (map (λ a. a.now)) none;
+    }
+
 -- the list of one end more
 pub loop-end-preserved : goal.loop-end-preserved
 loop-end-preserved g c =
