@@ -75,7 +75,6 @@ impl<S: BlockStore + Drop, J: StorePremises, L: Ledger> Shared<S, J, L> {
     /// What so many ends share over these stores, the i-th for buffer i, before anything has come.
     /// All memory that no message-id takes is taken here. Each buffer's head block says that it may
     /// change.
-    #[tactic(auto, using(block_shelf::proofs::HostFaults::host_refuses))]
     pub fn new(
         rt: &impl RandomSource,
         alloc: Global,

@@ -1,4 +1,5 @@
 use Rattle.std.proofs.Common.{◌∙◌, arith}
+use Rattle.block_shelf.proofs.HostFaults.{host_refuses}
 use Rattle.block_shelf.proofs.NewBufferSet.{same_count}
 use Rattle.relay_live.proofs.shared.Shared.new.Goals as goal
 
@@ -40,3 +41,16 @@ over-requires g c =
 
 pub returns-in-Err-clause-refusal : goal.returns-in-Err-clause-refusal
 returns-in-Err-clause-refusal g c = c.in-Err.ensures.refusal
+
+-- the host has no memory for it
+pub returns-in_err-locks-clause-refusal : goal.returns-in_err-locks-clause-refusal
+returns-in_err-locks-clause-refusal g c =
+    host_refuses g.S.BlockStore c.args.stores.items c.from_residual.result
+    c.from_residual.ensures.1
+
+pub returns-in_err-slots_and_rounds-clause-refusal :
+    goal.returns-in_err-slots_and_rounds-clause-refusal
+returns-in_err-slots_and_rounds-clause-refusal g c =
+    host_refuses g.S.BlockStore c.args.stores.items
+    c.from_residual-in_err-slots_and_rounds.result
+    c.from_residual-in_err-slots_and_rounds.ensures.1
