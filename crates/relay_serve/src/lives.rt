@@ -89,8 +89,17 @@ fn unstopped<S: BlockStore + Drop, J: StorePremises, L: Ledger>(
     ensures fault { IsStopFault result }
 {
     match refused {
-        Unshut::NotIdle(_) => ServeError::Stop(StopFault::NotIdle),
-        Unshut::Memory(_) => ServeError::Memory,
-        Unshut::Device(_, _) => ServeError::Stop(StopFault::Device),
+        Unshut::NotIdle(shared) => {
+            drop(shared);
+            ServeError::Stop(StopFault::NotIdle)
+        }
+        Unshut::Memory(shared) => {
+            drop(shared);
+            ServeError::Memory
+        }
+        Unshut::Device(_, stopped) => {
+            drop(stopped);
+            ServeError::Stop(StopFault::Device)
+        }
     }
 }

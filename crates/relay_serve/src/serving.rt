@@ -1,5 +1,5 @@
 //! A relay is served on the ports of the machine, over its files.
-ghost use Rattle.std.specs.Prelude.{◌≡◌, ◌<◌, ◌^◌, IfErr, IfOk, length, map};
+ghost use Rattle.std.specs.Prelude.{◌≡◌, ◌<◌, ◌^◌, IfErr, IfOk, Ok, length, map};
 ghost use Rattle.relay_serve.specs.Running.{IsServeFault, IsStopFault};
 ghost use Rattle.relay_report.specs.Serve.{AreOf, ServeGives};
 ghost use Rattle.run_blocks.specs.Store.{count_of};
@@ -10,7 +10,7 @@ use crate::files::{fit_files, hold_files};
 use crate::gate::CountingGate;
 use crate::history::{begun_from, keep_history};
 use crate::ports::open_ports;
-use crate::running::{Beginning, Records, Surroundings, channels_of, run_relay};
+use crate::running::{Beginning, Finished, Records, Surroundings, channels_of, run_relay};
 use crate::streams::fill_streams;
 use crate::watched::{Watched, watch_all};
 use live_store::ArticleLog;
@@ -21,7 +21,7 @@ use relay_folder::{Control, HistoryPlace, HostHistory, Origin};
 use relay_live::PeerSource;
 use relay_report::{ServeError, StopFault, Totals, print_totals};
 use run_blocks::RunBlocks;
-use std::alloc::Global;
+use std::alloc::{AllocError, Global};
 use std::fs::{File, Files};
 use std::io::Write;
 use std::marker::Brand;
@@ -87,7 +87,10 @@ where
         desk: &desk,
     };
     let answer = begin_and_run(rt, alloc, config, unbegun, &mut history, access, writer);
+    drop(history);
     desk.close(rt, folder);
+    drop(desk);
+    drop(gate);
     if answer.is_ok() {
         let _lost = eprintln!(rt; "stopped");
     }
@@ -226,10 +229,34 @@ where
         },
     ) {
         Ok(finished) => {
-            keep_stopped(history, &finished.stopped)?;
-            Ok(finished.totals?)
+            let Finished {
+                counted,
+                totals,
+                stopped,
+            } = finished;
+            drop(counted);
+            let kept = keep_stopped(history, &stopped);
+            drop(stopped);
+            kept_totals(kept, totals)
         }
         Err(error) => Err(error),
+    }
+}
+
+/// The totals of a relay that was stopped, where its history was kept and there was memory for them.
+fn kept_totals(
+    kept: Result<(), ServeError>,
+    totals: Result<Totals, AllocError>,
+) -> Result<Totals, ServeError>
+    ensures totals { IfOk result (λ told. totals ≡ Ok told) }
+    ensures fault { IfErr kept IsStopFault → IfErr result IsStopFault }
+{
+    match kept {
+        Ok(()) => Ok(totals?),
+        Err(error) => {
+            drop(totals);
+            Err(error)
+        }
     }
 }
 
