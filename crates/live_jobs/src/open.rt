@@ -203,7 +203,8 @@ fn reserve_group<L: Ledger, O: Outcome + Drop, V: Drop>(
         × (opened.new.rests.items ≡ opened.old.rests.items)
         × (opened.new.plans.items ≡ opened.old.plans.items)
         × (opened.new.writers.items ≡ opened.old.writers.items) }
-    ensures room { IfOk result (λ _. (vec_len opened.new.channels < vec_capacity opened.new.channels)
+    ensures room { IfOk result (λ _.
+        (vec_len opened.new.channels < vec_capacity opened.new.channels)
         × (vec_len opened.new.rests < vec_capacity opened.new.rests)
         × (vec_len opened.new.writers < vec_capacity opened.new.writers)) }
 {

@@ -1,19 +1,23 @@
 //! What a relay's threads share is had from what it was stopped with, and stopped again.
 ghost use Rattle.std.specs.Prelude.{◌≡◌, true, All, IfErr, IfOk, length, map};
+ghost use Rattle.live_jobs.specs.Desks.{posts_in};
+ghost use Rattle.relay_live.specs.Counts.{accepted_in, posted_in};
 ghost use Rattle.relay_live.specs.Making.{buffers_in, ends_in};
 ghost use Rattle.relay_live.specs.Starting.{WereStopped};
 ghost use Rattle.relay_serve.specs.Lives.{IsUnstartedAs, TellsStart, TellsStop, stopped_as};
-ghost use Rattle.relay_serve.specs.Running.{IsRelayFault, IsStopFault};
+ghost use Rattle.relay_serve.specs.Running.{CountsOf, IsRelayFault, IsStopFault};
+ghost use Rattle.relay_report.specs.Serve.{AreOf};
 
-use crate::running::unbegun;
+use crate::figures::totals_of;
+use crate::running::{Finished, unbegun};
 use crate::starting::refusal;
 use cyc_block::BlockStore;
 use live_store::{ArticleLog, StorePremises};
 use relay_conf::Config;
 use relay_core::{NotStarted, Stopped};
-use relay_live::{Shared, Unshut};
-use relay_report::{ServeError, StopFault};
-use std::alloc::Global;
+use relay_live::{Counted, Shared, Unshut};
+use relay_report::{ServeError, StopFault, Totals};
+use std::alloc::{AllocError, Global};
 use std::random::RandomSource;
 use std::sync::Wait;
 use std::sync::ledger::{Book, Ledger};
@@ -66,8 +70,55 @@ fn unstarted<S: Drop>(alloc: Global, config: &Config, refused: NotStarted<S>) ->
     }
 }
 
+/// Stops a relay whose threads have ended, of which this was counted.
+pub(crate) fn finish<S: BlockStore + Drop, J: StorePremises, L: Ledger, R: Wait>(
+    rt: &R,
+    alloc: Global,
+    config: &Config,
+    shared: Shared<S, J, L>,
+    counted: Counted,
+) -> Result<Finished<S>, ServeError>
+    requires buffers { buffers_in shared ≡ length config.now.buffers.buffers.items }
+    requires posted { posts_in (posted_in counted) ≡ accepted_in counted }
+    ensures counted { IfOk result (λ run. run.counted ≡ counted) }
+    ensures totals { IfOk result (λ run. IfOk run.totals (AreOf config.now)) }
+    ensures numbers { IfOk result (λ run. IfOk run.totals (λ totals. CountsOf totals counted)) }
+    ensures fault { IfErr result IsStopFault }
+{
+    let totals = counted_totals(rt, alloc, config, &shared, &counted);
+    match shut_shared(alloc, shared) {
+        Ok(stopped) => Ok(Finished {
+            counted,
+            totals,
+            stopped,
+        }),
+        Err(error) => {
+            drop(totals);
+            drop(counted);
+            Err(error)
+        }
+    }
+}
+
+/// The totals of a run, as it was counted.
+fn counted_totals<S: BlockStore + Drop, J: StorePremises, L: Ledger, R: Wait>(
+    rt: &R,
+    alloc: Global,
+    config: &Config,
+    shared: &Shared<S, J, L>,
+    counted: &Counted,
+) -> Result<Totals, AllocError>
+    requires buffers { buffers_in shared.now ≡ length config.now.buffers.buffers.items }
+    requires posted { posts_in (posted_in counted.now) ≡ accepted_in counted.now }
+    ensures totals { IfOk result (AreOf config.now) }
+    ensures counted { IfOk result (λ totals. CountsOf totals counted.now) }
+{
+    let totals = totals_of(rt, alloc, config, shared, counted)?;
+    Ok(totals)
+}
+
 /// Stops a relay whose threads have ended.
-pub(crate) fn shut_shared<S: BlockStore + Drop, J: StorePremises, L: Ledger>(
+fn shut_shared<S: BlockStore + Drop, J: StorePremises, L: Ledger>(
     alloc: Global,
     shared: Shared<S, J, L>,
 ) -> Result<Stopped<S>, ServeError>

@@ -6,13 +6,12 @@ ghost use Rattle.relay_live.specs.Counts.{accepted_in, posted_in};
 ghost use Rattle.relay_live.specs.Holding.{has_buffer};
 ghost use Rattle.relay_live.specs.Making.{buffers_in, ends_in, slots_of};
 ghost use Rattle.relay_serve.specs.Lives.{AreOfOrigin, IsNoStart, StartsAsTold};
-ghost use Rattle.relay_serve.specs.Running.{CountsOf, IsRelayFault, IsRunFault, IsStopFault, Ran};
-ghost use Rattle.relay_serve.specs.Running.{channel_count, ended_as, unbegun_as};
+ghost use Rattle.relay_serve.specs.Running.{CountsOf, IsRelayFault, IsRunFault, Ran, ended_as};
+ghost use Rattle.relay_serve.specs.Running.{channel_count, unbegun_as};
 ghost use Rattle.relay_report.specs.Serve.{AreOf};
 
-use crate::figures::totals_of;
 use crate::files::unformatted;
-use crate::lives::{shut_shared, start_shared};
+use crate::lives::{finish, start_shared};
 use crate::side_thread::{Figured, Served, SideThread, start_side_thread};
 use block_shelf::BeginError;
 use cyc_block::BlockStore;
@@ -153,53 +152,6 @@ where
             Err(error)
         }
     }
-}
-
-/// Stops a relay whose threads have ended, of which this was counted.
-fn finish<S: BlockStore + Drop, J: StorePremises, L: Ledger, R: Wait>(
-    rt: &R,
-    alloc: Global,
-    config: &Config,
-    shared: Shared<S, J, L>,
-    counted: Counted,
-) -> Result<Finished<S>, ServeError>
-    requires buffers { buffers_in shared ≡ length config.now.buffers.buffers.items }
-    requires posted { posts_in (posted_in counted) ≡ accepted_in counted }
-    ensures counted { IfOk result (λ run. run.counted ≡ counted) }
-    ensures totals { IfOk result (λ run. IfOk run.totals (AreOf config.now)) }
-    ensures numbers { IfOk result (λ run. IfOk run.totals (λ totals. CountsOf totals counted)) }
-    ensures fault { IfErr result IsStopFault }
-{
-    let totals = counted_totals(rt, alloc, config, &shared, &counted);
-    match shut_shared(alloc, shared) {
-        Ok(stopped) => Ok(Finished {
-            counted,
-            totals,
-            stopped,
-        }),
-        Err(error) => {
-            drop(totals);
-            drop(counted);
-            Err(error)
-        }
-    }
-}
-
-/// The totals of a run, as it was counted.
-fn counted_totals<S: BlockStore + Drop, J: StorePremises, L: Ledger, R: Wait>(
-    rt: &R,
-    alloc: Global,
-    config: &Config,
-    shared: &Shared<S, J, L>,
-    counted: &Counted,
-) -> Result<Totals, AllocError>
-    requires buffers { buffers_in shared.now ≡ length config.now.buffers.buffers.items }
-    requires posted { posts_in (posted_in counted.now) ≡ accepted_in counted.now }
-    ensures totals { IfOk result (AreOf config.now) }
-    ensures counted { IfOk result (λ totals. CountsOf totals counted.now) }
-{
-    let totals = totals_of(rt, alloc, config, shared, counted)?;
-    Ok(totals)
 }
 
 /// What so many ends share over these stores, from nothing or from what it was stopped with.

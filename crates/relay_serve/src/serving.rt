@@ -21,7 +21,7 @@ use relay_folder::{Control, HistoryPlace, HostHistory, Origin};
 use relay_live::PeerSource;
 use relay_report::{ServeError, StopFault, Totals, print_totals};
 use run_blocks::RunBlocks;
-use std::alloc::{AllocError, Global};
+use std::alloc::Global;
 use std::fs::{File, Files};
 use std::io::Write;
 use std::marker::Brand;
@@ -228,29 +228,28 @@ where
             side: desk,
         },
     ) {
-        Ok(finished) => {
-            let Finished {
-                counted,
-                totals,
-                stopped,
-            } = finished;
-            drop(counted);
-            let kept = keep_stopped(history, &stopped);
-            drop(stopped);
-            kept_totals(kept, totals)
-        }
+        Ok(finished) => keep_finished(history, finished),
         Err(error) => Err(error),
     }
 }
 
-/// The totals of a relay that was stopped, where its history was kept and there was memory for them.
-fn kept_totals(
-    kept: Result<(), ServeError>,
-    totals: Result<Totals, AllocError>,
+/// Keeps what a relay that has run was stopped with, and gives its totals, where there was memory
+/// for them.
+fn keep_finished<R, H: HistoryPlace>(
+    history: &mut H,
+    finished: Finished<Watched<'_, RunBlocks, R>>,
 ) -> Result<Totals, ServeError>
-    ensures totals { IfOk result (λ told. totals ≡ Ok told) }
-    ensures fault { IfErr kept IsStopFault → IfErr result IsStopFault }
+    ensures totals { IfOk result (λ totals. finished.entry.totals ≡ Ok totals) }
+    ensures fault { IfErr result IsStopFault }
 {
+    let Finished {
+        counted,
+        totals,
+        stopped,
+    } = finished;
+    drop(counted);
+    let kept = keep_stopped(history, &stopped);
+    drop(stopped);
     match kept {
         Ok(()) => Ok(totals?),
         Err(error) => {

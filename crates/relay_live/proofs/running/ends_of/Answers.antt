@@ -52,7 +52,8 @@ returns-clause-terms g c =
     let rest = c.loop-peer_source.peer_source-iterator in
     let none : into_iter_items rest ≡ [] = nil_from_length rest.rest.items
     (omega (arith, c.in-None.ensures.steps.0, rest.rest.ok)) in
-    all_read (λ d. terms_of c.args.config.now) terms_at _ _ _ c.loop-peer_source.invariant.terms none
+    all_read (λ d. terms_of c.args.config.now) terms_at _ _ _ c.loop-peer_source.invariant.terms
+    none
 
 pub returns-clause-new : goal.returns-clause-new
 returns-clause-new g c =
