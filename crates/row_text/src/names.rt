@@ -30,20 +30,35 @@ impl Names {
         name: &[u8],
         parts: &[Vec<u8>],
     ) -> Result<usize, AllocError> {
-        let octets = joined(alloc, &self.meant(alloc, parts)?)?;
-        let count = octets.len();
         let name = Vec::from_slice(alloc, name)?;
+        let octets = self.text_of(alloc, parts)?;
+        let count = octets.len();
         self.list.push(Named { name, octets })?;
         Ok(count)
+    }
+
+    /// The text of these parts, with the text of each name in place of the name.
+    fn text_of(&self, alloc: Global, parts: &[Vec<u8>]) -> Result<Vec<u8>, AllocError> {
+        let mut octets = Vec::new(alloc);
+        for part in parts {
+            octets.extend_from_slice(self.meaning(part))?;
+        }
+        Ok(octets)
     }
 
     /// The cells, with the text of each name in place of the name.
     pub fn meant(&self, alloc: Global, cells: &[Vec<u8>]) -> Result<Vec<Vec<u8>>, AllocError> {
         let mut meant = Vec::new(alloc);
         for cell in cells {
-            meant.push(Vec::from_slice(alloc, self.meaning(cell))?)?;
+            self.mean(alloc, cell, &mut meant)?;
         }
         Ok(meant)
+    }
+
+    /// A further cell, with its text in place of its name.
+    fn mean(&self, alloc: Global, cell: &[u8], meant: &mut Vec<Vec<u8>>) -> Result<(), AllocError> {
+        let octets = Vec::from_slice(alloc, self.meaning(cell))?;
+        Ok(meant.push(octets)?)
     }
 
     /// The text that the cell names, or the cell itself.

@@ -61,8 +61,9 @@ fn short_escape(letter: u8) -> Option<Piece> {
 fn by_digits(text: &[u8]) -> Option<(Piece, &[u8])>
     ensures shorter { IfSome result (λ cut. length cut.1.now < length text.now) }
 {
-    let (high, rest) = text.split_first()?;
-    let (low, rest) = rest.split_first()?;
+    let [high, low, rest @ ..] = text else {
+        return None;
+    };
     Some((Piece::One(digit(*high)? << 4 | digit(*low)?), rest))
 }
 

@@ -56,28 +56,51 @@ fn play_all<A: Answers>(rt: &HostRuntime, answers: &mut A) -> io::Result<()> {
     let alloc = rt.alloc();
     let mut input = Vec::new(alloc);
     rt.reader().read_to_end(&mut input)?;
-    let lines = input.strip_suffix(b"\n").unwrap_or(&input);
     let mut writer = BufWriter::new(alloc, io::writer(rt))?;
+    let lines = input.strip_suffix(b"\n").unwrap_or(&input);
+    let printed = print_all(alloc, answers, lines, &mut writer);
+    drop(writer);
+    printed
+}
+
+/// Prints lines with their answers.
+fn print_all<A: Answers, W: Write>(
+    alloc: Global,
+    answers: &mut A,
+    lines: &[u8],
+    writer: &mut W,
+) -> io::Result<()> {
     for line in lines.split(|octet| *octet == b'\n') {
-        let text = answered(alloc, answers, line)?;
-        writer.write_all(&text)?;
+        print_line(alloc, answers, line, writer)?;
     }
     writer.flush()
 }
 
-/// A line as it is printed.
-fn answered<A: Answers>(
+/// Prints a line with its answer.
+fn print_line<A: Answers, W: Write>(
     alloc: Global,
     answers: &mut A,
     line: &[u8],
-) -> Result<Vec<u8>, AllocError> {
-    let mut text = Vec::from_slice(alloc, line)?;
+    writer: &mut W,
+) -> io::Result<()> {
+    let mut text = Vec::new(alloc);
+    put_line(alloc, answers, line, &mut text)?;
+    writer.write_all(&text)
+}
+
+/// Writes a line as it is printed.
+fn put_line<A: Answers>(
+    alloc: Global,
+    answers: &mut A,
+    line: &[u8],
+    text: &mut Vec<u8>,
+) -> Result<(), AllocError> {
+    text.extend_from_slice(line)?;
     if !is_skipped(line) {
         text.extend_from_slice(b" = ")?;
-        put_answer(alloc, answers, line, &mut text)?;
+        put_answer(alloc, answers, line, text)?;
     }
-    text.push(b'\n')?;
-    Ok(text)
+    text.extend_from_slice(b"\n")
 }
 
 /// Writes the answer of a row.
@@ -88,27 +111,35 @@ fn put_answer<A: Answers>(
     text: &mut Vec<u8>,
 ) -> Result<(), AllocError> {
     let (call, rest) = line_words::cut(row, b' ');
-    let Some(cells) = cells_of(alloc, rest)? else {
-        return text.extend_from_slice(b"?");
-    };
-    if answers.answer(alloc, call, &cells, text)? {
-        Ok(())
-    } else {
-        text.extend_from_slice(b"?")
+    let mut cells = Vec::new(alloc);
+    if read_cells(alloc, rest, &mut cells)? && answers.answer(alloc, call, &cells, text)? {
+        return Ok(());
     }
+    text.extend_from_slice(b"?")
 }
 
-/// The octets of the cells that follow a call, or `None` where an escape is bad.
-fn cells_of(alloc: Global, rest: Option<&[u8]>) -> Result<Option<Vec<Vec<u8>>>, AllocError> {
-    let mut cells = Vec::new(alloc);
+/// Reads the octets of the cells that follow a call, or answers `false` where an escape is bad.
+fn read_cells(
+    alloc: Global,
+    rest: Option<&[u8]>,
+    cells: &mut Vec<Vec<u8>>,
+) -> Result<bool, AllocError> {
     let Some(rest) = rest else {
-        return Ok(Some(cells));
+        return Ok(true);
     };
     for word in rest.split(|octet| *octet == b' ') {
-        match octets_of(alloc, word)? {
-            Some(octets) => cells.push(octets)?,
-            None => return Ok(None),
+        if !read_cell(alloc, word, cells)? {
+            return Ok(false);
         }
     }
-    Ok(Some(cells))
+    Ok(true)
+}
+
+/// Reads the octets of a cell, or answers `false` where an escape is bad.
+fn read_cell(alloc: Global, word: &[u8], cells: &mut Vec<Vec<u8>>) -> Result<bool, AllocError> {
+    match octets_of(alloc, word)? {
+        Some(octets) => cells.push(octets)?,
+        None => return Ok(false),
+    }
+    Ok(true)
 }
