@@ -1,10 +1,8 @@
 //! The articles of a buffer. The text of an article is computed from its class and its octets.
-ghost use Rattle.std.specs.Prelude.{◌≤◌};
-
-use crate::bench::{Device, InMemory, number, octet};
+use crate::bench::{Device, number, octet};
 use crate::calls::Article;
 use cyc_block::CHUNK_OCTETS;
-use cyc_buffer::{BufError, Found, Open, Unopened};
+use cyc_buffer::{BufError, Buffer, Found, Open, Unopened};
 use cyc_token::Token;
 use row_text::Sheet;
 use std::alloc::{AllocError, Global};
@@ -31,7 +29,7 @@ trait Blocks {
     ) -> Result<Found, BufError>;
 }
 
-impl Blocks for InMemory {
+impl<D: Device> Blocks for Buffer<D> {
     fn block(
         &mut self,
         token: &Token,
@@ -42,7 +40,7 @@ impl Blocks for InMemory {
     }
 }
 
-impl Blocks for Unopened<Device> {
+impl<D: Device> Blocks for Unopened<D> {
     fn block(
         &mut self,
         token: &Token,
@@ -54,98 +52,123 @@ impl Blocks for Unopened<Device> {
 }
 
 /// Writes the answer of a call of a buffer whose head isn't open.
-pub fn looked(buffer: &mut Unopened<Device>, call: Article, cells: &[Vec<u8>], sheet: &mut Sheet) {
-    match (call, cells) {
-        (Article::Read, [token]) => read(buffer, token, sheet),
-        (Article::Numbers, []) => put_numbers(buffer.buffer(), sheet),
+pub fn looked<D: Device>(
+    buffer: &mut Unopened<D>,
+    call: Article,
+    cells: &[Vec<u8>],
+    sheet: &mut Sheet,
+) {
+    match call {
+        Article::Read => read(buffer, cells, sheet),
+        Article::Numbers => put_numbers(buffer.buffer(), cells, sheet),
         _ => sheet.refuse(),
     }
 }
 
 /// Writes the answer of a call.
-pub fn answer(buffer: &mut InMemory, call: Article, cells: &[Vec<u8>], sheet: &mut Sheet) {
-    match (call, cells) {
-        (Article::Store, [class, octets]) => store(buffer, class, octets, false, sheet),
-        (Article::Store, [class, octets, word]) if word.as_slice() == b"fresh".as_slice() => {
-            store(buffer, class, octets, true, sheet)
-        }
-        (Article::Abandon, [class, octets, blocks]) => {
-            leave(buffer, [class, octets, blocks], End::Abandoned, sheet)
-        }
-        (Article::Unfinished, [class, octets, blocks]) => {
-            leave(buffer, [class, octets, blocks], End::Unfinished, sheet)
-        }
-        (Article::Read, [token]) => read(buffer, token, sheet),
-        (Article::Numbers, []) => put_numbers(buffer, sheet),
-        _ => sheet.refuse(),
+pub fn answer<D: Device>(
+    buffer: &mut Buffer<D>,
+    call: Article,
+    cells: &[Vec<u8>],
+    sheet: &mut Sheet,
+) {
+    match call {
+        Article::Store => store(buffer, cells, sheet),
+        Article::Abandon => leave(buffer, cells, End::Abandoned, sheet),
+        Article::Unfinished => leave(buffer, cells, End::Unfinished, sheet),
+        Article::Read => read(buffer, cells, sheet),
+        Article::Numbers => put_numbers(buffer, cells, sheet),
+    }
+}
+
+/// What is stored: an article of a class and of so many octets.
+#[derive(Clone, Copy)]
+struct Size {
+    class: u8,
+    octets: u32,
+}
+
+/// The article that two cells name.
+fn size_of(class: &[u8], octets: &[u8], sheet: &mut Sheet) -> Size {
+    Size {
+        class: octet(class, sheet),
+        octets: number(octets, sheet),
     }
 }
 
 /// Writes the token under which an article is stored, or why it isn't.
-fn store(buffer: &mut InMemory, class: &[u8], octets: &[u8], fresh: bool, sheet: &mut Sheet) {
-    let class = octet(class, sheet);
-    let octets = number(octets, sheet);
-    let blocks = u64::from(octets).div_ceil(CHUNK_OCTETS as u64);
-    put_article(buffer, class, octets, fresh, blocks, End::Finished, sheet);
+fn store<D: Device>(buffer: &mut Buffer<D>, cells: &[Vec<u8>], sheet: &mut Sheet) {
+    let [class, octets, words @ ..] = cells else {
+        return sheet.refuse();
+    };
+    let Some(fresh) = is_fresh(words) else {
+        return sheet.refuse();
+    };
+    let size = size_of(class, octets, sheet);
+    let blocks = u64::from(size.octets).div_ceil(CHUNK_OCTETS as u64);
+    put_article(buffer, size, fresh, blocks, End::Finished, sheet);
+}
+
+/// Whether the article is to be stored in a fresh cycle; none where the words say neither.
+fn is_fresh(words: &[Vec<u8>]) -> Option<bool> {
+    match words {
+        [] => Some(false),
+        [word] if word.as_slice() == b"fresh".as_slice() => Some(true),
+        _ => None,
+    }
 }
 
 /// Writes the token of an article of which so many blocks are written, and then no more.
-fn leave(buffer: &mut InMemory, parts: [&[u8]; 3], end: End, sheet: &mut Sheet) {
-    let class = octet(parts[0], sheet);
-    let octets = number(parts[1], sheet);
-    let blocks = sheet.read(parts[2]);
-    put_article(buffer, class, octets, false, blocks, end, sheet);
+fn leave<D: Device>(buffer: &mut Buffer<D>, cells: &[Vec<u8>], end: End, sheet: &mut Sheet) {
+    let [class, octets, blocks] = cells else {
+        return sheet.refuse();
+    };
+    let size = size_of(class, octets, sheet);
+    let blocks = sheet.read(blocks);
+    put_article(buffer, size, false, blocks, end, sheet);
 }
 
 /// Begins an article, writes so many of its blocks, ends it so, and writes its token.
-fn put_article(
-    buffer: &mut InMemory,
-    class: u8,
-    octets: u32,
+fn put_article<D: Device>(
+    buffer: &mut Buffer<D>,
+    size: Size,
     fresh: bool,
     blocks: u64,
     end: End,
     sheet: &mut Sheet,
 ) {
-    if octets == 0 {
+    if size.octets == 0 {
         return sheet.refuse();
     }
-    let Ok(text) = text_of(sheet.alloc, class, octets as usize) else {
+    let Ok(text) = text_of(sheet.alloc, size.class, size.octets as usize) else {
         return sheet.lack();
     };
-    let Some(open) = begun(buffer, class, octets, fresh, sheet) else {
-        return;
-    };
-    if write_blocks(buffer, &open, &text, blocks, sheet) {
+    match buffer.begin(size.class, size.octets, fresh) {
+        Ok(open) => write_article(buffer, open, &text, blocks, end, sheet),
+        Err(error) => sheet.debug(&error),
+    }
+}
+
+/// Writes so many blocks of an article that was begun, ends it so, and writes its token.
+fn write_article<D: Device>(
+    buffer: &mut Buffer<D>,
+    open: Open,
+    text: &[u8],
+    blocks: u64,
+    end: End,
+    sheet: &mut Sheet,
+) {
+    if write_blocks(buffer, &open, text, blocks, sheet) {
         sheet.put(&ended(buffer, open, end).to_text());
     } else {
         buffer.abandon(open);
     }
 }
 
-/// Begins an article; where it isn't begun, it is written why.
-fn begun(
-    buffer: &mut InMemory,
-    class: u8,
-    octets: u32,
-    fresh: bool,
-    sheet: &mut Sheet,
-) -> Option<Open>
-    requires { 1 ≤ octets }
-{
-    match buffer.begin(class, octets, fresh) {
-        Ok(open) => Some(open),
-        Err(error) => {
-            sheet.debug(&error);
-            None
-        }
-    }
-}
-
 /// Writes so many blocks of an article; where one fails, that is written, and the answer is
 /// `false`.
-fn write_blocks(
-    buffer: &mut InMemory,
+fn write_blocks<D: Device>(
+    buffer: &mut Buffer<D>,
     open: &Open,
     text: &[u8],
     blocks: u64,
@@ -161,7 +184,7 @@ fn write_blocks(
 }
 
 /// Ends an article so, and gives its token.
-fn ended(buffer: &mut InMemory, open: Open, end: End) -> Token {
+fn ended<D: Device>(buffer: &mut Buffer<D>, open: Open, end: End) -> Token {
     match end {
         End::Finished => buffer.finish(open),
         End::Abandoned => {
@@ -188,7 +211,10 @@ fn text_of(alloc: Global, class: u8, octets: usize) -> Result<Vec<u8>, AllocErro
 }
 
 /// Writes what is read of the article under a token.
-fn read<B: Blocks>(buffer: &mut B, token: &[u8], sheet: &mut Sheet) {
+fn read<B: Blocks>(buffer: &mut B, cells: &[Vec<u8>], sheet: &mut Sheet) {
+    let [token] = cells else {
+        return sheet.refuse();
+    };
     let Ok(token) = Token::parse(token) else {
         return sheet.refuse();
     };
@@ -234,7 +260,10 @@ fn is_part(
 }
 
 /// Writes the numbers of a buffer.
-fn put_numbers(buffer: &InMemory, sheet: &mut Sheet) {
+fn put_numbers<D: Device>(buffer: &Buffer<D>, cells: &[Vec<u8>], sheet: &mut Sheet) {
+    if !cells.is_empty() {
+        return sheet.refuse();
+    }
     sheet.numbered(b"blocks ", u64::from(buffer.blocks()));
     sheet.numbered(b" cycle ", u64::from(buffer.cycle()));
     sheet.numbered(b" front ", buffer.front());

@@ -1,6 +1,7 @@
 //! Texts of histories.
+ghost use Rattle.std.specs.Prelude.{◌<◌, length};
 
-use crate::bench::number;
+use crate::bench::{number, octet};
 use crate::calls::Text;
 use crate::octets::octets_by;
 use crate::runs::Runs;
@@ -8,6 +9,7 @@ use cyc_token::Token;
 use id_history::{History, HistoryError, KeptFeed, KeptId, Setting, read, write};
 use row_text::Sheet;
 use std::alloc::Global;
+use std::mem;
 
 /// A text, and the setting that it is read under.
 #[derive(Drop)]
@@ -31,23 +33,70 @@ impl Texts {
 
     /// Writes the answer of a call.
     pub fn answer(&mut self, call: Text, cells: &[Vec<u8>], sheet: &mut Sheet) {
-        match (call, cells) {
-            (Text::Setting, [buffers, groups, rings]) => {
-                self.setting = setting_of(buffers, groups, rings, sheet);
-                sheet.put(b"set");
-            }
-            (Text::Text, cells) => {
-                self.text = octets_of(cells, sheet);
-                sheet.number(self.text.len() as u64);
-            }
-            (Text::History, []) => put_history(&self.text, &self.setting, sheet),
-            (Text::Changes, [mask]) => {
-                let mask = sheet.read_up_to(255, mask) as u8;
-                put_changes(&self.text, mask, &self.setting, sheet);
-            }
-            (Text::Cuts, []) => put_cuts(&self.text, &self.setting, sheet),
-            _ => sheet.refuse(),
+        match call {
+            Text::Setting => self.set(cells, sheet),
+            Text::Text => self.name(cells, sheet),
+            Text::History => self.put_history(cells, sheet),
+            Text::Changes => self.put_changes(cells, sheet),
+            Text::Cuts => self.put_cuts(cells, sheet),
         }
+    }
+
+    /// From here the setting is that of the three cells.
+    fn set(&mut self, cells: &[Vec<u8>], sheet: &mut Sheet) {
+        let [buffers, groups, rings] = cells else {
+            return sheet.refuse();
+        };
+        let setting = setting_of(buffers, groups, rings, sheet);
+        drop(mem::replace(&mut self.setting, setting));
+        sheet.put(b"set");
+    }
+
+    /// From here the text is that whose digits stand in the cells.
+    fn name(&mut self, cells: &[Vec<u8>], sheet: &mut Sheet) {
+        self.text = octets_of(cells, sheet);
+        sheet.number(self.text.len() as u64);
+    }
+
+    /// Writes the history that the text says, or that it says none.
+    fn put_history(&self, cells: &[Vec<u8>], sheet: &mut Sheet) {
+        if !cells.is_empty() {
+            return sheet.refuse();
+        }
+        match read(sheet.alloc, &self.text, &self.setting) {
+            Ok(history) => {
+                put_parts(&history, sheet);
+                drop(history);
+            }
+            Err(error) => put_fault(error, sheet),
+        }
+    }
+
+    /// Writes what the text gives with a mask's bits turned in each of its octets in turn.
+    fn put_changes(&self, cells: &[Vec<u8>], sheet: &mut Sheet) {
+        let [mask] = cells else {
+            return sheet.refuse();
+        };
+        let mask = octet(mask, sheet);
+        let mut runs = Runs::new(sheet.alloc);
+        for place in 0..self.text.len() {
+            let said = said_changed(&self.text, place, mask, &self.setting, sheet);
+            runs.add(place as u64, said, sheet);
+        }
+        runs.end(sheet);
+    }
+
+    /// Writes what the text gives cut behind so many of its octets, each number in turn.
+    fn put_cuts(&self, cells: &[Vec<u8>], sheet: &mut Sheet) {
+        if !cells.is_empty() {
+            return sheet.refuse();
+        }
+        let mut runs = Runs::new(sheet.alloc);
+        for end in 0..self.text.len() {
+            let said = said_of(&self.text[..end], &self.setting, sheet);
+            runs.add(end as u64, said, sheet);
+        }
+        runs.end(sheet);
     }
 }
 
@@ -64,30 +113,31 @@ fn setting_of(buffers: &[u8], groups: &[u8], rings: &[u8], sheet: &mut Sheet) ->
 fn numbers_of(cell: &[u8], sheet: &mut Sheet) -> Vec<u32> {
     let mut numbers = Vec::new(sheet.alloc);
     for word in cell.split(|octet| *octet == b',') {
-        let number = number(word, sheet);
-        if numbers.push(number).is_err() {
-            sheet.lack();
-        }
+        add_number(&mut numbers, word, sheet);
     }
     numbers
+}
+
+/// The number of a word follows.
+fn add_number(numbers: &mut Vec<u32>, word: &[u8], sheet: &mut Sheet) {
+    if numbers.push(number(word, sheet)).is_err() {
+        sheet.lack();
+    }
 }
 
 /// The octets whose digits stand in cells.
 fn octets_of(cells: &[Vec<u8>], sheet: &mut Sheet) -> Vec<u8> {
     let mut octets = Vec::new(sheet.alloc);
     for cell in cells {
-        if octets.extend_from_slice(&octets_by(cell, sheet)).is_err() {
-            sheet.lack();
-        }
+        add_octets(&mut octets, cell, sheet);
     }
     octets
 }
 
-/// Writes the history that a text says, or that it says none.
-fn put_history(text: &[u8], setting: &Setting, sheet: &mut Sheet) {
-    match read(sheet.alloc, text, setting) {
-        Ok(history) => put_parts(&history, sheet),
-        Err(error) => put_fault(error, sheet),
+/// The octets follow whose digits stand in a cell.
+fn add_octets(octets: &mut Vec<u8>, cell: &[u8], sheet: &mut Sheet) {
+    if octets.extend_from_slice(&octets_by(cell, sheet)).is_err() {
+        sheet.lack();
     }
 }
 
@@ -104,13 +154,28 @@ fn put_parts(history: &History, sheet: &mut Sheet) {
     sheet.numbered(b"stop ", history.stop);
     sheet.numbered(b" newest ", history.newest);
     sheet.put(b" positions");
-    for position in &history.positions {
+    put_positions(&history.positions, sheet);
+    put_feeds(&history.feeds, sheet);
+    put_ids(&history.ids, sheet);
+}
+
+/// Writes the places of groups' current buffers.
+fn put_positions(positions: &[u32], sheet: &mut Sheet) {
+    for position in positions {
         sheet.numbered(b" ", u64::from(*position));
     }
-    for feed in &history.feeds {
+}
+
+/// Writes what is left of feeds.
+fn put_feeds(feeds: &[KeptFeed], sheet: &mut Sheet) {
+    for feed in feeds {
         put_feed(feed, sheet);
     }
-    for id in &history.ids {
+}
+
+/// Writes what became of message-ids.
+fn put_ids(ids: &[KeptId], sheet: &mut Sheet) {
+    for id in ids {
         put_id(id, sheet);
     }
 }
@@ -136,26 +201,24 @@ fn put_id(id: &KeptId, sheet: &mut Sheet) {
     }
 }
 
-/// Writes what the text gives with a mask's bits turned in each of its octets in turn.
-fn put_changes(text: &[u8], mask: u8, setting: &Setting, sheet: &mut Sheet) {
-    let mut runs = Runs::new(sheet.alloc);
-    for place in 0..text.len() {
-        let parts = [&text[..place], &[text[place] ^ mask], &text[place + 1..]];
-        match parts.concat(sheet.alloc) {
-            Ok(changed) => runs.add(place as u64, said_of(&changed, setting, sheet), sheet),
-            Err(_) => sheet.lack(),
+/// What a text gives with a mask's bits turned in the octet at a place.
+fn said_changed(
+    text: &[u8],
+    place: usize,
+    mask: u8,
+    setting: &Setting,
+    sheet: &mut Sheet,
+) -> Vec<u8>
+    requires { place < length text.now }
+{
+    let parts = [&text[..place], &[text[place] ^ mask], &text[place + 1..]];
+    match parts.concat(sheet.alloc) {
+        Ok(changed) => said_of(&changed, setting, sheet),
+        Err(_) => {
+            sheet.lack();
+            Vec::new(sheet.alloc)
         }
     }
-    runs.end(sheet);
-}
-
-/// Writes what the text gives cut behind so many of its octets, each number in turn.
-fn put_cuts(text: &[u8], setting: &Setting, sheet: &mut Sheet) {
-    let mut runs = Runs::new(sheet.alloc);
-    for end in 0..text.len() {
-        runs.add(end as u64, said_of(&text[..end], setting, sheet), sheet);
-    }
-    runs.end(sheet);
 }
 
 /// What a text gives: `read` where it is the text of the history that is read, else the fault.

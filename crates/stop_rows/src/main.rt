@@ -13,8 +13,9 @@ mod octets;
 mod runs;
 mod steps;
 
-use bench::Bench;
+use bench::{Bench, Device};
 use calls::{Call, call_of};
+use cyc_block::{FailAt, MemoryBlocks};
 use histories::Texts;
 use row_text::{Answers, Sheet, play};
 use std::alloc::{AllocError, Global};
@@ -22,21 +23,23 @@ use std::process::ExitCode;
 use std::str;
 
 fn main(rt: HostRuntime) -> ExitCode {
-    let mut rows = Rows {
+    let mut rows: Rows<FailAt<MemoryBlocks>> = Rows {
         bench: Bench::Nothing,
         texts: Texts::new(rt.alloc()),
     };
-    play(&rt, &mut rows)
+    let status = play(&rt, &mut rows);
+    drop(rows);
+    status
 }
 
 /// The buffer and the text of a history that the rows so far have left.
 #[derive(Drop)]
-struct Rows {
-    bench: Bench,
+struct Rows<D: Device> {
+    bench: Bench<D>,
     texts: Texts,
 }
 
-impl Answers for Rows {
+impl<D: Device> Answers for Rows<D> {
     fn answer(
         &mut self,
         alloc: Global,
@@ -53,7 +56,7 @@ impl Answers for Rows {
     }
 }
 
-impl Rows {
+impl<D: Device> Rows<D> {
     /// Writes the answer of a call.
     fn put_answer(&mut self, name: &str, cells: &[Vec<u8>], sheet: &mut Sheet) {
         match call_of(name) {

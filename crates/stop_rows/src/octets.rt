@@ -34,31 +34,48 @@ struct Asked {
 }
 
 /// The device after a call, whose answer is written.
-pub fn answered(device: Device, call: Octets, cells: &[Vec<u8>], sheet: &mut Sheet) -> Device {
+pub fn answered<D: Device>(device: D, call: Octets, cells: &[Vec<u8>], sheet: &mut Sheet) -> D {
     let mut device = device;
-    let [kind, block, cells @ ..] = cells else {
+    let Some((block, cells)) = block_in(cells, sheet) else {
         sheet.refuse();
         return device;
     };
-    let Some(block) = block_of(kind, block, sheet) else {
-        sheet.refuse();
-        return device;
-    };
-    match (call, cells) {
-        (Octets::Octets, []) => put_octets(&mut device, block, sheet),
-        (Octets::Put, [place, octets]) => change_octets(&mut device, block, place, octets, sheet),
-        (Octets::Changes, [mask, buffer, cycle]) => {
-            let change = Change::Turn(octet(mask, sheet));
-            let asked = asked_of(buffer, cycle, sheet);
-            device = walked(device, block, change, asked, sheet);
-        }
-        (Octets::Cuts, [buffer, cycle]) => {
-            let asked = asked_of(buffer, cycle, sheet);
-            device = walked(device, block, Change::Cut, asked, sheet);
-        }
-        _ => sheet.refuse(),
+    match call {
+        Octets::Octets => put_octets(&mut device, block, cells, sheet),
+        Octets::Put => change_octets(&mut device, block, cells, sheet),
+        Octets::Changes => return turned(device, block, cells, sheet),
+        Octets::Cuts => return cut(device, block, cells, sheet),
     }
     device
+}
+
+/// The block that the first two cells name, and the cells behind them.
+fn block_in<'a>(cells: &'a [Vec<u8>], sheet: &mut Sheet) -> Option<(Block, &'a [Vec<u8>])> {
+    let [kind, block, cells @ ..] = cells else {
+        return None;
+    };
+    Some((block_of(kind, block, sheet)?, cells))
+}
+
+/// Writes what a start answers with the bits of a mask turned in each octet of a block.
+fn turned<D: Device>(device: D, block: Block, cells: &[Vec<u8>], sheet: &mut Sheet) -> D {
+    let [mask, buffer, cycle] = cells else {
+        sheet.refuse();
+        return device;
+    };
+    let change = Change::Turn(octet(mask, sheet));
+    let asked = asked_of(buffer, cycle, sheet);
+    walked(device, block, change, asked, sheet)
+}
+
+/// Writes what a start answers with a block cut behind each number of its octets.
+fn cut<D: Device>(device: D, block: Block, cells: &[Vec<u8>], sheet: &mut Sheet) -> D {
+    let [buffer, cycle] = cells else {
+        sheet.refuse();
+        return device;
+    };
+    let asked = asked_of(buffer, cycle, sheet);
+    walked(device, block, Change::Cut, asked, sheet)
 }
 
 /// The buffer that the cells ask for.
@@ -80,7 +97,7 @@ fn block_of(kind: &[u8], block: &[u8], sheet: &mut Sheet) -> Option<Block> {
 }
 
 /// The octets of a block; none where there is none.
-fn octets_of(device: &mut Device, block: Block) -> Option<[u8; BLOCK_OCTETS]> {
+fn octets_of<D: Device>(device: &mut D, block: Block) -> Option<[u8; BLOCK_OCTETS]> {
     let mut octets = [0; BLOCK_OCTETS];
     let count = device.count();
     let read = match block {
@@ -93,7 +110,12 @@ fn octets_of(device: &mut Device, block: Block) -> Option<[u8; BLOCK_OCTETS]> {
 }
 
 /// Puts octets into a block, where there is one.
-fn put_block(device: &mut Device, block: Block, octets: &[u8; BLOCK_OCTETS], sheet: &mut Sheet) {
+fn put_block<D: Device>(
+    device: &mut D,
+    block: Block,
+    octets: &[u8; BLOCK_OCTETS],
+    sheet: &mut Sheet,
+) {
     let count = device.count();
     let written = match block {
         Block::Head(k) if k < head_count(count) => device.write_head(k, octets),
@@ -106,10 +128,21 @@ fn put_block(device: &mut Device, block: Block, octets: &[u8; BLOCK_OCTETS], she
 }
 
 /// Writes the octets of a block but for the zeros at its end.
-fn put_octets(device: &mut Device, block: Block, sheet: &mut Sheet) {
+fn put_octets<D: Device>(device: &mut D, block: Block, cells: &[Vec<u8>], sheet: &mut Sheet) {
+    if !cells.is_empty() {
+        return sheet.refuse();
+    }
     let Some(octets) = octets_of(device, block) else {
         return sheet.refuse();
     };
+    match octets.get(..end_of(&octets)) {
+        Some(octets) => put_hex(octets, sheet),
+        None => sheet.refuse(),
+    }
+}
+
+/// Where the zeros at a block's end begin.
+fn end_of(octets: &[u8; BLOCK_OCTETS]) -> usize {
     let mut end = 0;
     let mut place = 0usize;
     for octet in octets.iter() {
@@ -118,10 +151,7 @@ fn put_octets(device: &mut Device, block: Block, sheet: &mut Sheet) {
             end = place;
         }
     }
-    match octets.get(..end) {
-        Some(octets) => put_hex(octets, sheet),
-        None => sheet.refuse(),
-    }
+    end
 }
 
 /// Writes the digits of octets, `zeros` where there are none.
@@ -146,29 +176,42 @@ pub fn octets_by(digits: &[u8], sheet: &mut Sheet) -> Vec<u8> {
 }
 
 /// Puts octets into a block from a place on.
-fn change_octets(
-    device: &mut Device,
-    block: Block,
-    place: &[u8],
-    digits: &[u8],
-    sheet: &mut Sheet,
-) {
+fn change_octets<D: Device>(device: &mut D, block: Block, cells: &[Vec<u8>], sheet: &mut Sheet) {
+    let [place, digits] = cells else {
+        return sheet.refuse();
+    };
     let place = number(place, sheet) as usize;
     let other = octets_by(digits, sheet);
     let Some(mut octets) = octets_of(device, block) else {
         return sheet.refuse();
     };
-    match octets.get_mut(place..place.saturating_add(other.len())) {
-        Some(part) => part.copy_from_slice(&other),
-        None => return sheet.refuse(),
+    if !is_put(&mut octets, place, &other) {
+        return sheet.refuse();
     }
     put_block(device, block, &octets, sheet);
     sheet.put(b"put");
 }
 
+/// Puts octets into others from a place on; where there is no room for them, the answer is `false`.
+fn is_put(octets: &mut [u8; BLOCK_OCTETS], place: usize, other: &[u8]) -> bool {
+    match octets.get_mut(place..place.saturating_add(other.len())) {
+        Some(part) => {
+            part.copy_from_slice(other);
+            true
+        }
+        None => false,
+    }
+}
+
 /// Writes what a start answers with each octet of a block changed in turn. The block is then as it
 /// was.
-fn walked(device: Device, block: Block, change: Change, asked: Asked, sheet: &mut Sheet) -> Device {
+fn walked<D: Device>(
+    device: D,
+    block: Block,
+    change: Change,
+    asked: Asked,
+    sheet: &mut Sheet,
+) -> D {
     let mut device = device;
     let Some(octets) = octets_of(&mut device, block) else {
         sheet.refuse();

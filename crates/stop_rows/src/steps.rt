@@ -1,6 +1,6 @@
 //! The stops and starts of a buffer.
 
-use crate::bench::{Bench, Device, InMemory, number, octet};
+use crate::bench::{Bench, Device, number, octet};
 use crate::runs::Runs;
 use cyc_buffer::{Buffer, RestartError, StartError, Unopened};
 use cyc_token::Token;
@@ -26,7 +26,12 @@ enum Step {
 const MOST_CALLS: u64 = 64;
 
 /// Writes what a step answers.
-pub fn put_step(bench: Bench, name: &str, cells: &[Vec<u8>], sheet: &mut Sheet) -> Bench {
+pub fn put_step<D: Device>(
+    bench: Bench<D>,
+    name: &str,
+    cells: &[Vec<u8>],
+    sheet: &mut Sheet,
+) -> Bench<D> {
     match step_of(name, cells, sheet) {
         Some(step) if !sheet.is_spoilt() => {
             let (after, _done) = taken(bench, step, sheet);
@@ -40,7 +45,7 @@ pub fn put_step(bench: Bench, name: &str, cells: &[Vec<u8>], sheet: &mut Sheet) 
 }
 
 /// Writes what the step that the cells name answers with each call of the device failing in turn.
-pub fn put_each(bench: Bench, cells: &[Vec<u8>], sheet: &mut Sheet) -> Bench {
+pub fn put_each<D: Device>(bench: Bench<D>, cells: &[Vec<u8>], sheet: &mut Sheet) -> Bench<D> {
     match step_in(cells, sheet) {
         Some(step) if !sheet.is_spoilt() => walked(bench, step, sheet),
         _ => {
@@ -58,18 +63,39 @@ fn step_in(cells: &[Vec<u8>], sheet: &mut Sheet) -> Option<Step> {
 
 /// The step of this name and these cells.
 fn step_of(name: &str, cells: &[Vec<u8>], sheet: &mut Sheet) -> Option<Step> {
-    match (place_of("shut leave start open restart", name)?, cells) {
-        (0, [stop]) => Some(Step::Shut(sheet.read(stop))),
-        (1, []) => Some(Step::Leave),
-        (2, [buffer, cycle]) => Some(Step::Start(octet(buffer, sheet), number(cycle, sheet))),
-        (3, []) => Some(Step::Open),
-        (4, [stop]) => Some(Step::Restart(sheet.read(stop))),
+    match place_of("shut leave start open restart", name)? {
+        0 => Some(Step::Shut(stop_in(cells, sheet)?)),
+        1 => alone(Step::Leave, cells),
+        2 => start_in(cells, sheet),
+        3 => alone(Step::Open, cells),
+        4 => Some(Step::Restart(stop_in(cells, sheet)?)),
+        _ => None,
+    }
+}
+
+/// The step, where no cells stand behind its name.
+fn alone(step: Step, cells: &[Vec<u8>]) -> Option<Step> {
+    if cells.is_empty() { Some(step) } else { None }
+}
+
+/// The number of a stop, where it is the only cell.
+fn stop_in(cells: &[Vec<u8>], sheet: &mut Sheet) -> Option<u64> {
+    match cells {
+        [stop] => Some(sheet.read(stop)),
+        _ => None,
+    }
+}
+
+/// The start that two cells name.
+fn start_in(cells: &[Vec<u8>], sheet: &mut Sheet) -> Option<Step> {
+    match cells {
+        [buffer, cycle] => Some(Step::Start(octet(buffer, sheet), number(cycle, sheet))),
         _ => None,
     }
 }
 
 /// Writes what a step answers with each call of the device failing in turn, the last time none.
-fn walked(bench: Bench, step: Step, sheet: &mut Sheet) -> Bench {
+fn walked<D: Device>(bench: Bench<D>, step: Step, sheet: &mut Sheet) -> Bench<D> {
     let mut runs = Runs::new(sheet.alloc);
     let mut bench = bench;
     for failing in 1..MOST_CALLS {
@@ -88,7 +114,7 @@ fn walked(bench: Bench, step: Step, sheet: &mut Sheet) -> Bench {
 }
 
 /// Takes a step, and writes its answer; whether it isn't refused.
-fn taken(bench: Bench, step: Step, sheet: &mut Sheet) -> (Bench, bool) {
+fn taken<D: Device>(bench: Bench<D>, step: Step, sheet: &mut Sheet) -> (Bench<D>, bool) {
     match bench {
         Bench::Running(buffer) => stopped(buffer, step, sheet),
         Bench::Unopened(buffer) => opened(buffer, step, sheet),
@@ -101,7 +127,7 @@ fn taken(bench: Bench, step: Step, sheet: &mut Sheet) -> (Bench, bool) {
 }
 
 /// Takes a step of a buffer that runs.
-fn stopped(buffer: InMemory, step: Step, sheet: &mut Sheet) -> (Bench, bool) {
+fn stopped<D: Device>(buffer: Buffer<D>, step: Step, sheet: &mut Sheet) -> (Bench<D>, bool) {
     match step {
         Step::Shut(stop) => shut(buffer, stop, sheet),
         Step::Leave => {
@@ -117,7 +143,7 @@ fn stopped(buffer: InMemory, step: Step, sheet: &mut Sheet) -> (Bench, bool) {
 }
 
 /// Shuts a buffer under the number of a stop.
-fn shut(buffer: InMemory, stop: u64, sheet: &mut Sheet) -> (Bench, bool) {
+fn shut<D: Device>(buffer: Buffer<D>, stop: u64, sheet: &mut Sheet) -> (Bench<D>, bool) {
     match buffer.shut(stop) {
         Ok(device) => {
             sheet.put(b"shut");
@@ -131,24 +157,13 @@ fn shut(buffer: InMemory, stop: u64, sheet: &mut Sheet) -> (Bench, bool) {
 }
 
 /// Takes a step of a buffer whose head isn't open.
-fn opened(buffer: Unopened<Device>, step: Step, sheet: &mut Sheet) -> (Bench, bool) {
+fn opened<D: Device>(buffer: Unopened<D>, step: Step, sheet: &mut Sheet) -> (Bench<D>, bool) {
     match step {
         Step::Leave => {
             sheet.put(b"left");
-            let mut device = buffer.into_store();
-            device.arm(0);
-            (Bench::Stopped(device), true)
+            (Bench::Stopped(disarmed(buffer.into_store())), true)
         }
-        Step::Open => match buffer.open() {
-            Ok(buffer) => {
-                sheet.put(b"opened");
-                (Bench::Running(buffer), true)
-            }
-            Err(buffer) => {
-                sheet.put(b"Device");
-                (Bench::Unopened(buffer), false)
-            }
-        },
+        Step::Open => open(buffer, sheet),
         _ => {
             sheet.refuse();
             (Bench::Unopened(buffer), true)
@@ -156,8 +171,29 @@ fn opened(buffer: Unopened<Device>, step: Step, sheet: &mut Sheet) -> (Bench, bo
     }
 }
 
+/// The device, no call of which fails.
+fn disarmed<D: Device>(device: D) -> D {
+    let mut device = device;
+    device.arm(0);
+    device
+}
+
+/// Opens the head of a buffer.
+fn open<D: Device>(buffer: Unopened<D>, sheet: &mut Sheet) -> (Bench<D>, bool) {
+    match buffer.open() {
+        Ok(buffer) => {
+            sheet.put(b"opened");
+            (Bench::Running(buffer), true)
+        }
+        Err(buffer) => {
+            sheet.put(b"Device");
+            (Bench::Unopened(buffer), false)
+        }
+    }
+}
+
 /// Stops a buffer and starts it in place.
-fn restarted(buffer: InMemory, stop: u64, sheet: &mut Sheet) -> (Bench, bool) {
+fn restarted<D: Device>(buffer: Buffer<D>, stop: u64, sheet: &mut Sheet) -> (Bench<D>, bool) {
     let mut buffer = buffer;
     match buffer.restart(sheet.alloc, stop) {
         Ok(tokens) => {
@@ -177,7 +213,7 @@ fn restarted(buffer: InMemory, stop: u64, sheet: &mut Sheet) -> (Bench, bool) {
 }
 
 /// Takes a step of a device on which no buffer runs.
-fn started(device: Device, step: Step, sheet: &mut Sheet) -> (Bench, bool) {
+fn started<D: Device>(device: D, step: Step, sheet: &mut Sheet) -> (Bench<D>, bool) {
     let Step::Start(number, cycle) = step else {
         sheet.refuse();
         return (Bench::Stopped(device), true);
@@ -195,7 +231,7 @@ fn started(device: Device, step: Step, sheet: &mut Sheet) -> (Bench, bool) {
 }
 
 /// The device after a start, whose answer is written.
-pub fn tried(device: Device, number: u8, cycle: u32, sheet: &mut Sheet) -> Device {
+pub fn tried<D: Device>(device: D, number: u8, cycle: u32, sheet: &mut Sheet) -> D {
     match Buffer::start(sheet.alloc, device, number, cycle) {
         Ok(started) => {
             put_started(started.stop, &started.tokens, sheet);
