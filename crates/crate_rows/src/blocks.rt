@@ -2,16 +2,14 @@
 //! its end.
 
 use cyc_block::{BLOCK_OCTETS, CHUNK_OCTETS, Stamp, block_image, read_image};
-use row_text::Sheet;
+use row_text::{Sheet, place_of};
 
 /// Writes the answer of a call.
 pub fn answer(call: &str, cells: &[Vec<u8>], sheet: &mut Sheet) {
-    match (call, cells) {
-        ("image_read", [octets]) => put_image(octets, sheet),
-        ("image_write", [cycle, first, index, length, class, payload]) => {
-            put_image_of([cycle, first, index, length, class], payload, sheet)
-        }
-        _ => sheet.refuse(),
+    match place_of("image_read image_write", call) {
+        Some(0) => put_image(cells, sheet),
+        Some(_) => put_image_of(cells, sheet),
+        None => sheet.refuse(),
     }
 }
 
@@ -20,14 +18,17 @@ fn number(word: &[u8], sheet: &mut Sheet) -> u32 {
     sheet.read_up_to(4_294_967_295, word) as u32
 }
 
-/// Writes the image of the block with the stamp of these parts and this payload.
-fn put_image_of(parts: [&[u8]; 5], payload: &[u8], sheet: &mut Sheet) {
+/// Writes the image of the block with the stamp of five cells and the payload of the last one.
+fn put_image_of(cells: &[Vec<u8>], sheet: &mut Sheet) {
+    let [cycle, first, index, length, class, payload] = cells else {
+        return sheet.refuse();
+    };
     let stamp = Stamp {
-        cycle: number(parts[0], sheet),
-        first: number(parts[1], sheet),
-        index: number(parts[2], sheet),
-        article_length: number(parts[3], sheet),
-        class: sheet.read_up_to(255, parts[4]) as u8,
+        cycle: number(cycle, sheet),
+        first: number(first, sheet),
+        index: number(index, sheet),
+        article_length: number(length, sheet),
+        class: sheet.read_up_to(255, class) as u8,
     };
     if payload.is_empty() || payload.len() > CHUNK_OCTETS {
         return sheet.refuse();
@@ -36,7 +37,10 @@ fn put_image_of(parts: [&[u8]; 5], payload: &[u8], sheet: &mut Sheet) {
 }
 
 /// Writes the stamp and the payload of the image that a block has, or that it has none.
-fn put_image(octets: &[u8], sheet: &mut Sheet) {
+fn put_image(cells: &[Vec<u8>], sheet: &mut Sheet) {
+    let [octets] = cells else {
+        return sheet.refuse();
+    };
     match read_image(&block_of(octets, sheet)) {
         Some(image) => {
             sheet.debug(&image.stamp);

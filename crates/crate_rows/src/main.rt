@@ -8,7 +8,7 @@ mod blocks;
 mod sessions;
 mod texts;
 
-use row_text::{Answers, Names, Sheet, failed, play};
+use row_text::{Answers, Names, Sheet, failed, place_of, play};
 use sessions::Talk;
 use std::alloc::{AllocError, Global};
 use std::hash::RandomState;
@@ -17,7 +17,11 @@ use std::{io, str};
 
 fn main(rt: HostRuntime) -> ExitCode {
     match first_rows(&rt) {
-        Ok(mut rows) => play(&rt, &mut rows),
+        Ok(mut rows) => {
+            let status = play(&rt, &mut rows);
+            drop(rows);
+            status
+        }
         Err(error) => failed(&rt, &error),
     }
 }
@@ -42,10 +46,11 @@ struct Rows {
 fn first_rows(rt: &HostRuntime) -> io::Result<Rows> {
     let alloc = rt.alloc();
     let hasher = RandomState::new(rt)?;
+    let talk = Talk::new(alloc, hasher)?;
     Ok(Rows {
         part: Part::Texts,
         names: Names::new(alloc),
-        talk: Talk::new(alloc, hasher)?,
+        talk,
     })
 }
 
@@ -59,12 +64,7 @@ impl Answers for Rows {
     ) -> Result<bool, AllocError> {
         let mut sheet = Sheet::new(alloc);
         match str::from_utf8(call) {
-            Ok("part") => self.begin(cells, &mut sheet),
-            Ok("text") => self.name(cells, &mut sheet),
-            Ok(call) => {
-                let meant = self.names.meant(alloc, cells)?;
-                self.put_answer(call, &meant, &mut sheet);
-            }
+            Ok(call) => self.put(call, cells, &mut sheet),
             Err(_) => sheet.refuse(),
         }
         // Of want of memory nothing is expected, so that no answer may stand in its place.
@@ -76,6 +76,18 @@ impl Answers for Rows {
 }
 
 impl Rows {
+    /// Writes the answer of a row.
+    fn put(&mut self, call: &str, cells: &[Vec<u8>], sheet: &mut Sheet) {
+        match place_of("part text", call) {
+            Some(0) => self.begin(cells, sheet),
+            Some(_) => self.name(cells, sheet),
+            None => match self.names.meant(sheet.alloc, cells) {
+                Ok(meant) => self.put_answer(call, &meant, sheet),
+                Err(_) => sheet.lack(),
+            },
+        }
+    }
+
     /// `part NAME`: the rows behind are of this part, and no text has a name.
     fn begin(&mut self, cells: &[Vec<u8>], sheet: &mut Sheet) {
         match part_of(cells) {
@@ -114,15 +126,19 @@ fn part_of(cells: &[Vec<u8>]) -> Option<Part> {
     let [name] = cells else {
         return None;
     };
-    match str::from_utf8(name).ok()? {
-        "texts" => Some(Part::Texts),
-        "blocks" => Some(Part::Blocks),
-        "sessions" => Some(Part::Sessions),
-        _ => None,
+    match place_of("texts blocks sessions", str::from_utf8(name).ok()?)? {
+        0 => Some(Part::Texts),
+        1 => Some(Part::Blocks),
+        _ => Some(Part::Sessions),
     }
 }
 
 /// Whether an answer has the fault `Memory`.
 fn says_memory(text: &[u8]) -> bool {
-    text.windows(6).any(|word| word == b"Memory".as_slice())
+    for word in text.windows(6) {
+        if word == b"Memory".as_slice() {
+            return true;
+        }
+    }
+    false
 }

@@ -4,9 +4,10 @@
 use id_history::{Offer, Take};
 use peer_session::{Answer, Outcome, Session};
 use relay_conf::Config;
-use row_text::Sheet;
+use row_text::{Sheet, place_of};
 use std::alloc::{AllocError, Global};
 use std::hash::RandomState;
+use std::str;
 
 /// The number of the session.
 const NUMBER: u64 = 7;
@@ -25,8 +26,13 @@ impl Talk {
     /// Nothing has come to it.
     pub fn new(alloc: Global, hasher: RandomState) -> Result<Talk, AllocError> {
         let config = k1(alloc)?;
-        let session = Session::open(alloc, hasher, &config, 0)?;
-        Ok(Talk { config, session })
+        match Session::open(alloc, hasher, &config, 0) {
+            Ok(session) => Ok(Talk { config, session }),
+            Err(error) => {
+                drop(config);
+                Err(error)
+            }
+        }
     }
 
     /// Octets come.
@@ -36,12 +42,18 @@ impl Talk {
         }
     }
 
-    /// One turn, whose step hears this answer: what is said, or `nothing`.
-    fn turn(&mut self, answer: Answer, sheet: &mut Sheet) {
-        if self.session.plan(&self.config, MOMENT).is_err() {
-            return sheet.lack();
+    /// A step is planned.
+    fn plan(&mut self, sheet: &mut Sheet) {
+        match self.session.plan(&self.config, MOMENT) {
+            Ok(step) => drop(step),
+            Err(_) => sheet.lack(),
         }
-        let said = self.session.absorb(NUMBER, answer);
+    }
+
+    /// One turn, whose step hears this answer: what is said, or `nothing`.
+    fn turn(&mut self, heard: Heard, sheet: &mut Sheet) {
+        self.plan(sheet);
+        let said = self.session.absorb(NUMBER, answer_of(heard));
         if said.is_empty() {
             sheet.next(b"nothing");
         } else {
@@ -58,38 +70,54 @@ fn k1(alloc: Global) -> Result<Config, AllocError> {
     }
 }
 
-/// The answer of this name.
-fn answer_of(word: &[u8]) -> Option<Answer> {
-    if word == b"wanted".as_slice() {
-        return Some(Answer::Offer(Offer::Wanted));
+/// What a step hears.
+#[derive(Clone, Copy)]
+enum Heard {
+    /// The id is wanted.
+    Wanted,
+    /// The id is the session's to store.
+    Mine,
+    /// The article is kept.
+    Kept,
+}
+
+/// What is heard under this name.
+fn heard_in(word: &[u8]) -> Option<Heard> {
+    match place_of("wanted mine kept", str::from_utf8(word).ok()?)? {
+        0 => Some(Heard::Wanted),
+        1 => Some(Heard::Mine),
+        _ => Some(Heard::Kept),
     }
-    if word == b"mine".as_slice() {
-        return Some(Answer::Take(Take::Mine));
+}
+
+/// The answer that is heard so.
+fn answer_of(heard: Heard) -> Answer {
+    match heard {
+        Heard::Wanted => Answer::Offer(Offer::Wanted),
+        Heard::Mine => Answer::Take(Take::Mine),
+        Heard::Kept => Answer::Slot(Some(Outcome::Kept)),
     }
-    if word == b"kept".as_slice() {
-        return Some(Answer::Slot(Some(Outcome::Kept)));
-    }
-    None
 }
 
 /// Writes the answer of a call.
 pub fn answer(talk: &mut Talk, call: &str, cells: &[Vec<u8>], sheet: &mut Sheet) {
-    match (call, cells) {
-        ("ask", [line, answers @ ..]) => {
-            talk.feed(line, sheet);
-            talk.feed(b"\r\n", sheet);
-            sheet.put(b"says");
-            put_turns(talk, answers, sheet);
-        }
-        _ => sheet.refuse(),
+    let [line, answers @ ..] = cells else {
+        return sheet.refuse();
+    };
+    if call != "ask" {
+        return sheet.refuse();
     }
+    talk.feed(line, sheet);
+    talk.feed(b"\r\n", sheet);
+    sheet.put(b"says");
+    put_turns(talk, answers, sheet);
 }
 
 /// Writes what is said to each of these answers, of a turn of its own.
 fn put_turns(talk: &mut Talk, answers: &[Vec<u8>], sheet: &mut Sheet) {
     for word in answers {
-        match answer_of(word) {
-            Some(answer) => talk.turn(answer, sheet),
+        match heard_in(word) {
+            Some(heard) => talk.turn(heard, sheet),
             None => return sheet.refuse(),
         }
     }

@@ -17,38 +17,48 @@ pub fn of_text(call: Call, heads: &[Vec<u8>], octets: &[u8], sheet: &mut Sheet) 
         Call::ArticleCuts | Call::OverviewCuts => {
             put_fronts(call, octets, octets.len().saturating_add(1), sheet)
         }
-        _ => match heads {
-            [] => of_article(call, b"", b"", octets, sheet),
-            [octet] if matches!(call, Call::ArticleChanges) => {
-                put_changes(call, octet, octets, sheet)
-            }
-            [name] => of_article(call, name, b"", octets, sheet),
-            [free, before] if matches!(call, Call::PutOverview) => {
-                put_behind(free, before, octets, sheet)
-            }
-            [first, second] => of_article(call, first, second, octets, sheet),
-            _ => sheet.refuse(),
-        },
+        Call::ArticleChanges => put_changes_by(call, heads, octets, sheet),
+        Call::PutOverview => put_behind(heads, octets, sheet),
+        _ => of_article(call, heads, octets, sheet),
     }
 }
 
-/// Writes the answer of a call of an article behind two cells, or the text's fault.
-fn of_article(call: Call, first: &[u8], second: &[u8], octets: &[u8], sheet: &mut Sheet) {
+/// Writes what a text gives with the octets of the one cell in the place of each of its own.
+fn put_changes_by(call: Call, heads: &[Vec<u8>], octets: &[u8], sheet: &mut Sheet) {
+    match heads {
+        [octet] => put_changes(call, octet, octets, sheet),
+        _ => sheet.refuse(),
+    }
+}
+
+/// Writes the answer of a call of an article behind cells, or the text's fault.
+fn of_article(call: Call, heads: &[Vec<u8>], octets: &[u8], sheet: &mut Sheet) {
     match Article::parse(sheet.alloc, octets) {
-        Ok(article) => of_parsed(call, first, second, &article, sheet),
+        Ok(article) => {
+            of_parsed(call, heads, &article, sheet);
+            drop(article);
+        }
         Err(error) => sheet.debug(&error),
     }
 }
 
 /// Writes the answer of a call of an article.
-fn of_parsed(call: Call, first: &[u8], second: &[u8], article: &Article<'_>, sheet: &mut Sheet) {
+fn of_parsed(call: Call, heads: &[Vec<u8>], article: &Article<'_>, sheet: &mut Sheet) {
     match call {
         Call::Article => put_article(article, sheet),
-        Call::Field => put_some(article.field(first), sheet),
+        Call::Field => put_field(heads, article, sheet),
         Call::Groups => put_groups(article, sheet),
         Call::Overview => put_made(line(sheet.alloc, article), sheet),
-        Call::Arrived => put_arrival(first, second, article, sheet),
-        Call::JudgeDate => put_date(first, second, article, sheet),
+        Call::Arrived => put_arrival(heads, article, sheet),
+        Call::JudgeDate => put_date(heads, article, sheet),
+        _ => sheet.refuse(),
+    }
+}
+
+/// Writes the content of an article's field.
+fn put_field(heads: &[Vec<u8>], article: &Article<'_>, sheet: &mut Sheet) {
+    match heads {
+        [name] => put_some(article.field(name), sheet),
         _ => sheet.refuse(),
     }
 }
@@ -66,14 +76,17 @@ fn put_groups(article: &Article<'_>, sheet: &mut Sheet) {
         return sheet.lack();
     };
     sheet.put(b"[");
-    for group in groups {
+    for group in &groups {
         sheet.next(group);
     }
     sheet.put(b" ]");
 }
 
 /// Writes what becomes of an article that comes to the first agent from the second.
-fn put_arrival(own: &[u8], expected: &[u8], article: &Article<'_>, sheet: &mut Sheet) {
+fn put_arrival(heads: &[Vec<u8>], article: &Article<'_>, sheet: &mut Sheet) {
+    let [own, expected] = heads else {
+        return sheet.refuse();
+    };
     match loops(article.field(b"Path").unwrap_or(b""), own) {
         Ok(true) => sheet.put(b"Loop"),
         Ok(false) => put_updated(own, expected, article, sheet),
@@ -95,7 +108,10 @@ fn put_updated(own: &[u8], expected: &[u8], article: &Article<'_>, sheet: &mut S
 }
 
 /// Writes whether the date of an article lies in the window before now and the cutoff.
-fn put_date(now: &[u8], cutoff: &[u8], article: &Article<'_>, sheet: &mut Sheet) {
+fn put_date(heads: &[Vec<u8>], article: &Article<'_>, sheet: &mut Sheet) {
+    let [now, cutoff] = heads else {
+        return sheet.refuse();
+    };
     let now = sheet.read(now);
     let cutoff = sheet.read(cutoff);
     sheet.debug(&judge(sheet.alloc, article, now, cutoff));
@@ -109,6 +125,7 @@ pub fn put_reading(octets: &[u8], sheet: &mut Sheet) {
             sheet.numbered(b"Read(", article.body_at() as u64);
             sheet.numbered(b", ", article.body().len() as u64);
             sheet.put(b")");
+            drop(article);
         }
         Err(error) => {
             sheet.put(b"Refused(");
@@ -120,13 +137,16 @@ pub fn put_reading(octets: &[u8], sheet: &mut Sheet) {
 
 /// Writes what a room has that had so many free octets behind these, once a line was put there, or
 /// that behind why none was put.
-fn put_behind(free: &[u8], before: &[u8], octets: &[u8], sheet: &mut Sheet) {
+fn put_behind(heads: &[Vec<u8>], octets: &[u8], sheet: &mut Sheet) {
+    let [free, before] = heads else {
+        return sheet.refuse();
+    };
     let free = sheet.read(free) as usize;
     let Ok(mut room) = Vec::with_capacity(sheet.alloc, before.len().saturating_add(free)) else {
         return sheet.lack();
     };
     if room.extend_from_slice(before).is_err() {
-        return sheet.lack();
+        sheet.lack();
     }
     match put_line(&mut room, octets) {
         Ok(()) => sheet.cell(&room),

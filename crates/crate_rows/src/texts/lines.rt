@@ -20,8 +20,7 @@ pub fn of_line(call: Call, line: &[u8], sheet: &mut Sheet) {
     match call {
         Call::MessageId => sheet.debug(&MsgId::parse(sheet.alloc, line)),
         Call::Command => put_command(line, sheet),
-        Call::CommandCuts => put_fronts(call, line, line.len(), sheet),
-        Call::ExpressionCuts => put_fronts(call, line, line.len(), sheet),
+        Call::CommandCuts | Call::ExpressionCuts => put_fronts(call, line, line.len(), sheet),
         Call::ExpressionFault => put_expression_fault(line, sheet),
         _ => of_content(call, line, sheet),
     }

@@ -8,12 +8,18 @@ use stream_cut::{Block, Cut, Want, cut_all};
 
 /// Writes the answer of a call of any number of cells.
 pub fn of_pieces(call: Call, cells: &[Vec<u8>], sheet: &mut Sheet) {
-    match (call, cells) {
-        (Call::CutAll, [limit, wants, pieces @ ..]) => put_cuts(limit, wants, pieces, sheet),
-        (Call::CutIn, [size, limit, wants, stream]) => put_cut_in(
-            size, limit, wants, stream, sheet,
-        ),
-        (Call::CutInTwo, [limit, wants, stream]) => put_cut_in_two(limit, wants, stream, sheet),
+    match call {
+        Call::CutAll => put_cut_all(cells, sheet),
+        Call::CutIn => put_cut_in(cells, sheet),
+        Call::CutInTwo => put_cut_in_two(cells, sheet),
+        _ => sheet.refuse(),
+    }
+}
+
+/// Writes what is cut off the pieces behind a limit and what is wanted.
+fn put_cut_all(cells: &[Vec<u8>], sheet: &mut Sheet) {
+    match cells {
+        [limit, wants, pieces @ ..] => put_cuts(limit, wants, pieces, sheet),
         _ => sheet.refuse(),
     }
 }
@@ -70,7 +76,10 @@ fn put_in(word: &[u8], octets: &[u8], sheet: &mut Sheet) {
 }
 
 /// Writes what is cut off a stream that comes in pieces of this size.
-fn put_cut_in(size: &[u8], limit: &[u8], wants: &[u8], stream: &[u8], sheet: &mut Sheet) {
+fn put_cut_in(cells: &[Vec<u8>], sheet: &mut Sheet) {
+    let [size, limit, wants, stream] = cells else {
+        return sheet.refuse();
+    };
     let size = sheet.read(size) as usize;
     let mut pieces = Vec::new(sheet.alloc);
     for piece in stream.chunks(size.max(1)) {
@@ -92,16 +101,30 @@ fn add_piece(pieces: &mut Vec<Vec<u8>>, piece: &[u8], sheet: &mut Sheet) {
 }
 
 /// Writes what is cut off a stream of two pieces, wherever the first one ends.
-fn put_cut_in_two(limit: &[u8], wants: &[u8], stream: &[u8], sheet: &mut Sheet) {
+fn put_cut_in_two(cells: &[Vec<u8>], sheet: &mut Sheet) {
+    let [limit, wants, stream] = cells else {
+        return sheet.refuse();
+    };
     let mut runs = Runs::new(sheet.alloc);
     for place in 0..=stream.len() {
         let (first, second) = stream.split_at(place);
-        let mut said = Sheet::new(sheet.alloc);
-        let mut pieces = Vec::new(sheet.alloc);
-        add_piece(&mut pieces, first, sheet);
-        add_piece(&mut pieces, second, sheet);
-        put_cuts(limit, wants, &pieces, &mut said);
-        runs.add(said.onto(sheet), sheet);
+        runs.add(said_in_two(limit, wants, first, second, sheet), sheet);
     }
     runs.end(sheet);
+}
+
+/// What is cut off two pieces, as it is written.
+fn said_in_two(
+    limit: &[u8],
+    wants: &[u8],
+    first: &[u8],
+    second: &[u8],
+    sheet: &mut Sheet,
+) -> Vec<u8> {
+    let mut said = Sheet::new(sheet.alloc);
+    let mut pieces = Vec::new(sheet.alloc);
+    add_piece(&mut pieces, first, sheet);
+    add_piece(&mut pieces, second, sheet);
+    put_cuts(limit, wants, &pieces, &mut said);
+    said.onto(sheet)
 }
