@@ -19,16 +19,28 @@ use row_text::Sheet;
 use std::alloc::{AllocError, Global};
 use std::io;
 use std::io::{ErrorKind, Read, Write};
+use std::random::RandomSource;
+use std::sync::Wait;
+use std::thread::Threads;
+use std::time::Clock;
 
 fn main(rt: HostRuntime) -> io::Result<()> {
     let alloc = rt.alloc();
     let mut input = Vec::new(alloc);
     rt.reader().read_to_end(&mut input)?;
-    let lines = lines_of(alloc, &input)?;
-    relay::play(&rt, alloc, &lines)?;
+    print_all(&rt, alloc, &input)
+}
+
+/// Plays the rows of a text and the queue, and prints what came of them.
+fn print_all<R>(rt: &R, alloc: Global, input: &[u8]) -> io::Result<()>
+where
+    R: Threads + Wait + Clock + RandomSource + Print + Sync + 'static,
+{
+    let lines = lines_of(alloc, input)?;
+    relay::play(rt, alloc, &lines)?;
     let mut sheet = Sheet::new(alloc);
-    queue::full_queue(&rt, alloc, &mut sheet)?;
-    print(&rt, &sheet)
+    queue::full_queue(rt, alloc, &mut sheet)?;
+    print(rt, &sheet)
 }
 
 /// The lines of a text.

@@ -44,7 +44,13 @@ fn handed<R: Wait>(
     ensures open { IsOpen end (view pass.new) }
 {
     let job = job(alloc, 1, b"<a@x>")?;
-    Ok(hand_over(rt, queue, pass, Handed { end, number, job }).is_ok())
+    match hand_over(rt, queue, pass, Handed { end, number, job }) {
+        Ok(()) => Ok(true),
+        Err(back) => {
+            drop(back);
+            Ok(false)
+        }
+    }
 }
 
 /// Takes a parcel, and writes its end, and its number where it is a job; whether there was one.
@@ -58,6 +64,7 @@ fn taken<R: Wait>(rt: &R, sheet: &mut Sheet, queue: &JobQueue, pass: &mut QueueP
         Some(Parcel::Job(handed)) => {
             sheet.numbered(b"taken: job ", handed.number);
             sheet.numbered(b" of end ", handed.end);
+            drop(handed);
         }
         Some(Parcel::Mark(end)) => sheet.numbered(b"taken: the mark of end ", end),
         None => return false,
@@ -86,15 +93,37 @@ pub(crate) fn full_queue<R: Wait>(rt: &R, alloc: Global, sheet: &mut Sheet) -> i
     let (queue, mut first) = new_queue(alloc)?;
     let mut writer = writer_pass(&queue, &mut first);
     let mut zero = end_pass(&queue, &mut first);
-    sheet.numbered(b"full queue: ", filled(rt, alloc, &queue, &mut zero)?);
+    let played = put_full(rt, alloc, sheet, &queue, &mut writer, &mut zero);
+    drop(first);
+    drop(writer);
+    drop(zero);
+    drop(queue);
+    played
+}
+
+/// Fills a queue, and writes what it takes from then on.
+fn put_full<R: Wait>(
+    rt: &R,
+    alloc: Global,
+    sheet: &mut Sheet,
+    queue: &JobQueue,
+    writer: &mut QueuePass,
+    zero: &mut QueuePass,
+) -> io::Result<()>
+    requires passes { IsPassOf queue.now writer.old × IsPassOf queue.now zero.old }
+    requires writer { OfWriter (view writer.old) }
+    requires open { IsOpen 0 (view zero.old) }
+{
+    let count = filled(rt, alloc, queue, zero)?;
+    sheet.numbered(b"full queue: ", count);
     sheet.put(b" handed over\n");
-    let early = mark_closed(rt, &queue, &mut zero, 0);
+    let early = mark_closed(rt, queue, zero, 0);
     put_line(sheet, b"full queue, closed: ", early);
     if early {
         return Ok(());
     }
-    taken(rt, sheet, &queue, &mut writer);
-    let closed = mark_closed(rt, &queue, &mut zero, 0);
+    taken(rt, sheet, queue, writer);
+    let closed = mark_closed(rt, queue, zero, 0);
     put_line(sheet, b"full queue, closed: ", closed);
     Ok(())
 }

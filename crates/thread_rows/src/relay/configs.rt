@@ -2,8 +2,8 @@
 ghost use Rattle.std.specs.Prelude.{◌<◌, All, length, IfOk};
 
 use relay_conf::{
-    Buffers, ConfError, Config, K1_CYCBUFF, K1_RELAY, K1_STORAGE, StorageEntry, read_cycbuff,
-    read_relay, read_storage,
+    Buffers, ConfError, Config, K1_CYCBUFF, K1_RELAY, K1_STORAGE, Relay, StorageEntry,
+    read_cycbuff, read_relay, read_storage,
 };
 use std::alloc::Global;
 
@@ -38,14 +38,19 @@ pub(crate) fn row_config(alloc: Global, site: Site, forgets: bool) -> Result<Con
         Site::TwoGroups => (CYCBUFF, STORAGE, K1_RELAY),
         Site::TwoFeeds => (K1_CYCBUFF, K1_STORAGE, TWO_FEEDS),
     };
-    let mut lines = Vec::from_slice(alloc, relay)?;
+    let buffers = read_cycbuff(alloc, cycbuff)?;
+    let storage_entries = storage_entries_of(alloc, storage, &buffers)?;
+    let relay = relay_of(alloc, relay, forgets)?;
+    Ok(Config::new(buffers, storage_entries, relay))
+}
+
+/// The settings of this text, where ids are remembered for a hundred seconds if `forgets` says so.
+fn relay_of(alloc: Global, text: &[u8], forgets: bool) -> Result<Relay, ConfError> {
+    let mut lines = Vec::from_slice(alloc, text)?;
     if forgets {
         lines.extend_from_slice(b"remember 100\n")?;
     }
-    let buffers = read_cycbuff(alloc, cycbuff)?;
-    let storage_entries = storage_entries_of(alloc, storage, &buffers)?;
-    let relay = read_relay(alloc, &lines)?;
-    Ok(Config::new(buffers, storage_entries, relay))
+    read_relay(alloc, &lines)
 }
 
 /// The entries of this text, over these groups.

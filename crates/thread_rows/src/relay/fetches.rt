@@ -50,6 +50,7 @@ pub(crate) fn put_fetches<S: BlockStore + Drop, J: StorePremises, L: Ledger, R: 
         sheet.put(b": ");
         let found = shared.fetch(rt, alloc, register, &fetch.token)?;
         put_fetched(sheet, &found, fetch.text.octets());
+        drop(found);
         sheet.put(b"\n");
     }
     Ok(())

@@ -52,10 +52,21 @@ impl Row {
     /// The row of these lines.
     pub(crate) fn read(alloc: Global, lines: &[&[u8]]) -> Result<Row, AllocError> {
         let mut row = Row::new(alloc);
-        for line in lines {
-            row.add(alloc, line)?;
+        match row.add_all(alloc, lines) {
+            Ok(()) => Ok(row),
+            Err(error) => {
+                drop(row);
+                Err(error)
+            }
         }
-        Ok(row)
+    }
+
+    /// Adds lines.
+    fn add_all(&mut self, alloc: Global, lines: &[&[u8]]) -> Result<(), AllocError> {
+        for line in lines {
+            self.add(alloc, line)?;
+        }
+        Ok(())
     }
 
     /// A row without lines.

@@ -1,7 +1,7 @@
 //! A row, played.
 ghost use Rattle.std.specs.Prelude.{◌≡◌, ◌<◌, length};
 ghost use Rattle.relay_live.specs.Holding.{has_buffer};
-ghost use Rattle.relay_live.specs.Making.{slots_of};
+ghost use Rattle.relay_live.specs.Making.{ends_in, slots_of};
 
 use crate::clock::Hands;
 use crate::failed;
@@ -14,6 +14,7 @@ use crate::relay::rooms::Visit;
 use crate::relay::row::Row;
 use crate::relay::waiting::{Waiting, waiting_stores};
 use block_shelf::BeginError;
+use cyc_block::BlockStore;
 use live_store::{ArticleLog, StorePremises};
 use relay_conf::Config;
 use relay_live::{Counted, Keeper, PeerSource, Serving, Shared, serve_all};
@@ -94,11 +95,11 @@ where
 {
     let turns = Turns::new(board, row.manner, row.order.as_slice());
     let peers = config.relay.peers.len();
+    let hasher = RandomState::new(rt)?;
     let peer_sources = peer_sources_of(rt, alloc, board, &turns, row, peers)?;
     if peer_sources.len() >= 1 << 62 || peer_sources.len() != row.sessions.len() {
         return Err(failed());
     }
-    let hasher = RandomState::new(rt)?;
     let serving = Serving {
         config,
         gate: &turns,
@@ -112,13 +113,48 @@ where
     }
 }
 
-/// Serves the sessions of a row, and says what came of it.
+/// Serves the sessions of a row over what their threads share, and says what came of it.
+fn served<J: StorePremises + Send + Sync, L: Ledger + Send + Sync, R>(
+    rt: &R,
+    alloc: Global,
+    config: &Config,
+    shared: &Shared<Waiting<'_, R>, J, L>,
+    register: &ArticleLog,
+    all: Share<L>,
+    board: &Board,
+    row: &Row,
+) -> io::Result<Sheet>
+where
+    R: Threads + Wait + Clock + RandomSource + Sync + 'static,
+    requires register { register.now ≡ J.register }
+    requires holds { J.holds ≡ has_buffer config.now.buffers }
+    requires parts { (all.parts ≡ length config.now.buffers.groups.items) × (all.amount ≡ 0)
+        × (L.parts ≡ length config.now.buffers.groups.items)
+        × (0 < length config.now.buffers.groups.items) }
+    requires slots { ends_in shared.now ≡ length row.now.sessions.items }
+{
+    let keeper = Keeper::new(shared, register, &config.buffers, &board.clock);
+    let counted = run(rt, alloc, config, &keeper, all, board, row)?;
+    let mut sheet = Sheet::new(alloc);
+    if row.is_counted {
+        put_codes(rt, &mut sheet, board);
+    } else {
+        put_sessions(rt, &mut sheet, board);
+    }
+    put_counted(rt, &mut sheet, board, &counted);
+    put_figures(rt, &mut sheet, shared, config);
+    put_fetches(rt, alloc, &mut sheet, shared, register, &row.fetches)?;
+    Ok(sheet)
+}
+
+/// Serves the sessions of a row before a board, and says what came of it.
 fn serve<J: StorePremises + Send + Sync, L: Ledger + Send + Sync, R>(
     rt: &R,
     alloc: Global,
     config: &Config,
     register: &ArticleLog,
     blank: Blank,
+    board: &Board,
     row: &Row,
     failing: u64,
 ) -> io::Result<Sheet>
@@ -131,29 +167,24 @@ where
         × (blank.parts ≡ length config.now.buffers.groups.items)
         × (0 < length config.now.buffers.groups.items) }
 {
+    let stores = waiting_stores(rt, alloc, board, &config.buffers, failing, row.waits)?;
     let (book, all) = blank.open::<L>();
-    let board = Board::new(alloc, row.sessions.len(), row.moment)?;
-    let stores = waiting_stores(rt, alloc, &board, &config.buffers, failing, row.waits)?;
     let ends = row.sessions.len();
-    let shared: Shared<Waiting<'_, R>, J, L> = match Shared::new(
+    let made: Result<Shared<Waiting<'_, R>, J, L>, _> = Shared::new(
         rt, alloc, config, stores, book, ends,
-    ) {
-        Ok(shared) => shared,
-        Err(BeginError::Host(error)) => return Err(error),
-        Err(BeginError::Device(_number, _store)) => return Err(failed()),
-    };
-    let keeper = Keeper::new(&shared, register, &config.buffers, &board.clock);
-    let counted = run(rt, alloc, config, &keeper, all, &board, row)?;
-    let mut sheet = Sheet::new(alloc);
-    if row.is_counted {
-        put_codes(rt, &mut sheet, &board);
-    } else {
-        put_sessions(rt, &mut sheet, &board);
+    );
+    match made {
+        Ok(shared) => served(rt, alloc, config, &shared, register, all, board, row),
+        Err(error) => Err(unmade(error)),
     }
-    put_counted(rt, &mut sheet, &board, &counted);
-    put_figures(rt, &mut sheet, &shared, config);
-    put_fetches(rt, alloc, &mut sheet, &shared, register, &row.fetches)?;
-    Ok(sheet)
+}
+
+/// Why nothing is shared by threads.
+fn unmade<S: BlockStore + Drop>(error: BeginError<S>) -> io::Error {
+    match error {
+        BeginError::Host(error) => error,
+        BeginError::Device(_number, _store) => failed(),
+    }
 }
 
 /// Plays a row with this call of each store failing, and says what came of it.
@@ -161,16 +192,40 @@ fn play<R>(rt: &R, alloc: Global, row: &Row, failing: u64) -> io::Result<Sheet>
 where
     R: Threads + Wait + Clock + RandomSource + Sync + 'static,
 {
-    let Ok(config) = row_config(alloc, row.site, row.forgets) else {
-        return Err(failed());
+    let register = ArticleLog::new(alloc)?;
+    let came = match row_config(alloc, row.site, row.forgets) {
+        Ok(config) => {
+            let came = play_over(rt, alloc, &config, &register, row, failing);
+            drop(config);
+            came
+        }
+        Err(_) => Err(failed()),
     };
+    drop(register);
+    came
+}
+
+/// Plays a row over a configuration, with this call of each store failing.
+fn play_over<R>(
+    rt: &R,
+    alloc: Global,
+    config: &Config,
+    register: &ArticleLog,
+    row: &Row,
+    failing: u64,
+) -> io::Result<Sheet>
+where
+    R: Threads + Wait + Clock + RandomSource + Sync + 'static,
+{
     let groups = config.buffers.groups.len();
     if groups == 0 {
         return Err(failed());
     }
-    let register = ArticleLog::new(alloc)?;
+    let board = Board::new(alloc, row.sessions.len(), row.moment)?;
     let blank = Blank::new(groups as u64);
-    serve::<Brand, Brand, R>(rt, alloc, &config, &register, blank, row, failing)
+    let came = serve::<Brand, Brand, R>(rt, alloc, config, register, blank, &board, row, failing);
+    drop(board);
+    came
 }
 
 /// Plays the row of these lines, and says what came of it behind the line that it begins with.
@@ -179,20 +234,30 @@ where
     R: Threads + Wait + Clock + RandomSource + Sync + 'static,
 {
     let row = Row::read(alloc, lines)?;
-    if row.is_bad {
-        return Err(failed());
-    }
     let mut sheet = Sheet::new(alloc);
     sheet.put(head);
     sheet.put(b"\n");
-    if row.sweep > 0 {
-        sweep(rt, alloc, &mut sheet, &row)?;
-    } else {
-        let came = play(rt, alloc, &row, row.failing)?;
-        let text = came.onto(&mut sheet);
-        sheet.put(&text);
-    }
+    let came = put_row(rt, alloc, &mut sheet, &row);
+    drop(row);
+    came?;
     Ok(sheet)
+}
+
+/// Plays a row, and writes what came of it.
+fn put_row<R>(rt: &R, alloc: Global, sheet: &mut Sheet, row: &Row) -> io::Result<()>
+where
+    R: Threads + Wait + Clock + RandomSource + Sync + 'static,
+{
+    if row.is_bad {
+        return Err(failed());
+    }
+    if row.sweep > 0 {
+        return sweep(rt, alloc, sheet, row);
+    }
+    let came = play(rt, alloc, row, row.failing)?;
+    let text = came.onto(sheet);
+    sheet.put(&text);
+    Ok(())
 }
 
 /// Plays a row with each call of a store failing in turn: what came of a call is told wherever it

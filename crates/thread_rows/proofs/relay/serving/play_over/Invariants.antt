@@ -1,6 +1,6 @@
 use Rattle.std.proofs.Common.{true}
 use Rattle.relay_live.specs.Holding.{has_buffer}
-use Rattle.thread_rows.proofs.relay.serving.play.Given as goal
+use Rattle.thread_rows.proofs.relay.serving.play_over.Given as goal
 
 -- the register that was just made, over the buffers of the configuration; the stores are honest
 abbrev pub ghosts-serve-J-StorePremises : goal.ghosts-serve-J-StorePremises
