@@ -1,7 +1,7 @@
 //! The articles of a buffer. The text of an article is computed from its class and its octets.
-use crate::bench::{Device, number, octet};
+use crate::bench::{number, octet};
 use crate::calls::Article;
-use cyc_block::CHUNK_OCTETS;
+use cyc_block::{BlockStore, CHUNK_OCTETS};
 use cyc_buffer::{BufError, Buffer, Found, Open, Unopened};
 use cyc_token::Token;
 use row_text::Sheet;
@@ -29,7 +29,7 @@ trait Blocks {
     ) -> Result<Found, BufError>;
 }
 
-impl<D: Device> Blocks for Buffer<D> {
+impl<S: BlockStore> Blocks for Buffer<S> {
     fn block(
         &mut self,
         token: &Token,
@@ -40,7 +40,7 @@ impl<D: Device> Blocks for Buffer<D> {
     }
 }
 
-impl<D: Device> Blocks for Unopened<D> {
+impl<S: BlockStore> Blocks for Unopened<S> {
     fn block(
         &mut self,
         token: &Token,
@@ -52,8 +52,8 @@ impl<D: Device> Blocks for Unopened<D> {
 }
 
 /// Writes the answer of a call of a buffer whose head isn't open.
-pub fn looked<D: Device>(
-    buffer: &mut Unopened<D>,
+pub fn looked<S: BlockStore>(
+    buffer: &mut Unopened<S>,
     call: Article,
     cells: &[Vec<u8>],
     sheet: &mut Sheet,
@@ -66,8 +66,8 @@ pub fn looked<D: Device>(
 }
 
 /// Writes the answer of a call.
-pub fn answer<D: Device>(
-    buffer: &mut Buffer<D>,
+pub fn answer<S: BlockStore>(
+    buffer: &mut Buffer<S>,
     call: Article,
     cells: &[Vec<u8>],
     sheet: &mut Sheet,
@@ -97,7 +97,7 @@ fn size_of(class: &[u8], octets: &[u8], sheet: &mut Sheet) -> Size {
 }
 
 /// Writes the token under which an article is stored, or why it isn't.
-fn store<D: Device>(buffer: &mut Buffer<D>, cells: &[Vec<u8>], sheet: &mut Sheet) {
+fn store<S: BlockStore>(buffer: &mut Buffer<S>, cells: &[Vec<u8>], sheet: &mut Sheet) {
     let [class, octets, words @ ..] = cells else {
         return sheet.refuse();
     };
@@ -119,7 +119,7 @@ fn is_fresh(words: &[Vec<u8>]) -> Option<bool> {
 }
 
 /// Writes the token of an article of which so many blocks are written, and then no more.
-fn leave<D: Device>(buffer: &mut Buffer<D>, cells: &[Vec<u8>], end: End, sheet: &mut Sheet) {
+fn leave<S: BlockStore>(buffer: &mut Buffer<S>, cells: &[Vec<u8>], end: End, sheet: &mut Sheet) {
     let [class, octets, blocks] = cells else {
         return sheet.refuse();
     };
@@ -129,8 +129,8 @@ fn leave<D: Device>(buffer: &mut Buffer<D>, cells: &[Vec<u8>], end: End, sheet: 
 }
 
 /// Begins an article, writes so many of its blocks, ends it so, and writes its token.
-fn put_article<D: Device>(
-    buffer: &mut Buffer<D>,
+fn put_article<S: BlockStore>(
+    buffer: &mut Buffer<S>,
     size: Size,
     fresh: bool,
     blocks: u64,
@@ -150,8 +150,8 @@ fn put_article<D: Device>(
 }
 
 /// Writes so many blocks of an article that was begun, ends it so, and writes its token.
-fn write_article<D: Device>(
-    buffer: &mut Buffer<D>,
+fn write_article<S: BlockStore>(
+    buffer: &mut Buffer<S>,
     open: Open,
     text: &[u8],
     blocks: u64,
@@ -167,8 +167,8 @@ fn write_article<D: Device>(
 
 /// Writes so many blocks of an article; where one fails, that is written, and the answer is
 /// `false`.
-fn write_blocks<D: Device>(
-    buffer: &mut Buffer<D>,
+fn write_blocks<S: BlockStore>(
+    buffer: &mut Buffer<S>,
     open: &Open,
     text: &[u8],
     blocks: u64,
@@ -184,7 +184,7 @@ fn write_blocks<D: Device>(
 }
 
 /// Ends an article so, and gives its token.
-fn ended<D: Device>(buffer: &mut Buffer<D>, open: Open, end: End) -> Token {
+fn ended<S: BlockStore>(buffer: &mut Buffer<S>, open: Open, end: End) -> Token {
     match end {
         End::Finished => buffer.finish(open),
         End::Abandoned => {
@@ -260,7 +260,7 @@ fn is_part(
 }
 
 /// Writes the numbers of a buffer.
-fn put_numbers<D: Device>(buffer: &Buffer<D>, cells: &[Vec<u8>], sheet: &mut Sheet) {
+fn put_numbers<S: BlockStore>(buffer: &Buffer<S>, cells: &[Vec<u8>], sheet: &mut Sheet) {
     if !cells.is_empty() {
         return sheet.refuse();
     }

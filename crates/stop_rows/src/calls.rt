@@ -61,36 +61,34 @@ pub enum Text {
 const NAMES: &str = "format zeros store abandon unfinished read numbers octets put changes cuts \
     shut leave start open restart each fail setting text history text_changes text_cuts";
 
+/// The calls, in the order of their names.
+const CALLS: [Call; 23] = [
+    Call::Make(Make::Format),
+    Call::Make(Make::Zeros),
+    Call::Article(Article::Store),
+    Call::Article(Article::Abandon),
+    Call::Article(Article::Unfinished),
+    Call::Article(Article::Read),
+    Call::Article(Article::Numbers),
+    Call::Octets(Octets::Octets),
+    Call::Octets(Octets::Put),
+    Call::Octets(Octets::Changes),
+    Call::Octets(Octets::Cuts),
+    Call::Step,
+    Call::Step,
+    Call::Step,
+    Call::Step,
+    Call::Step,
+    Call::Each,
+    Call::Fail,
+    Call::Text(Text::Setting),
+    Call::Text(Text::Text),
+    Call::Text(Text::History),
+    Call::Text(Text::Changes),
+    Call::Text(Text::Cuts),
+];
+
 /// The call of this name.
 pub fn call_of(name: &str) -> Option<Call> {
-    let place = place_of(NAMES, name)?;
-    match place {
-        0 => Some(Call::Make(Make::Format)),
-        1 => Some(Call::Make(Make::Zeros)),
-        2 => Some(Call::Article(Article::Store)),
-        3 => Some(Call::Article(Article::Abandon)),
-        4 => Some(Call::Article(Article::Unfinished)),
-        5 => Some(Call::Article(Article::Read)),
-        6 => Some(Call::Article(Article::Numbers)),
-        7 => Some(Call::Octets(Octets::Octets)),
-        8 => Some(Call::Octets(Octets::Put)),
-        9 => Some(Call::Octets(Octets::Changes)),
-        10 => Some(Call::Octets(Octets::Cuts)),
-        11..=15 => Some(Call::Step),
-        16 => Some(Call::Each),
-        17 => Some(Call::Fail),
-        _ => text_call(place),
-    }
-}
-
-/// The call of texts at this place of the names.
-fn text_call(place: usize) -> Option<Call> {
-    match place {
-        18 => Some(Call::Text(Text::Setting)),
-        19 => Some(Call::Text(Text::Text)),
-        20 => Some(Call::Text(Text::History)),
-        21 => Some(Call::Text(Text::Changes)),
-        22 => Some(Call::Text(Text::Cuts)),
-        _ => None,
-    }
+    CALLS.get(place_of(NAMES, name)?).copied()
 }

@@ -26,27 +26,69 @@ enum Change {
     Cut,
 }
 
-/// The buffer that is started, by its number and first cycle.
+/// A walk over the octets of a block.
 #[derive(Clone, Copy)]
-struct Asked {
+struct Walk {
+    block: Block,
+    change: Change,
+    /// The number of the buffer that is started.
     number: u8,
+    /// Its first cycle.
     cycle: u32,
 }
 
 /// The device after a call, whose answer is written.
 pub fn answered<D: Device>(device: D, call: Octets, cells: &[Vec<u8>], sheet: &mut Sheet) -> D {
     let mut device = device;
-    let Some((block, cells)) = block_in(cells, sheet) else {
-        sheet.refuse();
-        return device;
-    };
-    match call {
-        Octets::Octets => put_octets(&mut device, block, cells, sheet),
-        Octets::Put => change_octets(&mut device, block, cells, sheet),
-        Octets::Changes => return turned(device, block, cells, sheet),
-        Octets::Cuts => return cut(device, block, cells, sheet),
+    match walk_of(call, cells, sheet) {
+        Some(walk) => walked(device, walk, sheet),
+        None => {
+            look(&mut device, call, cells, sheet);
+            device
+        }
     }
-    device
+}
+
+/// The walk that a call and its cells name.
+fn walk_of(call: Octets, cells: &[Vec<u8>], sheet: &mut Sheet) -> Option<Walk> {
+    let (block, cells) = block_in(cells, sheet)?;
+    let (change, cells) = change_of(call, cells, sheet)?;
+    let [buffer, cycle] = cells else {
+        return None;
+    };
+    Some(Walk {
+        block,
+        change,
+        number: octet(buffer, sheet),
+        cycle: number(cycle, sheet),
+    })
+}
+
+/// What is done to the octets of a block in a walk, and the cells behind those that say so.
+fn change_of<'a>(
+    call: Octets,
+    cells: &'a [Vec<u8>],
+    sheet: &mut Sheet,
+) -> Option<(Change, &'a [Vec<u8>])> {
+    match call {
+        Octets::Cuts => Some((Change::Cut, cells)),
+        Octets::Changes => {
+            let (mask, cells) = cells.split_first()?;
+            Some((Change::Turn(octet(mask, sheet)), cells))
+        }
+        _ => None,
+    }
+}
+
+/// Writes the answer of a call that starts no buffer.
+fn look<S: BlockStore>(device: &mut S, call: Octets, cells: &[Vec<u8>], sheet: &mut Sheet) {
+    match (call, block_in(cells, sheet)) {
+        (Octets::Octets, Some((block, []))) => put_octets(device, block, sheet),
+        (Octets::Put, Some((block, [place, octets]))) => {
+            change_octets(device, block, place, octets, sheet)
+        }
+        _ => sheet.refuse(),
+    }
 }
 
 /// The block that the first two cells name, and the cells behind them.
@@ -55,35 +97,6 @@ fn block_in<'a>(cells: &'a [Vec<u8>], sheet: &mut Sheet) -> Option<(Block, &'a [
         return None;
     };
     Some((block_of(kind, block, sheet)?, cells))
-}
-
-/// Writes what a start answers with the bits of a mask turned in each octet of a block.
-fn turned<D: Device>(device: D, block: Block, cells: &[Vec<u8>], sheet: &mut Sheet) -> D {
-    let [mask, buffer, cycle] = cells else {
-        sheet.refuse();
-        return device;
-    };
-    let change = Change::Turn(octet(mask, sheet));
-    let asked = asked_of(buffer, cycle, sheet);
-    walked(device, block, change, asked, sheet)
-}
-
-/// Writes what a start answers with a block cut behind each number of its octets.
-fn cut<D: Device>(device: D, block: Block, cells: &[Vec<u8>], sheet: &mut Sheet) -> D {
-    let [buffer, cycle] = cells else {
-        sheet.refuse();
-        return device;
-    };
-    let asked = asked_of(buffer, cycle, sheet);
-    walked(device, block, Change::Cut, asked, sheet)
-}
-
-/// The buffer that the cells ask for.
-fn asked_of(buffer: &[u8], cycle: &[u8], sheet: &mut Sheet) -> Asked {
-    Asked {
-        number: octet(buffer, sheet),
-        cycle: number(cycle, sheet),
-    }
 }
 
 /// The block that two cells name.
@@ -97,7 +110,7 @@ fn block_of(kind: &[u8], block: &[u8], sheet: &mut Sheet) -> Option<Block> {
 }
 
 /// The octets of a block; none where there is none.
-fn octets_of<D: Device>(device: &mut D, block: Block) -> Option<[u8; BLOCK_OCTETS]> {
+fn octets_of<S: BlockStore>(device: &mut S, block: Block) -> Option<[u8; BLOCK_OCTETS]> {
     let mut octets = [0; BLOCK_OCTETS];
     let count = device.count();
     let read = match block {
@@ -110,8 +123,8 @@ fn octets_of<D: Device>(device: &mut D, block: Block) -> Option<[u8; BLOCK_OCTET
 }
 
 /// Puts octets into a block, where there is one.
-fn put_block<D: Device>(
-    device: &mut D,
+fn put_block<S: BlockStore>(
+    device: &mut S,
     block: Block,
     octets: &[u8; BLOCK_OCTETS],
     sheet: &mut Sheet,
@@ -128,10 +141,7 @@ fn put_block<D: Device>(
 }
 
 /// Writes the octets of a block but for the zeros at its end.
-fn put_octets<D: Device>(device: &mut D, block: Block, cells: &[Vec<u8>], sheet: &mut Sheet) {
-    if !cells.is_empty() {
-        return sheet.refuse();
-    }
+fn put_octets<S: BlockStore>(device: &mut S, block: Block, sheet: &mut Sheet) {
     let Some(octets) = octets_of(device, block) else {
         return sheet.refuse();
     };
@@ -176,10 +186,13 @@ pub fn octets_by(digits: &[u8], sheet: &mut Sheet) -> Vec<u8> {
 }
 
 /// Puts octets into a block from a place on.
-fn change_octets<D: Device>(device: &mut D, block: Block, cells: &[Vec<u8>], sheet: &mut Sheet) {
-    let [place, digits] = cells else {
-        return sheet.refuse();
-    };
+fn change_octets<S: BlockStore>(
+    device: &mut S,
+    block: Block,
+    place: &[u8],
+    digits: &[u8],
+    sheet: &mut Sheet,
+) {
     let place = number(place, sheet) as usize;
     let other = octets_by(digits, sheet);
     let Some(mut octets) = octets_of(device, block) else {
@@ -205,32 +218,22 @@ fn is_put(octets: &mut [u8; BLOCK_OCTETS], place: usize, other: &[u8]) -> bool {
 
 /// Writes what a start answers with each octet of a block changed in turn. The block is then as it
 /// was.
-fn walked<D: Device>(
-    device: D,
-    block: Block,
-    change: Change,
-    asked: Asked,
-    sheet: &mut Sheet,
-) -> D {
+fn walked<D: Device>(device: D, walk: Walk, sheet: &mut Sheet) -> D {
     let mut device = device;
-    let Some(octets) = octets_of(&mut device, block) else {
+    let Some(octets) = octets_of(&mut device, walk.block) else {
         sheet.refuse();
         return device;
     };
     let mut runs = Runs::new(sheet.alloc);
     for place in 0..BLOCK_OCTETS {
         let mut said = Sheet::new(sheet.alloc);
-        put_block(
-            &mut device,
-            block,
-            &changed(&octets, place, change),
-            &mut said,
-        );
-        device = tried(device, asked.number, asked.cycle, &mut said);
+        let other = changed(&octets, place, walk.change);
+        put_block(&mut device, walk.block, &other, &mut said);
+        device = tried(device, walk.number, walk.cycle, &mut said);
         runs.add(place as u64, said.onto(sheet), sheet);
     }
     runs.end(sheet);
-    put_block(&mut device, block, &octets, sheet);
+    put_block(&mut device, walk.block, &octets, sheet);
     device
 }
 
