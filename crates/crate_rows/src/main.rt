@@ -126,11 +126,16 @@ fn part_of(cells: &[Vec<u8>]) -> Option<Part> {
     let [name] = cells else {
         return None;
     };
-    match place_of("texts blocks sessions", str::from_utf8(name).ok()?)? {
+    match place_in("texts blocks sessions", name)? {
         0 => Some(Part::Texts),
         1 => Some(Part::Blocks),
         _ => Some(Part::Sessions),
     }
+}
+
+/// The place of a word in a list of names between single spaces.
+fn place_in(names: &str, word: &[u8]) -> Option<usize> {
+    place_of(names, str::from_utf8(word).unwrap_or(""))
 }
 
 /// Whether an answer has the fault `Memory`.

@@ -1,13 +1,13 @@
 //! A row for sessions (peer_session): what one says where a step of its own hears the answer to
 //! another.
 
+use crate::place_in;
 use id_history::{Offer, Take};
 use peer_session::{Answer, Outcome, Session};
 use relay_conf::Config;
-use row_text::{Sheet, place_of};
+use row_text::Sheet;
 use std::alloc::{AllocError, Global};
 use std::hash::RandomState;
-use std::str;
 
 /// The number of the session.
 const NUMBER: u64 = 7;
@@ -83,7 +83,7 @@ enum Heard {
 
 /// What is heard under this name.
 fn heard_in(word: &[u8]) -> Option<Heard> {
-    match place_of("wanted mine kept", str::from_utf8(word).ok()?)? {
+    match place_in("wanted mine kept", word)? {
         0 => Some(Heard::Wanted),
         1 => Some(Heard::Mine),
         _ => Some(Heard::Kept),

@@ -42,41 +42,42 @@ const NAMES: &str = "octets message_id command command_cuts command_changes stuf
     unfolded is_blank identities loops arrived overview put_overview overview_cuts \
     seconds judge_date stamp judge expression_fault expression_cuts";
 
+/// The calls, in the order of their names.
+const CALLS: [Call; 29] = [
+    Call::Octets,
+    Call::MessageId,
+    Call::Command,
+    Call::CommandCuts,
+    Call::CommandChanges,
+    Call::Stuff,
+    Call::CutAll,
+    Call::CutIn,
+    Call::CutInTwo,
+    Call::Article,
+    Call::ArticleFault,
+    Call::Field,
+    Call::Groups,
+    Call::ArticleCuts,
+    Call::ArticleChanges,
+    Call::Unfolded,
+    Call::IsBlank,
+    Call::Identities,
+    Call::Loops,
+    Call::Arrived,
+    Call::Overview,
+    Call::PutOverview,
+    Call::OverviewCuts,
+    Call::Seconds,
+    Call::JudgeDate,
+    Call::Stamp,
+    Call::Judge,
+    Call::ExpressionFault,
+    Call::ExpressionCuts,
+];
+
 /// The call of this name.
 pub fn call_of(name: &str) -> Option<Call> {
-    let call = match place_of(NAMES, name)? {
-        0 => Call::Octets,
-        1 => Call::MessageId,
-        2 => Call::Command,
-        3 => Call::CommandCuts,
-        4 => Call::CommandChanges,
-        5 => Call::Stuff,
-        6 => Call::CutAll,
-        7 => Call::CutIn,
-        8 => Call::CutInTwo,
-        9 => Call::Article,
-        10 => Call::ArticleFault,
-        11 => Call::Field,
-        12 => Call::Groups,
-        13 => Call::ArticleCuts,
-        14 => Call::ArticleChanges,
-        15 => Call::Unfolded,
-        16 => Call::IsBlank,
-        17 => Call::Identities,
-        18 => Call::Loops,
-        19 => Call::Arrived,
-        20 => Call::Overview,
-        21 => Call::PutOverview,
-        22 => Call::OverviewCuts,
-        23 => Call::Seconds,
-        24 => Call::JudgeDate,
-        25 => Call::Stamp,
-        26 => Call::Judge,
-        27 => Call::ExpressionFault,
-        28 => Call::ExpressionCuts,
-        _ => return None,
-    };
-    Some(call)
+    CALLS.get(place_of(NAMES, name)?).copied()
 }
 
 /// How many cells stand before the parts of a text, where the call takes those.
