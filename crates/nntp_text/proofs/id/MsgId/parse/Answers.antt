@@ -1,5 +1,11 @@
+use Rattle.std.proofs.Common.{◌≡◌, sym, subst, Option, Result, Ok, Err}
+use Rattle.std.specs.Prelude.{IsErrAnd}
 use Rattle.std.specs.Str.{IsUtf8}
 use Rattle.std.proofs.lemmas.Str.{IsUtf8-from_ascii}
+use Rattle.news_terms.specs.MessageId.{IdFault, id_fault}
+use Rattle.nntp_text.specs.MessageId.{IdGives}
+use Rattle.nntp_text.specs.declared.id.IdError.{IdError}
+use Rattle.nntp_text.specs.declared.id.IdError.TheVariants.{Memory}
 use Rattle.nntp_text.proofs.Ids.{ascii_from_no_fault, ok_from_fact}
 use Rattle.nntp_text.proofs.id.MsgId.parse.Goals as goal
 
@@ -8,3 +14,20 @@ unwrap-text-requires c =
     let text = c.args.text.now in
     ok_from_fact (IsUtf8 text) _ _ c.from_utf8.result c.from_utf8.ensures.cases
     (IsUtf8-from_ascii text (ascii_from_no_fault text c.in_ok-tried.ensures.fault))
+
+-- an error that is handed on is still that of the fault
+handed_on : {X : Type 0} (Y : Type 0) (r : Result X IdError) (error : IdError) (fault : Option IdFault)
+    → IsErrAnd r (λ e. e ≡ error) → IdGives {X = Y} (Err error) fault → IdGives r fault
+handed_on Y (Ok id) error fault is gives = absurd is
+handed_on Y (Err e) error fault is gives =
+    subst (λ (one : IdError). IdGives {X = Y} (Err one) fault) (sym is) gives
+
+pub returns-in_err-tried-clause-fault : goal.returns-in_err-tried-clause-fault
+returns-in_err-tried-clause-fault c =
+    handed_on (Unit {0}) c.from_residual.result c.in_err-tried.field-0.0 (id_fault c.args.text.now)
+    c.from_residual.ensures.1 c.in_err-tried.ensures.fault
+
+pub returns-in_err-from_str-clause-fault : goal.returns-in_err-from_str-clause-fault
+returns-in_err-from_str-clause-fault c =
+    handed_on (Unit {0}) c.from_residual-in_err-from_str.result Memory (id_fault c.args.text.now)
+    c.from_residual-in_err-from_str.ensures.1 c.in_ok-tried.ensures.fault
