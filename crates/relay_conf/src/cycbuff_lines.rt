@@ -9,8 +9,8 @@ ghost use Rattle.relay_conf.specs.Words as words;
 
 use crate::cycbuff::Mode;
 use crate::faults::Fault;
-use crate::words::{is, is_name};
-use line_words::{cut, is_skipped, number_within, three_parts, trim, two_parts};
+use crate::words::is_name;
+use line_words::{cut, is, is_skipped, number_within, three_parts, trim, two_parts};
 
 /// What a line says, without fault.
 #[derive(Clone, Copy)]

@@ -6,8 +6,8 @@ ghost use Rattle.relay_conf.specs.RelayViews.{raw_by, IsNamed};
 ghost use Rattle.relay_conf.specs.Words.{words};
 
 use crate::faults::Fault;
-use crate::words::{first_word, is, is_identity, is_name, one_word, three_words, two_words};
-use line_words::{cut, is_skipped, number_within, three_parts, trim};
+use crate::words::{first_word, is_identity, is_name, one_word, three_words, two_words};
+use line_words::{cut, is, is_skipped, number_within, three_parts, trim};
 
 /// What a line says, without fault.
 #[derive(Clone, Copy)]

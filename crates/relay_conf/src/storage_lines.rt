@@ -6,8 +6,8 @@ ghost use Rattle.relay_conf.specs.Words.{words};
 ghost use Rattle.line_words.specs.Parts.{parts};
 
 use crate::faults::Fault;
-use crate::words::{first_word, is, is_name, three_words};
-use line_words::{cut, is_skipped, number_within, trim};
+use crate::words::{first_word, is_name, three_words};
+use line_words::{cut, is, is_skipped, number_within, trim};
 
 /// The sizes that an entry takes, in octets; no upper limit is `None`.
 #[derive(Clone, Copy)]

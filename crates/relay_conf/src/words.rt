@@ -1,5 +1,5 @@
 //! The words of a configuration file's lines.
-ghost use Rattle.std.specs.Prelude.{◌≡◌, ◌∷◌, [], bytes_eq, option_map, MatchOption};
+ghost use Rattle.std.specs.Prelude.{◌≡◌, ◌∷◌, [], option_map, MatchOption};
 ghost use Rattle.std.specs.Option.{option_copied};
 ghost use Rattle.std.specs.List.{list_all};
 ghost use Rattle.line_words.specs.Parts.{one_of, two_of, three_of};
@@ -7,13 +7,6 @@ ghost use Rattle.relay_conf.specs.Words.{words};
 ghost use Rattle.relay_conf.specs.Words as terms;
 
 use line_words::Between;
-
-/// Whether the word is this one.
-pub(crate) fn is(word: &[u8], this: &[u8]) -> bool
-    ensures { result ≡ bytes_eq word.now this.now }
-{
-    word == this
-}
 
 /// Whether the word is a name: 1 to 16 octets of names.
 pub(crate) fn is_name(word: &[u8]) -> bool
