@@ -50,7 +50,8 @@ pub buffer_said : (after : List (List ℕ)) (name file size : List ℕ) (sized :
     → sized ≡ number_within 1 2097152 size → buffer_sized name file sized ≡ buffer_line after
 buffer_said after name file size sized three named filed number =
     ap (buffer_sized name file) number
-    ∙ ap (λ good. if good then buffer_sized name file (number_within 1 2097152 size) else Err Syntax)
+    ∙ ap (λ good. if good then buffer_sized name file (number_within 1 2097152 size) else Err
+    Syntax)
     (ap (λ good. good && true) named ∙ ap (λ good. is_name name && good) filed)
     ∙ ap buffer_parted three
     ∙ sym (buffer_by_three after)

@@ -1,4 +1,5 @@
-use Rattle.std.proofs.Common.{◌≡◌, ◌∙◌, ℕ, ◌+◌, ◌<◌, ap, sym, arith, List, [], ◌∷◌, ◌++◌, length, map}
+use Rattle.std.proofs.Common.{◌≡◌, ◌∙◌, ℕ, ◌+◌, ◌<◌, ap, sym, arith, List, [], ◌∷◌, ◌++◌}
+use Rattle.std.proofs.Common.{length, map}
 use Rattle.std.proofs.Common.{take, get_or, flat_map, append_assoc, append-nil}
 use Rattle.std.proofs.lemmas.List.{take_more, map-append}
 use Rattle.std.proofs.lemmas.List.Concat.{flat_map-append}
@@ -9,7 +10,8 @@ use Rattle.nntp_text.proofs.reply.put_items.Goals as goal
 -- what one item more adds
 one_more : {X Y Z : Type 0} (f : X → Y) (g : Y → List Z) (xs : List X) (i : ℕ) (d : X)
     (start before after : List Z) → i < length xs → before ≡ start ++ flat_map g (map f (take i xs))
-    → after ≡ before ++ g (f (get_or xs i d)) → after ≡ start ++ flat_map g (map f (take (i + 1) xs))
+    → after ≡ before ++ g (f (get_or xs i d)) → after ≡ start ++ flat_map g
+    (map f (take (i + 1) xs))
 one_more {X} {Y} {Z} f g xs i d start before after h was is =
     let passed = flat_map g (map f (take i xs)) in
     let line = g (f (get_or xs i d)) in
