@@ -1,10 +1,13 @@
 -- What is wrong in front of the head.
-use Rattle.std.proofs.Common.{List, ℕ, subst}
+use Rattle.std.proofs.Common.{◌≡◌, ◌∙◌, List, ℕ, arith, subst}
 use Rattle.cyc_block.specs.Heads.{head_view}
 use Rattle.cyc_buffer.specs.Marks.{is_marked}
-use Rattle.cyc_buffer.specs.Reads.{IsDamageBy, IsMissing}
+use Rattle.cyc_block.specs.declared.store.BlockStore.{Ghosts}
+use Rattle.cyc_buffer.specs.Reads.{HasReadBefore, IsBlamed, IsDamageBy, IsMissing}
 use Rattle.cyc_buffer.specs.Stopped.{IsDamaged}
-use Rattle.cyc_buffer.proofs.Refusals.{damage_by, passed_on}
+use Rattle.cyc_buffer.specs.declared.answers.StartError.{StartError}
+use Rattle.cyc_buffer.specs.declared.answers.StartError.TheVariants as errors
+use Rattle.cyc_buffer.proofs.Refusals.{damage_by, held_on, passed_on}
 use Rattle.cyc_buffer.proofs.Whole.{damage_before}
 use Rattle.cyc_buffer.proofs.stopped.read_all.Goals as goal
 
@@ -22,3 +25,63 @@ returns-in_err-read_articles-clause-refused g c honest heads bits =
     numbers.cycle numbers.head 0)
     (held.blocks honest) missing))
     (c.in_err-read_articles.ensures.refused (held.honest honest)))
+
+-- whom a refusal blames where nothing failed before
+blamed_on : {S : Type 0} (g : Ghosts S) (old mid new : S) (error : StartError)
+    → g.failures mid ≡ g.failures old → IsBlamed g mid new error → IsBlamed g old new error
+blamed_on g old mid new errors.Memory same blamed = blamed ∙ same
+blamed_on g old mid new errors.Device same blamed = omega (arith, same, blamed)
+blamed_on g old mid new errors.NoHead same blamed = blamed ∙ same
+blamed_on g old mid new errors.Unclosed same blamed = blamed ∙ same
+blamed_on g old mid new errors.Damaged same blamed = blamed ∙ same
+
+pub returns-in_err-tokens-clause-refused : goal.returns-in_err-tokens-clause-refused
+returns-in_err-tokens-clause-refused g c honest heads bits =
+    passed_on (IsDamageBy (IsDamaged heads (g.S.BlockStore.blocks c.args.store.now)
+    (head_view c.args.numbers.now)))
+    c.in_err-tokens.field-0.0 _ c.from_residual.ensures
+    (c.in_err-tokens.ensures.refused honest heads bits)
+
+pub returns-in_err-tokens-clause-failed : goal.returns-in_err-tokens-clause-failed
+returns-in_err-tokens-clause-failed g c =
+    passed_on (IsBlamed g.S.BlockStore c.args.store.now c.read_behind.new.store)
+    c.in_err-tokens.field-0.0 _ c.from_residual.ensures c.in_err-tokens.ensures.failed
+
+pub returns-in_err-read_articles-clause-held : goal.returns-in_err-read_articles-clause-held
+returns-in_err-read_articles-clause-held g c =
+    held_on g.S.BlockStore c.args.store.now c.read_behind.new.store c.read_articles.new.store
+    c.in_ok-tokens.ensures.held c.in_err-read_articles.ensures.held
+
+pub returns-in_err-read_articles-clause-failed : goal.returns-in_err-read_articles-clause-failed
+returns-in_err-read_articles-clause-failed g c =
+    passed_on (IsBlamed g.S.BlockStore c.args.store.now c.read_articles.new.store)
+    c.in_err-read_articles.field-0.0 _ c.from_residual-in_err-read_articles.ensures
+    (blamed_on g.S.BlockStore c.args.store.now c.read_behind.new.store c.read_articles.new.store
+    c.in_err-read_articles.field-0.0 c.in_ok-tokens.ensures.no_failure
+    c.in_err-read_articles.ensures.failed)
+
+pub returns-clause-read : goal.returns-clause-read
+returns-clause-read g c honest = record {
+  some_tokens = c.in_ok-tokens.tokens.items;
+  some_kept = c.read_behind.new.kept.words.items;
+  behind = c.in_ok-tokens.ensures.read honest;
+  before = subst (λ (held_blocks : List (List ℕ)).
+      HasReadBefore (is_marked c.args.starts.now.words.items) held_blocks
+      (head_view c.args.numbers.now) c.in_ok-tokens.tokens.items c.read_articles.new.tokens.items
+      c.read_behind.new.kept.words.items c.read_articles.new.kept.words.items)
+      (c.in_ok-tokens.ensures.held.blocks honest)
+      (c.in_ok-read_articles.ensures.read (c.in_ok-tokens.ensures.held.honest honest));
+}
+
+pub returns-clause-held : goal.returns-clause-held
+returns-clause-held g c =
+    held_on g.S.BlockStore c.args.store.now c.read_behind.new.store c.read_articles.new.store
+    c.in_ok-tokens.ensures.held c.in_ok-read_articles.ensures.held
+
+pub returns-clause-calls : goal.returns-clause-calls
+returns-clause-calls g c =
+    omega (arith, c.in_ok-tokens.ensures.calls, c.in_ok-read_articles.ensures.calls)
+
+pub returns-clause-no_failure : goal.returns-clause-no_failure
+returns-clause-no_failure g c =
+    c.in_ok-read_articles.ensures.no_failure ∙ c.in_ok-tokens.ensures.no_failure
