@@ -1,5 +1,6 @@
 -- What is wrong in front of the head.
-use Rattle.std.proofs.Common.{◌≡◌, ◌∙◌, List, ℕ, arith, subst}
+use Rattle.std.proofs.Common.{◌≡◌, ◌∙◌, List, ℕ, arith, inl, inr, subst}
+use Rattle.std.proofs.lemmas.Bool.{cases_lt}
 use Rattle.cyc_block.specs.Heads.{head_view}
 use Rattle.cyc_buffer.specs.Marks.{is_marked}
 use Rattle.cyc_block.specs.declared.store.BlockStore.{Ghosts}
@@ -85,3 +86,21 @@ returns-clause-calls g c =
 pub returns-clause-no_failure : goal.returns-clause-no_failure
 returns-clause-no_failure g c =
     c.in_ok-read_articles.ensures.no_failure ∙ c.in_ok-tokens.ensures.no_failure
+
+pub returns-clause-listed : goal.returns-clause-listed
+returns-clause-listed g c block from below marked =
+    elim (cases_lt block c.args.numbers.now.head) [
+      | inl h ↦ c.in_ok-read_articles.ensures.listed block from h marked
+      | inr h ↦
+          let before = c.in_ok-tokens.ensures.listed block h below marked in
+          record {
+            token = before.token;
+            listed = c.in_ok-read_articles.ensures.stay_listed before.token before.listed;
+            here = before.here;
+          }
+    ]
+
+pub returns-clause-within : goal.returns-clause-within
+returns-clause-within g c =
+    c.in_ok-read_articles.ensures.within c.args.numbers.now.blocks
+    (omega (arith, c.requires.sound)) c.in_ok-tokens.ensures.within
