@@ -1,8 +1,14 @@
-use Rattle.std.proofs.Common.{length}
+use Rattle.std.proofs.Common.{ℕ, length}
 use Rattle.std.specs.Int.{to_be_bytes, w32}
 use Rattle.id_history.specs.History.{PositionFits}
-use Rattle.id_history.proofs.Appends.{all_put_so}
+use Rattle.id_history.proofs.Appends.{all_put_so, none_put}
 use Rattle.id_history.proofs.writing.put_positions.Goals as goal
+
+-- none is put yet
+pub loop-position-init : goal.loop-position-init
+loop-position-init c =
+    none_put (to_be_bytes w32) PositionFits (λ (position : ℕ). position) c.put32.new.out.items
+    c.args.positions.now
 
 -- all positions are behind their number
 pub returns-clause-octets : goal.returns-clause-octets
