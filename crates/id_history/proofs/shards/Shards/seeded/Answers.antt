@@ -30,8 +30,8 @@ loop-preserved c = (
   c.push_reserved.ensures.len ∙ ap (λ n. n + 1) c.loop.invariant.0,
   omega (arith, c.push_reserved.ensures.capacity, c.loop.invariant.1),
   rw c.push_reserved.ensures.items
-  (All-push (λ one. Keeps one (λ id. Unknown)) c.loop.shards.items c.new.result
-  c.loop.invariant.2 c.new.ensures),
+      (All-push (λ one. Keeps one (λ id. Unknown)) c.loop.shards.items c.new.result
+      c.loop.invariant.2 c.new.ensures),
 )
 
 -- the shard of each message-id is one of them

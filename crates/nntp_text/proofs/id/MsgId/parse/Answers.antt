@@ -17,7 +17,7 @@ unwrap-text-requires c =
 
 -- an error that is handed on is still that of the fault
 handed_on : {X : Type 0} (Y : Type 0) (r : Result X IdError) (error : IdError)
-(fault : Option IdFault)
+    (fault : Option IdFault)
     → IsErrAnd r (λ e. e ≡ error) → IdGives {X = Y} (Err error) fault → IdGives r fault
 handed_on Y (Ok id) error fault is gives = absurd is
 handed_on Y (Err e) error fault is gives =
