@@ -4,7 +4,8 @@ use Rattle.std.proofs.lemmas.Bool.{eq-eqb, ne_eqb}
 use Rattle.cyc_buffer.specs.Marks.{is_among, is_marked}
 use Rattle.cyc_buffer.specs.declared.buffer_state.BufferState.{BufferState}
 use Rattle.cyc_buffer.proofs.buffer_state.BufferState.unmark_passed.Goals as goal
-use Rattle.cyc_buffer.proofs.buffer_state.BufferState.unmark_passed.Goals.{then-place-self, else-place-self}
+use Rattle.cyc_buffer.proofs.buffer_state.BufferState.unmark_passed.Goals.{then-place-self}
+use Rattle.cyc_buffer.proofs.buffer_state.BufferState.unmark_passed.Goals.{else-place-self}
 
 -- in another cycle what is left at the end is passed too
 passed_end : (run cycle : ℕ) (among behind old mid new : Bool) → (run ≡ cycle → ⊥)
