@@ -19,23 +19,20 @@ use Rattle.relay_command.specs.declared.load.CheckError.TheVariants.{Unwritten}
 use Rattle.relay_command.specs.declared.load.ConfFile.{ConfFile}
 use Rattle.relay_command.specs.declared.load.ConfFile.TheVariants as files
 
--- The text is what a configuration that the folder's files say does, with what lay where the files
--- of its buffers are to be, in their order; or where an article goes by it, where that is asked.
--- Nothing says what lies anywhere.
-pub record IsTold (folder : List ℕ) (text : List ℕ) : Type 0 where
-  pub config : Config
-  pub sources : Sources
-  pub found : List Found
-  pub said : IsSaidIn folder config sources
-  pub each : length found ≡ length config.buffers.buffers.items
-  pub told : text ≡ explained config sources found
-
 -- The text is what this configuration does, which these texts say, with what lay where the files of
--- its buffers are to be, in their order.
+-- its buffers are to be, in their order. Nothing says what lies anywhere.
 pub record IsToldOf (config : Config) (sources : Sources) (text : List ℕ) : Type 0 where
   pub found : List Found
   pub each : length found ≡ length config.buffers.buffers.items
   pub told : text ≡ explained config sources found
+
+-- The text is what a configuration that the folder's files say does; or where an article goes by
+-- it, where that is asked.
+pub record IsTold (folder : List ℕ) (text : List ℕ) : Type 0 where
+  pub config : Config
+  pub sources : Sources
+  pub said : IsSaidIn folder config sources
+  pub told : IsToldOf config sources text
 
 -- The text is where an article goes by the configuration that the folder's files say.
 pub record IsChosen (folder : List ℕ) (question : Asking) (text : List ℕ) : Type 0 where

@@ -7,10 +7,8 @@ returns-in-Ok-clause-text g c =
     IfOk-weaker c.text_of-text.result _ _ (λ text of. record {
       config = c.in-Ok.both.0;
       sources = c.in-Ok.both.1;
-      found = of.found;
       said = c.in-Ok.ensures;
-      each = of.each;
-      told = of.told;
+      told = of;
     }) c.text_of-text.ensures.text
 
 pub returns-in-Ok-clause-error : goal.returns-in-Ok-clause-error
