@@ -1,22 +1,71 @@
 -- The fields of a cutter as a stream.
 use Rattle.std.proofs.Common.{◌≡◌, ℕ, ◌+◌, ◌-◌, ◌≤◌, min, Bool, List, [], ◌++◌, length, take}
-use Rattle.std.proofs.Common.{drop, Option, Some, None, refl, sym, ap, subst, ◌∙◌, arith, ⊎_elim}
+use Rattle.std.proofs.Common.{drop, ◌∷◌, Option, Some, None, refl, sym, ap, subst, ◌∙◌, arith, ⊎_elim}
 use Rattle.std.proofs.Common.{append_assoc, length-append, length-drop}
 use Rattle.std.proofs.Math.Seq.{drop-append-add, drop-append_seam}
-use Rattle.std.proofs.lemmas.List.{drop-append-le, drop-drop, drop_all, length-take-le}
+use Rattle.std.proofs.lemmas.List.{drop-append-le, drop-drop, drop_all, length-take-le, take_rest}
 use Rattle.std.proofs.lemmas.Bool.{cases_lt}
-use Rattle.news_terms.specs.Blocks.{text_lines}
+use Rattle.news_terms.specs.Lines.{Cut, next_line}
+use Rattle.news_terms.specs.Blocks.{stuffed_room, text_lines}
 use Rattle.news_terms.specs.Blocks as blocks
 use Rattle.news_terms.proofs.NextLemmas.{next_block-whole}
-use Rattle.stream_cut.specs.Look.{IsLooked, IsPassed}
-use Rattle.stream_cut.specs.Past.{EndWithin, HasDropped, KeepsStream, StandsWhole}
-use Rattle.stream_cut.specs.Past.{StandsOversize, StandsPast}
-use Rattle.stream_cut.specs.Stream.{Stream, IsPastLimit, ShowsBlock, ShowsOversize, AwaitsEnd}
+use Rattle.stream_cut.specs.Look.{FindsLine, IsLooked, IsPassed}
+use Rattle.stream_cut.specs.Past.{ArePast, EndWithin, HasDropped, KeepsStream, StandsWhole}
+use Rattle.stream_cut.specs.Past.{StandsOpen, StandsOversize, StandsPast}
+use Rattle.stream_cut.specs.Stream.{Stream, IsPastLimit, ShowsBlock, ShowsLine, ShowsOversize}
+use Rattle.stream_cut.specs.Stream.{AwaitsEnd}
+use Rattle.stream_cut.specs.declared.look.LineLook.TheVariants.{Ends}
+use Rattle.stream_cut.specs.declared.look.Progress.{Progress}
 use Rattle.stream_cut.specs.declared.past.Within.{Within}
 use Rattle.stream_cut.specs.declared.past.Within.TheVariants as within
 use Rattle.stream_cut.proofs.PassLemmas.{first_block-closed, passed-whole, passed-dots}
 use Rattle.stream_cut.proofs.PassLemmas.{passed-bounds, length-text, plain_text, ClosesAt-fits}
 use Rattle.stream_cut.proofs.PastLemmas.{IsLooked-append, past_more, two_parts}
+
+-- what the code has as kept octets
+pub kept_is : (octets items : List ℕ) (start : ℕ) → octets ≡ items
+    → take (length octets - start) (drop start octets) ≡ drop start items
+kept_is octets items start same = take_rest octets start ∙ ap (drop start) same
+
+-- what holds of the octets behind those that are gone, as the code has them
+pub of_kept : (P : List ℕ → List ℕ → Type 0) (octets items : List ℕ) (start limit : ℕ)
+    (passing : Option Within) (gone : List ℕ) → octets ≡ items
+    → HasDropped limit passing gone (drop start items)
+    → ((g : List ℕ) → HasDropped limit passing g (take (length octets - start) (drop start octets))
+    → P g (take (length octets - start) (drop start octets)))
+    → P gone (drop start items)
+of_kept P octets items start limit passing gone same dropped holds =
+    subst (λ (x : List ℕ). (g : List ℕ) → HasDropped limit passing g x → P g x)
+    (kept_is octets items start same) holds gone dropped
+
+-- nothing was looked at
+passed_none : (s : List ℕ) → IsPassed s 0 0 0
+passed_none s = record {
+  lines = [];
+  unclosed = tt;
+  tail = s;
+  whole = refl;
+  count = refl;
+  dotted = refl;
+  seen = record { within = omega arith; none = λ k less. absurd (omega arith) };
+}
+
+-- of the octets that are kept so many go
+pub drops_more : (items : List ℕ) (start limit : ℕ) (gone : List ℕ) (count : ℕ) (end : Within)
+    (after : List ℕ) (looked : Progress) → start ≤ length items
+    → StandsPast limit gone (drop start items) count end
+    → after ≡ gone ++ take count (drop start items)
+    → looked ≡ record { passed = 0; looked = 0; dots = 0 }
+    → KeepsStream items (start + count) limit (Some end) after
+    looked.passed looked.looked looked.dots
+drops_more items start limit gone count end after looked fits h is none = record {
+  within = omega (arith, fits, h.within, length-drop start items);
+  seen = subst (λ (p : Progress). IsPassed (drop (start + count) items) p.passed p.looked p.dots)
+      (sym none) (passed_none (drop (start + count) items));
+  dropped = subst (λ (g : List ℕ). ArePast limit end g (drop (start + count) items)) (sym is)
+      (subst (λ (x : List ℕ). ArePast limit end (gone ++ take count (drop start items)) x)
+      (drop-drop count start items) h.drops);
+}
 
 -- more octets leave what was passed as it is
 IsPassed-append : (s more : List ℕ) (passed looked dots : ℕ) → IsPassed s passed looked dots
@@ -98,6 +147,27 @@ stream_of gone kept held room limit overlong = record {
   overlong = overlong;
 }
 
+-- all octets are kept where none are gone
+none_gone : (gone kept : List ℕ) → length gone ≡ 0 → gone ++ kept ≡ kept
+none_gone [] kept none = refl
+none_gone (a ∷ gone) kept none = absurd (omega (arith, none))
+
+pub all_kept : (gone kept : List ℕ) (held room limit : ℕ) (overlong : Bool) (s : Stream)
+    → stream_of gone kept held room limit overlong ≡ s → s.dropped ≡ 0 → s.unread ≡ kept
+all_kept gone kept held room limit overlong s is none =
+    ap (λ (s : Stream). s.unread) (sym is)
+    ∙ none_gone gone kept (ap (λ (s : Stream). s.dropped) is ∙ none)
+
+-- a line that ends among the octets that are kept is shown
+pub shows_line : (s : Stream) (kept : List ℕ) (end : ℕ) → s.dropped ≡ 0 → s.unread ≡ kept
+    → FindsLine kept (Ends end) → ShowsLine s end
+shows_line s kept end none all found = record {
+  kept = none;
+  within = subst (λ (x : List ℕ). end + 2 ≤ length x) (sym all) found.0;
+  cut = subst (λ (x : List ℕ). next_line x ≡ Cut (take end x) (drop (end + 2) x)) (sym all)
+      found.1;
+}
+
 -- a block that stands at the front is shown
 pub shows_block
     : (gone kept : List ℕ) (held room limit : ℕ) (overlong : Bool) (passed looked dots : ℕ)
@@ -135,6 +205,21 @@ pub shows_oversize : (gone kept : List ℕ) (held room limit : ℕ) (overlong : 
 shows_oversize gone kept held room limit overlong count h = record {
   within = subst (λ (x : List ℕ). count ≤ length x) (sym (drop-append_seam gone kept)) h.within;
   cut = h.cut ∙ ap blocks.Oversize (sym (drop-append-add gone kept count));
+}
+
+-- none is whole, and all octets stay
+pub awaits_open : (gone kept : List ℕ) (held room limit : ℕ) (overlong : Bool)
+    (passed looked dots : ℕ) → StandsOpen limit gone kept passed looked dots
+    → AwaitsEnd (stream_of gone kept held room limit overlong)
+    (stream_of gone kept held room limit overlong)
+awaits_open gone kept held room limit overlong passed looked dots h = record {
+  unfinished = h.unfinished;
+  left = refl;
+  grows = omega arith;
+  past = λ some. absurd (omega (arith, some, ap length h.none));
+  bounded = subst (λ (x : List ℕ). length x ≤ stuffed_room limit)
+      (sym (drop-append_seam gone kept)) h.bounded;
+  few = λ some. absurd (omega (arith, some, ap length h.none));
 }
 
 -- octets go
