@@ -71,6 +71,53 @@ unstuffed_line-dots = record { alone = alone; plain = plain }
 unchanged-dots : ChangesDots (λ s. s)
 unchanged-dots = record { alone = λ s more some. refl; plain = λ s none. refl }
 
+-- THE FIRST LINE AND WHAT FOLLOWS IT
+
+no_less : (m n : ℕ) → m < n → ¬ (n ≤ m)
+no_less m n less more = omega (arith, less, more)
+
+equal_both : (m n : ℕ) → n ≤ m → m ≤ n → m ≡ n
+equal_both m n more less = omega (arith, more, less)
+
+-- the line ends before a later CRLF begins
+behind_line : (t l r front after : List ℕ) → t ≡ l ++ 13 ∷ 10 ∷ r → t ≡ front ++ 13 ∷ 10 ∷ after
+    → length l < length front → length l + 2 ≤ length front
+behind_line t l r front after line other less =
+    past (length l) (length front) less (λ same.
+    let both : 10 ≡ 13 = sym (EndsAt-front t l r line).1 ∙ ap (λ (k : ℕ). get_or t k 0) same
+    ∙ (EndsAt-front t front after other).0 in
+    cc both)
+  where
+    past : (m n : ℕ) → m < n → m + 1 ≢ n → m + 2 ≤ n
+    past m n less apart = omega (arith, less, apart)
+
+-- the line and the octets behind it are as many as all
+length-behind : (l front : List ℕ) → length l + 2 ≤ length front
+    → length ((l ++ crlf) ++ drop (length l + 2) front) ≡ length front
+length-behind l front long = omega (
+  arith,
+  long,
+  length-append (l ++ crlf) (drop (length l + 2) front),
+  length-append l crlf,
+  length-drop (length l + 2) front,
+)
+
+-- fewer octets follow the line
+fewer_behind : (n : ℕ) (t l r : List ℕ) → t ≡ l ++ 13 ∷ 10 ∷ r → length t ≤ suc n → length r ≤ n
+fewer_behind n t l r line fits =
+    omega (arith, fits, ap length line, length-append l (13 ∷ 10 ∷ r))
+
+-- what is longer with the line is longer without it
+longer_behind : (l front next x : List ℕ) → front ≡ (l ++ crlf) ++ next
+    → length front ≤ length ((l ++ crlf) ++ x) → length next ≤ length x
+longer_behind l front next x whole longer = omega (
+  arith,
+  longer,
+  ap length whole,
+  length-append (l ++ crlf) next,
+  length-append (l ++ crlf) x,
+)
+
 -- what follows a line before another CRLF
 pub between : (t l r front after : List ℕ) → t ≡ l ++ 13 ∷ 10 ∷ r → t ≡ front ++ 13 ∷ 10 ∷ after
     → length l < length front
@@ -78,28 +125,17 @@ pub between : (t l r front after : List ℕ) → t ≡ l ++ 13 ∷ 10 ∷ r → 
     × (front ≡ (l ++ crlf) ++ drop (length l + 2) front)
 between t l r front after line other less =
     let n = length l + 2 in
-    let own = EndsAt-front t l r line in
-    let later = EndsAt-front t front after other in
-    let apart : length l + 1 ≢ length front = λ same.
-    let both : 10 ≡ 13 = sym own.1 ∙ ap (λ (k : ℕ). get_or t k 0) same ∙ later.0 in
-    absurd (cc both) in
-    let long : n ≤ length front = omega (arith, less, apart) in
+    let long = behind_line t l r front after line other less in
     let split : t ≡ (l ++ crlf) ++ r = line ∙ sym (append_assoc l crlf r) in
-    let count : length (l ++ crlf) ≡ n = length-append l crlf in
     let rest : r ≡ drop n front ++ 13 ∷ 10 ∷ after =
-    sym (drop_at (l ++ crlf) r n count) ∙ ap (drop n) (sym split) ∙ ap (drop n) other
-    ∙ drop-append-le n front (13 ∷ 10 ∷ after) long in
+    sym (drop_at (l ++ crlf) r n (length-append l crlf)) ∙ ap (drop n) (sym split)
+    ∙ ap (drop n) other ∙ drop-append-le n front (13 ∷ 10 ∷ after) long in
     let whole : ((l ++ crlf) ++ drop n front) ++ 13 ∷ 10 ∷ after ≡ front ++ 13 ∷ 10 ∷ after =
     append_assoc (l ++ crlf) (drop n front) (13 ∷ 10 ∷ after)
     ∙ ap (λ (x : List ℕ). (l ++ crlf) ++ x) (sym rest) ∙ sym split ∙ other in (
       rest,
-      sym (same_front ((l ++ crlf) ++ drop n front) front _ _ whole (omega (
-        arith,
-        length-append (l ++ crlf) (drop n front),
-        count,
-        length-drop n front,
-        long,
-      ))).0,
+      sym (same_front ((l ++ crlf) ++ drop n front) front _ _ whole
+          (length-behind l front long)).0,
     )
 
 -- a dot after a CRLF of what follows a line stands after one of the text
@@ -178,23 +214,11 @@ module _ (f : List ℕ → List ℕ) (changes : ChangesDots f) where
           let plain : (a : List ℕ) → next ++ crlf ≢ 46 ∷ a = λ a same.
           let r_is : r ≡ 46 ∷ (a ++ after) = parts.0 ∙ sym (append_assoc next crlf after)
           ∙ ap (λ (x : List ℕ). x ++ after) same in
-          omega (
-            arith,
-            less,
-            first l (a ++ after)
-                (line ∙ ap (λ (x : List ℕ). l ++ 13 ∷ 10 ∷ x) r_is),
-          ) in
-          let long : length front ≡ length l + 2 + length next = ap length parts.1
-          ∙ omega (arith, length-append (l ++ crlf) next, length-append l crlf) in
-          let later = shorter r next after
-          (omega (arith, fits, ap length line, length-append l (13 ∷ 10 ∷ r))) parts.0
-          (λ x y same. omega (
-            arith,
-            long,
-            first ((l ++ crlf) ++ x) y (dot_later t l r x y line same),
-            length-append (l ++ crlf) x,
-            length-append l crlf,
-          )) in
+          no_less (length l) (length front) less
+          (first l (a ++ after) (line ∙ ap (λ (x : List ℕ). l ++ 13 ∷ 10 ∷ x) r_is)) in
+          let later = shorter r next after (fewer_behind n t l r line fits) parts.0
+          (λ x y same. longer_behind l front next x parts.1
+          (first ((l ++ crlf) ++ x) y (dot_later t l r x y line same))) in
           here ∙ ap (λ (x : List ℕ). (f l ++ crlf) ++ x) later
           ∙ sym (append_assoc (f l ++ crlf) (f (next ++ crlf)) (Sent after))
           ∙ ap (λ (x : List ℕ). x ++ Sent after) (joined l (next ++ crlf) plain)
@@ -204,7 +228,7 @@ module _ (f : List ℕ → List ℕ) (changes : ChangesDots f) where
           (λ past.
           let least = (CutsLine-from_first t l r e).shortest front after whole in
           let same = same_front l front (13 ∷ 10 ∷ r) (13 ∷ 10 ∷ after) (sym line ∙ whole)
-          (omega (arith, past, least)) in
+          (equal_both (length l) (length front) past least) in
           let rest : r ≡ after = ap (drop 2) same.1 in
           here ∙ ap (λ (x : List ℕ). x ++ Sent r) (sym (even l))
           ∙ ap (λ (x : List ℕ). f (x ++ crlf) ++ Sent r) same.0
@@ -231,7 +255,7 @@ module _ (f : List ℕ → List ℕ) (changes : ChangesDots f) where
           none l a (line ∙ ap (λ (x : List ℕ). l ++ 13 ∷ 10 ∷ x) same) in
           let split : t ≡ (l ++ crlf) ++ b ∷ r = line ∙ sym (append_assoc l crlf (b ∷ r)) in
           let later = shorter (b ∷ r)
-          (omega (arith, fits, ap length line, length-append l (13 ∷ 10 ∷ b ∷ r))) (omega arith)
+          (fewer_behind n t l (b ∷ r) line fits) (omega arith)
           (λ x y same. none ((l ++ crlf) ++ x) y (dot_later t l (b ∷ r) x y line same))
           (λ x same. unended ((l ++ crlf) ++ x)
           (split ∙ ap (λ (y : List ℕ). (l ++ crlf) ++ y) same

@@ -37,7 +37,7 @@ impl From<AllocError> for CutError {
 }
 
 /// A block of a stream.
-#[derive(Debug, Drop)]
+#[derive(Drop)]
 pub enum Block {
     /// Its text: its lines but the last, unstuffed, each with its CRLF.
     Whole(Vec<u8>),

@@ -1,7 +1,7 @@
 //! What stands at the front of a stream.
 
 /// What stands where a line is wanted.
-#[derive(Clone, Copy, Debug, PartialEq, Eq)]
+#[derive(Clone, Copy)]
 pub enum FoundLine {
     /// A line of so many octets, and its CRLF.
     Whole(usize),
@@ -12,7 +12,7 @@ pub enum FoundLine {
 }
 
 /// What stands where a block is wanted.
-#[derive(Clone, Copy, Debug, PartialEq, Eq)]
+#[derive(Clone, Copy)]
 pub enum FoundBlock {
     /// A block whose text is within the limit. Its lines take `octets` octets as they came, each
     /// with its CRLF, and three more close it; `dots` of the lines begin with a dot, which the text

@@ -8,7 +8,7 @@ use crate::cutter::{Block, CutError, Cutter};
 use std::alloc::{AllocError, Global};
 
 /// What is wanted next of a stream.
-#[derive(Clone, Copy, Debug, PartialEq, Eq)]
+#[derive(Clone, Copy)]
 pub enum Want {
     /// A command line.
     Line,
@@ -17,7 +17,7 @@ pub enum Want {
 }
 
 /// What was cut.
-#[derive(Debug, Drop)]
+#[derive(Drop)]
 pub enum Cut {
     /// A line, without its CRLF.
     Line(Vec<u8>),
