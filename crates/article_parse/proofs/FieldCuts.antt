@@ -1,15 +1,16 @@
 -- A field at the front of a text: its line, its content, and what follows it.
 use Rattle.std.proofs.Common.{◌≡◌, ℕ, zero, suc, ◌+◌, ◌-◌, ◌<◌, ◌≤◌, true, false, List}
 use Rattle.std.proofs.Common.{[], ◌∷◌, ◌++◌, length, take, drop, get_or, sym, ap, subst, ◌∙◌, arith}
-use Rattle.std.proofs.Common.{⊎_elim}
+use Rattle.std.proofs.Common.{⊎_elim, refl, append-nil}
 use Rattle.std.proofs.Common.{take-append-drop, length-drop, append_assoc}
 use Rattle.std.specs.Prelude.{◌&&◌}
-use Rattle.std.specs.List.{list_any, position_or_len}
+use Rattle.std.specs.List.{AllByRecursion, list_any, position_or_len}
 use Rattle.std.specs.Str.{byte}
 use Rattle.std.proofs.lemmas.Bool.{and_parts, cases_lt, both_ways, eqb-true}
 use Rattle.std.proofs.lemmas.List.{drop-drop, drop-take, take-take, get_or-take, drop_more}
-use Rattle.std.specs.Prelude.{flat_map}
-use Rattle.news_terms.specs.Article.{Field, field_text}
+use Rattle.std.proofs.lemmas.List.Concat.{flat_map-append}
+use Rattle.std.specs.Prelude.{flat_map, IsTrue}
+use Rattle.news_terms.specs.Article.{Field, IsField, field_text}
 use Rattle.news_terms.specs.Lines.{crlf}
 use Rattle.news_terms.specs.Article.{begins_field, is_field_name, is_set_off, has_empty_line}
 use Rattle.news_terms.specs.Article.{are_header_lines, header_lines, is_paired}
@@ -191,4 +192,44 @@ header_ends s rest fields at e h line =
       spelled = h.spelled ∙ ap (λ x. front ++ x) behind
           ∙ sym (append_assoc front crlf (drop (at + 2) s));
       each_field = h.each_field;
+    }
+
+-- no fields stand in front of a text
+pub no_fields : (s : List ℕ) → IsTrue (is_paired s) → AreFieldsTo s [] 0
+no_fields s paired = record {
+  within = omega arith;
+  spelled = refl;
+  each_field = tt;
+  paired = paired;
+  empty = refl;
+  good = refl;
+}
+
+each_and_one : (fields : List Field) (field : Field) → AllByRecursion IsField fields → IsField field
+    → AllByRecursion IsField (fields ++ field ∷ [])
+each_and_one [] field each one = (one, tt)
+each_and_one (f ∷ fields) field each one = (each.0, each_and_one fields field each.1 one)
+
+-- a field behind fields is one more of them
+pub one_more_field : (s rest : List ℕ) (fields : List Field) (field : Field) (at octets : ℕ)
+    → rest ≡ drop at s → AreFieldsTo s fields at → IsFieldAt rest field octets
+    → AreFieldsTo s (fields ++ field ∷ []) (at + octets)
+one_more_field s rest fields field at octets e h one =
+    let front = flat_map field_text fields in
+    let left : drop octets rest ≡ drop (at + octets) s = ap (drop octets) e ∙ drop-drop octets at s in
+    let text : flat_map field_text (fields ++ field ∷ []) ≡ front ++ field_text field =
+    flat_map-append field_text fields (field ∷ [])
+    ∙ ap (λ x. front ++ x) (append-nil (field_text field)) in
+    let behind : drop at s ≡ field_text field ++ drop (at + octets) s =
+    sym e ∙ one.spelled ∙ ap (λ x. field_text field ++ x) left in
+    record {
+      within = omega (arith, one.fits, one.some, ap length e, length-drop at s);
+      spelled = h.spelled ∙ ap (λ x. front ++ x) behind
+          ∙ sym (append_assoc front (field_text field) (drop (at + octets) s))
+          ∙ ap (λ x. x ++ drop (at + octets) s) (sym text);
+      each_field = each_and_one fields field h.each_field one.is_field;
+      paired = subst (λ (x : List ℕ). IsTrue (is_paired x)) left one.paired;
+      empty = h.empty ∙ ap has_empty_line (sym e) ∙ one.empty ∙ ap has_empty_line left;
+      good = h.good ∙ ap (λ x. are_header_lines (header_lines x)) (sym e) ∙ one.good
+          ∙ ap (λ x. are_header_lines (header_lines x)) left;
     }

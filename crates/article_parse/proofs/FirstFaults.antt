@@ -18,10 +18,10 @@ use Rattle.news_terms.specs.Article.{StandsRightly, message_id}
 use Rattle.news_terms.specs.Article.{has_nul, is_paired, are_header_lines, header_lines}
 use Rattle.news_terms.proofs.EmptyLines.{has_empty_line-iff}
 use Rattle.news_terms.proofs.ArticleFaults.{laid_out_line, laid_out_header, of_these_fields}
-use Rattle.std.specs.Prelude.{drop}
+use Rattle.std.specs.Prelude.{drop, IsErrAnd, Result, Ok, Err}
 use Rattle.news_terms.specs.Article.{is_empty, trimmed}
 use Rattle.article_parse.specs.Faults.{is_wrong, first_that, field_faults, ErrorGives, IsFaultOf}
-use Rattle.article_parse.specs.Faults.{name_view}
+use Rattle.article_parse.specs.Faults.{name_view, FaultGives}
 use Rattle.article_parse.specs.Reads.{IsHeader}
 use Rattle.article_parse.specs.declared.faults.ArtError.{ArtError}
 use Rattle.article_parse.specs.declared.faults.ArtError.TheVariants as errors
@@ -326,3 +326,17 @@ pub gives_later : (test : Fault → Bool) (xs ys : List Fault) (error : ArtError
     → first_that test xs ≡ None → ErrorGives error (first_that test ys)
     → ErrorGives error (first_that test (xs ++ ys))
 gives_later test xs ys error none g = subst (ErrorGives error) (sym (found_later test xs ys none)) g
+
+-- what is answered of the tests behind those that find none is answered of all
+pub answered_later : {X : Type 0} (r : Result X ArtError) (test : Fault → Bool) (xs ys : List Fault)
+    → first_that test xs ≡ None → FaultGives r (first_that test ys)
+    → FaultGives r (first_that test (xs ++ ys))
+answered_later r test xs ys none g =
+    subst (λ (o : Option Fault). FaultGives r o) (sym (found_later test xs ys none)) g
+
+-- an error that is handed on is still that of the fault
+pub handed_on : {X : Type 0} (r : Result X ArtError) (error : ArtError) (fault : Option Fault)
+    → IsErrAnd r (λ e. e ≡ error) → ErrorGives error fault → FaultGives r fault
+handed_on (Ok x) error fault is g = absurd is
+handed_on (Err e) error fault is g =
+    subst (λ (one : ArtError). ErrorGives one fault) (sym is) g
