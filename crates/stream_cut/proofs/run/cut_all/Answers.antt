@@ -1,6 +1,6 @@
 -- The cutter was fed the pieces so far, joined.
-use Rattle.std.proofs.Common.{◌≡◌, ◌++◌, ◌+◌, ℕ, List, [], ◌∷◌, drop, map, false, Vec, OnOk, Result}
-use Rattle.std.proofs.Common.{Ok, Err, refl, sym, ap, subst, ◌∙◌, append_assoc, append-nil}
+use Rattle.std.proofs.Common.{◌≡◌, ◌++◌, ◌+◌, ◌-◌, ◌<◌, ℕ, arith, length, List, []}
+use Rattle.std.proofs.Common.{◌∷◌, drop, map, false, Vec, OnOk, Result, Ok, Err, refl, sym, ap, subst, ◌∙◌, append_assoc, append-nil}
 use Rattle.std.specs.List.{flat_map}
 use Rattle.std.specs.Result.{is_err}
 use Rattle.std.proofs.lemmas.Bool.{true≢false}
@@ -66,6 +66,32 @@ loop-piece-init c =
           ∙ ap (λ x. map cut_off x ++ cuts_of limit wants all) c.new-cuts.ensures.items;
     }
 
+-- what feeding leaves
+grown : (c : goal.After-cuts-1) → c.feed.new.self ≡ with_memory (with_unread c.loop-piece.cutter
+    (c.loop-piece.cutter.unread ++ c.deref.result.now)) c.feed.new.self.held c.feed.new.self.room
+grown c =
+    on_no_error c.feed.result _ (sym c.is_err.ensures.value ∙ c.if-is_err.false)
+    c.feed.ensures.fed
+
+pub cut_ready-requires : goal.cut_ready-requires
+cut_ready-requires c =
+    let left = drop c.loop-piece.next c.args.wants.now in
+    record {
+      sound = subst (GoesOn left) (sym (grown c)) (goes_on_more left c.loop-piece.cutter _
+          c.feed.new.self.held c.feed.new.self.room c.loop-piece.invariant.sound);
+    }
+
+pub bounds-pieces-piece-index : goal.bounds-pieces-piece-index
+bounds-pieces-piece-index c = c.loop-piece-test.true
+
+-- fewer pieces are left
+fewer : (i n : ℕ) → i < n → n - (i + 1) < n - i
+fewer i n within = omega (arith, within)
+
+pub loop-piece-smaller : goal.loop-piece-smaller
+loop-piece-smaller c =
+    fewer c.loop-piece.piece-index (length c.args.pieces.now) c.loop-piece-test.true
+
 pub loop-piece-preserved : goal.loop-piece-preserved
 loop-piece-preserved c =
     let wants = c.args.wants.now in
@@ -101,8 +127,8 @@ loop-piece-preserved c =
           (drop c.loop-piece.next wants) x) rest ∙ inv.cut;
     }
 
-pub returns-clause-whole : goal.returns-clause-whole
-returns-clause-whole c =
+pub returns-clause-cut : goal.returns-clause-cut
+returns-clause-cut c =
     let wants = c.args.wants.now in
     let limit = c.args.max_block in
     let pieces = c.args.pieces.now in
@@ -112,10 +138,15 @@ returns-clause-whole c =
     drop_all c.loop-piece.piece-index pieces c.loop-piece-test.false in
     let end : unread ++ joined (drop c.loop-piece.piece-index pieces) ≡ unread =
     ap (λ x. unread ++ joined x) none ∙ append-nil unread in
-    let told : map cut_off c.loop-piece.cuts.items ≡ cuts_of limit wants (joined pieces) =
     sym (append-nil (map cut_off c.loop-piece.cuts.items))
     ∙ ap (λ (x : List CutOff). map cut_off c.loop-piece.cuts.items ++ x)
     (sym (ap (λ (x : List ℕ). cuts_of limit (drop c.loop-piece.next wants) x) end ∙ inv.waits))
-    ∙ inv.cut in
+    ∙ inv.cut
+
+pub returns-clause-whole : goal.returns-clause-whole
+returns-clause-whole c =
+    let wants = c.args.wants.now in
+    let limit = c.args.max_block in
+    let pieces = c.args.pieces.now in
     subst (λ (x : List CutOff). (rest : List ℕ) × CutsUp limit wants x (joined pieces) rest)
-    (sym told) (cuts_up limit wants (joined pieces))
+    (sym (returns-clause-cut c)) (cuts_up limit wants (joined pieces))
