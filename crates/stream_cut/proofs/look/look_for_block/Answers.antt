@@ -1,12 +1,80 @@
 -- Whole lines up to one that begins with a dot are passed, up to the lone dot or the last ones.
-use Rattle.std.proofs.Common.{◌≡◌, ◌∷◌, ◌+◌, arith, sym, ap, subst, ◌∙◌, drop, length-drop}
-use Rattle.std.proofs.Common.{List, ℕ}
+use Rattle.std.proofs.Common.{◌≡◌, ◌∷◌, ◌+◌, ◌-◌, ◌<◌, ◌≤◌, arith, sym, ap, subst}
+use Rattle.std.proofs.Common.{◌∙◌, drop, length, length-drop, List, ℕ}
 use Rattle.std.proofs.lemmas.List.{take_rest}
-use Rattle.stream_cut.specs.Dots.{DotsAt, dot_of}
-use Rattle.stream_cut.specs.Look.{ClosesAt, IsPassed, IsUnclosed}
+use Rattle.stream_cut.specs.Dots.{DotsAt, HasNoInnerDot, dot_of}
+use Rattle.stream_cut.specs.Look.{ClosesAt, IsLooked, IsPassed, IsUnclosed}
 use Rattle.stream_cut.proofs.PassLemmas.{dot_closes, dot_of-bound, pass_front, passed-bounds}
+use Rattle.stream_cut.proofs.PassLemmas.{passed-tail}
 use Rattle.stream_cut.proofs.TextLemmas.{dots_within}
 use Rattle.stream_cut.proofs.look.look_for_block.Goals as goal
+
+-- a dot behind others is within the text
+dot_within : (s : List ℕ) (passed end : ℕ) → passed ≤ length s → DotsAt (drop passed s) end
+    → (0 < end) × (passed + end ≤ length s)
+dot_within s passed end fits dots =
+    let within = dots_within (drop passed s) end dots in
+    (within.0, omega (arith, fits, within.1, length-drop passed s))
+
+less_left : (passed end len : ℕ) → (0 < end) × (passed + end ≤ len)
+    → len - (passed + end) < len - passed
+less_left passed end len within = omega (arith, within.0, within.1)
+
+pub loop-left-init : goal.loop-left-init
+loop-left-init c = c.requires
+
+pub inner_dot-requires : goal.inner_dot-requires
+inner_dot-requires c =
+    let s = c.args.octets.now in
+    let p = c.loop-left.progress in
+    subst (λ (x : List ℕ). IsLooked x p.looked)
+    (sym (take_rest s p.passed
+    ∙ passed-tail s p.passed p.looked p.dots c.loop-left.invariant))
+    c.loop-left.invariant.seen
+
+pub pass_last-requires-clause-passed : goal.pass_last-requires-clause-passed
+pass_last-requires-clause-passed c = c.loop-left.invariant
+
+pub pass_last-requires-clause-dots : goal.pass_last-requires-clause-dots
+pass_last-requires-clause-dots c =
+    subst HasNoInnerDot (take_rest c.args.octets.now c.loop-left.progress.passed)
+    c.in_default.ensures
+
+pub pass_last-requires-clause-open : goal.pass_last-requires-clause-open
+pass_last-requires-clause-open c =
+    subst IsUnclosed (take_rest c.args.octets.now c.loop-left.progress.passed)
+    c.loop-left-test.ensures
+
+pub returns-in_default : goal.returns-in_default
+returns-in_default c = c.pass_last.ensures
+
+pub slice_bounds-is_closed-count : goal.slice_bounds-is_closed-count
+slice_bounds-is_closed-count c =
+    let p = c.loop-left.progress in
+    (passed-bounds c.args.octets.now p.passed p.looked p.dots c.loop-left.invariant).0
+
+pub slice_bounds-left-count : goal.slice_bounds-left-count
+slice_bounds-left-count c =
+    let p = c.loop-left.progress in
+    (passed-bounds c.args.octets.now p.passed p.looked p.dots c.loop-left.invariant).0
+
+pub overflow_add-progress : goal.overflow_add-progress
+overflow_add-progress c =
+    let s = c.args.octets.now in
+    let p = c.loop-left.progress in
+    let bounds = passed-bounds s p.passed p.looked p.dots c.loop-left.invariant in
+    let dots : DotsAt (drop p.passed s) c.in-Some.end =
+    subst (λ (x : List ℕ). DotsAt x c.in-Some.end) (take_rest s p.passed) c.in-Some.ensures in
+    omega (arith, (dot_within s p.passed c.in-Some.end bounds.0 dots).1)
+
+pub loop-left-smaller : goal.loop-left-smaller
+loop-left-smaller c =
+    let s = c.args.octets.now in
+    let p = c.loop-left.progress in
+    let bounds = passed-bounds s p.passed p.looked p.dots c.loop-left.invariant in
+    let dots : DotsAt (drop p.passed s) c.in-Some.end =
+    subst (λ (x : List ℕ). DotsAt x c.in-Some.end) (take_rest s p.passed) c.in-Some.ensures in
+    less_left p.passed c.in-Some.end (length s) (dot_within s p.passed c.in-Some.end bounds.0 dots)
 
 pub overflow_add-progress-in-loop-left : goal.overflow_add-progress-in-loop-left
 overflow_add-progress-in-loop-left c =
