@@ -314,6 +314,18 @@ dots_within t k at =
       omega (arith, at.place, long),
     )
 
+-- a dot behind others is within the text
+pub dot_within : (s : List ℕ) (passed end : ℕ) → passed ≤ length s → DotsAt (drop passed s) end
+    → (0 < end) × (passed + end ≤ length s)
+dot_within s passed end fits dots =
+    let within = dots_within (drop passed s) end dots in
+    (within.0, omega (arith, fits, within.1, length-drop passed s))
+
+-- and less is left behind it
+pub less_left : (passed end len : ℕ) → (0 < end) × (passed + end ≤ len)
+    → len - (passed + end) < len - passed
+less_left passed end len within = omega (arith, within.0, within.1)
+
 -- where CRLF and a dot are found first, a line behind the first begins with a dot
 pub dots_found : (t hay : List ℕ) (looked k : ℕ) → IsLooked t looked → hay ≡ drop looked t
     → NoneBefore (OccursAt hay (13 ∷ 10 ∷ 46 ∷ [])) 0 (length hay + 1) k

@@ -1,24 +1,13 @@
 -- Whole lines up to one that begins with a dot are passed, up to the lone dot or the last ones.
-use Rattle.std.proofs.Common.{◌≡◌, ◌∷◌, ◌+◌, ◌-◌, ◌<◌, ◌≤◌, arith, sym, ap, subst}
+use Rattle.std.proofs.Common.{◌≡◌, ◌∷◌, ◌+◌, arith, sym, ap, subst}
 use Rattle.std.proofs.Common.{◌∙◌, drop, length, length-drop, List, ℕ}
 use Rattle.std.proofs.lemmas.List.{take_rest}
 use Rattle.stream_cut.specs.Dots.{DotsAt, HasNoInnerDot, dot_of}
 use Rattle.stream_cut.specs.Look.{ClosesAt, IsLooked, IsPassed, IsUnclosed}
 use Rattle.stream_cut.proofs.PassLemmas.{dot_closes, dot_of-bound, pass_front, passed-bounds}
 use Rattle.stream_cut.proofs.PassLemmas.{passed-tail}
-use Rattle.stream_cut.proofs.TextLemmas.{dots_within}
+use Rattle.stream_cut.proofs.TextLemmas.{dot_within, dots_within, less_left}
 use Rattle.stream_cut.proofs.look.look_for_block.Goals as goal
-
--- a dot behind others is within the text
-dot_within : (s : List ℕ) (passed end : ℕ) → passed ≤ length s → DotsAt (drop passed s) end
-    → (0 < end) × (passed + end ≤ length s)
-dot_within s passed end fits dots =
-    let within = dots_within (drop passed s) end dots in
-    (within.0, omega (arith, fits, within.1, length-drop passed s))
-
-less_left : (passed end len : ℕ) → (0 < end) × (passed + end ≤ len)
-    → len - (passed + end) < len - passed
-less_left passed end len within = omega (arith, within.0, within.1)
 
 pub loop-left-init : goal.loop-left-init
 loop-left-init c = c.requires

@@ -1,10 +1,12 @@
 -- One piece more is told, unstuffed.
 use Rattle.std.proofs.Common.{◌+◌, ◌++◌, arith, refl, sym, ap, subst, ◌∙◌, drop, length-drop, List}
-use Rattle.std.proofs.Common.{ℕ}
+use Rattle.std.proofs.Common.{ℕ, length}
 use Rattle.std.proofs.lemmas.List.{take_rest}
 use Rattle.news_terms.specs.Blocks.{unstuffed_line}
 use Rattle.stream_cut.specs.Dots.{DotsAt, HasNoInnerDot}
-use Rattle.stream_cut.proofs.TextLemmas.{dots_within, sent, sent_more, unstuffed_line-dots}
+use Rattle.stream_cut.proofs.PassLemmas.{IsLooked-none}
+use Rattle.stream_cut.proofs.TextLemmas.{dot_within, dots_within, less_left, sent, sent_more}
+use Rattle.stream_cut.proofs.TextLemmas.{unstuffed_line-dots}
 use Rattle.stream_cut.proofs.TextLemmas.{whole_first, whole_last, whole_more}
 use Rattle.stream_cut.proofs.stuffing.unstuff.Goals as goal
 
@@ -49,3 +51,29 @@ returns c =
     ∙ ap (λ (x : List ℕ). c.loop-end.text.items ++ x)
     (sym (whole_last unstuffed_line unstuffed_line-dots left none c.loop-end.invariant.whole))
     ∙ c.loop-end.invariant.told
+
+pub slice_bounds-inner_dot-count : goal.slice_bounds-inner_dot-count
+slice_bounds-inner_dot-count c = c.loop-end.invariant.within
+
+pub inner_dot-requires : goal.inner_dot-requires
+inner_dot-requires c = IsLooked-none _
+
+pub overflow_add-next : goal.overflow_add-next
+overflow_add-next c =
+    let t = c.args.lines.now in
+    let at = c.loop-end.at in
+    let dots : DotsAt (drop at t) c.in-Some.end =
+    subst (λ (x : List ℕ). DotsAt x c.in-Some.end) (take_rest t at) c.in-Some.ensures in
+    omega (arith, (dot_within t at c.in-Some.end c.loop-end.invariant.within dots).1)
+
+pub loop-end-smaller : goal.loop-end-smaller
+loop-end-smaller c =
+    let t = c.args.lines.now in
+    let at = c.loop-end.at in
+    let dots : DotsAt (drop at t) c.in-Some.end =
+    subst (λ (x : List ℕ). DotsAt x c.in-Some.end) (take_rest t at) c.in-Some.ensures in
+    less_left at c.in-Some.end (length t)
+    (dot_within t at c.in-Some.end c.loop-end.invariant.within dots)
+
+pub slice_bounds-push_unstuffed-count-2 : goal.slice_bounds-push_unstuffed-count-2
+slice_bounds-push_unstuffed-count-2 c = c.loop-end.invariant.within
