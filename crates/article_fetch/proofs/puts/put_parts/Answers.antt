@@ -1,6 +1,6 @@
 -- Each part stands behind those before it.
-use Rattle.std.proofs.Common.{◌≡◌, ◌∙◌, ◌+◌, ◌≤◌, ◌++◌, ◌∷◌, [], ℕ, List, ap, arith, length}
-use Rattle.std.proofs.Common.{append_assoc, length-append, vec_len, vec_capacity}
+use Rattle.std.proofs.Common.{◌≡◌, ◌∙◌, ◌+◌, ◌++◌, ◌∷◌, [], ℕ, List, ap, arith, length}
+use Rattle.std.proofs.Common.{append_assoc, length-append}
 use Rattle.std.specs.Prelude.{decimal}
 use Rattle.news_terms.specs.Article.{tab}
 use Rattle.news_terms.specs.Overview.{line_count}

@@ -1,5 +1,5 @@
 -- Of the octets those are taken that are due, or all where they are fewer.
-use Rattle.std.proofs.Common.{◌≡◌, ◌∙◌, ◌+◌, ◌≤◌, ◌++◌, ℕ, List, ap, sym, refl, arith, length, min}
+use Rattle.std.proofs.Common.{◌≡◌, ◌∙◌, ◌+◌, ◌≤◌, ◌++◌, ℕ, List, ap, sym, arith, length, min}
 use Rattle.std.proofs.Common.{length-take, length-take-le, take, ⊎_elim, vec_len, vec_capacity}
 use Rattle.std.proofs.lemmas.Bool.{cases_lt}
 use Rattle.std.proofs.lemmas.List.{take_all}

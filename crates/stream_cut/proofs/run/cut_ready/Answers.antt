@@ -1,12 +1,12 @@
 -- What is wanted at a place goes on there.
 use Rattle.std.proofs.Common.{◌<◌, ◌≤◌, ◌+◌, ◌++◌, ℕ, List, [], ◌∷◌, length, drop, get_or, map, false}
-use Rattle.std.proofs.Common.{◌≡◌, refl, sym, ap, subst, ◌∙◌, arith, append_assoc, append-nil, Option}
+use Rattle.std.proofs.Common.{◌≡◌, refl, sym, ap, subst, ◌∙◌, append-nil, Option}
 use Rattle.std.proofs.Common.{Some, le_refl}
 use Rattle.std.proofs.lemmas.List.{drop_all, drop_more, map-append}
 use Rattle.std.proofs.lemmas.Result.{IfOk-at_ok}
 use Rattle.stream_cut.specs.Stream.{Stream}
 use Rattle.stream_cut.specs.Cuts.{CutOff, OfTooLong, cut_off, cuts_of, want_and_later}
-use Rattle.stream_cut.specs.Steps.{Advances, CutsNext, Ends, GoesOn, KeepsLine, Waits}
+use Rattle.stream_cut.specs.Steps.{CutsNext, Ends, GoesOn, KeepsLine, Waits}
 use Rattle.stream_cut.specs.declared.run.Cut.{Cut}
 use Rattle.stream_cut.specs.declared.run.Cut.TheVariants as cut
 use Rattle.stream_cut.specs.declared.run.Want.{Want}
