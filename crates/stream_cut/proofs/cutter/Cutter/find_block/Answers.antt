@@ -56,7 +56,7 @@ invariant_of-self-in-Oversize c =
     let i = c.self.inside in
     let p = c.in-Oversize.progress in
     let stands = of_kept (λ g x. StandsOversize i.max_block g x c.in-Oversize.count
-        × IsPassed x p.passed p.looked p.dots)
+    × IsPassed x p.passed p.looked p.dots)
     c.deref.result.now i.octets.items i.start i.max_block i.passing i.gone c.deref.ensures.value
     c.self.invariant.dropped c.in-Oversize.ensures in
     record {
@@ -71,7 +71,7 @@ returns-in-Oversize c =
     let p = c.in-Oversize.progress in
     let n = c.in-Oversize.count in
     let stands = of_kept (λ g x. StandsOversize i.max_block g x n
-        × IsPassed x p.passed p.looked p.dots)
+    × IsPassed x p.passed p.looked p.dots)
     c.deref.result.now i.octets.items i.start i.max_block i.passing i.gone c.deref.ensures.value
     c.self.invariant.dropped c.in-Oversize.ensures in
     record {
