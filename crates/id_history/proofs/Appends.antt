@@ -4,7 +4,6 @@ use Rattle.std.proofs.Common.{length, map, take, append_assoc}
 use Rattle.std.proofs.Math.ListN.{get_or}
 use Rattle.std.proofs.lemmas.List.{append-nil, length-map, map-id, map_push, take_more, take_all}
 use Rattle.std.proofs.lemmas.List.Concat.{flat_map-append}
-use Rattle.std.proofs.Common.{Result, Ok, Err, OnOk}
 use Rattle.std.specs.Int.{Width, to_be_bytes}
 use Rattle.std.specs.List.{AllByRecursion, flat_map}
 
@@ -90,8 +89,3 @@ all_put_so {A = A} octets F out before now number xs i past start so_far =
 pub behind : (was x y : List ℕ) {then now : List ℕ} → then ≡ was ++ x → now ≡ then ++ y
     → now ≡ was ++ (x ++ y)
 behind was x y first next = next ∙ ap (λ (o : List ℕ). o ++ y) first ∙ append_assoc was x y
-
--- what follows where nothing failed
-pub ok_so : {X E P Q : Type 0} (result : Result X E) → (P → Q) → OnOk result P → OnOk result Q
-ok_so (Ok x) so p = so p
-ok_so (Err e) so p = tt

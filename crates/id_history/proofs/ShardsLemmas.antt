@@ -8,7 +8,7 @@ use Rattle.std.proofs.lemmas.Bool.Decides.{eqb_tells}
 use Rattle.std.proofs.lemmas.List.{get_or-set_same, get_or-set_other}
 use Rattle.std.proofs.lemmas.Option.{slice_get-get_or}
 use Rattle.std.proofs.lemmas.Slice.Eq.{bytes_eq-Decides}
-use Rattle.std.specs.Prelude.{slice_get, Option, None, Some, Result, Ok, Err, IfOk, OnOk, OnErr}
+use Rattle.std.specs.Prelude.{slice_get, Option, None, Some, Result, Ok, Err, IfOk}
 use Rattle.std.specs.List.{sum}
 use Rattle.std.specs.Str.{bytes_eq}
 use Rattle.relay_model.specs.Claims.{Claim, Unknown}
@@ -141,16 +141,6 @@ pub if_ok_of_claim : {A E : Type 0} (r : Result A E) (shards : Shards) (one : Sh
     → IfOk r (λ a. OfClaim (Keeps one) id (P a)) → IfOk r (λ a. OfClaim (KeepsAll shards) id (P a))
 if_ok_of_claim (Ok a) shards one k id P own at of = of_claim shards one k id (P a) own at of
 if_ok_of_claim (Err e) shards one k id P own at of = of
-
--- what follows from what an answer says is said by it too
-pub on_ok : {A E P Q : Type 0} (r : Result A E) → (P → Q) → OnOk r P → OnOk r Q
-on_ok (Ok a) step of = step of
-on_ok (Err e) step of = of
-
--- what follows from what an error says is said by it too
-pub on_err : {A E P Q : Type 0} (r : Result A E) → (P → Q) → OnErr r P → OnErr r Q
-on_err (Ok a) step of = of
-on_err (Err e) step of = step of
 
 -- a claim of what the shard has of the id
 claim_by : Option Shard → List ℕ → Claim

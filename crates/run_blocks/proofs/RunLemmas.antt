@@ -2,12 +2,21 @@
 use Rattle.std.proofs.Common.{◌≡◌, ◌∙◌, ◌+◌, ◌*◌, ◌<◌, ◌≤◌, ℕ, zero, suc, List, [], ◌∷◌, ◌++◌}
 use Rattle.std.proofs.Common.{length, take, drop, get_or, refl, sym, ap, subst, arith}
 use Rattle.std.proofs.Common.{add-one}
-use Rattle.std.proofs.lemmas.List.{drop-drop, take-take}
+use Rattle.std.specs.Global.{Vec}
+use Rattle.std.specs.Vec.{with_items}
+use Rattle.std.proofs.lemmas.List.{drop-drop, take-take, with_items_is}
 use Rattle.std.proofs.lemmas.List.Edits.{take-paste}
 use Rattle.std.proofs.Math.Seq.{paste}
 use Rattle.cyc_block.specs.declared.TheConstants.{BLOCK_OCTETS}
 use Rattle.file_blocks.specs.Blocks.{blocks_of, octets_at, ChangesOnlyAt}
 use Rattle.file_blocks.proofs.CutLemmas.{block_there, same_front}
+
+-- octets in place of as many are as many
+pub as_many : (octets : Vec ℕ) (now : List ℕ) (n : ℕ) → length now ≡ octets.len
+    → length octets.items ≡ n → length (with_items octets now).items ≡ n
+as_many octets now n same long =
+    ap (λ (o : List ℕ). length o) (with_items_is octets now same)
+    ∙ (omega (arith, octets.ok, same, long))
 
 -- no blocks are cut off where none are asked for
 pub no_blocks : (n : ℕ) (octets : List ℕ) → n ≡ 0 → blocks_of n octets ≡ []

@@ -1,7 +1,8 @@
 use Rattle.std.proofs.Common.{◌≡◌, ◌≢◌, IsOk, refl}
 use Rattle.relay_model.specs.Claims.{Unknown, offer_answer, after_offer}
 use Rattle.id_history.specs.Answers.{offer_view}
-use Rattle.id_history.proofs.ShardsLemmas.{changes, if_ok_of_claim, keeps_claims, on_ok, on_err}
+use Rattle.std.proofs.lemmas.Result.{on_err_weaker, on_ok_weaker}
+use Rattle.id_history.proofs.ShardsLemmas.{changes, if_ok_of_claim, keeps_claims}
 use Rattle.id_history.proofs.ShardsLemmas.{of_claim}
 use Rattle.id_history.proofs.OwnLemmas.{OwnIds-set, others_by_change, others_kept, either_way}
 use Rattle.id_history.proofs.shards.Shards.offer.Goals as goal
@@ -16,13 +17,13 @@ returns-clause-answer c =
 -- the change is that of the id's own shard
 pub returns-clause-claims : goal.returns-clause-claims
 returns-clause-claims c =
-    on_ok c.offer.result (changes _ _ _ _ _ c.args.id.now (after_offer c.args.session)
+    on_ok_weaker c.offer.result (changes _ _ _ _ _ c.args.id.now (after_offer c.args.session)
     c.shard_of.ensures c.index_mut.ensures.value refl) c.offer.ensures.claims
 
 -- what the id's own shard keeps, they keep
 pub returns-clause-err : goal.returns-clause-err
 returns-clause-err c =
-    on_err c.offer.result (keeps_claims _ _ _ _ _ c.args.id.now c.shard_of.ensures
+    on_err_weaker c.offer.result (keeps_claims _ _ _ _ _ c.args.id.now c.shard_of.ensures
     c.index_mut.ensures.value refl) c.offer.ensures.err
 
 -- an id that is known is so to its own shard

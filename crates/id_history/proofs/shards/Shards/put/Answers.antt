@@ -2,13 +2,14 @@ use Rattle.std.proofs.Common.{refl}
 use Rattle.id_history.specs.Views.{id_view}
 use Rattle.id_history.specs.Lasting.{claim_of_kept}
 use Rattle.id_history.proofs.OwnLemmas.{OwnIds-set, others_by_change, others_kept, either_way}
-use Rattle.id_history.proofs.ShardsLemmas.{changes, on_ok}
+use Rattle.std.proofs.lemmas.Result.{on_ok_weaker}
+use Rattle.id_history.proofs.ShardsLemmas.{changes}
 use Rattle.id_history.proofs.shards.Shards.put.Goals as goal
 
 -- the change is that of the id's own shard
 pub returns : goal.returns
 returns c =
-    on_ok c.put.result (changes _ _ _ _ _ c.args.one.id
+    on_ok_weaker c.put.result (changes _ _ _ _ _ c.args.one.id
     (λ claim. claim_of_kept (id_view c.args.one)) c.shard_of-shard.ensures
     c.index_mut.ensures.value refl) c.put.ensures.claims
 

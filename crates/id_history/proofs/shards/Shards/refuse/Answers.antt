@@ -1,19 +1,21 @@
 use Rattle.std.proofs.Common.{◌≢◌, IsOk, refl}
 use Rattle.relay_model.specs.Claims.{Unknown, after_refuse}
-use Rattle.id_history.proofs.ShardsLemmas.{changes, keeps_claims, on_ok, on_err, of_claim}
+use Rattle.std.proofs.lemmas.Result.{on_err_weaker, on_ok_weaker}
+use Rattle.id_history.proofs.ShardsLemmas.{changes, keeps_claims, of_claim}
 use Rattle.id_history.proofs.OwnLemmas.{OwnIds-set, others_by_change, others_kept, either_way}
 use Rattle.id_history.proofs.shards.Shards.refuse.Goals as goal
 
 -- the change is that of the id's own shard
 pub returns-clause-claims : goal.returns-clause-claims
 returns-clause-claims c =
-    on_ok c.refuse.result (changes _ _ _ _ _ c.args.id.now (after_refuse c.args.session c.args.now)
+    on_ok_weaker c.refuse.result
+    (changes _ _ _ _ _ c.args.id.now (after_refuse c.args.session c.args.now)
     c.shard_of.ensures c.index_mut.ensures.value refl) c.refuse.ensures.claims
 
 -- what the id's own shard keeps, they keep
 pub returns-clause-err : goal.returns-clause-err
 returns-clause-err c =
-    on_err c.refuse.result (keeps_claims _ _ _ _ _ c.args.id.now c.shard_of.ensures
+    on_err_weaker c.refuse.result (keeps_claims _ _ _ _ _ c.args.id.now c.shard_of.ensures
     c.index_mut.ensures.value refl) c.refuse.ensures.err
 
 -- an id that is known is so to its own shard

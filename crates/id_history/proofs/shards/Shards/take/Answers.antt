@@ -1,7 +1,8 @@
 use Rattle.std.proofs.Common.{◌≡◌, ◌≢◌, IsOk, refl}
 use Rattle.relay_model.specs.Claims.{Unknown, take_answer, after_take}
 use Rattle.id_history.specs.Answers.{take_view}
-use Rattle.id_history.proofs.ShardsLemmas.{changes, if_ok_of_claim, keeps_claims, on_ok, on_err}
+use Rattle.std.proofs.lemmas.Result.{on_err_weaker, on_ok_weaker}
+use Rattle.id_history.proofs.ShardsLemmas.{changes, if_ok_of_claim, keeps_claims}
 use Rattle.id_history.proofs.ShardsLemmas.{of_claim}
 use Rattle.id_history.specs.Mark.{no_article}
 use Rattle.id_history.proofs.OwnLemmas.{OwnIds-set, others_by_change, others_kept, either_way}
@@ -17,14 +18,14 @@ returns-clause-answer c =
 -- the change is that of the id's own shard
 pub returns-clause-claims : goal.returns-clause-claims
 returns-clause-claims c =
-    on_ok c.take.result (λ change article. changes _ _ _ _ _ c.args.id.now
+    on_ok_weaker c.take.result (λ change article. changes _ _ _ _ _ c.args.id.now
     (after_take c.args.session article) c.shard_of.ensures c.index_mut.ensures.value refl
     (change article)) c.take.ensures.claims
 
 -- what the id's own shard keeps, they keep
 pub returns-clause-err : goal.returns-clause-err
 returns-clause-err c =
-    on_err c.take.result (keeps_claims _ _ _ _ _ c.args.id.now c.shard_of.ensures
+    on_err_weaker c.take.result (keeps_claims _ _ _ _ _ c.args.id.now c.shard_of.ensures
     c.index_mut.ensures.value refl) c.take.ensures.err
 
 -- an id that is known is so to its own shard

@@ -3,7 +3,7 @@ use Rattle.std.proofs.Common.{◌∙◌, ◌-◌, List, ℕ, drop, ap, arith}
 use Rattle.std.proofs.lemmas.List.{length-drop, with_items_is}
 use Rattle.cyc_block.specs.declared.TheConstants.{BLOCK_OCTETS}
 use Rattle.file_blocks.specs.Blocks.{blocks_of}
-use Rattle.run_blocks.proofs.RunLemmas.{moved_blocks}
+use Rattle.run_blocks.proofs.RunLemmas.{as_many, moved_blocks}
 use Rattle.run_blocks.proofs.run.Run.drop_first.Goals as goal
 
 pub returns-clause-fewer : goal.returns-clause-fewer
@@ -18,3 +18,10 @@ returns-clause-fewer c =
     c.copy_within.ensures.after
     ∙ ap (λ (n : ℕ). drop 1 (blocks_of n all)) (omega (arith, c.requires.some))
     ∙ ap (λ (o : List ℕ). drop 1 (blocks_of run.count o)) c.as_mut_slice-all.ensures.value
+
+pub invariant_of-self : goal.invariant_of-self
+invariant_of-self c = record {
+  room = as_many c.args.self.now.octets c.copy_within.new.self 65536
+      (c.copy_within.ensures.len ∙ c.as_mut_slice-all.ensures.len) c.args.self.now.room;
+  few = omega (arith, c.args.self.now.few);
+}

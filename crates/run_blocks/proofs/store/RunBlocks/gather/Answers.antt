@@ -1,7 +1,7 @@
 -- The block is taken where there is room, and then all is written that is to be.
 use Rattle.std.proofs.Common.{◌∙◌, List, ℕ, get_or, set, ap, []}
 use Rattle.std.proofs.lemmas.List.{get_or-set_other}
-use Rattle.std.proofs.lemmas.Result.{on_ok_weaker}
+use Rattle.std.proofs.lemmas.Result.{IfOk-from_err, on_ok_weaker}
 use Rattle.run_blocks.specs.Store.{blocks_seen}
 use Rattle.run_blocks.proofs.CallLemmas.{heads_as, honest_as}
 use Rattle.run_blocks.proofs.store.RunBlocks.gather.Goals as goal
@@ -36,4 +36,16 @@ returns-clause-block g c =
           c.settle.ensures.honest
           (honest_as f room taken take.file take.count take.ahead (seen.honest honest));
       count = c.settle.ensures.count ∙ take.count ∙ seen.count;
+    }
+
+pub returns-in_err-make_room-clause-block : goal.returns-in_err-make_room-clause-block
+returns-in_err-make_room-clause-block g c =
+    let seen = c.make_room.ensures.seen in
+    record {
+      written = λ honest. IfOk-from_err c.from_residual.result _ c.from_residual.ensures.0;
+      others = λ honest j other.
+          ap (λ (blocks : List (List ℕ)). get_or blocks j []) (seen.blocks honest);
+      heads = seen.heads;
+      honest = seen.honest;
+      count = seen.count;
     }

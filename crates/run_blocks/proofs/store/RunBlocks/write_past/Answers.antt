@@ -1,6 +1,6 @@
 -- What is set aside gives way first, and then the block is written alone.
 use Rattle.std.proofs.Common.{◌∙◌, ◌-◌, ◌≤◌, ℕ, sym, subst, arith}
-use Rattle.std.proofs.lemmas.Result.{on_ok_weaker}
+use Rattle.std.proofs.lemmas.Result.{IfOk-from_err, on_ok_weaker}
 use Rattle.run_blocks.specs.Run.{Holds}
 use Rattle.run_blocks.specs.Store.{blocks_seen, PassesBy}
 use Rattle.run_blocks.specs.declared.run.Run.{Run}
@@ -57,3 +57,18 @@ returns-in_err-let_go-clause-once g c b block is passes =
     absurd (c.in_err-let_go.ensures.passes
     (subst (λ (i : ℕ). PassesBy c.args.k i c.args.self.now)
     (sym (c.index.ensures b block is)) passes))
+
+pub returns-in_err-let_go-clause-block : goal.returns-in_err-let_go-clause-block
+returns-in_err-let_go-clause-block g c =
+    let left = c.let_go.ensures in
+    record {
+      written = λ honest. IfOk-from_err c.from_residual.result _ c.from_residual.ensures.0;
+      others = left.others;
+      heads = left.heads;
+      honest = left.honest;
+      count = left.count;
+    }
+
+pub write_alone-requires-clause-apart : goal.write_alone-requires-clause-apart
+write_alone-requires-clause-apart g c =
+    c.in_ok-let_go.ensures.written c.args.k (omega arith) (omega arith)

@@ -3,7 +3,7 @@ use Rattle.std.proofs.Common.{◌∙◌, sym, refl}
 use Rattle.std.proofs.lemmas.Bool.{false≢true}
 use Rattle.run_blocks.specs.Run.{blocks_in}
 use Rattle.run_blocks.specs.Store.{blocks_there}
-use Rattle.run_blocks.proofs.CallLemmas.{honest_as, is_within, same_seen}
+use Rattle.run_blocks.proofs.CallLemmas.{asked_as, asked_once, honest_as, is_within, same_seen}
 use Rattle.run_blocks.proofs.SeenLemmas.{copy_read, gathered_seen, there_seen}
 use Rattle.run_blocks.proofs.store.RunBlocksBlockStore.read.Goals as goal
 
@@ -50,3 +50,19 @@ pub returns-clause-count : goal.returns-clause-count
 returns-clause-count g c =
     same_seen g.F.RunFile c.args.self.now c.expect-2.new.self
     (c.expect-2.ensures.count ∙ c.read_there.ensures.seen.count)
+
+pub returns-clause-calls : goal.returns-clause-calls
+returns-clause-calls g c =
+    asked_as _ _ c.expect-2.ensures.asked ∙ c.read_there.ensures.asked
+    ∙ asked_once _ _ _ c.and-self.ensures
+
+pub returns-in_err-read_there-clause-calls : goal.returns-in_err-read_there-clause-calls
+returns-in_err-read_there-clause-calls g c =
+    c.read_there.ensures.asked ∙ asked_once _ _ _ c.and-self.ensures
+
+pub returns-then-holds-clause-calls : goal.returns-then-holds-clause-calls
+returns-then-holds-clause-calls g c = asked_once _ _ _ c.and-self.ensures
+
+pub returns-then-holds-2-clause-calls : goal.returns-then-holds-2-clause-calls
+returns-then-holds-2-clause-calls g c =
+    asked_as _ _ c.expect.ensures.asked ∙ asked_once _ _ _ c.and-self.ensures

@@ -1,7 +1,7 @@
 -- The block is gathered, or written past what is set aside.
-use Rattle.std.proofs.Common.{◌-◌, refl}
+use Rattle.std.proofs.Common.{◌∙◌, ◌-◌, refl}
 use Rattle.std.proofs.lemmas.Result.{on_ok_weaker}
-use Rattle.run_blocks.proofs.CallLemmas.{honest_as, is_within, same_seen}
+use Rattle.run_blocks.proofs.CallLemmas.{asked_once, honest_as, is_within, same_seen}
 use Rattle.run_blocks.proofs.KeptLemmas.{all_written}
 use Rattle.run_blocks.proofs.store.RunBlocksBlockStore.write.Goals as goal
 
@@ -31,3 +31,21 @@ returns-clause-article g c b block is ends =
 pub returns-clause-count : goal.returns-clause-count
 returns-clause-count g c =
     same_seen g.F.RunFile c.args.self.now c.gather.new.self c.gather.ensures.block.count
+
+pub returns-then-self-clause-once : goal.returns-then-self-clause-once
+returns-then-self-clause-once g c aside b block is passes =
+    let asks = c.write_past.ensures.once b block is passes in
+    record { calls = asks.calls; failed = asks.failed; no_failure = asks.no_failure }
+
+pub returns-then-self-clause-rest : goal.returns-then-self-clause-rest
+returns-then-self-clause-rest g c aside =
+    let kept = c.write_past.ensures.aside in
+    record { no_more = kept.no_more; rest = kept.rest; aside = kept.aside }
+
+pub returns-then-self-clause-calls : goal.returns-then-self-clause-calls
+returns-then-self-clause-calls g c =
+    c.write_past.ensures.asked ∙ asked_once _ _ _ c.and-self.ensures
+
+pub returns-clause-calls : goal.returns-clause-calls
+returns-clause-calls g c =
+    c.gather.ensures.asked ∙ asked_once _ _ _ c.and-self.ensures

@@ -7,7 +7,8 @@ use Rattle.run_blocks.specs.File.{octets_in}
 use Rattle.run_blocks.specs.Overlay.{overlaid}
 use Rattle.run_blocks.specs.Run.{blocks_in}
 use Rattle.run_blocks.specs.Store.{IsCopy}
-use Rattle.run_blocks.proofs.CallLemmas.{any_err, block_change, head_within, honest_as, same_seen}
+use Rattle.run_blocks.proofs.CallLemmas.{any_err, asked_once, block_change, head_within, honest_as}
+use Rattle.run_blocks.proofs.CallLemmas.{same_seen}
 use Rattle.run_blocks.proofs.SeenLemmas.{two_seen}
 use Rattle.run_blocks.proofs.store.RunBlocksBlockStore.write_head.Goals as goal
 
@@ -104,3 +105,11 @@ returns-clause-once g c aside =
       no_failure = on_ok_weaker c.write.result (λ is. is ∙ ap (λ file. f.failures file) same)
           c.write.ensures.no_failure;
     }
+
+pub returns-clause-calls : goal.returns-clause-calls
+returns-clause-calls g c =
+    c.clear_way.ensures.asked ∙ asked_once _ _ _ c.and-self.ensures
+
+pub returns-in_err-clear_way-clause-calls : goal.returns-in_err-clear_way-clause-calls
+returns-in_err-clear_way-clause-calls g c =
+    c.clear_way.ensures.asked ∙ asked_once _ _ _ c.and-self.ensures
