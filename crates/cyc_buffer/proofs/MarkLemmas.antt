@@ -1,7 +1,7 @@
 -- Bits of words, and the marks that they are.
 use Rattle.std.proofs.Common.{◌≡◌, ◌≢◌, ◌∙◌, ℕ, zero, suc, ◌+◌, ◌-◌, ◌*◌, ◌/◌, ◌%◌, ◌^◌, ◌<◌, inl}
-use Rattle.std.proofs.Common.{inr, nat_lt, ◌==◌, ◌&&◌, ◌||◌, not, min, max, Bool, true, false, List}
-use Rattle.std.proofs.Common.{get_or, set, length, replicate, refl, sym, ap, arith, cond, bit_and}
+use Rattle.std.proofs.Common.{inr, nat_le, nat_lt, ◌≤◌, ◌==◌, ◌&&◌, ◌||◌, not, min, max, Bool, true, false}
+use Rattle.std.proofs.Common.{List, get_or, set, length, replicate, refl, sym, ap, arith, cond, bit_and}
 use Rattle.std.proofs.Common.{bit_or, w64}
 use Rattle.std.specs.Int.{bit_at, bit_not}
 use Rattle.std.proofs.lemmas.Bool.{cases_lt, cases_eq, lt-ltb, le-ltb, le-leb, lt-leb}
@@ -11,6 +11,7 @@ use Rattle.std.proofs.lemmas.Grind.{same_number_lists}
 use Rattle.std.proofs.lemmas.Nat.Bits.{bit_at_ones, bit_at_ones_above, bit_at_and, bit_at_or}
 use Rattle.std.proofs.lemmas.Nat.Bits.{bit_at_not, bit_at-lt, bit_at-zero}
 use Rattle.std.proofs.Math.ListN.{get_or-eq_default}
+use Rattle.std.proofs.Math.Bool.{and-false}
 use Rattle.std.proofs.Math.Nat.{div-add-mod}
 use Rattle.news_terms.specs.HeadBlocks.{bits_of_block, octet_of, bitmap_block}
 use Rattle.news_terms.specs.Places.{block_size}
@@ -61,7 +62,7 @@ pub among_shifted : (start from to i : ℕ)
     → (nat_lt i (to - start) && not (nat_lt i (from - start))) ≡ is_among from to (start + i)
 among_shifted start from to i = elim (cases_lt i (from - start)) [
   | inl h ↦ rw (lt-ltb i (from - start) h, lt-leb from (start + i) (omega (arith, h)))
-      (both_false (nat_lt i (to - start)))
+      (and-false (nat_lt i (to - start)))
   | inr h ↦ elim (cases_lt i (to - start)) [
     | inl k ↦ rw (
       le-ltb i (from - start) h,
@@ -77,10 +78,6 @@ among_shifted start from to i = elim (cases_lt i (from - start)) [
     ) refl
   ]
 ]
-  where
-    both_false : (b : Bool) → (b && false) ≡ false
-    both_false true = refl
-    both_false false = refl
 
 -- what is set where it is among some, and else as it was
 pub or_among : (o a : Bool) → (o || a) ≡ cond a true o
@@ -139,6 +136,19 @@ marks_of_word words old word value from to b h marks bits j = elim (cases_eq (j 
       ] in
       other_word words word value j n ∙ marks j
       ∙ ap (λ t. cond t (marked_after from to b j (old j)) (old j)) same
+]
+
+-- once the words up to the last block are changed all marks are
+pub all_words : (from to word j : ℕ) (b old : Bool) → to ≤ 64 * word
+    → cond (nat_lt j (64 * word)) (marked_after from to b j old) old
+    ≡ marked_after from to b j old
+all_words from to word j b old h = elim (cases_lt j (64 * word)) [
+  | inl k ↦ ap (λ t. cond t (marked_after from to b j old) old) (lt-ltb j (64 * word) k)
+  | inr k ↦
+      let none : is_among from to j ≡ false =
+      ap (λ t. nat_le from j && t) (le-ltb j to (omega (arith, h, k))) ∙ and-false (nat_le from j) in
+      ap (λ t. cond t (marked_after from to b j old) old) (le-ltb j (64 * word) k)
+      ∙ sym (ap (λ t. cond t b old) none)
 ]
 
 -- words of zeros mark no block

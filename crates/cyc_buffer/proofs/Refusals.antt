@@ -8,7 +8,7 @@ use Rattle.news_terms.specs.Places.{Buffer}
 use Rattle.news_terms.specs.Token.{Token}
 use Rattle.cyc_block.specs.Store.{block_at}
 use Rattle.cyc_block.specs.declared.store.BlockStore.{Ghosts}
-use Rattle.cyc_buffer.specs.Reads.{StaysHeld, IsDamageBy, IsDamagedBy, IsOfToken, IsRead}
+use Rattle.cyc_buffer.specs.Reads.{StaysHeld, IsBlamed, IsDamageBy, IsDamagedBy, IsOfToken, IsRead}
 use Rattle.cyc_buffer.specs.Reads.{IsRefusedBy}
 use Rattle.cyc_buffer.specs.Stopped.{block_under}
 use Rattle.cyc_buffer.specs.declared.answers.StartError.{StartError}
@@ -55,6 +55,15 @@ held_on g old mid new first next = record {
   heads = λ h. next.heads (first.honest h) ∙ first.heads h;
   count = next.count ∙ first.count;
 }
+
+-- whom a refusal blames where nothing failed before
+pub blamed_on : {S : Type 0} (g : Ghosts S) (old mid new : S) (error : StartError)
+    → g.failures mid ≡ g.failures old → IsBlamed g mid new error → IsBlamed g old new error
+blamed_on g old mid new errors.Memory same blamed = blamed ∙ same
+blamed_on g old mid new errors.Device same blamed = omega (arith, same, blamed)
+blamed_on g old mid new errors.NoHead same blamed = blamed ∙ same
+blamed_on g old mid new errors.Unclosed same blamed = blamed ∙ same
+blamed_on g old mid new errors.Damaged same blamed = blamed ∙ same
 
 -- an error that is passed on says what it said
 pub passed_on : {T : Type 0} (says : StartError → Type 0) (error : StartError)

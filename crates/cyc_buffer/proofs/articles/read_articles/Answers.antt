@@ -8,11 +8,12 @@ use Rattle.cyc_token.specs.declared.Token.{Token}
 use Rattle.news_terms.specs.Places.{size_of}
 use Rattle.cyc_token.specs.Token.{token_view}
 use Rattle.cyc_buffer.specs.Marks.{is_marked, marked_after}
-use Rattle.cyc_buffer.specs.Reads.{IsDamageBy, IsMissing, IsNone, IsFound, HasRead, StaysHeld}
+use Rattle.cyc_buffer.specs.Reads.{IsBlamed, IsDamageBy, IsMissing, IsNone, IsFound, HasRead}
+use Rattle.cyc_buffer.specs.Reads.{StaysHeld}
 use Rattle.cyc_buffer.specs.Remembered.{AreWithin, ListsStarts}
 use Rattle.cyc_buffer.specs.Starting.{blocks_in}
 use Rattle.cyc_buffer.specs.declared.marks.Marks.{Marks}
-use Rattle.cyc_buffer.proofs.Refusals.{damage_by, held_on, passed_on, pushed_on}
+use Rattle.cyc_buffer.proofs.Refusals.{blamed_on, damage_by, held_on, passed_on, pushed_on}
 use Rattle.cyc_buffer.proofs.RememberedLemmas.{lists_more, lists_skip, stays_listed, within_more}
 use Rattle.cyc_buffer.proofs.Stretches.{read_skip, read_more}
 use Rattle.cyc_buffer.proofs.articles.read_articles.Goals as goal
@@ -35,6 +36,27 @@ returns-in_err-token-clause-refused g c honest =
           (c.loop-first.invariant.held.blocks honest) none;
     })
     (c.in_err-token.ensures.refused (c.loop-first.invariant.held.honest honest)))
+
+pub returns-in_err-token-clause-held : goal.returns-in_err-token-clause-held
+returns-in_err-token-clause-held g c =
+    held_on g.S.BlockStore c.args.store.now c.loop-first.store c.read_whole.new.store
+    c.loop-first.invariant.held c.in_err-token.ensures.held
+
+pub returns-in_err-token-clause-failed : goal.returns-in_err-token-clause-failed
+returns-in_err-token-clause-failed g c =
+    passed_on (IsBlamed g.S.BlockStore c.args.store.now c.read_whole.new.store)
+    c.in_err-token.field-0.0 _ c.from_residual.ensures
+    (blamed_on g.S.BlockStore c.args.store.now c.loop-first.store c.read_whole.new.store
+    c.in_err-token.field-0.0 c.loop-first.invariant.failures c.in_err-token.ensures.failed)
+
+pub returns-then-is_err-clause-held : goal.returns-then-is_err-clause-held
+returns-then-is_err-clause-held g c =
+    held_on g.S.BlockStore c.args.store.now c.loop-first.store c.read_whole.new.store
+    c.loop-first.invariant.held c.in_ok-token.ensures.held
+
+pub returns-then-is_err-clause-failed : goal.returns-then-is_err-clause-failed
+returns-then-is_err-clause-failed g c =
+    c.in_ok-token.ensures.no_failure ∙ c.loop-first.invariant.failures
 
 pub loop-first-preserved : goal.loop-first-preserved
 loop-first-preserved g c =

@@ -1,14 +1,11 @@
 -- What is wrong in front of the head.
-use Rattle.std.proofs.Common.{◌≡◌, ◌∙◌, List, ℕ, arith, inl, inr, subst}
+use Rattle.std.proofs.Common.{◌∙◌, List, ℕ, arith, inl, inr, subst}
 use Rattle.std.proofs.lemmas.Bool.{cases_lt}
 use Rattle.cyc_block.specs.Heads.{head_view}
 use Rattle.cyc_buffer.specs.Marks.{is_marked}
-use Rattle.cyc_block.specs.declared.store.BlockStore.{Ghosts}
 use Rattle.cyc_buffer.specs.Reads.{HasReadBefore, IsBlamed, IsDamageBy, IsMissing}
 use Rattle.cyc_buffer.specs.Stopped.{IsDamaged}
-use Rattle.cyc_buffer.specs.declared.answers.StartError.{StartError}
-use Rattle.cyc_buffer.specs.declared.answers.StartError.TheVariants as errors
-use Rattle.cyc_buffer.proofs.Refusals.{damage_by, held_on, passed_on}
+use Rattle.cyc_buffer.proofs.Refusals.{blamed_on, damage_by, held_on, passed_on}
 use Rattle.cyc_buffer.proofs.Whole.{damage_before}
 use Rattle.cyc_buffer.proofs.stopped.read_all.Goals as goal
 
@@ -26,15 +23,6 @@ returns-in_err-read_articles-clause-refused g c honest heads bits =
     numbers.cycle numbers.head 0)
     (held.blocks honest) missing))
     (c.in_err-read_articles.ensures.refused (held.honest honest)))
-
--- whom a refusal blames where nothing failed before
-blamed_on : {S : Type 0} (g : Ghosts S) (old mid new : S) (error : StartError)
-    → g.failures mid ≡ g.failures old → IsBlamed g mid new error → IsBlamed g old new error
-blamed_on g old mid new errors.Memory same blamed = blamed ∙ same
-blamed_on g old mid new errors.Device same blamed = omega (arith, same, blamed)
-blamed_on g old mid new errors.NoHead same blamed = blamed ∙ same
-blamed_on g old mid new errors.Unclosed same blamed = blamed ∙ same
-blamed_on g old mid new errors.Damaged same blamed = blamed ∙ same
 
 pub returns-in_err-tokens-clause-refused : goal.returns-in_err-tokens-clause-refused
 returns-in_err-tokens-clause-refused g c honest heads bits =

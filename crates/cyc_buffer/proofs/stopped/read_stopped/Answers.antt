@@ -1,13 +1,14 @@
 -- All of the device was read, or something is wrong with it.
-use Rattle.std.proofs.Common.{◌≡◌, ◌∙◌, length, refl, sym, ap, subst}
+use Rattle.std.proofs.Common.{◌≡◌, ◌∙◌, ℕ, length, refl, sym, ap, subst}
 use Rattle.news_terms.specs.Places.{Buffer}
 use Rattle.cyc_block.specs.Heads.{head_view}
 use Rattle.cyc_buffer.specs.Marks.{is_marked}
 use Rattle.cyc_buffer.specs.Reads.{AreBits, IsBeyond, IsRefusedBy, HasReadAll}
+use Rattle.cyc_buffer.specs.Remembered.{AreWithin, ListsStarts}
 use Rattle.cyc_buffer.specs.BufferState.{numbers_in}
 use Rattle.cyc_buffer.specs.Stopped.{IsDamaged, BitBeyond, has_bit}
 use Rattle.cyc_buffer.specs.declared.marks.Marks.{Marks}
-use Rattle.cyc_buffer.proofs.Refusals.{damage_refuses, passed_on}
+use Rattle.cyc_buffer.proofs.Refusals.{damage_refuses, held_on, passed_on}
 use Rattle.cyc_buffer.proofs.stopped.read_stopped.Goals as goal
 
 pub returns-in_err-read_bitmap-clause-refused : goal.returns-in_err-read_bitmap-clause-refused
@@ -104,3 +105,23 @@ returns-clause-started g c honest =
           (bitmap.held.blocks (closed.held.honest honest) ∙ closed.held.blocks honest)
           (all.read (bitmap.held.honest (closed.held.honest honest)))));
     }
+
+pub returns-clause-listed : goal.returns-clause-listed
+returns-clause-listed g c =
+    let tokens = c.in_ok-tokens.tokens.items in
+    subst (λ (n : ℕ). ListsStarts 0 n (is_marked c.stopped_buffer_state.result.starts.words.items)
+    tokens) c.in_ok-numbers.ensures.blocks
+    (subst (λ (m : Marks). ListsStarts 0 c.in_ok-numbers.numbers.blocks (is_marked m.words.items)
+    tokens) (sym c.stopped_buffer_state.ensures.starts) c.in_ok-tokens.ensures.listed)
+
+pub returns-clause-within : goal.returns-clause-within
+returns-clause-within g c =
+    subst (λ (n : ℕ). AreWithin n c.in_ok-tokens.tokens.items) c.in_ok-numbers.ensures.blocks
+    c.in_ok-tokens.ensures.within
+
+pub returns-clause-held : goal.returns-clause-held
+returns-clause-held g c =
+    held_on g.S.BlockStore c.args.store.now c.read_closed.new.store c.read_all.new.store
+    c.in_ok-numbers.ensures.held
+    (held_on g.S.BlockStore c.read_closed.new.store c.read_bitmap.new.store c.read_all.new.store
+    c.in_ok-read_bitmap.ensures.held c.in_ok-tokens.ensures.held)

@@ -2,6 +2,7 @@
 use Rattle.std.proofs.Common.{refl, sym, subst}
 use Rattle.cyc_buffer.specs.BufferState.{Keeps}
 use Rattle.cyc_buffer.specs.declared.buffer_state.BufferState.{BufferState}
+use Rattle.cyc_buffer.proofs.StopLemmas.{still_agrees}
 use Rattle.cyc_buffer.proofs.buffer.Buffer.restart.Goals as goal
 
 pub returns-in-Err-read_back-clause-cause : goal.returns-in-Err-read_back-clause-cause
@@ -16,3 +17,23 @@ returns-clause-tokens g c h agrees =
     c.in-Ok.ensures.tokens (c.in_default.ensures.rest.store.honest (agrees.honest refl)) c.args.stop
     h
     (c.in_default.ensures.held h agrees)
+
+-- neither a stop that is read back nor a head block that is written changes what it agrees with
+pub returns-in-Err-read_back-clause-same : goal.returns-in-Err-read_back-clause-same
+returns-in-Err-read_back-clause-same g c trusted h agrees =
+    still_agrees c.write_heads.new.self c.read_back.new.self c.read_back.ensures.rest trusted h
+    (c.write_heads.ensures.same trusted h agrees)
+
+pub returns-in-Err-write_head-clause-same : goal.returns-in-Err-write_head-clause-same
+returns-in-Err-write_head-clause-same g c trusted h agrees =
+    still_agrees c.read_back.new.self c.write_head.new.self c.write_head.ensures.rest trusted h
+    (still_agrees c.write_heads.new.self c.read_back.new.self c.read_back.ensures.rest trusted h
+    (c.write_heads.ensures.same trusted h agrees))
+
+pub returns-clause-same : goal.returns-clause-same
+returns-clause-same g c trusted h agrees =
+    let left = still_agrees c.read_back.new.self c.write_head.new.self c.write_head.ensures.rest
+    trusted h
+    (still_agrees c.write_heads.new.self c.read_back.new.self c.read_back.ensures.rest trusted h
+    (c.write_heads.ensures.same trusted h agrees)) in
+    record { keeps = left.keeps; honest = left.honest; holds = left.holds }

@@ -2,7 +2,7 @@ use Rattle.std.proofs.Common.{◌∙◌, ◌<◌, ◌+◌, ◌*◌, ◌==◌, Bo
 use Rattle.std.specs.Int.{bit_at}
 use Rattle.std.proofs.lemmas.List.{length-set, get_or_default}
 use Rattle.cyc_buffer.specs.Marks.{is_marked, is_among}
-use Rattle.cyc_buffer.proofs.MarkLemmas.{marks_of_word}
+use Rattle.cyc_buffer.proofs.MarkLemmas.{all_words, marks_of_word}
 use Rattle.cyc_buffer.proofs.marks.Marks.change.Goals as goal
 
 pub loop-word-preserved : goal.loop-word-preserved
@@ -29,3 +29,10 @@ loop-word-preserved c =
       length = length-set c.loop-word.self.words.items c.loop-word.word c.change_bits.result
           ∙ c.loop-word.invariant.length;
     }
+
+pub returns-clause-changed : goal.returns-clause-changed
+returns-clause-changed c j =
+    c.loop-word.invariant.marks j
+    ∙ all_words c.args.from c.args.to c.loop-word.word j c.args.value
+    (is_marked c.args.self.now.words.items j)
+    (omega (arith, c.loop-word-test.false, c.div_ceil-word-end.ensures))

@@ -1,5 +1,5 @@
-use Rattle.std.proofs.Common.{◌∙◌, ℕ, List, arith, ap, length}
-use Rattle.std.proofs.lemmas.List.{length-replicate}
+use Rattle.std.proofs.Common.{◌∙◌, ◌++◌, ◌∷◌, [], ℕ, List, arith, ap, length}
+use Rattle.std.proofs.lemmas.List.{length-replicate, replicate_more}
 use Rattle.cyc_buffer.specs.Marks.{is_marked}
 use Rattle.cyc_buffer.proofs.MarkLemmas.{none_marked}
 use Rattle.cyc_buffer.proofs.marks.Marks.new.Goals as goal
@@ -17,3 +17,10 @@ returns-clause-room c =
       ap length c.loop-word.invariant.0,
       length-replicate {A = ℕ} c.loop-word._word 0,
     )
+
+pub loop-word-preserved : goal.loop-word-preserved
+loop-word-preserved c = (
+  c.push_reserved.ensures.items ∙ ap (λ (ws : List ℕ). ws ++ 0 ∷ []) c.loop-word.invariant.0
+      ∙ replicate_more c.loop-word._word 0,
+  c.push_reserved.ensures.capacity ∙ c.loop-word.invariant.1,
+)

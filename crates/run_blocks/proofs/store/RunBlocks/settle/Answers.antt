@@ -23,3 +23,14 @@ returns-in-Err-clause-others g c honest k at =
     (sym c.give_back.ensures.count)
     (at ∙ sym (ap (λ (run : Run). run.first + run.count) c.in-Err.ensures.kept))
     c.give_back.ensures.fewer (c.write_run.ensures.seen.blocks honest))
+
+pub returns-in-Err-clause-written : goal.returns-in-Err-clause-written
+returns-in-Err-clause-written g c honest = tt
+
+pub returns-in-Err-clause-last : goal.returns-in-Err-clause-last
+returns-in-Err-clause-last g c b block is ends = tt
+
+pub returns-in-Err-clause-file : goal.returns-in-Err-clause-file
+returns-in-Err-clause-file g c =
+    let asks = c.in-Err.ensures.file in
+    record { calls = asks.calls; failed = asks.failed; no_failure = asks.no_failure }
