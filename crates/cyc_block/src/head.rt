@@ -6,6 +6,7 @@ ghost use Rattle.news_terms.specs.HeadBlocks.{head_image as image_of, state_octe
 ghost use Rattle.cyc_block.specs.Heads.{head_view, state_view};
 
 use crate::BLOCK_OCTETS;
+use crate::numbers::{number32, number64};
 
 /// The blocks that one block of a bitmap has bits of.
 const BITS_OF_BLOCK: u32 = 4096;
@@ -124,19 +125,13 @@ fn read_numbers(image: &[u8; BLOCK_OCTETS]) -> HeadNumbers
     HeadNumbers {
         state: read_state(image[4]),
         number: image[5],
-        blocks: u32::from_be_bytes([image[8], image[9], image[10], image[11]]),
-        first_cycle: u32::from_be_bytes([image[12], image[13], image[14], image[15]]),
-        cycle: u32::from_be_bytes([image[16], image[17], image[18], image[19]]),
-        head: u32::from_be_bytes([image[20], image[21], image[22], image[23]]),
-        stop: u64::from_be_bytes([
-            image[24], image[25], image[26], image[27], image[28], image[29], image[30], image[31],
-        ]),
-        begun: u64::from_be_bytes([
-            image[32], image[33], image[34], image[35], image[36], image[37], image[38], image[39],
-        ]),
-        stored: u64::from_be_bytes([
-            image[40], image[41], image[42], image[43], image[44], image[45], image[46], image[47],
-        ]),
+        blocks: number32(image, 8),
+        first_cycle: number32(image, 12),
+        cycle: number32(image, 16),
+        head: number32(image, 20),
+        stop: number64(image, 24),
+        begun: number64(image, 32),
+        stored: number64(image, 40),
     }
 }
 

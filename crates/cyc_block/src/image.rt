@@ -4,6 +4,7 @@ ghost use Rattle.news_terms.specs.BlockImage.{Block, IsBlock, block_image as ima
 ghost use Rattle.news_terms.specs.BlockImage.{chunk_size};
 ghost use Rattle.cyc_block.specs.Image.{stamped};
 
+use crate::numbers::number32;
 use crate::{BLOCK_OCTETS, CHUNK_OCTETS};
 
 /// The octets before a block's payload.
@@ -86,10 +87,10 @@ fn read_stamp(image: &[u8; BLOCK_OCTETS]) -> Stamp
     ensures { (b : Block) → IsBlock b → image.now ≡ image_of b → stamped result b.payload ≡ b }
 {
     Stamp {
-        cycle: u32::from_be_bytes([image[4], image[5], image[6], image[7]]),
-        first: u32::from_be_bytes([image[8], image[9], image[10], image[11]]),
-        index: u32::from_be_bytes([image[12], image[13], image[14], image[15]]),
-        article_length: u32::from_be_bytes([image[16], image[17], image[18], image[19]]),
+        cycle: number32(image, 4),
+        first: number32(image, 8),
+        index: number32(image, 12),
+        article_length: number32(image, 16),
         class: image[22],
     }
 }

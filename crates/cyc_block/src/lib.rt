@@ -9,6 +9,7 @@ mod failing;
 mod head;
 mod image;
 mod memory;
+mod numbers;
 mod store;
 mod tally;
 

@@ -226,5 +226,5 @@ fn is_new(before: &[u16], above: u32, feed: u16) -> bool
 fn is_named(feeds: &[u16], feed: u16) -> bool
     ensures { result ≡ list_any (nat_eq feed) feeds.now }
 {
-    feeds.iter().any(|other| feed == *other)
+    feeds.contains(&feed)
 }
