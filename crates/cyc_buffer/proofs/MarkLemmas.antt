@@ -1,8 +1,8 @@
 -- Bits of words, and the marks that they are.
 use Rattle.std.proofs.Common.{◌≡◌, ◌≢◌, ◌∙◌, ℕ, zero, suc, ◌+◌, ◌-◌, ◌*◌, ◌/◌, ◌%◌, ◌^◌, ◌<◌, inl}
-use Rattle.std.proofs.Common.{inr, nat_le, nat_lt, ◌≤◌, ◌==◌, ◌&&◌, ◌||◌, not, min, max, Bool, true, false}
-use Rattle.std.proofs.Common.{List, get_or, set, length, replicate, refl, sym, ap, arith, cond, bit_and}
-use Rattle.std.proofs.Common.{bit_or, w64}
+use Rattle.std.proofs.Common.{inr, nat_le, nat_lt, ◌≤◌, ◌==◌, ◌&&◌, ◌||◌, not, min, max, Bool}
+use Rattle.std.proofs.Common.{true, false, List, get_or, set, length, replicate, refl, sym, ap}
+use Rattle.std.proofs.Common.{arith, cond, bit_and, bit_or, w64}
 use Rattle.std.specs.Int.{bit_at, bit_not}
 use Rattle.std.proofs.lemmas.Bool.{cases_lt, cases_eq, lt-ltb, le-ltb, le-leb, lt-leb}
 use Rattle.std.proofs.lemmas.List.{get_or-set_same, get_or-set_other, get_or-replicate}
@@ -146,7 +146,8 @@ all_words from to word j b old h = elim (cases_lt j (64 * word)) [
   | inl k ↦ ap (λ t. cond t (marked_after from to b j old) old) (lt-ltb j (64 * word) k)
   | inr k ↦
       let none : is_among from to j ≡ false =
-      ap (λ t. nat_le from j && t) (le-ltb j to (omega (arith, h, k))) ∙ and-false (nat_le from j) in
+      ap (λ t. nat_le from j && t) (le-ltb j to (omega (arith, h, k)))
+      ∙ and-false (nat_le from j) in
       ap (λ t. cond t (marked_after from to b j old) old) (le-ltb j (64 * word) k)
       ∙ sym (ap (λ t. cond t b old) none)
 ]

@@ -22,7 +22,7 @@ use cyc_token::Token;
 
 /// Where articles are looked for: in blocks of this buffer, since this cycle, and they end by this
 /// block.
-#[derive(Clone, Copy, Debug)]
+#[derive(Clone, Copy)]
 pub(crate) struct Stretch {
     pub(crate) number: u8,
     pub(crate) cycle: u32,

@@ -84,7 +84,7 @@ pub(crate) struct BufferState {
 }
 
 /// What the register says of a block that is asked for.
-#[derive(Clone, Copy, Debug)]
+#[derive(Clone, Copy)]
 pub(crate) enum Look {
     /// It is the chunk, if its stamp is the token's.
     Block(u32),

@@ -7,7 +7,7 @@ use cyc_block::CHUNK_OCTETS;
 const CHUNK_LENGTH: u32 = CHUNK_OCTETS as u32;
 
 /// Where an article begins in its buffer.
-#[derive(Clone, Copy, Debug)]
+#[derive(Clone, Copy)]
 pub(crate) struct Place {
     pub(crate) cycle: u32,
     pub(crate) first: u32,

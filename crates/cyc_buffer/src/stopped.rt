@@ -22,7 +22,7 @@ use cyc_token::Token;
 use std::alloc::Global;
 
 /// What was read off a store of the buffer that was stopped on it.
-#[derive(Debug, Drop)]
+#[derive(Drop)]
 pub(crate) struct Stopped {
     pub(crate) buffer_state: BufferState,
     pub(crate) stop: u64,

@@ -6,9 +6,9 @@ use Rattle.news_terms.specs.Places.{size_of}
 use Rattle.news_terms.specs.Token as terms
 use Rattle.cyc_block.specs.Store.{block_at}
 use Rattle.cyc_token.specs.Token.{token_view}
-use Rattle.cyc_buffer.specs.Reads.{IsDamageBy, IsNone, IsOfToken}
+use Rattle.cyc_buffer.specs.Reads.{IsBlamed, IsDamageBy, IsNone, IsOfToken}
 use Rattle.cyc_buffer.specs.Stopped.{IsImageUnder, block_under}
-use Rattle.cyc_buffer.proofs.Refusals.{damage_by, same_token, passed_on}
+use Rattle.cyc_buffer.proofs.Refusals.{blamed_on, damage_by, held_on, same_token, passed_on}
 use Rattle.cyc_buffer.proofs.articles.read_article.Goals as goal
 use Rattle.cyc_buffer.proofs.articles.read_article.Goals.{then-size-lt1-via-then-size-lt1}
 use Rattle.cyc_buffer.proofs.articles.read_article.Goals.{then-size-lt1-via-else-size-lt1+then-size-stretch}
@@ -69,3 +69,30 @@ returns-in_err-read_images-clause-refused g c honest =
     (subst (λ (u : terms.Token). (k : ℕ) → k < size_of u.length → IsImageUnder (block_at
     (g.S.BlockStore.blocks c.args.store.now) (u.first + k)) u k) same read.images)))
     (c.in_err-read_images.ensures.refused (held.honest honest)))
+
+pub returns-in_err-read_images-clause-failed : goal.returns-in_err-read_images-clause-failed
+returns-in_err-read_images-clause-failed g c =
+    passed_on (IsBlamed g.S.BlockStore c.args.store.now c.read_images.new.store)
+    c.in_err-read_images.field-0.0 _ c.from_residual-in_err-read_images.ensures
+    (blamed_on g.S.BlockStore c.args.store.now c.read_octets.new.store c.read_images.new.store
+    c.in_err-read_images.field-0.0 c.in_ok-octets.ensures.no_failure
+    c.in_err-read_images.ensures.failed)
+
+pub returns-in_err-read_images-clause-held : goal.returns-in_err-read_images-clause-held
+returns-in_err-read_images-clause-held g c =
+    held_on g.S.BlockStore c.args.store.now c.read_octets.new.store c.read_images.new.store
+    c.in_ok-octets.ensures.held c.in_err-read_images.ensures.held
+
+pub returns-clause-only : goal.returns-clause-only
+returns-clause-only g c honest =
+    subst (λ o. IsOfToken o (token_view c.in-Some.token)) (c.in_ok-octets.ensures.octets honest)
+    c.in-Some.ensures.only
+
+pub returns-clause-held : goal.returns-clause-held
+returns-clause-held g c =
+    held_on g.S.BlockStore c.args.store.now c.read_octets.new.store c.read_images.new.store
+    c.in_ok-octets.ensures.held c.in_ok-read_images.ensures.held
+
+pub returns-clause-no_failure : goal.returns-clause-no_failure
+returns-clause-no_failure g c =
+    c.in_ok-read_images.ensures.no_failure ∙ c.in_ok-octets.ensures.no_failure

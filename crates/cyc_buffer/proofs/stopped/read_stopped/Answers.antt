@@ -3,12 +3,12 @@ use Rattle.std.proofs.Common.{◌≡◌, ◌∙◌, ℕ, length, refl, sym, ap, 
 use Rattle.news_terms.specs.Places.{Buffer}
 use Rattle.cyc_block.specs.Heads.{head_view}
 use Rattle.cyc_buffer.specs.Marks.{is_marked}
-use Rattle.cyc_buffer.specs.Reads.{AreBits, IsBeyond, IsRefusedBy, HasReadAll}
+use Rattle.cyc_buffer.specs.Reads.{AreBits, IsBeyond, IsBlamed, IsRefusedBy, HasReadAll}
 use Rattle.cyc_buffer.specs.Remembered.{AreWithin, ListsStarts}
 use Rattle.cyc_buffer.specs.BufferState.{numbers_in}
 use Rattle.cyc_buffer.specs.Stopped.{IsDamaged, BitBeyond, has_bit}
 use Rattle.cyc_buffer.specs.declared.marks.Marks.{Marks}
-use Rattle.cyc_buffer.proofs.Refusals.{damage_refuses, held_on, passed_on}
+use Rattle.cyc_buffer.proofs.Refusals.{blamed_on, damage_refuses, held_on, passed_on}
 use Rattle.cyc_buffer.proofs.stopped.read_stopped.Goals as goal
 
 pub returns-in_err-read_bitmap-clause-refused : goal.returns-in_err-read_bitmap-clause-refused
@@ -125,3 +125,23 @@ returns-clause-held g c =
     c.in_ok-numbers.ensures.held
     (held_on g.S.BlockStore c.read_closed.new.store c.read_bitmap.new.store c.read_all.new.store
     c.in_ok-read_bitmap.ensures.held c.in_ok-tokens.ensures.held)
+
+pub read_all-requires-clause-sound : goal.read_all-requires-clause-sound
+read_all-requires-clause-sound g c = c.in_ok-numbers.ensures.sound
+
+pub stopped_buffer_state-requires-clause-sound : goal.stopped_buffer_state-requires-clause-sound
+stopped_buffer_state-requires-clause-sound g c = c.in_ok-numbers.ensures.sound
+
+pub returns-in_err-tokens-clause-failed : goal.returns-in_err-tokens-clause-failed
+returns-in_err-tokens-clause-failed g c =
+    passed_on (IsBlamed g.S.BlockStore c.args.store.now c.read_all.new.store)
+    c.in_err-tokens.field-0.0 _ c.from_residual-in_err-tokens.ensures
+    (blamed_on g.S.BlockStore c.args.store.now c.read_bitmap.new.store c.read_all.new.store
+    c.in_err-tokens.field-0.0
+    (c.in_ok-read_bitmap.ensures.no_failure ∙ c.in_ok-numbers.ensures.no_failure)
+    c.in_err-tokens.ensures.failed)
+
+pub returns-clause-no_failure : goal.returns-clause-no_failure
+returns-clause-no_failure g c =
+    c.in_ok-tokens.ensures.no_failure ∙ c.in_ok-read_bitmap.ensures.no_failure
+    ∙ c.in_ok-numbers.ensures.no_failure

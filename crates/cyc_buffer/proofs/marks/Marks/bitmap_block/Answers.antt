@@ -20,8 +20,8 @@ loop-k-preserved c =
     let told = is_told c.args.self.now.words.items c.args.count in
     let from = c.from-from.result * 4096 in
     record {
-      octets = below_more (λ m. get_or (set was c.loop-k.k octet) m 0 ≡ octet_of told (from + 8 * m))
-          c.loop-k.k
+      octets = below_more
+          (λ m. get_or (set was c.loop-k.k octet) m 0 ≡ octet_of told (from + 8 * m)) c.loop-k.k
           (λ m h. get_or-set_other was c.loop-k.k m octet 0 (λ e. omega (arith, h, e))
           ∙ c.loop-k.invariant.octets m h)
           (get_or-set_same was c.loop-k.k octet 0
