@@ -23,7 +23,7 @@ use line_words::{Octets, cut};
 use std::alloc::{AllocError, Global};
 
 /// A buffer: its name, the path of its file, and its size in blocks of 512 octets.
-#[derive(Debug, Drop)]
+#[derive(Drop)]
 pub struct BufferConf {
     pub name: Octets,
     pub file: Octets,
@@ -31,7 +31,7 @@ pub struct BufferConf {
 }
 
 /// The order in which a group fills its buffers.
-#[derive(Clone, Copy, Debug, PartialEq, Eq)]
+#[derive(Clone, Copy, PartialEq, Eq)]
 pub enum Mode {
     /// Article by article, one buffer after the other.
     Interleave,
@@ -40,7 +40,7 @@ pub enum Mode {
 }
 
 /// A group of buffers: its name, the numbers of its buffers in the order of its list, and its mode.
-#[derive(Debug, Drop)]
+#[derive(Drop)]
 pub struct GroupConf {
     pub name: Octets,
     pub buffers: Vec<usize>,

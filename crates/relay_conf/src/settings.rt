@@ -16,7 +16,7 @@ use uwild::Expr;
 
 /// The settings of cycbuff.conf. Buffers and groups are numbered from 0, each in the order of their
 /// lines.
-#[derive(Debug, Drop)]
+#[derive(Drop)]
 pub struct Buffers {
     pub buffers: Vec<BufferConf>,
     pub groups: Vec<GroupConf>,
@@ -28,7 +28,7 @@ pub struct Buffers {
 
 /// An entry of storage.conf: the articles that it takes, their class, and the number of the group
 /// of buffers that they go to. Sizes are in octets, both ends included; no upper limit is `None`.
-#[derive(Debug, Drop)]
+#[derive(Drop)]
 pub struct StorageEntry {
     pub class: u8,
     pub newsgroups: Expr,
@@ -41,7 +41,7 @@ pub struct StorageEntry {
 
 /// The settings of relay.conf. Peers and feeds are numbered from 0, each in the order of their
 /// lines.
-#[derive(Debug, Drop)]
+#[derive(Drop)]
 pub struct Relay {
     /// The relay's own identity.
     pub own: Octets,
@@ -70,7 +70,7 @@ pub struct Relay {
 }
 
 /// The settings of the three files.
-#[derive(Debug, Drop)]
+#[derive(Drop)]
 pub struct Config {
     pub buffers: Buffers,
     pub storage_entries: Vec<StorageEntry>,

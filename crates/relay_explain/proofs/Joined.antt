@@ -5,6 +5,9 @@ use Rattle.std.proofs.Common.{append_assoc, Bor}
 use Rattle.std.proofs.Math.ListN.{get_or}
 use Rattle.std.proofs.lemmas.List.{take_more, map-append}
 use Rattle.std.proofs.lemmas.List.Sums.{fold-append}
+use Rattle.std.proofs.Common.{Result, Ok, Err, OnOk}
+use Rattle.std.specs.Prelude.{if◌then◌else◌}
+use Rattle.std.specs.Result.{is_ok}
 use Rattle.relay_explain.specs.Lines.{joined}
 
 -- A text more stands behind those so far.
@@ -23,3 +26,9 @@ pub put_more : (before so_far one had after more : List ℕ) → had ≡ before 
 put_more before so_far one had after more put step more_is =
     step ∙ ap (λ text. text ++ one) put ∙ append_assoc before so_far one
     ∙ ap (λ text. before ++ text) (sym more_is)
+
+-- What a text has that was extended, where there was memory for it.
+pub extended : {E : Type 0} (r : Result (Unit {0}) E) (now more old : List ℕ)
+    → now ≡ (if is_ok r then more else old) → OnOk r (now ≡ more)
+extended (Ok done) now more old is = is
+extended (Err error) now more old is = tt

@@ -1,9 +1,13 @@
--- The number of the first line that passes, as `position` finds it.
+-- The number of the first line that passes, as `position` finds it, and what `get` finds.
 use Rattle.std.proofs.Common.{◌≡◌, ◌∙◌, ◌≤◌, ◌+◌, ap, sym, refl, arith, ℕ, Bool, true, false}
 use Rattle.std.proofs.Common.{List, [], ◌∷◌, ltb, length, map, Option, None, Some, unwrap_or}
-use Rattle.std.proofs.lemmas.Bool.{ltb-false}
+use Rattle.std.proofs.Common.{IfSome}
+use Rattle.std.proofs.Math.ListN.{get_or}
+use Rattle.std.proofs.lemmas.Bool.{ltb-false, ltb-true}
+use Rattle.std.proofs.lemmas.Option.{slice_get_past, slice_get_read}
 use Rattle.std.specs.Borrow.{Bor}
-use Rattle.std.specs.List.{position_or_len}
+use Rattle.std.specs.List.{position_or_len, slice_get}
+use Rattle.std.specs.Option.{is_some, option_copied}
 use Rattle.line_words.proofs.Cuts.{place_of, position_map}
 use Rattle.relay_explain.specs.Lines.{line_where}
 
@@ -36,3 +40,11 @@ line_found passes lines found at is or =
         let none : found ≡ None = rw t at is in
         let all : at ≡ length lines = rw none at or in
         omega (arith, all, ltb-false _ _ t, within (λ line. passes line.now) lines)
+
+-- What `get` finds is the element of this number, where there is one.
+pub got : {X : Type 0} (xs : List X) (i : ℕ) (found : Option (Bor X))
+    → is_some found ≡ ltb i (length xs) → IfSome found (λ one. one.now ≡ get_or xs i one.now)
+    → option_copied found ≡ slice_get xs i
+got xs i None past one = sym (slice_get_past xs i (ltb-false _ _ (sym past)))
+got xs i (Some x) there one =
+    sym (slice_get_read xs (length xs) i x.now refl (ltb-true _ _ (sym there)) one)

@@ -1,7 +1,11 @@
 //! Where an article goes, by its newsgroups and its size.
-ghost use Rattle.std.specs.Prelude.{◌≡◌, ◌++◌, codes, decimal, map, slice_get, IfOk, OnOk};
+ghost use Rattle.std.specs.Prelude.{◌≡◌, ◌++◌, codes, decimal, map, option_map, slice_get, IfOk};
+ghost use Rattle.std.specs.Prelude.{OnOk};
 ghost use Rattle.std.specs.Option.{option_copied};
 ghost use Rattle.line_words.specs.Parts.{parts};
+ghost use Rattle.news_terms.specs.StorageClass.{chosen_entry};
+ghost use Rattle.relay_conf.specs.Choice.{given};
+ghost use Rattle.relay_conf.specs.Storage.{entry_view};
 ghost use Rattle.relay_explain.specs.Choice as terms;
 
 use crate::groups::group_told;
@@ -22,25 +26,43 @@ pub fn explain_choice(
     ensures { IfOk result (λ text. text.items
         ≡ terms.choice_text config.now newsgroups.now size) }
 {
-    let groups = parts_of(alloc, newsgroups)?;
+    let taken = taken_of(alloc, config, newsgroups, size)?;
     let mut text = Vec::new(alloc);
+    put_article(&mut text, newsgroups, size)?;
+    put_taken(alloc, &mut text, config, taken)?;
+    Ok(text)
+}
+
+/// The class and the group that an article is given of these newsgroups, with commas between them,
+/// and of so many octets; none where it is refused.
+fn taken_of(
+    alloc: Global,
+    config: &Config,
+    newsgroups: &[u8],
+    size: u64,
+) -> Result<Option<(u8, u16)>, AllocError>
+    ensures { IfOk result (λ taken. taken ≡ option_map given (chosen_entry
+        (map entry_view config.now.storage_entries.items) (parts 44 newsgroups.now) size)) }
+{
+    let groups = parts_of(alloc, newsgroups)?;
+    Ok(choose(&config.storage_entries, &groups, size))
+}
+
+/// Puts of which article it is told where it goes.
+fn put_article(text: &mut Vec<u8>, newsgroups: &[u8], size: u64) -> Result<(), AllocError>
+    ensures { OnOk result (text.new.items ≡ text.old.items
+        ++ (newsgroups.now ++ codes ", " ++ decimal size ++ codes " octets: ")) }
+{
     let mut number = Buffer::new();
     put(
-        &mut text,
+        text,
         &[
             newsgroups,
             b", ",
             number.format(size).as_bytes(),
             b" octets: ",
         ],
-    )?;
-    put_taken(
-        alloc,
-        &mut text,
-        config,
-        choose(&config.storage_entries, &groups, size),
-    )?;
-    Ok(text)
+    )
 }
 
 /// The parts of a text between commas.

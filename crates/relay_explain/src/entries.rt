@@ -188,13 +188,15 @@ fn put_shadow_odd(
         None => Ok(()),
         Some(first) => {
             let mut number = Buffer::new();
-            let told = b"the entry takes nothing: all of it is taken by entry ".as_slice();
             put_odd(
                 text,
                 true,
                 STORAGE,
                 line,
-                &[told, number.format(first.number).as_bytes()],
+                &[
+                    b"the entry takes nothing: all of it is taken by entry ",
+                    number.format(first.number).as_bytes(),
+                ],
             )
         }
     }

@@ -1,5 +1,5 @@
 //! What lies where the file of a buffer is to be.
-ghost use Rattle.std.specs.Prelude.{◌≡◌, ◌==◌, ◌++◌, OnOk};
+ghost use Rattle.std.specs.Prelude.{◌≡◌, ◌==◌, ◌++◌, OnOk, Some};
 ghost use Rattle.std.specs.List.{list_all};
 ghost use Rattle.std.specs.Option.{option_copied};
 ghost use Rattle.relay_explain.specs.Found.{found_text, is_inn, is_own, odd_file};
@@ -12,7 +12,7 @@ use std::alloc::AllocError;
 pub(crate) const CYCBUFF: &[u8] = b"cycbuff.conf";
 
 /// What lies where the file of a buffer is to be (docs/FORMATS.md, Blocks on the device).
-#[derive(Clone, Copy, Debug, PartialEq, Eq)]
+#[derive(Clone, Copy, PartialEq, Eq)]
 pub enum Found {
     /// A file that begins as one of this program, with a block or with zeros, or is empty.
     Fit,
@@ -76,28 +76,45 @@ pub(crate) fn put_found(
         ≡ text.old.items ++ found_text line file.now (option_copied found.entry)) }
 {
     match found {
-        None | Some(Found::Fit) => Ok(()),
-        Some(Found::Absent) => {
+        None => Ok(()),
+        Some(found) => put_lying(text, line, file, *found),
+    }
+}
+
+/// Puts what is told of the file of a buffer, which this line names, where this lies there.
+#[tactic(auto, unfolding(crate::specs::Found::found_text))]
+fn put_lying(
+    text: &mut Vec<u8>,
+    line: usize,
+    file: &[u8],
+    found: Found,
+) -> Result<(), AllocError>
+    ensures { OnOk result (text.new.items
+        ≡ text.old.items ++ found_text line file.now (Some found)) }
+{
+    match found {
+        Found::Fit => Ok(()),
+        Found::Absent => {
             let told = b" isn't there: a start makes it".as_slice();
             put_line(text, CYCBUFF, line, &[b"file ", file, told])
         }
-        Some(Found::NoFolder) => {
+        Found::NoFolder => {
             put_odd_file(text, line, file, b" can't be made: its folder isn't there")
         }
-        Some(Found::Inn) => put_odd_file(
+        Found::Inn => put_odd_file(
             text,
             line,
             file,
             b" is a buffer of INN, over whose articles a start writes",
         ),
-        Some(Found::Other) => put_odd_file(
+        Found::Other => put_odd_file(
             text,
             line,
             file,
             b" is no buffer of this program, and a start writes over it",
         ),
-        Some(Found::NotRegular) => put_odd_file(text, line, file, b" is no regular file"),
-        Some(Found::Unseen) => put_odd_file(text, line, file, b" can't be read"),
+        Found::NotRegular => put_odd_file(text, line, file, b" is no regular file"),
+        Found::Unseen => put_odd_file(text, line, file, b" can't be read"),
     }
 }
 

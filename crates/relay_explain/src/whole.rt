@@ -17,7 +17,7 @@ use relay_conf::Config;
 use std::alloc::{AllocError, Global};
 
 /// The texts of the three files of a configuration.
-#[derive(Debug, Drop)]
+#[derive(Drop)]
 pub struct Sources {
     pub cycbuff: Vec<u8>,
     pub storage: Vec<u8>,
@@ -37,11 +37,25 @@ pub fn explain(
         ≡ terms.explained config.now sources.now found.now) }
 {
     let mut text = Vec::new(alloc);
-    put_cycbuff(alloc, &mut text, config, &sources.cycbuff, found)?;
-    put_storage(alloc, &mut text, config, &sources.storage)?;
-    put_relay(alloc, &mut text, config, &sources.relay)?;
-    put_wants(&mut text, config)?;
+    put_all(alloc, &mut text, config, sources, found)?;
     Ok(text)
+}
+
+/// Puts what is told of the three files, and of what the configuration takes of the machine.
+fn put_all(
+    alloc: Global,
+    text: &mut Vec<u8>,
+    config: &Config,
+    sources: &Sources,
+    found: &[Found],
+) -> Result<(), AllocError>
+    ensures { OnOk result (text.new.items ≡ text.old.items
+        ++ terms.explained config.now sources.now found.now) }
+{
+    put_cycbuff(alloc, text, config, &sources.cycbuff, found)?;
+    put_storage(alloc, text, config, &sources.storage)?;
+    put_relay(alloc, text, config, &sources.relay)?;
+    put_wants(text, config)
 }
 
 /// Puts what is told of cycbuff.conf, of which this is the text.

@@ -11,14 +11,32 @@ use std::path::Path;
 /// Asks the relay of a folder, and gives all that it tells, until it lets go: after `stop` that is
 /// when it has ended.
 pub fn ask<N: Net>(net: &N, alloc: Global, folder: &str, word: Word) -> io::Result<Vec<u8>> {
+    let stream = connect(net, alloc, folder)?;
+    tell(&stream, word)?;
+    told_by(alloc, &stream, word)
+}
+
+/// A connection to the relay of a folder.
+fn connect<N: Net>(net: &N, alloc: Global, folder: &str) -> io::Result<UnixStream> {
     let path = Path::new(folder).join(alloc, NAME)?;
-    let mut stream = UnixStream::connect(net, path.as_str())?;
-    stream.write_all(word.line())?;
+    UnixStream::connect(net, path.as_str())
+}
+
+/// Says the word to the relay.
+fn tell(mut stream: &UnixStream, word: Word) -> io::Result<()> {
+    stream.write_all(word.line())
+}
+
+/// All that the relay tells after this word.
+fn told_by(alloc: Global, mut stream: &UnixStream, word: Word) -> io::Result<Vec<u8>> {
     let mut told = Vec::new(alloc);
     match stream.read_to_end(&mut told) {
-        Ok(_) => Ok(told),
-        // It ended before it had heard the word.
-        Err(error) if word == Word::Stop && error.kind() == ErrorKind::ConnectionReset => Ok(told),
-        Err(error) => Err(error),
+        Err(error) if !is_end(&error, word) => Err(error),
+        _ => Ok(told),
     }
+}
+
+/// Whether it ended before it had heard the word.
+fn is_end(error: &io::Error, word: Word) -> bool {
+    word == Word::Stop && error.kind() == ErrorKind::ConnectionReset
 }

@@ -55,17 +55,7 @@ impl<R: Files<File = File>> HistoryPlace for HostHistory<'_, R> {
     ghost honest = { λ history. ⊥ };
 
     fn read(&mut self, alloc: Global) -> io::Result<Option<Vec<u8>>> {
-        // The opening of a pipe would wait for whoever writes it.
-        match metadata(self.rt, self.path.as_str()) {
-            Ok(found) if found.is_file() => {}
-            Ok(_) => return Err(io::Error::from(ErrorKind::InvalidInput)),
-            Err(error) if error.kind() == ErrorKind::NotFound => return Ok(None),
-            Err(error) => return Err(error),
-        }
-        let mut file = File::open(self.rt, self.path.as_str())?;
-        let mut text = Vec::new(alloc);
-        file.read_to_end(&mut text)?;
-        Ok(Some(text))
+        text_at(self.rt, alloc, self.path.as_str())
     }
 
     fn remove(&mut self) -> io::Result<()> {
@@ -96,6 +86,32 @@ impl<R: Files<File = File>> HistoryPlace for HostHistory<'_, R> {
         rename(self.rt, self.beside.as_str(), self.path.as_str())?;
         flush_folder(self.rt, self.folder);
         Ok(())
+    }
+}
+
+/// The text of the file at a path, none where nothing is there.
+fn text_at<R: Files<File = File>>(
+    rt: &R,
+    alloc: Global,
+    path: &str,
+) -> io::Result<Option<Vec<u8>>> {
+    // The opening of a pipe would wait for whoever writes it.
+    if !is_file_at(rt, path)? {
+        return Ok(None);
+    }
+    let mut file = File::open(rt, path)?;
+    let mut text = Vec::new(alloc);
+    file.read_to_end(&mut text)?;
+    Ok(Some(text))
+}
+
+/// Whether a file stands at a path, or nothing does. Anything else is the error.
+fn is_file_at<R: Files>(rt: &R, path: &str) -> io::Result<bool> {
+    match metadata(rt, path) {
+        Ok(found) if found.is_file() => Ok(true),
+        Ok(_) => Err(io::Error::from(ErrorKind::InvalidInput)),
+        Err(error) if error.kind() == ErrorKind::NotFound => Ok(false),
+        Err(error) => Err(error),
     }
 }
 

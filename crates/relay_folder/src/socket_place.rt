@@ -27,7 +27,7 @@ const MODE: u32 = 0o600;
 const ROOM_MODE: u32 = 0o700;
 
 /// Which file it is, whatever its names: the number of its device, and that of its inode there.
-#[derive(Clone, Copy, Debug, PartialEq, Eq)]
+#[derive(Clone, Copy, PartialEq, Eq)]
 pub(crate) struct Identity {
     device: u64,
     inode: u64,

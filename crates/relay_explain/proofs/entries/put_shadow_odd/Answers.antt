@@ -1,0 +1,9 @@
+use Rattle.std.proofs.Common.{◌∙◌}
+use Rattle.relay_explain.specs.Entries.{shadow_odd}
+use Rattle.relay_explain.proofs.entries.put_shadow_odd.Goals as goal
+
+pub returns-in-Some : goal.returns-in-Some
+unfolding shadow_odd
+returns-in-Some c =
+    let number = c.as_bytes.ensures.value ∙ c.format.ensures.text in
+    rw (c.in-Some.is, ← c.first.view_is, ← number) c.put_odd.ensures
