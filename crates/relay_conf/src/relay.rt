@@ -1,9 +1,8 @@
 //! relay.conf: the relay itself, its peers and their feeds (docs/FORMATS.md, Configuration).
-ghost use Rattle.std.specs.Prelude.{◌≡◌, ◌≤◌, ◌∷◌, ◌++◌, [], length, IsTrue, Ok, OnOk, Some};
-ghost use Rattle.std.specs.Option.{option_to_list};
+ghost use Rattle.std.specs.Prelude.{◌≡◌, ◌≤◌, ◌∷◌, ◌++◌, [], length, IsTrue, Ok, OnOk};
 ghost use Rattle.relay_conf.specs.Faults.{ConfGives, LineGives};
 ghost use Rattle.relay_conf.specs.Lines.{lines_of};
-ghost use Rattle.relay_conf.specs.Relay.{RelaySettings, once, peer_fault};
+ghost use Rattle.relay_conf.specs.Relay.{RelaySettings, peer_fault};
 ghost use Rattle.relay_conf.specs.RelayDraft.{RelayStep, ConnectionsStep, FeedStep, Lists, nothing};
 ghost use Rattle.relay_conf.specs.RelayDraft.{draft_view, draft_said, with_peers};
 ghost use Rattle.relay_conf.specs.RelayViews.{relay_view, raw_view, IsNamed, RelayGives};
@@ -158,7 +157,7 @@ impl RelayDraft {
     {
         match said {
             Line::Skipped => Ok(()),
-            Line::Own(own) => set_own(alloc, &mut self.own, own),
+            Line::Own(own) => set_once(&mut self.own, Octets::copied(alloc, own)?),
             Line::MaxArticle(octets) => set_once(&mut self.max_article, octets),
             Line::Cutoff(seconds) => set_once(&mut self.cutoff, seconds),
             Line::Remember(seconds) => set_once(&mut self.remember, seconds),
@@ -241,14 +240,6 @@ impl RelayDraft {
         push_named(alloc, &mut self.named, line, name)?;
         Ok(())
     }
-}
-
-/// Sets the own identity, where it isn't set yet; a second time is Duplicate.
-fn set_own(alloc: Global, slot: &mut Option<Octets>, own: &[u8]) -> Result<(), Refusal>
-    ensures fault { LineGives result (once (option_to_list slot.old)) }
-    ensures set { OnOk result (slot.new ≡ Some own.now) }
-{
-    set_once(slot, Octets::copied(alloc, own)?)
 }
 
 /// Keeps a peer, one of whose connections is served at once.

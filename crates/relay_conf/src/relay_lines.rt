@@ -57,13 +57,13 @@ fn line_of<'a>(word: &[u8], rest: &'a [u8]) -> Result<Line<'a>, Fault>
     if is(word, b"own") {
         own_line(rest)
     } else if is(word, b"maxart") {
-        max_article_line(rest)
+        Ok(Line::MaxArticle(number_line(1, 16_777_216, rest)? as u32))
     } else if is(word, b"cutoff") {
-        cutoff_line(rest)
+        Ok(Line::Cutoff(number_line(0, 4_000_000_000, rest)?))
     } else if is(word, b"remember") {
-        remember_line(rest)
+        Ok(Line::Remember(number_line(0, 4_000_000_000, rest)?))
     } else if is(word, b"patience") {
-        patience_line(rest)
+        Ok(Line::Patience(number_line(1, 86_400, rest)? as u32))
     } else if is(word, b"bind") {
         bind_line(rest)
     } else if is(word, b"peer") {
@@ -86,42 +86,6 @@ fn own_line(rest: &[u8]) -> Result<Line<'_>, Fault>
         Some(identity) if is_identity(identity) => Ok(Line::Own(identity)),
         _ => Err(Fault::Syntax),
     }
-}
-
-/// Reads what follows `maxart`.
-fn max_article_line<'a>(rest: &[u8]) -> Result<Line<'a>, Fault>
-    ensures named { IfOk result IsNamed }
-    ensures says { raw_by result ≡ terms.with_number terms.MaxArticle
-        (terms.number_line 1 16777216 (one_of (words rest.now))) }
-{
-    Ok(Line::MaxArticle(number_line(1, 16_777_216, rest)? as u32))
-}
-
-/// Reads what follows `cutoff`.
-fn cutoff_line<'a>(rest: &[u8]) -> Result<Line<'a>, Fault>
-    ensures named { IfOk result IsNamed }
-    ensures says { raw_by result ≡ terms.with_number terms.Cutoff
-        (terms.number_line 0 4000000000 (one_of (words rest.now))) }
-{
-    Ok(Line::Cutoff(number_line(0, 4_000_000_000, rest)?))
-}
-
-/// Reads what follows `remember`.
-fn remember_line<'a>(rest: &[u8]) -> Result<Line<'a>, Fault>
-    ensures named { IfOk result IsNamed }
-    ensures says { raw_by result ≡ terms.with_number terms.Remember
-        (terms.number_line 0 4000000000 (one_of (words rest.now))) }
-{
-    Ok(Line::Remember(number_line(0, 4_000_000_000, rest)?))
-}
-
-/// Reads what follows `patience`.
-fn patience_line<'a>(rest: &[u8]) -> Result<Line<'a>, Fault>
-    ensures named { IfOk result IsNamed }
-    ensures says { raw_by result ≡ terms.with_number terms.Patience
-        (terms.number_line 1 86400 (one_of (words rest.now))) }
-{
-    Ok(Line::Patience(number_line(1, 86_400, rest)? as u32))
 }
 
 /// Reads the one number of a line, in this range.

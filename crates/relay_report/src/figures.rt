@@ -5,14 +5,14 @@ use id_history::Counts;
 use line_words::Octets;
 
 /// A buffer's name, with its figures.
-#[derive(Drop)]
+#[derive(Debug, Drop)]
 pub struct NamedBuffer {
     pub name: Octets,
     pub figures: BufferFigures,
 }
 
 /// The figures of a feed, in tokens.
-#[derive(Clone, Copy, PartialEq, Eq)]
+#[derive(Clone, Copy, Debug, PartialEq, Eq)]
 pub struct FeedFigures {
     /// How many wait in the feed's ring.
     pub waiting: u64,
@@ -23,14 +23,14 @@ pub struct FeedFigures {
 }
 
 /// The name of a feed's peer, with the feed's figures.
-#[derive(Drop)]
+#[derive(Debug, Drop)]
 pub struct NamedFeed {
     pub peer: Octets,
     pub figures: FeedFigures,
 }
 
 /// The figures of a relay.
-#[derive(Drop)]
+#[derive(Debug, Drop)]
 pub struct Figures {
     /// Of each buffer, in the order of the configuration.
     pub buffers: Vec<NamedBuffer>,

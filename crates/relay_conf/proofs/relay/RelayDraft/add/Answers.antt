@@ -1,4 +1,4 @@
-use Rattle.std.proofs.Common.{refl, List, ℕ, Option}
+use Rattle.std.proofs.Common.{refl, ap, Some, Ok, List, ℕ, Option}
 use Rattle.relay_conf.specs.RelayLines.{Skipped, Own, MaxArticle, Cutoff, Remember, Patience}
 use Rattle.relay_conf.specs.RelayLines.{PeerLine, Bind}
 use Rattle.relay_conf.specs.RelayDraft.{Reading, draft_view, after_line}
@@ -9,13 +9,15 @@ pub returns-in-Skipped-clause-step : goal.returns-in-Skipped-clause-step
 returns-in-Skipped-clause-step c = λ listed.
     rw c.in-Skipped.is (record { line = Skipped; says = refl; none = refl; reading = refl })
 
-pub returns-in-Own-clause-step : goal.returns-in-Own-clause-step
-returns-in-Own-clause-step c = λ listed.
+pub returns-in_ok-copied-in-Own-clause-step : goal.returns-in_ok-copied-in-Own-clause-step
+returns-in_ok-copied-in-Own-clause-step c = λ listed.
+    let own = c.in_ok-copied-in-Own.field-0 in
     rw c.in-Own.is
     (read_by _ _ (after_line c.args.number) _
-    (λ (slot : Option (List ℕ)). draft_view (record c.args.self.now { own = slot })) _ _
-    (Own c.in-Own.own.now) c.set_own.result refl c.set_own.ensures.fault c.set_own.ensures.set
-    refl)
+    (λ (slot : Option (List ℕ)). draft_view (record c.args.self.now { own = slot }))
+    c.set_once.new.slot (Some own) (Own own) c.set_once.result
+    (ap (λ (identity : List ℕ). Ok (Own identity)) c.in_ok-copied-in-Own.ensures)
+    c.set_once.ensures.fault c.set_once.ensures.set refl)
 
 pub returns-in-MaxArticle-clause-step : goal.returns-in-MaxArticle-clause-step
 returns-in-MaxArticle-clause-step c = λ listed.
