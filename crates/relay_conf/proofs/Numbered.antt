@@ -1,8 +1,8 @@
 -- The numbers of the buffers of names, one name after the other.
-use Rattle.std.proofs.Common.{◌≡◌, ℕ, ◌+◌, ◌<◌, take, drop, get_or, Bool, false, List, [], ◌∷◌}
-use Rattle.std.proofs.Common.{◌++◌, length, map, Option, Some, None, refl, ap, ◌∙◌, sym}
+use Rattle.std.proofs.Common.{◌≡◌, ℕ, ◌+◌, ◌<◌, take, drop, get_or, false, List, [], ◌∷◌}
+use Rattle.std.proofs.Common.{◌++◌, length, map, Option, Some, None, ap, ◌∙◌, sym}
 use Rattle.std.proofs.Common.{append_assoc, append-nil}
-use Rattle.std.specs.Prelude.{◌||◌, ◌==◌}
+use Rattle.std.specs.Prelude.{◌==◌}
 use Rattle.std.specs.List.{list_any}
 use Rattle.relay_conf.proofs.FirstFaults.{take_one, drop_one}
 use Rattle.relay_conf.specs.Cycbuff.{Group, is_listed, is_shared}
@@ -11,12 +11,6 @@ use Rattle.relay_conf.specs.Cycbuff.{Group, is_listed, is_shared}
 abbrev pub with_front : List ℕ → Option (List ℕ) → Option (List ℕ)
 with_front front None = None
 with_front front (Some numbers) = Some (front ++ numbers)
-
--- A test of what elements are mapped to.
-pub list_any-map : {X Y : Type 0} (p : Y → Bool) (f : X → Y) (xs : List X)
-    → list_any p (map f xs) ≡ list_any (λ x. p (f x)) xs
-list_any-map p f [] = refl
-list_any-map p f (x ∷ xs) = ap (λ b. p (f x) || b) (list_any-map p f xs)
 
 -- A number that isn't listed already is passed.
 pub shared_step : (groups : List Group) (numbers : List ℕ) (i : ℕ) → i < length numbers

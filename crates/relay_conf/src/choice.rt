@@ -32,8 +32,12 @@ fn first_that_takes<'a>(
         ≡ find (λ m. terms.takes (entry_view m) (map octets_of groups.now) size)
         storage_entries.now }
 {
-    storage_entries.iter().find(|storage_entry| takes_size(storage_entry, size)
-        && takes_groups(storage_entry, groups))
+    for storage_entry in storage_entries {
+        if takes_size(storage_entry, size) && takes_groups(storage_entry, groups) {
+            return Some(storage_entry);
+        }
+    }
+    None
 }
 
 /// Whether the entry takes the size, both ends included.

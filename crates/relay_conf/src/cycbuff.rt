@@ -19,7 +19,7 @@ use crate::drafts::{LineByLine, read_lines};
 use crate::faults::{ConfError, Fault, LineFault, Refusal};
 use crate::lines::lines_of;
 use crate::settings::Buffers;
-use line_words::{Octets, cut};
+use line_words::{Octets, cut, is};
 use std::alloc::{AllocError, Global};
 
 /// A buffer: its name, the path of its file, and its size in blocks of 512 octets.
@@ -165,14 +165,24 @@ fn add_buffer(
 fn has_buffer(buffers: &[BufferConf], name: &[u8]) -> bool
     ensures { result ≡ list_any (bytes_eq name.now) (map (λ buffer. buffer.name) buffers.now) }
 {
-    buffers.iter().any(|buffer| name == buffer.name.as_slice())
+    for buffer in buffers {
+        if is(name, buffer.name.as_slice()) {
+            return true;
+        }
+    }
+    false
 }
 
 /// Whether one of the names is this.
 fn is_among(names: &[Octets], name: &[u8]) -> bool
     ensures { result ≡ list_any (bytes_eq name.now) names.now }
 {
-    names.iter().any(|other| name == other.as_slice())
+    for other in names {
+        if is(name, other.as_slice()) {
+            return true;
+        }
+    }
+    false
 }
 
 /// Adds the name of a group.
@@ -194,9 +204,12 @@ fn add_name(alloc: Global, names: &mut Vec<Octets>, name: &[u8]) -> Result<(), R
 fn place_of(buffers: &[BufferConf], name: &[u8]) -> Option<usize>
     ensures { result ≡ terms.place_of buffers.now name.now }
 {
-    buffers
-        .iter()
-        .position(|buffer| name == buffer.name.as_slice())
+    for (number, buffer) in buffers.iter().enumerate() {
+        if is(name, buffer.name.as_slice()) {
+            return Some(number);
+        }
+    }
+    None
 }
 
 /// Reads the groups of lines that are each without fault, up to the first fault that is looked for
@@ -339,5 +352,10 @@ fn is_shared(groups: &[GroupConf], numbers: &[usize]) -> bool
 fn is_listed(groups: &[GroupConf], number: usize) -> bool
     ensures { result ≡ terms.is_listed (map group_view groups.now) number }
 {
-    groups.iter().any(|group| group.buffers.contains(&number))
+    for group in groups {
+        if group.buffers.contains(&number) {
+            return true;
+        }
+    }
+    false
 }

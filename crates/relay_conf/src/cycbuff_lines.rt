@@ -1,7 +1,7 @@
 //! The lines of cycbuff.conf, each read alone.
 ghost use Rattle.std.specs.Prelude.{◌≡◌};
 ghost use Rattle.std.specs.List.{list_all};
-ghost use Rattle.line_words.specs.Parts.{parts_after};
+ghost use Rattle.line_words.specs.Parts.{parts, parts_after};
 ghost use Rattle.relay_conf.specs.Cycbuff.{members_of};
 ghost use Rattle.relay_conf.specs.Cycbuff as terms;
 ghost use Rattle.relay_conf.specs.Settings.{said_by};
@@ -97,7 +97,22 @@ fn group_moded<'a>(name: &'a [u8], list: &'a [u8], mode: Option<Mode>) -> Result
 fn are_names(list: &[u8]) -> bool
     ensures { result ≡ list_all words.is_name (members_of list.now) }
 {
-    list.is_empty() || list.split(|octet| *octet == b',').all(|name| is_name(name))
+    list.is_empty() || has_names_alone(list)
+}
+
+/// Whether each part between commas is a name.
+fn has_names_alone(list: &[u8]) -> bool
+    ensures { result ≡ list_all words.is_name (parts 44 list.now) }
+{
+    let mut unread = Some(list);
+    while let Some(rest) = unread {
+        let (name, after) = cut(rest, b',');
+        if !is_name(name) {
+            return false;
+        }
+        unread = after;
+    }
+    true
 }
 
 /// The mode that the word is.

@@ -7,6 +7,7 @@ ghost use Rattle.relay_conf.specs.RelayDraft.{named_said, numbered_feed};
 
 use crate::faults::{ConfError, Fault, LineFault};
 use crate::relay::{Feed, NamedFeed, NamedLine, Peer, PeerConnections};
+use line_words::is;
 use std::alloc::{AllocError, Global};
 
 /// Whether each name is that of a peer; else the first that is none, at its line.
@@ -35,10 +36,12 @@ pub(crate) fn is_peer(peers: &[Peer], name: &[u8]) -> bool
 fn place_of_peer(peers: &[Peer], name: &[u8]) -> usize
     ensures { result ≡ terms.peer_number peers.now name.now }
 {
-    peers
-        .iter()
-        .position(|peer| name == peer.name.as_slice())
-        .unwrap_or(peers.len())
+    for (place, peer) in peers.iter().enumerate() {
+        if is(name, peer.name.as_slice()) {
+            return place;
+        }
+    }
+    peers.len()
 }
 
 /// The number of the peer of a name, or how many peers there are.
@@ -107,7 +110,7 @@ fn connections_for(all: &[PeerConnections], name: &[u8]) -> u32
     ensures { result ≡ terms.connections_for all.now name.now }
 {
     for one in all {
-        if name == one.name.as_slice() {
+        if is(name, one.name.as_slice()) {
             return one.connections;
         }
     }

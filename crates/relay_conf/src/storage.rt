@@ -22,6 +22,7 @@ use crate::faults::{ConfError, Fault, LineFault, Refusal};
 use crate::lines::lines_of;
 use crate::settings::{Buffers, StorageEntry};
 use crate::storage_lines::{Line, Place, Sizes, storage_line};
+use line_words::is;
 use std::alloc::Global;
 use std::mem;
 use uwild::Expr;
@@ -147,7 +148,7 @@ impl<'a> StorageDraft<'a> {
         ensures taken { LineGives result None }
     {
         self.place = Place::InEntry;
-        if method != b"cnfs".as_slice() {
+        if !is(method, b"cnfs") {
             self.place = Place::InOther;
             self.note(number);
         }
@@ -252,10 +253,12 @@ fn group_number(buffers: &Buffers, name: &[u8]) -> u16
 fn place_of_group(groups: &[GroupConf], name: &[u8]) -> usize
     ensures { result ≡ terms.group_number (map group_view groups.now) name.now }
 {
-    groups
-        .iter()
-        .position(|group| name == group.name.as_slice())
-        .unwrap_or(groups.len())
+    for (place, group) in groups.iter().enumerate() {
+        if is(name, group.name.as_slice()) {
+            return place;
+        }
+    }
+    groups.len()
 }
 
 /// The entries, or the first fault that is looked for after the last line.

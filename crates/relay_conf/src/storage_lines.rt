@@ -110,8 +110,12 @@ fn inside_line(line: &[u8]) -> Result<Line<'_>, Fault>
 fn key_and_value(line: &[u8]) -> Option<(&[u8], &[u8])>
     ensures { option_map (λ two. (two.0.now, two.1.now)) result ≡ terms.key_and_value line.now }
 {
-    let at = line.iter().position(|octet| *octet == b':')?;
-    Some((&line[..at], &line[at + 1..]))
+    for (at, octet) in line.iter().enumerate() {
+        if *octet == b':' {
+            return Some((&line[..at], &line[at + 1..]));
+        }
+    }
+    None
 }
 
 /// The fault of a line of an entry that has no colon.

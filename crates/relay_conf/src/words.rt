@@ -19,7 +19,12 @@ pub(crate) fn is_name(word: &[u8]) -> bool
 fn has_name_octets(word: &[u8]) -> bool
     ensures { result ≡ list_all terms.is_name_octet word.now }
 {
-    word.iter().all(|octet| is_name_octet(*octet))
+    for octet in word {
+        if !is_name_octet(*octet) {
+            return false;
+        }
+    }
+    true
 }
 
 /// Whether the octet may stand in a name.

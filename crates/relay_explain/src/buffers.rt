@@ -8,9 +8,11 @@ ghost use Rattle.relay_explain.specs.Buffers as terms;
 
 use crate::found::{CYCBUFF, Found, put_found};
 use crate::lines::named_line;
+use crate::rows::first_ones;
 use crate::text::{put, put_line, put_odd, put_shared};
 use cyc_block::head_count;
 use itoa::Buffer;
+use line_words::is;
 use relay_conf::{BufferConf, Config, GroupConf};
 use std::alloc::{AllocError, Global};
 
@@ -187,24 +189,37 @@ fn put_room_odd(
 fn is_in_group(groups: &[GroupConf], number: usize) -> bool
     ensures { result ≡ terms.is_in_group number groups.now }
 {
-    groups.iter().any(|group| has_member(group, number))
+    for group in groups {
+        if has_member(group, number) {
+            return true;
+        }
+    }
+    false
 }
 
 /// Whether this group has the buffer of this number.
 fn has_member(group: &GroupConf, number: usize) -> bool
     ensures { result ≡ list_any (λ i. i == number) group.now.buffers.items }
 {
-    group.buffers.iter().any(|member| *member == number)
+    group.buffers.contains(&number)
 }
 
 /// The name of the first of so many buffers that has this file.
-#[tactic(auto, unfolding(crate::specs::Buffers::first_with))]
 fn first_with<'a>(buffers: &'a [BufferConf], most: usize, file: &[u8]) -> Option<&'a [u8]>
     ensures { option_copied result ≡ terms.first_with file.now (take most buffers.now) }
 {
-    let first = buffers
-        .iter()
-        .take(most)
-        .find(|buffer| buffer.file.as_slice() == file)?;
-    Some(first.name.as_slice())
+    first_of_file(first_ones(buffers, most), file)
+}
+
+/// The name of the first buffer that has this file.
+#[tactic(auto, unfolding(crate::specs::Buffers::first_with))]
+fn first_of_file<'a>(buffers: &'a [BufferConf], file: &[u8]) -> Option<&'a [u8]>
+    ensures { option_copied result ≡ terms.first_with file.now buffers.now }
+{
+    for buffer in buffers {
+        if is(buffer.file.as_slice(), file) {
+            return Some(buffer.name.as_slice());
+        }
+    }
+    None
 }

@@ -206,7 +206,12 @@ fn put_shadow_odd(
 fn shadow_of<'a, 'b>(rows: &'a [Row<'b>], row: &Row<'_>) -> Option<&'a Row<'b>>
     ensures { option_copied result ≡ find (λ first. terms.shadows first row.now) rows.now }
 {
-    rows.iter().find(|first| shadows(first, row))
+    for first in rows {
+        if shadows(first, row) {
+            return Some(first);
+        }
+    }
+    None
 }
 
 /// Whether an entry is tried before the other and takes all that it takes.

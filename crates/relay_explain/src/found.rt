@@ -54,7 +54,12 @@ fn begins_own(front: &[u8]) -> bool
 fn has_zeros_alone(front: &[u8]) -> bool
     ensures { result ≡ list_all (λ c. c == 0) front.now }
 {
-    front.iter().all(|octet| *octet == 0)
+    for octet in front {
+        if *octet != 0 {
+            return false;
+        }
+    }
+    true
 }
 
 /// Whether a file with this front is a buffer of INN.

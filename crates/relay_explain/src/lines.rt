@@ -47,11 +47,12 @@ fn without_last_cr(line: &[u8]) -> &[u8]
 pub(crate) fn named_line(lines: &[&[u8]], key: &[u8], name: &[u8]) -> usize
     ensures { result ≡ terms.named_line key.now name.now (map (λ line. line.now) lines.now) }
 {
-    lines
-        .iter()
-        .position(|line| has_parts(line, key, name))
-        .unwrap_or(lines.len())
-        + 1
+    for (at, line) in lines.iter().enumerate() {
+        if has_parts(line, key, name) {
+            return at + 1;
+        }
+    }
+    lines.len() + 1
 }
 
 /// Whether the first two parts of a line are these.
@@ -72,11 +73,12 @@ fn has_parts(line: &[u8], key: &[u8], name: &[u8]) -> bool
 pub(crate) fn peer_line(lines: &[&[u8]], key: &[u8], name: &[u8]) -> usize
     ensures { result ≡ terms.peer_line key.now name.now (map (λ line. line.now) lines.now) }
 {
-    lines
-        .iter()
-        .position(|line| has_words(line, key, name))
-        .unwrap_or(lines.len())
-        + 1
+    for (at, line) in lines.iter().enumerate() {
+        if has_words(line, key, name) {
+            return at + 1;
+        }
+    }
+    lines.len() + 1
 }
 
 /// Whether the first two words of a line are these.
@@ -96,11 +98,12 @@ fn has_words(line: &[u8], key: &[u8], name: &[u8]) -> bool
 pub(crate) fn key_line(lines: &[&[u8]], key: &[u8]) -> usize
     ensures { result ≡ terms.key_line key.now (map (λ line. line.now) lines.now) }
 {
-    lines
-        .iter()
-        .position(|line| has_word(line, key))
-        .unwrap_or(lines.len())
-        + 1
+    for (at, line) in lines.iter().enumerate() {
+        if has_word(line, key) {
+            return at + 1;
+        }
+    }
+    lines.len() + 1
 }
 
 /// Whether the first word of a line is this.

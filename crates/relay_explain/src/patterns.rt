@@ -80,9 +80,12 @@ fn put_octet(
 fn odd_octet(expression: &[u8]) -> Option<&u8>
     ensures { option_copied result ≡ terms.odd_octet expression.now }
 {
-    expression
-        .iter()
-        .find(|octet| !(is_of_name(**octet) || is_of_patterns(**octet)))
+    for octet in expression {
+        if !(is_of_name(*octet) || is_of_patterns(*octet)) {
+            return Some(octet);
+        }
+    }
+    None
 }
 
 /// Whether a newsgroup's name may have the octet.
@@ -92,14 +95,14 @@ fn is_of_name(octet: u8) -> bool
     (97 <= octet && octet <= 122)
         || (65 <= octet && octet <= 90)
         || (48 <= octet && octet <= 57)
-        || NAME_MARKS.iter().any(|other| *other == octet)
+        || NAME_MARKS.contains(&octet)
 }
 
 /// Whether a pattern may have the octet besides.
 fn is_of_patterns(octet: u8) -> bool
     ensures { result ≡ terms.is_of_patterns octet }
 {
-    PATTERN_MARKS.iter().any(|other| *other == octet)
+    PATTERN_MARKS.contains(&octet)
 }
 
 /// Whether an expression has a pattern that takes what it matches.

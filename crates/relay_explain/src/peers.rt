@@ -6,9 +6,11 @@ ghost use Rattle.relay_explain.specs.Peers as terms;
 ghost use Rattle.relay_explain.specs.Settings.{relay_conf};
 
 use crate::lines::peer_line;
+use crate::rows::first_ones;
 use crate::settings::RELAY;
 use crate::text::{put, put_line, put_odd, put_shared};
 use itoa::Buffer;
+use line_words::is;
 use relay_conf::{Peer, Relay};
 use std::alloc::{AllocError, Global};
 
@@ -145,26 +147,38 @@ fn first_on(peers: &[Peer], most: usize, port: u16) -> Option<&[u8]>
     if port == 0 {
         return None;
     }
-    first_of_port(peers, most, port)
+    first_of_port(first_ones(peers, most), port)
 }
 
-/// The name of the first of so many peers that has this port.
+/// The name of the first peer that has this port.
 #[tactic(auto, unfolding(crate::specs::Peers::first_of_port))]
-fn first_of_port(peers: &[Peer], most: usize, port: u16) -> Option<&[u8]>
-    ensures { option_copied result ≡ terms.first_of_port port (take most peers.now) }
+fn first_of_port(peers: &[Peer], port: u16) -> Option<&[u8]>
+    ensures { option_copied result ≡ terms.first_of_port port peers.now }
 {
-    let first = peers.iter().take(most).find(|other| other.port == port)?;
-    Some(first.name.as_slice())
+    for other in peers {
+        if other.port == port {
+            return Some(other.name.as_slice());
+        }
+    }
+    None
 }
 
 /// The name of the first of so many peers that has this identity.
-#[tactic(auto, unfolding(crate::specs::Peers::first_known_as))]
 fn first_known_as<'a>(peers: &'a [Peer], most: usize, identity: &[u8]) -> Option<&'a [u8]>
     ensures { option_copied result ≡ terms.first_known_as identity.now (take most peers.now) }
 {
-    let first = peers
-        .iter()
-        .take(most)
-        .find(|other| other.identity.as_slice() == identity)?;
-    Some(first.name.as_slice())
+    known_as(first_ones(peers, most), identity)
+}
+
+/// The name of the first peer that has this identity.
+#[tactic(auto, unfolding(crate::specs::Peers::first_known_as))]
+fn known_as<'a>(peers: &'a [Peer], identity: &[u8]) -> Option<&'a [u8]>
+    ensures { option_copied result ≡ terms.first_known_as identity.now peers.now }
+{
+    for other in peers {
+        if is(other.identity.as_slice(), identity) {
+            return Some(other.name.as_slice());
+        }
+    }
+    None
 }

@@ -1,5 +1,5 @@
 //! The entries of storage.conf as its lines say them.
-ghost use Rattle.std.specs.Prelude.{◌≡◌, drop, map, option_map, slice_get, unwrap_or, IfOk};
+ghost use Rattle.std.specs.Prelude.{◌≡◌, drop, map, option_map, slice_get, take, unwrap_or, IfOk};
 ghost use Rattle.std.specs.List.{enumerate_from};
 ghost use Rattle.std.specs.Option.{option_copied};
 ghost use Rattle.relay_conf.specs.StorageLines as conf;
@@ -68,6 +68,13 @@ fn number_at(numbers: &[usize], place: usize) -> usize
     }
 }
 
+/// The first so many, or all where there are fewer.
+pub(crate) fn first_ones<T>(all: &[T], most: usize) -> &[T]
+    ensures { result.now ≡ take most all.now }
+{
+    if most < all.len() { &all[..most] } else { all }
+}
+
 /// What stands behind so many lines.
 fn behind<'a, 'b>(lines: &'b [&'a [u8]], most: usize) -> &'b [&'a [u8]]
     ensures { result.now ≡ drop most lines.now }
@@ -121,6 +128,10 @@ fn newsgroups_on(line: &[u8]) -> Option<&[u8]>
 fn key_and_value(line: &[u8]) -> Option<(&[u8], &[u8])>
     ensures { option_map (λ two. (two.0.now, two.1.now)) result ≡ conf.key_and_value line.now }
 {
-    let at = line.iter().position(|octet| *octet == b':')?;
-    Some((&line[..at], &line[at + 1..]))
+    for (at, octet) in line.iter().enumerate() {
+        if *octet == b':' {
+            return Some((&line[..at], &line[at + 1..]));
+        }
+    }
+    None
 }

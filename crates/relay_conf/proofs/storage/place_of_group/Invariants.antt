@@ -1,0 +1,10 @@
+use Rattle.std.proofs.Common.{◌≡◌, ◌+◌, drop, map}
+use Rattle.relay_conf.specs.Places.{group_view}
+use Rattle.relay_conf.specs.StorageFile.{group_number}
+use Rattle.relay_conf.proofs.storage.place_of_group.Given as goal
+
+-- no group so far has the name
+abbrev pub invariant-loop-place : goal.invariant-loop-place
+invariant-loop-place l =
+    group_number (map group_view l.groups) l.name
+    ≡ l.place + group_number (map group_view (drop l.place l.groups)) l.name
