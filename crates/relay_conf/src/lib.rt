@@ -28,6 +28,8 @@ pub use config::{K1_CYCBUFF, K1_RELAY, K1_STORAGE};
 pub use cycbuff::{BufferConf, GroupConf, Mode, read_cycbuff};
 pub use faults::{ConfError, Fault, LineFault};
 pub use line_words::Octets;
+pub use lines::lines_of;
 pub use relay::{Feed, Peer, read_relay};
 pub use settings::{Buffers, Config, Relay, StorageEntry};
 pub use storage::read_storage;
+pub use storage_lines::key_and_value;

@@ -8,7 +8,7 @@ use line_words::cut;
 use std::alloc::{AllocError, Global};
 
 /// The lines of a text, each ended by LF or CRLF, the last by the end of the text.
-pub(crate) fn lines_of(alloc: Global, text: &[u8]) -> Result<Vec<&[u8]>, AllocError>
+pub fn lines_of(alloc: Global, text: &[u8]) -> Result<Vec<&[u8]>, AllocError>
     ensures { IfOk result (λ lines. map (λ line. line.now) lines.items ≡ terms.lines_of text.now) }
 {
     let mut lines = Vec::new(alloc);

@@ -107,7 +107,7 @@ fn inside_line(line: &[u8]) -> Result<Line<'_>, Fault>
 }
 
 /// The octets before the first colon and those behind it, where there is one.
-fn key_and_value(line: &[u8]) -> Option<(&[u8], &[u8])>
+pub fn key_and_value(line: &[u8]) -> Option<(&[u8], &[u8])>
     ensures { option_map (λ two. (two.0.now, two.1.now)) result ≡ terms.key_and_value line.now }
 {
     for (at, octet) in line.iter().enumerate() {

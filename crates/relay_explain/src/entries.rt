@@ -10,6 +10,7 @@ use crate::patterns::put_pattern_odds;
 use crate::rows::{Row, rows_of};
 use crate::text::{put, put_line, put_odd};
 use itoa::Buffer;
+use line_words::is;
 use relay_conf::{Config, StorageEntry};
 use std::alloc::{AllocError, Global};
 
@@ -247,6 +248,7 @@ fn is_limit_within(limit: Option<u64>, other: Option<u64>) -> bool
 fn covers_newsgroups(row: &Row<'_>, other: &Row<'_>) -> bool
     ensures { result ≡ terms.covers_newsgroups row.now other.now }
 {
-    row.newsgroups == b"*".as_slice()
-        || (row.newsgroups == other.newsgroups && (!row.entry.exactmatch || other.entry.exactmatch))
+    is(row.newsgroups, b"*")
+        || (is(row.newsgroups, other.newsgroups)
+            && (!row.entry.exactmatch || other.entry.exactmatch))
 }

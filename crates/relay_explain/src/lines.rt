@@ -1,47 +1,9 @@
 //! Where the files of a configuration say what they say.
-ghost use Rattle.std.specs.Prelude.{◌≡◌, ◌∷◌, map, IfOk};
-ghost use Rattle.std.specs.Str.Lines.{strip_carriage_return};
-ghost use Rattle.relay_conf.specs.Lines.{lines_after};
-ghost use Rattle.relay_conf.specs.Lines as conf;
+ghost use Rattle.std.specs.Prelude.{◌≡◌, map};
 ghost use Rattle.relay_explain.specs.Lines.{begins, begins_with, parts_in, words_in};
 ghost use Rattle.relay_explain.specs.Lines as terms;
 
-use line_words::{Between, cut, first_word, trim};
-use std::alloc::{AllocError, Global};
-
-/// The lines of a text, each ended by LF or CRLF, the last by the end of the text.
-pub(crate) fn lines_of(alloc: Global, text: &[u8]) -> Result<Vec<&[u8]>, AllocError>
-    ensures { IfOk result (λ lines. map (λ line. line.now) lines.items ≡ conf.lines_of text.now) }
-{
-    let mut lines = Vec::new(alloc);
-    let mut unread = Some(text);
-    while let Some(rest) = unread {
-        let (line, after) = next_line(rest);
-        lines.push(line)?;
-        unread = after;
-    }
-    Ok(lines)
-}
-
-/// The first line of a text, and what is left behind its end.
-fn next_line(text: &[u8]) -> (&[u8], Option<&[u8]>)
-    ensures { conf.lines_of text.now ≡ result.0.now ∷ lines_after result.1 }
-{
-    match cut(text, b'\n') {
-        (line, Some(rest)) => (without_last_cr(line), Some(rest)),
-        (line, None) => (line, None),
-    }
-}
-
-/// A line without the CR at its end.
-fn without_last_cr(line: &[u8]) -> &[u8]
-    ensures { result.now ≡ strip_carriage_return line.now }
-{
-    match line.split_last() {
-        Some((last, front)) if *last == b'\r' => front,
-        _ => line,
-    }
-}
+use line_words::{Between, cut, first_word, is, trim};
 
 /// The line of cycbuff.conf that says a buffer or a group, by its name.
 pub(crate) fn named_line(lines: &[&[u8]], key: &[u8], name: &[u8]) -> usize
@@ -64,7 +26,7 @@ fn has_parts(line: &[u8], key: &[u8], name: &[u8]) -> bool
         None => false,
         Some(rest) => {
             let (second, _) = cut(rest, b':');
-            key == first && name == second
+            is(key, first) && is(name, second)
         }
     }
 }
@@ -90,7 +52,7 @@ fn has_words(line: &[u8], key: &[u8], name: &[u8]) -> bool
     };
     match first_word(rest, Between::Spaces) {
         None => false,
-        Some((second, _)) => key == first && name == second,
+        Some((second, _)) => is(key, first) && is(name, second),
     }
 }
 
@@ -112,7 +74,7 @@ pub(crate) fn has_word(line: &[u8], key: &[u8]) -> bool
 {
     match first_word(trim(line), Between::Spaces) {
         None => false,
-        Some((first, _)) => key == first,
+        Some((first, _)) => is(key, first),
     }
 }
 

@@ -136,7 +136,7 @@ fn put_odds(
 fn is_own(relay: &Relay, peer: &Peer) -> bool
     ensures { result ≡ bytes_eq peer.now.identity relay.now.own }
 {
-    peer.identity.as_slice() == relay.own.as_slice()
+    is(peer.identity.as_slice(), relay.own.as_slice())
 }
 
 /// The name of the first of so many peers that is served on this port.

@@ -1,13 +1,12 @@
 //! The entries of storage.conf as its lines say them.
-ghost use Rattle.std.specs.Prelude.{◌≡◌, drop, map, option_map, slice_get, take, unwrap_or, IfOk};
+ghost use Rattle.std.specs.Prelude.{◌≡◌, drop, map, slice_get, take, unwrap_or, IfOk};
 ghost use Rattle.std.specs.List.{enumerate_from};
 ghost use Rattle.std.specs.Option.{option_copied};
-ghost use Rattle.relay_conf.specs.StorageLines as conf;
 ghost use Rattle.relay_explain.specs.Entries as terms;
 
 use crate::lines::has_word;
-use line_words::trim;
-use relay_conf::StorageEntry;
+use line_words::{is, trim};
+use relay_conf::{StorageEntry, key_and_value};
 use std::alloc::{AllocError, Global};
 use std::marker::Model;
 
@@ -117,21 +116,9 @@ fn newsgroups_on(line: &[u8]) -> Option<&[u8]>
     ensures { option_copied result ≡ terms.newsgroups_on line.now }
 {
     let (key, value) = key_and_value(trim(line))?;
-    if key == b"newsgroups".as_slice() {
+    if is(key, b"newsgroups") {
         Some(trim(value))
     } else {
         None
     }
-}
-
-/// The octets before the first colon and those behind it, where there is one.
-fn key_and_value(line: &[u8]) -> Option<(&[u8], &[u8])>
-    ensures { option_map (λ two. (two.0.now, two.1.now)) result ≡ conf.key_and_value line.now }
-{
-    for (at, octet) in line.iter().enumerate() {
-        if *octet == b':' {
-            return Some((&line[..at], &line[at + 1..]));
-        }
-    }
-    None
 }

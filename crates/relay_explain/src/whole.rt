@@ -9,11 +9,10 @@ use crate::entries::put_entries;
 use crate::feeds::put_feeds;
 use crate::found::Found;
 use crate::groups::put_groups;
-use crate::lines::lines_of;
 use crate::peers::put_peers;
 use crate::settings::put_settings;
 use crate::sums::put_wants;
-use relay_conf::Config;
+use relay_conf::{Config, lines_of};
 use std::alloc::{AllocError, Global};
 
 /// The texts of the three files of a configuration.
