@@ -7,7 +7,7 @@ use std::alloc::Global;
 use std::io;
 
 /// What a relay begins from (docs/PROTOCOL.md, `serve`).
-#[derive(Debug, Drop)]
+#[derive(Drop)]
 pub enum Origin {
     /// From nothing: all its buffers are formatted.
     Formatted,
