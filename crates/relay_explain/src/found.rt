@@ -88,12 +88,7 @@ pub(crate) fn put_found(
 
 /// Puts what is told of the file of a buffer, which this line names, where this lies there.
 #[tactic(auto, unfolding(crate::specs::Found::found_text))]
-fn put_lying(
-    text: &mut Vec<u8>,
-    line: usize,
-    file: &[u8],
-    found: Found,
-) -> Result<(), AllocError>
+fn put_lying(text: &mut Vec<u8>, line: usize, file: &[u8], found: Found) -> Result<(), AllocError>
     ensures { OnOk result (text.new.items
         ≡ text.old.items ++ found_text line file.now (Some found)) }
 {
