@@ -7,7 +7,8 @@ ghost use Rattle.relay_conf.specs.Lines as terms;
 use line_words::cut;
 use std::alloc::{AllocError, Global};
 
-/// The lines of a text, each ended by LF or CRLF, the last by the end of the text.
+/// The lines of a text, each ended by LF or CRLF, the last by the end of the text
+/// (docs/FORMATS.md, Configuration).
 pub fn lines_of(alloc: Global, text: &[u8]) -> Result<Vec<&[u8]>, AllocError>
     ensures { IfOk result (λ lines. map (λ line. line.now) lines.items ≡ terms.lines_of text.now) }
 {

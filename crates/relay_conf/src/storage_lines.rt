@@ -106,7 +106,8 @@ fn inside_line(line: &[u8]) -> Result<Line<'_>, Fault>
     }
 }
 
-/// The octets before the first colon and those behind it, where there is one.
+/// The key of a line of storage.conf and what follows it: the octets before the first colon and
+/// those behind it, where there is one (docs/FORMATS.md, Configuration).
 pub fn key_and_value(line: &[u8]) -> Option<(&[u8], &[u8])>
     ensures { option_map (λ two. (two.0.now, two.1.now)) result ≡ terms.key_and_value line.now }
 {
