@@ -5,7 +5,7 @@ use cyc_block::{BLOCK_OCTETS, CHUNK_OCTETS, Stamp, block_image, read_image};
 use row_text::{Sheet, place_of};
 
 /// Writes the answer of a call.
-pub fn answer(call: &str, cells: &[Vec<u8>], sheet: &mut Sheet) {
+pub fn answer(call: &[u8], cells: &[Vec<u8>], sheet: &mut Sheet) {
     match place_of("image_read image_write", call) {
         Some(0) => put_image(cells, sheet),
         Some(_) => put_image_of(cells, sheet),

@@ -10,7 +10,7 @@ use crate::texts::calls::{Call, call_of, heads_of};
 use row_text::{Sheet, joined};
 
 /// Writes the answer of a call.
-pub fn answer(name: &str, cells: &[Vec<u8>], sheet: &mut Sheet) {
+pub fn answer(name: &[u8], cells: &[Vec<u8>], sheet: &mut Sheet) {
     let Some(call) = call_of(name) else {
         return sheet.refuse();
     };
@@ -28,10 +28,8 @@ fn of_parts(call: Call, heads: usize, cells: &[Vec<u8>], sheet: &mut Sheet) {
     let Some((heads, parts)) = cells.split_at_checked(heads) else {
         return sheet.refuse();
     };
-    match joined(sheet.alloc, parts) {
-        Ok(octets) => articles::of_text(call, heads, &octets, sheet),
-        Err(_) => sheet.lack(),
-    }
+    let octets = joined(parts, sheet);
+    articles::of_text(call, heads, &octets, sheet);
 }
 
 /// Writes the answer of a call of cells.

@@ -1,6 +1,9 @@
 //! Texts that rows name, so that later rows need not write them again.
 
-use std::alloc::{AllocError, Global};
+use crate::lists::add_octets;
+use crate::sheet::Sheet;
+use line_words::is;
+use std::alloc::Global;
 
 /// A text with a name.
 #[derive(Drop)]
@@ -23,60 +26,29 @@ impl Names {
         }
     }
 
-    /// Names the text of these parts, and answers how many octets it has.
-    pub fn name(
-        &mut self,
-        alloc: Global,
-        name: &[u8],
-        parts: &[Vec<u8>],
-    ) -> Result<usize, AllocError> {
-        let name = Vec::from_slice(alloc, name)?;
-        let octets = self.text_of(alloc, parts)?;
-        let count = octets.len();
-        self.list.push(Named { name, octets })?;
-        Ok(count)
-    }
-
-    /// The text of these parts, with the text of each name in place of the name.
-    fn text_of(&self, alloc: Global, parts: &[Vec<u8>]) -> Result<Vec<u8>, AllocError> {
-        let mut octets = Vec::new(alloc);
-        for part in parts {
-            octets.extend_from_slice(self.meaning(part))?;
+    /// Names a text.
+    pub fn name(&mut self, name: Vec<u8>, octets: Vec<u8>, sheet: &mut Sheet) {
+        if self.list.push(Named { name, octets }).is_err() {
+            sheet.lack();
         }
-        Ok(octets)
     }
 
     /// The cells, with the text of each name in place of the name.
-    pub fn meant(&self, alloc: Global, cells: &[Vec<u8>]) -> Result<Vec<Vec<u8>>, AllocError> {
-        let mut meant = Vec::new(alloc);
+    pub fn meant(&self, cells: &[Vec<u8>], sheet: &mut Sheet) -> Vec<Vec<u8>> {
+        let mut meant = Vec::new(sheet.alloc);
         for cell in cells {
-            self.mean(alloc, cell, &mut meant)?;
+            add_octets(&mut meant, self.meaning(cell), sheet);
         }
-        Ok(meant)
-    }
-
-    /// A further cell, with its text in place of its name.
-    fn mean(&self, alloc: Global, cell: &[u8], meant: &mut Vec<Vec<u8>>) -> Result<(), AllocError> {
-        let octets = Vec::from_slice(alloc, self.meaning(cell))?;
-        Ok(meant.push(octets)?)
+        meant
     }
 
     /// The text that the cell names, or the cell itself.
     fn meaning<'a>(&'a self, cell: &'a [u8]) -> &'a [u8] {
         for named in &self.list {
-            if named.name.as_slice() == cell {
+            if is(&named.name, cell) {
                 return &named.octets;
             }
         }
         cell
     }
-}
-
-/// The text of these parts, one after another.
-pub fn joined(alloc: Global, parts: &[Vec<u8>]) -> Result<Vec<u8>, AllocError> {
-    let mut octets = Vec::new(alloc);
-    for part in parts {
-        octets.extend_from_slice(part)?;
-    }
-    Ok(octets)
 }

@@ -1,10 +1,10 @@
 //! Playing the rows of standard input.
 
 use crate::cell::octets_of;
-use line_words::is_skipped;
-use std::alloc::{AllocError, Global};
+use crate::sheet::Sheet;
+use line_words::{cut, is_skipped};
 use std::io;
-use std::io::{BufWriter, ErrorKind, Read, Write};
+use std::io::{ErrorKind, Read, Write};
 use std::process::ExitCode;
 
 /// The status where memory ran out.
@@ -12,15 +12,9 @@ const MEMORY: u8 = 5;
 
 /// What answers the calls of rows.
 pub trait Answers {
-    /// Writes the answer of a row with this call and these cells, or answers `false` where the call
-    /// is not known.
-    fn answer(
-        &mut self,
-        alloc: Global,
-        call: &[u8],
-        cells: &[Vec<u8>],
-        text: &mut Vec<u8>,
-    ) -> Result<bool, AllocError>;
+    /// Writes the answer of a row with this call and these cells, which has none where the call is
+    /// not known.
+    fn answer(&mut self, call: &[u8], cells: &[Vec<u8>], sheet: &mut Sheet);
 }
 
 /// Reads standard input whole, and prints it with an answer behind each row. A line that is empty
@@ -53,93 +47,63 @@ fn fault_text(kind: ErrorKind) -> &'static str {
 
 /// Reads the lines, and prints them with their answers.
 fn play_all<A: Answers>(rt: &HostRuntime, answers: &mut A) -> io::Result<()> {
-    let alloc = rt.alloc();
-    let mut input = Vec::new(alloc);
+    let mut input = Vec::new(rt.alloc());
     rt.reader().read_to_end(&mut input)?;
-    let mut writer = BufWriter::new(alloc, io::writer(rt))?;
+    let mut printed = Sheet::new(rt.alloc());
     let lines = input.strip_suffix(b"\n").unwrap_or(&input);
-    let printed = print_all(alloc, answers, lines, &mut writer);
-    drop(writer);
-    printed
+    put_all(answers, lines, &mut printed);
+    print(rt, &printed)
 }
 
-/// Prints lines with their answers.
-fn print_all<A: Answers, W: Write>(
-    alloc: Global,
-    answers: &mut A,
-    lines: &[u8],
-    writer: &mut W,
-) -> io::Result<()> {
+/// Prints what is written on a sheet. Where memory ran out, that is told then.
+fn print(rt: &HostRuntime, sheet: &Sheet) -> io::Result<()> {
+    io::writer(rt).write_all(sheet.octets())?;
+    if sheet.is_spoilt() {
+        return Err(io::Error::from(ErrorKind::OutOfMemory));
+    }
+    Ok(())
+}
+
+/// Writes lines with their answers, up to where memory runs out.
+fn put_all<A: Answers>(answers: &mut A, lines: &[u8], sheet: &mut Sheet) {
     for line in lines.split(|octet| *octet == b'\n') {
-        print_line(alloc, answers, line, writer)?;
+        put_line(answers, line, sheet);
+        if sheet.is_spoilt() {
+            return;
+        }
     }
-    writer.flush()
 }
 
-/// Prints a line with its answer.
-fn print_line<A: Answers, W: Write>(
-    alloc: Global,
-    answers: &mut A,
-    line: &[u8],
-    writer: &mut W,
-) -> io::Result<()> {
-    let mut text = Vec::new(alloc);
-    put_line(alloc, answers, line, &mut text)?;
-    writer.write_all(&text)
-}
-
-/// Writes a line as it is printed.
-fn put_line<A: Answers>(
-    alloc: Global,
-    answers: &mut A,
-    line: &[u8],
-    text: &mut Vec<u8>,
-) -> Result<(), AllocError> {
-    text.extend_from_slice(line)?;
+/// Writes a line with its answer.
+fn put_line<A: Answers>(answers: &mut A, line: &[u8], sheet: &mut Sheet) {
+    sheet.put(line);
     if !is_skipped(line) {
-        text.extend_from_slice(b" = ")?;
-        put_answer(alloc, answers, line, text)?;
+        sheet.put(b" = ");
+        put_answer(answers, line, sheet);
     }
-    text.extend_from_slice(b"\n")
+    sheet.put(b"\n");
 }
 
 /// Writes the answer of a row.
-fn put_answer<A: Answers>(
-    alloc: Global,
-    answers: &mut A,
-    row: &[u8],
-    text: &mut Vec<u8>,
-) -> Result<(), AllocError> {
-    let (call, rest) = line_words::cut(row, b' ');
-    let mut cells = Vec::new(alloc);
-    if read_cells(alloc, rest, &mut cells)? && answers.answer(alloc, call, &cells, text)? {
-        return Ok(());
+fn put_answer<A: Answers>(answers: &mut A, row: &[u8], sheet: &mut Sheet) {
+    let (call, rest) = cut(row, b' ');
+    let mut said = Sheet::new(sheet.alloc);
+    let cells = cells_of(rest, &mut said);
+    if !said.is_spoilt() {
+        answers.answer(call, &cells, &mut said);
     }
-    text.extend_from_slice(b"?")
+    said.end(sheet);
 }
 
-/// Reads the octets of the cells that follow a call, or answers `false` where an escape is bad.
-fn read_cells(
-    alloc: Global,
-    rest: Option<&[u8]>,
-    cells: &mut Vec<Vec<u8>>,
-) -> Result<bool, AllocError> {
-    let Some(rest) = rest else {
-        return Ok(true);
-    };
-    for word in rest.split(|octet| *octet == b' ') {
-        if !read_cell(alloc, word, cells)? {
-            return Ok(false);
+/// The octets of the cells that follow a call.
+fn cells_of(rest: Option<&[u8]>, sheet: &mut Sheet) -> Vec<Vec<u8>> {
+    let mut cells = Vec::new(sheet.alloc);
+    if let Some(rest) = rest {
+        for word in rest.split(|octet| *octet == b' ') {
+            if cells.push(octets_of(word, sheet)).is_err() {
+                sheet.lack();
+            }
         }
     }
-    Ok(true)
-}
-
-/// Reads the octets of a cell, or answers `false` where an escape is bad.
-fn read_cell(alloc: Global, word: &[u8], cells: &mut Vec<Vec<u8>>) -> Result<bool, AllocError> {
-    match octets_of(alloc, word)? {
-        Some(octets) => cells.push(octets)?,
-        None => return Ok(false),
-    }
-    Ok(true)
+    cells
 }

@@ -1,11 +1,14 @@
 //! The sheet that the answer of a row is written on.
 ghost use Rattle.std.specs.Prelude.{◌≤◌};
 
-use crate::written;
+use itoa::Buffer;
 use line_words::number_within;
-use std::alloc::{AllocError, Global};
+use std::alloc::Global;
 use std::fmt;
 use std::fmt::{Debug, Write};
+
+/// The hexadecimal digits.
+const DIGITS: [u8; 16] = *b"0123456789ABCDEF";
 
 /// What is written as the answer of a row. No call of it has a result: want of memory, and that the
 /// row has no answer, are noted, and told at the end. So what answers a row writes line after line,
@@ -37,10 +40,31 @@ impl Sheet {
         }
     }
 
-    /// Writes octets as a cell.
+    /// Writes octets as a cell: those from 0x21 to 0x7E as they are but the backslash, the others by
+    /// escapes, and `\e` where there are none.
     pub fn cell(&mut self, octets: &[u8]) {
-        if written::put_octets(&mut self.octets, octets).is_err() {
-            self.lacks = true;
+        if octets.is_empty() {
+            self.put(b"\\e");
+        }
+        for octet in octets {
+            self.octet(*octet);
+        }
+    }
+
+    /// Writes one octet of a cell.
+    fn octet(&mut self, octet: u8) {
+        match octet {
+            b' ' => self.put(b"\\s"),
+            b'\t' => self.put(b"\\t"),
+            b'\r' => self.put(b"\\r"),
+            b'\n' => self.put(b"\\n"),
+            b'\\' => self.put(b"\\\\"),
+            0x21..=0x7E => self.put(&[octet]),
+            _ => {
+                let high = DIGITS[usize::from(octet >> 4)];
+                let low = DIGITS[usize::from(octet & 15)];
+                self.put(&[b'\\', b'x', high, low]);
+            }
         }
     }
 
@@ -52,9 +76,8 @@ impl Sheet {
 
     /// Writes a number by its decimal digits.
     pub fn number(&mut self, number: u64) {
-        if written::put_number(&mut self.octets, number).is_err() {
-            self.lacks = true;
-        }
+        let mut digits = Buffer::new();
+        self.put(digits.format(number).as_bytes());
     }
 
     /// Writes a number behind a text.
@@ -115,15 +138,15 @@ impl Sheet {
         self.octets
     }
 
-    /// Writes the answer behind a text, or answers `false` where the row has none.
-    pub fn end(self, text: &mut Vec<u8>) -> Result<bool, AllocError> {
-        if self.lacks {
-            return Err(AllocError);
+    /// Writes the answer on another sheet, `?` where the row has none; that memory ran out is noted
+    /// there too.
+    pub(crate) fn end(self, other: &mut Sheet) {
+        other.lacks = other.lacks || self.lacks;
+        if self.refused {
+            other.put(b"?");
+        } else {
+            other.put(&self.octets);
         }
-        if !self.refused {
-            text.extend_from_slice(&self.octets)?;
-        }
-        Ok(!self.refused)
     }
 }
 

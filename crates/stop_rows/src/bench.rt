@@ -50,7 +50,7 @@ pub enum Bench<D: Device> {
 
 impl<D: Device> Bench<D> {
     /// Writes the answer of a call of this name.
-    pub fn answer(&mut self, call: Call, name: &str, cells: &[Vec<u8>], sheet: &mut Sheet) {
+    pub fn answer(&mut self, call: Call, name: &[u8], cells: &[Vec<u8>], sheet: &mut Sheet) {
         match call {
             Call::Make(call) => self.make(call, cells, sheet),
             Call::Article(call) => self.put_article(call, cells, sheet),
@@ -193,7 +193,7 @@ fn put_format_error(error: FormatError, sheet: &mut Sheet) {
 fn turned<D: Device>(
     bench: Bench<D>,
     call: Call,
-    name: &str,
+    name: &[u8],
     cells: &[Vec<u8>],
     sheet: &mut Sheet,
 ) -> Bench<D> {

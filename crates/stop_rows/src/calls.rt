@@ -89,6 +89,6 @@ const CALLS: [Call; 23] = [
 ];
 
 /// The call of this name.
-pub fn call_of(name: &str) -> Option<Call> {
+pub fn call_of(name: &[u8]) -> Option<Call> {
     CALLS.get(place_of(NAMES, name)?).copied()
 }

@@ -18,9 +18,7 @@ use calls::{Call, call_of};
 use cyc_block::{FailAt, MemoryBlocks};
 use histories::Texts;
 use row_text::{Answers, Sheet, play};
-use std::alloc::{AllocError, Global};
 use std::process::ExitCode;
-use std::str;
 
 fn main(rt: HostRuntime) -> ExitCode {
     let mut rows: Rows<FailAt<MemoryBlocks>> = Rows {
@@ -40,28 +38,10 @@ struct Rows<D: Device> {
 }
 
 impl<D: Device> Answers for Rows<D> {
-    fn answer(
-        &mut self,
-        alloc: Global,
-        call: &[u8],
-        cells: &[Vec<u8>],
-        text: &mut Vec<u8>,
-    ) -> Result<bool, AllocError> {
-        let mut sheet = Sheet::new(alloc);
-        match str::from_utf8(call) {
-            Ok(call) => self.put_answer(call, cells, &mut sheet),
-            Err(_) => sheet.refuse(),
-        }
-        sheet.end(text)
-    }
-}
-
-impl<D: Device> Rows<D> {
-    /// Writes the answer of a call.
-    fn put_answer(&mut self, name: &str, cells: &[Vec<u8>], sheet: &mut Sheet) {
-        match call_of(name) {
+    fn answer(&mut self, call: &[u8], cells: &[Vec<u8>], sheet: &mut Sheet) {
+        match call_of(call) {
             Some(Call::Text(call)) => self.texts.answer(call, cells, sheet),
-            Some(call) => self.bench.answer(call, name, cells, sheet),
+            Some(known) => self.bench.answer(known, call, cells, sheet),
             None => sheet.refuse(),
         }
     }

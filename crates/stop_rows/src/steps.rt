@@ -5,7 +5,6 @@ use crate::runs::Runs;
 use cyc_buffer::{Buffer, RestartError, StartError, Unopened};
 use cyc_token::Token;
 use row_text::{Sheet, place_of};
-use std::str;
 
 /// A stop or a start.
 #[derive(Clone, Copy)]
@@ -28,7 +27,7 @@ const MOST_CALLS: u64 = 64;
 /// Writes what a step answers.
 pub fn put_step<D: Device>(
     bench: Bench<D>,
-    name: &str,
+    name: &[u8],
     cells: &[Vec<u8>],
     sheet: &mut Sheet,
 ) -> Bench<D> {
@@ -58,11 +57,11 @@ pub fn put_each<D: Device>(bench: Bench<D>, cells: &[Vec<u8>], sheet: &mut Sheet
 /// The step that the cells name.
 fn step_in(cells: &[Vec<u8>], sheet: &mut Sheet) -> Option<Step> {
     let (name, cells) = cells.split_first()?;
-    step_of(str::from_utf8(name).ok()?, cells, sheet)
+    step_of(name, cells, sheet)
 }
 
 /// The step of this name and these cells.
-fn step_of(name: &str, cells: &[Vec<u8>], sheet: &mut Sheet) -> Option<Step> {
+fn step_of(name: &[u8], cells: &[Vec<u8>], sheet: &mut Sheet) -> Option<Step> {
     match place_of("shut leave start open restart", name)? {
         0 => Some(Step::Shut(stop_in(cells, sheet)?)),
         1 => alone(Step::Leave, cells),

@@ -9,9 +9,11 @@
 mod articles;
 mod clock;
 mod looks;
+mod making;
 mod printing;
 mod queue;
 mod relay;
+mod sample;
 mod stores;
 mod words;
 

@@ -3,13 +3,14 @@ ghost use Rattle.crossbeam_queue.specs.Passes.{view, IsPassOf};
 ghost use Rattle.job_queue.specs.Delivery.{IsOpen, OfWriter};
 
 use crate::failed;
+use crate::making::{LEAST_OCTETS, sample_article};
 use buffer_group::Job;
 use job_queue::{
     Handed, JobQueue, Parcel, QueuePass, end_pass, hand_over, mark_closed, new_queue, take_one,
     writer_pass,
 };
 use nntp_text::MsgId;
-use row_text::{LEAST_OCTETS, Sheet, sample_article};
+use row_text::Sheet;
 use std::alloc::Global;
 use std::io;
 use std::sync::Wait;

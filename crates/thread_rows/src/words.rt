@@ -1,18 +1,12 @@
 //! The words of a line, and what is put in the place of its marks.
 use line_words::{cut, number_within};
-use row_text::{Sheet, place_of};
+use row_text::Sheet;
 use std::alloc::Global;
-use std::str;
 
 /// The first word of a line, and what stands behind it.
 pub(crate) fn word_of(line: &[u8]) -> (&[u8], &[u8]) {
     let (word, rest) = cut(line, b' ');
     (word, rest.unwrap_or(b""))
-}
-
-/// The place of a word in a list of names between single spaces.
-pub(crate) fn place_in(names: &str, word: &[u8]) -> Option<usize> {
-    place_of(names, str::from_utf8(word).unwrap_or(""))
 }
 
 /// The number that these digits are, or 0.

@@ -76,7 +76,7 @@ const CALLS: [Call; 29] = [
 ];
 
 /// The call of this name.
-pub fn call_of(name: &str) -> Option<Call> {
+pub fn call_of(name: &[u8]) -> Option<Call> {
     CALLS.get(place_of(NAMES, name)?).copied()
 }
 

@@ -2,7 +2,7 @@
 
 use crate::texts::calls::Call;
 use crate::texts::walks::Runs;
-use row_text::Sheet;
+use row_text::{Sheet, add_octets};
 use std::alloc::{AllocError, Global};
 use stream_cut::{Block, Cut, Want, cut_all};
 
@@ -83,21 +83,9 @@ fn put_cut_in(cells: &[Vec<u8>], sheet: &mut Sheet) {
     let size = sheet.read(size) as usize;
     let mut pieces = Vec::new(sheet.alloc);
     for piece in stream.chunks(size.max(1)) {
-        add_piece(&mut pieces, piece, sheet);
+        add_octets(&mut pieces, piece, sheet);
     }
     put_cuts(limit, wants, &pieces, sheet);
-}
-
-/// A piece follows.
-fn add_piece(pieces: &mut Vec<Vec<u8>>, piece: &[u8], sheet: &mut Sheet) {
-    match Vec::from_slice(sheet.alloc, piece) {
-        Ok(piece) => {
-            if pieces.push(piece).is_err() {
-                sheet.lack();
-            }
-        }
-        Err(_) => sheet.lack(),
-    }
 }
 
 /// Writes what is cut off a stream of two pieces, wherever the first one ends.
@@ -123,8 +111,8 @@ fn said_in_two(
 ) -> Vec<u8> {
     let mut said = Sheet::new(sheet.alloc);
     let mut pieces = Vec::new(sheet.alloc);
-    add_piece(&mut pieces, first, sheet);
-    add_piece(&mut pieces, second, sheet);
+    add_octets(&mut pieces, first, sheet);
+    add_octets(&mut pieces, second, sheet);
     put_cuts(limit, wants, &pieces, &mut said);
     said.onto(sheet)
 }

@@ -7,8 +7,9 @@ use crate::relay::fetches::Fetch;
 use crate::relay::gate::{COMES, GONE, Manner, Turn};
 use crate::relay::script::Script;
 use crate::relay::waiting::Waits;
-use crate::words::{number_in, numbered, place_in, word_of};
+use crate::words::{number_in, numbered, word_of};
 use line_words::{is_skipped, number_within, two_parts};
+use row_text::place_of;
 use std::alloc::{AllocError, Global};
 
 /// Sessions of a row, at most.
@@ -144,7 +145,7 @@ impl Row {
 
     /// Does what a word says of the whole row.
     fn set(&mut self, word: &[u8], rest: &[u8]) {
-        match place_in(SETTINGS, word) {
+        match place_of(SETTINGS, word) {
             Some(0) => self.failing = number_in(rest),
             Some(1) => self.sweep = number_in(rest),
             Some(2) => self.moment = number_in(rest),
@@ -165,7 +166,7 @@ impl Row {
 /// Does what a line says of a session's script: the turn that it has, if it has one.
 fn turn_of(script: &mut Script, session: u64, line: &[u8]) -> Option<Turn> {
     let (word, rest) = word_of(line);
-    match place_in(OF_SESSION, word) {
+    match place_of(OF_SESSION, word) {
         Some(0) => return Some(Turn::new(session, GONE)),
         Some(1) => {
             script.comes = Some(number_in(rest));

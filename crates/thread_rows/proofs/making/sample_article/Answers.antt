@@ -1,6 +1,6 @@
 use Rattle.std.proofs.Common.{ℕ, List, subst}
 use Rattle.news_terms.specs.ArticleTexts.{IsArticle}
-use Rattle.row_text.proofs.making.sample_article.Goals as goal
+use Rattle.thread_rows.proofs.making.sample_article.Goals as goal
 
 pub invariant_of-result-clause-is_article : goal.invariant_of-result-clause-is_article
 invariant_of-result-clause-is_article c =

@@ -1,7 +1,7 @@
 //! Samples of each length.
 ghost use Rattle.std.specs.Prelude.{◌≡◌, true, length, IfOk, IfSome};
 ghost use Rattle.news_terms.specs.ArticleTexts.{IsArticle};
-ghost use Rattle.row_text.specs.Samples.{text_of};
+ghost use Rattle.thread_rows.specs.Samples.{text_of};
 
 use crate::sample::Sample;
 use article_parse::{ArtError, Article};

@@ -1,6 +1,6 @@
 use Rattle.std.proofs.Common.{◌<◌, ◌^◌, ℕ, List, length, subst, sym}
 use Rattle.news_terms.specs.ArticleTexts.{IsArticle}
-use Rattle.row_text.proofs.sample.Sample.into_accepted.Goals as goal
+use Rattle.thread_rows.proofs.sample.Sample.into_accepted.Goals as goal
 
 pub invariant_of-result : goal.invariant_of-result
 invariant_of-result c = record {

@@ -16,7 +16,7 @@ pub struct Sample {
 
 impl Sample {
     ghost use Rattle.std.specs.Prelude.{◌≡◌};
-    ghost use Rattle.row_text.specs.Samples.{text_of};
+    ghost use Rattle.thread_rows.specs.Samples.{text_of};
 
     /// The octets.
     pub fn text(&self) -> &Vec<u8>

@@ -1,6 +1,6 @@
 -- Sample articles, as contracts see them.
 use Rattle.std.specs.Prelude.{ℕ, List}
-use Rattle.row_text.specs.declared.sample.Sample.{Sample}
+use Rattle.thread_rows.specs.declared.sample.Sample.{Sample}
 
 -- the octets of a sample
 abbrev pub text_of : Sample → List ℕ

@@ -1,0 +1,46 @@
+//! Lists of names and of texts.
+
+use crate::sheet::Sheet;
+use line_words::is;
+
+/// The place of a name in a list of names between single spaces. So a further name is a number
+/// more to match; of a `match` over texts each name is a comparison to prove.
+pub fn place_of(names: &str, name: &[u8]) -> Option<usize> {
+    let mut place = 0usize;
+    for known in names.split(' ') {
+        if is(known.as_bytes(), name) {
+            return Some(place);
+        }
+        place = place.saturating_add(1);
+    }
+    None
+}
+
+/// A copy of these octets, empty where memory ran out.
+pub fn copy_of(octets: &[u8], sheet: &mut Sheet) -> Vec<u8> {
+    match Vec::from_slice(sheet.alloc, octets) {
+        Ok(copy) => copy,
+        Err(_) => {
+            sheet.lack();
+            Vec::new(sheet.alloc)
+        }
+    }
+}
+
+/// A text of these octets follows.
+pub fn add_octets(texts: &mut Vec<Vec<u8>>, octets: &[u8], sheet: &mut Sheet) {
+    if texts.push(copy_of(octets, sheet)).is_err() {
+        sheet.lack();
+    }
+}
+
+/// The text of these parts, one after another.
+pub fn joined(parts: &[Vec<u8>], sheet: &mut Sheet) -> Vec<u8> {
+    let mut octets = Vec::new(sheet.alloc);
+    for part in parts {
+        if octets.extend_from_slice(part).is_err() {
+            sheet.lack();
+        }
+    }
+    octets
+}
