@@ -3,11 +3,9 @@ ghost use Rattle.std.specs.Prelude.{◌≡◌, length, map, IfOk};
 
 use crate::events::{add, body, openings, piece};
 use crate::loads::{Ids, Load};
-use block_shelf::BeginError;
 use cyc_block::{BlockStore, MemoryBlocks};
-use line_words::Octets;
 use relay_conf::{Buffers, Config, read_cycbuff};
-use relay_core::{CoreError, Event, Output, System};
+use relay_core::{Event, Output, System};
 use std::alloc::{AllocError, Global};
 use std::io;
 use std::io::ErrorKind;
@@ -48,35 +46,60 @@ impl Bench {
     /// are counted: each id has one that begins as it has to.
     pub fn serve(&mut self, rt: &HostRuntime, load: &Load, count: u64) -> io::Result<(usize, f64)> {
         let sessions = count.div_ceil(load.share.max(1)).max(1);
-        self.open(sessions)?;
+        self.open(rt, sessions)?;
         let events = self.events(load, sessions, count)?;
-        let (outputs, took) = self.timed(rt, &events)?;
+        let number = events.len();
+        let timed = self.timed(rt, &events, load.code);
+        drop(events);
+        let (replies, took) = timed?;
         self.name(load.ids, count);
-        if replies(&outputs, load.code) != count {
+        if replies != count {
             return Err(io::Error::from(ErrorKind::InvalidData));
         }
-        Ok((events.len(), took))
+        Ok((number, took))
     }
 
     /// So many sessions open.
-    fn open(&mut self, sessions: u64) -> io::Result<()> {
+    fn open(&mut self, rt: &HostRuntime, sessions: u64) -> io::Result<()> {
         let events = openings(self.alloc, self.sessions, sessions)?;
         self.sessions = self.sessions.saturating_add(sessions);
-        let _greetings = ran(&mut self.relay, &events)?;
+        let timed = self.timed(rt, &events, b"");
+        drop(events);
+        let _greetings = timed?;
         Ok(())
     }
 
     /// What happens for so many ids of a load, which the newest sessions name in turn.
     fn events(&self, load: &Load, sessions: u64, count: u64) -> Result<Vec<Event>, AllocError> {
-        let first = self.sessions.saturating_sub(sessions);
         let body = body(self.alloc, load.block)?;
         let mut events = Vec::new(self.alloc);
+        let added = self.add_all(&mut events, load, &body, sessions, count);
+        drop(body);
+        match added {
+            Ok(()) => Ok(events),
+            Err(error) => {
+                drop(events);
+                Err(error)
+            }
+        }
+    }
+
+    /// Adds what happens for so many ids of a load, by the body that it sends.
+    fn add_all(
+        &self,
+        events: &mut Vec<Event>,
+        load: &Load,
+        body: &[u8],
+        sessions: u64,
+        count: u64,
+    ) -> Result<(), AllocError> {
+        let first = self.sessions.saturating_sub(sessions);
         for place in 0..count {
             let session = first.saturating_add(place % sessions.max(1));
-            let piece = piece(self.alloc, load, &body, self.number(load.ids, place))?;
-            add(&mut events, load, session, piece)?;
+            let piece = piece(self.alloc, load, body, self.number(load.ids, place))?;
+            add(events, load, session, piece)?;
         }
-        Ok(events)
+        Ok(())
     }
 
     /// The number of the id at this place of a load.
@@ -97,20 +120,21 @@ impl Bench {
         }
     }
 
-    /// What these events are answered, and the seconds that they take.
-    fn timed(&mut self, rt: &HostRuntime, events: &[Event]) -> io::Result<(Vec<Output>, f64)> {
+    /// How many replies to these events begin with this code, and the seconds that the events take.
+    fn timed(
+        &mut self,
+        rt: &HostRuntime,
+        events: &[Event],
+        code: &[u8],
+    ) -> io::Result<(u64, f64)> {
         let start = Instant::now(rt)?;
-        let outputs = ran(&mut self.relay, events)?;
-        let took = start.elapsed(rt)?.as_secs_f64();
-        Ok((outputs, took))
-    }
-}
-
-/// What these events are answered.
-fn ran(relay: &mut System<MemoryBlocks>, events: &[Event]) -> io::Result<Vec<Output>> {
-    match relay.run(events) {
-        Ok(outputs) => Ok(outputs),
-        Err(_) => Err(io::Error::from(ErrorKind::OutOfMemory)),
+        let Ok(outputs) = self.relay.run(events) else {
+            return Err(io::Error::from(ErrorKind::OutOfMemory));
+        };
+        let took = start.elapsed(rt);
+        let count = replies(&outputs, code);
+        drop(outputs);
+        Ok((count, took?.as_secs_f64()))
     }
 }
 
@@ -132,17 +156,18 @@ fn relay(rt: &HostRuntime, alloc: Global) -> io::Result<System<MemoryBlocks>> {
     let Some(config) = config(alloc) else {
         return Err(io::Error::from(ErrorKind::InvalidData));
     };
-    let stores = match stores_of(alloc, &config.buffers) {
-        Ok(stores) => stores,
+    match stores_of(alloc, &config.buffers) {
+        Ok(stores) => match System::new(rt, alloc, config, stores) {
+            Ok(system) => Ok(system),
+            Err(error) => {
+                drop(error);
+                Err(io::Error::from(ErrorKind::Other))
+            }
+        },
         Err(error) => {
             drop(config);
-            return Err(io::Error::from(error));
+            Err(io::Error::from(error))
         }
-    };
-    match System::new(rt, alloc, config, stores) {
-        Ok(system) => Ok(system),
-        Err(BeginError::Host(error)) => Err(error),
-        Err(BeginError::Device(_number, _store)) => Err(io::Error::from(ErrorKind::Other)),
     }
 }
 
@@ -164,21 +189,28 @@ fn config(alloc: Global) -> Option<Config> {
     let Ok(k1) = Config::k1(alloc) else {
         return None;
     };
-    let Ok(ring) = read_cycbuff(alloc, CYCBUFF) else {
-        drop(k1);
+    match read_cycbuff(alloc, CYCBUFF) {
+        Ok(ring) => with_buffers(k1, ring),
+        Err(_) => {
+            drop(k1);
+            None
+        }
+    }
+}
+
+/// A configuration, but for its buffers, in whose place are these; none where they have not as many
+/// groups.
+fn with_buffers(config: Config, ring: Buffers) -> Option<Config> {
+    if ring.groups.len() != config.buffers.groups.len() {
+        drop(ring);
+        drop(config);
         return None;
-    };
+    }
     let Config {
         buffers,
         storage_entries,
         relay,
-    } = k1;
-    let groups = buffers.groups.len();
+    } = config;
     drop(buffers);
-    if ring.groups.len() != groups {
-        drop(ring);
-        drop(relay);
-        return None;
-    }
     Some(Config::new(ring, storage_entries, relay))
 }

@@ -4,11 +4,13 @@
 #![tactic(auto)]
 
 mod cell;
+mod cells;
 mod lists;
 mod names;
 mod rows;
 mod sheet;
 
+pub use cells::Cells;
 pub use lists::{add_octets, copy_of, joined, place_of};
 pub use names::Names;
 pub use rows::{Answers, failed, play};

@@ -1,84 +1,20 @@
 //! The articles of a buffer. The text of an article is computed from its class and its octets.
-use crate::bench::{number, octet};
-use crate::calls::Article;
-use cyc_block::{BlockStore, CHUNK_OCTETS};
-use cyc_buffer::{BufError, Buffer, Found, Open, Unopened};
+use crate::bench::{Bench, Device, number, octet};
+use cyc_block::CHUNK_OCTETS;
+use cyc_buffer::{BufError, Buffer, Found, Open};
 use cyc_token::Token;
-use row_text::Sheet;
-use std::alloc::{AllocError, Global};
+use line_words::is;
+use row_text::{Cells, Sheet};
 
 /// How an article that was begun ends.
 #[derive(Clone, Copy)]
-enum End {
+pub(crate) enum End {
     /// It is finished.
     Finished,
     /// It is abandoned.
     Abandoned,
     /// Its write stays open.
     Unfinished,
-}
-
-/// What gives the blocks of articles.
-trait Blocks {
-    /// Block k of the article under a token.
-    fn block(
-        &mut self,
-        token: &Token,
-        k: u32,
-        chunk: &mut [u8; CHUNK_OCTETS],
-    ) -> Result<Found, BufError>;
-}
-
-impl<S: BlockStore> Blocks for Buffer<S> {
-    fn block(
-        &mut self,
-        token: &Token,
-        k: u32,
-        chunk: &mut [u8; CHUNK_OCTETS],
-    ) -> Result<Found, BufError> {
-        self.read_block(token, k, chunk)
-    }
-}
-
-impl<S: BlockStore> Blocks for Unopened<S> {
-    fn block(
-        &mut self,
-        token: &Token,
-        k: u32,
-        chunk: &mut [u8; CHUNK_OCTETS],
-    ) -> Result<Found, BufError> {
-        self.read_block(token, k, chunk)
-    }
-}
-
-/// Writes the answer of a call of a buffer whose head isn't open.
-pub fn looked<S: BlockStore>(
-    buffer: &mut Unopened<S>,
-    call: Article,
-    cells: &[Vec<u8>],
-    sheet: &mut Sheet,
-) {
-    match call {
-        Article::Read => read(buffer, cells, sheet),
-        Article::Numbers => put_numbers(buffer.buffer(), cells, sheet),
-        _ => sheet.refuse(),
-    }
-}
-
-/// Writes the answer of a call.
-pub fn answer<S: BlockStore>(
-    buffer: &mut Buffer<S>,
-    call: Article,
-    cells: &[Vec<u8>],
-    sheet: &mut Sheet,
-) {
-    match call {
-        Article::Store => store(buffer, cells, sheet),
-        Article::Abandon => leave(buffer, cells, End::Abandoned, sheet),
-        Article::Unfinished => leave(buffer, cells, End::Unfinished, sheet),
-        Article::Read => read(buffer, cells, sheet),
-        Article::Numbers => put_numbers(buffer, cells, sheet),
-    }
 }
 
 /// What is stored: an article of a class and of so many octets.
@@ -88,70 +24,130 @@ struct Size {
     octets: u32,
 }
 
-/// The article that two cells name.
-fn size_of(class: &[u8], octets: &[u8], sheet: &mut Sheet) -> Size {
+impl<D: Device> Bench<D> {
+    /// Writes the token under which an article is stored, or why it isn't.
+    pub(crate) fn store(&mut self, cells: &mut Cells<'_>, sheet: &mut Sheet) {
+        let size = size_in(cells, sheet);
+        let is_fresh = !cells.rest().is_empty();
+        if is_fresh && !is(cells.next(sheet), b"fresh") {
+            sheet.refuse();
+        }
+        cells.end(sheet);
+        let blocks = u64::from(size.octets).div_ceil(CHUNK_OCTETS as u64);
+        self.put_article(size, is_fresh, blocks, End::Finished, sheet);
+    }
+
+    /// Writes the token of an article of which so many blocks are written, and then no more.
+    pub(crate) fn leave(&mut self, cells: &mut Cells<'_>, end: End, sheet: &mut Sheet) {
+        let size = size_in(cells, sheet);
+        let blocks = cells.number(u64::MAX, sheet);
+        cells.end(sheet);
+        self.put_article(size, false, blocks, end, sheet);
+    }
+
+    /// Begins an article, writes so many of its blocks, ends it so, and writes its token.
+    fn put_article(
+        &mut self,
+        size: Size,
+        is_fresh: bool,
+        blocks: u64,
+        end: End,
+        sheet: &mut Sheet,
+    ) {
+        let text = text_of(size.class, size.octets, sheet);
+        if size.octets == 0 || sheet.is_spoilt() {
+            return sheet.refuse();
+        }
+        let Bench::Running(buffer) = self else {
+            return sheet.refuse();
+        };
+        match buffer.begin(size.class, size.octets, is_fresh) {
+            Ok(open) => write_article(buffer, open, &text, blocks, end, sheet),
+            Err(error) => sheet.debug(&error),
+        }
+    }
+
+    /// Writes what is read of the article under a token.
+    pub(crate) fn read(&mut self, cells: &mut Cells<'_>, sheet: &mut Sheet) {
+        let Ok(token) = Token::parse(cells.next(sheet)) else {
+            return sheet.refuse();
+        };
+        cells.end(sheet);
+        if sheet.is_spoilt() || self.buffer().is_none() {
+            return sheet.refuse();
+        }
+        let text = text_of(token.class, token.length, sheet);
+        self.compare(&token, &text, sheet);
+    }
+
+    /// The buffer, where there is one.
+    fn buffer(&self) -> Option<&Buffer<D>> {
+        match self {
+            Bench::Running(buffer) => Some(buffer),
+            Bench::Unopened(buffer) => Some(buffer.buffer()),
+            _ => None,
+        }
+    }
+
+    /// Reads the article under a token, block by block, and writes how it is beside its text.
+    fn compare(&mut self, token: &Token, text: &[u8], sheet: &mut Sheet) {
+        let mut chunk = [0; CHUNK_OCTETS];
+        let mut block = 0u32;
+        for expected in text.chunks(CHUNK_OCTETS) {
+            match self.block(token, block, &mut chunk) {
+                Ok(Found::Chunk(octets)) => {
+                    if !is(chunk.get(..octets).unwrap_or(b""), expected) {
+                        return sheet.put(b"other");
+                    }
+                }
+                other => return put_other(&other, sheet),
+            }
+            block = block.saturating_add(1);
+        }
+        sheet.put(b"whole");
+    }
+
+    /// Block k of the article under a token.
+    fn block(
+        &mut self,
+        token: &Token,
+        k: u32,
+        chunk: &mut [u8; CHUNK_OCTETS],
+    ) -> Result<Found, BufError> {
+        match self {
+            Bench::Running(buffer) => buffer.read_block(token, k, chunk),
+            Bench::Unopened(buffer) => buffer.read_block(token, k, chunk),
+            _ => Ok(Found::Unknown),
+        }
+    }
+
+    /// Writes the numbers of a buffer.
+    pub(crate) fn put_numbers(&self, cells: &Cells<'_>, sheet: &mut Sheet) {
+        cells.end(sheet);
+        match self.buffer() {
+            Some(buffer) => {
+                sheet.numbered(b"blocks ", u64::from(buffer.blocks()));
+                sheet.numbered(b" cycle ", u64::from(buffer.cycle()));
+                sheet.numbered(b" front ", buffer.front());
+                sheet.numbered(b" begun ", buffer.begun());
+                sheet.numbered(b" stored ", buffer.stored());
+            }
+            None => sheet.refuse(),
+        }
+    }
+}
+
+/// The article that the next two cells name.
+fn size_in(cells: &mut Cells<'_>, sheet: &mut Sheet) -> Size {
     Size {
-        class: octet(class, sheet),
-        octets: number(octets, sheet),
-    }
-}
-
-/// Writes the token under which an article is stored, or why it isn't.
-fn store<S: BlockStore>(buffer: &mut Buffer<S>, cells: &[Vec<u8>], sheet: &mut Sheet) {
-    let [class, octets, words @ ..] = cells else {
-        return sheet.refuse();
-    };
-    let Some(fresh) = is_fresh(words) else {
-        return sheet.refuse();
-    };
-    let size = size_of(class, octets, sheet);
-    let blocks = u64::from(size.octets).div_ceil(CHUNK_OCTETS as u64);
-    put_article(buffer, size, fresh, blocks, End::Finished, sheet);
-}
-
-/// Whether the article is to be stored in a fresh cycle; none where the words say neither.
-fn is_fresh(words: &[Vec<u8>]) -> Option<bool> {
-    match words {
-        [] => Some(false),
-        [word] if word.as_slice() == b"fresh".as_slice() => Some(true),
-        _ => None,
-    }
-}
-
-/// Writes the token of an article of which so many blocks are written, and then no more.
-fn leave<S: BlockStore>(buffer: &mut Buffer<S>, cells: &[Vec<u8>], end: End, sheet: &mut Sheet) {
-    let [class, octets, blocks] = cells else {
-        return sheet.refuse();
-    };
-    let size = size_of(class, octets, sheet);
-    let blocks = sheet.read(blocks);
-    put_article(buffer, size, false, blocks, end, sheet);
-}
-
-/// Begins an article, writes so many of its blocks, ends it so, and writes its token.
-fn put_article<S: BlockStore>(
-    buffer: &mut Buffer<S>,
-    size: Size,
-    fresh: bool,
-    blocks: u64,
-    end: End,
-    sheet: &mut Sheet,
-) {
-    if size.octets == 0 {
-        return sheet.refuse();
-    }
-    let Ok(text) = text_of(sheet.alloc, size.class, size.octets as usize) else {
-        return sheet.lack();
-    };
-    match buffer.begin(size.class, size.octets, fresh) {
-        Ok(open) => write_article(buffer, open, &text, blocks, end, sheet),
-        Err(error) => sheet.debug(&error),
+        class: octet(cells, sheet),
+        octets: number(cells, sheet),
     }
 }
 
 /// Writes so many blocks of an article that was begun, ends it so, and writes its token.
-fn write_article<S: BlockStore>(
-    buffer: &mut Buffer<S>,
+fn write_article<D: Device>(
+    buffer: &mut Buffer<D>,
     open: Open,
     text: &[u8],
     blocks: u64,
@@ -167,8 +163,8 @@ fn write_article<S: BlockStore>(
 
 /// Writes so many blocks of an article; where one fails, that is written, and the answer is
 /// `false`.
-fn write_blocks<S: BlockStore>(
-    buffer: &mut Buffer<S>,
+fn write_blocks<D: Device>(
+    buffer: &mut Buffer<D>,
     open: &Open,
     text: &[u8],
     blocks: u64,
@@ -184,7 +180,7 @@ fn write_blocks<S: BlockStore>(
 }
 
 /// Ends an article so, and gives its token.
-fn ended<S: BlockStore>(buffer: &mut Buffer<S>, open: Open, end: End) -> Token {
+fn ended<D: Device>(buffer: &mut Buffer<D>, open: Open, end: End) -> Token {
     match end {
         End::Finished => buffer.finish(open),
         End::Abandoned => {
@@ -202,71 +198,22 @@ fn octet_at(class: u8, place: usize) -> u8 {
 }
 
 /// The text of an article of a class and of so many octets.
-fn text_of(alloc: Global, class: u8, octets: usize) -> Result<Vec<u8>, AllocError> {
-    let mut text = Vec::with_capacity(alloc, octets)?;
-    for place in 0..octets {
-        text.push(octet_at(class, place))?;
-    }
-    Ok(text)
-}
-
-/// Writes what is read of the article under a token.
-fn read<B: Blocks>(buffer: &mut B, cells: &[Vec<u8>], sheet: &mut Sheet) {
-    let [token] = cells else {
-        return sheet.refuse();
-    };
-    let Ok(token) = Token::parse(token) else {
-        return sheet.refuse();
-    };
-    match text_of(sheet.alloc, token.class, token.length as usize) {
-        Ok(text) => compare(buffer, &token, &text, sheet),
-        Err(_) => sheet.lack(),
-    }
-}
-
-/// Reads the article under a token, block by block, and writes how it is beside its text.
-fn compare<B: Blocks>(buffer: &mut B, token: &Token, text: &[u8], sheet: &mut Sheet) {
-    let mut chunk = [0; CHUNK_OCTETS];
-    let mut block = 0u32;
-    for expected in text.chunks(CHUNK_OCTETS) {
-        let found = buffer.block(token, block, &mut chunk);
-        if !is_part(&found, &chunk, expected, sheet) {
-            return;
+fn text_of(class: u8, octets: u32, sheet: &mut Sheet) -> Vec<u8> {
+    let mut text = Vec::new(sheet.alloc);
+    for place in 0..octets as usize {
+        if text.push(octet_at(class, place)).is_err() {
+            sheet.lack();
+            return text;
         }
-        block = block.saturating_add(1);
     }
-    sheet.put(b"whole");
+    text
 }
 
-/// Whether this was found, in a chunk; else it is written what was.
-fn is_part(
-    found: &Result<Found, BufError>,
-    chunk: &[u8; CHUNK_OCTETS],
-    expected: &[u8],
-    sheet: &mut Sheet,
-) -> bool {
+/// Writes what was found that is no block.
+fn put_other(found: &Result<Found, BufError>, sheet: &mut Sheet) {
     match found {
-        Ok(Found::Chunk(octets)) => {
-            if chunk.get(..*octets) == Some(expected) {
-                return true;
-            }
-            sheet.put(b"other");
-        }
         Ok(Found::Gone(front)) => sheet.numbered(b"gone ", front.front()),
-        Ok(Found::Unknown) => sheet.put(b"unknown"),
+        Ok(_) => sheet.put(b"unknown"),
         Err(error) => sheet.debug(error),
     }
-    false
-}
-
-/// Writes the numbers of a buffer.
-fn put_numbers<S: BlockStore>(buffer: &Buffer<S>, cells: &[Vec<u8>], sheet: &mut Sheet) {
-    if !cells.is_empty() {
-        return sheet.refuse();
-    }
-    sheet.numbered(b"blocks ", u64::from(buffer.blocks()));
-    sheet.numbered(b" cycle ", u64::from(buffer.cycle()));
-    sheet.numbered(b" front ", buffer.front());
-    sheet.numbered(b" begun ", buffer.begun());
-    sheet.numbered(b" stored ", buffer.stored());
 }

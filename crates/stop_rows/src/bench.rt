@@ -1,11 +1,8 @@
 //! A device in memory, and the buffer that runs over it, where one does.
 
-use crate::calls::{Article, Call, Make};
-use crate::steps::{put_each, put_step};
-use crate::{articles, octets};
 use cyc_block::{BlockStore, FailAt, MemoryBlocks};
 use cyc_buffer::{Buffer, FormatError, Unopened};
-use row_text::Sheet;
+use row_text::{Cells, Sheet};
 use std::alloc::{AllocError, Global};
 use std::mem;
 
@@ -23,7 +20,8 @@ pub trait Device: BlockStore + Drop {
 
 impl Device for FailAt<MemoryBlocks> {
     fn zeros(alloc: Global, blocks: u32) -> Result<FailAt<MemoryBlocks>, AllocError> {
-        Ok(FailAt::new(MemoryBlocks::new(alloc, blocks)?, 0))
+        let blocks = MemoryBlocks::new(alloc, blocks)?;
+        Ok(FailAt::new(blocks, 0))
     }
 
     fn arm(&mut self, number: u64) {
@@ -49,56 +47,52 @@ pub enum Bench<D: Device> {
 }
 
 impl<D: Device> Bench<D> {
-    /// Writes the answer of a call of this name.
-    pub fn answer(&mut self, call: Call, name: &[u8], cells: &[Vec<u8>], sheet: &mut Sheet) {
-        match call {
-            Call::Make(call) => self.make(call, cells, sheet),
-            Call::Article(call) => self.put_article(call, cells, sheet),
-            Call::Fail => self.fail(cells, sheet),
-            _ => {
-                let bench = mem::replace(self, Bench::Nothing);
-                self.set(turned(bench, call, name, cells, sheet));
-            }
-        }
-    }
-
     /// From here this is what the rows have left.
-    fn set(&mut self, bench: Bench<D>) {
+    pub(crate) fn set(&mut self, bench: Bench<D>) {
         drop(mem::replace(self, bench));
     }
 
-    /// Makes a device, and a buffer over it where one is asked for.
-    fn make(&mut self, call: Make, cells: &[Vec<u8>], sheet: &mut Sheet) {
-        let made = match call {
-            Make::Zeros => made(cells, sheet),
-            Make::Format => formatted(cells, sheet),
-        };
-        if let Some(bench) = made {
-            self.set(bench);
+    /// What the rows have left, in whose place there is nothing.
+    pub(crate) fn take(&mut self) -> Bench<D> {
+        mem::replace(self, Bench::Nothing)
+    }
+
+    /// Makes a device of so many blocks of zeros.
+    pub fn make(&mut self, cells: &mut Cells<'_>, sheet: &mut Sheet) {
+        let blocks = number(cells, sheet);
+        cells.end(sheet);
+        if let Some(device) = zeros(blocks, sheet) {
+            sheet.put(b"made");
+            self.set(Bench::Stopped(device));
         }
     }
 
-    /// Writes the answer of a call of the articles of a buffer.
-    fn put_article(&mut self, call: Article, cells: &[Vec<u8>], sheet: &mut Sheet) {
-        match self {
-            Bench::Running(buffer) => articles::answer(buffer, call, cells, sheet),
-            Bench::Unopened(buffer) => articles::looked(buffer, call, cells, sheet),
-            _ => sheet.refuse(),
+    /// Makes a buffer of the number and at the cycle that the cells say, over a device of so many
+    /// blocks, of which a call fails where one is named.
+    pub fn format(&mut self, cells: &mut Cells<'_>, sheet: &mut Sheet) {
+        let blocks = number(cells, sheet);
+        let buffer = octet(cells, sheet);
+        let cycle = number(cells, sheet);
+        let failing = failing_in(cells, sheet);
+        cells.end(sheet);
+        if let Some(device) = zeros(blocks, sheet) {
+            self.set(formatted(device, failing, buffer, cycle, sheet));
         }
     }
 
     /// The call of the device of this number fails; with 0 none does.
-    fn fail(&mut self, cells: &[Vec<u8>], sheet: &mut Sheet) {
-        let [number] = cells else {
-            return sheet.refuse();
-        };
-        self.arm(sheet.read(number));
-        sheet.put(b"armed");
+    pub fn fail(&mut self, cells: &mut Cells<'_>, sheet: &mut Sheet) {
+        let call = cells.number(u64::MAX, sheet);
+        cells.end(sheet);
+        if !sheet.is_spoilt() {
+            self.arm(call);
+            sheet.put(b"armed");
+        }
     }
 
     /// From here the call of the device of this number fails; but for a buffer whose head isn't
     /// open.
-    pub fn arm(&mut self, number: u64) {
+    pub(crate) fn arm(&mut self, number: u64) {
         match self {
             Bench::Nothing | Bench::Unopened(_) => {}
             Bench::Running(buffer) => D::arm_below(buffer, number),
@@ -107,18 +101,29 @@ impl<D: Device> Bench<D> {
     }
 }
 
-/// The number up to 2^32 - 1 that a cell writes.
-pub fn number(cell: &[u8], sheet: &mut Sheet) -> u32 {
-    sheet.read_up_to(4_294_967_295, cell) as u32
+/// The number up to 2^32 - 1 that the next cell writes.
+pub(crate) fn number(cells: &mut Cells<'_>, sheet: &mut Sheet) -> u32 {
+    cells.number(4_294_967_295, sheet) as u32
 }
 
-/// The number up to 255 that a cell writes.
-pub fn octet(cell: &[u8], sheet: &mut Sheet) -> u8 {
-    sheet.read_up_to(255, cell) as u8
+/// The number up to 255 that the next cell writes.
+pub(crate) fn octet(cells: &mut Cells<'_>, sheet: &mut Sheet) -> u8 {
+    cells.number(255, sheet) as u8
 }
 
-/// A device of so many blocks of zeros.
+/// The number of the call that fails, 0 where no further cell names one.
+fn failing_in(cells: &mut Cells<'_>, sheet: &mut Sheet) -> u64 {
+    if cells.rest().is_empty() {
+        return 0;
+    }
+    cells.number(u64::MAX, sheet)
+}
+
+/// A device of so many blocks of zeros, where the row has an answer.
 fn zeros<D: Device>(blocks: u32, sheet: &mut Sheet) -> Option<D> {
+    if sheet.is_spoilt() {
+        return None;
+    }
     match D::zeros(sheet.alloc, blocks) {
         Ok(device) => Some(device),
         Err(_) => {
@@ -128,47 +133,15 @@ fn zeros<D: Device>(blocks: u32, sheet: &mut Sheet) -> Option<D> {
     }
 }
 
-/// A device of as many blocks of zeros as the one cell says.
-fn made<D: Device>(cells: &[Vec<u8>], sheet: &mut Sheet) -> Option<Bench<D>> {
-    let [blocks] = cells else {
-        sheet.refuse();
-        return None;
-    };
-    let blocks = number(blocks, sheet);
-    sheet.put(b"made");
-    Some(Bench::Stopped(zeros(blocks, sheet)?))
-}
-
-/// A buffer of the number and at the cycle that the cells say, over a device of so many blocks, of
-/// which a call fails where one is named.
-fn formatted<D: Device>(cells: &[Vec<u8>], sheet: &mut Sheet) -> Option<Bench<D>> {
-    let [blocks, buffer, cycle, failing @ ..] = cells else {
-        sheet.refuse();
-        return None;
-    };
-    let Some(failing) = failing_of(failing, sheet) else {
-        sheet.refuse();
-        return None;
-    };
-    let blocks = number(blocks, sheet);
-    let buffer = octet(buffer, sheet);
-    let cycle = number(cycle, sheet);
-    let mut device: D = zeros(blocks, sheet)?;
+/// A buffer of this number at this cycle, over a device of which this call fails.
+fn formatted<D: Device>(
+    mut device: D,
+    failing: u64,
+    number: u8,
+    cycle: u32,
+    sheet: &mut Sheet,
+) -> Bench<D> {
     device.arm(failing);
-    Some(format(device, buffer, cycle, sheet))
-}
-
-/// The number of the call that fails, 0 where the cells name none; none where they are too many.
-fn failing_of(cells: &[Vec<u8>], sheet: &mut Sheet) -> Option<u64> {
-    match cells {
-        [] => Some(0),
-        [call] => Some(sheet.read(call)),
-        _ => None,
-    }
-}
-
-/// A buffer of this number over a device, at this cycle.
-fn format<D: Device>(device: D, number: u8, cycle: u32, sheet: &mut Sheet) -> Bench<D> {
     match Buffer::format(sheet.alloc, device, number, cycle) {
         Ok(buffer) => {
             sheet.put(b"formatted");
@@ -186,32 +159,5 @@ fn put_format_error(error: FormatError, sheet: &mut Sheet) {
     match error {
         FormatError::Memory => sheet.lack(),
         FormatError::Device => sheet.put(b"Device"),
-    }
-}
-
-/// What a call leaves that takes the device or the buffer.
-fn turned<D: Device>(
-    bench: Bench<D>,
-    call: Call,
-    name: &[u8],
-    cells: &[Vec<u8>],
-    sheet: &mut Sheet,
-) -> Bench<D> {
-    match call {
-        Call::Step => put_step(bench, name, cells, sheet),
-        Call::Each => put_each(bench, cells, sheet),
-        Call::Octets(call) => match bench {
-            Bench::Stopped(device) => {
-                Bench::Stopped(octets::answered(device, call, cells, sheet))
-            }
-            other => {
-                sheet.refuse();
-                other
-            }
-        },
-        _ => {
-            sheet.refuse();
-            bench
-        }
     }
 }

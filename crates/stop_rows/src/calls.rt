@@ -1,94 +1,44 @@
 //! The calls and their names.
 
-use row_text::place_of;
+use crate::Rows;
+use crate::articles::End;
+use crate::bench::Device;
+use row_text::{Cells, Sheet, place_of};
 
-/// A call of a row.
-#[derive(Clone, Copy)]
-pub enum Call {
-    /// Makes a device, with a buffer or without one.
-    Make(Make),
-    /// Does something with the articles of a buffer that runs.
-    Article(Article),
-    /// Looks at or changes what a device holds on which no buffer runs.
-    Octets(Octets),
-    /// Stops or starts a buffer.
-    Step,
-    /// Stops or starts a buffer with each call of the device failing in turn.
-    Each,
-    /// The call of the device of this number fails.
-    Fail,
-    /// Reads texts of histories.
-    Text(Text),
-}
+/// The names of the calls, in the order of `put_at`, but for those of a step.
+const NAMES: &str = "format zeros fail each store abandon unfinished read numbers octets put \
+    changes cuts setting text history text_changes text_cuts";
 
-/// What is made.
-#[derive(Clone, Copy)]
-pub enum Make {
-    Format,
-    Zeros,
-}
+impl<D: Device> Rows<D> {
+    /// Writes the answer of a call.
+    pub(crate) fn put_answer(&mut self, call: &[u8], cells: &mut Cells<'_>, sheet: &mut Sheet) {
+        match place_of(NAMES, call) {
+            Some(place) => self.put_at(place, cells, sheet),
+            None => self.bench.put_step(call, cells, sheet),
+        }
+    }
 
-/// What is done with the articles of a buffer.
-#[derive(Clone, Copy)]
-pub enum Article {
-    Store,
-    Abandon,
-    Unfinished,
-    Read,
-    Numbers,
-}
-
-/// What is done with the octets of a device.
-#[derive(Clone, Copy)]
-pub enum Octets {
-    Octets,
-    Put,
-    Changes,
-    Cuts,
-}
-
-/// What is done with the text of a history.
-#[derive(Clone, Copy)]
-pub enum Text {
-    Setting,
-    Text,
-    History,
-    Changes,
-    Cuts,
-}
-
-/// The names of the calls, in their order.
-const NAMES: &str = "format zeros store abandon unfinished read numbers octets put changes cuts \
-    shut leave start open restart each fail setting text history text_changes text_cuts";
-
-/// The calls, in the order of their names.
-const CALLS: [Call; 23] = [
-    Call::Make(Make::Format),
-    Call::Make(Make::Zeros),
-    Call::Article(Article::Store),
-    Call::Article(Article::Abandon),
-    Call::Article(Article::Unfinished),
-    Call::Article(Article::Read),
-    Call::Article(Article::Numbers),
-    Call::Octets(Octets::Octets),
-    Call::Octets(Octets::Put),
-    Call::Octets(Octets::Changes),
-    Call::Octets(Octets::Cuts),
-    Call::Step,
-    Call::Step,
-    Call::Step,
-    Call::Step,
-    Call::Step,
-    Call::Each,
-    Call::Fail,
-    Call::Text(Text::Setting),
-    Call::Text(Text::Text),
-    Call::Text(Text::History),
-    Call::Text(Text::Changes),
-    Call::Text(Text::Cuts),
-];
-
-/// The call of this name.
-pub fn call_of(name: &[u8]) -> Option<Call> {
-    CALLS.get(place_of(NAMES, name)?).copied()
+    /// Writes the answer of the call whose name has this place.
+    fn put_at(&mut self, place: usize, cells: &mut Cells<'_>, sheet: &mut Sheet) {
+        match place {
+            0 => self.bench.format(cells, sheet),
+            1 => self.bench.make(cells, sheet),
+            2 => self.bench.fail(cells, sheet),
+            3 => self.bench.put_each(cells, sheet),
+            4 => self.bench.store(cells, sheet),
+            5 => self.bench.leave(cells, End::Abandoned, sheet),
+            6 => self.bench.leave(cells, End::Unfinished, sheet),
+            7 => self.bench.read(cells, sheet),
+            8 => self.bench.put_numbers(cells, sheet),
+            9 => self.bench.put_octets(cells, sheet),
+            10 => self.bench.change(cells, sheet),
+            11 => self.bench.put_changes(cells, sheet),
+            12 => self.bench.put_cuts(cells, sheet),
+            13 => self.texts.set(cells, sheet),
+            14 => self.texts.name(cells, sheet),
+            15 => self.texts.put_history(cells, sheet),
+            16 => self.texts.put_changes(cells, sheet),
+            _ => self.texts.put_cuts(cells, sheet),
+        }
+    }
 }

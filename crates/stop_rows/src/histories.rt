@@ -1,15 +1,17 @@
 //! Texts of histories.
-ghost use Rattle.std.specs.Prelude.{◌<◌, length};
+ghost use Rattle.id_history.specs.Room.{HasRoom};
 
-use crate::bench::{number, octet};
-use crate::calls::Text;
+use crate::bench::octet;
 use crate::octets::octets_by;
 use crate::runs::Runs;
-use cyc_token::Token;
 use id_history::{History, HistoryError, KeptFeed, KeptId, Setting, read, write};
-use row_text::Sheet;
+use line_words::is;
+use row_text::{Cells, Sheet, copy_of};
 use std::alloc::Global;
 use std::mem;
+
+/// The most that a number of a setting can be.
+const MOST: u64 = 4_294_967_295;
 
 /// A text, and the setting that it is read under.
 #[derive(Drop)]
@@ -31,38 +33,26 @@ impl Texts {
         }
     }
 
-    /// Writes the answer of a call.
-    pub fn answer(&mut self, call: Text, cells: &[Vec<u8>], sheet: &mut Sheet) {
-        match call {
-            Text::Setting => self.set(cells, sheet),
-            Text::Text => self.name(cells, sheet),
-            Text::History => self.put_history(cells, sheet),
-            Text::Changes => self.put_changes(cells, sheet),
-            Text::Cuts => self.put_cuts(cells, sheet),
+    /// From here the setting is that of the cells.
+    pub fn set(&mut self, cells: &mut Cells<'_>, sheet: &mut Sheet) {
+        let setting = setting_in(cells, sheet);
+        cells.end(sheet);
+        if sheet.is_spoilt() {
+            return drop(setting);
         }
-    }
-
-    /// From here the setting is that of the three cells.
-    fn set(&mut self, cells: &[Vec<u8>], sheet: &mut Sheet) {
-        let [buffers, groups, rings] = cells else {
-            return sheet.refuse();
-        };
-        let setting = setting_of(buffers, groups, rings, sheet);
         drop(mem::replace(&mut self.setting, setting));
         sheet.put(b"set");
     }
 
     /// From here the text is that whose digits stand in the cells.
-    fn name(&mut self, cells: &[Vec<u8>], sheet: &mut Sheet) {
-        self.text = octets_of(cells, sheet);
+    pub fn name(&mut self, cells: &Cells<'_>, sheet: &mut Sheet) {
+        self.text = octets_in(cells, sheet);
         sheet.number(self.text.len() as u64);
     }
 
     /// Writes the history that the text says, or that it says none.
-    fn put_history(&self, cells: &[Vec<u8>], sheet: &mut Sheet) {
-        if !cells.is_empty() {
-            return sheet.refuse();
-        }
+    pub fn put_history(&self, cells: &Cells<'_>, sheet: &mut Sheet) {
+        cells.end(sheet);
         match read(sheet.alloc, &self.text, &self.setting) {
             Ok(history) => {
                 put_parts(&history, sheet);
@@ -73,11 +63,9 @@ impl Texts {
     }
 
     /// Writes what the text gives with a mask's bits turned in each of its octets in turn.
-    fn put_changes(&self, cells: &[Vec<u8>], sheet: &mut Sheet) {
-        let [mask] = cells else {
-            return sheet.refuse();
-        };
-        let mask = octet(mask, sheet);
+    pub fn put_changes(&self, cells: &mut Cells<'_>, sheet: &mut Sheet) {
+        let mask = octet(cells, sheet);
+        cells.end(sheet);
         let mut runs = Runs::new(sheet.alloc);
         for place in 0..self.text.len() {
             let said = said_changed(&self.text, place, mask, &self.setting, sheet);
@@ -87,10 +75,8 @@ impl Texts {
     }
 
     /// Writes what the text gives cut behind so many of its octets, each number in turn.
-    fn put_cuts(&self, cells: &[Vec<u8>], sheet: &mut Sheet) {
-        if !cells.is_empty() {
-            return sheet.refuse();
-        }
+    pub fn put_cuts(&self, cells: &Cells<'_>, sheet: &mut Sheet) {
+        cells.end(sheet);
         let mut runs = Runs::new(sheet.alloc);
         for end in 0..self.text.len() {
             let said = said_of(&self.text[..end], &self.setting, sheet);
@@ -101,11 +87,14 @@ impl Texts {
 }
 
 /// The setting of so many buffers, and of groups and rings of so many each.
-fn setting_of(buffers: &[u8], groups: &[u8], rings: &[u8], sheet: &mut Sheet) -> Setting {
+fn setting_in(cells: &mut Cells<'_>, sheet: &mut Sheet) -> Setting {
+    let buffers = cells.number(MOST, sheet) as u32;
+    let groups = numbers_of(cells.next(sheet), sheet);
+    let rings = numbers_of(cells.next(sheet), sheet);
     Setting {
-        buffers: number(buffers, sheet),
-        groups: numbers_of(groups, sheet),
-        rings: numbers_of(rings, sheet),
+        buffers,
+        groups,
+        rings,
     }
 }
 
@@ -120,15 +109,15 @@ fn numbers_of(cell: &[u8], sheet: &mut Sheet) -> Vec<u32> {
 
 /// The number of a word follows.
 fn add_number(numbers: &mut Vec<u32>, word: &[u8], sheet: &mut Sheet) {
-    if numbers.push(number(word, sheet)).is_err() {
+    if numbers.push(sheet.read_up_to(MOST, word) as u32).is_err() {
         sheet.lack();
     }
 }
 
-/// The octets whose digits stand in cells.
-fn octets_of(cells: &[Vec<u8>], sheet: &mut Sheet) -> Vec<u8> {
+/// The octets whose digits stand in the cells.
+fn octets_in(cells: &Cells<'_>, sheet: &mut Sheet) -> Vec<u8> {
     let mut octets = Vec::new(sheet.alloc);
-    for cell in cells {
+    for cell in cells.rest() {
         add_octets(&mut octets, cell, sheet);
     }
     octets
@@ -208,37 +197,40 @@ fn said_changed(
     mask: u8,
     setting: &Setting,
     sheet: &mut Sheet,
-) -> Vec<u8>
-    requires { place < length text.now }
-{
-    let parts = [&text[..place], &[text[place] ^ mask], &text[place + 1..]];
-    match parts.concat(sheet.alloc) {
-        Ok(changed) => said_of(&changed, setting, sheet),
-        Err(_) => {
-            sheet.lack();
-            Vec::new(sheet.alloc)
-        }
+) -> Vec<u8> {
+    let mut changed = copy_of(text, sheet);
+    if let Some(octet) = changed.get_mut(place) {
+        *octet ^= mask;
     }
+    said_of(&changed, setting, sheet)
 }
 
 /// What a text gives: `read` where it is the text of the history that is read, else the fault.
 fn said_of(text: &[u8], setting: &Setting, sheet: &mut Sheet) -> Vec<u8> {
     let mut said = Sheet::new(sheet.alloc);
-    match written(sheet.alloc, text, setting) {
-        Ok(octets) => said.put(word_of(octets.as_slice() == text)),
-        Err(error) => put_fault(error, &mut said),
-    }
+    put_reading(text, setting, &mut said);
     said.onto(sheet)
 }
 
-/// The word for a text that was read, and that was written so again or not.
-fn word_of(is_same: bool) -> &'static [u8] {
-    if is_same { b"read" } else { b"other" }
+/// Writes `read` where a text is that of the history that it says, else `other`, or its fault.
+#[tactic(auto, using(crate::proofs::Rooms::room_of))]
+fn put_reading(text: &[u8], setting: &Setting, sheet: &mut Sheet) {
+    match read(sheet.alloc, text, setting) {
+        Ok(history) => {
+            put_written(&history, text, sheet);
+            drop(history);
+        }
+        Err(error) => put_fault(error, sheet),
+    }
 }
 
-/// The text of the history that a text says.
-#[tactic(auto, using(crate::proofs::Rooms::room_of))]
-fn written(alloc: Global, text: &[u8], setting: &Setting) -> Result<Vec<u8>, HistoryError> {
-    let history = read(alloc, text, setting)?;
-    Ok(write(alloc, &history)?)
+/// Writes whether a text is that of a history.
+fn put_written(history: &History, text: &[u8], sheet: &mut Sheet)
+    requires { HasRoom history.now }
+{
+    match write(sheet.alloc, history) {
+        Ok(octets) if is(&octets, text) => sheet.put(b"read"),
+        Ok(_) => sheet.put(b"other"),
+        Err(_) => sheet.lack(),
+    }
 }

@@ -14,10 +14,9 @@ mod runs;
 mod steps;
 
 use bench::{Bench, Device};
-use calls::{Call, call_of};
 use cyc_block::{FailAt, MemoryBlocks};
 use histories::Texts;
-use row_text::{Answers, Sheet, play};
+use row_text::{Answers, Cells, Sheet, play};
 use std::process::ExitCode;
 
 fn main(rt: HostRuntime) -> ExitCode {
@@ -39,10 +38,6 @@ struct Rows<D: Device> {
 
 impl<D: Device> Answers for Rows<D> {
     fn answer(&mut self, call: &[u8], cells: &[Vec<u8>], sheet: &mut Sheet) {
-        match call_of(call) {
-            Some(Call::Text(call)) => self.texts.answer(call, cells, sheet),
-            Some(known) => self.bench.answer(known, call, cells, sheet),
-            None => sheet.refuse(),
-        }
+        self.put_answer(call, &mut Cells::new(cells), sheet);
     }
 }

@@ -1,13 +1,12 @@
 //! The octets of a device on which no buffer runs.
 ghost use Rattle.std.specs.Prelude.{◌<◌};
 
-use crate::bench::{Device, number, octet};
-use crate::calls::Octets;
+use crate::bench::{Bench, Device, number, octet};
 use crate::runs::Runs;
-use crate::steps::tried;
+use crate::steps::Step;
 use cyc_block::{BLOCK_OCTETS, BlockStore, head_count};
 use hex::FromHexError;
-use row_text::Sheet;
+use row_text::{Cells, Sheet, place_of};
 use std::alloc::AllocError;
 
 /// A block of a device.
@@ -26,105 +25,115 @@ enum Change {
     Cut,
 }
 
-/// A walk over the octets of a block.
-#[derive(Clone, Copy)]
-struct Walk {
+impl<D: Device> Bench<D> {
+    /// Writes the octets of a block but for the zeros at its end.
+    pub(crate) fn put_octets(&mut self, cells: &mut Cells<'_>, sheet: &mut Sheet) {
+        let block = block_in(cells, sheet);
+        cells.end(sheet);
+        let octets = self.octets_of(block, sheet);
+        put_hex(octets.get(..end_of(&octets)).unwrap_or(b""), sheet);
+    }
+
+    /// Puts octets into a block from a place on.
+    pub(crate) fn change(&mut self, cells: &mut Cells<'_>, sheet: &mut Sheet) {
+        let block = block_in(cells, sheet);
+        let place = number(cells, sheet) as usize;
+        let other = octets_by(cells.next(sheet), sheet);
+        cells.end(sheet);
+        let mut octets = self.octets_of(block, sheet);
+        put_at(&mut octets, place, &other, sheet);
+        self.put_block(block, &octets, sheet);
+        sheet.put(b"put");
+    }
+
+    /// Writes what a start answers with a mask's bits turned in each octet of a block in turn.
+    pub(crate) fn put_changes(&mut self, cells: &mut Cells<'_>, sheet: &mut Sheet) {
+        let block = block_in(cells, sheet);
+        let change = Change::Turn(octet(cells, sheet));
+        self.walk(block, change, cells, sheet);
+    }
+
+    /// Writes what a start answers with zeros from each octet of a block on in turn.
+    pub(crate) fn put_cuts(&mut self, cells: &mut Cells<'_>, sheet: &mut Sheet) {
+        let block = block_in(cells, sheet);
+        self.walk(block, Change::Cut, cells, sheet);
+    }
+
+    /// Writes what the start that the cells name answers with this change at each octet of a block
+    /// in turn. The block is then as it was.
+    fn walk(&mut self, block: Block, change: Change, cells: &mut Cells<'_>, sheet: &mut Sheet) {
+        let buffer = octet(cells, sheet);
+        let cycle = number(cells, sheet);
+        cells.end(sheet);
+        let octets = self.octets_of(block, sheet);
+        if sheet.is_spoilt() {
+            return;
+        }
+        let mut runs = Runs::new(sheet.alloc);
+        for place in 0..BLOCK_OCTETS {
+            let mut said = Sheet::new(sheet.alloc);
+            self.put_block(block, &changed(&octets, place, change), &mut said);
+            self.take_step(Step::Start(buffer, cycle), &mut said);
+            self.stop_again();
+            runs.add(place as u64, said.onto(sheet), sheet);
+        }
+        runs.end(sheet);
+        self.put_block(block, &octets, sheet);
+    }
+
+    /// A buffer that was started is left again.
+    fn stop_again(&mut self) {
+        let after = match self.take() {
+            Bench::Unopened(buffer) => Bench::Stopped(buffer.into_store()),
+            other => other,
+        };
+        self.set(after);
+    }
+
+    /// The octets of a block; where there is none, the row has no answer.
+    fn octets_of(&mut self, block: Block, sheet: &mut Sheet) -> [u8; BLOCK_OCTETS] {
+        let mut octets = [0; BLOCK_OCTETS];
+        match self {
+            Bench::Stopped(device) => read_block(device, block, &mut octets, sheet),
+            _ => sheet.refuse(),
+        }
+        octets
+    }
+
+    /// Puts octets into a block, where the row has an answer; where there is no such block, it has
+    /// none.
+    fn put_block(&mut self, block: Block, octets: &[u8; BLOCK_OCTETS], sheet: &mut Sheet) {
+        if sheet.is_spoilt() {
+            return;
+        }
+        match self {
+            Bench::Stopped(device) => write_block(device, block, octets, sheet),
+            _ => sheet.refuse(),
+        }
+    }
+}
+
+/// Reads a block of a device; where there is none, the row has no answer.
+fn read_block<D: Device>(
+    device: &mut D,
     block: Block,
-    change: Change,
-    /// The number of the buffer that is started.
-    number: u8,
-    /// Its first cycle.
-    cycle: u32,
-}
-
-/// The device after a call, whose answer is written.
-pub fn answered<D: Device>(device: D, call: Octets, cells: &[Vec<u8>], sheet: &mut Sheet) -> D {
-    let mut device = device;
-    match walk_of(call, cells, sheet) {
-        Some(walk) => walked(device, walk, sheet),
-        None => {
-            look(&mut device, call, cells, sheet);
-            device
-        }
-    }
-}
-
-/// The walk that a call and its cells name.
-fn walk_of(call: Octets, cells: &[Vec<u8>], sheet: &mut Sheet) -> Option<Walk> {
-    let (block, cells) = block_in(cells, sheet)?;
-    let (change, cells) = change_of(call, cells, sheet)?;
-    let [buffer, cycle] = cells else {
-        return None;
-    };
-    Some(Walk {
-        block,
-        change,
-        number: octet(buffer, sheet),
-        cycle: number(cycle, sheet),
-    })
-}
-
-/// What is done to the octets of a block in a walk, and the cells behind those that say so.
-fn change_of<'a>(
-    call: Octets,
-    cells: &'a [Vec<u8>],
+    octets: &mut [u8; BLOCK_OCTETS],
     sheet: &mut Sheet,
-) -> Option<(Change, &'a [Vec<u8>])> {
-    match call {
-        Octets::Cuts => Some((Change::Cut, cells)),
-        Octets::Changes => {
-            let (mask, cells) = cells.split_first()?;
-            Some((Change::Turn(octet(mask, sheet)), cells))
-        }
-        _ => None,
-    }
-}
-
-/// Writes the answer of a call that starts no buffer.
-fn look<S: BlockStore>(device: &mut S, call: Octets, cells: &[Vec<u8>], sheet: &mut Sheet) {
-    match (call, block_in(cells, sheet)) {
-        (Octets::Octets, Some((block, []))) => put_octets(device, block, sheet),
-        (Octets::Put, Some((block, [place, octets]))) => {
-            change_octets(device, block, place, octets, sheet)
-        }
-        _ => sheet.refuse(),
-    }
-}
-
-/// The block that the first two cells name, and the cells behind them.
-fn block_in<'a>(cells: &'a [Vec<u8>], sheet: &mut Sheet) -> Option<(Block, &'a [Vec<u8>])> {
-    let [kind, block, cells @ ..] = cells else {
-        return None;
-    };
-    Some((block_of(kind, block, sheet)?, cells))
-}
-
-/// The block that two cells name.
-fn block_of(kind: &[u8], block: &[u8], sheet: &mut Sheet) -> Option<Block> {
-    let block = number(block, sheet);
-    match kind {
-        b"head" => Some(Block::Head(block)),
-        b"block" => Some(Block::Data(block)),
-        _ => None,
-    }
-}
-
-/// The octets of a block; none where there is none.
-fn octets_of<S: BlockStore>(device: &mut S, block: Block) -> Option<[u8; BLOCK_OCTETS]> {
-    let mut octets = [0; BLOCK_OCTETS];
+) {
     let count = device.count();
     let read = match block {
-        Block::Head(k) if k < head_count(count) => device.read_head(k, &mut octets),
-        Block::Data(k) if k < count => device.read(k, &mut octets),
-        _ => return None,
+        Block::Head(k) if k < head_count(count) => device.read_head(k, octets),
+        Block::Data(k) if k < count => device.read(k, octets),
+        _ => return sheet.refuse(),
     };
-    read.ok()?;
-    Some(octets)
+    if read.is_err() {
+        sheet.refuse();
+    }
 }
 
-/// Puts octets into a block, where there is one.
-fn put_block<S: BlockStore>(
-    device: &mut S,
+/// Writes a block of a device; where there is none, the row has no answer.
+fn write_block<D: Device>(
+    device: &mut D,
     block: Block,
     octets: &[u8; BLOCK_OCTETS],
     sheet: &mut Sheet,
@@ -140,14 +149,17 @@ fn put_block<S: BlockStore>(
     }
 }
 
-/// Writes the octets of a block but for the zeros at its end.
-fn put_octets<S: BlockStore>(device: &mut S, block: Block, sheet: &mut Sheet) {
-    let Some(octets) = octets_of(device, block) else {
-        return sheet.refuse();
-    };
-    match octets.get(..end_of(&octets)) {
-        Some(octets) => put_hex(octets, sheet),
-        None => sheet.refuse(),
+/// The block that the next two cells name.
+fn block_in(cells: &mut Cells<'_>, sheet: &mut Sheet) -> Block {
+    let kind = cells.next(sheet);
+    let block = number(cells, sheet);
+    match place_of("head block", kind) {
+        Some(0) => Block::Head(block),
+        Some(_) => Block::Data(block),
+        None => {
+            sheet.refuse();
+            Block::Data(block)
+        }
     }
 }
 
@@ -176,7 +188,7 @@ fn put_hex(octets: &[u8], sheet: &mut Sheet) {
 }
 
 /// The octets that digits write; none where they write none.
-pub fn octets_by(digits: &[u8], sheet: &mut Sheet) -> Vec<u8> {
+pub(crate) fn octets_by(digits: &[u8], sheet: &mut Sheet) -> Vec<u8> {
     match hex::decode(sheet.alloc, digits) {
         Ok(octets) => return octets,
         Err(FromHexError::OutOfMemory) => sheet.lack(),
@@ -185,56 +197,12 @@ pub fn octets_by(digits: &[u8], sheet: &mut Sheet) -> Vec<u8> {
     Vec::new(sheet.alloc)
 }
 
-/// Puts octets into a block from a place on.
-fn change_octets<S: BlockStore>(
-    device: &mut S,
-    block: Block,
-    place: &[u8],
-    digits: &[u8],
-    sheet: &mut Sheet,
-) {
-    let place = number(place, sheet) as usize;
-    let other = octets_by(digits, sheet);
-    let Some(mut octets) = octets_of(device, block) else {
-        return sheet.refuse();
-    };
-    if !is_put(&mut octets, place, &other) {
-        return sheet.refuse();
-    }
-    put_block(device, block, &octets, sheet);
-    sheet.put(b"put");
-}
-
-/// Puts octets into others from a place on; where there is no room for them, the answer is `false`.
-fn is_put(octets: &mut [u8; BLOCK_OCTETS], place: usize, other: &[u8]) -> bool {
+/// Puts octets into others from a place on; where there is no room for them, the row has no answer.
+fn put_at(octets: &mut [u8; BLOCK_OCTETS], place: usize, other: &[u8], sheet: &mut Sheet) {
     match octets.get_mut(place..place.saturating_add(other.len())) {
-        Some(part) => {
-            part.copy_from_slice(other);
-            true
-        }
-        None => false,
+        Some(part) => part.copy_from_slice(other),
+        None => sheet.refuse(),
     }
-}
-
-/// Writes what a start answers with each octet of a block changed in turn. The block is then as it
-/// was.
-fn walked<D: Device>(device: D, walk: Walk, sheet: &mut Sheet) -> D {
-    let mut device = device;
-    let Some(octets) = octets_of(&mut device, walk.block) else {
-        sheet.refuse();
-        return device;
-    };
-    let mut runs = Runs::new(sheet.alloc);
-    for place in 0..BLOCK_OCTETS {
-        let mut said = Sheet::new(sheet.alloc);
-        let other = changed(&octets, place, walk.change);
-        put_block(&mut device, walk.block, &other, &mut said);
-        device = tried(device, walk.number, walk.cycle, &mut said);
-        runs.add(place as u64, said.onto(sheet), sheet);
-    }
-    runs.end(sheet);
-    put_block(&mut device, walk.block, &octets, sheet);
-    device
 }
 
 /// The octets with this change at a place.

@@ -4,11 +4,11 @@ use crate::bench::{Bench, Device, number, octet};
 use crate::runs::Runs;
 use cyc_buffer::{Buffer, RestartError, StartError, Unopened};
 use cyc_token::Token;
-use row_text::{Sheet, place_of};
+use row_text::{Cells, Sheet, place_of};
 
 /// A stop or a start.
 #[derive(Clone, Copy)]
-enum Step {
+pub(crate) enum Step {
     /// The buffer is shut under the number of a stop.
     Shut(u64),
     /// The buffer is left as it is.
@@ -24,229 +24,182 @@ enum Step {
 /// More calls of a device than a step takes in which each of them fails in turn.
 const MOST_CALLS: u64 = 64;
 
-/// Writes what a step answers.
-pub fn put_step<D: Device>(
-    bench: Bench<D>,
-    name: &[u8],
-    cells: &[Vec<u8>],
-    sheet: &mut Sheet,
-) -> Bench<D> {
-    match step_of(name, cells, sheet) {
-        Some(step) if !sheet.is_spoilt() => {
-            let (after, _done) = taken(bench, step, sheet);
-            after
-        }
-        _ => {
-            sheet.refuse();
-            bench
+impl<D: Device> Bench<D> {
+    /// Writes what the step of this name answers.
+    pub fn put_step(&mut self, name: &[u8], cells: &mut Cells<'_>, sheet: &mut Sheet) {
+        let step = step_of(name, cells, sheet);
+        if !sheet.is_spoilt() {
+            self.take_step(step, sheet);
         }
     }
-}
 
-/// Writes what the step that the cells name answers with each call of the device failing in turn.
-pub fn put_each<D: Device>(bench: Bench<D>, cells: &[Vec<u8>], sheet: &mut Sheet) -> Bench<D> {
-    match step_in(cells, sheet) {
-        Some(step) if !sheet.is_spoilt() => walked(bench, step, sheet),
-        _ => {
-            sheet.refuse();
-            bench
+    /// Writes what the step that the cells name answers with each call of the device failing in
+    /// turn, the last time none.
+    pub fn put_each(&mut self, cells: &mut Cells<'_>, sheet: &mut Sheet) {
+        let name = cells.next(sheet);
+        let step = step_of(name, cells, sheet);
+        if sheet.is_spoilt() {
+            return;
         }
+        let mut runs = Runs::new(sheet.alloc);
+        for failing in 1..MOST_CALLS {
+            let said = self.said_failing(step, failing, sheet);
+            let is_last = !is_error(&said);
+            runs.add(failing, said, sheet);
+            if is_last {
+                break;
+            }
+        }
+        runs.end(sheet);
+        self.arm(0);
     }
-}
 
-/// The step that the cells name.
-fn step_in(cells: &[Vec<u8>], sheet: &mut Sheet) -> Option<Step> {
-    let (name, cells) = cells.split_first()?;
-    step_of(name, cells, sheet)
-}
-
-/// The step of this name and these cells.
-fn step_of(name: &[u8], cells: &[Vec<u8>], sheet: &mut Sheet) -> Option<Step> {
-    match place_of("shut leave start open restart", name)? {
-        0 => Some(Step::Shut(stop_in(cells, sheet)?)),
-        1 => alone(Step::Leave, cells),
-        2 => start_in(cells, sheet),
-        3 => alone(Step::Open, cells),
-        4 => Some(Step::Restart(stop_in(cells, sheet)?)),
-        _ => None,
-    }
-}
-
-/// The step, where no cells stand behind its name.
-fn alone(step: Step, cells: &[Vec<u8>]) -> Option<Step> {
-    if cells.is_empty() { Some(step) } else { None }
-}
-
-/// The number of a stop, where it is the only cell.
-fn stop_in(cells: &[Vec<u8>], sheet: &mut Sheet) -> Option<u64> {
-    match cells {
-        [stop] => Some(sheet.read(stop)),
-        _ => None,
-    }
-}
-
-/// The start that two cells name.
-fn start_in(cells: &[Vec<u8>], sheet: &mut Sheet) -> Option<Step> {
-    match cells {
-        [buffer, cycle] => Some(Step::Start(octet(buffer, sheet), number(cycle, sheet))),
-        _ => None,
-    }
-}
-
-/// Writes what a step answers with each call of the device failing in turn, the last time none.
-fn walked<D: Device>(bench: Bench<D>, step: Step, sheet: &mut Sheet) -> Bench<D> {
-    let mut runs = Runs::new(sheet.alloc);
-    let mut bench = bench;
-    for failing in 1..MOST_CALLS {
+    /// What a step answers with this call of the device failing, as it is written.
+    fn said_failing(&mut self, step: Step, failing: u64, sheet: &mut Sheet) -> Vec<u8> {
         let mut said = Sheet::new(sheet.alloc);
-        bench.arm(failing);
-        let (after, done) = taken(bench, step, &mut said);
-        bench = after;
-        runs.add(failing, said.onto(sheet), sheet);
-        if done {
-            break;
-        }
+        self.arm(failing);
+        self.take_step(step, &mut said);
+        said.onto(sheet)
     }
-    runs.end(sheet);
-    bench.arm(0);
-    bench
+
+    /// Takes a step, and writes its answer.
+    pub(crate) fn take_step(&mut self, step: Step, sheet: &mut Sheet) {
+        let after = match self.take() {
+            Bench::Running(buffer) => stopped(buffer, step, sheet),
+            Bench::Unopened(buffer) => opened(buffer, step, sheet),
+            Bench::Stopped(device) => started(device, step, sheet),
+            Bench::Nothing => {
+                sheet.refuse();
+                Bench::Nothing
+            }
+        };
+        self.set(after);
+    }
 }
 
-/// Takes a step, and writes its answer; whether it isn't refused.
-fn taken<D: Device>(bench: Bench<D>, step: Step, sheet: &mut Sheet) -> (Bench<D>, bool) {
-    match bench {
-        Bench::Running(buffer) => stopped(buffer, step, sheet),
-        Bench::Unopened(buffer) => opened(buffer, step, sheet),
-        Bench::Stopped(device) => started(device, step, sheet),
-        Bench::Nothing => {
+/// The step of this name and these cells; where there is none, the row has no answer.
+fn step_of(name: &[u8], cells: &mut Cells<'_>, sheet: &mut Sheet) -> Step {
+    let step = match place_of("shut restart start open leave", name) {
+        Some(0) => Step::Shut(cells.number(u64::MAX, sheet)),
+        Some(1) => Step::Restart(cells.number(u64::MAX, sheet)),
+        Some(2) => start_in(cells, sheet),
+        Some(3) => Step::Open,
+        Some(_) => Step::Leave,
+        None => {
             sheet.refuse();
-            (Bench::Nothing, true)
+            Step::Leave
         }
+    };
+    cells.end(sheet);
+    step
+}
+
+/// The start that the next two cells name.
+fn start_in(cells: &mut Cells<'_>, sheet: &mut Sheet) -> Step {
+    let buffer = octet(cells, sheet);
+    let cycle = number(cells, sheet);
+    Step::Start(buffer, cycle)
+}
+
+/// Whether an answer is an error: those begin with a capital letter.
+fn is_error(said: &[u8]) -> bool {
+    match said.first() {
+        Some(octet) => octet.is_ascii_uppercase(),
+        None => false,
     }
 }
 
 /// Takes a step of a buffer that runs.
-fn stopped<D: Device>(buffer: Buffer<D>, step: Step, sheet: &mut Sheet) -> (Bench<D>, bool) {
+fn stopped<D: Device>(buffer: Buffer<D>, step: Step, sheet: &mut Sheet) -> Bench<D> {
     match step {
         Step::Shut(stop) => shut(buffer, stop, sheet),
+        Step::Restart(stop) => restarted(buffer, stop, sheet),
         Step::Leave => {
             sheet.put(b"left");
-            (Bench::Stopped(buffer.into_store()), true)
+            Bench::Stopped(buffer.into_store())
         }
-        Step::Restart(stop) => restarted(buffer, stop, sheet),
         Step::Start(_, _) | Step::Open => {
             sheet.refuse();
-            (Bench::Running(buffer), true)
+            Bench::Running(buffer)
         }
     }
 }
 
 /// Shuts a buffer under the number of a stop.
-fn shut<D: Device>(buffer: Buffer<D>, stop: u64, sheet: &mut Sheet) -> (Bench<D>, bool) {
+fn shut<D: Device>(buffer: Buffer<D>, stop: u64, sheet: &mut Sheet) -> Bench<D> {
     match buffer.shut(stop) {
         Ok(device) => {
             sheet.put(b"shut");
-            (Bench::Stopped(device), true)
+            Bench::Stopped(device)
         }
         Err(refused) => {
             sheet.debug(&refused.error);
-            (Bench::Running(refused.buffer), false)
-        }
-    }
-}
-
-/// Takes a step of a buffer whose head isn't open.
-fn opened<D: Device>(buffer: Unopened<D>, step: Step, sheet: &mut Sheet) -> (Bench<D>, bool) {
-    match step {
-        Step::Leave => {
-            sheet.put(b"left");
-            (Bench::Stopped(disarmed(buffer.into_store())), true)
-        }
-        Step::Open => open(buffer, sheet),
-        _ => {
-            sheet.refuse();
-            (Bench::Unopened(buffer), true)
-        }
-    }
-}
-
-/// The device, no call of which fails.
-fn disarmed<D: Device>(device: D) -> D {
-    let mut device = device;
-    device.arm(0);
-    device
-}
-
-/// Opens the head of a buffer.
-fn open<D: Device>(buffer: Unopened<D>, sheet: &mut Sheet) -> (Bench<D>, bool) {
-    match buffer.open() {
-        Ok(buffer) => {
-            sheet.put(b"opened");
-            (Bench::Running(buffer), true)
-        }
-        Err(buffer) => {
-            sheet.put(b"Device");
-            (Bench::Unopened(buffer), false)
+            Bench::Running(refused.buffer)
         }
     }
 }
 
 /// Stops a buffer and starts it in place.
-fn restarted<D: Device>(buffer: Buffer<D>, stop: u64, sheet: &mut Sheet) -> (Bench<D>, bool) {
-    let mut buffer = buffer;
+fn restarted<D: Device>(mut buffer: Buffer<D>, stop: u64, sheet: &mut Sheet) -> Bench<D> {
     match buffer.restart(sheet.alloc, stop) {
         Ok(tokens) => {
             sheet.put(b"restarted");
             put_tokens(&tokens, sheet);
-            (Bench::Running(buffer), true)
         }
-        Err(RestartError::Start(StartError::Memory)) => {
-            sheet.lack();
-            (Bench::Running(buffer), true)
+        Err(RestartError::Start(StartError::Memory)) => sheet.lack(),
+        Err(error) => sheet.debug(&error),
+    }
+    Bench::Running(buffer)
+}
+
+/// Takes a step of a buffer whose head isn't open.
+fn opened<D: Device>(buffer: Unopened<D>, step: Step, sheet: &mut Sheet) -> Bench<D> {
+    match step {
+        Step::Leave => {
+            sheet.put(b"left");
+            let mut device = buffer.into_store();
+            device.arm(0);
+            Bench::Stopped(device)
         }
-        Err(error) => {
-            sheet.debug(&error);
-            (Bench::Running(buffer), false)
+        Step::Open => open(buffer, sheet),
+        _ => {
+            sheet.refuse();
+            Bench::Unopened(buffer)
+        }
+    }
+}
+
+/// Opens the head of a buffer.
+fn open<D: Device>(buffer: Unopened<D>, sheet: &mut Sheet) -> Bench<D> {
+    match buffer.open() {
+        Ok(buffer) => {
+            sheet.put(b"opened");
+            Bench::Running(buffer)
+        }
+        Err(buffer) => {
+            sheet.put(b"Device");
+            Bench::Unopened(buffer)
         }
     }
 }
 
 /// Takes a step of a device on which no buffer runs.
-fn started<D: Device>(device: D, step: Step, sheet: &mut Sheet) -> (Bench<D>, bool) {
+fn started<D: Device>(device: D, step: Step, sheet: &mut Sheet) -> Bench<D> {
     let Step::Start(number, cycle) = step else {
         sheet.refuse();
-        return (Bench::Stopped(device), true);
+        return Bench::Stopped(device);
     };
     match Buffer::start(sheet.alloc, device, number, cycle) {
         Ok(started) => {
-            put_started(started.stop, &started.tokens, sheet);
-            (Bench::Unopened(started.buffer), true)
+            sheet.numbered(b"stop ", started.stop);
+            put_tokens(&started.tokens, sheet);
+            Bench::Unopened(started.buffer)
         }
         Err(refused) => {
             put_refusal(refused.error, sheet);
-            (Bench::Stopped(refused.store), false)
+            Bench::Stopped(refused.store)
         }
     }
-}
-
-/// The device after a start, whose answer is written.
-pub fn tried<D: Device>(device: D, number: u8, cycle: u32, sheet: &mut Sheet) -> D {
-    match Buffer::start(sheet.alloc, device, number, cycle) {
-        Ok(started) => {
-            put_started(started.stop, &started.tokens, sheet);
-            started.buffer.into_store()
-        }
-        Err(refused) => {
-            put_refusal(refused.error, sheet);
-            refused.store
-        }
-    }
-}
-
-/// Writes the number of a stop and tokens.
-fn put_started(stop: u64, tokens: &[Token], sheet: &mut Sheet) {
-    sheet.numbered(b"stop ", stop);
-    put_tokens(tokens, sheet);
 }
 
 /// Writes why a buffer isn't started.

@@ -21,28 +21,16 @@ use row_text::Sheet;
 use std::alloc::{AllocError, Global};
 use std::io;
 use std::io::{ErrorKind, Read, Write};
-use std::random::RandomSource;
-use std::sync::Wait;
-use std::thread::Threads;
-use std::time::Clock;
 
 fn main(rt: HostRuntime) -> io::Result<()> {
     let alloc = rt.alloc();
     let mut input = Vec::new(alloc);
     rt.reader().read_to_end(&mut input)?;
-    print_all(&rt, alloc, &input)
-}
-
-/// Plays the rows of a text and the queue, and prints what came of them.
-fn print_all<R>(rt: &R, alloc: Global, input: &[u8]) -> io::Result<()>
-where
-    R: Threads + Wait + Clock + RandomSource + Print + Sync + 'static,
-{
-    let lines = lines_of(alloc, input)?;
-    relay::play(rt, alloc, &lines)?;
+    let lines = lines_of(alloc, &input)?;
+    relay::play(&rt, alloc, &lines)?;
     let mut sheet = Sheet::new(alloc);
-    queue::full_queue(rt, alloc, &mut sheet)?;
-    print(rt, &sheet)
+    queue::put_full_queue(&rt, &mut sheet);
+    print(&rt, &sheet)
 }
 
 /// The lines of a text.
@@ -54,15 +42,10 @@ fn lines_of(alloc: Global, text: &[u8]) -> Result<Vec<&[u8]>, AllocError> {
     Ok(lines)
 }
 
-/// Prints what is written on a sheet, where there was memory for all of it.
+/// Prints what is written on a sheet, where all that was to be played was.
 fn print<R: Print>(rt: &R, sheet: &Sheet) -> io::Result<()> {
     if sheet.is_spoilt() {
-        return Err(failed());
+        return Err(io::Error::from(ErrorKind::Other));
     }
     io::writer(rt).write_all(sheet.octets())
-}
-
-/// The failure of a play.
-fn failed() -> io::Error {
-    io::Error::from(ErrorKind::Other)
 }

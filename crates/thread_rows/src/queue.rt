@@ -2,7 +2,6 @@
 ghost use Rattle.crossbeam_queue.specs.Passes.{view, IsPassOf};
 ghost use Rattle.job_queue.specs.Delivery.{IsOpen, OfWriter};
 
-use crate::failed;
 use crate::making::{LEAST_OCTETS, sample_article};
 use buffer_group::Job;
 use job_queue::{
@@ -12,50 +11,56 @@ use job_queue::{
 use nntp_text::MsgId;
 use row_text::Sheet;
 use std::alloc::Global;
-use std::io;
 use std::sync::Wait;
 
-/// A job of this session under this message-id, whose article is the smallest sample.
-fn job(alloc: Global, session: u64, id: &[u8]) -> io::Result<Job> {
-    let Ok(id) = MsgId::parse(alloc, id) else {
-        return Err(failed());
+/// A job of session 1, whose article is the smallest sample.
+fn job(alloc: Global) -> Option<Job> {
+    let Ok(Some(sample)) = sample_article(alloc, LEAST_OCTETS) else {
+        return None;
     };
-    let Some(sample) = sample_article(alloc, LEAST_OCTETS)? else {
-        return Err(failed());
-    };
-    Ok(Job {
-        session,
-        id,
-        article: sample.into_accepted(alloc),
-    })
+    let article = sample.into_accepted(alloc);
+    match MsgId::parse(alloc, b"<a@x>") {
+        Ok(id) => Some(Job {
+            session: 1,
+            id,
+            article,
+        }),
+        Err(_) => {
+            drop(article);
+            None
+        }
+    }
 }
 
 /// Hands a job of this end over, and says whether it went.
-fn handed<R: Wait>(
+fn is_handed<R: Wait>(
     rt: &R,
-    alloc: Global,
+    sheet: &mut Sheet,
     queue: &JobQueue,
     pass: &mut QueuePass,
     end: u64,
     number: u64,
-) -> io::Result<bool>
+) -> bool
     requires pass { IsPassOf queue.now pass.old }
     requires open { IsOpen end (view pass.old) }
     ensures pass { IsPassOf queue.now pass.new }
     ensures open { IsOpen end (view pass.new) }
 {
-    let job = job(alloc, 1, b"<a@x>")?;
+    let Some(job) = job(sheet.alloc) else {
+        sheet.refuse();
+        return false;
+    };
     match hand_over(rt, queue, pass, Handed { end, number, job }) {
-        Ok(()) => Ok(true),
+        Ok(()) => true,
         Err(back) => {
             drop(back);
-            Ok(false)
+            false
         }
     }
 }
 
-/// Takes a parcel, and writes its end, and its number where it is a job; whether there was one.
-fn taken<R: Wait>(rt: &R, sheet: &mut Sheet, queue: &JobQueue, pass: &mut QueuePass) -> bool
+/// Takes a parcel, and writes its end, and its number where it is a job.
+fn take<R: Wait>(rt: &R, sheet: &mut Sheet, queue: &JobQueue, pass: &mut QueuePass)
     requires pass { IsPassOf queue.now pass.old }
     requires writer { OfWriter (view pass.old) }
     ensures pass { IsPassOf queue.now pass.new }
@@ -65,68 +70,69 @@ fn taken<R: Wait>(rt: &R, sheet: &mut Sheet, queue: &JobQueue, pass: &mut QueueP
         Some(Parcel::Job(handed)) => {
             sheet.numbered(b"taken: job ", handed.number);
             sheet.numbered(b" of end ", handed.end);
+            sheet.put(b"\n");
             drop(handed);
         }
-        Some(Parcel::Mark(end)) => sheet.numbered(b"taken: the mark of end ", end),
-        None => return false,
+        Some(Parcel::Mark(end)) => {
+            sheet.numbered(b"taken: the mark of end ", end);
+            sheet.put(b"\n");
+        }
+        None => {}
     }
-    sheet.put(b"\n");
-    true
 }
 
 /// Hands jobs over until one is given back, and says how many went.
-fn filled<R: Wait>(rt: &R, alloc: Global, queue: &JobQueue, pass: &mut QueuePass) -> io::Result<u64>
+fn filled<R: Wait>(rt: &R, sheet: &mut Sheet, queue: &JobQueue, pass: &mut QueuePass) -> u64
     requires pass { IsPassOf queue.now pass.old }
     requires open { IsOpen 0 (view pass.old) }
     ensures pass { IsPassOf queue.now pass.new }
     ensures open { IsOpen 0 (view pass.new) }
 {
     for number in 0..100 {
-        if !handed(rt, alloc, queue, pass, 0, number)? {
-            return Ok(number);
+        if !is_handed(rt, sheet, queue, pass, 0, number) {
+            return number;
         }
     }
-    Ok(100)
+    100
 }
 
 /// A queue that is full takes neither job nor mark; one parcel less, it takes the mark.
-pub(crate) fn full_queue<R: Wait>(rt: &R, alloc: Global, sheet: &mut Sheet) -> io::Result<()> {
-    let (queue, mut first) = new_queue(alloc)?;
+pub(crate) fn put_full_queue<R: Wait>(rt: &R, sheet: &mut Sheet) {
+    let Ok((queue, mut first)) = new_queue(sheet.alloc) else {
+        return sheet.lack();
+    };
     let mut writer = writer_pass(&queue, &mut first);
     let mut zero = end_pass(&queue, &mut first);
-    let played = put_full(rt, alloc, sheet, &queue, &mut writer, &mut zero);
+    put_full(rt, sheet, &queue, &mut writer, &mut zero);
     drop(first);
     drop(writer);
     drop(zero);
     drop(queue);
-    played
 }
 
 /// Fills a queue, and writes what it takes from then on.
 fn put_full<R: Wait>(
     rt: &R,
-    alloc: Global,
     sheet: &mut Sheet,
     queue: &JobQueue,
     writer: &mut QueuePass,
     zero: &mut QueuePass,
-) -> io::Result<()>
+)
     requires passes { IsPassOf queue.now writer.old × IsPassOf queue.now zero.old }
     requires writer { OfWriter (view writer.old) }
     requires open { IsOpen 0 (view zero.old) }
 {
-    let count = filled(rt, alloc, queue, zero)?;
+    let count = filled(rt, sheet, queue, zero);
     sheet.numbered(b"full queue: ", count);
     sheet.put(b" handed over\n");
     let early = mark_closed(rt, queue, zero, 0);
     put_line(sheet, b"full queue, closed: ", early);
     if early {
-        return Ok(());
+        return;
     }
-    taken(rt, sheet, queue, writer);
+    take(rt, sheet, queue, writer);
     let closed = mark_closed(rt, queue, zero, 0);
     put_line(sheet, b"full queue, closed: ", closed);
-    Ok(())
 }
 
 /// Writes words and whether it is so, and ends the line.

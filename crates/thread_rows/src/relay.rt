@@ -33,7 +33,7 @@ where
     for row in lines.chunk_by(|_line, next| !next.starts_with(MARK)) {
         if let [head, lines @ ..] = row {
             if head.starts_with(MARK) {
-                print(rt, &played(rt, alloc, head, lines)?)?;
+                print(rt, &played(rt, alloc, head, lines))?;
             }
         }
     }

@@ -9,7 +9,7 @@ use cyc_token::Token;
 use live_store::{ArticleLog, StorePremises};
 use relay_live::Shared;
 use row_text::Sheet;
-use std::alloc::{AllocError, Global};
+use std::alloc::Global;
 use std::sync::Wait;
 use std::sync::ledger::Ledger;
 
@@ -36,22 +36,24 @@ impl Fetch {
 /// Does each of these fetches, and writes what it found.
 pub(crate) fn put_fetches<S: BlockStore + Drop, J: StorePremises, L: Ledger, R: Wait>(
     rt: &R,
-    alloc: Global,
     sheet: &mut Sheet,
     shared: &Shared<S, J, L>,
     register: &ArticleLog,
     fetches: &[Fetch],
-) -> Result<(), AllocError>
+)
     requires { register.now ≡ J.register }
 {
     for fetch in fetches {
         sheet.put(b"fetch ");
         sheet.put(fetch.token.to_text().as_slice());
         sheet.put(b": ");
-        let found = shared.fetch(rt, alloc, register, &fetch.token)?;
-        put_fetched(sheet, &found, fetch.text.octets());
-        drop(found);
+        match shared.fetch(rt, sheet.alloc, register, &fetch.token) {
+            Ok(found) => {
+                put_fetched(sheet, &found, fetch.text.octets());
+                drop(found);
+            }
+            Err(_) => sheet.lack(),
+        }
         sheet.put(b"\n");
     }
-    Ok(())
 }

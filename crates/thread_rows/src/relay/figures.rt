@@ -13,8 +13,17 @@ use std::sync::ledger::Ledger;
 /// The longest line of `x` that is printed as it is.
 const LONGEST: u64 = 8;
 
+/// Writes what the sessions were written, or where it is counted, how often which code was.
+pub(crate) fn put_written<R: Wait>(rt: &R, sheet: &mut Sheet, board: &Board, is_counted: bool) {
+    if is_counted {
+        put_codes(rt, sheet, board);
+    } else {
+        put_sessions(rt, sheet, board);
+    }
+}
+
 /// Writes what each session was written.
-pub(crate) fn put_sessions<R: Wait>(rt: &R, sheet: &mut Sheet, board: &Board) {
+fn put_sessions<R: Wait>(rt: &R, sheet: &mut Sheet, board: &Board) {
     let mut session = 0u64;
     for room in &board.rooms {
         session = session.saturating_add(1);
@@ -56,7 +65,7 @@ fn put_run(sheet: &mut Sheet, run: u64) {
 }
 
 /// Writes how often each code was written to all sessions together, the smaller codes first.
-pub(crate) fn put_codes<R: Wait>(rt: &R, sheet: &mut Sheet, board: &Board) {
+fn put_codes<R: Wait>(rt: &R, sheet: &mut Sheet, board: &Board) {
     let mut counts = [0u64; 600];
     for room in &board.rooms {
         count_codes(&mut counts, room.lock(rt).written.as_slice());

@@ -110,7 +110,7 @@ impl<'a> Turns<'a> {
     /// The session has returned: where the order tells that, then once it is its turn, what the
     /// order has of it up to there is done.
     pub(crate) fn returned<R: Wait + Clock>(&self, rt: &R, session: u64) {
-        let Some(at) = self.order.iter().position(|turn| turn.is_of(session, GONE)) else {
+        let Some(at) = self.end_of(session) else {
             return;
         };
         for _look in 0..MOST_LOOKS {
@@ -120,6 +120,18 @@ impl<'a> Turns<'a> {
             pause(rt);
         }
         self.board.gave_up(rt);
+    }
+
+    /// The place in the order of the turn in which the session has returned.
+    fn end_of(&self, session: u64) -> Option<usize> {
+        let mut place = 0usize;
+        for turn in self.order {
+            if turn.is_of(session, GONE) {
+                return Some(place);
+            }
+            place = place.saturating_add(1);
+        }
+        None
     }
 
     /// Where the next turn is the session's, its turns up to this place are done.

@@ -10,14 +10,14 @@ use crate::relay::waiting::Waits;
 use crate::words::{number_in, numbered, word_of};
 use line_words::{is_skipped, number_within, two_parts};
 use row_text::place_of;
-use std::alloc::{AllocError, Global};
+use std::alloc::Global;
 
 /// Sessions of a row, at most.
 const MOST_SESSIONS: u64 = 2_000;
 
-/// The first words of the lines that are of the whole row, and set it.
+/// The first words of the lines that are of no one session.
 const SETTINGS: &str =
-    "fails sweep clock groups feeds forgets peer counts open closed writes reads";
+    "fails sweep clock groups feeds forgets peer counts open closed writes reads each fetch";
 
 /// The first words of a session's lines. What begins with another one is a command.
 const OF_SESSION: &str = "returns comes beside article sends waits octets takes breaks";
@@ -45,29 +45,18 @@ pub(crate) struct Row {
     pub(crate) order: Vec<Turn>,
     /// What is fetched once all have ended.
     pub(crate) fetches: Vec<Fetch>,
-    /// A line says nothing known.
+    /// A line says nothing known, or memory ran out.
     pub(crate) is_bad: bool,
 }
 
 impl Row {
     /// The row of these lines.
-    pub(crate) fn read(alloc: Global, lines: &[&[u8]]) -> Result<Row, AllocError> {
+    pub(crate) fn read(alloc: Global, lines: &[&[u8]]) -> Row {
         let mut row = Row::new(alloc);
-        match row.add_all(alloc, lines) {
-            Ok(()) => Ok(row),
-            Err(error) => {
-                drop(row);
-                Err(error)
-            }
-        }
-    }
-
-    /// Adds lines.
-    fn add_all(&mut self, alloc: Global, lines: &[&[u8]]) -> Result<(), AllocError> {
         for line in lines {
-            self.add(alloc, line)?;
+            row.add(alloc, line);
         }
-        Ok(())
+        row
     }
 
     /// A row without lines.
@@ -93,58 +82,61 @@ impl Row {
     }
 
     /// Adds a line.
-    fn add(&mut self, alloc: Global, line: &[u8]) -> Result<(), AllocError> {
+    fn add(&mut self, alloc: Global, line: &[u8]) {
         if is_skipped(line) {
-            return Ok(());
+            return;
         }
         let (first, rest) = word_of(line);
-        if let Some(session) = number_within(1, MOST_SESSIONS, first) {
-            return self.add_of(alloc, session, rest);
+        match number_within(1, MOST_SESSIONS, first) {
+            Some(session) => self.add_of(alloc, session, rest),
+            None => self.set(alloc, first, rest),
         }
-        if first == b"each".as_slice() {
-            return self.add_each(alloc, rest);
-        }
-        if first == b"fetch".as_slice() {
-            return self.add_fetch(alloc, rest);
-        }
-        self.set(first, rest);
-        Ok(())
     }
 
     /// Adds a fetch once all have ended.
-    fn add_fetch(&mut self, alloc: Global, rest: &[u8]) -> Result<(), AllocError> {
+    fn add_fetch(&mut self, alloc: Global, rest: &[u8]) {
         match Fetch::read(alloc, rest) {
-            Some(fetch) => self.fetches.push(fetch)?,
+            Some(fetch) => {
+                if self.fetches.push(fetch).is_err() {
+                    self.is_bad = true;
+                }
+            }
             None => self.is_bad = true,
         }
-        Ok(())
     }
 
     /// Adds the line of each session up to a number, with its number in the place of each `#`.
-    fn add_each(&mut self, alloc: Global, rest: &[u8]) -> Result<(), AllocError> {
+    fn add_each(&mut self, alloc: Global, rest: &[u8]) {
         let (digits, line) = word_of(rest);
         for session in 1..=number_within(1, MOST_SESSIONS, digits).unwrap_or(0) {
-            self.add_of(alloc, session, numbered(alloc, line, session).octets())?;
+            self.add_of(alloc, session, numbered(alloc, line, session).octets());
         }
-        Ok(())
     }
 
     /// Adds a line of a session: what it sends, or how its end behaves.
-    fn add_of(&mut self, alloc: Global, session: u64, line: &[u8]) -> Result<(), AllocError> {
-        for _number in self.sessions.len() as u64..session {
-            self.sessions.push(Script::new(alloc))?;
-        }
+    fn add_of(&mut self, alloc: Global, session: u64, line: &[u8]) {
+        self.add_scripts(alloc, session);
         let Some(script) = self.sessions.get_mut(session.saturating_sub(1) as usize) else {
-            return Ok(());
+            return;
         };
-        match turn_of(script, session, line) {
-            Some(turn) => Ok(self.order.push(turn)?),
-            None => Ok(()),
+        if let Some(turn) = turn_of(script, session, line) {
+            if self.order.push(turn).is_err() {
+                self.is_bad = true;
+            }
+        }
+    }
+
+    /// Adds the scripts that are missing of so many sessions.
+    fn add_scripts(&mut self, alloc: Global, sessions: u64) {
+        for _session in self.sessions.len() as u64..sessions {
+            if self.sessions.push(Script::new(alloc)).is_err() {
+                self.is_bad = true;
+            }
         }
     }
 
     /// Does what a word says of the whole row.
-    fn set(&mut self, word: &[u8], rest: &[u8]) {
+    fn set(&mut self, alloc: Global, word: &[u8], rest: &[u8]) {
         match place_of(SETTINGS, word) {
             Some(0) => self.failing = number_in(rest),
             Some(1) => self.sweep = number_in(rest),
@@ -158,6 +150,8 @@ impl Row {
             Some(9) => self.manner = Manner::Closed,
             Some(10) => self.waits.writes = sign_in(rest),
             Some(11) => self.waits.reads = sign_in(rest),
+            Some(12) => self.add_each(alloc, rest),
+            Some(13) => self.add_fetch(alloc, rest),
             _ => self.is_bad = true,
         }
     }
