@@ -2,34 +2,34 @@
 //! its end.
 
 use cyc_block::{BLOCK_OCTETS, CHUNK_OCTETS, Stamp, block_image, read_image};
-use row_text::{Sheet, place_of};
+use row_text::{Cells, Sheet, place_of};
 
 /// Writes the answer of a call.
 pub fn answer(call: &[u8], cells: &[Vec<u8>], sheet: &mut Sheet) {
+    let mut cells = Cells::new(cells);
     match place_of("image_read image_write", call) {
-        Some(0) => put_image(cells, sheet),
-        Some(_) => put_image_of(cells, sheet),
+        Some(0) => put_image(&mut cells, sheet),
+        Some(_) => put_image_of(&mut cells, sheet),
         None => sheet.refuse(),
     }
 }
 
-/// The number of a word for four octets.
-fn number(word: &[u8], sheet: &mut Sheet) -> u32 {
-    sheet.read_up_to(4_294_967_295, word) as u32
+/// The number of four octets that the next cell writes.
+fn number(cells: &mut Cells<'_>, sheet: &mut Sheet) -> u32 {
+    cells.number(4_294_967_295, sheet) as u32
 }
 
 /// Writes the image of the block with the stamp of five cells and the payload of the last one.
-fn put_image_of(cells: &[Vec<u8>], sheet: &mut Sheet) {
-    let [cycle, first, index, length, class, payload] = cells else {
-        return sheet.refuse();
-    };
+fn put_image_of(cells: &mut Cells<'_>, sheet: &mut Sheet) {
     let stamp = Stamp {
-        cycle: number(cycle, sheet),
-        first: number(first, sheet),
-        index: number(index, sheet),
-        article_length: number(length, sheet),
-        class: sheet.read_up_to(255, class) as u8,
+        cycle: number(cells, sheet),
+        first: number(cells, sheet),
+        index: number(cells, sheet),
+        article_length: number(cells, sheet),
+        class: cells.number(255, sheet) as u8,
     };
+    let payload = cells.next(sheet);
+    cells.end(sheet);
     if payload.is_empty() || payload.len() > CHUNK_OCTETS {
         return sheet.refuse();
     }
@@ -37,10 +37,9 @@ fn put_image_of(cells: &[Vec<u8>], sheet: &mut Sheet) {
 }
 
 /// Writes the stamp and the payload of the image that a block has, or that it has none.
-fn put_image(cells: &[Vec<u8>], sheet: &mut Sheet) {
-    let [octets] = cells else {
-        return sheet.refuse();
-    };
+fn put_image(cells: &mut Cells<'_>, sheet: &mut Sheet) {
+    let octets = cells.next(sheet);
+    cells.end(sheet);
     match read_image(&block_of(octets, sheet)) {
         Some(image) => {
             sheet.debug(&image.stamp);

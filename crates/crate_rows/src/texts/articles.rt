@@ -1,70 +1,100 @@
 //! The calls of `article_parse`, `path_rules`, `article_fetch` and `date_rules`.
 
-use crate::texts::calls::Call;
 use crate::texts::lines::{put_made, put_some};
-use crate::texts::walks::{put_changes, put_fronts};
+use crate::texts::walks::{Look, put_changes, put_fronts};
 use article_fetch::{LINE_ROOM, line, put_line};
 use article_parse::Article;
 use date_rules::judge;
 use path_rules::{identities, loops, updated};
 use row_text::Sheet;
 
-/// Writes the answer of a call of a text, behind these cells.
-pub fn of_text(call: Call, heads: &[Vec<u8>], octets: &[u8], sheet: &mut Sheet) {
+/// What is asked of an article.
+#[derive(Clone, Copy)]
+enum Asked<'a> {
+    /// Its message-id and its body.
+    Parts,
+    /// Its newsgroups.
+    Groups,
+    /// Its overview line.
+    Overview,
+    /// The content of the field of this name.
+    Field(&'a [u8]),
+    /// What becomes of it that comes to the first agent from the second.
+    Arrival(&'a [u8], &'a [u8]),
+    /// Whether its date lies in the window before a moment and a cutoff.
+    Date(u64, u64),
+}
+
+/// Writes the answer of a call of a text.
+pub fn of_text(call: usize, octets: &[u8], sheet: &mut Sheet) {
     match call {
-        Call::Octets => sheet.cell(octets),
-        Call::ArticleFault => sheet.debug(&Article::parse(sheet.alloc, octets).err()),
-        Call::ArticleCuts | Call::OverviewCuts => {
-            put_fronts(call, octets, octets.len().saturating_add(1), sheet)
+        0 => sheet.cell(octets),
+        1 => put_fault(octets, sheet),
+        2 => put_fronts(Look::Article, octets, octets.len().saturating_add(1), sheet),
+        3 => put_fronts(Look::Overview, octets, octets.len().saturating_add(1), sheet),
+        4 => put_asked(Asked::Parts, octets, sheet),
+        5 => put_asked(Asked::Groups, octets, sheet),
+        _ => put_asked(Asked::Overview, octets, sheet),
+    }
+}
+
+/// Writes the answer of a call of a text behind a cell.
+pub fn of_head(call: usize, head: &[u8], octets: &[u8], sheet: &mut Sheet) {
+    match call {
+        0 => put_asked(Asked::Field(head), octets, sheet),
+        _ => put_changes(Look::Article, head, octets, sheet),
+    }
+}
+
+/// Writes the answer of a call of a text behind two cells.
+pub fn of_heads(call: usize, first: &[u8], second: &[u8], octets: &[u8], sheet: &mut Sheet) {
+    match call {
+        0 => put_asked(Asked::Arrival(first, second), octets, sheet),
+        1 => {
+            let now = sheet.read(first);
+            let cutoff = sheet.read(second);
+            put_asked(Asked::Date(now, cutoff), octets, sheet);
         }
-        Call::ArticleChanges => put_changes_by(call, heads, octets, sheet),
-        Call::PutOverview => put_behind(heads, octets, sheet),
-        _ => of_article(call, heads, octets, sheet),
+        _ => put_behind(first, second, octets, sheet),
     }
 }
 
-/// Writes what a text gives with the octets of the one cell in the place of each of its own.
-fn put_changes_by(call: Call, heads: &[Vec<u8>], octets: &[u8], sheet: &mut Sheet) {
-    match heads {
-        [octet] => put_changes(call, octet, octets, sheet),
-        _ => sheet.refuse(),
-    }
-}
-
-/// Writes the answer of a call of an article behind cells, or the text's fault.
-fn of_article(call: Call, heads: &[Vec<u8>], octets: &[u8], sheet: &mut Sheet) {
+/// Writes the fault of a text, `None` where it is an article.
+fn put_fault(octets: &[u8], sheet: &mut Sheet) {
     match Article::parse(sheet.alloc, octets) {
         Ok(article) => {
-            of_parsed(call, heads, &article, sheet);
+            drop(article);
+            sheet.put(b"None");
+        }
+        Err(error) => sheet.debug(&Some(error)),
+    }
+}
+
+/// Writes what is asked of an article, or the text's fault.
+fn put_asked(asked: Asked<'_>, octets: &[u8], sheet: &mut Sheet) {
+    match Article::parse(sheet.alloc, octets) {
+        Ok(article) => {
+            put_of(asked, &article, sheet);
             drop(article);
         }
         Err(error) => sheet.debug(&error),
     }
 }
 
-/// Writes the answer of a call of an article.
-fn of_parsed(call: Call, heads: &[Vec<u8>], article: &Article<'_>, sheet: &mut Sheet) {
-    match call {
-        Call::Article => put_article(article, sheet),
-        Call::Field => put_field(heads, article, sheet),
-        Call::Groups => put_groups(article, sheet),
-        Call::Overview => put_made(line(sheet.alloc, article), sheet),
-        Call::Arrived => put_arrival(heads, article, sheet),
-        Call::JudgeDate => put_date(heads, article, sheet),
-        _ => sheet.refuse(),
-    }
-}
-
-/// Writes the content of an article's field.
-fn put_field(heads: &[Vec<u8>], article: &Article<'_>, sheet: &mut Sheet) {
-    match heads {
-        [name] => put_some(article.field(name), sheet),
-        _ => sheet.refuse(),
+/// Writes what is asked of an article.
+fn put_of(asked: Asked<'_>, article: &Article<'_>, sheet: &mut Sheet) {
+    match asked {
+        Asked::Parts => put_parts(article, sheet),
+        Asked::Groups => put_groups(article, sheet),
+        Asked::Overview => put_made(line(sheet.alloc, article), sheet),
+        Asked::Field(name) => put_some(article.field(name), sheet),
+        Asked::Arrival(own, expected) => put_arrival(own, expected, article, sheet),
+        Asked::Date(now, cutoff) => sheet.debug(&judge(sheet.alloc, article, now, cutoff)),
     }
 }
 
 /// Writes the message-id of an article, the place of its body, and the body.
-fn put_article(article: &Article<'_>, sheet: &mut Sheet) {
+fn put_parts(article: &Article<'_>, sheet: &mut Sheet) {
     sheet.cell(article.id().as_bytes());
     sheet.numbered(b" ", article.body_at() as u64);
     sheet.next(article.body());
@@ -83,10 +113,7 @@ fn put_groups(article: &Article<'_>, sheet: &mut Sheet) {
 }
 
 /// Writes what becomes of an article that comes to the first agent from the second.
-fn put_arrival(heads: &[Vec<u8>], article: &Article<'_>, sheet: &mut Sheet) {
-    let [own, expected] = heads else {
-        return sheet.refuse();
-    };
+fn put_arrival(own: &[u8], expected: &[u8], article: &Article<'_>, sheet: &mut Sheet) {
     match loops(article.field(b"Path").unwrap_or(b""), own) {
         Ok(true) => sheet.put(b"Loop"),
         Ok(false) => put_updated(own, expected, article, sheet),
@@ -105,16 +132,6 @@ fn put_updated(own: &[u8], expected: &[u8], article: &Article<'_>, sheet: &mut S
         }
         Err(error) => sheet.debug(&error),
     }
-}
-
-/// Writes whether the date of an article lies in the window before now and the cutoff.
-fn put_date(heads: &[Vec<u8>], article: &Article<'_>, sheet: &mut Sheet) {
-    let [now, cutoff] = heads else {
-        return sheet.refuse();
-    };
-    let now = sheet.read(now);
-    let cutoff = sheet.read(cutoff);
-    sheet.debug(&judge(sheet.alloc, article, now, cutoff));
 }
 
 /// Writes what a text gives: `Read(P, N)` for an article whose body has N octets at place P, or its
@@ -137,17 +154,9 @@ pub fn put_reading(octets: &[u8], sheet: &mut Sheet) {
 
 /// Writes what a room has that had so many free octets behind these, once a line was put there, or
 /// that behind why none was put.
-fn put_behind(heads: &[Vec<u8>], octets: &[u8], sheet: &mut Sheet) {
-    let [free, before] = heads else {
-        return sheet.refuse();
-    };
+fn put_behind(free: &[u8], before: &[u8], octets: &[u8], sheet: &mut Sheet) {
     let free = sheet.read(free) as usize;
-    let Ok(mut room) = Vec::with_capacity(sheet.alloc, before.len().saturating_add(free)) else {
-        return sheet.lack();
-    };
-    if room.extend_from_slice(before).is_err() {
-        sheet.lack();
-    }
+    let mut room = room_of(before, free, sheet);
     match put_line(&mut room, octets) {
         Ok(()) => sheet.cell(&room),
         Err(error) => {
@@ -157,12 +166,25 @@ fn put_behind(heads: &[Vec<u8>], octets: &[u8], sheet: &mut Sheet) {
     }
 }
 
+/// A room that has these octets, and so many free ones behind them.
+fn room_of(octets: &[u8], free: usize, sheet: &mut Sheet) -> Vec<u8> {
+    match Vec::with_capacity(sheet.alloc, octets.len().saturating_add(free)) {
+        Ok(mut room) => {
+            if room.extend_from_slice(octets).is_err() {
+                sheet.lack();
+            }
+            room
+        }
+        Err(_) => {
+            sheet.lack();
+            Vec::new(sheet.alloc)
+        }
+    }
+}
+
 /// Writes the overview line that a text gives in room that is enough, or why it gives none.
 pub fn put_front_line(octets: &[u8], sheet: &mut Sheet) {
-    let Ok(mut room) = Vec::with_capacity(sheet.alloc, octets.len().saturating_add(LINE_ROOM))
-    else {
-        return sheet.lack();
-    };
+    let mut room = room_of(b"", octets.len().saturating_add(LINE_ROOM), sheet);
     match put_line(&mut room, octets) {
         Ok(()) => {
             sheet.put(b"Line(");

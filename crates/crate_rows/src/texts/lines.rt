@@ -1,8 +1,7 @@
 //! The calls of `nntp_text` and `uwild`, and those of the other crates that take one content.
 
 use crate::texts::articles::put_identities;
-use crate::texts::calls::Call;
-use crate::texts::walks::{put_changes, put_fronts};
+use crate::texts::walks::{Look, put_changes, put_fronts};
 use article_parse::{is_blank, unfolded};
 use date_rules::{seconds, stamp};
 use nntp_text::{Command, MsgId};
@@ -15,15 +14,26 @@ use uwild::Expr;
 /// The last moment that has a stamp.
 const LAST_MOMENT: u64 = 253_370_764_799;
 
-/// Writes the answer of a call of one line.
-pub fn of_line(call: Call, line: &[u8], sheet: &mut Sheet) {
+/// Writes the answer of a call of one cell.
+pub fn of_line(call: usize, line: &[u8], sheet: &mut Sheet) {
     match call {
-        Call::MessageId => sheet.debug(&MsgId::parse(sheet.alloc, line)),
-        Call::Command => put_command(line, sheet),
-        Call::CommandCuts | Call::ExpressionCuts => put_fronts(call, line, line.len(), sheet),
-        Call::ExpressionFault => put_expression_fault(line, sheet),
-        _ => of_content(call, line, sheet),
+        0 => put_id(line, sheet),
+        1 => put_command(line, sheet),
+        2 => put_fronts(Look::Command, line, line.len(), sheet),
+        3 => put_fronts(Look::Expression, line, line.len(), sheet),
+        4 => put_expression_fault(line, sheet),
+        5 => put_made(stuff(sheet.alloc, line), sheet),
+        6 => put_made(unfolded(sheet.alloc, line), sheet),
+        7 => sheet.debug(&is_blank(line)),
+        8 => put_identities(line, sheet),
+        9 => put_seconds(line, sheet),
+        _ => put_stamp(line, sheet),
     }
+}
+
+/// Writes what a text gives as a message-id.
+fn put_id(text: &[u8], sheet: &mut Sheet) {
+    sheet.debug(&MsgId::parse(sheet.alloc, text));
 }
 
 /// Writes what a command line gives.
@@ -34,19 +44,6 @@ pub fn put_command(line: &[u8], sheet: &mut Sheet) {
 /// Writes the fault of a text, `None` where it is an expression.
 pub fn put_expression_fault(octets: &[u8], sheet: &mut Sheet) {
     sheet.debug(&Expr::parse(sheet.alloc, octets).err());
-}
-
-/// Writes the answer of a call of one text that isn't a line.
-fn of_content(call: Call, content: &[u8], sheet: &mut Sheet) {
-    match call {
-        Call::Stuff => put_made(stuff(sheet.alloc, content), sheet),
-        Call::Unfolded => put_made(unfolded(sheet.alloc, content), sheet),
-        Call::IsBlank => sheet.debug(&is_blank(content)),
-        Call::Identities => put_identities(content, sheet),
-        Call::Seconds => put_seconds(content, sheet),
-        Call::Stamp => put_stamp(content, sheet),
-        _ => sheet.refuse(),
-    }
 }
 
 /// Writes a text that was made.
@@ -75,12 +72,11 @@ fn put_stamp(moment: &[u8], sheet: &mut Sheet) {
 }
 
 /// Writes the answer of a call of two cells.
-pub fn of_two(call: Call, first: &[u8], second: &[u8], sheet: &mut Sheet) {
+pub fn of_two(call: usize, first: &[u8], second: &[u8], sheet: &mut Sheet) {
     match call {
-        Call::CommandChanges => put_changes(call, first, second, sheet),
-        Call::Loops => sheet.debug(&loops(second, first)),
-        Call::Judge => put_verdict(first, second, sheet),
-        _ => sheet.refuse(),
+        0 => put_changes(Look::Command, first, second, sheet),
+        1 => sheet.debug(&loops(second, first)),
+        _ => put_verdict(first, second, sheet),
     }
 }
 

@@ -1,60 +1,56 @@
 //! The calls of `stream_cut`.
 
-use crate::texts::calls::Call;
 use crate::texts::walks::Runs;
-use row_text::{Sheet, add_octets};
-use std::alloc::{AllocError, Global};
+use row_text::{Cells, Sheet, add_octets};
 use stream_cut::{Block, Cut, Want, cut_all};
 
-/// Writes the answer of a call of any number of cells.
-pub fn of_pieces(call: Call, cells: &[Vec<u8>], sheet: &mut Sheet) {
+/// Writes the answer of a call of pieces: what is cut off them behind a limit and what is wanted.
+pub fn of_pieces(call: usize, cells: &mut Cells<'_>, sheet: &mut Sheet) {
     match call {
-        Call::CutAll => put_cut_all(cells, sheet),
-        Call::CutIn => put_cut_in(cells, sheet),
-        Call::CutInTwo => put_cut_in_two(cells, sheet),
-        _ => sheet.refuse(),
+        0 => put_cut_all(cells, sheet),
+        1 => put_cut_in(cells, sheet),
+        _ => put_cut_in_two(cells, sheet),
     }
 }
 
-/// Writes what is cut off the pieces behind a limit and what is wanted.
-fn put_cut_all(cells: &[Vec<u8>], sheet: &mut Sheet) {
-    match cells {
-        [limit, wants, pieces @ ..] => put_cuts(limit, wants, pieces, sheet),
-        _ => sheet.refuse(),
-    }
+/// Writes what is cut off the pieces that are the cells.
+fn put_cut_all(cells: &mut Cells<'_>, sheet: &mut Sheet) {
+    let limit = cells.number(u64::MAX, sheet) as usize;
+    let wants = cells.next(sheet);
+    put_cuts(limit, wants, cells.rest(), sheet);
 }
 
 /// Writes what is cut off these pieces, between square brackets.
-fn put_cuts(limit: &[u8], wants: &[u8], pieces: &[Vec<u8>], sheet: &mut Sheet) {
-    let limit = sheet.read(limit) as usize;
-    match cuts_of(sheet.alloc, limit, wants, pieces) {
+fn put_cuts(limit: usize, wants: &[u8], pieces: &[Vec<u8>], sheet: &mut Sheet) {
+    let wants = wants_of(wants, sheet);
+    match cut_all(sheet.alloc, limit, pieces, &wants) {
         Ok(cuts) => {
             sheet.put(b"[ ");
-            for cut in &cuts {
-                put_cut(cut, sheet);
-            }
+            put_all(&cuts, sheet);
             sheet.put(b"]");
+            drop(cuts);
         }
         Err(_) => sheet.lack(),
     }
 }
 
-/// What is cut off these pieces: a block is wanted by a `B`, a line by any other octet.
-fn cuts_of(
-    alloc: Global,
-    limit: usize,
-    letters: &[u8],
-    pieces: &[Vec<u8>],
-) -> Result<Vec<Cut>, AllocError> {
-    let mut wants = Vec::new(alloc);
+/// What is wanted: a block by a `B`, a line by any other octet.
+fn wants_of(letters: &[u8], sheet: &mut Sheet) -> Vec<Want> {
+    let mut wants = Vec::new(sheet.alloc);
     for letter in letters {
-        wants.push(if *letter == b'B' {
-            Want::Block
-        } else {
-            Want::Line
-        })?;
+        let want = if *letter == b'B' { Want::Block } else { Want::Line };
+        if wants.push(want).is_err() {
+            sheet.lack();
+        }
     }
-    cut_all(alloc, limit, pieces, &wants)
+    wants
+}
+
+/// Writes what was cut.
+fn put_all(cuts: &[Cut], sheet: &mut Sheet) {
+    for cut in cuts {
+        put_cut(cut, sheet);
+    }
 }
 
 /// Writes what was cut, and a space.
@@ -76,23 +72,30 @@ fn put_in(word: &[u8], octets: &[u8], sheet: &mut Sheet) {
 }
 
 /// Writes what is cut off a stream that comes in pieces of this size.
-fn put_cut_in(cells: &[Vec<u8>], sheet: &mut Sheet) {
-    let [size, limit, wants, stream] = cells else {
-        return sheet.refuse();
-    };
-    let size = sheet.read(size) as usize;
+fn put_cut_in(cells: &mut Cells<'_>, sheet: &mut Sheet) {
+    let size = cells.number(u64::MAX, sheet) as usize;
+    let limit = cells.number(u64::MAX, sheet) as usize;
+    let wants = cells.next(sheet);
+    let pieces = pieces_of(size, cells.next(sheet), sheet);
+    cells.end(sheet);
+    put_cuts(limit, wants, &pieces, sheet);
+}
+
+/// The pieces of this size of a stream.
+fn pieces_of(size: usize, stream: &[u8], sheet: &mut Sheet) -> Vec<Vec<u8>> {
     let mut pieces = Vec::new(sheet.alloc);
     for piece in stream.chunks(size.max(1)) {
         add_octets(&mut pieces, piece, sheet);
     }
-    put_cuts(limit, wants, &pieces, sheet);
+    pieces
 }
 
 /// Writes what is cut off a stream of two pieces, wherever the first one ends.
-fn put_cut_in_two(cells: &[Vec<u8>], sheet: &mut Sheet) {
-    let [limit, wants, stream] = cells else {
-        return sheet.refuse();
-    };
+fn put_cut_in_two(cells: &mut Cells<'_>, sheet: &mut Sheet) {
+    let limit = cells.number(u64::MAX, sheet) as usize;
+    let wants = cells.next(sheet);
+    let stream = cells.next(sheet);
+    cells.end(sheet);
     let mut runs = Runs::new(sheet.alloc);
     for place in 0..=stream.len() {
         let (first, second) = stream.split_at(place);
@@ -103,7 +106,7 @@ fn put_cut_in_two(cells: &[Vec<u8>], sheet: &mut Sheet) {
 
 /// What is cut off two pieces, as it is written.
 fn said_in_two(
-    limit: &[u8],
+    limit: usize,
     wants: &[u8],
     first: &[u8],
     second: &[u8],

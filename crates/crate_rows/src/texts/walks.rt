@@ -1,43 +1,57 @@
 //! Walks over a text, whose answers are written in runs.
 
 use crate::texts::articles::{put_front_line, put_reading};
-use crate::texts::calls::Call;
 use crate::texts::lines::{put_command, put_expression_fault};
+use line_words::is;
 use row_text::Sheet;
 use std::alloc::Global;
 
+/// What is looked at in a walk.
+#[derive(Clone, Copy)]
+pub enum Look {
+    /// What a command line gives.
+    Command,
+    /// The fault of an expression.
+    Expression,
+    /// The overview line of a text.
+    Overview,
+    /// What an article gives.
+    Article,
+}
+
 /// Writes what each front of a text gives, as many of them as are asked for, from the one of no
 /// octet on.
-pub fn put_fronts(call: Call, octets: &[u8], fronts: usize, sheet: &mut Sheet) {
+pub fn put_fronts(look: Look, octets: &[u8], fronts: usize, sheet: &mut Sheet) {
     let mut runs = Runs::new(sheet.alloc);
     for end in 0..fronts {
         let front = octets.get(..end).unwrap_or(octets);
-        runs.add(said_of(call, front, sheet), sheet);
+        runs.add(said_of(look, front, sheet), sheet);
     }
     runs.end(sheet);
 }
 
 /// Writes what a text gives with these octets in the place of each of its own in turn.
-pub fn put_changes(call: Call, octet: &[u8], octets: &[u8], sheet: &mut Sheet) {
+pub fn put_changes(look: Look, octet: &[u8], octets: &[u8], sheet: &mut Sheet) {
     let mut runs = Runs::new(sheet.alloc);
     for place in 0..octets.len() {
-        let parts = [&octets[..place], octet, &octets[place + 1..]];
-        match parts.concat(sheet.alloc) {
-            Ok(changed) => runs.add(said_of(call, &changed, sheet), sheet),
-            Err(_) => sheet.lack(),
-        }
+        let mut changed = Sheet::new(sheet.alloc);
+        changed.put(&octets[..place]);
+        changed.put(octet);
+        changed.put(&octets[place + 1..]);
+        let text = changed.onto(sheet);
+        runs.add(said_of(look, &text, sheet), sheet);
     }
     runs.end(sheet);
 }
 
 /// What a text gives in a walk, as it is written.
-fn said_of(call: Call, octets: &[u8], sheet: &mut Sheet) -> Vec<u8> {
+fn said_of(look: Look, octets: &[u8], sheet: &mut Sheet) -> Vec<u8> {
     let mut said = Sheet::new(sheet.alloc);
-    match call {
-        Call::CommandCuts | Call::CommandChanges => put_command(octets, &mut said),
-        Call::ExpressionCuts => put_expression_fault(octets, &mut said),
-        Call::OverviewCuts => put_front_line(octets, &mut said),
-        _ => put_reading(octets, &mut said),
+    match look {
+        Look::Command => put_command(octets, &mut said),
+        Look::Expression => put_expression_fault(octets, &mut said),
+        Look::Overview => put_front_line(octets, &mut said),
+        Look::Article => put_reading(octets, &mut said),
     }
     said.onto(sheet)
 }
@@ -68,7 +82,7 @@ impl Runs {
 
     /// Takes the next answer; where it is another, what was said before is written.
     pub fn add(&mut self, said: Vec<u8>, sheet: &mut Sheet) {
-        if self.said.as_slice() != said.as_slice() {
+        if !is(&self.said, &said) {
             self.end(sheet);
             self.said = said;
             self.count = 0;
