@@ -14,32 +14,17 @@ mod printing;
 mod queue;
 mod relay;
 mod sample;
-mod stores;
 mod words;
 
 use row_text::Sheet;
-use std::alloc::{AllocError, Global};
 use std::io;
 use std::io::{ErrorKind, Read, Write};
 
 fn main(rt: HostRuntime) -> io::Result<()> {
-    let alloc = rt.alloc();
-    let mut input = Vec::new(alloc);
+    let mut input = Vec::new(rt.alloc());
     rt.reader().read_to_end(&mut input)?;
-    let lines = lines_of(alloc, &input)?;
-    relay::play(&rt, alloc, &lines)?;
-    let mut sheet = Sheet::new(alloc);
-    queue::put_full_queue(&rt, &mut sheet);
-    print(&rt, &sheet)
-}
-
-/// The lines of a text.
-fn lines_of(alloc: Global, text: &[u8]) -> Result<Vec<&[u8]>, AllocError> {
-    let mut lines = Vec::new(alloc);
-    for line in text.split(|octet| *octet == b'\n') {
-        lines.push(line)?;
-    }
-    Ok(lines)
+    relay::play(&rt, rt.alloc(), &input)?;
+    queue::play(&rt, rt.alloc())
 }
 
 /// Prints what is written on a sheet, where all that was to be played was.

@@ -3,6 +3,7 @@ ghost use Rattle.crossbeam_queue.specs.Passes.{view, IsPassOf};
 ghost use Rattle.job_queue.specs.Delivery.{IsOpen, OfWriter};
 
 use crate::making::{LEAST_OCTETS, sample_article};
+use crate::print;
 use buffer_group::Job;
 use job_queue::{
     Handed, JobQueue, Parcel, QueuePass, end_pass, hand_over, mark_closed, new_queue, take_one,
@@ -11,6 +12,7 @@ use job_queue::{
 use nntp_text::MsgId;
 use row_text::Sheet;
 use std::alloc::Global;
+use std::io;
 use std::sync::Wait;
 
 /// A job of session 1, whose article is the smallest sample.
@@ -96,8 +98,15 @@ fn filled<R: Wait>(rt: &R, sheet: &mut Sheet, queue: &JobQueue, pass: &mut Queue
     100
 }
 
+/// Plays a queue that is full.
+pub(crate) fn play<R: Wait + Print>(rt: &R, alloc: Global) -> io::Result<()> {
+    let mut sheet = Sheet::new(alloc);
+    put_full_queue(rt, &mut sheet);
+    print(rt, &sheet)
+}
+
 /// A queue that is full takes neither job nor mark; one parcel less, it takes the mark.
-pub(crate) fn put_full_queue<R: Wait>(rt: &R, sheet: &mut Sheet) {
+fn put_full_queue<R: Wait>(rt: &R, sheet: &mut Sheet) {
     let Ok((queue, mut first)) = new_queue(sheet.alloc) else {
         return sheet.lack();
     };

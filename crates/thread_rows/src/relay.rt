@@ -25,17 +25,31 @@ use std::time::Clock;
 /// What stands in front of the line that a row begins with.
 const MARK: &[u8] = b"== ";
 
-/// Plays the rows. What stands before the first one is of none.
-pub(crate) fn play<R>(rt: &R, alloc: Global, lines: &[&[u8]]) -> io::Result<()>
+/// Plays the rows of a text. What stands before the first one is of none.
+pub(crate) fn play<R>(rt: &R, alloc: Global, text: &[u8]) -> io::Result<()>
 where
     R: Threads + Wait + Clock + RandomSource + Print + Sync + 'static,
 {
-    for row in lines.chunk_by(|_line, next| !next.starts_with(MARK)) {
-        if let [head, lines @ ..] = row {
-            if head.starts_with(MARK) {
-                print(rt, &played(rt, alloc, head, lines))?;
-            }
+    let mut lines = Vec::new(alloc);
+    for line in text.split(|octet| *octet == b'\n') {
+        if line.starts_with(MARK) {
+            print_row(rt, alloc, &lines)?;
+            lines.clear();
         }
+        lines.push(line)?;
     }
-    Ok(())
+    print_row(rt, alloc, &lines)
+}
+
+/// Plays the row of these lines, where they begin one.
+fn print_row<R>(rt: &R, alloc: Global, lines: &[&[u8]]) -> io::Result<()>
+where
+    R: Threads + Wait + Clock + RandomSource + Print + Sync + 'static,
+{
+    match lines {
+        [head, lines @ ..] if head.starts_with(MARK) => {
+            print(rt, &played(rt, alloc, head, lines))
+        }
+        _ => Ok(()),
+    }
 }

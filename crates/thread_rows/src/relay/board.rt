@@ -35,6 +35,17 @@ pub(crate) struct Room {
     has_sent: bool,
 }
 
+impl Room {
+    /// Whether the sign of its session is there.
+    fn shows(&self, sign: Sign) -> bool {
+        match sign {
+            Sign::Sent(_) => self.has_sent,
+            Sign::Told(_, code) => has_reply(&self.written, code),
+            _ => self.is_greeted,
+        }
+    }
+}
+
 /// What the threads of a row tell one another.
 #[derive(Drop)]
 pub(crate) struct Board {
@@ -117,14 +128,9 @@ impl Board {
             Sign::Writing => return *self.is_writing.lock(rt),
             Sign::Greeted(session) | Sign::Sent(session) | Sign::Told(session, _) => session,
         };
-        let Some(room) = self.room(session) else {
-            return true;
-        };
-        let room = room.lock(rt);
-        match sign {
-            Sign::Sent(_) => room.has_sent,
-            Sign::Told(_, code) => has_reply(room.written.as_slice(), code),
-            _ => room.is_greeted,
+        match self.room(session) {
+            Some(room) => room.lock(rt).shows(sign),
+            None => true,
         }
     }
 

@@ -1,7 +1,10 @@
 //! What is printed of a row.
 
 use crate::relay::board::Board;
+use block_shelf::BufferFigures;
 use cyc_block::BlockStore;
+use feed_queue::Counts as FeedCounts;
+use id_history::Counts as IdCounts;
 use line_words::number_within;
 use live_store::StorePremises;
 use relay_conf::Config;
@@ -109,22 +112,18 @@ pub(crate) fn put_figures<S: BlockStore + Drop, J: StorePremises, L: Ledger, R: 
     config: &Config,
 ) {
     for number in 0..config.buffers.buffers.len() {
-        put_buffer(rt, sheet, shared, number);
+        put_buffer(sheet, number, shared.buffer_figures(rt, number));
     }
     for number in 0..config.relay.feeds.len() {
-        put_feed(rt, sheet, shared, number);
+        let feed = u16::try_from(number).unwrap_or(u16::MAX);
+        put_feed(sheet, number, shared.feed_counts(rt, feed));
     }
-    put_ids(rt, sheet, shared);
+    put_ids(sheet, &shared.id_counts(rt));
 }
 
 /// Writes the figures of a buffer.
-fn put_buffer<S: BlockStore + Drop, J: StorePremises, L: Ledger, R: Wait>(
-    rt: &R,
-    sheet: &mut Sheet,
-    shared: &Shared<S, J, L>,
-    number: usize,
-) {
-    if let Some(figures) = shared.buffer_figures(rt, number) {
+fn put_buffer(sheet: &mut Sheet, number: usize, figures: Option<BufferFigures>) {
+    if let Some(figures) = figures {
         sheet.numbered(b"buffer ", number as u64);
         sheet.numbered(b" cycle ", u64::from(figures.cycle));
         sheet.numbered(b" front ", figures.front);
@@ -135,16 +134,8 @@ fn put_buffer<S: BlockStore + Drop, J: StorePremises, L: Ledger, R: Wait>(
 }
 
 /// Writes the counts of a feed.
-fn put_feed<S: BlockStore + Drop, J: StorePremises, L: Ledger, R: Wait>(
-    rt: &R,
-    sheet: &mut Sheet,
-    shared: &Shared<S, J, L>,
-    number: usize,
-) {
-    let Ok(feed) = u16::try_from(number) else {
-        return;
-    };
-    if let Some(counts) = shared.feed_counts(rt, feed) {
+fn put_feed(sheet: &mut Sheet, number: usize, counts: Option<FeedCounts>) {
+    if let Some(counts) = counts {
         sheet.numbered(b"feed ", number as u64);
         sheet.numbered(b" gained ", counts.gained);
         sheet.numbered(b" taken ", counts.taken);
@@ -154,12 +145,7 @@ fn put_feed<S: BlockStore + Drop, J: StorePremises, L: Ledger, R: Wait>(
 }
 
 /// Writes how many message-ids are known, by kind.
-fn put_ids<S: BlockStore + Drop, J: StorePremises, L: Ledger, R: Wait>(
-    rt: &R,
-    sheet: &mut Sheet,
-    shared: &Shared<S, J, L>,
-) {
-    let ids = shared.id_counts(rt);
+fn put_ids(sheet: &mut Sheet, ids: &IdCounts) {
     sheet.put(b"ids offered ");
     sheet.debug(&ids.offered);
     sheet.put(b" storing ");

@@ -2,7 +2,6 @@
 ghost use Rattle.std.specs.Prelude.{◌≡◌, map, length, All, IfOk};
 
 use crate::relay::board::{Board, Sign};
-use crate::stores::stores_of;
 use cyc_block::{BLOCK_OCTETS, BlockStore, DeviceFailed, FailAt, MemoryBlocks};
 use relay_conf::Buffers;
 use std::alloc::{AllocError, Global};
@@ -98,14 +97,16 @@ pub(crate) fn waiting_stores<'a, R: Wait + Clock + Sync>(
     ensures honest { IfOk result (λ stores.
         All ⟦<Waiting<'a, R> as BlockStore>⟧.honest stores.items) }
 {
-    stores_of(
-        alloc,
-        settings,
-        |number, store| Waiting {
-            store: FailAt::new(store, behind_format(failing)),
+    let mut stores = Vec::with_capacity(alloc, settings.buffers.len())?;
+    for buffer in &settings.buffers {
+        let memory = MemoryBlocks::new(alloc, buffer.blocks)?;
+        let waits = waits_of(stores.len(), waits);
+        stores.push(Waiting {
+            store: FailAt::new(memory, behind_format(failing)),
             rt,
             board,
-            waits: waits_of(number, waits),
-        },
-    )
+            waits,
+        })?;
+    }
+    Ok(stores)
 }
