@@ -6,20 +6,24 @@
 
 mod blocks;
 mod sessions;
+mod stops;
 mod texts;
 
+use cyc_block::{FailAt, MemoryBlocks};
 use line_words::is;
-use row_text::{Answers, Names, Sheet, copy_of, failed, joined, place_of, play};
+use row_text::{Answers, Cells, Names, Sheet, copy_of, failed, joined, place_of, play};
 use std::hash::RandomState;
 use std::process::ExitCode;
+use stops::{Device, Stops};
 
 fn main(rt: HostRuntime) -> ExitCode {
     match RandomState::new(&rt) {
         Ok(hasher) => {
-            let mut rows = Rows {
+            let mut rows: Rows<FailAt<MemoryBlocks>> = Rows {
                 part: Part::Texts,
                 names: Names::new(rt.alloc()),
                 hasher,
+                stops: Stops::new(rt.alloc()),
             };
             let status = play(&rt, &mut rows);
             drop(rows);
@@ -35,23 +39,25 @@ enum Part {
     Texts,
     Blocks,
     Sessions,
+    Stops,
 }
 
-/// The part that the next row is of, the texts that the rows of this part named, and the random
-/// numbers of sessions.
+/// The part that the next row is of, the texts that the rows of this part named, the random numbers
+/// of sessions, and what stops have left.
 #[derive(Drop)]
-struct Rows {
+struct Rows<D: Device> {
     part: Part,
     names: Names,
     hasher: RandomState,
+    stops: Stops<D>,
 }
 
-impl Answers for Rows {
+impl<D: Device> Answers for Rows<D> {
     fn answer(&mut self, call: &[u8], cells: &[Vec<u8>], sheet: &mut Sheet) {
-        match place_of("part text", call) {
-            Some(0) => self.begin(cells, sheet),
-            Some(_) => self.name(cells, sheet),
-            None => self.put(call, &self.names.meant(cells, sheet), sheet),
+        if is(call, b"part") {
+            self.begin(cells, sheet);
+        } else {
+            self.put(call, cells, sheet);
         }
         // Of want of memory nothing is expected, so that no answer may stand in its place.
         if says_memory(sheet.octets()) {
@@ -60,7 +66,7 @@ impl Answers for Rows {
     }
 }
 
-impl Rows {
+impl<D: Device> Rows<D> {
     /// `part NAME`: the rows behind are of this part, and no text has a name.
     fn begin(&mut self, cells: &[Vec<u8>], sheet: &mut Sheet) {
         match part_of(cells) {
@@ -70,6 +76,17 @@ impl Rows {
                 sheet.put(b"begins");
             }
             None => sheet.refuse(),
+        }
+    }
+
+    /// Writes the answer of a call of the part.
+    fn put(&mut self, call: &[u8], cells: &[Vec<u8>], sheet: &mut Sheet) {
+        if matches!(self.part, Part::Stops) {
+            self.stops.put_answer(call, &mut Cells::new(cells), sheet);
+        } else if is(call, b"text") {
+            self.name(cells, sheet);
+        } else {
+            self.put_meant(call, &self.names.meant(cells, sheet), sheet);
         }
     }
 
@@ -83,12 +100,13 @@ impl Rows {
         self.names.name(copy_of(name, sheet), octets, sheet);
     }
 
-    /// Writes the answer of a call of the part.
-    fn put(&self, call: &[u8], cells: &[Vec<u8>], sheet: &mut Sheet) {
+    /// Writes the answer of a call of cells in which no text has a name.
+    fn put_meant(&self, call: &[u8], cells: &[Vec<u8>], sheet: &mut Sheet) {
         match self.part {
             Part::Texts => texts::answer(call, cells, sheet),
             Part::Blocks => blocks::answer(call, cells, sheet),
             Part::Sessions => sessions::answer(self.hasher, call, cells, sheet),
+            Part::Stops => sheet.refuse(),
         }
     }
 }
@@ -98,10 +116,11 @@ fn part_of(cells: &[Vec<u8>]) -> Option<Part> {
     let [name] = cells else {
         return None;
     };
-    match place_of("texts blocks sessions", name)? {
+    match place_of("texts blocks sessions stops", name)? {
         0 => Some(Part::Texts),
         1 => Some(Part::Blocks),
-        _ => Some(Part::Sessions),
+        2 => Some(Part::Sessions),
+        _ => Some(Part::Stops),
     }
 }
 

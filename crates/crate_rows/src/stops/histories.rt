@@ -1,9 +1,9 @@
 //! Texts of histories.
 ghost use Rattle.id_history.specs.Room.{HasRoom};
 
-use crate::bench::octet;
-use crate::octets::octets_by;
-use crate::runs::Runs;
+use crate::stops::bench::octet;
+use crate::stops::octets::octets_by;
+use crate::stops::runs::Runs;
 use id_history::{History, HistoryError, KeptFeed, KeptId, Setting, read, write};
 use line_words::is;
 use row_text::{Cells, Sheet, copy_of};

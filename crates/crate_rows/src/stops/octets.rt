@@ -1,9 +1,9 @@
 //! The octets of a device on which no buffer runs.
 ghost use Rattle.std.specs.Prelude.{◌<◌};
 
-use crate::bench::{Bench, Device, number, octet};
-use crate::runs::Runs;
-use crate::steps::Step;
+use crate::stops::bench::{Bench, Device, number, octet};
+use crate::stops::runs::Runs;
+use crate::stops::steps::Step;
 use cyc_block::{BLOCK_OCTETS, BlockStore, head_count};
 use hex::FromHexError;
 use row_text::{Cells, Sheet, place_of};

@@ -1,5 +1,5 @@
 //! The articles of a buffer. The text of an article is computed from its class and its octets.
-use crate::bench::{Bench, Device, number, octet};
+use crate::stops::bench::{Bench, Device, number, octet};
 use cyc_block::CHUNK_OCTETS;
 use cyc_buffer::{BufError, Buffer, Found, Open};
 use cyc_token::Token;

@@ -1,15 +1,15 @@
 //! The calls and their names.
 
-use crate::Rows;
-use crate::articles::End;
-use crate::bench::Device;
+use crate::stops::Stops;
+use crate::stops::articles::End;
+use crate::stops::bench::Device;
 use row_text::{Cells, Sheet, place_of};
 
 /// The names of the calls, in the order of `put_at`, but for those of a step.
 const NAMES: &str = "format zeros fail each store abandon unfinished read numbers octets put \
     changes cuts setting text history text_changes text_cuts";
 
-impl<D: Device> Rows<D> {
+impl<D: Device> Stops<D> {
     /// Writes the answer of a call.
     pub(crate) fn put_answer(&mut self, call: &[u8], cells: &mut Cells<'_>, sheet: &mut Sheet) {
         match place_of(NAMES, call) {

@@ -1,7 +1,7 @@
 //! The stops and starts of a buffer.
 
-use crate::bench::{Bench, Device, number, octet};
-use crate::runs::Runs;
+use crate::stops::bench::{Bench, Device, number, octet};
+use crate::stops::runs::Runs;
 use cyc_buffer::{Buffer, RestartError, StartError, Unopened};
 use cyc_token::Token;
 use row_text::{Cells, Sheet, place_of};
