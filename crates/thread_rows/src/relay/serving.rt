@@ -94,7 +94,6 @@ where
     let peers = config.relay.peers.len();
     let peer_sources = peer_sources_of(rt, alloc, board, &turns, row, peers);
     if peer_sources.len() >= 1 << 62 || peer_sources.len() != row.sessions.len() {
-        drop(peer_sources);
         return None;
     }
     let serving = Serving {
@@ -104,11 +103,7 @@ where
         peer_sources,
     };
     match serve_all(rt, alloc, keeper, serving, config.buffers.groups.len(), all) {
-        Ok(ran) => {
-            let counted = ran.counted;
-            drop(ran);
-            Some(counted)
-        }
+        Ok(ran) => Some(ran.counted),
         Err(_) => None,
     }
 }
