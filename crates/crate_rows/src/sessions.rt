@@ -33,13 +33,7 @@ pub fn answer(hasher: RandomState, call: &[u8], cells: &[Vec<u8>], sheet: &mut S
 }
 
 /// Writes what a session of this configuration says.
-fn ask(
-    hasher: RandomState,
-    config: &Config,
-    line: &[u8],
-    answers: &[Vec<u8>],
-    sheet: &mut Sheet,
-) {
+fn ask(hasher: RandomState, config: &Config, line: &[u8], answers: &[Vec<u8>], sheet: &mut Sheet) {
     match Session::open(sheet.alloc, hasher, config, 0) {
         Ok(mut session) => {
             feed(&mut session, line, sheet);

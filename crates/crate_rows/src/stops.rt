@@ -9,9 +9,8 @@ mod octets;
 mod runs;
 mod steps;
 
-pub use bench::Device;
-
 use bench::Bench;
+pub use bench::Device;
 use histories::Texts;
 use std::alloc::Global;
 

@@ -121,12 +121,7 @@ impl Bench {
     }
 
     /// How many replies to these events begin with this code, and the seconds that the events take.
-    fn timed(
-        &mut self,
-        rt: &HostRuntime,
-        events: &[Event],
-        code: &[u8],
-    ) -> io::Result<(u64, f64)> {
+    fn timed(&mut self, rt: &HostRuntime, events: &[Event], code: &[u8]) -> io::Result<(u64, f64)> {
         let start = Instant::now(rt)?;
         let Ok(outputs) = self.relay.run(events) else {
             return Err(io::Error::from(ErrorKind::OutOfMemory));

@@ -31,7 +31,12 @@ pub fn of_text(call: usize, octets: &[u8], sheet: &mut Sheet) {
         0 => sheet.cell(octets),
         1 => put_fault(octets, sheet),
         2 => put_fronts(Look::Article, octets, octets.len().saturating_add(1), sheet),
-        3 => put_fronts(Look::Overview, octets, octets.len().saturating_add(1), sheet),
+        3 => put_fronts(
+            Look::Overview,
+            octets,
+            octets.len().saturating_add(1),
+            sheet,
+        ),
         4 => put_asked(Asked::Parts, octets, sheet),
         5 => put_asked(Asked::Groups, octets, sheet),
         _ => put_asked(Asked::Overview, octets, sheet),

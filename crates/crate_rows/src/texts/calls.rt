@@ -16,8 +16,7 @@ const OF_TWO: &str = "command_changes loops judge";
 const OF_PIECES: &str = "cut_all cut_in cut_in_two";
 
 /// The calls of the parts of a text.
-const OF_TEXT: &str =
-    "octets article_fault article_cuts overview_cuts article groups overview";
+const OF_TEXT: &str = "octets article_fault article_cuts overview_cuts article groups overview";
 
 /// The calls of those behind another cell,
 const OF_HEAD: &str = "field article_changes";

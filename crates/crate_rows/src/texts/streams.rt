@@ -38,7 +38,11 @@ fn put_cuts(limit: usize, wants: &[u8], pieces: &[Vec<u8>], sheet: &mut Sheet) {
 fn wants_of(letters: &[u8], sheet: &mut Sheet) -> Vec<Want> {
     let mut wants = Vec::new(sheet.alloc);
     for letter in letters {
-        let want = if *letter == b'B' { Want::Block } else { Want::Line };
+        let want = if *letter == b'B' {
+            Want::Block
+        } else {
+            Want::Line
+        };
         if wants.push(want).is_err() {
             sheet.lack();
         }

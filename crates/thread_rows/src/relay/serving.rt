@@ -163,8 +163,14 @@ where
         return sheet.lack();
     };
     let (book, all) = blank.open::<L>();
-    let made: Result<Shared<Waiting<'_, R>, J, L>, _> =
-        Shared::new(rt, alloc, config, stores, book, row.sessions.len());
+    let made: Result<Shared<Waiting<'_, R>, J, L>, _> = Shared::new(
+        rt,
+        alloc,
+        config,
+        stores,
+        book,
+        row.sessions.len(),
+    );
     match made {
         Ok(shared) => {
             put_served(rt, sheet, config, &shared, register, all, board, row);
