@@ -83,7 +83,8 @@ fn plan(session: &mut Session, config: &Config, sheet: &mut Sheet) {
     }
 }
 
-/// The answer that the id is wanted, that it is the session's to store, or that the article is kept.
+/// The answer that the id is wanted, that it is the session's to store, or that the article is
+/// kept.
 fn answer_at(place: usize) -> Answer {
     match place {
         0 => Answer::Offer(Offer::Wanted),

@@ -35,8 +35,8 @@ struct Cell {
     lacks: bool,
 }
 
-/// The octets that a cell of a row stands for; where an escape is bad, the row has no answer. Octets
-/// that stand for themselves many times are not nested.
+/// The octets that a cell of a row stands for; where an escape is bad, the row has no answer.
+/// Octets that stand for themselves many times are not nested.
 pub(crate) fn octets_of(cell: &[u8], sheet: &mut Sheet) -> Vec<u8> {
     let mut read = Cell::new(sheet.alloc);
     for octet in cell {

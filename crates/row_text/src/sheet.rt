@@ -40,8 +40,8 @@ impl Sheet {
         }
     }
 
-    /// Writes octets as a cell: those from 0x21 to 0x7E as they are but the backslash, the others by
-    /// escapes, and `\e` where there are none.
+    /// Writes octets as a cell: those from 0x21 to 0x7E as they are but the backslash, the others
+    /// by escapes, and `\e` where there are none.
     pub fn cell(&mut self, octets: &[u8]) {
         if octets.is_empty() {
             self.put(b"\\e");
