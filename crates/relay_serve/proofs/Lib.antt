@@ -1,5 +1,7 @@
 mod PeerSources
+mod FileFaults
 mod Kept
+mod Rows
 mod ServeFaults
 mod Sizes
 mod Starts

@@ -33,15 +33,31 @@ pub fn hold_files<R: Files<File = File>>(
 {
     let mut files = Vec::with_capacity(alloc, settings.buffers.len())?;
     for buffer in &settings.buffers {
-        match hold_file(rt, alloc, buffer, folder, &files)? {
-            Ok(file) => files.push_reserved(file),
-            Err(reason) => {
-                let count = files.len();
-                return Err(unheld(rt, alloc, settings, count, folder, buffer, reason));
-            }
-        }
+        let file = held_or_told(rt, alloc, settings, folder, buffer, &files)?;
+        files.push_reserved(file);
     }
     Ok(files)
+}
+
+/// The file of a buffer, held, beside those of the buffers before it. The error is want of memory,
+/// or that it can't be had.
+fn held_or_told<R: Files<File = File>>(
+    rt: &R,
+    alloc: Global,
+    settings: &Buffers,
+    folder: &str,
+    buffer: &BufferConf,
+    earlier: &[HeldFile],
+) -> Result<HeldFile, ServeError>
+    ensures { IfErr result (IsFaultOf buffer.now) }
+{
+    match hold_file(rt, alloc, buffer, folder, earlier)? {
+        Ok(file) => Ok(file),
+        Err(reason) => {
+            let count = earlier.len();
+            Err(unheld(rt, alloc, settings, count, folder, buffer, reason))
+        }
+    }
 }
 
 /// The file of a buffer, held, or why that can't be had, as one that is one of the others.
@@ -164,15 +180,29 @@ pub fn fit_files(
         let Some(file) = rest.next() else {
             unreachable!()
         };
-        match FileBlocks::of_held(file, buffer.blocks) {
-            Ok(mut file) => {
-                blank = is_blank(&mut file) && blank;
-                stores.push_reserved(RunBlocks::of_blocks(alloc, file)?);
-            }
-            Err(refused) => return Err(unfit(alloc, buffer, &refused)),
-        }
+        let (store, is_blank) = fit_file(alloc, buffer, file)?;
+        blank &= is_blank;
+        stores.push_reserved(store);
     }
     Ok((stores, blank))
+}
+
+/// The store in the file of a buffer, and whether no buffer was kept in it.
+fn fit_file(
+    alloc: Global,
+    buffer: &BufferConf,
+    file: HeldFile,
+) -> Result<(RunBlocks, bool), ServeError>
+    ensures blocks { IfOk result (λ fitted. count_of fitted.0 ≡ buffer.now.blocks) }
+    ensures fault { IfErr result (IsFaultOf buffer.now) }
+{
+    match FileBlocks::of_held(file, buffer.blocks) {
+        Ok(mut file) => {
+            let is_blank = is_blank(&mut file);
+            Ok((RunBlocks::of_blocks(alloc, file)?, is_blank))
+        }
+        Err(refused) => Err(unfit(alloc, buffer, &refused)),
+    }
 }
 
 /// Whether no buffer was kept in a file, as far as that can be read.

@@ -1,5 +1,7 @@
 //! A relay is served on the ports of the machine, over its files.
-ghost use Rattle.std.specs.Prelude.{◌≡◌, ◌<◌, ◌^◌, IfErr, IfOk, Ok, length, map};
+ghost use Rattle.std.specs.Prelude.{◌≡◌, ◌<◌, ◌^◌, ◌⊎◌, IfErr, IfOk, Ok, length, map};
+ghost use Rattle.relay_serve.specs.Files.{IsFileFault};
+ghost use Rattle.relay_serve.specs.Ports.{IsPortFault};
 ghost use Rattle.relay_serve.specs.Running.{IsServeFault, IsStopFault};
 ghost use Rattle.relay_report.specs.Serve.{AreOf, ServeGives};
 ghost use Rattle.run_blocks.specs.Store.{count_of};
@@ -61,40 +63,71 @@ where
     ensures { ServeGives config.now result (W.contents writer.old) (W.contents writer.new) }
 {
     fill_streams(rt);
-    let files = hold_files(rt, alloc, &config.buffers, folder)?;
     let stop = Stop::new();
-    let peer_sources = open_ports(rt, alloc, &config.relay, sessions, &stop)?;
-    let (stores, blank) = fit_files(alloc, &config.buffers, files)?;
-    let mut history = HostHistory::in_folder(rt, alloc, folder)?;
     let gate = CountingGate::new(alloc, &config.relay.peers)?;
-    let Ok(control) = Control::listen(rt, alloc, folder) else {
-        return Err(ServeError::Control);
+    let mut history = HostHistory::in_folder(rt, alloc, folder)?;
+    let (unbegun, peer_sources) = open_all(rt, alloc, config, folder, sessions, fresh, &stop)?;
+    let answer = match Control::listen(rt, alloc, folder) {
+        Ok(control) => {
+            let desk = Desk::new(alloc, &stop, &gate, control);
+            tell_serving(rt, peer_sources.len(), unbegun.stores.len());
+            let access = Access {
+                peer_sources,
+                gate: &gate,
+                desk: &desk,
+            };
+            let answer = begin_and_run(rt, alloc, config, unbegun, &mut history, access, writer);
+            desk.close(rt, folder);
+            drop(desk);
+            answer
+        }
+        Err(_) => {
+            drop(peer_sources);
+            drop(unbegun);
+            Err(ServeError::Control)
+        }
     };
-    let desk = Desk::new(alloc, &stop, &gate, control);
-    let _lost = eprintln!(rt;
-        "serving ports={} buffers={}",
-        peer_sources.len(),
-        stores.len()
-    );
-    let unbegun = Unbegun {
-        stores,
-        fresh,
-        blank,
-    };
-    let access = Access {
-        peer_sources,
-        gate: &gate,
-        desk: &desk,
-    };
-    let answer = begin_and_run(rt, alloc, config, unbegun, &mut history, access, writer);
     drop(history);
-    desk.close(rt, folder);
-    drop(desk);
     drop(gate);
     if answer.is_ok() {
         let _lost = eprintln!(rt; "stopped");
     }
     answer
+}
+
+/// Has the files of the buffers, then the ports of the peers, and then makes the files as long as
+/// they have to be.
+fn open_all<'a, R>(
+    rt: &R,
+    alloc: Global,
+    config: &Config,
+    folder: &str,
+    sessions: Option<u32>,
+    fresh: bool,
+    stop: &'a Stop,
+) -> Result<(Unbegun, Vec<PeerSource<Port<'a>>>), ServeError>
+where
+    R: Net<Listener = TcpListener, Stream = TcpStream> + Files<File = File>,
+    ensures stores { IfOk result (λ opened. map count_of opened.0.stores.items
+        ≡ map (λ buffer. buffer.blocks) config.now.buffers.buffers.items) }
+    ensures few { IfOk result (λ opened. length opened.1.items < 2 ^ 62) }
+    ensures fault { IfErr result (λ error. IsFileFault config.now.buffers error
+        ⊎ IsPortFault config.now.relay.peers.items error) }
+{
+    let files = hold_files(rt, alloc, &config.buffers, folder)?;
+    let peer_sources = open_ports(rt, alloc, &config.relay, sessions, stop)?;
+    let (stores, blank) = fit_files(alloc, &config.buffers, files)?;
+    let unbegun = Unbegun {
+        stores,
+        fresh,
+        blank,
+    };
+    Ok((unbegun, peer_sources))
+}
+
+/// Tells that a relay is served, at so many ports, over so many buffers.
+fn tell_serving<R: Eprint>(rt: &R, ports: usize, buffers: usize) {
+    let _lost = eprintln!(rt; "serving ports={ports} buffers={buffers}");
 }
 
 /// What a relay may begin over, before it is known from what.
@@ -176,7 +209,7 @@ where
 /// all that its stores were given is on their devices. Nothing says that a file of the machine is
 /// honest, so nothing is promised of what the stores give. Where there is no memory for the totals
 /// the history is kept all the same.
-#[tactic(auto, using(crate::proofs::ServeFaults::relay_serves, crate::proofs::ServeFaults::stop_serves))]
+#[tactic(auto, using(crate::proofs::ServeFaults::run_fails))]
 fn run_on<'a, R, H: HistoryPlace>(
     rt: &R,
     alloc: Global,

@@ -45,8 +45,24 @@ impl<'a, S, R: Clock + Eprint> Watched<'a, S, R> {
             return;
         }
         self.told = second;
+        self.print(kind);
+    }
+
+    /// Prints that a call of this kind failed.
+    fn print(&self, kind: &str) {
         let name = str::from_utf8(self.name).unwrap_or("?");
         let _lost = eprintln!(self.rt; "failed buffer={name} kind={kind}");
+    }
+
+    /// Hands on the answer to a call of this kind, and tells where that failed.
+    fn hand_on(&mut self, answer: Result<(), DeviceFailed>, kind: &str) -> Result<(), DeviceFailed>
+        ensures answer { result ≡ answer }
+        ensures same { self.new.store ≡ self.old.store }
+    {
+        if answer.is_err() {
+            self.tell(kind);
+        }
+        answer
     }
 }
 
@@ -74,34 +90,22 @@ impl<S: BlockStore, R: Clock + Eprint> BlockStore for Watched<'_, S, R> {
 
     fn read(&mut self, k: u32, octets: &mut [u8; BLOCK_OCTETS]) -> Result<(), DeviceFailed> {
         let answer = self.store.read(k, octets);
-        if answer.is_err() {
-            self.tell("Read");
-        }
-        answer
+        self.hand_on(answer, "Read")
     }
 
     fn write(&mut self, k: u32, octets: &[u8; BLOCK_OCTETS]) -> Result<(), DeviceFailed> {
         let answer = self.store.write(k, octets);
-        if answer.is_err() {
-            self.tell("Write");
-        }
-        answer
+        self.hand_on(answer, "Write")
     }
 
     fn read_head(&mut self, k: u32, octets: &mut [u8; BLOCK_OCTETS]) -> Result<(), DeviceFailed> {
         let answer = self.store.read_head(k, octets);
-        if answer.is_err() {
-            self.tell("Read");
-        }
-        answer
+        self.hand_on(answer, "Read")
     }
 
     fn write_head(&mut self, k: u32, octets: &[u8; BLOCK_OCTETS]) -> Result<(), DeviceFailed> {
         let answer = self.store.write_head(k, octets);
-        if answer.is_err() {
-            self.tell("Write");
-        }
-        answer
+        self.hand_on(answer, "Write")
     }
 }
 

@@ -8,6 +8,7 @@ use Rattle.relay_serve.proofs.files.fit_files.Given as goal
 abbrev pub invariant-loop-buffer : goal.invariant-loop-buffer
 invariant-loop-buffer l = record {
   room : length l.settings.buffers.items ≤ vec_capacity l.stores;
+  count : length l.stores.items ≡ l.buffer-index;
   files : l.buffer-index + into_iter_len l.rest ≡ length l.settings.buffers.items;
   blocks : map count_of l.stores.items
       ≡ map (λ buffer. buffer.blocks) (take l.buffer-index l.settings.buffers.items);

@@ -1,0 +1,60 @@
+use Rattle.std.proofs.Common.{◌++◌, ap, arith, length, map}
+use Rattle.std.proofs.lemmas.List.{nil_from_length}
+use Rattle.std.specs.Vec.Iter.{into_iter_items}
+use Rattle.relay_serve.proofs.Rows.{longer, none_left, one_more_read}
+use Rattle.relay_serve.specs.Watched.{store_in}
+use Rattle.relay_serve.proofs.watched.watch_all.Goals as goal
+
+pub loop-store-init : goal.loop-store-init
+loop-store-init g c =
+    let gives = c.into_iter-store-iterator.ensures.into_iter_gives in
+    let none = c.in_ok-all.ensures.items in
+    record {
+      count = omega (arith, gives.1, ap length none);
+      room = omega (arith, c.in_ok-all.ensures.capacity, c.len.ensures, c.args.stores.ok);
+      stores = λ i. map store_in (none i) ++ gives.0 i;
+    }
+
+-- there is room for one more
+pub push_reserved-requires : goal.push_reserved-requires
+push_reserved-requires g c =
+    omega (
+      arith,
+      c.loop-store.invariant.count,
+      c.loop-store.invariant.room,
+      c.in-Some.ensures.steps.1,
+      c.loop-store.all.ok,
+    )
+
+-- one store more
+pub loop-store-preserved : goal.loop-store-preserved
+loop-store-preserved g c =
+    let old = c.loop-store.all.items in
+    let new = c.push_reserved.new.self.items in
+    let before = c.loop-store.invariant in
+    let steps = c.in-Some.ensures.steps in
+    let pushed = c.push_reserved.ensures in
+    record {
+      count = omega (
+        arith,
+        longer store_in old new c.new.result pushed.items,
+        before.count,
+        steps.1,
+      );
+      room = omega (arith, before.room, pushed.capacity);
+      stores = one_more_read store_in old new c.new.result pushed.items c.args.stores.items
+          (into_iter_items c.loop-store.store-iterator) (into_iter_items c.next.new.self)
+          c.in-Some.store steps.0 c.new.ensures before.stores;
+    }
+
+-- that was the last
+pub returns : goal.returns
+returns g c =
+    let rest = c.loop-store.store-iterator in
+    record {
+      stores = none_left (map store_in c.loop-store.all.items) (into_iter_items rest)
+          c.args.stores.items
+          (nil_from_length rest.rest.items
+          (omega (arith, c.in-None.ensures.steps.0, rest.rest.ok)))
+          c.loop-store.invariant.stores;
+    }
