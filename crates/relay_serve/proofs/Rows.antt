@@ -1,6 +1,6 @@
 -- A row of which another is made, one after the other.
-use Rattle.std.proofs.Common.{◌≡◌, ◌∙◌, ◌+◌, ◌<◌, ◌∷◌, ◌++◌, [], ℕ, List, ap, append-nil, append_assoc, length}
-use Rattle.std.proofs.Common.{arith, get_or, map, subst, sym, take}
+use Rattle.std.proofs.Common.{◌≡◌, ◌∙◌, ◌+◌, ◌<◌, ◌∷◌, ◌++◌, [], ℕ, List, Option, ap, append-nil, append_assoc, length}
+use Rattle.std.proofs.Common.{arith, get_or, map, slice_get, subst, sym, take}
 use Rattle.std.proofs.lemmas.List.{map_more, map_push}
 
 module _ {P Y : Type 0} (of : P → Y) (made now : List P) (one : P) (more : now ≡ made ++ one ∷ [])
@@ -38,3 +38,9 @@ module _ {P Y : Type 0} (of : P → Y) (made now : List P) (one : P) (more : now
 pub none_left : {Y : Type 0} (made rest all : List Y) → rest ≡ [] → made ++ rest ≡ all → made ≡ all
 none_left made rest all none so_far =
     sym (append-nil made) ∙ ap (λ list. made ++ list) (sym none) ∙ so_far
+
+-- what is read of a row at a number is there
+pub read_at : {X : Type 0} (all xs : List X) (i k : ℕ) (one : Option X) → all ≡ xs → i ≡ k
+    → slice_get all i ≡ one → slice_get xs k ≡ one
+read_at {X} all xs i k one same at there =
+    sym (ap (λ (list : List X). slice_get list i) same ∙ ap (slice_get xs) at) ∙ there
