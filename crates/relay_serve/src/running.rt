@@ -1,5 +1,6 @@
 //! A relay runs in threads, over stores and peer sources that are given.
-ghost use Rattle.std.specs.Prelude.{◌≡◌, ◌<◌, ◌^◌, true, All, List, IfErr, IfOk, length, map};
+ghost use Rattle.std.specs.Prelude.{◌≡◌, ◌<◌, ◌^◌, ◌⊎◌, true, All, List, Ok, Err, IfErr, IfOk};
+ghost use Rattle.std.specs.Prelude.{length, map};
 ghost use Rattle.block_shelf.specs.Filling.{IsBeginRefusal};
 ghost use Rattle.relay_live.specs.Holding.{has_buffer};
 ghost use Rattle.relay_live.specs.Making.{buffers_in, ends_in, slots_of};
@@ -7,6 +8,7 @@ ghost use Rattle.relay_serve.specs.Lives.{AreOfOrigin, IsNoStart, StartsAsTold};
 ghost use Rattle.relay_serve.specs.Running.{CountsOf, IsRelayFault, IsRunFault, Ran, ended_as};
 ghost use Rattle.relay_serve.specs.Running.{channel_count, unbegun_as};
 ghost use Rattle.relay_report.specs.Serve.{AreOf};
+ghost use Rattle.relay_report.specs.declared.fault.ServeError.TheVariants as faults;
 
 use crate::files::unformatted;
 use crate::lives::{finish, start_shared};
@@ -19,7 +21,7 @@ use live_wire::Connections;
 use relay_conf::Config;
 use relay_core::Stopped;
 use relay_folder::Origin;
-use relay_live::{Counted, CountedRun, Keeper, LiveError, PeerSource, Serving, Shared, serve_all};
+use relay_live::{Counted, Keeper, LiveError, PeerSource, RegisterRef, Serving, Shared, serve_all};
 use relay_report::{ServeError, Totals};
 use std::alloc::{AllocError, Global};
 use std::hash::RandomState;
@@ -135,13 +137,9 @@ where
     };
     let keeper = Keeper::new(&shared, register, &config.buffers, clock);
     let served = Served::new(config, &shared, clock);
-    let run = RelayRun {
-        keeper,
-        serving,
-        all,
-    };
-    let counted = attended(rt, alloc, run, side, &served);
+    let counted = attended(rt, alloc, &keeper, serving, all, side, &served);
     drop(served);
+    drop(keeper);
     match counted {
         Ok(counted) => finish(rt, alloc, config, shared, counted),
         Err(error) => {
@@ -238,95 +236,112 @@ fn hasher_of<R: RandomSource>(rt: &R) -> Result<RandomState, ServeError>
     }
 }
 
-/// A run, beside which something may go on.
-trait Run<R> {
-    /// Where it can be run.
-    ghost can_run: { Self → Type 0 };
-
-    /// What is so of what it has counted.
-    ghost has_run: { Self → Counted → Type 0 };
-
-    /// Runs until all of its threads have ended.
-    fn run(self, rt: &R, alloc: Global) -> Result<Counted, ServeError>
-        requires { can_run self }
-        ensures ran { IfOk result (has_run self) }
-        ensures fault { IfErr result IsRunFault };
-}
-
-/// The run of a relay over what its threads share, before the first of them.
-#[derive(Drop)]
-struct RelayRun<'a, X, S: BlockStore + Drop, J: StorePremises, L: Ledger, C: Clock, G> {
-    keeper: Keeper<'a, S, J, L, C, ArticleLog>,
-    serving: Serving<'a, X, G>,
-    /// The whole ledger of the posts.
-    all: Share<L>,
-}
-
-impl<
+/// Runs a relay over what its threads share, until all of them have ended.
+fn run_shared<
+    'a,
     X: Connections<R> + Drop + Send,
     S: BlockStore + Drop + Send,
     J: StorePremises + Send + Sync,
     L: Ledger + Send + Sync,
     C: Clock + Sync,
     G: Gate<R> + Sync,
+    Q: RegisterRef + Sync,
     R: Threads + Wait + Sync,
-> Run<R> for RelayRun<'_, X, S, J, L, C, G>
+>(
+    rt: &R,
+    alloc: Global,
+    keeper: &Keeper<'a, S, J, L, C, Q>,
+    serving: Serving<'a, X, G>,
+    all: Share<L>,
+) -> Result<Counted, ServeError>
 where
     <X as Connections<R>>::Reader: Drop + Send,
     <X as Connections<R>>::Writer: Drop + Send,
+    requires parts { (all.parts ≡ channel_count serving.config.now) × (all.amount ≡ 0)
+        × (L.parts ≡ channel_count serving.config.now) }
+    requires slots { slots_of keeper.now ≡ length serving.peer_sources.items }
+    requires few { length serving.peer_sources.items < 2 ^ 62 }
+    ensures ran { IfOk result (Ran ⟦<J as StorePremises>⟧ serving.entry.config.now
+        (map (λ peer_source. peer_source.peer) serving.entry.peer_sources.items)) }
+    ensures fault { IfErr result IsRunFault }
 {
-    // The ledger has a part for each writer, and there is a slot for each peer source.
-    ghost can_run = { λ relay. (relay.all.parts ≡ channel_count relay.serving.config.now)
-        × (relay.all.amount ≡ 0) × (L.parts ≡ channel_count relay.serving.config.now)
-        × (slots_of relay.keeper ≡ length relay.serving.peer_sources.items)
-        × (length relay.serving.peer_sources.items < 2 ^ 62) };
-
-    // What is counted is of a run of these peer sources.
-    ghost has_run = { λ relay. Ran ⟦<J as StorePremises>⟧ relay.serving.config.now
-        (map (λ peer_source. peer_source.peer) relay.serving.peer_sources.items) };
-
-    fn run(self, rt: &R, alloc: Global) -> Result<Counted, ServeError> {
-        let RelayRun {
-            keeper,
-            serving,
-            all,
-        } = self;
-        let groups = channels_of(serving.config);
-        match serve_all(rt, alloc, &keeper, serving, groups, all) {
-            Ok(ran) => {
-                let CountedRun { seats, counted } = ran;
-                drop(seats);
-                Ok(counted)
-            }
-            Err(error) => Err(ended(error)),
-        }
+    let groups = channels_of(serving.config);
+    match serve_all(rt, alloc, keeper, serving, groups, all) {
+        Ok(ran) => Ok(ran.counted),
+        Err(error) => Err(ended(error)),
     }
 }
 
-/// Runs until all threads have ended, and beside that what goes on, which is started first.
+/// Runs a relay over what its threads share, until all of them have ended, and beside it what goes
+/// on, which is started first.
 fn attended<
-    W: Run<R> + Drop,
+    'a,
+    X: Connections<R> + Drop + Send,
+    S: BlockStore + Drop + Send,
+    J: StorePremises + Send + Sync,
+    L: Ledger + Send + Sync,
+    C: Clock + Sync,
+    G: Gate<R> + Sync,
+    B: SideThread<R> + Sync,
+    R: Threads + Wait + Sync,
+>(
+    rt: &R,
+    alloc: Global,
+    keeper: &Keeper<'a, S, J, L, C, ArticleLog>,
+    serving: Serving<'a, X, G>,
+    all: Share<L>,
+    side: &B,
+    served: &Served<'_, S, J, L, C>,
+) -> Result<Counted, ServeError>
+where
+    <X as Connections<R>>::Reader: Drop + Send,
+    <X as Connections<R>>::Writer: Drop + Send,
+    requires parts { (all.parts ≡ channel_count serving.config.now) × (all.amount ≡ 0)
+        × (L.parts ≡ channel_count serving.config.now) }
+    requires slots { slots_of keeper.now ≡ length serving.peer_sources.items }
+    requires few { length serving.peer_sources.items < 2 ^ 62 }
+    ensures ran { IfOk result (Ran ⟦<J as StorePremises>⟧ serving.entry.config.now
+        (map (λ peer_source. peer_source.peer) serving.entry.peer_sources.items)) }
+    ensures fault { IfErr result IsRunFault }
+{
+    let run = move || -> Result<Counted, ServeError>
+        requires parts { (all.parts ≡ channel_count serving.config.now) × (all.amount ≡ 0)
+            × (L.parts ≡ channel_count serving.config.now) }
+        requires slots { slots_of keeper.now ≡ length serving.peer_sources.items }
+        requires few { length serving.peer_sources.items < 2 ^ 62 }
+        ensures ran { IfOk result (Ran J.StorePremises serving.entry.config.now
+            (map (λ peer_source. peer_source.peer) serving.entry.peer_sources.items)) }
+        ensures fault { IfErr result IsRunFault }
+    { run_shared(rt, alloc, keeper, serving, all) };
+    run_beside(rt, run, side, served)
+}
+
+/// Has something run to its end, and beside it what goes on, which is started first. Where no
+/// thread is to be had for that nothing is run.
+fn run_beside<
+    W: FnOnce() -> Result<Counted, ServeError> + Drop,
     B: SideThread<R> + Sync,
     F: Figured<R> + Sync,
     R: Threads + Wait + Sync,
->(rt: &R, alloc: Global, run: W, side: &B, served: &F) -> Result<Counted, ServeError>
-    requires { W.can_run run }
-    ensures ran { IfOk result (W.has_run run) }
-    ensures fault { IfErr result IsRunFault }
+>(rt: &R, run: W, side: &B, served: &F) -> Result<Counted, ServeError>
+    requires { W.pre run }
+    ensures ran { IfOk result (λ counted. W.post run (Ok counted)) }
+    ensures fault { IfErr result (λ error. (error ≡ faults.NoThread) ⊎ W.post run (Err error)) }
 {
     thread::scope(
         thread::scope_env(),
         rt,
         move |scope| -> Result<Counted, ServeError>
-            requires { W.can_run run }
-            ensures ran { IfOk result (W.has_run run) }
-            ensures fault { IfErr result IsRunFault }
+            requires { W.pre run }
+            ensures ran { IfOk result (λ counted. W.post run (Ok counted)) }
+            ensures fault { IfErr result
+                (λ error. (error ≡ faults.NoThread) ⊎ W.post run (Err error)) }
         {
             let Some(attending) = start_side_thread(scope, rt, side, served) else {
                 drop(run);
                 return Err(ServeError::NoThread);
             };
-            let ran = run.run(rt, alloc);
+            let ran = run();
             side.ended();
             attending.join(rt);
             ran

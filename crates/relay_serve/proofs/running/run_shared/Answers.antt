@@ -8,7 +8,7 @@ use Rattle.relay_live.specs.PeerServers.{kept_of, peer_of, terms_at}
 use Rattle.relay_live.specs.Sessions.{Accounted, HasLists}
 use Rattle.relay_model.specs.Terms.{Terms}
 use Rattle.relay_serve.proofs.Kept.{made_there, one_there, same_there}
-use Rattle.relay_serve.proofs.running.RelayRunRun.run.Goals as goal
+use Rattle.relay_serve.proofs.running.run_shared.Goals as goal
 use Rattle.news_terms.proofs.ListPlaces.{mapped_at}
 
 -- what the seats had is what the totals are of
@@ -17,9 +17,9 @@ returns-in-Ok-clause-ran g c =
     let ran = c.in-Ok.ensures in
     let seats = c.in-Ok.ran.seats in
     let ends = seats.services.items in
-    let config = c.args.self.serving.config.now in
+    let config = c.args.serving.config.now in
     let peer_sources =
-    length-map c.args.self.serving.peer_sources.items (λ peer_source. peer_source.peer) in
+    length-map c.args.serving.peer_sources.items (λ peer_source. peer_source.peer) in
     record {
       finished = map (λ w. w.finished.items) seats.writers.items;
       hands = hands_of seats.lefts.items;
@@ -40,7 +40,7 @@ returns-in-Ok-clause-ran g c =
           let has = ran.kept end jobs at.0 handed at.1 in
           let its_peer = one_there _ _ end (peer_of at.0) peer ran.peers
           (made_there peer_of ends end at.0 at.1) at_peer in
-          let its_terms = same_there (terms_of config) c.args.self.serving.peer_sources.items end
+          let its_terms = same_there (terms_of config) c.args.serving.peer_sources.items end
           (terms_at at.0) (ap (λ row. slice_get row end) (sym ran.terms)
           ∙ made_there terms_at ends end at.0 at.1) in (
             has.0,
