@@ -1,6 +1,6 @@
 -- Whether a relay that isn't run couldn't start, and why not.
 use Rattle.std.proofs.Common.{◌≡◌, inl, inr, List, ℕ, Option, None, Some, refl, subst, sym}
-use Rattle.std.specs.Prelude.{slice_get}
+use Rattle.std.specs.Prelude.{Err, IfErr, IfOk, Ok, Result, slice_get}
 use Rattle.std.proofs.lemmas.Option.{get_or_from_slice_get, slice_get_within}
 use Rattle.std.specs.IoError.{error_kind}
 use Rattle.std.specs.declared.io.ErrorKind.{ErrorKind}
@@ -83,6 +83,20 @@ pub stop_told : {S : Type 0} (g : Ghosts S) (config : Config) (stores : List S) 
     (error : ServeError) → IsStopFault error → StartsAsTold g config stores origin error
 stop_told g config stores origin error fault =
     other_told g config stores origin error (stop_other error fault)
+
+pub stopped_told : {S X : Type 0} (g : Ghosts S) (config : Config) (stores : List S)
+    (origin : Origin) (result : Result X ServeError) → IfErr result IsStopFault
+    → IfErr result (StartsAsTold g config stores origin)
+stopped_told g config stores origin (Ok finished) stop = tt
+stopped_told g config stores origin (Err error) stop =
+    stop_told g config stores origin error stop
+
+-- What is so of what was counted is so of what the relay that was stopped has come to.
+pub counted_still : {X Y : Type 0} (IsSo : Y → Type 0) (of : X → Y) (counted : Y)
+    (result : Result X ServeError) → IsSo counted → IfOk result (λ run. of run ≡ counted)
+    → IfOk result (λ run. IsSo (of run))
+counted_still IsSo of counted (Ok run) so same = subst IsSo (sym same) so
+counted_still IsSo of counted (Err error) so same = tt
 
 -- what is said of a relay that isn't run, for another reason than a start
 pub ruleset run_ends = (run_serves, stop_stays, run_told, stop_told)

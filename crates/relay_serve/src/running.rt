@@ -135,11 +135,7 @@ where
         hasher,
         peer_sources,
     };
-    let keeper = Keeper::new(&shared, register, &config.buffers, clock);
-    let served = Served::new(config, &shared, clock);
-    let counted = attended(rt, alloc, &keeper, serving, all, side, &served);
-    drop(served);
-    drop(keeper);
+    let counted = attended(rt, alloc, register, &shared, serving, all, clock, side);
     match counted {
         Ok(counted) => finish(rt, alloc, config, shared, counted),
         Err(error) => {
@@ -287,23 +283,31 @@ fn attended<
 >(
     rt: &R,
     alloc: Global,
-    keeper: &Keeper<'a, S, J, L, C, ArticleLog>,
+    register: &'a ArticleLog,
+    shared: &'a Shared<S, J, L>,
     serving: Serving<'a, X, G>,
     all: Share<L>,
+    clock: &'a C,
     side: &B,
-    served: &Served<'_, S, J, L, C>,
 ) -> Result<Counted, ServeError>
 where
     <X as Connections<R>>::Reader: Drop + Send,
     <X as Connections<R>>::Writer: Drop + Send,
+    requires register { register.now ≡ J.register }
+    requires holds { J.holds ≡ has_buffer serving.config.now.buffers }
+    requires buffers { buffers_in shared.now ≡ length serving.config.now.buffers.buffers.items }
     requires parts { (all.parts ≡ channel_count serving.config.now) × (all.amount ≡ 0)
         × (L.parts ≡ channel_count serving.config.now) }
-    requires slots { slots_of keeper.now ≡ length serving.peer_sources.items }
+    requires slots { ends_in shared.now ≡ length serving.peer_sources.items }
     requires few { length serving.peer_sources.items < 2 ^ 62 }
     ensures ran { IfOk result (Ran ⟦<J as StorePremises>⟧ serving.entry.config.now
         (map (λ peer_source. peer_source.peer) serving.entry.peer_sources.items)) }
     ensures fault { IfErr result IsRunFault }
 {
+    let config = serving.config;
+    let own = Keeper::new(shared, register, &config.buffers, clock);
+    let keeper = &own;
+    let served = Served::new(config, shared, clock);
     let run = move || -> Result<Counted, ServeError>
         requires parts { (all.parts ≡ channel_count serving.config.now) × (all.amount ≡ 0)
             × (L.parts ≡ channel_count serving.config.now) }
@@ -313,7 +317,7 @@ where
             (map (λ peer_source. peer_source.peer) serving.entry.peer_sources.items)) }
         ensures fault { IfErr result IsRunFault }
     { run_shared(rt, alloc, keeper, serving, all) };
-    run_beside(rt, run, side, served)
+    run_beside(rt, run, side, &served)
 }
 
 /// Has something run to its end, and beside it what goes on, which is started first. Where no

@@ -6,6 +6,7 @@ use Rattle.relay_serve.proofs.figures.buffers_of.Given as goal
 abbrev pub invariant-loop-number : goal.invariant-loop-number
 invariant-loop-number g l = record {
   room : length l.config.buffers.buffers.items ≤ vec_capacity l.named;
+  count : length l.named.items ≡ l.number;
   names : map (λ one. one.name) l.named.items
       ≡ map (λ buffer. buffer.name) (take l.number l.config.buffers.buffers.items);
 }

@@ -1,0 +1,53 @@
+use Rattle.std.proofs.Common.{◌∙◌, ap, arith, length, map}
+use Rattle.relay_report.specs.declared.figures.NamedBuffer.{NamedBuffer}
+use Rattle.relay_serve.proofs.Rows.{longer, one_more_made}
+use Rattle.relay_serve.proofs.figures.buffers_of.Goals as goal
+
+pub loop-number-init : goal.loop-number-init
+loop-number-init g c =
+    let none = c.in_ok-named.ensures.items in
+    record {
+      room = omega (
+        arith,
+        c.in_ok-named.ensures.capacity,
+        c.len.ensures,
+        c.args.config.now.buffers.buffers.ok,
+      );
+      count = ap length none;
+      names = ap (map (λ one. one.name)) none;
+    }
+
+-- there is room for one more,
+pub push_reserved-requires : goal.push_reserved-requires
+push_reserved-requires g c =
+    omega (
+      arith,
+      c.loop-number.invariant.room,
+      c.loop-number.invariant.count,
+      c.loop-number-test.true,
+      ap length c.deref-buffer-items.ensures.value,
+      c.loop-number.named.ok,
+    )
+
+-- which has the name of its buffer
+pub loop-number-preserved : goal.loop-number-preserved
+loop-number-preserved g c =
+    let old = c.loop-number.named.items in
+    let new = c.push_reserved.new.self.items in
+    let one : NamedBuffer =
+    record { name = c.in_ok-name.name; figures = c.figures_at-figures.result } in
+    let before = c.loop-number.invariant in
+    let pushed = c.push_reserved.ensures in
+    record {
+      room = omega (arith, before.room, pushed.capacity);
+      count = omega (
+        arith,
+        longer (λ named. named.name) old new one pushed.items,
+        before.count,
+      );
+      names = one_more_made (λ named. named.name) old new one pushed.items
+          (λ buffer. buffer.name) c.deref-buffer-items.result.now
+          c.args.config.now.buffers.buffers.items c.loop-number.number c.buffer-item.result
+          c.deref-buffer-items.ensures.value c.loop-number-test.true c.buffer-item.is
+          (c.in_ok-name.ensures ∙ c.as_slice.ensures) before.names;
+    }
