@@ -1,14 +1,12 @@
 -- Why a relay is not served, from why its parts aren't had.
-use Rattle.std.proofs.Common.{◌≡◌, ◌⊎◌, inl, inr, List, ℕ, Option, None, Some, Result, Ok, Err, refl}
+use Rattle.std.proofs.Common.{◌≡◌, inl, inr, List, ℕ, Option, None, Some, Result, Ok, Err, refl}
 use Rattle.std.proofs.Common.{subst, sym}
 use Rattle.std.proofs.lemmas.Option.{get_or_from_slice_get, slice_get_within}
 use Rattle.std.specs.Io.KnownBytes.{Keeps}
 use Rattle.std.specs.Result.{IsErr, IsErrAnd}
 use Rattle.cyc_block.specs.declared.store.BlockStore.{Ghosts}
 use Rattle.relay_conf.specs.declared.settings.Config.{Config}
-use Rattle.relay_serve.specs.Files.{IsFileFault}
 use Rattle.relay_serve.specs.History.{IsOriginFault}
-use Rattle.relay_serve.specs.Ports.{IsPortFault}
 use Rattle.relay_serve.specs.Running.{IsRelayFault, IsRunFault, IsServeFault, IsStopFault}
 use Rattle.relay_report.specs.Serve.{ServeGives}
 use Rattle.relay_report.specs.declared.fault.ServeError.{ServeError}
@@ -98,47 +96,13 @@ none_served config faults.Memory held fault = (tt, kept held)
 none_served config faults.NoThread held fault = (tt, kept held)
 none_served config faults.Unwritten held none = absurd none
 
--- nor is anything where memory was refused,
-memory_none : (config : Config) (error : ServeError) (held : Option (List ℕ))
-    → error ≡ faults.Memory → ServeGives config (Err error) held held
-memory_none config error held memory =
-    subst (λ (it : ServeError). ServeGives config (Err it) held held) (sym memory) (tt, kept held)
-
--- or a file can't be had,
-file_none : (config : Config) (error : ServeError) (held : Option (List ℕ))
-    → IsFileFault config.buffers error → ServeGives config (Err error) held held
-file_none config (faults.File lost) held named = (named, kept held)
-file_none config error held memory = memory_none config error held memory
-
--- or a port
-port_none : (config : Config) (error : ServeError) (held : Option (List ℕ))
-    → IsPortFault config.relay.peers.items error → ServeGives config (Err error) held held
-port_none config (faults.Port lost) held named = (named, kept held)
-port_none config error held memory = memory_none config error held memory
-
--- So it is told of a result, which is this error.
-told_none : (config : Config) (error : ServeError) (result : Result (Unit {0}) ServeError)
-    (held : Option (List ℕ)) → IsErr result → IsErrAnd result (λ e. e ≡ error)
-    → ServeGives config (Err error) held held → ServeGives config result held held
-told_none config error (Ok finished) held is e gives = absurd (cc is)
-told_none config error (Err same) held is e gives =
-    let P : ServeError → Type 0 = λ it. ServeGives config (Err it) held held in
-    subst P (sym e) gives
-
 pub served_none : (config : Config) (error : ServeError) (result : Result (Unit {0}) ServeError)
     (held : Option (List ℕ)) → IsErr result → IsErrAnd result (λ e. e ≡ error)
     → IsServeFault config error → ServeGives config result held held
-served_none config error result held is e fault =
-    told_none config error result held is e (none_served config error held fault)
-
-pub opened_none : (config : Config) (error : ServeError) (result : Result (Unit {0}) ServeError)
-    (held : Option (List ℕ)) → IsErr result → IsErrAnd result (λ e. e ≡ error)
-    → IsFileFault config.buffers error ⊎ IsPortFault config.relay.peers.items error
-    → ServeGives config result held held
-opened_none config error result held is e (inl file) =
-    told_none config error result held is e (file_none config error held file)
-opened_none config error result held is e (inr port) =
-    told_none config error result held is e (port_none config error held port)
+served_none config error (Ok finished) held is e fault = absurd (cc is)
+served_none config error (Err same) held is e fault =
+    let P : ServeError → Type 0 = λ it. ServeGives config (Err it) held held in
+    subst P (sym e) (none_served config error held fault)
 
 -- why a relay that was run, or couldn't be stopped, is not served
 pub ruleset run_fails = (relay_serves, stop_serves)

@@ -1,5 +1,5 @@
 -- What a run of a relay in threads comes to (docs/PROTOCOL.md, Threads).
-use Rattle.std.specs.Prelude.{◌≡◌, ◌⊎◌, ◌==◌, ℕ, List, length, slice_get, Some, if◌then◌else◌}
+use Rattle.std.specs.Prelude.{◌≡◌, ◌⊎◌, ◌==◌, ◌<◌, ◌^◌, ℕ, List, length, slice_get, Some, if◌then◌else◌}
 use Rattle.std.specs.Prelude.{string_bytes}
 use Rattle.std.specs.Str.Lossy.{utf8_lossy}
 use Rattle.std.specs.declared.io.ErrorKind.{ErrorKind}
@@ -123,6 +123,15 @@ pub record Ran {J : Type 0} (g : Ghosts J) (config : Config) (peers : List ℕ) 
   pub posted : posts_in (posted_in counted) ≡ accepted_in counted
   pub mismatched_receipts : mismatched_receipts_of counted ≡ mismatched_receipts_in kept finished
   pub ids_stored_again : ids_stored_again_of counted ≡ ids_stored_again_in finished
+
+-- A relay can be run: the ledger has a part for each writer, all of these parts are at hand, and
+-- nothing is counted by them yet; there is a slot for each peer source, and of these not too many.
+pub record CanRun (writers total parts amount slots sources : ℕ) : Type 0 where
+  pub ledger : total ≡ writers
+  pub at_hand : parts ≡ writers
+  pub uncounted : amount ≡ 0
+  pub slot_each : slots ≡ sources
+  pub few : sources < 2 ^ 62
 
 -- the numbers of the totals are those that were counted
 pub record CountsOf (totals : Totals) (counted : Counted) : Type 0 where

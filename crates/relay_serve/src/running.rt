@@ -5,7 +5,7 @@ ghost use Rattle.block_shelf.specs.Filling.{IsBeginRefusal};
 ghost use Rattle.relay_live.specs.Holding.{has_buffer};
 ghost use Rattle.relay_live.specs.Making.{buffers_in, ends_in, slots_of};
 ghost use Rattle.relay_serve.specs.Lives.{AreOfOrigin, IsNoStart, StartsAsTold};
-ghost use Rattle.relay_serve.specs.Running.{CountsOf, IsRelayFault, IsRunFault, Ran, ended_as};
+ghost use Rattle.relay_serve.specs.Running.{CanRun, CountsOf, IsRelayFault, IsRunFault, Ran, ended_as};
 ghost use Rattle.relay_serve.specs.Running.{channel_count, unbegun_as};
 ghost use Rattle.relay_report.specs.Serve.{AreOf};
 ghost use Rattle.relay_report.specs.declared.fault.ServeError.TheVariants as faults;
@@ -253,10 +253,8 @@ fn run_shared<
 where
     <X as Connections<R>>::Reader: Drop + Send,
     <X as Connections<R>>::Writer: Drop + Send,
-    requires parts { (all.parts ≡ channel_count serving.config.now) × (all.amount ≡ 0)
-        × (L.parts ≡ channel_count serving.config.now) }
-    requires slots { slots_of keeper.now ≡ length serving.peer_sources.items }
-    requires few { length serving.peer_sources.items < 2 ^ 62 }
+    requires { CanRun (channel_count serving.config.now) L.parts all.parts all.amount
+        (slots_of keeper.now) (length serving.peer_sources.items) }
     ensures ran { IfOk result (Ran ⟦<J as StorePremises>⟧ serving.entry.config.now
         (map (λ peer_source. peer_source.peer) serving.entry.peer_sources.items)) }
     ensures fault { IfErr result IsRunFault }
@@ -309,10 +307,8 @@ where
     let keeper = &own;
     let served = Served::new(config, shared, clock);
     let run = move || -> Result<Counted, ServeError>
-        requires parts { (all.parts ≡ channel_count serving.config.now) × (all.amount ≡ 0)
-            × (L.parts ≡ channel_count serving.config.now) }
-        requires slots { slots_of keeper.now ≡ length serving.peer_sources.items }
-        requires few { length serving.peer_sources.items < 2 ^ 62 }
+        requires { CanRun (channel_count serving.config.now) L.parts all.parts all.amount
+            (slots_of keeper.now) (length serving.peer_sources.items) }
         ensures ran { IfOk result (Ran J.StorePremises serving.entry.config.now
             (map (λ peer_source. peer_source.peer) serving.entry.peer_sources.items)) }
         ensures fault { IfErr result IsRunFault }

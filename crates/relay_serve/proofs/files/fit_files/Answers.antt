@@ -1,4 +1,5 @@
-use Rattle.std.proofs.Common.{ap, arith, length, map}
+use Rattle.std.proofs.Common.{◌∙◌, ap, arith, length, map}
+use Rattle.std.proofs.lemmas.List.{take_all}
 use Rattle.std.proofs.lemmas.Result.{err_from_is_err_and}
 use Rattle.run_blocks.specs.Store.{count_of}
 use Rattle.relay_serve.proofs.FileFaults.{fault_at}
@@ -68,3 +69,14 @@ loop-buffer-preserved c =
           c.loop-buffer.buffer-index c.buffer-item.result c.deref-buffer-items.ensures.value
           c.loop-buffer-test.true c.buffer-item.is c.in_ok-store.ensures.blocks before.blocks;
     }
+
+-- that was the last
+pub returns-clause-blocks : goal.returns-clause-blocks
+returns-clause-blocks c =
+    let all = c.args.settings.now.buffers.items in
+    c.loop-buffer.invariant.blocks
+    ∙ ap (map (λ buffer. buffer.blocks)) (take_all c.loop-buffer.buffer-index all (omega (
+      arith,
+      c.loop-buffer-test.false,
+      ap length c.deref-buffer-items.ensures.value,
+    )))
