@@ -1,4 +1,4 @@
-use Rattle.std.proofs.Common.{◌∙◌, ◌<◌, ap, arith, length, map}
+use Rattle.std.proofs.Common.{◌∙◌, ap, arith, length, map}
 use Rattle.std.specs.Prelude.{slice_get}
 use Rattle.article_verdict.proofs.FewFeeds.{few_feeds}
 use Rattle.relay_report.specs.Figures.{name_of}

@@ -1,4 +1,3 @@
-use Rattle.std.proofs.Common.{◌∙◌, ap, arith, length}
 use Rattle.std.proofs.lemmas.Result.{err_from_is_err_and}
 use Rattle.relay_serve.proofs.FileFaults.{fault_at}
 use Rattle.relay_serve.proofs.files.hold_files.Goals as goal
