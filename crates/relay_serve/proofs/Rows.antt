@@ -1,5 +1,6 @@
 -- A row of which another is made, one after the other.
-use Rattle.std.proofs.Common.{◌≡◌, ◌∙◌, ◌+◌, ◌<◌, ◌∷◌, ◌++◌, [], ℕ, List, Option, ap, append-nil, append_assoc, length}
+use Rattle.std.proofs.Common.{◌≡◌, ◌∙◌, ◌+◌, ◌<◌, ◌∷◌, ◌++◌, []}
+use Rattle.std.proofs.Common.{ℕ, List, Option, ap, append-nil, append_assoc, length}
 use Rattle.std.proofs.Common.{arith, get_or, map, slice_get, subst, sym, take}
 use Rattle.std.proofs.lemmas.List.{map_more, map_push}
 

@@ -64,7 +64,8 @@ loop-buffer-preserved c =
       room = omega (arith, before.room, pushed.capacity);
       count = omega (arith, longer count_of old new c.in_ok-store.store pushed.items, before.count);
       files = omega (arith, before.files, c.in-Some.ensures.len);
-      blocks = one_more_made count_of old new c.in_ok-store.store pushed.items (λ buffer. buffer.blocks)
+      blocks = one_more_made count_of old new c.in_ok-store.store pushed.items
+          (λ buffer. buffer.blocks)
           c.deref-buffer-items.result.now c.args.settings.now.buffers.items
           c.loop-buffer.buffer-index c.buffer-item.result c.deref-buffer-items.ensures.value
           c.loop-buffer-test.true c.buffer-item.is c.in_ok-store.ensures.blocks before.blocks;
