@@ -79,32 +79,43 @@ impl<'a> Line<'a> {
         self.stream.shutdown(Shutdown::Write)?;
         self.stream
             .set_read_timeout(Some(Duration::from_millis(LATE_PART)))?;
-        let begun = Instant::now(clock)?;
+        self.drop_rest(clock, &Instant::now(clock)?)
+    }
+
+    /// Drops what the peer still sends, until its last octet or for as long as that may take.
+    fn drop_rest<C: Clock>(&self, clock: &C, begun: &Instant) -> io::Result<()> {
         let mut dropped: usize = 0;
         for _ in 0..MOST_DROPPED {
-            let longest = if self.stop.is_asked() {
-                DROPPING_LATE
-            } else {
-                DROPPING
-            };
-            let is_over = begun.elapsed(clock)? >= Duration::from_millis(longest);
-            if is_over || dropped >= MOST_DROPPED {
+            if dropped >= MOST_DROPPED || begun.elapsed(clock)? >= self.longest() {
                 return Ok(());
             }
-            match self.drop_some() {
-                Ok(0) => return Ok(()),
-                Ok(n) => dropped = dropped.saturating_add(n),
-                Err(error) if is_wait(&error) => {}
-                Err(error) => return Err(error),
+            match self.drop_some()? {
+                Some(octets) => dropped = dropped.saturating_add(octets),
+                None => return Ok(()),
             }
         }
         Ok(())
     }
 
-    /// Reads once, and drops what came: how many octets, none at the end of the input.
-    fn drop_some(&self) -> io::Result<usize> {
+    /// For how long what the peer sends on is read and dropped.
+    fn longest(&self) -> Duration {
+        if self.stop.is_asked() {
+            Duration::from_millis(DROPPING_LATE)
+        } else {
+            Duration::from_millis(DROPPING)
+        }
+    }
+
+    /// Reads once, and drops what came: how many octets, of which there are none where a part of
+    /// the wait has passed; `None` at the end of the input.
+    fn drop_some(&self) -> io::Result<Option<usize>> {
         let mut room = [0; DROPPED_AT_ONCE];
-        (&self.stream).read(&mut room)
+        match (&self.stream).read(&mut room) {
+            Ok(0) => Ok(None),
+            Ok(octets) => Ok(Some(octets)),
+            Err(error) if is_wait(&error) => Ok(Some(0)),
+            Err(error) => Err(error),
+        }
     }
 }
 
