@@ -8,4 +8,5 @@ pub mod Spans
 pub mod StartLemmas
 pub mod StartedLemmas
 pub mod StopLemmas
+pub mod Storing
 pub mod TiedLemmas

@@ -1,10 +1,11 @@
 -- The numbers of the articles of a buffer that was started.
 use Rattle.std.proofs.Common.{◌≡◌, ◌∙◌, ℕ, suc, ◌+◌, ◌<◌, inl, inr, refl, sym, ap}
 use Rattle.std.proofs.Common.{subst, arith, Bool, true, List, length, set, Option, Some}
-use Rattle.std.proofs.Common.{slice_index_or, nat_lt}
+use Rattle.std.proofs.Common.{slice_index_or, nat_lt, replicate}
 use Rattle.std.proofs.Math.Nat.{mul-le-mul_right}
 use Rattle.std.proofs.lemmas.Bool.{cases_order, lt-ltb, ltb-true}
 use Rattle.std.proofs.lemmas.List.{get_or-set_same, get_or-set_other, get_or_default}
+use Rattle.std.proofs.lemmas.List.{length-replicate}
 use Rattle.std.proofs.lemmas.List.Elements.{Contains-get_or}
 use Rattle.std.specs.Prelude.{None}
 use Rattle.boxcar.specs.Table.{Shelves, Where, Shows}
@@ -26,6 +27,11 @@ use Rattle.news_terms.specs.Places.{IsLive, on_line}
 -- a token of zeros
 abbrev pub none_token : codes.Token
 none_token = record { class = 0; buffer = 0; cycle = 0; first = 0; length = 0 }
+
+-- a list with no number for each block is as long as there are blocks
+pub as_many : (n : ℕ) (numbers : List (Option (Where Record))) (blocks : ℕ)
+    → numbers ≡ replicate n None → n ≡ blocks → length numbers ≡ blocks
+as_many n numbers blocks none same = ap length none ∙ length-replicate n None ∙ same
 
 -- two articles that are live at one block are of one cycle
 later_cycle : (blocks front first c d : ℕ) → c < d → IsLive blocks front (on_line blocks c first)

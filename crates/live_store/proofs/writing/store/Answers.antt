@@ -1,0 +1,54 @@
+use Rattle.std.proofs.Common.{◌∙◌, ap, inr, length, subst}
+use Rattle.live_store.specs.Stores.{IsStored}
+use Rattle.live_store.specs.Tied.{fresh_in, text_in, token_in}
+use Rattle.live_store.specs.declared.answers.WriteFault.TheVariants as writes
+use Rattle.live_store.proofs.Storing.{given_up, none_begun}
+use Rattle.live_store.proofs.writing.store.Goals as goal
+
+-- a worn buffer's fault is one of the storing of the text
+pub returns-in-Ok-refused-clause-stored : goal.returns-in-Ok-refused-clause-stored
+returns-in-Ok-refused-clause-stored g c =
+    let was = c.in-Ok-refused.ensures.fault c.in-Ok.octets c.in-Err-answer.ensures.fault in
+    record {
+      kind = inr was.0;
+      length = was.1 ∙ c.in-Ok.ensures.octets ∙ ap length c.deref.ensures.value;
+    }
+
+pub returns-in-Err-write_all-clause-stored : goal.returns-in-Err-write_all-clause-stored
+returns-in-Err-write_all-clause-stored g c =
+    subst (λ text. IsStored c.args.class text c.give_up.result) c.deref-2.ensures.value
+    (given_up c.args.class c.deref-2.result.now c.in-Err-write_all.fault c.give_up.result
+    c.in-Err-write_all.ensures c.give_up.ensures)
+
+pub returns-in-Err-write_all-clause-fresh : goal.returns-in-Err-write_all-clause-fresh
+returns-in-Err-write_all-clause-fresh g c =
+    none_begun c.args.fresh c.in-Err-write_all.fault c.give_up.result c.give_up.ensures
+
+-- the receipt is of the record that was entered under the token that was begun
+pub returns-in-Ok-finished-clause-stored : goal.returns-in-Ok-finished-clause-stored
+returns-in-Ok-finished-clause-stored g c =
+    let own = c.in-Ok-finished.ensures.named in
+    let begun = c.enter-entered.ensures.token in
+    let octets = c.in-Ok.ensures.octets ∙ ap length c.deref.ensures.value in
+    record {
+      text = ap text_in own ∙ c.enter-entered.ensures.text;
+      class = ap (λ s. (token_in s).class) own ∙ ap (λ t. t.class) begun
+          ∙ c.in-Ok-answer.ensures.class;
+      length = ap (λ s. (token_in s).length) own ∙ ap (λ t. t.length) begun
+          ∙ c.in-Ok-answer.ensures.length ∙ octets;
+    }
+
+pub returns-in-Ok-finished-clause-fresh : goal.returns-in-Ok-finished-clause-fresh
+returns-in-Ok-finished-clause-fresh g c =
+    ap fresh_in c.in-Ok-finished.ensures.named ∙ c.enter-entered.ensures.fresh
+    ∙ c.in-Ok-answer.ensures.fresh
+
+pub returns-in-Err-finished-clause-stored : goal.returns-in-Err-finished-clause-stored
+returns-in-Err-finished-clause-stored g c =
+    given_up c.args.class c.args.text.now.items (writes.Conflict c.in-Err-finished.conflict)
+    c.give_up-in-Err-finished.result tt c.give_up-in-Err-finished.ensures
+
+pub returns-in-Err-finished-clause-fresh : goal.returns-in-Err-finished-clause-fresh
+returns-in-Err-finished-clause-fresh g c =
+    none_begun c.args.fresh (writes.Conflict c.in-Err-finished.conflict)
+    c.give_up-in-Err-finished.result c.give_up-in-Err-finished.ensures
