@@ -100,63 +100,38 @@ fn take_step<L: Ledger, O: Outcome, S: Store<L, O, R>, R: Wait>(
     rt: &R,
     channel: &JobChannel,
     store: &S,
-    seat: WriterSeat<L, O>,
-) -> WriterSeat<L, O>
-    requires pass { IsPassOf (queue_of channel.now) seat.pass }
-    requires here { seat.lent ≡ false }
-    ensures pass { IsPassOf (queue_of channel.now) result.pass }
-    ensures here { result.lent ≡ false }
-    ensures ends { length result.closed.items ≡ length seat.closed.items }
+    seat: &mut WriterSeat<L, O>,
+)
+    requires pass { IsPassOf (queue_of channel.now) seat.old.pass }
+    requires here { seat.old.lent ≡ false }
+    ensures pass { IsPassOf (queue_of channel.now) seat.new.pass }
+    ensures here { seat.new.lent ≡ false }
+    ensures ends { length seat.new.closed.items ≡ length seat.old.closed.items }
 {
     let WriterSeat {
-        mut pass,
-        mut finished,
-        mut closed,
-        mut kept,
-        mut share,
-        lent,
+        pass,
+        finished,
+        closed,
+        kept,
+        share,
+        lent: _lent,
     } = seat;
     if finished.reserve_one().is_err() {
         thread::yield_now();
-        return WriterSeat {
-            pass,
-            finished,
-            closed,
-            kept,
-            share,
-            lent,
-        };
+        return;
     }
-    match channel.take(rt, &mut pass) {
+    match channel.take(rt, pass) {
         Parcel::Job(handed) => {
-            let outcome = store.store(rt, &mut share, &handed);
-            kept += worth_of(outcome.is_kept());
+            let outcome = store.store(rt, share, &handed);
+            *kept += worth_of(outcome.is_kept());
             finished.push_reserved(FinishedJob {
                 end: handed.end,
                 number: handed.number,
                 id: handed.job.id,
                 outcome,
             });
-            return WriterSeat {
-                pass,
-                finished,
-                closed,
-                kept,
-                share,
-                lent,
-            };
         }
-        Parcel::Mark(end) => {
-            close_flag(&mut closed, end);
-            return WriterSeat {
-                pass,
-                finished,
-                closed,
-                kept,
-                share,
-                lent,
-            };
-        }
+        Parcel::Mark(end) => close_flag(closed, end),
     }
 }
 
@@ -181,7 +156,7 @@ pub fn run_writer<L: Ledger, O: Outcome, S: Store<L, O, R>, R: Wait>(
         if all_closed(seat.closed.as_slice()) {
             return seat;
         }
-        seat = take_step(rt, channel, store, seat);
+        take_step(rt, channel, store, &mut seat);
     }
     unreachable!()
 }

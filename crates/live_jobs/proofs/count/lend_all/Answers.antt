@@ -11,19 +11,24 @@ loop-group-preserved g c =
     let inv = c.loop-group.invariant in
     let below : c.loop-group.group < length c.loop-group.writers.items =
     omega (arith, inv.count, c.len-group-end.ensures) in
-    let at = read_at _ _ _ below c.index_mut.ensures.value in
+    let at = read_at c.loop-group.writers.items c.loop-group.group c.index_mut.result.now below
+    c.index_mut.ensures.value in
     let e = c.lend.ensures in
     let next = kept_next g.O.Outcome.kept (map (λ w. w.finished.items) c.args.writers.now.items)
     c.loop-group.group _
     (ap (λ (l : List (List (FinishedJob _))). slice_get l c.loop-group.group) (sym inv.finished)
-    ∙ map_at (λ w. w.finished.items) c.loop-group.writers.items c.loop-group.group _ at) in
+    ∙ map_at (λ w. w.finished.items) c.loop-group.writers.items c.loop-group.group
+    c.index_mut.result.now at) in
     record {
       count = length_set c.loop-group.writers.items c.loop-group.group c.lend.new.self ∙ inv.count;
       parts = omega (arith, inv.parts, e.all.0);
       amount = omega (arith, inv.amount, e.all.1, next);
       here = here_next (λ w. w.lent) c.loop-group.writers.items c.loop-group.group
           c.lend.new.self inv.here;
-      finished = map_set_same (λ w. w.finished.items) _ _ _ _ at e.same.1 ∙ inv.finished;
-      pass = map_set_same (λ w. w.pass) _ _ _ _ at e.same.0 ∙ inv.pass;
-      closed = map_set_same (λ w. w.closed.items) _ _ _ _ at e.same.2 ∙ inv.closed;
+      finished = map_set_same (λ w. w.finished.items) c.loop-group.writers.items c.loop-group.group
+          c.index_mut.result.now c.lend.new.self at e.same.1 ∙ inv.finished;
+      pass = map_set_same (λ w. w.pass) c.loop-group.writers.items c.loop-group.group
+          c.index_mut.result.now c.lend.new.self at e.same.0 ∙ inv.pass;
+      closed = map_set_same (λ w. w.closed.items) c.loop-group.writers.items c.loop-group.group
+          c.index_mut.result.now c.lend.new.self at e.same.2 ∙ inv.closed;
     }

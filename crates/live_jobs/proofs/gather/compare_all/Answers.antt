@@ -13,8 +13,9 @@ compare_group-requires-clause-group g c =
     let inv = c.loop-group.invariant in
     let below : c.loop-group.group < length c.loop-group.writers.items =
     omega (arith, inv.count, c.len-group-end.ensures) in
-    (writers_at (λ w. w.pass) (λ w. w.closed.items) _ _ _ _ _ inv.writers below
-    c.index_mut.ensures.value).3
+    (writers_at (λ w. w.pass) (λ w. w.closed.items) c.args.channels.now
+    (length c.args.lefts.now.items) c.loop-group.writers.items c.loop-group.group
+    c.index_mut.result.now inv.writers below c.index_mut.ensures.value).3
 
 pub compare_group-requires-clause-writer : goal.compare_group-requires-clause-writer
 compare_group-requires-clause-writer g c =
@@ -22,8 +23,9 @@ compare_group-requires-clause-writer g c =
     let inv = c.loop-group.invariant in
     let below : c.loop-group.group < length c.loop-group.writers.items =
     omega (arith, inv.count, c.len-group-end.ensures) in
-    (writers_at (λ w. w.pass) (λ w. w.closed.items) _ _ _ _ _ inv.writers below
-    c.index_mut.ensures.value).1
+    (writers_at (λ w. w.pass) (λ w. w.closed.items) c.args.channels.now
+    (length c.args.lefts.now.items) c.loop-group.writers.items c.loop-group.group
+    c.index_mut.result.now inv.writers below c.index_mut.ensures.value).1
 
 pub compare_group-requires-clause-closed : goal.compare_group-requires-clause-closed
 compare_group-requires-clause-closed g c =
@@ -32,8 +34,9 @@ compare_group-requires-clause-closed g c =
     let below : c.loop-group.group < length c.loop-group.writers.items =
     omega (arith, inv.count, c.len-group-end.ensures) in
     subst (λ n. AllClosed n c.index_mut.result.now.closed.items) (sym inv.long)
-    (writers_at (λ w. w.pass) (λ w. w.closed.items) _ _ _ _ _ inv.writers below
-    c.index_mut.ensures.value).2
+    (writers_at (λ w. w.pass) (λ w. w.closed.items) c.args.channels.now
+    (length c.args.lefts.now.items) c.loop-group.writers.items c.loop-group.group
+    c.index_mut.result.now inv.writers below c.index_mut.ensures.value).2
 
 pub loop-group-preserved : goal.loop-group-preserved
 loop-group-preserved g c =
@@ -41,8 +44,9 @@ loop-group-preserved g c =
     let inv = c.loop-group.invariant in
     let below : c.loop-group.group < length c.loop-group.writers.items =
     omega (arith, inv.count, c.len-group-end.ensures) in
-    let at = writers_at (λ w. w.pass) (λ w. w.closed.items) _ _ _ _ _ inv.writers below
-    c.index_mut.ensures.value in
+    let at = writers_at (λ w. w.pass) (λ w. w.closed.items) c.args.channels.now
+    (length c.args.lefts.now.items) c.loop-group.writers.items c.loop-group.group
+    c.index_mut.result.now inv.writers below c.index_mut.ensures.value in
     let e = c.compare_group.ensures in
     let lengths = ap length e.handed in
     let hand = left_by in
@@ -53,13 +57,16 @@ loop-group-preserved g c =
       count = length_set c.loop-group.writers.items c.loop-group.group c.compare_group.new.writer
           ∙ inv.count;
       handed = e.handed ∙ inv.handed;
-      writers = writers_set (λ w. w.pass) (λ w. w.closed.items) _ _ _ _ _ _ inv.writers at.0
-          e.pass e.writer.1;
-      finished = map_set_same (λ w. w.finished.items) _ _ _ _ at.0 e.writer.0 ∙ inv.finished;
+      writers = writers_set (λ w. w.pass) (λ w. w.closed.items) c.args.channels.now
+          (length c.args.lefts.now.items) c.loop-group.writers.items c.loop-group.group
+          c.index_mut.result.now c.compare_group.new.writer inv.writers at.0 e.pass e.writer.1;
+      finished = map_set_same (λ w. w.finished.items) c.loop-group.writers.items
+          c.loop-group.group c.index_mut.result.now c.compare_group.new.writer at.0 e.writer.0
+          ∙ inv.finished;
       told = told_group g.O.Outcome.fits _ _ _ _ _ _ _
           (ap (λ (l : List (List (FinishedJob _))). slice_get l c.loop-group.group)
           (sym inv.finished) ∙ map_at (λ w. w.finished.items) c.loop-group.writers.items
-          c.loop-group.group _ at.0) refl inv.handed refl e.told inv.told;
+          c.loop-group.group c.index_mut.result.now at.0) refl inv.handed refl e.told inv.told;
     }
 
 pub returns-clause-told : goal.returns-clause-told

@@ -10,7 +10,8 @@ compare-requires-clause-left g c =
     let inv = c.loop-end.invariant in
     let below : c.loop-end.end < length c.loop-end.lefts.items =
     omega (arith, inv.long, c.len-end-end.ensures) in
-    (left_at _ _ _ _ inv.fit below c.index_mut.ensures.value).2
+    (left_at c.args.channels.now c.loop-end.lefts.items c.loop-end.end
+    c.index_mut.result.now inv.fit below c.index_mut.ensures.value).2
 
 pub compare-requires-clause-closed : goal.compare-requires-clause-closed
 compare-requires-clause-closed g c =
@@ -18,7 +19,8 @@ compare-requires-clause-closed g c =
     let inv = c.loop-end.invariant in
     let below : c.loop-end.end < length c.loop-end.lefts.items =
     omega (arith, inv.long, c.len-end-end.ensures) in
-    let at = left_at _ _ _ _ inv.fit below c.index_mut.ensures.value in
+    let at = left_at c.args.channels.now c.loop-end.lefts.items c.loop-end.end
+    c.index_mut.result.now inv.fit below c.index_mut.ensures.value in
     ap (λ (l : List Bool). slice_get l c.index_mut.result.now.end) inv.closed
     ∙ ap (slice_get c.args.writer.now.closed.items) at.1
     ∙ c.requires.closed.1 c.loop-end.end (omega (arith, inv.long))
@@ -29,12 +31,15 @@ loop-end-preserved g c =
     let inv = c.loop-end.invariant in
     let below : c.loop-end.end < length c.loop-end.lefts.items =
     omega (arith, inv.long, c.len-end-end.ensures) in
-    let at = left_at _ _ _ _ inv.fit below c.index_mut.ensures.value in
+    let at = left_at c.args.channels.now c.loop-end.lefts.items c.loop-end.end
+    c.index_mut.result.now inv.fit below c.index_mut.ensures.value in
     let e = c.compare.ensures in
     record {
-      fit = lefts_set _ _ _ _ inv.fit (e.end ∙ at.1) e.left;
+      fit = lefts_set c.args.channels.now c.loop-end.lefts.items c.loop-end.end c.compare.new.self
+          inv.fit (e.end ∙ at.1) e.left;
       long = length_set c.loop-end.lefts.items c.loop-end.end c.compare.new.self ∙ inv.long;
-      handed = hands_set c.loop-end.lefts.items c.loop-end.end _ _ at.0 e.handed ∙ inv.handed;
+      handed = hands_set c.loop-end.lefts.items c.loop-end.end c.index_mut.result.now
+          c.compare.new.self at.0 e.handed ∙ inv.handed;
       pass = e.pass;
       finished = e.writer.0 ∙ inv.finished;
       closed = e.writer.1 ∙ inv.closed;

@@ -13,10 +13,12 @@ compare_rest-requires-clause-passes g c =
     let inv = c.loop-group.invariant in
     let below : c.loop-group.group < length c.loop-group.writers.items =
     omega (arith, inv.count, c.len-group-end.ensures) in
-    let at = writers_at (λ w. w.pass) (λ w. w.closed.items) _ _ _ _ _ inv.writers below
+    let at = writers_at (λ w. w.pass) (λ w. w.closed.items) c.args.channels.now c.args.ends
+    c.loop-group.writers.items c.loop-group.group c.index_mut.result.now inv.writers below
     c.index_mut.ensures.value in
     let long = inv.rests.0 in
-    let rest = rest_at _ _ _ _ c.index_mut-in-loop-group.result.now inv.rests (omega (arith, at.3))
+    let rest = rest_at c.args.channels.now c.args.ends c.loop-group.rests.items c.loop-group.group
+    c.index_mut-in-loop-group.result.now inv.rests (omega (arith, at.3))
     c.index_mut-in-loop-group.ensures.value in
     let channel = read_at _ _ _ at.3 c.index-channels-group.is in
     (at.1 _ channel, rest.1 _ channel)
@@ -27,10 +29,12 @@ compare_rest-requires-clause-rest g c =
     let inv = c.loop-group.invariant in
     let below : c.loop-group.group < length c.loop-group.writers.items =
     omega (arith, inv.count, c.len-group-end.ensures) in
-    let at = writers_at (λ w. w.pass) (λ w. w.closed.items) _ _ _ _ _ inv.writers below
+    let at = writers_at (λ w. w.pass) (λ w. w.closed.items) c.args.channels.now c.args.ends
+    c.loop-group.writers.items c.loop-group.group c.index_mut.result.now inv.writers below
     c.index_mut.ensures.value in
     let long = inv.rests.0 in
-    (rest_at _ _ _ _ c.index_mut-in-loop-group.result.now inv.rests (omega (arith, at.3))
+    (rest_at c.args.channels.now c.args.ends c.loop-group.rests.items c.loop-group.group
+    c.index_mut-in-loop-group.result.now inv.rests (omega (arith, at.3))
     c.index_mut-in-loop-group.ensures.value).2
 
 pub loop-group-preserved : goal.loop-group-preserved
@@ -39,12 +43,13 @@ loop-group-preserved g c =
     let inv = c.loop-group.invariant in
     let below : c.loop-group.group < length c.loop-group.writers.items =
     omega (arith, inv.count, c.len-group-end.ensures) in
-    let at = writers_at (λ w. w.pass) (λ w. w.closed.items) _ _ _ _ _ inv.writers below
+    let at = writers_at (λ w. w.pass) (λ w. w.closed.items) c.args.channels.now c.args.ends
+    c.loop-group.writers.items c.loop-group.group c.index_mut.result.now inv.writers below
     c.index_mut.ensures.value in
     let e = c.compare_rest.ensures in
     let finished = ap (λ (l : List (List (FinishedJob _))). slice_get l c.loop-group.group)
     (sym inv.finished) ∙ map_at (λ w. w.finished.items) c.loop-group.writers.items
-    c.loop-group.group _ at.0 in
+    c.loop-group.group c.index_mut.result.now at.0 in
     record {
       rests = rests_set c.args.channels.now c.args.ends c.loop-group.rests.items c.loop-group.group
           c.compare_rest.new.rest inv.rests
@@ -52,10 +57,14 @@ loop-group-preserved g c =
           e.rest;
       count = length_set c.loop-group.writers.items c.loop-group.group
           c.compare_rest.new.self ∙ inv.count;
-      writers = writers_set (λ w. w.pass) (λ w. w.closed.items) _ _ _ _ _ _ inv.writers at.0
+      writers = writers_set (λ w. w.pass) (λ w. w.closed.items) c.args.channels.now c.args.ends
+          c.loop-group.writers.items c.loop-group.group c.index_mut.result.now
+          c.compare_rest.new.self inv.writers at.0
           (of_channel _ _ _ c.compare_rest.new.self.pass at.3 c.index-channels-group.is e.passes.0)
           e.writer.1;
-      finished = map_set_same (λ w. w.finished.items) _ _ _ _ at.0 e.writer.0 ∙ inv.finished;
+      finished = map_set_same (λ w. w.finished.items) c.loop-group.writers.items
+          c.loop-group.group c.index_mut.result.now c.compare_rest.new.self at.0 e.writer.0
+          ∙ inv.finished;
       none = none_group _ _ _ _ finished e.none inv.none;
     }
 

@@ -6,17 +6,17 @@ use Rattle.live_jobs.proofs.writer.take_step.Goals as goal
 
 pub overflow_add-kept : goal.overflow_add-kept
 overflow_add-kept g c =
-    let within = kept_within g.O.Outcome.kept c.args.seat.finished.items in
-    let was = c.args.seat.counted in
+    let within = kept_within g.O.Outcome.kept c.args.seat.now.finished.items in
+    let was = c.args.seat.now.counted in
     let one = worth_one c.is_kept.result in
-    let is = c.worth_of-kept.ensures in
+    let is = c.worth_of.ensures in
     let few = c.reserve_one.ensures.few in
     record { fits = omega arith }
 
-pub invariant_of-result-in-Job-clause-took : goal.invariant_of-result-in-Job-clause-took
-invariant_of-result-in-Job-clause-took g c =
-    takes_job g.O.Outcome.fits c.args.seat.pass c.take.new.pass c.args.seat.finished.items _ _
-    c.take.result c.in-Job.handed _ c.args.seat.took c.take.ensures.writer c.take.ensures.taken
+pub invariant_of-seat-in-Job-clause-took : goal.invariant_of-seat-in-Job-clause-took
+invariant_of-seat-in-Job-clause-took g c =
+    takes_job g.O.Outcome.fits c.args.seat.now.pass c.take.new.pass c.args.seat.now.finished.items _ _
+    c.take.result c.in-Job.handed _ c.args.seat.now.took c.take.ensures.writer c.take.ensures.taken
     c.in-Job.is refl c.store-outcome.ensures.fits
     (c.push_reserved.ensures.items
     ∙ ap (λ (l : List (FinishedJob _)). l ++ record {
@@ -27,10 +27,10 @@ invariant_of-result-in-Job-clause-took g c =
           c.store-outcome.result;
     } ∷ []) c.reserve_one.ensures.items)
 
-pub invariant_of-result-in-Job-clause-counted : goal.invariant_of-result-in-Job-clause-counted
-invariant_of-result-in-Job-clause-counted g c =
-    kept_more g.O.Outcome.kept c.args.seat.finished.items c.push_reserved.new.self.items _
-    c.args.seat.kept c.worth_of-kept.result
+pub invariant_of-seat-in-Job-clause-counted : goal.invariant_of-seat-in-Job-clause-counted
+invariant_of-seat-in-Job-clause-counted g c =
+    kept_more g.O.Outcome.kept c.args.seat.now.finished.items c.push_reserved.new.self.items _
+    c.args.seat.now.kept c.worth_of.result
     (c.push_reserved.ensures.items
     ∙ ap (λ (l : List (FinishedJob _)). l ++ record {
       end = c.in-Job.handed.end;
@@ -39,14 +39,14 @@ invariant_of-result-in-Job-clause-counted g c =
       outcome =
           c.store-outcome.result;
     } ∷ []) c.reserve_one.ensures.items)
-    c.args.seat.counted (c.worth_of-kept.ensures ∙ ap worth c.is_kept.ensures)
+    c.args.seat.now.counted (c.worth_of.ensures ∙ ap worth c.is_kept.ensures)
 
-pub invariant_of-result-in-Mark-clause-took : goal.invariant_of-result-in-Mark-clause-took
-invariant_of-result-in-Mark-clause-took g c =
-    takes_mark g.O.Outcome.fits c.args.seat.pass c.take.new.pass c.args.seat.finished.items _
-    c.args.seat.closed.items _ c.take.result c.in-Mark.end c.args.seat.took
+pub invariant_of-seat-in-Mark-clause-took : goal.invariant_of-seat-in-Mark-clause-took
+invariant_of-seat-in-Mark-clause-took g c =
+    takes_mark g.O.Outcome.fits c.args.seat.now.pass c.take.new.pass c.args.seat.now.finished.items _
+    c.args.seat.now.closed.items _ c.take.result c.in-Mark.end c.args.seat.now.took
     c.take.ensures.writer c.take.ensures.taken c.in-Mark.is c.reserve_one.ensures.items
     c.close_flag.ensures
 
-pub invariant_of-result-in-Mark-clause-counted : goal.invariant_of-result-in-Mark-clause-counted
-invariant_of-result-in-Mark-clause-counted g c = rw c.reserve_one.ensures.items c.args.seat.counted
+pub invariant_of-seat-in-Mark-clause-counted : goal.invariant_of-seat-in-Mark-clause-counted
+invariant_of-seat-in-Mark-clause-counted g c = rw c.reserve_one.ensures.items c.args.seat.now.counted
