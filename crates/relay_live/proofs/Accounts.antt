@@ -2,7 +2,7 @@
 use Rattle.std.proofs.Common.{◌≡◌, ℕ, zero, suc, Bool, List, [], ◌∷◌, ◌++◌, length, map, Some, ap}
 use Rattle.std.proofs.Common.{◌+◌, append-nil, refl, sym, ◌∙◌, subst, arith}
 use Rattle.std.specs.Prelude.{slice_get}
-use Rattle.std.proofs.lemmas.List.{map-append}
+use Rattle.std.proofs.lemmas.List.{length-map, map-append}
 use Rattle.std.proofs.lemmas.Option.{same_Some}
 use Rattle.job_queue.specs.declared.parcel.Handed.{Handed}
 use Rattle.live_jobs.specs.declared.store_result.KeptJob.{KeptJob}
@@ -29,6 +29,11 @@ new_accounts {J} {g} trusted w end peer count channels jobs kept unused none emp
       kept = map (λ k. k.number) x.1;
     })) (λ i. ((sym none i, sym unused i), sym empty i))
     (NoneYet (no_jobs channels) (nothing channels)) ∣₁
+
+-- lists that are read alike are of one length
+pub same_length : {X Y Z : Type 0} (f : X → Z) (h : Y → Z) (xs : List X) (ys : List Y)
+    → map f xs ≡ map h ys → length xs ≡ length ys
+same_length f h xs ys same = sym (length-map xs f) ∙ ap length same ∙ length-map ys h
 
 module _ {X Y : Type 0} (f : X → Y) where
   pub at_map : (xs : List X) (k : ℕ) (x : X) → slice_get xs k ≡ Some x

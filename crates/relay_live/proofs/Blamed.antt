@@ -1,6 +1,7 @@
 -- Whose store it is over which no buffer is made.
 use Rattle.std.proofs.Common.{◌≡◌, ◌∙◌, ℕ, List, ◌∷◌, ◌++◌, length, Some, sym, subst}
-use Rattle.std.specs.Prelude.{slice_get}
+use Rattle.std.proofs.Common.{Ok, Err, Result}
+use Rattle.std.specs.Prelude.{slice_get, IfErr, IsErrAnd}
 use Rattle.cyc_block.specs.declared.store.BlockStore.{Ghosts}
 use Rattle.block_shelf.specs.Filling.{IsRefusalOver, IsBufferSetRefusal}
 use Rattle.block_shelf.specs.declared.filling.BufferSetError.{BufferSetError}
@@ -19,3 +20,11 @@ blamed_at g front store rest stores number (errors.Device of left) all at refusa
       (next_behind front store rest));
   failed = refusal.1;
 }
+
+-- want of memory blames no store
+pub memory_refuses : {S X : Type 0} (g : Ghosts S) (stores : List S)
+    (result : Result X (BufferSetError S)) → IsErrAnd result (λ made. made ≡ errors.Memory)
+    → IfErr result (IsBufferSetRefusal g stores)
+memory_refuses g stores (Ok x) made = tt
+memory_refuses g stores (Err error) made =
+    subst (IsBufferSetRefusal g stores) (sym made) tt

@@ -1,12 +1,12 @@
 use Rattle.std.proofs.Common.{◌≡◌, ◌∙◌, ◌++◌, ◌∷◌, [], ap, append_assoc, arith, length, All}
 use Rattle.std.proofs.Common.{subst, sym}
-use Rattle.std.proofs.lemmas.List.Elements.{All-rest}
+use Rattle.std.proofs.lemmas.List.Elements.{All-head, All-rest}
 use Rattle.std.specs.Vec.Iter.{into_iter_items}
 use Rattle.std.proofs.lemmas.List.{nil_from_length}
 use Rattle.block_shelf.proofs.EachLemmas.{all_through, none_each, one_more_each}
 use Rattle.block_shelf.specs.Each.{AreEach}
 use Rattle.relay_live.proofs.Accounts.{length_snoc}
-use Rattle.relay_live.proofs.Blamed.{blamed_at}
+use Rattle.relay_live.proofs.Blamed.{blamed_at, memory_refuses}
 use Rattle.relay_live.specs.Beginning.{IsNewOver}
 use Rattle.relay_live.proofs.making.new_buffers.Goals as goal
 
@@ -112,3 +112,15 @@ returns-in-Err-clause-refusal g c =
       c.loop-store.invariant.over.count,
     ))
     (c.unformatted.ensures c.in-Some.store c.in-Err.ensures.refusal)
+
+-- the next store is one of those
+pub format-requires : goal.format-requires
+format-requires g c trusted =
+    All-head g.S.BlockStore.honest c.in-Some.store (into_iter_items c.next.new.self)
+    (subst (All g.S.BlockStore.honest) c.in-Some.ensures.steps.0
+    (c.loop-store.invariant.honest trusted))
+
+pub returns-in_err-buffers-clause-refusal : goal.returns-in_err-buffers-clause-refusal
+returns-in_err-buffers-clause-refusal g c =
+    memory_refuses g.S.BlockStore c.args.stores.items c.from_residual.result
+    c.from_residual.ensures.1

@@ -1,6 +1,8 @@
-use Rattle.std.proofs.Common.{◌∙◌, ◌+◌, ◌<◌, ◌++◌, ◌∷◌, [], ap, arith, length, map, rules, sym}
+use Rattle.std.proofs.Common.{◌∙◌, ◌+◌, ◌++◌, ◌∷◌, [], ap, ap₂, arith, length, map, sym}
 use Rattle.std.proofs.Common.{take}
-use Rattle.std.proofs.lemmas.List.{map-append, take_more}
+use Rattle.std.proofs.lemmas.List.{map-append, take_all, take_more}
+use Rattle.std.proofs.lemmas.Result.{IfOk-weaker}
+use Rattle.live_jobs.specs.Mismatches.{mismatched_receipts_in}
 use Rattle.relay_live.specs.PeerServers.{kept_of}
 use Rattle.relay_live.proofs.Accounts.{length_snoc}
 use Rattle.relay_live.proofs.running.mismatched_receipts_of.Goals as goal
@@ -26,7 +28,7 @@ loop-end-preserved g c =
     let all = c.as_slice-ends.result.now in
     let k = c.loop-end.end-index in
     let one = c.end-item.result in
-    let within : k < length all = search rules in
+    let within = c.loop-end-test.true in
     let inv = c.loop-end.invariant in
     let pushed = c.push_reserved.ensures in
     record {
@@ -42,11 +44,21 @@ loop-end-preserved g c =
 
 pub push_reserved-requires : goal.push_reserved-requires
 push_reserved-requires g c =
-    let within : c.loop-end.end-index < length c.as_slice-ends.result.now = search rules in
     omega (
       arith,
-      within,
+      c.loop-end-test.true,
       c.loop-end.invariant.room,
       c.loop-end.invariant.long,
       c.loop-end.answers.ok,
     )
+
+-- the lists of all ends are those that are compared
+pub returns : goal.returns
+returns g c =
+    let all = c.as_slice-ends.result.now in
+    let kept = ap (map (λ a. a.now)) c.as_slice.ensures.value ∙ c.loop-end.invariant.finished
+    ∙ ap (map kept_of) (take_all c.loop-end.end-index all c.loop-end-test.false
+    ∙ c.as_slice-ends.ensures.value) in
+    let told = ap (map (λ w. w.finished.items)) c.as_slice-2.ensures.value in
+    IfOk-weaker c.mismatched_receipts.result _ _
+    (λ n is. is ∙ ap₂ mismatched_receipts_in kept told) c.mismatched_receipts.ensures.count

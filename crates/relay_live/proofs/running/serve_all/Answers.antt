@@ -1,4 +1,4 @@
-use Rattle.std.proofs.Common.{◌∙◌, ◌<◌, ℕ, List, [], ap, arith, length, map, subst, sym}
+use Rattle.std.proofs.Common.{◌∙◌, ◌<◌, ◌^◌, ℕ, List, [], ap, arith, length, map, subst, sym}
 use denote.Param.Send.{sendable}
 use Rattle.std.specs.Prelude.{slice_get}
 use Rattle.std.proofs.lemmas.List.{length-map}
@@ -14,7 +14,7 @@ use Rattle.live_jobs.specs.declared.channel.JobChannel.{JobChannel}
 use Rattle.live_jobs.specs.declared.outcome.FinishedJob.{FinishedJob}
 use Rattle.relay_live.specs.PeerServers.{kept_of, peer_of, terms_at}
 use Rattle.relay_live.specs.Sessions.{Accounted, HasLists}
-use Rattle.relay_live.proofs.Accounts.{at_map, each_same, marked, new_accounts}
+use Rattle.relay_live.proofs.Accounts.{at_map, each_same, marked, new_accounts, same_length}
 use Rattle.relay_live.proofs.Lists.{lists_of_all}
 use Rattle.relay_live.proofs.Sent.{store_result_send}
 use Rattle.relay_live.proofs.running.serve_all.Goals as goal
@@ -53,8 +53,8 @@ close-totals-requires-clause-rests g c =
 -- all ends come back, and nobody of them is let go where they are compared
 pub returns-clause-lefts : goal.returns-clause-lefts
 returns-clause-lefts g c =
-    let peer_sources = sym (length-map c.in_ok-ends.ends.items kept_of)
-    ∙ ap length c.in_ok-ends.ensures.new ∙ length-map c.args.serving.peer_sources.items _ in
+    let peer_sources = same_length kept_of _ c.in_ok-ends.ends.items
+    c.args.serving.peer_sources.items c.in_ok-ends.ensures.new in
     sym (length-map c.close-totals.new.seats.lefts.items left_by)
     ∙ ap length c.close-totals.ensures.handed
     ∙ length-map c.in-Ok.seats.lefts.items left_by
@@ -84,8 +84,8 @@ returns-clause-jobs g c =
 
 pub returns-clause-none : goal.returns-clause-none
 returns-clause-none g c =
-    let peer_sources = sym (length-map c.in_ok-ends.ends.items kept_of)
-    ∙ ap length c.in_ok-ends.ensures.new ∙ length-map c.args.serving.peer_sources.items _ in
+    let peer_sources = same_length kept_of _ c.in_ok-ends.ends.items
+    c.args.serving.peer_sources.items c.in_ok-ends.ensures.new in
     let long = c.in-Ok.ensures.lefts.0 ∙ c.in_ok-channels.ensures.channels.2 ∙ peer_sources in
     subst (λ (n : ℕ).
     NoneElse n (map (λ w. w.finished.items) c.close-totals.new.seats.writers.items)) long
@@ -163,3 +163,13 @@ serve_seats-requires-clause-channels g c κs within =
       c.in_ok-channels.ensures.channels.1,
       ap length c.as_slice-channels.ensures.value,
     )
+
+pub open_all-requires-clause-parts : goal.open_all-requires-clause-parts
+open_all-requires-clause-parts g c = (c.requires.parts.0, c.requires.parts.1)
+
+-- there is an end for each peer source
+pub open_all-requires-clause-few : goal.open_all-requires-clause-few
+open_all-requires-clause-few g c =
+    let peer_sources = same_length kept_of _ c.in_ok-ends.ends.items
+    c.args.serving.peer_sources.items c.in_ok-ends.ensures.new in
+    subst (λ (n : ℕ). n < 2 ^ 62) (sym peer_sources) c.requires.few

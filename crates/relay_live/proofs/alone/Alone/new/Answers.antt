@@ -1,5 +1,6 @@
 use Rattle.std.proofs.Common.{◌∙◌, arith, refl}
 use Rattle.article_verdict.proofs.FewFeeds.{few_feeds}
+use Rattle.block_shelf.proofs.HostFaults.{host_refuses}
 use Rattle.block_shelf.proofs.NewBufferSet.{same_count}
 use Rattle.relay_live.proofs.Begins.{keeps_nothing}
 use Rattle.relay_live.proofs.alone.Alone.new.Goals as goal
@@ -47,3 +48,18 @@ returns-clause-begins g c =
 -- what the making of the buffers blames is blamed
 pub returns-in-Err-clause-refusal : goal.returns-in-Err-clause-refusal
 returns-in-Err-clause-refusal g c = c.unbegun.ensures c.args.stores.items c.in-Err.ensures.refusal
+
+pub returns-in_err-shards-clause-refusal : goal.returns-in_err-shards-clause-refusal
+returns-in_err-shards-clause-refusal g c =
+    host_refuses g.S.BlockStore c.args.stores.items c.from_residual.result
+    c.from_residual.ensures.1
+
+pub returns-in_err-placed_groups-clause-refusal : goal.returns-in_err-placed_groups-clause-refusal
+returns-in_err-placed_groups-clause-refusal g c =
+    host_refuses g.S.BlockStore c.args.stores.items c.from_residual-in_err-placed_groups.result
+    c.from_residual-in_err-placed_groups.ensures.1
+
+pub returns-in_err-desk-clause-refusal : goal.returns-in_err-desk-clause-refusal
+returns-in_err-desk-clause-refusal g c =
+    host_refuses g.S.BlockStore c.args.stores.items c.from_residual-in_err-desk.result
+    c.from_residual-in_err-desk.ensures.1
