@@ -1,12 +1,18 @@
 //! How a relay is stopped that no thread shares any more (docs/PROTOCOL.md, Clean stop and start).
 ghost use Rattle.std.specs.Prelude.{◌≡◌, ◌≤◌, ◌<◌, ◌+◌, [], None, map, vec_len, vec_capacity};
+ghost use Rattle.std.specs.Prelude.{ℕ, List, Some, true, false, length, slice_get};
 ghost use Rattle.block_shelf.specs.Stopping.{IsStopped, StopsNext};
+ghost use Rattle.cyc_buffer.specs.Head.{is_busy};
+ghost use Rattle.id_history.specs.Shards.{EachKeeps};
 ghost use Rattle.live_store.specs.Steps.{buffer_of};
 ghost use Rattle.relay_live.specs.Stopping.{AreKnown, IsShutAll};
+ghost use Rattle.relay_model.specs.Claims.{Claim, is_storing};
+ghost use Rattle.relay_model.specs.Run.{shard_of};
 
 use crate::alone::Alone;
 use block_shelf::number_of;
 use cyc_block::BlockStore;
+use id_history::Shard;
 use live_store::{NumberedBuffer, StorePremises, Unshut};
 use relay_core::{Stopped, next_stop};
 use std::alloc::Global;
@@ -60,18 +66,41 @@ impl<S: BlockStore + Drop, J: StorePremises, L: Ledger> Alone<S, J, L> {
         ensures idle { result ≡ true → IsAtRest self.now }
         ensures busy { result ≡ false → IsStoring self.now }
     {
-        for shard in &self.shards {
-            if shard.counts().storing > 0 {
-                return false;
-            }
+        if !none_is_stored(&self.shards) {
+            return false;
         }
-        for buffer in &self.buffers {
-            if buffer.is_busy() {
-                return false;
-            }
-        }
-        true
+        none_is_written(&self.buffers)
     }
+}
+
+/// Whether no message-id of these shards is being stored.
+fn none_is_stored(shards: &[Shard]) -> bool
+    ensures none { result ≡ true → (claims : List ℕ → Claim) → EachKeeps shards.now claims
+        → (id : List ℕ) → shard_of id < length shards.now → is_storing (claims id) ≡ false }
+    ensures some { result ≡ false → (claims : List ℕ → Claim) → EachKeeps shards.now claims
+        → (id : List ℕ) × (is_storing (claims id) ≡ true) }
+{
+    for shard in shards {
+        if shard.counts().storing > 0 {
+            return false;
+        }
+    }
+    true
+}
+
+/// Whether no write is open in these buffers.
+fn none_is_written<S: BlockStore, J: StorePremises>(buffers: &[NumberedBuffer<S, J>]) -> bool
+    ensures none { result ≡ true → (b : ℕ) (code : _)
+        → slice_get (map buffer_of buffers.now) b ≡ Some code → is_busy code ≡ false }
+    ensures some { result ≡ false → (b : ℕ) × (code : _)
+        × (slice_get (map buffer_of buffers.now) b ≡ Some code) × (is_busy code ≡ true) }
+{
+    for buffer in buffers {
+        if buffer.is_busy() {
+            return false;
+        }
+    }
+    true
 }
 
 /// Stops each buffer under this number, until the device of one fails. The number of that one, and

@@ -28,16 +28,22 @@ loop-peer_source-preserved g c =
     let inv = c.loop-peer_source.invariant in
     let steps = c.in-Some.ensures.steps in
     let pushed = c.push_reserved.ensures in
-    let long = length_snoc _ _ _ pushed.items in
+    let ends = c.loop-peer_source.ends.items in
+    let more = c.push_reserved.new.self.items in
+    let sources = c.args.peer_sources.items in
+    let left = into_iter_items c.loop-peer_source.peer_source-iterator in
+    let next = into_iter_items c.next.new.self in
+    let long = length_snoc ends more c.new.result pushed.items in
     record {
       count = omega (arith, long, inv.count, steps.1);
       room = omega (arith, inv.room, pushed.capacity);
-      peers = map_next (λ d. d.peer) peer_of _ _ _ _ _ _ _ inv.peers pushed.items steps.0
-          c.new.ensures.peer;
-      terms = map_next (λ d. terms_of c.args.config.now) terms_at _ _ _ _ _ _ _ inv.terms
+      peers = map_next (λ d. d.peer) peer_of ends more c.new.result c.in-Some.peer_source
+          (map (λ d. d.peer) sources) left next inv.peers pushed.items steps.0 c.new.ensures.peer;
+      terms = map_next (λ d. terms_of c.args.config.now) terms_at ends more c.new.result
+          c.in-Some.peer_source (map (λ d. terms_of c.args.config.now) sources) left next inv.terms
           pushed.items steps.0 c.new.ensures.terms;
-      new = map_next (λ d. []) kept_of _ _ _ _ _ _ _ inv.new pushed.items steps.0
-          c.new.ensures.none;
+      new = map_next (λ d. []) kept_of ends more c.new.result c.in-Some.peer_source
+          (map (λ d. []) sources) left next inv.new pushed.items steps.0 c.new.ensures.none;
     }
 
 pub returns-clause-peers : goal.returns-clause-peers
@@ -45,19 +51,22 @@ returns-clause-peers g c =
     let rest = c.loop-peer_source.peer_source-iterator in
     let none : into_iter_items rest ≡ [] = nil_from_length rest.rest.items
     (omega (arith, c.in-None.ensures.steps.0, rest.rest.ok)) in
-    all_read (λ d. d.peer) peer_of _ _ _ c.loop-peer_source.invariant.peers none
+    all_read (λ d. d.peer) peer_of c.loop-peer_source.ends.items (into_iter_items rest)
+    (map (λ d. d.peer) c.args.peer_sources.items) c.loop-peer_source.invariant.peers none
 
 pub returns-clause-terms : goal.returns-clause-terms
 returns-clause-terms g c =
     let rest = c.loop-peer_source.peer_source-iterator in
     let none : into_iter_items rest ≡ [] = nil_from_length rest.rest.items
     (omega (arith, c.in-None.ensures.steps.0, rest.rest.ok)) in
-    all_read (λ d. terms_of c.args.config.now) terms_at _ _ _ c.loop-peer_source.invariant.terms
-    none
+    all_read (λ d. terms_of c.args.config.now) terms_at c.loop-peer_source.ends.items
+    (into_iter_items rest) (map (λ d. terms_of c.args.config.now) c.args.peer_sources.items)
+    c.loop-peer_source.invariant.terms none
 
 pub returns-clause-new : goal.returns-clause-new
 returns-clause-new g c =
     let rest = c.loop-peer_source.peer_source-iterator in
     let none : into_iter_items rest ≡ [] = nil_from_length rest.rest.items
     (omega (arith, c.in-None.ensures.steps.0, rest.rest.ok)) in
-    all_read (λ d. []) kept_of _ _ _ c.loop-peer_source.invariant.new none
+    all_read (λ d. []) kept_of c.loop-peer_source.ends.items (into_iter_items rest)
+    (map (λ d. []) c.args.peer_sources.items) c.loop-peer_source.invariant.new none

@@ -30,9 +30,11 @@ pub serve_seats-requires-clause-kept : goal.serve_seats-requires-clause-kept
 serve_seats-requires-clause-kept g c κs within k p at =
     let unused = c.in_ok-channels.ensures.ends k p at in
     let same = c.in_ok-channels.ensures.services in
-    let there = ap (λ l. slice_get l k) (sym same) ∙ at_map (λ q. q.service) _ k p at in
+    let there = ap (λ l. slice_get l k) (sym same) ∙ at_map (λ q. q.service)
+    c.in_ok-channels.field-0.plans.items k p at in
     new_accounts _ _ _ _ _ c.in_ok-channels.field-0.channels.items _ _ unused.1 unused.2
-    (each_same kept_of [] _ _ k p.service c.in_ok-ends.ensures.new there)
+    (each_same kept_of [] c.in_ok-ends.ends.items c.args.serving.peer_sources.items k p.service
+    c.in_ok-ends.ensures.new there)
 
 pub close-totals-requires-clause-writers : goal.close-totals-requires-clause-writers
 close-totals-requires-clause-writers g c =
@@ -103,15 +105,16 @@ serve_seats-requires-clause-writers g c κs within =
 pub returns-clause-peers : goal.returns-clause-peers
 returns-clause-peers g c =
     ap (map peer_of) c.close-totals.ensures.services
-    ∙ marked _ (λ m. m.0) (λ p. p.service) _ _ _ c.in-Ok.ensures.marks
-    c.in_ok-channels.ensures.services
+    ∙ marked _ (λ m. m.0) (λ p. p.service) c.in-Ok.seats.services.items c.in_ok-ends.ends.items
+    c.in_ok-channels.field-0.plans.items c.in-Ok.ensures.marks c.in_ok-channels.ensures.services
     ∙ c.in_ok-ends.ensures.peers
 
 pub returns-clause-terms : goal.returns-clause-terms
 returns-clause-terms g c =
     ap (map terms_at) c.close-totals.ensures.services
-    ∙ marked _ (λ m. terms_of m.1) (λ p. p.service) _ _ _ c.in-Ok.ensures.marks
-    c.in_ok-channels.ensures.services
+    ∙ marked _ (λ m. terms_of m.1) (λ p. p.service) c.in-Ok.seats.services.items
+    c.in_ok-ends.ends.items
+    c.in_ok-channels.field-0.plans.items c.in-Ok.ensures.marks c.in_ok-channels.ensures.services
     ∙ c.in_ok-ends.ensures.terms
 
 -- the seats are compared, and what the ends keep stays
