@@ -305,11 +305,10 @@ pub fn serve_seats<
         thread::scope_env(),
         rt,
         move |scope| -> Result<Seats<L, O, V>, SeatsError>
-            requires leaves { length plans.items ≤ length leaves.now.items }
-            requires channels { length writers.items ≤ length channels.now }
-            requires writers { AllReady channels.now (length plans.items) writers.items }
-            requires ends { AllOpen channels.now plans.items }
-            requires kept { AllRight V.fits plans.items }
+            requires { (length plans.items ≤ length leaves.now.items)
+                × (length writers.items ≤ length channels.now)
+                × AllReady channels.now (length plans.items) writers.items
+                × AllOpen channels.now plans.items × AllRight V.fits plans.items }
             ensures { IfOk result
                 (CameBack V.fits V.mark channels.entry.now plans.items writers.items) }
         { run_threads(scope, rt, channels, store, plans, writers, leaves) },
