@@ -8,6 +8,7 @@ use Rattle.live_session.proofs.sharing.share.Goals as goal
 use Rattle.live_session.specs.Going.{SharesFor}
 use Rattle.peer_session.specs.declared.steps.Answer.TheVariants as answers
 use Rattle.peer_session.specs.declared.steps.Step.{Step}
+use Rattle.peer_session.specs.declared.steps.Step.TheVariants as steps
 
 pub returns-in-Nothing-clause-shared : goal.returns-in-Nothing-clause-shared
 returns-in-Nothing-clause-shared g c =
@@ -76,3 +77,49 @@ returns-in-Release-clause-shared g c =
     let live = c.args.live.now in
     let P : Step → Type 0 = λ s. SharesFor w s live answers.Nothing live in
     subst P (sym c.in-Release.is) (released w live c.in-Release.id)
+
+pub returns-in-Err-clause-shared : goal.returns-in-Err-clause-shared
+returns-in-Err-clause-shared g c = λ honest trusts m d gathered planned is fits other.
+    absurd (other refl)
+
+pub returns-in-Err-clause-memory : goal.returns-in-Err-clause-memory
+returns-in-Err-clause-memory g c = λ same.
+    record { session = refl; reads = refl; hands = refl }
+
+pub returns-in-Err-take_queue-clause-shared : goal.returns-in-Err-take_queue-clause-shared
+returns-in-Err-take_queue-clause-shared g c = λ honest trusts m d gathered planned is fits other.
+    absurd (other refl)
+
+pub returns-in-Err-take_queue-clause-memory : goal.returns-in-Err-take_queue-clause-memory
+returns-in-Err-take_queue-clause-memory g c = λ same.
+    record { session = refl; reads = refl; hands = refl }
+
+pub returns-in-Err-refuse-clause-shared : goal.returns-in-Err-refuse-clause-shared
+returns-in-Err-refuse-clause-shared g c = λ honest trusts m d gathered planned is fits other.
+    absurd (other refl)
+
+pub returns-in-Err-refuse-clause-memory : goal.returns-in-Err-refuse-clause-memory
+returns-in-Err-refuse-clause-memory g c = λ same.
+    record { session = refl; reads = refl; hands = refl }
+
+pub returns-in-Err-take-clause-shared : goal.returns-in-Err-take-clause-shared
+returns-in-Err-take-clause-shared g c = λ honest trusts m d gathered planned is fits other.
+    absurd (other refl)
+
+pub returns-in-Err-take-clause-memory : goal.returns-in-Err-take-clause-memory
+returns-in-Err-take-clause-memory g c = λ same.
+    record { session = refl; reads = refl; hands = refl }
+
+pub returns-in-Push-clause-shared : goal.returns-in-Push-clause-shared
+returns-in-Push-clause-shared g c =
+    let w = terms_of c.args.context.now.config.now in
+    let P : Step → Type 0 = λ s. SharesFor w s c.args.live.now c.push.result c.push.new.live in
+    subst P (sym c.in-Push.is)
+    (subst (λ n. P (steps.Push n)) c.from.ensures (c.push.ensures.shared w))
+
+pub returns-in-Slot-clause-shared : goal.returns-in-Slot-clause-shared
+returns-in-Slot-clause-shared g c =
+    let w = terms_of c.args.context.now.config.now in
+    let P : Step → Type 0 =
+    λ s. SharesFor w s c.args.live.now c.look_in_slot.result c.look_in_slot.new.live in
+    subst P (sym c.in-Slot.is) (c.look_in_slot.ensures.shared w)
