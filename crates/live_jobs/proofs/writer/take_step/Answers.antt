@@ -15,9 +15,10 @@ overflow_add-kept g c =
 
 pub invariant_of-seat-in-Job-clause-took : goal.invariant_of-seat-in-Job-clause-took
 invariant_of-seat-in-Job-clause-took g c =
-    takes_job g.O.Outcome.fits c.args.seat.now.pass c.take.new.pass c.args.seat.now.finished.items _ _
-    c.take.result c.in-Job.handed _ c.args.seat.now.took c.take.ensures.writer c.take.ensures.taken
-    c.in-Job.is refl c.store-outcome.ensures.fits
+    let seat = c.args.seat.now in
+    takes_job g.O.Outcome.fits seat.pass c.take.new.pass seat.finished.items _ _ c.take.result
+    c.in-Job.handed _ seat.took c.take.ensures.writer c.take.ensures.taken c.in-Job.is refl
+    c.store-outcome.ensures.fits
     (c.push_reserved.ensures.items
     ∙ ap (λ (l : List (FinishedJob _)). l ++ record {
       end = c.in-Job.handed.end;
@@ -43,10 +44,12 @@ invariant_of-seat-in-Job-clause-counted g c =
 
 pub invariant_of-seat-in-Mark-clause-took : goal.invariant_of-seat-in-Mark-clause-took
 invariant_of-seat-in-Mark-clause-took g c =
-    takes_mark g.O.Outcome.fits c.args.seat.now.pass c.take.new.pass c.args.seat.now.finished.items _
-    c.args.seat.now.closed.items _ c.take.result c.in-Mark.end c.args.seat.now.took
+    let seat = c.args.seat.now in
+    takes_mark g.O.Outcome.fits seat.pass c.take.new.pass seat.finished.items _
+    seat.closed.items _ c.take.result c.in-Mark.end seat.took
     c.take.ensures.writer c.take.ensures.taken c.in-Mark.is c.reserve_one.ensures.items
     c.close_flag.ensures
 
 pub invariant_of-seat-in-Mark-clause-counted : goal.invariant_of-seat-in-Mark-clause-counted
-invariant_of-seat-in-Mark-clause-counted g c = rw c.reserve_one.ensures.items c.args.seat.now.counted
+invariant_of-seat-in-Mark-clause-counted g c =
+    rw c.reserve_one.ensures.items c.args.seat.now.counted
