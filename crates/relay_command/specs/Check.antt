@@ -83,12 +83,6 @@ Fails folder file reads error =
     ⊎ ((text : List ℕ) × (fault : ConfError) × IsTextOf folder file text
     × reads (Err fault) (lines_of text) × IsErrorIn file fault error)
 
--- the answer is what a reader gives of a file of a folder
-abbrev pub FileGives : {T : Type 0} → (folder : List ℕ) → ConfFile
-    → (reads : Result T ConfError → (lines : List (List ℕ)) → Type 0) → Result T CheckError → Type 0
-FileGives folder file reads (Ok settings) = Says folder file reads settings
-FileGives folder file reads (Err error) = Fails folder file reads error
-
 -- what the reader of cycbuff.conf gives of lines
 abbrev pub CycbuffReads : Result Buffers ConfError → (lines : List (List ℕ)) → Type 0
 CycbuffReads result lines = ConfGives buffers_view result (cycbuff_of lines)

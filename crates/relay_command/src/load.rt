@@ -1,17 +1,12 @@
 //! Reading a configuration (docs/PROTOCOL.md, Program; docs/FORMATS.md, Configuration).
 ghost use Rattle.std.specs.Prelude.{◌≡◌, ◌⊎◌, bytes_eq, codes, IfOk, IfErr, Some};
-ghost use Rattle.relay_conf.specs.RelayViews.{RelayGives};
-ghost use Rattle.relay_command.specs.Check.{CycbuffReads, FileGives, IsErrorIn, IsTextOf};
-ghost use Rattle.relay_command.specs.Check.{IsUnread, LoadGives, StorageReads};
+ghost use Rattle.relay_command.specs.Check.{IsErrorIn, IsTextOf, IsUnread, LoadGives};
 ghost use Rattle.relay_command.specs.Check.{check_text, file_name, k1_text, unread_as};
 ghost use Rattle.relay_command.specs.declared.load.CheckError.TheVariants.{Memory, Unreadable};
-ghost use Rattle.relay_command.specs.declared.load.ConfFile.TheVariants as files;
 
 use crate::file::read_file;
-use relay_conf::{
-    Buffers, ConfError, Config, K1_CYCBUFF, K1_RELAY, K1_STORAGE, Relay, StorageEntry,
-    read_cycbuff, read_relay, read_storage,
-};
+use crate::sources::load_both;
+use relay_conf::{ConfError, Config, K1_CYCBUFF, K1_RELAY, K1_STORAGE};
 use relay_drill::DrillError;
 use std::alloc::{AllocError, Global};
 use std::error::Error;
@@ -116,61 +111,12 @@ impl From<AllocError> for CheckError {
 pub fn load<R: Files>(rt: &R, alloc: Global, folder: &str) -> Result<Config, CheckError>
     ensures { LoadGives folder.now result }
 {
-    let buffers = match load_cycbuff(rt, alloc, folder) {
-        Ok(buffers) => buffers,
-        Err(error) => return Err(error),
-    };
-    let storage_entries = match load_storage(rt, alloc, folder, &buffers) {
-        Ok(storage_entries) => storage_entries,
-        Err(error) => {
-            drop(buffers);
-            return Err(error);
+    match load_both(rt, alloc, folder) {
+        Ok((config, sources)) => {
+            drop(sources);
+            Ok(config)
         }
-    };
-    match load_relay(rt, alloc, folder) {
-        Ok(relay) => Ok(Config::new(buffers, storage_entries, relay)),
-        Err(error) => {
-            drop(buffers);
-            Err(error)
-        }
-    }
-}
-
-/// Reads a folder's cycbuff.conf.
-fn load_cycbuff<R: Files>(rt: &R, alloc: Global, folder: &str) -> Result<Buffers, CheckError>
-    ensures { FileGives folder.now files.Cycbuff CycbuffReads result }
-{
-    let text = text_of(rt, alloc, folder, ConfFile::Cycbuff)?;
-    match read_cycbuff(alloc, &text) {
-        Ok(buffers) => Ok(buffers),
-        Err(error) => Err(CheckError::of(ConfFile::Cycbuff, error)),
-    }
-}
-
-/// Reads a folder's storage.conf.
-fn load_storage<R: Files>(
-    rt: &R,
-    alloc: Global,
-    folder: &str,
-    buffers: &Buffers,
-) -> Result<Vec<StorageEntry>, CheckError>
-    ensures { FileGives folder.now files.Storage (StorageReads buffers.now) result }
-{
-    let text = text_of(rt, alloc, folder, ConfFile::Storage)?;
-    match read_storage(alloc, &text, buffers) {
-        Ok(storage_entries) => Ok(storage_entries),
-        Err(error) => Err(CheckError::of(ConfFile::Storage, error)),
-    }
-}
-
-/// Reads a folder's relay.conf.
-fn load_relay<R: Files>(rt: &R, alloc: Global, folder: &str) -> Result<Relay, CheckError>
-    ensures { FileGives folder.now files.Relay RelayGives result }
-{
-    let text = text_of(rt, alloc, folder, ConfFile::Relay)?;
-    match read_relay(alloc, &text) {
-        Ok(relay) => Ok(relay),
-        Err(error) => Err(CheckError::of(ConfFile::Relay, error)),
+        Err(error) => Err(error),
     }
 }
 

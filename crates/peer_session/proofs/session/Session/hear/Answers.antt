@@ -291,3 +291,49 @@ returns-in-End-clause-given c =
     not_read had c.hear_ended.new.self c.args.answer c.hear_ended.result.items
     todos.End c.args.planned.read refl
     (was_planned had c.args.planned _ refl c.in-End.is)
+
+-- what hears an answer asks nothing
+pub hear_owed-requires : goal.hear_owed-requires
+hear_owed-requires c = tt
+
+pub hear_said-requires : goal.hear_said-requires
+hear_said-requires c = tt
+
+pub hear_left-requires : goal.hear_left-requires
+hear_left-requires c = tt
+
+pub hear_check-requires : goal.hear_check-requires
+hear_check-requires c = tt
+
+pub hear_ihave-requires : goal.hear_ihave-requires
+hear_ihave-requires c = tt
+
+pub hear_look-requires : goal.hear_look-requires
+hear_look-requires c = tt
+
+pub hear_first-requires : goal.hear_first-requires
+hear_first-requires c = tt
+
+pub hear_next-requires : goal.hear_next-requires
+hear_next-requires c = tt
+
+pub hear_queue-requires : goal.hear_queue-requires
+hear_queue-requires c = tt
+
+pub hear_refused-requires : goal.hear_refused-requires
+hear_refused-requires c = tt
+
+pub hear_taken-requires : goal.hear_taken-requires
+hear_taken-requires c = tt
+
+pub hear_held-requires : goal.hear_held-requires
+hear_held-requires c = tt
+
+pub hear_slot-requires : goal.hear_slot-requires
+hear_slot-requires c = tt
+
+pub hear_released-requires : goal.hear_released-requires
+hear_released-requires c = tt
+
+pub hear_ended-requires : goal.hear_ended-requires
+hear_ended-requires c = tt
