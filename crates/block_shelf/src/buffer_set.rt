@@ -4,14 +4,13 @@ use cyc_buffer::{BufError, Buffer, Found, Front, Open};
 use cyc_token::Token;
 
 /// A group of the buffer set: where it is, and the numbers of its buffers in the order of its list.
-#[derive(Debug, Drop)]
+#[derive(Drop)]
 pub struct PlacedGroup {
     pub(crate) group: Group,
     pub(crate) numbers: Vec<usize>,
 }
 
 /// An article that is begun, and neither finished nor abandoned.
-#[derive(Debug)]
 pub struct Begun {
     pub(crate) open: Open,
 }
@@ -25,7 +24,7 @@ impl Begun {
 }
 
 /// All buffers, by their numbers, and the groups that they are in.
-#[derive(Debug, Drop)]
+#[derive(Drop)]
 pub struct BufferSet<S: BlockStore> {
     pub(crate) buffers: Vec<Buffer<S>>,
     pub(crate) placed_groups: Vec<PlacedGroup>,

@@ -11,7 +11,7 @@ use cyc_buffer::{Buffer, Unopened};
 
 /// A buffer set that was started, whose buffers' head blocks say closed yet. It begins nothing
 /// before they are open.
-#[derive(Debug, Drop)]
+#[derive(Drop)]
 pub struct UnopenedBufferSet<S: BlockStore> {
     pub(crate) buffers: Vec<Unopened<S>>,
     pub(crate) placed_groups: Vec<PlacedGroup>,

@@ -11,7 +11,7 @@ use cyc_buffer::Buffer;
 use std::alloc::{AllocError, Global};
 
 /// Why a buffer set isn't stopped, in the order of trial.
-#[derive(Debug, Drop)]
+#[derive(Drop)]
 pub enum Unshut<S: BlockStore> {
     /// A write is open in one of its buffers; the buffer set, as it was.
     Busy(BufferSet<S>),
