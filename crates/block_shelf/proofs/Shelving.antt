@@ -18,6 +18,7 @@ use Rattle.news_terms.specs.Places as places
 use Rattle.news_terms.specs.Places.{Group}
 use Rattle.news_terms.specs.Settings.{AreSound, IsBufferAt}
 use Rattle.news_terms.proofs.ListPlaces.{there_within}
+use Rattle.relay_facts.proofs.Puts.{put_at_both, put_at_here}
 use Rattle.relay_model.specs.State.{Kept, put_at}
 use Rattle.relay_model.specs.Terms.{Terms}
 use Rattle.relay_model.specs.World.{HasFailedAt, Rises}
@@ -263,12 +264,17 @@ module _ {S : Type 0} {g : Ghosts S} {trusted : Bool} {old : BufferSet S g} {w :
 -- a device that has failed no less often
 pub rises : (failures : ℕ → ℕ) {b was now : ℕ} → failures b ≡ was → was ≤ now
     → Rises failures (put_at failures b now)
-rises failures counted grown k = grind (arith, nat_tests)
+rises failures {b} {was} {now} counted grown k =
+    put_at_both (λ y. failures k ≤ y) failures b now k
+    (λ here. omega (arith, counted, grown, ap failures here)) (λ apart. omega arith)
 
 -- and one that has failed
 pub failed_once : (failures : ℕ → ℕ) {b was now : ℕ} → failures b ≡ was → was < now
     → HasFailedAt b failures (put_at failures b now)
-failed_once failures {b} {was} {now} counted more = grind (arith, nat_tests)
+failed_once failures {b} {was} {now} counted more = record {
+  rises = rises failures counted (omega (arith, more));
+  here = omega (arith, counted, more, put_at_here failures b now b refl);
+}
 
 -- THE CALLS OF THE DEVICES
 

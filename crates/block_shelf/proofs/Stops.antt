@@ -1,27 +1,30 @@
 -- What the stop of a buffer set leaves, and its restart, buffer after buffer.
 use Rattle.std.proofs.Common.{◌≡◌, ◌∙◌, ℕ, ◌+◌, ◌<◌, Bool, true, false, arith, refl, sym, ap, List}
 use Rattle.std.proofs.Common.{[], ◌∷◌, ◌++◌, length, Option, None, Some, is_some, slice_get, subst}
-use Rattle.std.proofs.Common.{◌^◌, ◌≤◌, Result, Ok, Err, length-set}
-use Rattle.std.proofs.lemmas.Bool.{true≢false}
-use Rattle.std.proofs.lemmas.Bool.Decides.{nat_tests}
+use Rattle.std.proofs.Common.{◌^◌, ◌≤◌, Result, Ok, Err, inl, inr, length-set}
+use Rattle.std.proofs.lemmas.Bool.{cases_eq, true≢false}
 use Rattle.std.proofs.lemmas.List.{length-append}
-use Rattle.std.proofs.lemmas.Option.{none-some, slice_get_within}
+use Rattle.std.proofs.lemmas.Option.{none-some, same_Some, slice_get_within}
 use Rattle.cyc_block.specs.declared.store.BlockStore.{Ghosts}
 use Rattle.cyc_buffer.specs.Agreement.{store_of, Agrees, Follows}
 use Rattle.cyc_buffer.specs.Head.{IsStopRefusal, LeavesBuffer, is_busy}
 use Rattle.cyc_buffer.specs.History.{History}
 use Rattle.cyc_buffer.specs.declared.answers.BufError.{BufError}
+use Rattle.cyc_buffer.specs.declared.answers.BufError.TheVariants as stops
+use Rattle.cyc_buffer.specs.declared.answers.StartError.TheVariants as starts
 use Rattle.cyc_buffer.specs.declared.buffer.Buffer.{Buffer}
 use Rattle.cyc_buffer.specs.Restart.{IsFromWithout, IsRestartRefusal}
 use Rattle.cyc_buffer.specs.declared.restarting.RestartError.{RestartError}
+use Rattle.cyc_buffer.specs.declared.restarting.RestartError.TheVariants as errors
 use Rattle.news_terms.specs.Settings.{IsSoundBuffer}
 use Rattle.news_terms.proofs.ListPlaces.{holds_at}
-use Rattle.relay_facts.proofs.Puts.{put_at_here, put_at_there}
+use Rattle.relay_facts.proofs.Puts.{put_at_both, put_at_here, put_at_there}
 use Rattle.relay_model.specs.State.{Kept, put_at}
 use Rattle.relay_model.specs.Terms.{Terms}
+use Rattle.relay_model.specs.World.{HasFailedAt}
 use Rattle.block_shelf.proofs.EachLemmas.{each_so, one_more_each}
-use Rattle.block_shelf.proofs.Shelving.{KeptAt, buffers_kept, kept_at, groups_kept, put_both, rises}
-use Rattle.block_shelf.proofs.Shelving.{still, with_buffer}
+use Rattle.block_shelf.proofs.Shelving.{KeptAt, buffers_kept, failed_once, groups_kept, kept_at}
+use Rattle.block_shelf.proofs.Shelving.{put_both, rises, still, with_buffer}
 use Rattle.block_shelf.specs.Each.{AreEach}
 use Rattle.block_shelf.specs.Histories.{HasWriting, IsFree, IsBusy}
 use Rattle.block_shelf.specs.Stopping.{AreIdle, AreIdleTo, AreShut, HoldsKept, IsBusyBufferSet}
@@ -64,7 +67,12 @@ busy_buffer_set buffer_set b {code} is busy = record {
 pub idle_more : {S : Type 0} {g : Ghosts S} (buffer_set : BufferSet S g) (place : ℕ)
     {code : Buffer S g} → slice_get buffer_set.buffers.items place ≡ Some code
     → is_busy code ≡ false → AreIdleTo buffer_set place → AreIdleTo buffer_set (place + 1)
-idle_more buffer_set place is idle before b one less there = grind (arith, before b one)
+idle_more buffer_set place {code} is idle before b one less there = elim (cases_eq b place) [
+  | inl same ↦
+      ap is_busy (same_Some one code (sym there ∙ ap (slice_get buffer_set.buffers.items) same ∙ is))
+      ∙ idle
+  | inr apart ↦ before b one (omega (arith, less, apart)) there
+]
 
 -- the stores hold what the buffer set kept
 pub holds_kept : {S : Type 0} {g : Ghosts S} (stop : ℕ) (buffer_set : BufferSet S g)
@@ -89,6 +97,15 @@ holds_kept stop buffer_set stores shut w begun kept failures keeps = record {
         failed = had.keeps.failed ∙ sym left.belongs.no_failure;
       };
 }
+
+-- a buffer that isn't busy isn't stopped where its device failed
+device_failed : {S : Type 0} {g : Ghosts S} (code code' : Buffer S g) (error : BufError)
+    → IsStopRefusal code error code' → is_busy code ≡ false
+    → g.failures (store_of code) < g.failures (store_of code')
+device_failed code code' stops.TooBig refusal idle = absurd refusal
+device_failed code code' (stops.Worn fault) refusal idle = absurd refusal
+device_failed code code' stops.Busy refusal idle = absurd (true≢false (sym refusal.0 ∙ idle))
+device_failed code code' (stops.Device fault) refusal idle = refusal.2
 
 module _ {S : Type 0} {g : Ghosts S} (stop : ℕ) (code : Buffer S g) (before : List (Buffer S g))
     (old : List S) where
@@ -138,7 +155,7 @@ module _ {S : Type 0} {g : Ghosts S} (stop : ℕ) (code : Buffer S g) (before : 
         (record {
           honest = leaves.store.honest;
           count = leaves.store.count;
-          failed = λ same. grind (arith, refusal, idle);
+          failed = λ same. device_failed code code' error refusal idle;
           others = λ apart. absurd (apart (sym had.count ∙ sym is));
         })),
   )
@@ -153,7 +170,14 @@ not_busy old new fault other idle = idle
 
 -- a buffer set to which nothing was done
 pub stays_same : {S : Type 0} {g : Ghosts S} (old : BufferSet S g) → KeepsOn old (Ok tt) old
-stays_same old trusted w begun kept failures keeps = grind arith
+stays_same old trusted w begun kept failures keeps = record {
+  later = failures;
+  rises = λ k. omega arith;
+  keeps = keeps;
+  unfailed = λ done n. refl;
+  free = λ e. cc;
+  failed = λ number e yes. cc;
+}
 
 -- one that was restarted as far as a buffer, and goes on
 pub keeps_further : {S : Type 0} {g : Ghosts S} (first old new : BufferSet S g)
@@ -173,19 +197,41 @@ keeps_further first old new result before next trusted w begun kept failures kee
           record {
             buffer = f.buffer;
             there = f.there;
-            failed = grind (arith, nat_tests);
+            failed = record {
+              rises = λ k. omega (arith, a.rises k, f.failed.rises k);
+              here = omega (arith, a.rises f.buffer.number, f.failed.here);
+            };
           };
     }
 
 -- no error of a buffer's restart is told as Busy
 never_busy : (error : RestartError) (place : ℕ) → restart_fault error place ≡ faults.Busy → ⊥
-never_busy error place e = grind arith
+never_busy (errors.Stop error) place e = cc
+never_busy (errors.Start starts.Memory) place e = cc
+never_busy (errors.Start starts.Device) place e = cc
+never_busy (errors.Start starts.NoHead) place e = cc
+never_busy (errors.Start starts.Unclosed) place e = cc
+never_busy (errors.Start starts.Damaged) place e = cc
+never_busy (errors.Open error) place e = cc
+
+-- the number that is told as Failed
+told_number : (place number : ℕ) → faults.Failed place ≡ faults.Failed number → number ≡ place
+told_number place number e = cc
 
 module _ {S : Type 0} {g : Ghosts S} (code code' : Buffer S g) where
   -- the device hasn't failed less often
   grown : (error : RestartError) → IsRestartRefusal code error code'
       → g.failures (store_of code) ≤ g.failures (store_of code')
-  grown error refusal = grind arith
+  grown (errors.Stop stops.TooBig) refusal = absurd refusal
+  grown (errors.Stop (stops.Worn fault)) refusal = absurd refusal
+  grown (errors.Stop stops.Busy) refusal = omega (arith, ap g.failures refusal.1)
+  grown (errors.Stop (stops.Device fault)) refusal = omega (arith, refusal.2)
+  grown (errors.Start starts.Memory) refusal = omega (arith, refusal.1)
+  grown (errors.Start starts.Device) refusal = omega (arith, refusal.1)
+  grown (errors.Start starts.NoHead) refusal = omega (arith, refusal.1)
+  grown (errors.Start starts.Unclosed) refusal = omega (arith, refusal.1)
+  grown (errors.Start starts.Damaged) refusal = omega (arith, refusal.1)
+  grown (errors.Open error) refusal = omega (arith, refusal.2)
 
   -- over an honest store a refusal that isn't for memory is for a device that failed, whose number
   -- it tells
@@ -193,7 +239,16 @@ module _ {S : Type 0} {g : Ghosts S} (code code' : Buffer S g) where
       → IsFromWithout error → is_busy code ≡ false
       → restart_fault error place ≡ faults.Failed number
       → (number ≡ place) × (g.failures (store_of code) < g.failures (store_of code'))
-  fails error place number refusal without idle told = grind arith
+  fails (errors.Stop error) place number refusal without idle told =
+      (told_number place number told, device_failed code code' error refusal idle)
+  fails (errors.Start starts.Memory) place number refusal without idle told = cc
+  fails (errors.Start starts.Device) place number refusal without idle told =
+      (told_number place number told, refusal.1)
+  fails (errors.Start starts.NoHead) place number refusal without idle told = absurd without
+  fails (errors.Start starts.Unclosed) place number refusal without idle told = absurd without
+  fails (errors.Start starts.Damaged) place number refusal without idle told = absurd without
+  fails (errors.Open error) place number refusal without idle told =
+      (told_number place number told, refusal.2)
 
 module _ {S : Type 0} {g : Ghosts S} (old : BufferSet S g) (place : ℕ) {code code' : Buffer S g}
     (there : slice_get old.buffers.items place ≡ Some code) (same : Follows (λ h. h) code code')
@@ -218,7 +273,9 @@ module _ {S : Type 0} {g : Ghosts S} (old : BufferSet S g) (place : ℕ) {code c
       later = put_at failures place (g.failures (store_of code'));
       rises = rises failures (at keeps).failed (omega (arith, none));
       keeps = stays keeps;
-      unfailed = λ done n. grind (arith, nat_tests, none, (at keeps).failed);
+      unfailed = λ done n.
+          put_at_both (λ y. y ≡ failures n) failures place (g.failures (store_of code')) n
+          (λ here. none ∙ sym (at keeps).failed ∙ ap failures (sym here)) (λ apart. refl);
       free = λ e. cc;
       failed = λ number e yes. cc;
     }
@@ -244,7 +301,19 @@ module _ {S : Type 0} {g : Ghosts S} (old : BufferSet S g) (place : ℕ) {code c
           keeps = stays keeps;
           unfailed = λ done n. cc;
           free = λ e. never_busy error place (cc);
-          failed = λ number e yes. grind (arith, nat_tests);
+          failed = λ number e yes.
+              let told : restart_fault error place ≡ faults.Failed number = cc (is, e) in
+              let found = fails code code' error place number refusal
+              (cause one.now (subst (λ b. Agrees b code one.now) yes one.agrees)) (idle_at one)
+              told in
+              record {
+                buffer = one.now.buffer;
+                there = ap (slice_get w.buffers) found.0 ∙ one.there;
+                failed = subst
+                    (λ b. HasFailedAt b failures
+                    (put_at failures place (g.failures (store_of code'))))
+                    (sym one.number) (failed_once failures one.failed found.1);
+              };
         }
 
     -- one buffer more is restarted
@@ -259,7 +328,9 @@ module _ {S : Type 0} {g : Ghosts S} (old : BufferSet S g) (place : ℕ) {code c
             put_both (IsRestartedTo stop (place + 1) b one) old.buffers.items place b code'
             was.there
             (λ here.
-            let item : was.item ≡ code = grind (arith, nat_tests) in
+            let item : was.item ≡ code =
+            same_Some was.item code
+            (sym was.there ∙ ap (slice_get old.buffers.items) here ∙ there) in
             record {
               before = λ less.
                   rw (here, sym (was.belongs.behind (omega (arith, here))) ∙ item) is;

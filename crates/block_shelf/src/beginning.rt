@@ -9,7 +9,7 @@ use std::io;
 use std::io::ErrorKind;
 
 /// Why a relay doesn't begin.
-#[derive(Debug, Drop)]
+#[derive(Drop)]
 pub enum BeginError<S: BlockStore> {
     /// No seed for its tables was to be had, or memory.
     Host(io::Error),

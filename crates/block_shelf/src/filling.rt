@@ -17,7 +17,7 @@ use relay_conf::{BufferConf, Buffers, GroupConf};
 use std::alloc::{AllocError, AllocFailed, Global};
 
 /// Why a buffer set isn't made, in the order of trial at each buffer.
-#[derive(Debug, Drop)]
+#[derive(Drop)]
 pub enum BufferSetError<S: BlockStore> {
     /// Memory was refused.
     Memory,

@@ -3,7 +3,7 @@ use crate::buffer_set::PlacedGroup;
 use buffer_group::Pick;
 
 /// Where an article goes: what its group picks, and the number of that buffer.
-#[derive(Clone, Copy, Debug, PartialEq, Eq)]
+#[derive(Clone, Copy)]
 pub struct Place {
     pub pick: Pick,
     pub number: usize,

@@ -41,7 +41,7 @@ pub enum StopFault {
 }
 
 /// The stores of a buffer set that isn't started, in the order of its buffers, and why.
-#[derive(Debug, Drop)]
+#[derive(Drop)]
 pub struct Unstarted<S> {
     pub stores: Vec<S>,
     /// The number of the buffer whose fault it is.

@@ -277,8 +277,13 @@ fn token_asked(alloc: Global, word: &[u8]) -> Result<(Todo, Step), AllocError>
     match Token::parse(word) {
         Ok(token) => {
             let mut reading = Reading::new(alloc, Asked::OfToken, token);
-            reading.prepare()?;
-            Ok((Todo::Fetch(reading), Step::Read(token, 0)))
+            match reading.prepare() {
+                Ok(()) => Ok((Todo::Fetch(reading), Step::Read(token, 0))),
+                Err(error) => {
+                    drop(reading);
+                    Err(error)
+                }
+            }
         }
         Err(_) => said(alloc, &Reply::SyntaxError),
     }

@@ -6,7 +6,7 @@ use buffer_group::Accepted;
 use nntp_text::{MsgId, Part};
 
 /// How a peer sends an article.
-#[derive(Clone, Copy, Debug, PartialEq, Eq)]
+#[derive(Clone, Copy)]
 pub(crate) enum Transfer {
     /// By TAKETHIS, after CHECK or without it (RFC 4644 section 2.5).
     TakesThis,

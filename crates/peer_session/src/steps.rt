@@ -32,7 +32,7 @@ pub enum Step {
 }
 
 /// How the storing of an article ended.
-#[derive(Clone, Copy, Debug, PartialEq, Eq)]
+#[derive(Clone, Copy)]
 pub enum Outcome {
     /// It is stored.
     Kept,

@@ -12,7 +12,7 @@ use std::io::{ErrorKind, Write};
 use std::{fmt, io};
 
 /// What a relay that is served is asked for.
-#[derive(Clone, Copy, Debug)]
+#[derive(Clone, Copy)]
 pub enum Request {
     /// To end.
     Stop,

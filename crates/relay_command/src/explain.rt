@@ -1,9 +1,10 @@
 //! Saying what a configuration does (docs/PROTOCOL.md, `explain`).
 ghost use Rattle.std.specs.Prelude.{◌≡◌, string_bytes, IfErr, IfOk, Some};
 ghost use Rattle.relay_explain.specs.Choice.{choice_text};
-ghost use Rattle.relay_command.specs.Explain.{ExplainGives, ExplainsFolder, IsAnswer, IsChosen};
-ghost use Rattle.relay_command.specs.Explain.{IsTold, IsToldOf, IsUntold, explain_text};
-ghost use Rattle.relay_command.specs.Questions.{asked_of, question_of};
+ghost use Rattle.relay_command.specs.Explain.{ExplainGives, ExplainsFolder, IsAnswer, IsToldOf};
+ghost use Rattle.relay_command.specs.Explain.{IsUntold, explain_text};
+ghost use Rattle.relay_command.specs.Questions.{question_of};
+ghost use Rattle.relay_command.specs.Sources.{IsSaidIn};
 ghost use Rattle.relay_command.specs.Explain as terms;
 ghost use Rattle.relay_command.specs.declared.load.CheckError.TheVariants.{Memory};
 
@@ -146,24 +147,32 @@ fn answer<R: Files>(
     ensures text { IfOk result (λ text. IsAnswer folder.now (question_of question.now) text.items) }
     ensures error { IfErr result (IsUntold folder.now) }
 {
-    match question {
-        None => whole_text(rt, alloc, folder),
-        Some(question) => choice_text(rt, alloc, folder, question),
-    }
-}
-
-/// The text of what the configuration in a folder does.
-fn whole_text<R: Files>(rt: &R, alloc: Global, folder: &str) -> Result<Vec<u8>, CheckError>
-    ensures text { IfOk result (λ text. IsTold folder.now text.items) }
-    ensures error { IfErr result (IsUntold folder.now) }
-{
     match load_both(rt, alloc, folder) {
         Ok(both) => {
-            let text = text_of(rt, alloc, folder, &both.0, &both.1);
+            let text = told(rt, alloc, folder, &both.0, &both.1, question);
             drop(both);
             text
         }
         Err(error) => Err(error),
+    }
+}
+
+/// The text of what is asked of this configuration, which these texts say.
+fn told<R: Files>(
+    rt: &R,
+    alloc: Global,
+    folder: &str,
+    config: &Config,
+    sources: &Sources,
+    question: &Option<Question>,
+) -> Result<Vec<u8>, CheckError>
+    ensures text { IsSaidIn folder.now config.now sources.now
+        → IfOk result (λ text. IsAnswer folder.now (question_of question.now) text.items) }
+    ensures memory { IfErr result (λ error. error ≡ Memory) }
+{
+    match question {
+        None => text_of(rt, alloc, folder, config, sources),
+        Some(question) => choice_of(alloc, config, question),
     }
 }
 
@@ -182,26 +191,6 @@ fn text_of<R: Files>(
     let found = look_at_files(rt, alloc, &config.buffers, folder)?;
     let text = explain(alloc, config, sources, &found)?;
     Ok(text)
-}
-
-/// The text of where an article goes by the configuration in a folder.
-fn choice_text<R: Files>(
-    rt: &R,
-    alloc: Global,
-    folder: &str,
-    question: &Question,
-) -> Result<Vec<u8>, CheckError>
-    ensures text { IfOk result (λ text. IsChosen folder.now (asked_of question.now) text.items) }
-    ensures error { IfErr result (IsUntold folder.now) }
-{
-    match load_both(rt, alloc, folder) {
-        Ok(both) => {
-            let text = choice_of(alloc, &both.0, question);
-            drop(both);
-            text
-        }
-        Err(error) => Err(error),
-    }
 }
 
 /// The text of where an article goes by this configuration.

@@ -15,7 +15,7 @@ use relay_conf::Buffers;
 use std::alloc::{AllocError, Global};
 
 /// How far a buffer is filled.
-#[derive(Clone, Copy, Debug, PartialEq, Eq)]
+#[derive(Clone, Copy)]
 pub struct Filled {
     /// How many blocks it has.
     pub blocks: u32,

@@ -22,7 +22,7 @@ pub enum Event {
 }
 
 /// What an event is answered.
-#[derive(Debug, Drop)]
+#[derive(Drop)]
 pub enum Output {
     /// Nothing is said.
     Quiet,

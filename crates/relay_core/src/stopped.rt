@@ -6,7 +6,7 @@ use cyc_block::BlockStore;
 use std::io;
 
 /// A relay that was closed.
-#[derive(Debug, Drop)]
+#[derive(Drop)]
 pub struct Stopped<S> {
     /// The stores of its buffers, in their order.
     pub stores: Vec<S>,

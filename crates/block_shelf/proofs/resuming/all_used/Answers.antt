@@ -37,7 +37,7 @@ loop-unopened-preserved g c =
 pub loop-unopened-init : goal.loop-unopened-init
 loop-unopened-init g c = record {
   count = omega (arith, c.in_ok-used.ensures.len);
-  room = omega (arith, c.len.ensures, c.in_ok-used.ensures.capacity);
+  room = omega (arith, c.in_ok-used.ensures.capacity);
   are = rw c.in_ok-used.ensures.items (none_each IsUsed);
 }
 

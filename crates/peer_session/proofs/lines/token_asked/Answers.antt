@@ -19,12 +19,12 @@ code_token token =
       length = token.length;
     }
 
-pub returns-in_ok-prepare-in-Ok : goal.returns-in_ok-prepare-in-Ok
-returns-in_ok-prepare-in-Ok c =
+pub returns-in-Ok-prepare : goal.returns-in-Ok-prepare
+returns-in-Ok-prepare c =
     let parsed = (c.parse.ensures.token c.in-Ok.token).0 c.in-Ok.is in
     asking.IsToken c.in-Ok.token c.prepare.new.self
     (asks.IsRead (token_view c.in-Ok.token) parsed.0 (sym parsed.1) refl)
-    (c.in_ok-prepare-in-Ok.ensures.ok ∙ ap prepared_fetch c.new-reading.ensures) refl
+    (c.in-Ok-prepare.ensures.ok ∙ ap prepared_fetch c.new-reading.ensures) refl
 
 pub returns-in-Err : goal.returns-in-Err
 returns-in-Err c =

@@ -1,4 +1,4 @@
-use Rattle.std.proofs.Common.{◌∙◌, ◌<◌, length, refl, rules}
+use Rattle.std.proofs.Common.{◌∙◌, ◌<◌, ap, arith, length, refl, vec_capacity, vec_len}
 use Rattle.relay_core.proofs.Fillings.{filled_all, filled_joins, filled_there}
 use Rattle.relay_core.proofs.ahead.all_filled.Goals as goal
 use Rattle.relay_core.proofs.ahead.all_filled.Goals.{in-Some, in_default}
@@ -9,23 +9,27 @@ loop-number-preserved g c =
     let all = c.args.settings.now.buffers.items in
     let n = c.loop-number.number in
     let conf = c.buffer-item.result in
-    let within : n < length all = search rules in
+    let items = c.deref-buffer-items.ensures.value in
+    let within : n < length all = omega (arith, c.loop-number-test.true, ap length items) in
     elim c.match-figures.branch [
       | in-Some w ↦
           record {
-            count = search rules;
-            room = search rules;
+            count = omega (arith, ap vec_len w.filled-is, w.push_reserved.ensures.len,
+                c.loop-number.invariant.count);
+            room = omega (arith, ap vec_capacity w.filled-is, w.push_reserved.ensures.capacity,
+                c.loop-number.invariant.room);
             said = λ x σ failures same held.
                 filled_joins c.args.settings.now x σ same n conf w.in-Some.figures within
-                (search rules) (w.in-Some.ensures x σ failures held) c.loop-number.filled.items
+                (rw items at c.buffer-item.is) (w.in-Some.ensures x σ failures held)
+                c.loop-number.filled.items
                 c.match-figures.filled.items _ refl
                 (cc (w.push_reserved.ensures.items, w.filled-is))
                 (c.loop-number.invariant.said x σ failures same held);
           }
       | in_default w ↦
           record {
-            count = search rules;
-            room = search rules;
+            count = omega (arith, ap vec_len w.filled-is, c.loop-number.invariant.count);
+            room = omega (arith, ap vec_capacity w.filled-is, c.loop-number.invariant.room);
             said = λ x σ failures same held.
                 absurd (filled_there c.args.settings.now x σ same n conf within
                 (w.in_default.ensures x σ failures held));
@@ -36,4 +40,5 @@ loop-number-preserved g c =
 pub returns : goal.returns
 returns g c = λ x σ failures same held.
     c.loop-number.invariant.said x σ failures same held
-    ∙ filled_all c.args.settings.now x σ same c.loop-number.number (search rules)
+    ∙ filled_all c.args.settings.now x σ same c.loop-number.number
+    (omega (arith, c.loop-number-test.false, ap length c.deref-buffer-items.ensures.value))

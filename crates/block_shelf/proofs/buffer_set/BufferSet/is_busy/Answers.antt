@@ -1,6 +1,6 @@
-use Rattle.std.proofs.Common.{◌∙◌, arith, refl, sym}
+use Rattle.std.proofs.Common.{◌∙◌, ap, arith, length, refl, sym}
 use Rattle.std.proofs.lemmas.Bool.{true≢false}
-use Rattle.std.proofs.lemmas.Option.{slice_get_read}
+use Rattle.std.proofs.lemmas.Option.{slice_get_read, slice_get_within}
 use Rattle.block_shelf.proofs.Stops.{busy_buffer_set, idle_more}
 use Rattle.block_shelf.proofs.buffer_set.BufferSet.is_busy.Goals as goal
 
@@ -29,3 +29,14 @@ loop-buffer-preserved g c =
 
 pub returns-clause-busy : goal.returns-clause-busy
 returns-clause-busy g c = λ yes. absurd (true≢false (sym yes))
+
+pub returns-clause-idle : goal.returns-clause-idle
+returns-clause-idle g c = λ no b code there.
+    c.loop-buffer.invariant b code
+    (omega (
+      arith,
+      c.loop-buffer-test.false,
+      ap length c.deref-buffer-items.ensures.value,
+      slice_get_within c.args.self.now.buffers.items b code there,
+    ))
+    there

@@ -1,4 +1,4 @@
-use Rattle.std.proofs.Common.{◌∙◌, ◌<◌, length, rules}
+use Rattle.std.proofs.Common.{◌∙◌, ◌<◌, ap, arith, length, vec_capacity, vec_len}
 use Rattle.relay_report.specs.Figures.{named_buffer}
 use Rattle.relay_core.proofs.Reporting.{buffer_joins, buffer_there, numbered_all}
 use Rattle.relay_core.proofs.system.System.named_buffers.Goals as goal
@@ -7,24 +7,27 @@ use Rattle.relay_core.proofs.system.System.named_buffers.Goals.{in-Some+in_ok-na
 -- one buffer more
 pub loop-number-preserved : goal.loop-number-preserved
 loop-number-preserved g c =
+    let items = c.deref-buffer-items.ensures.value in
     let within : c.loop-number.number < length c.args.self.now.config.buffers.buffers.items =
-    search rules in
+    omega (arith, c.loop-number-test.true, ap length items) in
     elim c.match-figures.branch [
       | in-Some+in_ok-name w ↦
           record {
-            count = search rules;
-            room = search rules;
+            count = omega (arith, ap vec_len w.named-is, w.push_reserved.ensures.len,
+                c.loop-number.invariant.count);
+            room = omega (arith, ap vec_capacity w.named-is, w.push_reserved.ensures.capacity,
+                c.loop-number.invariant.room);
             said = λ trusted x agrees. buffer_joins trusted c.args.self.now x agrees
                 c.loop-number.number c.buffer-item.result w.in-Some.figures within
-                (search rules) w.in-Some.ensures w.in_ok-name.name
+                (rw items at c.buffer-item.is) w.in-Some.ensures w.in_ok-name.name
                 (cc (w.in_ok-name.ensures, w.as_slice.ensures)) c.loop-number.named.items
                 c.match-figures.named.items (cc (w.push_reserved.ensures.items, w.named-is))
                 (c.loop-number.invariant.said trusted x agrees);
           }
       | in_default w ↦
           record {
-            count = search rules;
-            room = search rules;
+            count = omega (arith, ap vec_len w.named-is, c.loop-number.invariant.count);
+            room = omega (arith, ap vec_capacity w.named-is, c.loop-number.invariant.room);
             said = λ trusted x agrees. absurd (buffer_there trusted c.args.self.now x agrees
                 c.loop-number.number c.buffer-item.result within w.in_default.ensures);
           }
@@ -35,4 +38,5 @@ pub returns : goal.returns
 returns g c = λ trusted x agrees.
     c.loop-number.invariant.said trusted x agrees
     ∙ numbered_all (named_buffer c.args.self.now.config x.state)
-    c.args.self.now.config.buffers.buffers.items c.loop-number.number (search rules)
+    c.args.self.now.config.buffers.buffers.items c.loop-number.number
+    (omega (arith, c.loop-number-test.false, ap length c.deref-buffer-items.ensures.value))
