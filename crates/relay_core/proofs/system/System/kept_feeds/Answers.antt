@@ -1,4 +1,5 @@
-use Rattle.std.proofs.Common.{◌≡◌, ◌∙◌, ◌<◌, ◌≤◌, ap, arith, length, map, rules}
+use Rattle.std.proofs.Common.{◌≡◌, ◌≤◌, ◌∙◌, ◌<◌, ap, arith, length, map, rules, vec_capacity}
+use Rattle.std.proofs.Common.{vec_len}
 use Rattle.std.specs.Prelude.{Ok}
 use Rattle.article_verdict.proofs.FewFeeds.{few_feeds}
 use Rattle.article_verdict.specs.Config.{terms_of}
@@ -10,10 +11,12 @@ use Rattle.relay_core.proofs.system.System.kept_feeds.Goals.{in-Some, in_default
 
 -- there are fewer feeds than numbers
 pub overflow_cast-number : goal.overflow_cast-number
-overflow_cast-number g c =
-    let within : c.loop-number.number < length c.args.self.now.config.relay.feeds.items =
-    search rules in
-    omega (arith, few_feeds c.args.self.now.config, within)
+overflow_cast-number g c = omega (
+  arith,
+  few_feeds c.args.self.now.config,
+  c.loop-number-test.true,
+  ap length c.deref-feed-items.ensures.value,
+)
 
 -- one feed more
 pub loop-number-preserved : goal.loop-number-preserved
@@ -21,12 +24,15 @@ loop-number-preserved g c =
     let config = c.args.self.now.config in
     let n = c.loop-number.number in
     let sizes = ring_sizes (terms_of config) in
-    let within : n < length config.relay.feeds.items = search rules in
+    let within : n < length config.relay.feeds.items =
+    omega (arith, c.loop-number-test.true, ap length c.deref-feed-items.ensures.value) in
     elim c.match-branch-3.branch [
       | in-Some w ↦
           record {
-            count = search rules;
-            room = search rules;
+            count = omega (arith, ap vec_len w.kept-is, w.push_reserved.ensures.len,
+                c.loop-number.invariant.count);
+            room = omega (arith, ap vec_capacity w.kept-is, w.push_reserved.ensures.capacity,
+                c.loop-number.invariant.room);
             waits = waits_join c.loop-number.kept.items c.match-branch-3.kept.items w.in-Some.one
                 (cc (w.push_reserved.ensures.items, w.kept-is)) c.loop-number.invariant.waits
                 (some_of _ _ w.in-Some.one w.in-Some.is c.in_ok-one.ensures.fits);
@@ -39,8 +45,8 @@ loop-number-preserved g c =
           }
       | in_default w ↦
           record {
-            count = search rules;
-            room = search rules;
+            count = omega (arith, ap vec_len w.kept-is, c.loop-number.invariant.count);
+            room = omega (arith, ap vec_capacity w.kept-is, c.loop-number.invariant.room);
             waits = search rules;
             left = λ feed keeps.
                 absurd (feed_missing config c.args.self.now.desk feed n keeps within
