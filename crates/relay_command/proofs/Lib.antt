@@ -2,6 +2,7 @@ pub mod Asks
 pub mod Checks
 pub mod CommandLines
 pub mod Explains
+pub mod FilesRead
 pub mod Numbers
 pub mod Questions
 pub mod Scripts
