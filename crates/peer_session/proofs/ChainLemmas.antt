@@ -3,10 +3,21 @@ use Rattle.std.proofs.Common.{◌≡◌, ◌≢◌, ◌<◌, ◌+◌, ℕ, zero,
 use Rattle.std.proofs.Common.{None, Some, length, get_or, set, replicate, refl, sym, ◌∙◌, inl, inr}
 use Rattle.std.proofs.Common.{arith, rules, length-append, length-set}
 use Rattle.std.proofs.lemmas.Bool.{cases_lt}
-use Rattle.std.proofs.lemmas.List.{get_or_append_left}
+use Rattle.std.proofs.lemmas.List.{get_or-set_other, get_or_append_left, get_or_past, get_or_push}
 use Rattle.std.proofs.Math.Seq.{get_or-append_seam}
-use Rattle.std.proofs.lemmas.Grind.{common_steps}
+use Rattle.std.proofs.lemmas.Grind.{get_or-set_at}
 use Rattle.peer_session.specs.Chains.{IsLinked}
+
+-- what a list has after a push or after a change at one place
+ruleset pushed_or_set = (
+  length-append,
+  length-set,
+  get_or_append_left,
+  get_or_push,
+  get_or_past,
+  get_or-set_at,
+  get_or-set_other,
+)
 
 -- of zeros each is zero, and past them
 pub zero_of_zeros : (n b : ℕ) → get_or {A = ℕ} (replicate n 0) b 0 ≡ 0
@@ -66,15 +77,15 @@ pub linked_more : (hash : List ℕ → ℕ) (places : List (Option (List ℕ)))
     → IsLinked hash (places ++ place ∷ []) (set latest bucket (length buckets + 1))
     (buckets ++ bucket ∷ []) (older ++ get_or latest bucket 0 ∷ [])
 linked_more hash places latest buckets older place bucket within same linked = record {
-  bucket_each = grind (arith, common_steps);
-  older_each = grind (arith, common_steps);
-  latest_within = λ b. grind (arith, common_steps, linked.latest_within);
-  older_below = λ i. grind (arith, common_steps, linked.older_below i, linked.latest_within bucket);
+  bucket_each = grind (arith, pushed_or_set);
+  older_each = grind (arith, pushed_or_set);
+  latest_within = λ b. grind (arith, pushed_or_set, linked.latest_within);
+  older_below = λ i. grind (arith, pushed_or_set, linked.older_below i, linked.latest_within bucket);
   latest_same = λ b n e.
-      grind (arith, common_steps, linked.latest_same b n, linked.latest_within b);
-  older_same = λ i n e. grind (arith, common_steps);
-  own = λ j id e. grind (arith, common_steps);
-  none_later = λ j id e. grind (arith, common_steps);
+      grind (arith, pushed_or_set, linked.latest_same b n, linked.latest_within b);
+  older_same = λ i n e. grind (arith, pushed_or_set);
+  own = λ j id e. grind (arith, pushed_or_set);
+  none_later = λ j id e. grind (arith, pushed_or_set);
   none_between = λ i j id e below up own.
       between_more hash places latest buckets older place bucket linked i j id e below
       (omega (arith, length-append places (place ∷ []))) own;

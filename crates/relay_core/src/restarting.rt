@@ -7,6 +7,7 @@ use crate::desks::{Desks, read_history};
 use crate::event::{CoreError, Output};
 use crate::idle::is_idle;
 use crate::peers::Peers;
+use crate::stopping::next_stop;
 use crate::system::System;
 use block_shelf::RestartFault;
 use cyc_block::BlockStore;
@@ -31,7 +32,7 @@ impl<S: BlockStore> System<S> {
             return Output::Refused(CoreError::NotIdle);
         }
         // All memory but that of the buffers is taken before a device is called.
-        let stop = self.next_stop();
+        let stop = next_stop(self.stop);
         let desks = match self.reread(stop) {
             Ok(desks) => desks,
             Err(HistoryError::Memory) => return Output::Refused(CoreError::Memory),

@@ -1,4 +1,7 @@
 //! One event, and a list of events.
+ghost use Rattle.std.specs.Prelude.{◌≡◌};
+ghost use Rattle.relay_model.specs.Run as run;
+
 use crate::event::{CoreError, Event, Output};
 use crate::system::System;
 use cyc_block::BlockStore;
@@ -58,7 +61,7 @@ impl<S: BlockStore> System<S> {
         ensures refused { RefusesRightly (run.Open number peer) self.old result self.new }
         ensures frame { KeepsFrame self.old self.new }
     {
-        if self.is_taken(number) {
+        if is_taken(self.newest, number) {
             return Output::Refused(CoreError::SessionTaken);
         }
         if peer >= self.config.relay.peers.len() {
@@ -78,16 +81,6 @@ impl<S: BlockStore> System<S> {
                 Output::Sent(number, Octets::new(greeting))
             }
             Err(_) => Output::Refused(CoreError::Memory),
-        }
-    }
-
-    /// Whether the number isn't above that of every earlier session.
-    fn is_taken(&self, number: u64) -> bool
-        ensures { result ≡ run.is_taken self.now.newest number }
-    {
-        match self.newest {
-            Some(newest) => number <= newest,
-            None => false,
         }
     }
 
@@ -130,5 +123,15 @@ impl<S: BlockStore> System<S> {
             }
             None => Output::Refused(CoreError::NoSession),
         }
+    }
+}
+
+/// Whether the number isn't above that of every earlier session, of which this is the newest.
+fn is_taken(newest: Option<u64>, number: u64) -> bool
+    ensures { result ≡ run.is_taken newest number }
+{
+    match newest {
+        Some(newest) => number <= newest,
+        None => false,
     }
 }

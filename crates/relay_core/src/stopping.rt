@@ -16,7 +16,7 @@ const GROUP_LIMIT: usize = 256;
 impl<S: BlockStore> System<S> {
     ghost use Rattle.std.specs.Prelude.{◌≡◌, IfErr, IfOk};
     ghost use Rattle.relay_core.specs.Stopping.{AreKeptFeeds, ComesBack, HaveRoom, IsFromBufferSet};
-    ghost use Rattle.relay_core.specs.Stopping.{Shuts, TellsHistory, next_stop, stop_of};
+    ghost use Rattle.relay_core.specs.Stopping.{Shuts, TellsHistory};
     ghost use Rattle.block_shelf.specs.Stopping.{HoldsKept};
 
     /// Closes the relay: gives the stores of its buffers, and the text of its history. Where a
@@ -32,7 +32,7 @@ impl<S: BlockStore> System<S> {
         }
         // The text has its memory before a device is called: a head that says closed without it
         // could not be started again.
-        let stop = self.next_stop();
+        let stop = next_stop(self.stop);
         let history = match self.text(stop) {
             Ok(history) => history,
             Err(_) => return Err(Unstopped::Memory(self)),
@@ -62,13 +62,6 @@ impl<S: BlockStore> System<S> {
             Err(Unshut::Busy(buffer_set)) => Err(Unstopped::NotIdle(unbuffered.with(buffer_set))),
             Err(Unshut::Memory(buffer_set)) => Err(Unstopped::Memory(unbuffered.with(buffer_set))),
         }
-    }
-
-    /// The number of its next stop.
-    pub(crate) fn next_stop(&self) -> u64
-        ensures { result ≡ next_stop (stop_of self.now) }
-    {
-        next_stop(self.stop)
     }
 
     /// The text of its history at this stop.

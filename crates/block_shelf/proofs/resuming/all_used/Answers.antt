@@ -1,4 +1,4 @@
-use Rattle.std.proofs.Common.{◌∙◌, ◌+◌, ap, arith, length, map, take}
+use Rattle.std.proofs.Common.{arith, map, take}
 use Rattle.std.proofs.lemmas.List.{map_push, take_all, take_more}
 use Rattle.cyc_buffer.specs.Head.{inside}
 use Rattle.block_shelf.proofs.EachLemmas.{none_each, one_more_each}
@@ -20,7 +20,7 @@ loop-unopened-preserved g c =
     let all = c.args.buffers.now in
     let k = c.loop-unopened.unopened-index in
     record {
-      count = c.push_reserved.ensures.len ∙ ap (λ n. n + 1) c.loop-unopened.invariant.count;
+      count = omega (arith, c.push_reserved.ensures.len, c.loop-unopened.invariant.count);
       room = omega (arith, c.push_reserved.ensures.capacity, c.loop-unopened.invariant.room);
       are = rw (
         c.push_reserved.ensures.items,

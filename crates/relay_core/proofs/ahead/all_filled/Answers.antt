@@ -14,10 +14,18 @@ loop-number-preserved g c =
     elim c.match-figures.branch [
       | in-Some w ↦
           record {
-            count = omega (arith, ap vec_len w.filled-is, w.push_reserved.ensures.len,
-                c.loop-number.invariant.count);
-            room = omega (arith, ap vec_capacity w.filled-is, w.push_reserved.ensures.capacity,
-                c.loop-number.invariant.room);
+            count = omega (
+              arith,
+              ap vec_len w.filled-is,
+              w.push_reserved.ensures.len,
+              c.loop-number.invariant.count,
+            );
+            room = omega (
+              arith,
+              ap vec_capacity w.filled-is,
+              w.push_reserved.ensures.capacity,
+              c.loop-number.invariant.room,
+            );
             said = λ x σ failures same held.
                 filled_joins c.args.settings.now x σ same n conf w.in-Some.figures within
                 (rw items at c.buffer-item.is) (w.in-Some.ensures x σ failures held)

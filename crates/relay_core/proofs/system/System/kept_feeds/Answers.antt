@@ -29,10 +29,18 @@ loop-number-preserved g c =
     elim c.match-branch-3.branch [
       | in-Some w ↦
           record {
-            count = omega (arith, ap vec_len w.kept-is, w.push_reserved.ensures.len,
-                c.loop-number.invariant.count);
-            room = omega (arith, ap vec_capacity w.kept-is, w.push_reserved.ensures.capacity,
-                c.loop-number.invariant.room);
+            count = omega (
+              arith,
+              ap vec_len w.kept-is,
+              w.push_reserved.ensures.len,
+              c.loop-number.invariant.count,
+            );
+            room = omega (
+              arith,
+              ap vec_capacity w.kept-is,
+              w.push_reserved.ensures.capacity,
+              c.loop-number.invariant.room,
+            );
             waits = waits_join c.loop-number.kept.items c.match-branch-3.kept.items w.in-Some.one
                 (cc (w.push_reserved.ensures.items, w.kept-is)) c.loop-number.invariant.waits
                 (some_of _ _ w.in-Some.one w.in-Some.is c.in_ok-one.ensures.fits);

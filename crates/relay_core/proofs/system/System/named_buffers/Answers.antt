@@ -13,10 +13,18 @@ loop-number-preserved g c =
     elim c.match-figures.branch [
       | in-Some+in_ok-name w ↦
           record {
-            count = omega (arith, ap vec_len w.named-is, w.push_reserved.ensures.len,
-                c.loop-number.invariant.count);
-            room = omega (arith, ap vec_capacity w.named-is, w.push_reserved.ensures.capacity,
-                c.loop-number.invariant.room);
+            count = omega (
+              arith,
+              ap vec_len w.named-is,
+              w.push_reserved.ensures.len,
+              c.loop-number.invariant.count,
+            );
+            room = omega (
+              arith,
+              ap vec_capacity w.named-is,
+              w.push_reserved.ensures.capacity,
+              c.loop-number.invariant.room,
+            );
             said = λ trusted x agrees. buffer_joins trusted c.args.self.now x agrees
                 c.loop-number.number c.buffer-item.result w.in-Some.figures within
                 (rw items at c.buffer-item.is) w.in-Some.ensures w.in_ok-name.name

@@ -23,10 +23,18 @@ loop-number-preserved g c =
     elim c.match-counts.branch [
       | in-Some+in_ok-peer w ↦
           record {
-            count = omega (arith, ap vec_len w.named-is, w.push_reserved.ensures.len,
-                c.loop-number.invariant.count);
-            room = omega (arith, ap vec_capacity w.named-is, w.push_reserved.ensures.capacity,
-                c.loop-number.invariant.room);
+            count = omega (
+              arith,
+              ap vec_len w.named-is,
+              w.push_reserved.ensures.len,
+              c.loop-number.invariant.count,
+            );
+            room = omega (
+              arith,
+              ap vec_capacity w.named-is,
+              w.push_reserved.ensures.capacity,
+              c.loop-number.invariant.room,
+            );
             said = λ trusted x agrees. feed_joins trusted c.args.self.now x agrees
                 c.loop-number.number c.feed-item.result w.feed_figures.result within
                 (rw items at c.feed-item.is)
