@@ -78,7 +78,7 @@ fn new_buffers<S: BlockStore + Drop>(
     for store in stores {
         let number = buffers.len() as u8;
         let buffer = new_buffer(alloc, store, number)?;
-        buffers.push(buffer)?;
+        buffers.push_reserved(buffer);
     }
     Ok(buffers)
 }
@@ -119,7 +119,7 @@ pub fn new_placed_groups(alloc: Global, settings: &Buffers) -> Result<Vec<Placed
 {
     let mut placed_groups = Vec::with_capacity(alloc, settings.groups.len())?;
     for group in &settings.groups {
-        placed_groups.push(PlacedGroup::new(alloc, &settings.buffers, group)?)?;
+        placed_groups.push_reserved(PlacedGroup::new(alloc, &settings.buffers, group)?);
     }
     Ok(placed_groups)
 }
@@ -162,8 +162,8 @@ pub(crate) fn members_of(
         let Some(buffer) = all.get(*number) else {
             continue;
         };
-        numbers.push(*number)?;
-        blocks.push(buffer.blocks)?;
+        numbers.push_reserved(*number);
+        blocks.push_reserved(buffer.blocks);
     }
     Ok(Members { numbers, blocks })
 }

@@ -15,11 +15,23 @@ loop-store-preserved g c =
     ) in
     record {
       all = rw (append_assoc, ← c.in-Some.ensures.steps.0) c.loop-store.invariant.all;
-      over = rw c.in_ok-push.ensures.items
+      over = rw c.push_reserved.ensures.items
           (one_more_over c.loop-store.yielded c.loop-store.buffers.items c.in-Some.store
           c.in_ok-buffer.buffer c.loop-store.invariant.over
           (rw number at c.in_ok-buffer.ensures.is_new));
+      room = omega (arith, c.push_reserved.ensures.capacity, c.loop-store.invariant.room);
     }
+
+pub push_reserved-requires : goal.push_reserved-requires
+push_reserved-requires g c = omega (
+  arith,
+  c.loop-store.buffers.ok,
+  c.loop-store.invariant.over.count,
+  c.loop-store.invariant.room,
+  count_through c.loop-store.yielded c.loop-store.store-iterator.rest.items c.args.stores.items
+      c.in-Some.store c.next.new.self.rest.items c.loop-store.invariant.all
+      c.in-Some.ensures.steps.0,
+)
 
 pub overflow_cast-number : goal.overflow_cast-number
 overflow_cast-number g c = omega (
@@ -44,6 +56,7 @@ loop-store-init g c = record {
   all = c.into_iter-store-iterator.ensures.into_iter_gives.0;
   over = rw c.in_ok-buffers.ensures.items
       (record { count = refl; each = λ b store is. absurd (none-some store is) });
+  room = omega (arith, c.args.stores.ok, c.len.ensures, c.in_ok-buffers.ensures.capacity);
 }
 
 pub returns-in_err-buffer-clause-refusal : goal.returns-in_err-buffer-clause-refusal
