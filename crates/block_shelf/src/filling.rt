@@ -14,7 +14,7 @@ use buffer_group::Group;
 use cyc_block::BlockStore;
 use cyc_buffer::{Buffer, FormatError, Unformatted};
 use relay_conf::{BufferConf, Buffers, GroupConf};
-use std::alloc::{AllocError, AllocFailed, Global};
+use std::alloc::{AllocError, Global};
 
 /// Why a buffer set isn't made, in the order of trial at each buffer.
 #[derive(Drop)]
@@ -29,14 +29,6 @@ impl<S: BlockStore> From<AllocError> for BufferSetError<S> {
     ghost from_gives = { λ _ made. made ≡ errors.Memory };
 
     fn from(_error: AllocError) -> BufferSetError<S> {
-        BufferSetError::Memory
-    }
-}
-
-impl<S: BlockStore, T: Drop> From<AllocFailed<T>> for BufferSetError<S> {
-    ghost from_gives = { λ _ made. made ≡ errors.Memory };
-
-    fn from(_error: AllocFailed<T>) -> BufferSetError<S> {
         BufferSetError::Memory
     }
 }
