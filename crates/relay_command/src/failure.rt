@@ -1,8 +1,9 @@
 //! Why the program ends with a status other than 0 (docs/PROTOCOL.md, Statuses), and how it ends.
-ghost use Rattle.std.specs.Prelude.{◌≡◌, Some, OnOk};
+ghost use Rattle.std.specs.Prelude.{◌≡◌, Some, IfSome, OnOk};
+ghost use Rattle.std.specs.Io.KnownBytes.{Appends};
 ghost use Rattle.std.specs.Process.{exit_status};
 ghost use Rattle.clap.specs.Words.{kind_of};
-ghost use Rattle.relay_command.specs.Failure.{ends_with, status_of, Tells, unbegun_text};
+ghost use Rattle.relay_command.specs.Failure.{ended, ends_with, status_of, Tells, unbegun_text};
 ghost use Rattle.relay_command.specs.Failure.{TellsWords, check_status, words_status};
 
 use crate::ask::AskError;
@@ -137,16 +138,24 @@ pub fn print_failure<W: Write>(ran: &Result<(), Failure>, writer: &mut W) -> io:
 {
     match ran {
         Ok(()) => Ok(()),
-        Err(Failure::Unbegun(unbegun)) => writeln!(writer, "{unbegun}"),
+        Err(Failure::Unbegun(unbegun)) => print_line(writer, unbegun),
         Err(Failure::Words(error)) => print_words(error, writer),
-        Err(Failure::Check(error)) => writeln!(writer, "{error}"),
-        Err(Failure::Explain(unexplained)) => writeln!(writer, "{unexplained}"),
-        Err(Failure::Drill(error)) => writeln!(writer, "{error}"),
-        Err(Failure::Token(fault)) => writeln!(writer, "{fault}"),
-        Err(Failure::Serve(error)) => writeln!(writer, "{error}"),
-        Err(Failure::Ask(error)) => writeln!(writer, "{error}"),
+        Err(Failure::Check(error)) => print_line(writer, error),
+        Err(Failure::Explain(unexplained)) => print_line(writer, unexplained),
+        Err(Failure::Drill(error)) => print_line(writer, error),
+        Err(Failure::Token(fault)) => print_line(writer, fault),
+        Err(Failure::Serve(error)) => print_line(writer, error),
+        Err(Failure::Ask(error)) => print_line(writer, error),
         Err(Failure::Unwritten) => writer.write_all(b"stdout: unwritten\n"),
     }
+}
+
+/// Writes the text of a failure, and the end of its line.
+fn print_line<W: Write, T: Display>(writer: &mut W, told: &T) -> io::Result<()>
+    ensures { OnOk result (IfSome (T.output told.now) (λ text.
+        Appends (W.contents writer.old) (W.contents writer.new) (ended text))) }
+{
+    writeln!(writer, "{told}")
 }
 
 /// Writes what is told where the words ask for nothing that is done: the version where they ask for
