@@ -8,11 +8,13 @@ use Rattle.std.proofs.lemmas.Option.{none-some, same_Some, slice_get_within}
 use Rattle.cyc_block.specs.declared.store.BlockStore.{Ghosts}
 use Rattle.cyc_buffer.specs.Agreement.{store_of, Agrees, Follows}
 use Rattle.cyc_buffer.specs.Head.{IsStopRefusal, LeavesBuffer, is_busy}
-use Rattle.cyc_buffer.specs.History.{History}
+use Rattle.cyc_buffer.specs.BufferState.{Writes}
+use Rattle.cyc_buffer.specs.History.{History, Writing}
 use Rattle.cyc_buffer.specs.declared.answers.BufError.{BufError}
 use Rattle.cyc_buffer.specs.declared.answers.BufError.TheVariants as stops
 use Rattle.cyc_buffer.specs.declared.answers.StartError.TheVariants as starts
 use Rattle.cyc_buffer.specs.declared.buffer.Buffer.{Buffer}
+use Rattle.cyc_buffer.specs.declared.buffer_state.Progress.{Progress}
 use Rattle.cyc_buffer.specs.Restart.{IsFromWithout, IsRestartRefusal}
 use Rattle.cyc_buffer.specs.declared.restarting.RestartError.{RestartError}
 use Rattle.cyc_buffer.specs.declared.restarting.RestartError.TheVariants as errors
@@ -44,11 +46,19 @@ nothing_written : {h : History} → HasWriting (λ k. None) h → h.writing ≡ 
 nothing_written (IsFree none away) = none
 nothing_written (IsBusy k one is named this) = absurd (none-some one is)
 
+-- then its register has no progress
+no_progress : (h : History) (progress : Option Progress) (writing : Option Writing)
+    → Writes h progress writing → writing ≡ None → is_some progress ≡ false
+no_progress h None writing writes none = refl
+no_progress h (Some p) None writes none = absurd writes
+no_progress h (Some p) (Some w) writes none = absurd (none-some w (sym none))
+
 -- so its buffer has none
 pub idle_at : {S : Type 0} {g : Ghosts S} {trusted : Bool} {w : Terms} {begun : ℕ → List ℕ}
     {kept : List Kept} {failures : ℕ → ℕ} {b : ℕ} {code : Buffer S g}
     → KeptAt trusted w begun kept (λ h. None) failures b code → is_busy code ≡ false
-idle_at at = grind (arith, at.agrees.keeps.writing, nothing_written at.said.writing)
+idle_at at =
+    no_progress at.now _ at.now.writing at.agrees.keeps.writing (nothing_written at.said.writing)
 
 -- a busy buffer makes the buffer set busy
 pub busy_buffer_set : {S : Type 0} {g : Ghosts S} (buffer_set : BufferSet S g) (b : ℕ)
