@@ -79,7 +79,8 @@ pub idle_more : {S : Type 0} {g : Ghosts S} (buffer_set : BufferSet S g) (place 
     → is_busy code ≡ false → AreIdleTo buffer_set place → AreIdleTo buffer_set (place + 1)
 idle_more buffer_set place {code} is idle before b one less there = elim (cases_eq b place) [
   | inl same ↦
-      ap is_busy (same_Some one code (sym there ∙ ap (slice_get buffer_set.buffers.items) same ∙ is))
+      ap is_busy
+      (same_Some one code (sym there ∙ ap (slice_get buffer_set.buffers.items) same ∙ is))
       ∙ idle
   | inr apart ↦ before b one (omega (arith, less, apart)) there
 ]

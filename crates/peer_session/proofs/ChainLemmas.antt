@@ -80,7 +80,8 @@ linked_more hash places latest buckets older place bucket within same linked = r
   bucket_each = grind (arith, pushed_or_set);
   older_each = grind (arith, pushed_or_set);
   latest_within = λ b. grind (arith, pushed_or_set, linked.latest_within);
-  older_below = λ i. grind (arith, pushed_or_set, linked.older_below i, linked.latest_within bucket);
+  older_below = λ i.
+      grind (arith, pushed_or_set, linked.older_below i, linked.latest_within bucket);
   latest_same = λ b n e.
       grind (arith, pushed_or_set, linked.latest_same b n, linked.latest_within b);
   older_same = λ i n e. grind (arith, pushed_or_set);

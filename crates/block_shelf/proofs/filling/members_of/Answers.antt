@@ -1,5 +1,6 @@
 use Rattle.std.proofs.Common.{ap, arith, length, refl, sym}
 use Rattle.std.proofs.lemmas.Bool.{ltb-true, ltb-false}
+use Rattle.std.proofs.lemmas.List.{take_all}
 use Rattle.std.proofs.lemmas.Option.{slice_get_read}
 use Rattle.block_shelf.proofs.NewBufferSet.{none_more, one_more}
 use Rattle.block_shelf.proofs.filling.members_of.Goals as goal
@@ -22,6 +23,27 @@ push_reserved-requires-in-loop-number c = omega (
   c.loop-number.invariant.blocks,
   c.loop-number.invariant.blocks_room,
 )
+
+-- no number yet
+pub loop-number-init : goal.loop-number-init
+loop-number-init c = record {
+  named = rw (c.in_ok-numbers.ensures.items, c.in_ok-blocks.ensures.items)
+      (record { numbers = refl; blocks = refl });
+  numbers = omega (arith, c.in_ok-numbers.ensures.len);
+  blocks = omega (arith, c.in_ok-blocks.ensures.len);
+  numbers_room = omega (
+    arith,
+    c.args.group.now.buffers.ok,
+    c.len.ensures,
+    c.in_ok-numbers.ensures.capacity,
+  );
+  blocks_room = omega (
+    arith,
+    c.args.group.now.buffers.ok,
+    c.len-2.ensures,
+    c.in_ok-blocks.ensures.capacity,
+  );
+}
 
 -- a number without a buffer is passed
 pub loop-number-preserved-in_default : goal.loop-number-preserved-in_default
@@ -57,3 +79,10 @@ loop-number-preserved c =
       numbers_room = omega (arith, had.numbers_room, c.push_reserved.ensures.capacity);
       blocks_room = omega (arith, had.blocks_room, c.push_reserved-in-loop-number.ensures.capacity);
     }
+
+-- that was the last
+pub returns : goal.returns
+returns c =
+    rw (take_all c.loop-number.number-index c.args.group.now.buffers.items
+    (omega (arith, c.loop-number-test.false, ap length c.deref-number-items.ensures.value)))
+    at c.loop-number.invariant.named

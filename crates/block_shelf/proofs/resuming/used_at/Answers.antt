@@ -13,4 +13,5 @@ returns-in-Some c =
 pub returns-in-None : goal.returns-in-None
 returns-in-None c =
     sym (ap (λ one. unwrap_or one 0)
-    (slice_get_past c.args.used.now c.args.number (ltb-false _ _ (sym c.in-None.ensures.lookup.0))))
+    (slice_get_past c.args.used.now c.args.number
+    (ltb-false _ _ (sym c.in-None.ensures.lookup.0))))

@@ -1,4 +1,23 @@
+use Rattle.std.proofs.Common.{◌∙◌, ◌++◌, ap, arith, length, map}
+use Rattle.cyc_buffer.specs.Agreement.{store_of}
+use Rattle.cyc_buffer.specs.Head.{inside}
 use Rattle.block_shelf.proofs.starting.shelve.Goals as goal
 
 pub returns-clause-placed_groups : goal.returns-clause-placed_groups
 returns-clause-placed_groups g c = rw c.deref.ensures.value at c.in-Ok.ensures
+
+-- there is room for the stores
+pub give_back-requires : goal.give_back-requires
+give_back-requires g c = omega (
+  arith,
+  ap length c.requires.none_back,
+  c.args.room.ok,
+  c.requires.stores_room,
+)
+
+-- and none before them
+pub returns-in_default-clause-stores : goal.returns-in_default-clause-stores
+returns-in_default-clause-stores g c =
+    c.give_back.ensures.items
+    ∙ ap (λ before. before ++ map (λ one. store_of (inside one)) c.args.buffers.items)
+    c.requires.none_back

@@ -1,4 +1,4 @@
-use Rattle.std.proofs.Common.{◌∙◌, ap, length, nat_lt, option_map, sym}
+use Rattle.std.proofs.Common.{◌∙◌, ap, nat_lt, option_map, sym}
 use Rattle.std.proofs.lemmas.List.{length-map}
 use Rattle.std.proofs.lemmas.Option.{slice_get-map}
 use Rattle.block_shelf.proofs.Reported.{figures_are}
