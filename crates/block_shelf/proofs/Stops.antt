@@ -179,6 +179,16 @@ pub not_busy : {S : Type 0} {g : Ghosts S} (old new : BufferSet S g) (fault : Re
 not_busy old new faults.Busy other idle = absurd other
 not_busy old new fault other idle = idle
 
+-- what is done has no fault
+no_fault : (result : Result (Unit {0}) RestartFault) (fault : RestartFault) → result ≡ Ok tt
+    → result ≡ Err fault → ⊥
+no_fault result fault done failed = cc
+
+-- and what isn't has one
+same_fault : (result : Result (Unit {0}) RestartFault) (one other : RestartFault)
+    → result ≡ Err one → result ≡ Err other → one ≡ other
+same_fault result one other is also = cc
+
 -- a buffer set to which nothing was done
 pub stays_same : {S : Type 0} {g : Ghosts S} (old : BufferSet S g) → KeepsOn old (Ok tt) old
 stays_same old trusted w begun kept failures keeps = record {
@@ -186,8 +196,8 @@ stays_same old trusted w begun kept failures keeps = record {
   rises = λ k. omega arith;
   keeps = keeps;
   unfailed = λ done n. refl;
-  free = λ e. cc;
-  failed = λ number e yes. cc;
+  free = no_fault (Ok tt) faults.Busy refl;
+  failed = λ number e yes. absurd (no_fault (Ok tt) (faults.Failed number) refl e);
 }
 
 -- one that was restarted as far as a buffer, and goes on
@@ -287,8 +297,8 @@ module _ {S : Type 0} {g : Ghosts S} (old : BufferSet S g) (place : ℕ) {code c
       unfailed = λ done n.
           put_at_both (λ y. y ≡ failures n) failures place (g.failures (store_of code')) n
           (λ here. none ∙ sym (at keeps).failed ∙ ap failures (sym here)) (λ apart. refl);
-      free = λ e. cc;
-      failed = λ number e yes. cc;
+      free = no_fault (Ok tt) faults.Busy refl;
+      failed = λ number e yes. absurd (no_fault (Ok tt) (faults.Failed number) refl e);
     }
 
     -- and where it isn't
@@ -310,10 +320,12 @@ module _ {S : Type 0} {g : Ghosts S} (old : BufferSet S g) (place : ℕ) {code c
           later = put_at failures place (g.failures (store_of code'));
           rises = rises failures one.failed (grown code code' error refusal);
           keeps = stays keeps;
-          unfailed = λ done n. cc;
-          free = λ e. never_busy error place (cc);
+          unfailed = λ done n. absurd (no_fault (Err fault) fault done refl);
+          free = λ e.
+              never_busy error place (sym is ∙ same_fault (Err fault) fault faults.Busy refl e);
           failed = λ number e yes.
-              let told : restart_fault error place ≡ faults.Failed number = cc (is, e) in
+              let told : restart_fault error place ≡ faults.Failed number =
+              sym is ∙ same_fault (Err fault) fault (faults.Failed number) refl e in
               let found = fails code code' error place number refusal
               (cause one.now (subst (λ b. Agrees b code one.now) yes one.agrees)) (idle_at one)
               told in
