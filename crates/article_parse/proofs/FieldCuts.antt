@@ -216,7 +216,8 @@ pub one_more_field : (s rest : List ℕ) (fields : List Field) (field : Field) (
     → AreFieldsTo s (fields ++ field ∷ []) (at + octets)
 one_more_field s rest fields field at octets e h one =
     let front = flat_map field_text fields in
-    let left : drop octets rest ≡ drop (at + octets) s = ap (drop octets) e ∙ drop-drop octets at s in
+    let left : drop octets rest ≡ drop (at + octets) s =
+    ap (drop octets) e ∙ drop-drop octets at s in
     let text : flat_map field_text (fields ++ field ∷ []) ≡ front ++ field_text field =
     flat_map-append field_text fields (field ∷ [])
     ∙ ap (λ x. front ++ x) (append-nil (field_text field)) in

@@ -1,5 +1,6 @@
 -- What is wanted at a place goes on there.
-use Rattle.std.proofs.Common.{◌<◌, ◌≤◌, ◌+◌, ◌++◌, ℕ, List, [], ◌∷◌, length, drop, get_or, map, false}
+use Rattle.std.proofs.Common.{◌<◌, ◌≤◌, ◌+◌, ◌++◌, ℕ, List, [], ◌∷◌, length, drop, get_or, map}
+use Rattle.std.proofs.Common.{false}
 use Rattle.std.proofs.Common.{◌≡◌, refl, sym, ap, subst, ◌∙◌, append-nil, Option}
 use Rattle.std.proofs.Common.{Some, le_refl}
 use Rattle.std.proofs.lemmas.List.{drop_all, drop_more, map-append}
@@ -76,7 +77,8 @@ waits_at wants old new at limit within same sound h =
     let w = get_or wants at want.Line in
     let later = λ (rest : List ℕ). cuts_of limit (drop (at + 1) wants) rest in (
       subst (λ (ws : List Want). GoesOn ws new) (sym (drop_more wants at want.Line within))
-          (ap (λ (s : Stream). s.overlong) h.left ∙ (goes_on_at wants old at within sound).0, h.kept),
+          (ap (λ (s : Stream). s.overlong) h.left ∙ (goes_on_at wants old at within sound).0,
+          h.kept),
       first_cuts wants limit at new.unread within
           ∙ ap (λ (s : Stream). want_and_later limit w later s.unread) h.left
           ∙ ap (λ (n : ℕ). want_and_later n w later old.unread) (sym same)
