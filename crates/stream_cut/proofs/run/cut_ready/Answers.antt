@@ -76,9 +76,10 @@ waits_at : (wants : List Want) (old new : Stream) (at limit : ℕ) → at < leng
 waits_at wants old new at limit within same sound h =
     let w = get_or wants at want.Line in
     let later = λ (rest : List ℕ). cuts_of limit (drop (at + 1) wants) rest in (
-      subst (λ (ws : List Want). GoesOn ws new) (sym (drop_more wants at want.Line within))
-          (ap (λ (s : Stream). s.overlong) h.left ∙ (goes_on_at wants old at within sound).0,
-          h.kept),
+      subst (λ (ws : List Want). GoesOn ws new) (sym (drop_more wants at want.Line within)) (
+        ap (λ (s : Stream). s.overlong) h.left ∙ (goes_on_at wants old at within sound).0,
+        h.kept,
+      ),
       first_cuts wants limit at new.unread within
           ∙ ap (λ (s : Stream). want_and_later limit w later s.unread) h.left
           ∙ ap (λ (n : ℕ). want_and_later n w later old.unread) (sym same)
