@@ -7,7 +7,7 @@ use crate::machine::Machine;
 use crate::manner::{Manner, add_cut, counted, joined};
 use crate::server::{ending_of, serve};
 use crate::streams::{Input, Output};
-use crate::words::{Words, behind};
+use crate::words::Words;
 use line_words::cut;
 use relay_command::{Failure, gathering, print_failure, program_words, run};
 use std::alloc::{AllocError, Global};
@@ -60,24 +60,27 @@ impl<'a> Row<'a> {
     pub fn add(&mut self, line: &'a [u8]) -> Result<(), AllocError> {
         if self.begun {
             self.script.push(b'\n')?;
-        } else if let Some(word) = behind(line, b"$ ") {
-            self.words.push(word)?;
-            return Ok(());
-        } else if let Some(input) = behind(line, b"< ") {
-            self.input = input;
-            return Ok(());
-        } else if let Some(output) = behind(line, b"> ") {
-            self.output = output;
-            return Ok(());
-        } else if let Some(machine) = behind(line, b"! ") {
-            self.machine = machine;
-            return Ok(());
-        } else if let Some(server) = behind(line, b"@ ") {
-            self.server = server;
+        } else if self.is_set(line)? {
             return Ok(());
         }
         self.begun = true;
         self.script.extend_from_slice(line)
+    }
+
+    /// Takes a line that has a mark before a space, or answers `false` for another.
+    fn is_set(&mut self, line: &'a [u8]) -> Result<bool, AllocError> {
+        let [mark, b' ', rest @ ..] = line else {
+            return Ok(false);
+        };
+        match *mark {
+            b'$' => self.words.push(rest)?,
+            b'<' => self.input = rest,
+            b'>' => self.output = rest,
+            b'!' => self.machine = rest,
+            b'@' => self.server = rest,
+            _ => return Ok(false),
+        }
+        Ok(true)
     }
 
     /// What is printed of the row.
@@ -134,18 +137,26 @@ impl<'a> Row<'a> {
 
     /// What the row gives with this script: what the program wrote, and its failure.
     fn play_script(&self, rt: &HostRuntime, script: &[u8]) -> io::Result<Vec<u8>> {
-        let alloc = rt.alloc();
-        let mut output = match gathering(alloc, Output::new(alloc, self.output)) {
-            Ok(output) => output,
+        match gathering(rt.alloc(), Output::new(rt.alloc(), self.output)) {
+            Ok(output) => self.play_gathering(rt, script, output),
             Err(failure) => {
                 drop(failure);
-                return Err(io::Error::from(ErrorKind::OutOfMemory));
+                Err(io::Error::from(ErrorKind::OutOfMemory))
             }
-        };
+        }
+    }
+
+    /// What the row gives with this script, where the program writes here.
+    fn play_gathering(
+        &self,
+        rt: &HostRuntime,
+        script: &[u8],
+        mut output: BufWriter<Output>,
+    ) -> io::Result<Vec<u8>> {
         let ran = self.run_with(rt, script, &mut output);
         let (device, _unwritten) = output.into_parts();
         let mut played = device.written;
-        let told = tell(alloc, &ran, &mut played);
+        let told = tell(rt.alloc(), &ran, &mut played);
         drop(ran);
         match told {
             Ok(()) => Ok(played),
@@ -160,18 +171,18 @@ impl<'a> Row<'a> {
         script: &[u8],
         output: &mut BufWriter<Output>,
     ) -> Result<(), Failure> {
-        let words = program_words(&(Words(&self.words), rt.alloc()))?;
-        let mut input = Input::new(script, self.input);
-        match failing_call(self.machine) {
-            Some(failing) => {
-                let machine = Machine::new(rt, self.machine);
-                drill_k1(&machine, rt.alloc(), failing, &mut input, output)
+        match program_words(&(Words(&self.words), rt.alloc())) {
+            Ok(words) => {
+                let mut input = Input::new(script, self.input);
+                let ran = self.run_words(rt, &words, &mut input, output);
+                drop(words);
+                ran
             }
-            None => self.run_words(rt, &words, &mut input, output),
+            Err(failure) => Err(failure),
         }
     }
 
-    /// Does what these words ask for.
+    /// Does what these words ask for, over devices that fail where the row's machine says so.
     fn run_words(
         &self,
         rt: &HostRuntime,
@@ -180,11 +191,25 @@ impl<'a> Row<'a> {
         output: &mut BufWriter<Output>,
     ) -> Result<(), Failure> {
         let machine = Machine::new(rt, self.machine);
-        let alloc = rt.alloc();
+        match failing_call(self.machine) {
+            Some(failing) => drill_k1(&machine, rt.alloc(), failing, input, output),
+            None => self.run_on(&machine, rt.alloc(), words, input, output),
+        }
+    }
+
+    /// Does what these words ask for on a machine.
+    fn run_on(
+        &self,
+        machine: &Machine<'_>,
+        alloc: Global,
+        words: &[String],
+        input: &mut Input<'_>,
+        output: &mut BufWriter<Output>,
+    ) -> Result<(), Failure> {
         let manner = self.server;
         let ending = ending_of(manner);
         run(
-            &machine,
+            machine,
             alloc,
             words,
             input,

@@ -149,26 +149,22 @@ fn end<W: Write>(
     if matches!(ending, Ending::Unwritten) {
         return Err(ServeError::Unwritten);
     }
-    match failure_of(alloc, config, ending)? {
+    match failure_of(alloc, config, ending) {
         Some(error) => Err(error),
         None => print_totals(alloc, totals, writer),
     }
 }
 
 /// The failure of this ending, where it is one that writes nothing.
-fn failure_of(
-    alloc: Global,
-    config: &Config,
-    ending: Ending,
-) -> Result<Option<ServeError>, AllocError>
-    ensures { IfOk result (λ said. IfSome said (λ error. (held : Option (List ℕ))
-        → ServeGives config.now (Err error) held held)) }
+fn failure_of(alloc: Global, config: &Config, ending: Ending) -> Option<ServeError>
+    ensures { IfSome result (λ error. (held : Option (List ℕ))
+        → ServeGives config.now (Err error) held held) }
 {
     match ending {
         Ending::File => file_of(alloc, config),
-        Ending::Port => Ok(port_of(config)),
+        Ending::Port => port_of(config),
         Ending::Buffer(fault) => buffer_of(alloc, config, fault),
-        other => Ok(plain_failure(other)),
+        other => plain_failure(other),
     }
 }
 
@@ -191,35 +187,29 @@ fn plain_failure(ending: Ending) -> Option<ServeError>
 }
 
 /// That the first buffer's file can't be had.
-fn file_of(alloc: Global, config: &Config) -> Result<Option<ServeError>, AllocError>
-    ensures { IfOk result (λ said. IfSome said (λ error. (held : Option (List ℕ))
-        → ServeGives config.now (Err error) held held)) }
+fn file_of(alloc: Global, config: &Config) -> Option<ServeError>
+    ensures { IfSome result (λ error. (held : Option (List ℕ))
+        → ServeGives config.now (Err error) held held) }
 {
-    match config.buffers.buffers.first() {
-        Some(buffer) => {
-            let name = String::from_utf8_lossy(alloc, buffer.file.as_slice())?;
-            let reason = Reason::NoFolder;
-            Ok(Some(ServeError::File(LostFile { name, reason })))
-        }
-        None => Ok(None),
+    let buffer = config.buffers.buffers.first()?;
+    match String::from_utf8_lossy(alloc, buffer.file.as_slice()) {
+        Ok(name) => Some(ServeError::File(LostFile {
+            name,
+            reason: Reason::NoFolder,
+        })),
+        Err(_) => Some(ServeError::Memory),
     }
 }
 
 /// That the relay can't start from the first buffer.
-fn buffer_of(
-    alloc: Global,
-    config: &Config,
-    fault: BufferFault,
-) -> Result<Option<ServeError>, AllocError>
-    ensures { IfOk result (λ said. IfSome said (λ error. (held : Option (List ℕ))
-        → ServeGives config.now (Err error) held held)) }
+fn buffer_of(alloc: Global, config: &Config, fault: BufferFault) -> Option<ServeError>
+    ensures { IfSome result (λ error. (held : Option (List ℕ))
+        → ServeGives config.now (Err error) held held) }
 {
-    match config.buffers.buffers.first() {
-        Some(buffer) => {
-            let name = String::from_utf8_lossy(alloc, buffer.name.as_slice())?;
-            Ok(Some(ServeError::Start(StartFault::Buffer(name, fault))))
-        }
-        None => Ok(None),
+    let buffer = config.buffers.buffers.first()?;
+    match String::from_utf8_lossy(alloc, buffer.name.as_slice()) {
+        Ok(name) => Some(ServeError::Start(StartFault::Buffer(name, fault))),
+        Err(_) => Some(ServeError::Memory),
     }
 }
 
