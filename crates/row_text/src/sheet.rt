@@ -33,9 +33,10 @@ impl Sheet {
         }
     }
 
-    /// Writes octets as they are.
+    /// Writes octets as they are; nothing more once memory ran out, so that what is written is a
+    /// front of what was to be written.
     pub fn put(&mut self, octets: &[u8]) {
-        if self.octets.extend_from_slice(octets).is_err() {
+        if !self.lacks && self.octets.extend_from_slice(octets).is_err() {
             self.lacks = true;
         }
     }
