@@ -1,18 +1,14 @@
 -- A row of which another is made, one after the other.
 use Rattle.std.proofs.Common.{◌≡◌, ◌∙◌, ◌+◌, ◌<◌, ◌∷◌, ◌++◌, []}
 use Rattle.std.proofs.Common.{ℕ, List, Option, ap, append-nil, append_assoc, length}
-use Rattle.std.proofs.Common.{arith, get_or, map, slice_get, subst, sym, take}
+use Rattle.std.proofs.Common.{get_or, length-append, map, slice_get, subst, sym, take}
 use Rattle.std.proofs.lemmas.List.{map_more, map_push}
 
 module _ {P Y : Type 0} (of : P → Y) (made now : List P) (one : P) (more : now ≡ made ++ one ∷ [])
   where
     -- there is one more,
     pub longer : length now ≡ length made + 1
-    longer = ap length more ∙ count made
-      where
-        count : (all : List P) → length (all ++ one ∷ []) ≡ length all + 1
-        count [] = omega arith
-        count (first ∷ all) = let h = count all in omega arith
+    longer = ap length more ∙ length-append made (one ∷ [])
 
     -- of the next of those so far, which are read of all,
     pub one_more_made : {X : Type 0} (f : X → Y) (all xs : List X) (k : ℕ) (x : X) → all ≡ xs
