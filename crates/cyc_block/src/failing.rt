@@ -12,7 +12,7 @@ use crate::{BLOCK_OCTETS, BlockStore, DeviceFailed};
 /// A store whose call number k fails once; reads and writes, those of head blocks too, are counted
 /// together, from 1. The call that fails does nothing else. Armed again, it fails another call
 /// once.
-#[derive(Debug, Drop)]
+#[derive(Drop)]
 pub struct FailAt<S> {
     store: S,
     /// The calls up to the one that fails, and that one; 0 where none is to fail any more.

@@ -19,7 +19,7 @@ pub fn head_count(blocks: u32) -> u32
 }
 
 /// What a device says of its buffer's state.
-#[derive(Clone, Copy, Debug, PartialEq, Eq)]
+#[derive(Clone, Copy, PartialEq, Eq)]
 pub enum HeadState {
     /// It may have been changed since.
     Open,
@@ -28,7 +28,7 @@ pub enum HeadState {
 }
 
 /// What head block 0 says of a buffer (docs/FORMATS.md, Head blocks).
-#[derive(Clone, Copy, Debug, PartialEq, Eq)]
+#[derive(Clone, Copy, PartialEq, Eq)]
 pub struct HeadNumbers {
     /// Whether it was stopped.
     pub state: HeadState,

@@ -26,7 +26,7 @@ pub struct Stamp {
 }
 
 /// A block that was read: its stamp and the octets of the article that it holds.
-#[derive(Clone, Copy, Debug)]
+#[derive(Clone, Copy)]
 pub struct Image<'a> {
     /// What the block says of itself.
     pub stamp: Stamp,

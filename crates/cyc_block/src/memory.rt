@@ -7,7 +7,7 @@ use crate::{BLOCK_OCTETS, BlockStore, DeviceFailed, head_count};
 use std::alloc::{AllocError, Global};
 
 /// Blocks in memory, which never fail.
-#[derive(Debug, Drop)]
+#[derive(Drop)]
 pub struct MemoryBlocks {
     blocks: Vec<[u8; BLOCK_OCTETS]>,
     heads: Vec<[u8; BLOCK_OCTETS]>,

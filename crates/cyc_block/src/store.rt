@@ -5,7 +5,7 @@ ghost use Rattle.cyc_block.specs.Store.{block_at, ChangesOnly};
 use crate::BLOCK_OCTETS;
 
 /// The device failed: a read or a write was not done as asked.
-#[derive(Clone, Copy, Debug, PartialEq, Eq)]
+#[derive(Clone, Copy)]
 pub struct DeviceFailed;
 
 /// A row of blocks of 512 octets, numbered from 0, and a row of head blocks, numbered from 0 too,

@@ -1,6 +1,6 @@
 use std::marker::Model;
+use std::mem;
 use std::snapshot::Snapshot;
-use std::{fmt, mem};
 
 /// How often something was done, a count without end that contracts alone see. It takes no bytes:
 /// each tally stands on a snapshot of the one before.
@@ -46,11 +46,5 @@ impl Tally {
         *self = Tally {
             before: Snapshot::of(&before),
         };
-    }
-}
-
-impl fmt::Debug for Tally {
-    fn fmt<W: fmt::Write>(&self, f: &mut fmt::Formatter<W>) -> fmt::Result {
-        f.write_str("Tally")
     }
 }
