@@ -13,7 +13,7 @@ use std::os::unix::fs::{FileExt, MetadataExt};
 use std::{fs, io};
 
 /// Why a file can't be used, in the order of trial.
-#[derive(Debug, Drop)]
+#[derive(Drop)]
 pub enum Unusable {
     /// What stands at the path is no regular file, such as a folder, a pipe or a device.
     NotRegular,
@@ -33,7 +33,7 @@ impl From<io::Error> for Unusable {
 }
 
 /// Which file it is, whatever its names: the number of its device, and that of its inode there.
-#[derive(Clone, Copy, Debug, PartialEq, Eq)]
+#[derive(Clone, Copy, PartialEq, Eq)]
 pub struct Identity {
     device: u64,
     inode: u64,
