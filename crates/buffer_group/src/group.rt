@@ -5,7 +5,7 @@ use news_terms::picks::positions_pick;
 use relay_conf::Mode;
 
 /// Where an article goes in its group.
-#[derive(Clone, Copy, Debug, PartialEq, Eq)]
+#[derive(Clone, Copy)]
 pub struct Pick {
     /// The buffer, by its place in the group, counted from 0.
     pub buffer: usize,
@@ -14,7 +14,7 @@ pub struct Pick {
 }
 
 /// A group of buffers, and where it is.
-#[derive(Debug, Drop)]
+#[derive(Drop)]
 pub struct Group {
     mode: Mode,
     /// How many blocks each buffer has.

@@ -6,7 +6,7 @@ use line_words::Octets;
 use nntp_text::MsgId;
 
 /// An article that was judged and accepted, with the text that is stored.
-#[derive(Debug, Drop)]
+#[derive(Drop)]
 pub struct Accepted {
     /// The number of its storage class.
     pub class: u8,
@@ -41,7 +41,7 @@ impl Accepted {
 }
 
 /// An accepted article on its way to the writer of its group, with the session that brought it.
-#[derive(Debug, Drop)]
+#[derive(Drop)]
 pub struct Job {
     pub session: u64,
     pub id: MsgId,

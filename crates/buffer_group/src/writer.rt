@@ -2,7 +2,7 @@ use crate::job::Job;
 use cyc_token::Token;
 
 /// How far the writer of a group is. An open write is known by its handle, a `B`.
-#[derive(Debug, Drop)]
+#[derive(Drop)]
 pub enum Writer<B> {
     /// It has no job.
     Idle,
@@ -21,7 +21,7 @@ pub enum Writer<B> {
 }
 
 /// What a writer does next.
-#[derive(Clone, Copy, Debug, PartialEq, Eq)]
+#[derive(Clone, Copy)]
 pub enum WriterStep {
     /// It takes the oldest job of its queue, if there is one.
     Pop,
