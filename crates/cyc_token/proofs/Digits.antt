@@ -1,7 +1,7 @@
 -- The digits of octets: those of the definition are those that hex reads and writes.
 use Rattle.std.specs.Prelude.{◌||◌}
 use Rattle.std.proofs.Common.{◌≡◌, ℕ, zero, suc, ◌+◌, ◌*◌, ◌/◌, ◌%◌, ◌<◌, ◌==◌, Bool, true, false}
-use Rattle.std.proofs.Common.{◌&&◌, List, [], ◌∷◌, drop, map, slice_index, Option, Some, None}
+use Rattle.std.proofs.Common.{◌&&◌, List, [], ◌∷◌, map, slice_index, Option, Some, None}
 use Rattle.std.proofs.Common.{is_some, inl, inr, Result, Ok, Err, refl, ap, arith}
 use Rattle.std.specs.List.{flat_map, AllPass, list_any}
 use Rattle.std.specs.Char.{to_ascii_uppercase, is_ascii_lowercase}
@@ -118,26 +118,3 @@ decodes_from i (a ∷ b ∷ rest) xs e h =
     let high : p0.0 / 16 ≡ p1.0 = omega (arith, da.1, db.1) in
     let low : p0.0 % 16 ≡ p2.0 = omega (arith, da.1, db.1) in
     rw (← whole, high, low, da.0, db.0, ih) refl
-
--- octets of the same digits are the same
-pub digits_back : (xs ys : List ℕ) → IsBytes xs → IsBytes ys
-    → flat_map octet_digits xs ≡ flat_map octet_digits ys → xs ≡ ys
-digits_back [] [] hx hy e = refl
-digits_back [] (y ∷ ys) hx hy e = cc e
-digits_back (x ∷ xs) [] hx hy e = cc e
-digits_back (x ∷ xs) (y ∷ ys) hx hy e =
-    let sx : x < 256 = hx 0 in
-    let sy : y < 256 = hy 0 in
-    let high : upper_digit (x / 16) ≡ upper_digit (y / 16) =
-    ap (λ (s : List ℕ). slice_index s 0) e in
-    let low : upper_digit (x % 16) ≡ upper_digit (y % 16) =
-    ap (λ (s : List ℕ). slice_index s 1) e in
-    let same_high = one_digit (x / 16) (y / 16) (omega arith) (omega arith) high in
-    let same_low = one_digit (x % 16) (y % 16) (omega arith) (omega arith) low in
-    let same : x ≡ y = omega (arith, same_high, same_low) in
-    let rest : flat_map octet_digits xs ≡ flat_map octet_digits ys = ap (drop 2) e in
-    rw (same, digits_back xs ys (λ k. hx (suc k)) (λ k. hy (suc k)) rest) refl
-  where
-    -- each value has a digit of its own
-    one_digit : (n m : ℕ) → n < 16 → m < 16 → upper_digit n ≡ upper_digit m → n ≡ m
-    one_digit n m hn hm same = grind arith

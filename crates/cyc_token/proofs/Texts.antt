@@ -1,13 +1,11 @@
 -- The texts of tokens: each has the fault that its tests say, and the ones without are token texts.
 use Rattle.std.proofs.Common.{◌≡◌, ℕ, zero, suc, ◌==◌, eqb, cond, Bool, true, false, List, [], ◌∷◌}
-use Rattle.std.proofs.Common.{◌++◌, length, take, drop, get_or, slice_index, Option, Some, None}
+use Rattle.std.proofs.Common.{◌++◌, length, drop, get_or, slice_index, Option, Some, None}
 use Rattle.std.proofs.Common.{Result, Ok, Err, refl, sym, ap, subst, ◌∙◌, arith}
 use Rattle.std.specs.Prelude.{◌↔◌, ◌&&◌, IsErrOf, IsErrAnd}
-use Rattle.std.specs.Int.{w32, from_be_bytes}
 use Rattle.std.specs.Bool.{Decides}
 use Rattle.std.specs.Char.{is_ascii_lowercase}
 use Rattle.std.specs.List.{AllPass, Any, list_all, list_any}
-use Rattle.std.proofs.lemmas.Nat.{from_be_bytes-to_be_bytes_4}
 use Rattle.std.proofs.lemmas.Bool.{false≢true}
 use Rattle.std.proofs.lemmas.Bool.Decides.{Decides-eqb, Decides-and}
 use Rattle.std.proofs.lemmas.List.{drop_more, drop-drop, drop_all, take-append-drop}
@@ -17,13 +15,14 @@ use Rattle.std.proofs.lemmas.List.Folds.{Any-from_list_any, list_any-from_Any}
 use Rattle.hex.specs.Hex.{IsBytes, is_hex_digit}
 use Rattle.news_terms.specs.Token.{IsToken, token_text, token_octets}
 use Rattle.news_terms.specs.Token as terms
+use Rattle.news_terms.proofs.TokenTexts.{one_text}
 use Rattle.cyc_token.specs.Faults.{token_fault, digits_of, HasMarks, HasOtherLength, LacksMarks}
 use Rattle.cyc_token.specs.Faults.{HasOtherDigit, HasLowerCase}
 use Rattle.cyc_token.specs.Token.{token_view}
 use Rattle.cyc_token.specs.declared.Token.{Token}
 use Rattle.cyc_token.specs.declared.text.TokenError.{TokenError}
 use Rattle.cyc_token.specs.declared.text.TokenError.TheVariants.{Length, Marks, Digit, LowerCase}
-use Rattle.cyc_token.proofs.Digits.{digits_fit, digits_back}
+use Rattle.cyc_token.proofs.Digits.{digits_fit}
 
 -- ---- the tests
 
@@ -205,38 +204,6 @@ text_fits t h =
           (digits_of (token_text t)) some),
     )
 
--- two tokens of the same octets are the same
-octets_tell : (a b : terms.Token) → IsToken a → IsToken b → token_octets a ≡ token_octets b → a ≡ b
-octets_tell a b ha hb e =
-    let class : a.class ≡ b.class = ap (λ (x : List ℕ). get_or x 0 0) e in
-    let buffer : a.buffer ≡ b.buffer = ap (λ (x : List ℕ). get_or x 1 0) e in
-    let cycle : a.cycle ≡ b.cycle =
-    sym (from_be_bytes-to_be_bytes_4 a.cycle ha.cycle)
-    ∙ ap (λ (x : List ℕ). from_be_bytes w32 (take 4 (drop 2 x))) e
-    ∙ from_be_bytes-to_be_bytes_4 b.cycle hb.cycle in
-    let first : a.first ≡ b.first =
-    sym (from_be_bytes-to_be_bytes_4 a.first ha.first)
-    ∙ ap (λ (x : List ℕ). from_be_bytes w32 (take 4 (drop 6 x))) e
-    ∙ from_be_bytes-to_be_bytes_4 b.first hb.first in
-    let len : a.length ≡ b.length =
-    sym (from_be_bytes-to_be_bytes_4 a.length ha.length)
-    ∙ ap (λ (x : List ℕ). from_be_bytes w32 (take 4 (drop 10 x))) e
-    ∙ from_be_bytes-to_be_bytes_4 b.length hb.length in
-    λ i. record {
-      class = class i;
-      buffer = buffer i;
-      cycle = cycle i;
-      first = first i;
-      length = len i;
-    }
-
--- each token has a text of its own
-pub one_spelling : (a b : terms.Token) → IsToken a → IsToken b → token_text a ≡ token_text b → a ≡ b
-one_spelling a b ha hb e =
-    octets_tell a b ha hb
-    (digits_back (token_octets a) (token_octets b) (octets_fit a ha) (octets_fit b hb)
-    (ap digits_of e))
-
 -- a text without a fault is its digits between the marks
 pub marked_text : (text digits : List ℕ) → token_fault text ≡ None → digits_of text ≡ digits
     → text ≡ 64 ∷ digits ++ 64 ∷ []
@@ -302,7 +269,7 @@ answers_token r text g t = (
     is_that : (q : Result Token TokenError) → Gives q text
         → IsToken (token_view t) × (text ≡ token_text (token_view t)) → q ≡ Ok t
     is_that (Ok u) h w =
-        let same = one_spelling (token_view u) (token_view t) h.0 w.0 (sym h.1 ∙ w.1) in
+        let same = one_text (token_view u) (token_view t) h.0 w.0 (sym h.1 ∙ w.1) in
         ap (λ (v : terms.Token). Ok (record {
           class = v.class;
           buffer = v.buffer;

@@ -18,7 +18,7 @@ const TEXT_OCTETS: usize = 30;
 const PART_OCTETS: usize = 14;
 
 /// Why a text is no token's, in the order of trial (docs/FORMATS.md, Tokens).
-#[derive(Clone, Copy, Debug, PartialEq, Eq)]
+#[derive(Clone, Copy)]
 pub enum TokenError {
     /// The text has not 30 octets.
     Length,
