@@ -11,7 +11,7 @@ use std::alloc::{AllocError, AllocFailed, Global};
 use std::marker::Model;
 
 /// What an expression says of a newsgroup name (docs/FORMATS.md, Patterns).
-#[derive(Clone, Copy, Debug, PartialEq, Eq)]
+#[derive(Clone, Copy, Debug)]
 pub enum Verdict {
     /// The last pattern that matches has no mark.
     Match,
@@ -23,7 +23,7 @@ pub enum Verdict {
 
 /// Why a text is no expression: its leftmost fault, and of two at one octet the one listed first
 /// (docs/FORMATS.md, Patterns).
-#[derive(Clone, Copy, Debug, PartialEq, Eq)]
+#[derive(Clone, Copy, Debug)]
 pub enum WildError {
     /// Memory ran out, which says nothing of the text.
     Memory,
@@ -56,7 +56,7 @@ impl<T: Drop> From<AllocFailed<T>> for WildError {
 }
 
 /// An expression over newsgroup names (uwildmat(3) of INN; docs/FORMATS.md, Patterns).
-#[derive(Debug, Drop)]
+#[derive(Drop)]
 pub struct Expr {
     patterns: Vec<Pattern>,
 }

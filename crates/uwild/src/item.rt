@@ -12,7 +12,7 @@ use crate::set::{SetFault, is_of_set, set_fault};
 use std::alloc::Global;
 
 /// A part of a pattern (docs/FORMATS.md, Patterns).
-#[derive(Debug, Drop)]
+#[derive(Drop)]
 pub(crate) enum Item {
     /// `*`: some text.
     Star,
@@ -99,7 +99,12 @@ fn read_set(alloc: Global, text: &[u8]) -> Result<Front<'_>, WildError>
 fn bracket_place(text: &[u8]) -> Option<usize>
     ensures { result ≡ position (λ c. c == byte "]") text.now }
 {
-    text.iter().position(|octet| *octet == b']')
+    for (place, octet) in text.iter().enumerate() {
+        if *octet == b']' {
+            return Some(place);
+        }
+    }
+    None
 }
 
 /// The set, or the reverse of one, that stands between brackets.

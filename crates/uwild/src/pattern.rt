@@ -7,7 +7,7 @@ use crate::item::{Front, Item, read_front};
 use std::alloc::Global;
 
 /// A pattern and its mark: Match where it has none (docs/FORMATS.md, Patterns).
-#[derive(Debug, Drop)]
+#[derive(Drop)]
 pub(crate) struct Pattern {
     pub(crate) mark: Verdict,
     pub(crate) items: Vec<Item>,
