@@ -14,7 +14,7 @@ use std::alloc::AllocError;
 
 /// The fields that a relaying agent looks at, in the order of trial (RFC 5536, sections 3.1 and
 /// 3.2.7).
-#[derive(Clone, Copy, Debug, PartialEq, Eq)]
+#[derive(Clone, Copy, Debug)]
 pub enum FieldName {
     Date,
     From,
@@ -29,7 +29,7 @@ pub enum FieldName {
 /// then for Date, From, Message-ID, Newsgroups, Path, Subject, Injection-Date in turn Missing,
 /// Twice, EmptyField (Missing not for Injection-Date), then BadId, BadGroups (docs/FORMATS.md,
 /// Articles).
-#[derive(Clone, Copy, Debug, PartialEq, Eq)]
+#[derive(Clone, Copy, Debug)]
 pub enum ArtError {
     /// Memory ran out, which says nothing of the text.
     Memory,
@@ -126,7 +126,14 @@ fn times(fields: &[Field<'_>], name: &[u8]) -> usize
 fn count_named(fields: &[Field<'_>], name: &[u8]) -> usize
     ensures { result ≡ count_by (λ f. is_named name.now f) fields.now }
 {
-    fields.iter().filter(|field| is_named(field, name)).count()
+    let mut times = 0;
+    for field in fields {
+        if !is_named(field, name) {
+            continue;
+        }
+        times += 1;
+    }
+    times
 }
 
 /// Whether a field of the name has nothing but white space.
@@ -142,7 +149,12 @@ fn leaves_empty(fields: &[Field<'_>], name: &[u8]) -> bool
 fn any_named_blank(fields: &[Field<'_>], name: &[u8]) -> bool
     ensures { result ≡ list_any (λ f. is_named_blank name.now f) fields.now }
 {
-    fields.iter().any(|field| is_named_blank(field, name))
+    for field in fields {
+        if is_named_blank(field, name) {
+            return true;
+        }
+    }
+    false
 }
 
 /// Whether the field has the name and nothing but white space.

@@ -16,7 +16,7 @@ use std::alloc::Global;
 
 /// A field of an article: its name, and the octets after the colon up to the CRLF that ends it,
 /// folded lines included (RFC 5536, section 2.2).
-#[derive(Clone, Copy, Debug)]
+#[derive(Clone, Copy)]
 pub struct Field<'a> {
     /// The name as it was received.
     pub name: &'a [u8],
@@ -25,7 +25,7 @@ pub struct Field<'a> {
 }
 
 /// What stands at the front of a text that is read as a header (RFC 5536, section 2.2).
-#[derive(Clone, Copy, Debug)]
+#[derive(Clone, Copy)]
 pub enum Front<'a> {
     /// A field, and its octets with the CRLF that ends it.
     Field(Field<'a>, usize),
@@ -165,8 +165,12 @@ fn is_field_name(text: &[u8]) -> bool
 fn has_name_octets(text: &[u8]) -> bool
     ensures { result ≡ list_all terms.is_name_octet text.now }
 {
-    text.iter()
-        .all(|octet| octet.is_ascii_graphic() && *octet != b':')
+    for octet in text {
+        if !octet.is_ascii_graphic() || *octet == b':' {
+            return false;
+        }
+    }
+    true
 }
 
 /// Whether what follows a colon is the line's end, or begins with an SP or TAB.
