@@ -20,7 +20,7 @@ use std::collections::HashMap;
 use std::hash::RandomState;
 
 /// The answer to a session that offers the article of a message-id (RFC 4644 section 2.4).
-#[derive(Clone, Copy, Debug, PartialEq, Eq)]
+#[derive(Clone, Copy)]
 pub enum Offer {
     /// The session is to send it.
     Wanted,
@@ -31,7 +31,7 @@ pub enum Offer {
 }
 
 /// The answer to a session that has an accepted article.
-#[derive(Clone, Copy, Debug, PartialEq, Eq)]
+#[derive(Clone, Copy)]
 pub enum Take {
     /// The session is to have it stored.
     Mine,
@@ -44,7 +44,6 @@ pub enum Take {
 /// That an article was settled, which `Shard::settle` alone says, once for each article that is
 /// stored. It can be neither copied nor dropped, and has to be spent.
 #[must_use]
-#[derive(Debug)]
 pub struct Settled {
     token: Token,
 }

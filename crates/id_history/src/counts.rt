@@ -2,7 +2,7 @@ ghost use Rattle.std.specs.Prelude.{◌≡◌, ◌+◌, ◌^◌};
 ghost use Rattle.id_history.specs.Counts.{AtMost, Numbers};
 
 /// How many message-ids are known, by kind. The sum over all shards has room in each count.
-#[derive(Clone, Copy, Debug, PartialEq, Eq)]
+#[derive(Clone, Copy)]
 pub struct Counts {
     /// A session was told to send the article.
     pub offered: u128,

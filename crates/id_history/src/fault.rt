@@ -5,7 +5,7 @@ ghost use Rattle.id_history.specs.declared.fault.HistoryError.TheVariants.{Memor
 use std::alloc::{AllocError, AllocFailed};
 
 /// Why a text can't be read.
-#[derive(Clone, Copy, Debug, PartialEq, Eq)]
+#[derive(Clone, Copy)]
 pub enum HistoryError {
     /// Memory ran out.
     Memory,

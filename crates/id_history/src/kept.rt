@@ -3,7 +3,7 @@ use cyc_token::Token;
 use nntp_text::MsgId;
 
 /// A message-id that is remembered.
-#[derive(Debug, Drop)]
+#[derive(Drop)]
 pub struct KeptId {
     pub id: MsgId,
     /// The token under which its article is stored; `None` where an article was refused.
@@ -13,7 +13,7 @@ pub struct KeptId {
 }
 
 /// What is left of a feed.
-#[derive(Debug, Drop)]
+#[derive(Drop)]
 pub struct KeptFeed {
     /// How many tokens it gained.
     pub gained: u64,
@@ -26,7 +26,7 @@ pub struct KeptFeed {
 }
 
 /// What outlives a stop.
-#[derive(Debug, Drop)]
+#[derive(Drop)]
 pub struct History {
     /// The number of the stop, which the buffers have too.
     pub stop: u64,
@@ -40,7 +40,7 @@ pub struct History {
 }
 
 /// What a history has to fit: the parts of the configuration that it speaks of.
-#[derive(Debug, Drop)]
+#[derive(Drop)]
 pub struct Setting {
     /// How many buffers there are.
     pub buffers: u32,
