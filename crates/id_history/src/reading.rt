@@ -200,6 +200,16 @@ fn positions(alloc: Global, count: u32, bytes: &[u8]) -> Result<(Vec<u32>, &[u8]
     Ok((positions, rest))
 }
 
+/// The message-ids, after their number.
+#[tactic(auto, unfolding(crate::specs::Reading::counted_at))]
+fn counted_ids(alloc: Global, bytes: &[u8]) -> Result<(Vec<KeptId>, &[u8]), HistoryError>
+    ensures { Gives (λ x. (map id_view x.0.items, x.1.now)) result
+        (counted_at w64 kept_id_at bytes.now) }
+{
+    let (count, rest) = number64(bytes)?;
+    kept_ids(alloc, count, rest)
+}
+
 /// The lists of a history, each after its number.
 #[tactic(auto, unfolding(crate::specs::Reading::lists_at, crate::specs::Reading::counted_at))]
 fn lists(
@@ -214,8 +224,13 @@ fn lists(
     let (positions, rest) = positions(alloc, count, rest)?;
     let (count, rest) = number32(rest)?;
     let (feeds, rest) = feeds(alloc, count, rest)?;
-    let (count, rest) = number64(rest)?;
-    let (ids, rest) = kept_ids(alloc, count, rest)?;
+    let (ids, rest) = match counted_ids(alloc, rest) {
+        Ok(read) => read,
+        Err(error) => {
+            drop(feeds);
+            return Err(error);
+        }
+    };
     let history = History {
         stop,
         newest,
@@ -246,6 +261,7 @@ fn all(alloc: Global, bytes: &[u8]) -> Result<History, HistoryError>
     let (newest, rest) = number64(rest)?;
     let (history, rest) = lists(alloc, stop, newest, rest)?;
     if !rest.is_empty() {
+        drop(history);
         return Err(HistoryError::BadHistory);
     }
     Ok(history)
@@ -265,6 +281,7 @@ pub fn read(alloc: Global, text: &[u8], setting: &Setting) -> Result<History, Hi
 {
     let history = all(alloc, text)?;
     if !holds(setting, &history) {
+        drop(history);
         return Err(HistoryError::BadHistory);
     }
     Ok(history)
