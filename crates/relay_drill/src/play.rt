@@ -79,11 +79,11 @@ fn play_line<W: Write>(
             stand.piece = Some(*size);
             Ok(())
         }
-        Line::Turn(session, now) => turn(relay, *session, *now, writer),
-        Line::Write(group, now) => write(relay, *group, *now, writer),
+        Line::Turn(session, now) => perform(relay, turn(*session, *now), writer),
+        Line::Write(group, now) => perform(relay, write(*group, *now), writer),
         Line::Rounds(count, now) => rounds(relay, groups, &stand.sessions, *count, *now, writer),
-        Line::Break(session) => break_off(relay, *session, writer),
-        Line::Expire(shard, now) => expire(relay, *shard, *now, writer),
+        Line::Break(session) => perform(relay, break_off(*session), writer),
+        Line::Expire(shard, now) => perform(relay, expire(*shard, *now), writer),
         Line::Fail(buffer, call) => {
             relay.arm(*buffer, *call);
             Ok(())
@@ -225,7 +225,7 @@ fn turn_open<W: Write>(
     if !relay.is_running(session) {
         return Ok(());
     }
-    turn(relay, session, now, writer)
+    perform(relay, Event::Turn { session, now }, writer)
 }
 
 /// The writer of each of so many groups has its Write.
@@ -239,56 +239,37 @@ fn write_all<W: Write>(
         relay.old relay.new (W.contents writer.old) (W.contents writer.new) }
 {
     for group in 0..groups {
-        write(relay, group, now, writer)?;
+        perform(relay, Event::Write { group, now }, writer)?;
     }
     Ok(())
 }
 
-/// A session has its Turn.
-fn turn<W: Write>(
-    relay: &mut Relay,
-    session: u64,
-    now: u64,
-    writer: &mut W,
-) -> Result<(), DrillError>
-    ensures { (more : Todo) → Performs result (todo.Next (run.Turn session now) more) more
-        relay.old relay.new (W.contents writer.old) (W.contents writer.new) }
+/// The Turn of a session.
+fn turn(session: u64, now: u64) -> Event
+    ensures { event_view result ≡ run.Turn session now }
 {
-    perform(relay, Event::Turn { session, now }, writer)
+    Event::Turn { session, now }
 }
 
-/// The writer of a group has its Write.
-fn write<W: Write>(
-    relay: &mut Relay,
-    group: usize,
-    now: u64,
-    writer: &mut W,
-) -> Result<(), DrillError>
-    ensures { (more : Todo) → Performs result (todo.Next (run.Write group now) more) more
-        relay.old relay.new (W.contents writer.old) (W.contents writer.new) }
+/// The Write of a group's writer.
+fn write(group: usize, now: u64) -> Event
+    ensures { event_view result ≡ run.Write group now }
 {
-    perform(relay, Event::Write { group, now }, writer)
+    Event::Write { group, now }
 }
 
-/// A session's connection is gone.
-fn break_off<W: Write>(relay: &mut Relay, session: u64, writer: &mut W) -> Result<(), DrillError>
-    ensures { (more : Todo) → Performs result (todo.Next (run.Break session) more) more
-        relay.old relay.new (W.contents writer.old) (W.contents writer.new) }
+/// The end of a session's connection.
+fn break_off(session: u64) -> Event
+    ensures { event_view result ≡ run.Break session }
 {
-    perform(relay, Event::Break { session }, writer)
+    Event::Break { session }
 }
 
 /// The next bit of forgetting.
-fn expire<W: Write>(
-    relay: &mut Relay,
-    shard: usize,
-    now: u64,
-    writer: &mut W,
-) -> Result<(), DrillError>
-    ensures { (more : Todo) → Performs result (todo.Next (run.Expire shard now) more) more
-        relay.old relay.new (W.contents writer.old) (W.contents writer.new) }
+fn expire(shard: usize, now: u64) -> Event
+    ensures { event_view result ≡ run.Expire shard now }
 {
-    perform(relay, Event::Expire { shard, now }, writer)
+    Event::Expire { shard, now }
 }
 
 /// The relay is closed and started again, and it is printed whether it was.

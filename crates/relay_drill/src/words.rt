@@ -4,6 +4,7 @@ ghost use Rattle.std.specs.Prelude.{◌≡◌, map, option_map, IfOk};
 ghost use Rattle.relay_drill.specs.Words as terms;
 
 use hex::FromHexError;
+use line_words::is;
 use relay_conf::{BufferConf, Peer};
 use std::alloc::{AllocError, Global};
 
@@ -46,14 +47,22 @@ pub fn octets_of(alloc: Global, word: &[u8]) -> Result<Option<Vec<u8>>, AllocErr
 pub fn peer_of(peers: &[Peer], name: &[u8]) -> Option<usize>
     ensures { result ≡ terms.place_of (map (λ peer. peer.name) peers.now) name.now }
 {
-    peers.iter().position(|peer| name == peer.name.as_slice())
+    for (place, peer) in peers.iter().enumerate() {
+        if is(name, peer.name.as_slice()) {
+            return Some(place);
+        }
+    }
+    None
 }
 
 /// The number of the buffer of this name.
 pub fn buffer_of(buffers: &[BufferConf], name: &[u8]) -> Option<usize>
     ensures { result ≡ terms.place_of (map (λ buffer. buffer.name) buffers.now) name.now }
 {
-    buffers
-        .iter()
-        .position(|buffer| name == buffer.name.as_slice())
+    for (place, buffer) in buffers.iter().enumerate() {
+        if is(name, buffer.name.as_slice()) {
+            return Some(place);
+        }
+    }
+    None
 }

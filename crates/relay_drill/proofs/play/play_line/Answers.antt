@@ -24,11 +24,13 @@ returns-in-Split g c = λ next. rw c.in-Split.is (goes_none _ c.args.relay.now _
 
 pub returns-in-Turn : goal.returns-in-Turn
 returns-in-Turn g c = λ next.
-    rw c.in-Turn.is (c.turn.ensures (next (stand_view c.args.stand.now)))
+    rw c.in-Turn.is
+    (rw c.turn.ensures at (c.perform.ensures (next (stand_view c.args.stand.now))))
 
 pub returns-in-Write : goal.returns-in-Write
 returns-in-Write g c = λ next.
-    rw c.in-Write.is (c.write.ensures (next (stand_view c.args.stand.now)))
+    rw c.in-Write.is
+    (rw c.write.ensures at (c.perform-in-Write.ensures (next (stand_view c.args.stand.now))))
 
 pub returns-in-Rounds : goal.returns-in-Rounds
 returns-in-Rounds g c = λ next.
@@ -37,11 +39,13 @@ returns-in-Rounds g c = λ next.
 
 pub returns-in-Break : goal.returns-in-Break
 returns-in-Break g c = λ next.
-    rw c.in-Break.is (c.break_off.ensures (next (stand_view c.args.stand.now)))
+    rw c.in-Break.is
+    (rw c.break_off.ensures at (c.perform-in-Break.ensures (next (stand_view c.args.stand.now))))
 
 pub returns-in-Expire : goal.returns-in-Expire
 returns-in-Expire g c = λ next.
-    rw c.in-Expire.is (c.expire.ensures (next (stand_view c.args.stand.now)))
+    rw c.in-Expire.is
+    (rw c.expire.ensures at (c.perform-in-Expire.ensures (next (stand_view c.args.stand.now))))
 
 pub returns-in-Fail : goal.returns-in-Fail
 returns-in-Fail g c = λ next.

@@ -5,10 +5,10 @@ use Rattle.relay_drill.proofs.play.turn_open.Goals as goal
 
 pub returns : goal.returns
 returns g c = λ more.
-    performs_on c.turn.result _ _ more _ _ _ _ _ _
+    performs_on c.perform.result _ _ more _ _ _ _ _ _
     (goes_turning c.args.session c.args.now more c.args.relay.now _ true
     (λ config x under. sym (c.is_running.ensures true x under.agrees) ∙ c.if-not-is_running.false))
-    (c.turn.ensures more)
+    (c.perform.ensures more)
 
 pub returns-then-not-is_running : goal.returns-then-not-is_running
 returns-then-not-is_running g c = λ more.

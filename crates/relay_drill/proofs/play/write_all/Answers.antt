@@ -13,7 +13,7 @@ pub loop-group-preserved : goal.loop-group-preserved
 loop-group-preserved g c = λ more.
     goes_next _ _ _ _ _ _ _ _ _ _
     (write_next c.args.now c.loop-group.group c.args.groups more (omega arith))
-    (c.loop-group.invariant more) (c.in_ok-write.ensures _)
+    (c.loop-group.invariant more) (c.in_ok-perform.ensures _)
 
 pub returns : goal.returns
 returns g c = λ more.
@@ -21,9 +21,9 @@ returns g c = λ more.
     (write_last c.args.now c.loop-group.group c.args.groups more (omega arith))
     (c.loop-group.invariant more)
 
-pub returns-in_err-write : goal.returns-in_err-write
-returns-in_err-write g c = λ more.
+pub returns-in_err-perform : goal.returns-in_err-perform
+returns-in_err-perform g c = λ more.
     fails_next _ c.from_residual.result _ _ _ more _ _ _ _ _ _ c.from_residual.ensures.0
     c.from_residual.ensures.1
     (write_next c.args.now c.loop-group.group c.args.groups more (omega arith))
-    (c.loop-group.invariant more) (c.in_err-write.ensures _)
+    (c.loop-group.invariant more) (c.in_err-perform.ensures _)
