@@ -8,7 +8,7 @@ use Rattle.news_terms.specs.Command as commands
 use Rattle.news_terms.specs.Lines.{NextLine, Cut, TooLong, Incomplete, next_line}
 use Rattle.news_terms.specs.Reply.{DateIs}
 use Rattle.news_terms.proofs.CivilTimes.{same_digits}
-use Rattle.cyc_token.proofs.Texts.{one_spelling}
+use Rattle.news_terms.proofs.TokenTexts.{one_text}
 use Rattle.relay_model.specs.Asks.{Ask, Says, Reads, Due, due_as, TokenAsked, IsRead, IsNone}
 use Rattle.relay_model.specs.Asks.{IsDue, IsDueIn, IsDueOfCommand, IsDueOfLine, IsDueWhereReady}
 use Rattle.relay_model.specs.Asks.{IsDueOfBlock, IsDueWhereOwing, judged_asked, without_offer}
@@ -21,7 +21,7 @@ use Rattle.relay_laws.proofs.OneJudgement.{one_judgement}
 -- one token has a word's text
 one_token_asked : (word : List ℕ) (a b : Ask) → TokenAsked word a → TokenAsked word b → a ≡ b
 one_token_asked word a b (IsRead token is text e) (IsRead token' is' text' e') =
-    e ∙ ap (λ one. Reads OfToken one 0) (one_spelling token token' is is' (text ∙ sym text'))
+    e ∙ ap (λ one. Reads OfToken one 0) (one_text token token' is is' (text ∙ sym text'))
     ∙ sym e'
 one_token_asked word a b (IsRead token is text e) (IsNone none e') = absurd (none token is text)
 one_token_asked word a b (IsNone none e) (IsRead token is text e') = absurd (none token is text)
