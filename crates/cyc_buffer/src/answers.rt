@@ -5,7 +5,7 @@ use std::alloc::AllocError;
 
 /// A front of a buffer: what lies a whole buffer before it is gone. A buffer alone makes one, of
 /// itself.
-#[derive(Clone, Copy, Debug, PartialEq, Eq)]
+#[derive(Clone, Copy, Debug)]
 pub struct Front {
     pub(crate) buffer: u8,
     pub(crate) blocks: u32,
@@ -92,7 +92,7 @@ pub enum BufError {
 }
 
 /// Why a buffer isn't started, in the order of trial.
-#[derive(Clone, Copy, Debug, PartialEq, Eq)]
+#[derive(Clone, Copy, Debug)]
 pub enum StartError {
     /// Memory was refused.
     Memory,
@@ -115,7 +115,7 @@ impl From<AllocError> for StartError {
 }
 
 /// Why a buffer isn't made, in the order of trial.
-#[derive(Clone, Copy, Debug, PartialEq, Eq)]
+#[derive(Clone, Copy)]
 pub enum FormatError {
     /// Memory was refused.
     Memory,
@@ -124,7 +124,7 @@ pub enum FormatError {
 }
 
 /// What a read found.
-#[derive(Clone, Copy, Debug, PartialEq, Eq)]
+#[derive(Clone, Copy)]
 pub enum Found {
     /// So many octets at the front of the slice are the chunk.
     Chunk(usize),

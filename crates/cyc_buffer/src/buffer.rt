@@ -14,7 +14,7 @@ use cyc_token::Token;
 use std::alloc::Global;
 
 /// A cyclic buffer over a store of blocks.
-#[derive(Debug, Drop)]
+#[derive(Drop)]
 pub struct Buffer<S: BlockStore> {
     pub(crate) store: S,
     pub(crate) buffer_state: BufferState,
@@ -26,7 +26,7 @@ pub struct Buffer<S: BlockStore> {
 }
 
 /// A store over which no buffer is made, and why.
-#[derive(Debug, Drop)]
+#[derive(Drop)]
 pub struct Unformatted<S: BlockStore> {
     /// The store, as it was where memory was refused.
     pub store: S,

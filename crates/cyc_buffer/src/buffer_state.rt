@@ -10,7 +10,6 @@ use cyc_token::Token;
 use std::alloc::{AllocError, Global};
 
 /// An open write of a buffer: its article is begun and neither finished nor abandoned.
-#[derive(Debug)]
 pub struct Open {
     /// The token that the article is finished under.
     pub(crate) token: Token,
@@ -43,7 +42,7 @@ impl Open {
 }
 
 /// How far the open write has come.
-#[derive(Clone, Copy, Debug)]
+#[derive(Clone, Copy)]
 pub(crate) struct Progress {
     pub(crate) token: Token,
     /// The blocks that are written.
@@ -53,14 +52,14 @@ pub(crate) struct Progress {
 }
 
 /// How many articles were begun in a buffer, and how many of them were finished.
-#[derive(Clone, Copy, Debug)]
+#[derive(Clone, Copy)]
 pub(crate) struct Counts {
     pub(crate) begun: u64,
     pub(crate) stored: u64,
 }
 
 /// What a buffer keeps in memory.
-#[derive(Debug, Drop)]
+#[derive(Drop)]
 pub(crate) struct BufferState {
     pub(crate) line: Line,
     /// The blocks in which a finished article begins that the front hasn't passed.

@@ -14,7 +14,7 @@ pub(crate) struct Place {
 }
 
 /// The endless line of a buffer's blocks, and how far it is used.
-#[derive(Clone, Copy, Debug)]
+#[derive(Clone, Copy)]
 pub(crate) struct Line {
     pub(crate) number: u8,
     pub(crate) blocks: u32,

@@ -14,7 +14,7 @@ const WORD_BLOCKS: u32 = 64;
 const BITMAP_BLOCKS: u64 = 4096;
 
 /// A mark for each block of a buffer, set or not.
-#[derive(Debug, Drop)]
+#[derive(Drop)]
 pub(crate) struct Marks {
     pub(crate) words: Vec<u64>,
 }

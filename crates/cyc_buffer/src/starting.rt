@@ -18,7 +18,7 @@ use cyc_token::Token;
 use std::alloc::Global;
 
 /// A buffer that was started.
-#[derive(Debug, Drop)]
+#[derive(Drop)]
 pub struct Started<S: BlockStore> {
     /// The buffer, whose head block says closed yet.
     pub buffer: Unopened<S>,
@@ -29,7 +29,7 @@ pub struct Started<S: BlockStore> {
 }
 
 /// A store whose buffer isn't started, and why.
-#[derive(Debug, Drop)]
+#[derive(Drop)]
 pub struct Refused<S> {
     /// The store, with all blocks as they were.
     pub store: S,

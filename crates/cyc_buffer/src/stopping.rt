@@ -20,7 +20,7 @@ use crate::buffer_state::BufferState;
 use cyc_block::{BlockStore, DeviceFailed, HeadState, head_count, head_image};
 
 /// A buffer that isn't stopped, and why.
-#[derive(Debug, Drop)]
+#[derive(Drop)]
 pub struct Unstopped<S: BlockStore> {
     /// The buffer, as it was, though its head blocks may say anything.
     pub buffer: Buffer<S>,

@@ -15,7 +15,7 @@ use cyc_block::{BlockStore, CHUNK_OCTETS};
 use cyc_token::Token;
 
 /// A started buffer whose head block says closed yet.
-#[derive(Debug, Drop)]
+#[derive(Drop)]
 pub struct Unopened<S: BlockStore> {
     pub(crate) buffer: Buffer<S>,
 }
