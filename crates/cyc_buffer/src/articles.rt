@@ -111,6 +111,21 @@ fn read_images<S: BlockStore>(store: &mut S, token: &Token) -> Result<(), StartE
     Ok(())
 }
 
+/// Whether the octets are an image of the first block of the article under a token, which has to end
+/// by this block.
+fn begins_with(octets: &[u8; BLOCK_OCTETS], token: &Token, end: u32) -> bool
+    requires { token.now.first ≤ end }
+    ensures some { IsTrue result → 1 ≤ token.now.length }
+    ensures ends { IsTrue result → token.now.first + size_of token.now.length ≤ end }
+    ensures image { IsTrue result → IsImageUnder octets.now (token_view token.now) 0 }
+    ensures other { result ≡ false → 1 ≤ token.now.length
+        → token.now.first + size_of token.now.length ≤ end
+        → IsImageUnder octets.now (token_view token.now) 0 → ⊥ }
+{
+    let size = size_of(token.length);
+    size >= 1 && size <= end - token.first && is_image_under(octets, token, 0)
+}
+
 /// The token of the article that begins at a block, all of whose blocks are images of it.
 fn read_article<S: BlockStore>(
     store: &mut S,
@@ -139,8 +154,7 @@ fn read_article<S: BlockStore>(
     let Some(token) = token_of(&octets, stretch.number, stretch.cycle, first) else {
         return Err(StartError::Damaged);
     };
-    let size = size_of(token.length);
-    if size < 1 || size > stretch.end - first || !is_image_under(&octets, &token, 0) {
+    if !begins_with(&octets, &token, stretch.end) {
         return Err(StartError::Damaged);
     }
     read_images(store, &token)?;

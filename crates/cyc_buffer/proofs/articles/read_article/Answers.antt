@@ -1,6 +1,5 @@
--- Why no article begins at a block.
-use Rattle.std.proofs.Common.{◌≡◌, ◌∙◌, ◌+◌, ◌<◌, ℕ, false, sym, ap, subst, arith}
-use Rattle.std.proofs.lemmas.Bool.{false≢true}
+-- Why no article begins at a block, and what was read of one that does.
+use Rattle.std.proofs.Common.{◌≡◌, ◌∙◌, ◌+◌, ◌<◌, ◌≤◌, ℕ, zero, suc, false, sym, ap, subst, arith}
 use Rattle.news_terms.specs.BlockImage.{block_image}
 use Rattle.news_terms.specs.Places.{size_of}
 use Rattle.news_terms.specs.Token as terms
@@ -10,9 +9,24 @@ use Rattle.cyc_buffer.specs.Reads.{IsBlamed, IsDamageBy, IsNone, IsOfToken}
 use Rattle.cyc_buffer.specs.Stopped.{IsImageUnder, block_under}
 use Rattle.cyc_buffer.proofs.Refusals.{blamed_on, damage_by, held_on, same_token, passed_on}
 use Rattle.cyc_buffer.proofs.articles.read_article.Goals as goal
-use Rattle.cyc_buffer.proofs.articles.read_article.Goals.{then-size-lt1-via-then-size-lt1}
-use Rattle.cyc_buffer.proofs.articles.read_article.Goals.{then-size-lt1-via-else-size-lt1+then-size-stretch}
-use Rattle.cyc_buffer.proofs.articles.read_article.Goals.{then-size-lt1-via-else-size-lt1+else-size-stretch+then-not-is_image_under}
+
+-- what is so of the first and of the later ones is so of all
+from_first : (n : ℕ) (P : ℕ → Type 0) → P 0 → ((k : ℕ) → 1 ≤ k → k < n → P k)
+    → (k : ℕ) → k < n → P k
+from_first n P first later zero within = first
+from_first n P first later (suc k) within = later (suc k) (omega arith) within
+
+pub returns-in_err-octets-clause-refused : goal.returns-in_err-octets-clause-refused
+returns-in_err-octets-clause-refused g c honest =
+    passed_on (IsDamageBy (IsNone (λ j. false) (g.S.BlockStore.blocks c.args.store.now)
+    c.args.stretch.now.number c.args.stretch.now.cycle c.args.stretch.now.end c.args.first)) _ _
+    c.from_residual.ensures
+    (damage_by c.in_err-octets.field-0.0 (λ none. absurd none) c.in_err-octets.ensures.device)
+
+pub returns-in_err-octets-clause-failed : goal.returns-in_err-octets-clause-failed
+returns-in_err-octets-clause-failed g c =
+    passed_on (IsBlamed g.S.BlockStore c.args.store.now c.read_octets.new.store)
+    c.in_err-octets.field-0.0 _ c.from_residual.ensures c.in_err-octets.ensures.failed
 
 pub returns-in_default-clause-refused : goal.returns-in_default-clause-refused
 returns-in_default-clause-refused g c honest t here read clear =
@@ -22,33 +36,28 @@ returns-in_default-clause-refused g c honest t here read clear =
     ∙ ap (block_at (g.S.BlockStore.blocks c.args.store.now)) (omega (arith, here)) ∙ first.image in
     c.in_default.ensures.none (block_under t 0 first.payload) first.block there
 
-pub returns-then-size-lt1-clause-refused : goal.returns-then-size-lt1-clause-refused
-returns-then-size-lt1-clause-refused g c honest t here read clear =
+pub returns-in_default-clause-failed : goal.returns-in_default-clause-failed
+returns-in_default-clause-failed g c = c.in_ok-octets.ensures.no_failure
+
+pub returns-then-not-begins_with-clause-refused : goal.returns-then-not-begins_with-clause-refused
+returns-then-not-begins_with-clause-refused g c honest t here read clear =
     let octets = c.in_ok-octets.ensures.octets honest in
     let only = subst (λ o. IsOfToken o (token_view c.in-Some.token)) octets
     c.in-Some.ensures.only in
     let same = same_token (g.S.BlockStore.blocks c.args.store.now) c.args.stretch.now.number
     c.args.stretch.now.cycle c.args.stretch.now.end c.args.first t (token_view c.in-Some.token) only
     c.in-Some.ensures.place.0 c.in-Some.ensures.place.1 c.in-Some.ensures.place.2 here read in
-    let length = ap (λ (u : terms.Token). u.length) same in
-    elim c.then-size-lt1.branch [
-      | then-size-lt1-via-then-size-lt1 w ↦
-          omega (arith, w.if-size-lt1.true, c.size_of-size.ensures, read.some, length)
-      | then-size-lt1-via-else-size-lt1+then-size-stretch w ↦ omega (
-        arith,
-        w.if-size-stretch.true,
-        c.size_of-size.ensures,
-        read.ends,
-        length,
-        here,
-      )
-      | then-size-lt1-via-else-size-lt1+else-size-stretch+then-not-is_image_under w ↦
-          let first = read.images 0 (omega (arith, read.some)) in
-          let image = subst (λ (u : terms.Token). IsImageUnder c.in_ok-octets.octets u 0) same
-          (subst (λ o. IsImageUnder o t 0) (sym (octets
-          ∙ ap (block_at (g.S.BlockStore.blocks c.args.store.now)) (omega (arith, here)))) first) in
-          false≢true (sym w.if-not-is_image_under.true ∙ w.is_image_under.ensures.1 image)
-    ]
+    let first = read.images 0 (omega (arith, read.some)) in
+    c.begins_with.ensures.other c.if-not-begins_with.true
+    (subst (λ (u : terms.Token). 1 ≤ u.length) same read.some)
+    (subst (λ (u : terms.Token). u.first + size_of u.length ≤ c.args.stretch.now.end) same
+    read.ends)
+    (subst (λ (u : terms.Token). IsImageUnder c.in_ok-octets.octets u 0) same
+    (subst (λ o. IsImageUnder o t 0) (sym (octets
+    ∙ ap (block_at (g.S.BlockStore.blocks c.args.store.now)) (omega (arith, here)))) first))
+
+pub returns-then-not-begins_with-clause-failed : goal.returns-then-not-begins_with-clause-failed
+returns-then-not-begins_with-clause-failed g c = c.in_ok-octets.ensures.no_failure
 
 pub returns-in_err-read_images-clause-refused : goal.returns-in_err-read_images-clause-refused
 returns-in_err-read_images-clause-refused g c honest =
@@ -83,10 +92,36 @@ returns-in_err-read_images-clause-held g c =
     held_on g.S.BlockStore c.args.store.now c.read_octets.new.store c.read_images.new.store
     c.in_ok-octets.ensures.held c.in_err-read_images.ensures.held
 
+pub returns-clause-read : goal.returns-clause-read
+returns-clause-read g c honest =
+    let token = c.in-Some.token in
+    let place = c.in-Some.ensures.place in
+    let blocks = g.S.BlockStore.blocks c.args.store.now in
+    let held = c.in_ok-octets.ensures.held in
+    let begins = c.if-not-begins_with.false in
+    record {
+      buffer = place.0;
+      cycle = place.1;
+      some = c.begins_with.ensures.some begins;
+      ends = c.begins_with.ensures.ends begins;
+      images = from_first (size_of token.length)
+          (λ (k : ℕ). IsImageUnder (block_at blocks (token.first + k)) (token_view token) k)
+          (subst (λ o. IsImageUnder o (token_view token) 0)
+          (c.in_ok-octets.ensures.octets honest ∙ ap (block_at blocks) (omega (arith, place.2)))
+          (c.begins_with.ensures.image begins))
+          (subst (λ bs. (k : ℕ) → 1 ≤ k → k < size_of token.length
+          → IsImageUnder (block_at bs (token.first + k)) (token_view token) k)
+          (held.blocks honest) (c.in_ok-read_images.ensures.images (held.honest honest)));
+    }
+
 pub returns-clause-only : goal.returns-clause-only
 returns-clause-only g c honest =
     subst (λ o. IsOfToken o (token_view c.in-Some.token)) (c.in_ok-octets.ensures.octets honest)
     c.in-Some.ensures.only
+
+pub returns-clause-place : goal.returns-clause-place
+returns-clause-place g c =
+    (c.in-Some.ensures.place.2, c.begins_with.ensures.ends c.if-not-begins_with.false)
 
 pub returns-clause-held : goal.returns-clause-held
 returns-clause-held g c =
