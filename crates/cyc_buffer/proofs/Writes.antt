@@ -18,7 +18,7 @@ use Rattle.cyc_buffer.specs.Agreement.{Holds, HoldsOpen, open_block, ContinuesIn
 use Rattle.cyc_buffer.specs.History.{Article, Begin, Writing, History, head_of, finished_at}
 use Rattle.cyc_buffer.specs.History.{token_at, with_next_block, as_broken, changed}
 use Rattle.cyc_buffer.specs.Marks.{is_marked}
-use Rattle.cyc_buffer.specs.Progress.{IsTheOpen, written_of, counted, failed, stamp_of}
+use Rattle.cyc_buffer.specs.Progress.{IsTheOpen, written_of, has_failed, counted, failed, stamp_of}
 use Rattle.cyc_buffer.specs.BufferState.{IsSized, IsUnpassed, IsWriting, Writes, Keeps, Stays}
 use Rattle.cyc_buffer.specs.BufferState.{buffer_of}
 use Rattle.cyc_buffer.specs.declared.line.Line.{Line}
@@ -352,6 +352,12 @@ image_there blocks after stamp token k image payload text is within same imaged 
     ∙ get_or-set_same blocks (stamp.first + stamp.index) image [] within
     ∙ imaged ∙ ap (λ (p : List ℕ). block_image (stamped stamp p)) cut
     ∙ ap (λ (s : Stamp). block_image (stamped s (chunk s.index text))) same
+
+-- one more block of the open write is counted, and the rest of it is as it was
+pub counted_on : (write : Open) (p new : Option Progress) → IsTheOpen write p → new ≡ counted p
+    → (written_of new ≡ written_of p + 1) × (has_failed new ≡ has_failed p) × IsTheOpen write new
+counted_on write None new the_open is = absurd the_open
+counted_on write (Some p) new the_open is = rw is (refl, refl, the_open)
 
 -- What a write of one block leaves of a register and blocks that agree with a history.
 module _ (honest : Type 0) (blocks after : List (List ℕ)) (old new : BufferState) (h : History)

@@ -1,5 +1,5 @@
 -- What a read finds is what the history says.
-use Rattle.std.proofs.Common.{◌≡◌, ◌∙◌, sym, ap, subst, refl, rules, Some}
+use Rattle.std.proofs.Common.{◌≡◌, ◌∙◌, sym, ap, subst, refl, rules, inl, inr, Some}
 use Rattle.news_terms.specs.BlockImage.{block_image}
 use Rattle.cyc_block.specs.Store.{block_at}
 use Rattle.cyc_buffer.specs.Answers.{Shows, Gone}
@@ -25,17 +25,17 @@ returns-in-Unknown-clause-reads g c =
       unread = λ trusted h agrees unread. subst (Shows found.Unknown c.args.chunk.now)
           (sym (unknown_answer r h token k agrees.keeps r.line.within is)) tt;
       other = search rules;
-      fault = search rules;
-      room = search rules;
-      rest = search rules;
-      same = search rules;
-      buffer_state = search rules;
-      opened = search rules;
-      calls = search rules;
+      fault = tt;
+      room = tt;
+      rest = refl;
+      same = λ trusted h agrees. agrees;
+      buffer_state = refl;
+      opened = refl;
+      calls = inl refl;
       uncalled = λ trusted h agrees unread. refl;
       read = λ trusted h agrees read. absurd
           (block_is_unknown (sym (is ∙ looked_up r h token k agrees.keeps r.line.within read)));
-      device = search rules;
+      device = record { failed = tt; no_failure = refl; honest = λ is. is; blocks = refl };
     }
 
 pub returns-in-Gone-clause-reads : goal.returns-in-Gone-clause-reads
@@ -50,17 +50,17 @@ returns-in-Gone-clause-reads g c =
       unread = λ trusted h agrees unread. subst (Shows (found.Gone c.front.result) c.args.chunk.now)
           (sym (gone_answer r h token k agrees.keeps is)) c.front.ensures;
       other = search rules;
-      fault = search rules;
-      room = search rules;
-      rest = search rules;
-      same = search rules;
-      buffer_state = search rules;
-      opened = search rules;
-      calls = search rules;
+      fault = tt;
+      room = tt;
+      rest = refl;
+      same = λ trusted h agrees. agrees;
+      buffer_state = refl;
+      opened = refl;
+      calls = inl refl;
       uncalled = λ trusted h agrees unread. refl;
       read = λ trusted h agrees read. absurd
           (block_is_gone (sym (is ∙ looked_up r h token k agrees.keeps r.line.within read)));
-      device = search rules;
+      device = record { failed = tt; no_failure = refl; honest = λ is. is; blocks = refl };
     }
 
 pub returns-then-is_err-clause-reads : goal.returns-then-is_err-clause-reads
@@ -71,20 +71,20 @@ returns-then-is_err-clause-reads g c =
     let block = look_block (numbers_of r token k) (has_marks r token k) _ c.in-Block.block
     (sym c.in-Block.is ∙ c.look.ensures.look) in
     record {
-      found = search rules;
+      found = λ h agrees. tt;
       unread = λ trusted h agrees unread. absurd
           (not_unread r h token k agrees.keeps r.line.within block.0 block.1 unread);
-      other = search rules;
+      other = λ trusted h agrees. tt;
       fault = search rules;
-      room = search rules;
-      rest = search rules;
+      room = tt;
+      rest = refl;
       same = search rules;
-      buffer_state = search rules;
-      opened = search rules;
-      calls = search rules;
+      buffer_state = refl;
+      opened = refl;
+      calls = inr c.read.ensures.calls;
       uncalled = λ trusted h agrees unread. absurd
           (not_unread r h token k agrees.keeps r.line.within block.0 block.1 unread);
-      read = search rules;
+      read = λ trusted h agrees read. c.read.ensures.calls;
       device = search rules;
     }
 
@@ -110,17 +110,23 @@ returns-in-Some-clause-reads g c =
       unread = λ trusted h agrees unread. absurd
           (not_unread r h token k agrees.keeps r.line.within block.0 block.1 unread);
       other = search rules;
-      fault = search rules;
-      room = search rules;
-      rest = search rules;
+      fault = tt;
+      room = c.in-Some.ensures.room;
+      rest = c.in-Some.ensures.rest;
       same = search rules;
-      buffer_state = search rules;
-      opened = search rules;
-      calls = search rules;
+      buffer_state = refl;
+      opened = refl;
+      calls = inr c.read.ensures.calls;
       uncalled = λ trusted h agrees unread. absurd
           (not_unread r h token k agrees.keeps r.line.within block.0 block.1 unread);
-      read = search rules;
-      device = search rules;
+      read = λ trusted h agrees read. c.read.ensures.calls;
+      device = record {
+        failed = tt;
+        no_failure = without_error c.read.result (sym c.is_err.ensures.value ∙ c.if-is_err.false)
+            c.read.ensures.no_failure;
+        honest = c.read.ensures.honest;
+        blocks = c.read.ensures.count;
+      };
     }
 
 pub returns-in-None-clause-reads : goal.returns-in-None-clause-reads
@@ -145,17 +151,23 @@ returns-in-None-clause-reads g c =
       unread = λ trusted h agrees unread. absurd
           (not_unread r h token k agrees.keeps r.line.within block.0 block.1 unread);
       other = search rules;
-      fault = search rules;
-      room = search rules;
-      rest = search rules;
+      fault = tt;
+      room = tt;
+      rest = c.in-None.ensures.none;
       same = search rules;
-      buffer_state = search rules;
-      opened = search rules;
-      calls = search rules;
+      buffer_state = refl;
+      opened = refl;
+      calls = inr c.read.ensures.calls;
       uncalled = λ trusted h agrees unread. absurd
           (not_unread r h token k agrees.keeps r.line.within block.0 block.1 unread);
-      read = search rules;
-      device = search rules;
+      read = λ trusted h agrees read. c.read.ensures.calls;
+      device = record {
+        failed = tt;
+        no_failure = without_error c.read.result (sym c.is_err.ensures.value ∙ c.if-is_err.false)
+            c.read.ensures.no_failure;
+        honest = c.read.ensures.honest;
+        blocks = c.read.ensures.count;
+      };
     }
 
 pub returns-in-Gone-clause-remembered : goal.returns-in-Gone-clause-remembered

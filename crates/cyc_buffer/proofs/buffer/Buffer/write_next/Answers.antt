@@ -1,8 +1,13 @@
 -- A write of the next block, and what its failure leaves.
-use Rattle.std.proofs.Common.{◌≡◌, ◌∙◌, ◌+◌, true, length, arith, ap, subst, sym, refl, rules}
+use Rattle.std.proofs.Common.{◌≡◌, ◌∙◌, ◌+◌, ◌==◌, ℕ, true, length, arith, ap, subst, sym, refl}
+use Rattle.std.proofs.Common.{rules}
+use Rattle.news_terms.specs.Places.{size_of}
 use Rattle.cyc_block.specs.Store.{ChangesOnly}
 use Rattle.cyc_block.specs.declared.image.Stamp.{Stamp}
-use Rattle.cyc_buffer.proofs.Writes.{chunk_length, fails_by, next_by, image_there, without_error}
+use Rattle.cyc_buffer.specs.Marks.{is_marked}
+use Rattle.cyc_buffer.specs.declared.marks.Marks.{Marks}
+use Rattle.cyc_buffer.proofs.Writes.{chunk_length, counted_on, fails_by, next_by, image_there}
+use Rattle.cyc_buffer.proofs.Writes.{without_error}
 use Rattle.cyc_buffer.proofs.buffer.Buffer.write_next.Goals as goal
 
 pub block_image-image-requires-clause-some : goal.block_image-image-requires-clause-some
@@ -28,11 +33,11 @@ block_image-image-requires-clause-room g c =
 
 pub returns-then-is_err-clause-written : goal.returns-then-is_err-clause-written
 returns-then-is_err-clause-written g c can = record {
-  last = search rules;
+  last = tt;
   fault = search rules;
-  written = search rules;
-  count = search rules;
-  whole = search rules;
+  written = tt;
+  count = tt;
+  whole = tt;
   broken = λ trusted h agrees.
       let old = c.args.self.now.buffer_state in
       let here = ap (λ (s : Stamp). s.first + s.index) c.next_stamp-stamp.ensures.stamp in
@@ -50,39 +55,62 @@ returns-then-is_err-clause-written g c can = record {
         holds = left.1;
       };
   owned = search rules;
-  calls = search rules;
+  calls = c.write.ensures.calls;
 }
 
 pub returns-clause-written : goal.returns-clause-written
-returns-clause-written g c can = record {
-  last = search rules;
-  fault = search rules;
-  written = λ trusted h continues agrees.
-      let old = c.args.self.now.buffer_state in
-      let here = ap (λ (s : Stamp). s.first + s.index) c.next_stamp-stamp.ensures.stamp in
-      let left = next_by (trusted ≡ true) (g.S.BlockStore.blocks c.args.self.now.store)
-      (g.S.BlockStore.blocks c.write.new.self) old c.count_block.new.self h c.args.write.now
-      agrees.keeps agrees.holds c.count_block.ensures.rest c.args.text.now can.octets
-      old.progress h.writing refl refl agrees.keeps.writing
-      can.owned continues can.left c.count_block.ensures.progress
-      (λ is. subst (λ n. ChangesOnly n (g.S.BlockStore.blocks c.args.self.now.store)
-      (g.S.BlockStore.blocks c.write.new.self)) here (c.write.ensures.others (agrees.honest is)))
-      (λ is. (agrees.holds is).open_one)
-      (λ is. image_there (g.S.BlockStore.blocks c.args.self.now.store)
-      (g.S.BlockStore.blocks c.write.new.self) c.next_stamp-stamp.result c.args.write.now.token _
-      c.block_image-image.result c.chunk_of.result.now c.args.text.now
-      (without_error c.write.result (sym c.is_err.ensures.value ∙ c.if-is_err.false)
-      (c.write.ensures.written (agrees.honest is)))
-      (omega (arith, here, c.next_stamp-stamp.ensures.within, c.args.self.now.counted))
-      c.next_stamp-stamp.ensures.stamp c.block_image-image.ensures c.chunk_of.ensures) in
-      record {
-        keeps = left.0;
-        honest = λ is. c.write.ensures.honest (agrees.honest is);
-        holds = left.1;
-      };
-  count = search rules;
-  whole = search rules;
-  broken = search rules;
-  owned = search rules;
-  calls = search rules;
-}
+returns-clause-written g c can =
+    let counted = counted_on c.args.write.now c.args.self.now.buffer_state.progress
+    c.count_block.new.self.progress can.owned c.count_block.ensures.progress in
+    record {
+      last = c.count_block.ensures.last
+          ∙ ap (λ (n : ℕ). n == size_of c.args.write.now.token.length) (sym counted.0);
+      fault = tt;
+      written = λ trusted h continues agrees.
+          let old = c.args.self.now.buffer_state in
+          let here = ap (λ (s : Stamp). s.first + s.index) c.next_stamp-stamp.ensures.stamp in
+          let left = next_by (trusted ≡ true) (g.S.BlockStore.blocks c.args.self.now.store)
+          (g.S.BlockStore.blocks c.write.new.self) old c.count_block.new.self h c.args.write.now
+          agrees.keeps agrees.holds c.count_block.ensures.rest c.args.text.now can.octets
+          old.progress h.writing refl refl agrees.keeps.writing
+          can.owned continues can.left c.count_block.ensures.progress
+          (λ is. subst (λ n. ChangesOnly n (g.S.BlockStore.blocks c.args.self.now.store)
+          (g.S.BlockStore.blocks c.write.new.self)) here (c.write.ensures.others (agrees.honest is)))
+          (λ is. (agrees.holds is).open_one)
+          (λ is. image_there (g.S.BlockStore.blocks c.args.self.now.store)
+          (g.S.BlockStore.blocks c.write.new.self) c.next_stamp-stamp.result c.args.write.now.token _
+          c.block_image-image.result c.chunk_of.result.now c.args.text.now
+          (without_error c.write.result (sym c.is_err.ensures.value ∙ c.if-is_err.false)
+          (c.write.ensures.written (agrees.honest is)))
+          (omega (arith, here, c.next_stamp-stamp.ensures.within, c.args.self.now.counted))
+          c.next_stamp-stamp.ensures.stamp c.block_image-image.ensures c.chunk_of.ensures) in
+          record {
+            keeps = left.0;
+            honest = λ is. c.write.ensures.honest (agrees.honest is);
+            holds = left.1;
+          };
+      count = counted.0;
+      whole = counted.1 ∙ can.whole;
+      broken = tt;
+      owned = counted.2;
+      calls = c.write.ensures.calls;
+    }
+
+pub returns-then-is_err-clause-refused : goal.returns-then-is_err-clause-refused
+returns-then-is_err-clause-refused g c none =
+    absurd (none (c.can_write.ensures.0 c.if-not-can_write.false))
+
+pub returns-clause-refused : goal.returns-clause-refused
+returns-clause-refused g c none =
+    absurd (none (c.can_write.ensures.0 c.if-not-can_write.false))
+
+pub returns-then-is_err-clause-error : goal.returns-then-is_err-clause-error
+returns-then-is_err-clause-error g c = c.can_write.ensures.0 c.if-not-can_write.false
+
+pub returns-then-is_err-clause-starts : goal.returns-then-is_err-clause-starts
+returns-then-is_err-clause-starts g c block is =
+    ap (λ (m : Marks). is_marked m.words.items block) (sym c.mark_broken.ensures.rest.starts) ∙ is
+
+pub returns-clause-starts : goal.returns-clause-starts
+returns-clause-starts g c block is =
+    ap (λ (m : Marks). is_marked m.words.items block) (sym c.count_block.ensures.rest.starts) ∙ is
