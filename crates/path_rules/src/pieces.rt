@@ -33,7 +33,12 @@ pub(crate) fn first_piece(path: &[u8]) -> Option<Cut<'_>>
 fn bang_place(path: &[u8]) -> Option<usize>
     ensures { result ≡ position (λ c. c == byte "!") path.now }
 {
-    path.iter().position(|octet| *octet == b'!')
+    for (place, octet) in path.iter().enumerate() {
+        if *octet == b'!' {
+            return Some(place);
+        }
+    }
+    None
 }
 
 /// Whether each octet is printable, white space left out.
@@ -48,8 +53,12 @@ pub(crate) fn is_good(path: &[u8]) -> bool
 fn has_good_octets(path: &[u8]) -> bool
     ensures { result ≡ is_good path.now }
 {
-    path.iter()
-        .all(|octet| is_folding(*octet) || octet.is_ascii_graphic())
+    for octet in path {
+        if !is_folding(*octet) && !octet.is_ascii_graphic() {
+            return false;
+        }
+    }
+    true
 }
 
 /// Whether the piece says that the article was injected (RFC 5537, section 3.2.1).

@@ -10,7 +10,7 @@ use std::alloc::{AllocError, Global};
 use std::marker::Model;
 
 /// Why a Path is refused.
-#[derive(Clone, Copy, Debug, PartialEq, Eq)]
+#[derive(Clone, Copy, Debug)]
 pub enum PathError {
     /// Memory ran out, which says nothing of the Path.
     Memory,
@@ -27,7 +27,7 @@ impl From<AllocError> for PathError {
 }
 
 /// The identity of an agent as it stands in a Path, without white space (RFC 5537, section 3.2).
-#[derive(Debug, Drop)]
+#[derive(Drop)]
 pub struct Identity {
     octets: Vec<u8>,
 }
@@ -93,11 +93,13 @@ fn identity_of(alloc: Global, piece: &[u8]) -> Result<Identity, AllocError>
 fn octets_of(alloc: Global, piece: &[u8]) -> Result<Vec<u8>, AllocError>
     ensures { IfOk result (λ octets. octets.items ≡ terms.path_octets piece.now) }
 {
-    piece
-        .iter()
-        .filter(|octet| !is_folding(**octet))
-        .copied()
-        .collect(alloc)
+    let mut octets = Vec::new(alloc);
+    for octet in piece {
+        if !is_folding(*octet) {
+            octets.push(*octet)?;
+        }
+    }
+    Ok(octets)
 }
 
 /// Whether the own identity is among the identities of a Path's content, without regard to ASCII
