@@ -12,7 +12,7 @@ use nntp_text::{MsgId, Part};
 use std::cmp;
 
 /// What a fetch asks.
-#[derive(Debug, Drop)]
+#[derive(Drop)]
 pub enum Asked {
     /// A part of the article of a message-id (RFC 3977, sections 6.2 and 8.3).
     OfId(Part, MsgId),

@@ -9,7 +9,7 @@ use std::marker::Model;
 
 /// The octets of an article that a block holds, at most `CHUNK_OCTETS` of them. They move by value
 /// and take no memory.
-#[derive(Debug, Drop)]
+#[derive(Drop)]
 pub struct Octets480 {
     octets: [u8; CHUNK_OCTETS],
     len: usize,
@@ -47,7 +47,7 @@ impl Octets480 {
 
 /// What was read of the next block of a fetch. That it was gone, or that the device failed, is said
 /// by the front or the fault that the read gave, which a buffer alone makes.
-#[derive(Debug, Drop)]
+#[derive(Drop)]
 pub enum Chunk {
     /// The octets of the article that the block holds.
     Found(Octets480),

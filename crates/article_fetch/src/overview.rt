@@ -16,7 +16,7 @@ use std::alloc::{AllocError, Global};
 pub const LINE_ROOM: usize = 48;
 
 /// Why no overview line was put, in the order of trial.
-#[derive(Clone, Copy, Debug, PartialEq, Eq)]
+#[derive(Clone, Copy, Debug)]
 pub enum PutError {
     /// The text isn't laid out as an article: its fields, an empty line and a body (RFC 5536,
     /// sections 2.1 and 2.2).
