@@ -35,7 +35,7 @@ pub enum Output {
 }
 
 /// Why an event is refused, in the order of trial; want of memory comes last.
-#[derive(Clone, Copy, Debug, PartialEq, Eq)]
+#[derive(Clone, Copy)]
 pub enum CoreError {
     /// Memory was refused. The event may be tried again.
     Memory,
