@@ -11,7 +11,7 @@ use std::fmt;
 use std::fmt::{Display, Formatter};
 
 /// A file that can't be had, by its name in cycbuff.conf, and why. Its text is two lines.
-#[derive(Debug, Drop)]
+#[derive(Drop)]
 pub struct LostFile {
     pub name: String,
     pub reason: Reason,
@@ -27,7 +27,7 @@ impl Display for LostFile {
 }
 
 /// A port that can't be had, by its number, and why. Its text is two lines.
-#[derive(Debug, Drop)]
+#[derive(Drop)]
 pub struct LostPort {
     pub number: u16,
     pub reason: Reason,
@@ -44,7 +44,7 @@ impl Display for LostPort {
 
 /// Why a relay was not served, or its report not printed (docs/PROTOCOL.md, Statuses). Its text is
 /// what the program prints.
-#[derive(Debug, Drop)]
+#[derive(Drop)]
 pub enum ServeError {
     /// The file of a buffer can't be had. Nothing was served.
     File(LostFile),
@@ -71,16 +71,22 @@ impl Display for ServeError {
 
     fn fmt<W: fmt::Write>(&self, formatter: &mut Formatter<W>) -> fmt::Result {
         match self {
-            ServeError::File(lost) => write!(formatter, "{lost}"),
-            ServeError::Port(lost) => write!(formatter, "{lost}"),
+            ServeError::File(lost) => Display::fmt(lost, formatter),
+            ServeError::Port(lost) => Display::fmt(lost, formatter),
             ServeError::Control => formatter.write_str("control: unusable"),
-            ServeError::Start(fault) => write!(formatter, "{fault}"),
+            ServeError::Start(fault) => Display::fmt(fault, formatter),
             ServeError::Unseeded => formatter.write_str("relay: no random numbers to be had"),
             ServeError::Memory => formatter.write_str("out of memory"),
             ServeError::NoThread => formatter.write_str("serve: no thread to be had"),
-            ServeError::Stop(fault) => write!(formatter, "{fault}"),
+            ServeError::Stop(fault) => Display::fmt(fault, formatter),
             ServeError::Unwritten => formatter.write_str("stdout: unwritten"),
         }
+    }
+}
+
+impl fmt::Debug for ServeError {
+    fn fmt<W: fmt::Write>(&self, formatter: &mut Formatter<W>) -> fmt::Result {
+        Display::fmt(self, formatter)
     }
 }
 

@@ -5,14 +5,14 @@ use id_history::Counts;
 use line_words::Octets;
 
 /// A buffer's name, with its figures.
-#[derive(Debug, Drop)]
+#[derive(Drop)]
 pub struct NamedBuffer {
     pub name: Octets,
     pub figures: BufferFigures,
 }
 
 /// The figures of a feed, in tokens.
-#[derive(Clone, Copy, Debug, PartialEq, Eq)]
+#[derive(Clone, Copy)]
 pub struct FeedFigures {
     /// How many wait in the feed's ring.
     pub waiting: u64,
@@ -23,14 +23,14 @@ pub struct FeedFigures {
 }
 
 /// The name of a feed's peer, with the feed's figures.
-#[derive(Debug, Drop)]
+#[derive(Drop)]
 pub struct NamedFeed {
     pub peer: Octets,
     pub figures: FeedFigures,
 }
 
 /// The figures of a relay.
-#[derive(Debug, Drop)]
+#[derive(Drop)]
 pub struct Figures {
     /// Of each buffer, in the order of the configuration.
     pub buffers: Vec<NamedBuffer>,

@@ -6,7 +6,7 @@ use std::fmt;
 use std::fmt::{Display, Formatter};
 
 /// Why a relay can't start from the file of a buffer (docs/FORMATS.md, Head blocks).
-#[derive(Clone, Copy, Debug, PartialEq, Eq)]
+#[derive(Clone, Copy)]
 pub enum BufferFault {
     /// A block couldn't be read or written.
     Device,
@@ -36,7 +36,7 @@ impl BufferFault {
 }
 
 /// Why a relay can't start from its files (docs/PROTOCOL.md, Clean stop and start).
-#[derive(Debug, Drop)]
+#[derive(Drop)]
 pub enum StartFault {
     /// `relay.hist` is there and can't be read, or not be taken away before all is formatted.
     History,
@@ -65,7 +65,7 @@ impl Display for StartFault {
 }
 
 /// Why a relay that was served couldn't be stopped so that it can start again.
-#[derive(Clone, Copy, Debug, PartialEq, Eq)]
+#[derive(Clone, Copy)]
 pub enum StopFault {
     /// An article is still being stored. No buffer was closed.
     NotIdle,

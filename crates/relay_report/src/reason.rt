@@ -2,13 +2,12 @@
 ghost use Rattle.std.specs.Prelude.{Some};
 ghost use Rattle.relay_report.specs.Reasons.{reason_text};
 
-use std::error::Error;
 use std::fmt;
 use std::fmt::{Display, Formatter};
 
 /// Why a file or a port can't be had. Its text is what the program prints below the line that names
 /// it.
-#[derive(Clone, Copy, Debug, PartialEq, Eq)]
+#[derive(Clone, Copy)]
 pub enum Reason {
     /// The name of the file is no UTF-8.
     NoText,
@@ -56,5 +55,3 @@ impl Display for Reason {
         })
     }
 }
-
-impl Error for Reason {}

@@ -8,7 +8,7 @@ use std::alloc::{AllocError, Global};
 
 /// What is known of a relay in threads once all its seats have come back (docs/PROTOCOL.md,
 /// Threads 9).
-#[derive(Debug, Drop)]
+#[derive(Drop)]
 pub struct Totals {
     /// Its figures, which the report tells.
     pub figures: Figures,

@@ -9,7 +9,7 @@ use std::io::{ErrorKind, Write};
 const MOST_TURNS: u64 = 1 << 40;
 
 /// The writer failed. What it took before stands.
-#[derive(Clone, Copy, Debug)]
+#[derive(Clone, Copy)]
 pub struct Unwritten;
 
 /// Writes octets. A writer that is interrupted is asked again, one that takes none has failed.
