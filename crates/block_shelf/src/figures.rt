@@ -11,7 +11,7 @@ use crate::buffer_set::BufferSet;
 use cyc_block::BlockStore;
 
 /// What the report says of a buffer (docs/FORMATS.md, Report).
-#[derive(Clone, Copy, Debug, PartialEq, Eq)]
+#[derive(Clone, Copy)]
 pub struct BufferFigures {
     /// The cycle that its newest article is in, or its first one where none was begun.
     pub cycle: u32,

@@ -10,7 +10,7 @@ use cyc_buffer::{RestartError, StartError};
 use std::alloc::Global;
 
 /// Why a buffer set isn't stopped and started again, in the order of trial.
-#[derive(Clone, Copy, Debug, PartialEq, Eq)]
+#[derive(Clone, Copy)]
 pub enum RestartFault {
     /// A write is open in one of its buffers.
     Busy,

@@ -20,7 +20,7 @@ use relay_conf::Buffers;
 use std::alloc::{AllocError, Global};
 
 /// Why a relay isn't started, in the order of trial.
-#[derive(Clone, Copy, Debug, PartialEq, Eq)]
+#[derive(Clone, Copy)]
 pub enum StopFault {
     /// Memory was refused.
     Memory,
