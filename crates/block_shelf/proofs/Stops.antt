@@ -24,6 +24,7 @@ use Rattle.relay_facts.proofs.Puts.{put_at_both, put_at_here, put_at_there}
 use Rattle.relay_model.specs.State.{Kept, put_at}
 use Rattle.relay_model.specs.Terms.{Terms}
 use Rattle.relay_model.specs.World.{HasFailedAt}
+use Rattle.std.specs.Prelude.{is_ok}
 use Rattle.block_shelf.proofs.EachLemmas.{each_so, one_more_each}
 use Rattle.block_shelf.proofs.Shelving.{KeptAt, buffers_kept, failed_once, groups_kept, kept_at}
 use Rattle.block_shelf.proofs.Shelving.{put_both, rises, still, with_buffer}
@@ -152,10 +153,13 @@ module _ {S : Type 0} {g : Ghosts S} (stop : ℕ) (code : Buffer S g) (before : 
       → IsStopRefusal code error code' → LeavesBuffer code code' → place ≡ length old
       → store ≡ store_of code' → new ≡ old ++ store ∷ [] → IsStopped stop before failed old
       → IsStopped stop (before ++ code ∷ []) (Some place) new
-  fails_next (Some at) error code' store new place none idle refusal leaves is made_of made had = cc
+  fails_next (Some at) error code' store new place none idle refusal leaves is made_of made had =
+      absurd (true≢false none)
   fails_next None error code' store new place none idle refusal leaves is made_of made had = (
     omega (arith, is, had.count, length-append before (code ∷ [])),
-    rw (made, made_of) (one_more_each (IsLeftOver place) before old code (store_of code')
+    subst (AreEach (IsLeftOver place) (before ++ code ∷ []))
+        (sym (made ∙ ap (λ one. old ++ one ∷ []) made_of))
+        (one_more_each (IsLeftOver place) before old code (store_of code')
         (each_so had (λ b one store there at shut. record {
           honest = shut.honest;
           count = shut.count;
@@ -182,12 +186,17 @@ not_busy old new fault other idle = idle
 -- what is done has no fault
 no_fault : (result : Result (Unit {0}) RestartFault) (fault : RestartFault) → result ≡ Ok tt
     → result ≡ Err fault → ⊥
-no_fault result fault done failed = cc
+no_fault result fault done failed = true≢false (sym (ap is_ok done) ∙ ap is_ok failed)
+
+-- the fault of a result, or another where it has none
+abbrev fault_in : RestartFault → Result (Unit {0}) RestartFault → RestartFault
+fault_in other (Ok done) = other
+fault_in other (Err fault) = fault
 
 -- and what isn't has one
 same_fault : (result : Result (Unit {0}) RestartFault) (one other : RestartFault)
     → result ≡ Err one → result ≡ Err other → one ≡ other
-same_fault result one other is also = cc
+same_fault result one other is also = ap (fault_in one) (sym is ∙ also)
 
 -- a buffer set to which nothing was done
 pub stays_same : {S : Type 0} {g : Ghosts S} (old : BufferSet S g) → KeepsOn old (Ok tt) old
@@ -235,6 +244,10 @@ never_busy (errors.Start starts.Unclosed) place e = cc
 never_busy (errors.Start starts.Damaged) place e = cc
 never_busy (errors.Open error) place e = cc
 
+-- want of memory isn't told as Failed
+not_failed : (number : ℕ) → faults.Memory ≡ faults.Failed number → ⊥
+not_failed number e = cc
+
 -- the number that is told as Failed
 told_number : (place number : ℕ) → faults.Failed place ≡ faults.Failed number → number ≡ place
 told_number place number e = cc
@@ -262,7 +275,8 @@ module _ {S : Type 0} {g : Ghosts S} (code code' : Buffer S g) where
       → (number ≡ place) × (g.failures (store_of code) < g.failures (store_of code'))
   fails (errors.Stop error) place number refusal without idle told =
       (told_number place number told, device_failed code code' error refusal idle)
-  fails (errors.Start starts.Memory) place number refusal without idle told = cc
+  fails (errors.Start starts.Memory) place number refusal without idle told =
+      absurd (not_failed number told)
   fails (errors.Start starts.Device) place number refusal without idle told =
       (told_number place number told, refusal.1)
   fails (errors.Start starts.NoHead) place number refusal without idle told = absurd without
@@ -355,8 +369,9 @@ module _ {S : Type 0} {g : Ghosts S} (old : BufferSet S g) (place : ℕ) {code c
             same_Some was.item code
             (sym was.there ∙ ap (slice_get old.buffers.items) here ∙ there) in
             record {
-              before = λ less.
-                  rw (here, sym (was.belongs.behind (omega (arith, here))) ∙ item) is;
+              before = λ less. subst (λ n. IsRestartedFrom stop n one code') (sym here)
+                  (subst (λ from. IsRestartedFrom stop place from code')
+                  (sym item ∙ was.belongs.behind (omega (arith, here))) is);
               behind = λ more. absurd (omega (arith, more, here));
             })
             (λ apart. record {
