@@ -8,6 +8,7 @@ use Rattle.std.proofs.lemmas.Bool.Decides.{nat_tests}
 use Rattle.std.proofs.lemmas.Option.{none-some, same_Some, slice_get_past, slice_get_read}
 use Rattle.std.proofs.lemmas.Option.{slice_get_within}
 use Rattle.std.specs.Global.{Vec}
+use Rattle.std.specs.Prelude.{unwrap_or}
 use Rattle.std.specs.Vec.{with_item}
 use Rattle.cyc_block.specs.declared.store.BlockStore.{Ghosts}
 use Rattle.cyc_buffer.specs.Agreement.{Agrees, Follows, store_of}
@@ -69,6 +70,19 @@ pub read_there : {X A B C : Type 0} (xs : List X) (i : ℕ) {x : X}
     → slice_get xs i ≡ Some x
 read_there xs i {x} found =
     slice_get_read xs (length xs) i x refl (ltb-true i (length xs) (sym found.0)) found.1
+
+-- so it is the number there, or else 0
+pub number_there : {A B C : Type 0} (xs : List ℕ) (i : ℕ) {x : ℕ}
+    → (true ≡ nat_lt i (length xs)) × (x ≡ slice_index_or xs i x) × A × B × C
+    → x ≡ unwrap_or (slice_get xs i) 0
+number_there xs i found = sym (ap (λ one. unwrap_or one 0) (read_there xs i found))
+
+-- past the end there is none, so it is 0
+pub none_there : (xs : List ℕ) (i : ℕ) → false ≡ nat_lt i (length xs)
+    → 0 ≡ unwrap_or (slice_get xs i) 0
+none_there xs i past =
+    sym (ap (λ one. unwrap_or one 0)
+    (slice_get_past xs i (ltb-false i (length xs) (sym past))))
 
 -- THE BUFFERS
 

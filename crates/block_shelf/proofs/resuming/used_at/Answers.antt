@@ -1,17 +1,8 @@
-use Rattle.std.proofs.Common.{ap, sym}
-use Rattle.std.proofs.lemmas.Bool.{ltb-false}
-use Rattle.std.proofs.lemmas.Option.{slice_get_past}
-use Rattle.std.specs.Prelude.{unwrap_or}
-use Rattle.block_shelf.proofs.Shelving.{read_there}
+use Rattle.block_shelf.proofs.Shelving.{none_there, number_there}
 use Rattle.block_shelf.proofs.resuming.used_at.Goals as goal
 
 pub returns-in-Some : goal.returns-in-Some
-returns-in-Some c =
-    sym (ap (λ one. unwrap_or one 0)
-    (read_there c.args.used.now c.args.number c.in-Some.ensures.lookup))
+returns-in-Some c = number_there c.args.used.now c.args.number c.in-Some.ensures.lookup
 
 pub returns-in-None : goal.returns-in-None
-returns-in-None c =
-    sym (ap (λ one. unwrap_or one 0)
-    (slice_get_past c.args.used.now c.args.number
-    (ltb-false _ _ (sym c.in-None.ensures.lookup.0))))
+returns-in-None c = none_there c.args.used.now c.args.number c.in-None.ensures.lookup.0
