@@ -1,5 +1,4 @@
-use Rattle.std.proofs.Common.{◌≡◌, ◌≤◌, ◌∙◌, ◌<◌, ap, arith, length, map, rules, vec_capacity}
-use Rattle.std.proofs.Common.{vec_len}
+use Rattle.std.proofs.Common.{◌∙◌, ◌<◌, ap, arith, length, map, vec_capacity, vec_len}
 use Rattle.std.specs.Prelude.{Ok}
 use Rattle.article_verdict.proofs.FewFeeds.{few_feeds}
 use Rattle.article_verdict.specs.Config.{terms_of}
@@ -55,7 +54,7 @@ loop-number-preserved g c =
           record {
             count = omega (arith, ap vec_len w.kept-is, c.loop-number.invariant.count);
             room = omega (arith, ap vec_capacity w.kept-is, c.loop-number.invariant.room);
-            waits = search rules;
+            waits = rw w.kept-is c.loop-number.invariant.waits;
             left = λ feed keeps.
                 absurd (feed_missing config c.args.self.now.desk feed n keeps within
                 (c.kept.ensures.missing.0 (c.in_ok-one.was ∙ ap Ok w.in_default.is)));
@@ -66,12 +65,24 @@ loop-number-preserved g c =
 pub returns-clause-left : goal.returns-clause-left
 returns-clause-left g c = λ feed keeps.
     all_left c.args.self.now.config c.loop-number.number
-    (map feed_view c.loop-number.kept.items) feed (search rules)
+    (map feed_view c.loop-number.kept.items) feed
+    (omega (
+      arith,
+      c.loop-number.far-number,
+      c.loop-number-test.false,
+      ap length c.deref-feed-items.ensures.value,
+    ))
     (c.loop-number.invariant.left feed keeps)
 
 pub returns-clause-room : goal.returns-clause-room
-returns-clause-room g c =
-    let all : c.loop-number.number ≡ length c.args.self.now.config.relay.feeds.items =
-    search rules in
-    let few : length c.loop-number.kept.items ≤ c.loop-number.number = search rules in
-    (omega (arith, few, all, few_feeds c.args.self.now.config), c.loop-number.invariant.waits)
+returns-clause-room g c = (
+  omega (
+    arith,
+    c.loop-number.invariant.count,
+    c.loop-number.kept.ok,
+    c.loop-number.far-number,
+    ap length c.deref-feed-items.ensures.value,
+    few_feeds c.args.self.now.config,
+  ),
+  c.loop-number.invariant.waits,
+)

@@ -19,6 +19,36 @@ returns-then-peer-len-clause-steps g c =
     (subst (λ (k : ℕ). k ≤ c.args.peer)
     (c.len.ensures ∙ peers_count c.args.self.now.config) c.if-peer-len.true)
 
+-- there is no memory for its greeting
+pub returns-in-Err-clause-steps : goal.returns-in-Err-clause-steps
+returns-in-Err-clause-steps g c =
+    wanted c.args.self.now c.args.number (run.Open c.args.number c.args.peer) _ refl refl
+    (λ x agrees. agrees)
+
+pub returns-in-Err-clause-refused : goal.returns-in-Err-clause-refused
+returns-in-Err-clause-refused g c =
+    memory_wanted c.args.self.now (run.Open c.args.number c.args.peer) _
+    (λ laned. may_open c.args.self.now c.args.number c.args.peer c.is_taken.result
+    c.is_taken.ensures c.if-is_taken.false
+    (subst (λ (k : ℕ). c.args.peer < k)
+    (c.len.ensures ∙ peers_count c.args.self.now.config) c.if-peer-len.false)) refl
+    (λ trusted x agrees. agrees)
+
+-- there is no memory for it
+pub returns-in-Err-open-clause-steps : goal.returns-in-Err-open-clause-steps
+returns-in-Err-open-clause-steps g c =
+    wanted c.args.self.now c.args.number (run.Open c.args.number c.args.peer) _ refl refl
+    (λ x agrees. agrees)
+
+pub returns-in-Err-open-clause-refused : goal.returns-in-Err-open-clause-refused
+returns-in-Err-open-clause-refused g c =
+    memory_wanted c.args.self.now (run.Open c.args.number c.args.peer) _
+    (λ laned. may_open c.args.self.now c.args.number c.args.peer c.is_taken.result
+    c.is_taken.ensures c.if-is_taken.false
+    (subst (λ (k : ℕ). c.args.peer < k)
+    (c.len.ensures ∙ peers_count c.args.self.now.config) c.if-peer-len.false)) refl
+    (λ trusted x agrees. agrees)
+
 -- the session opens
 pub returns-in-Ok-open-2-clause-steps : goal.returns-in-Ok-open-2-clause-steps
 returns-in-Ok-open-2-clause-steps g c =

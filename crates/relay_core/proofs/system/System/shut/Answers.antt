@@ -1,7 +1,23 @@
-use Rattle.std.proofs.Common.{Bool, subst}
-use Rattle.relay_core.proofs.Stops.{back_all, shuts_all}
+use Rattle.std.proofs.Common.{Bool, refl, subst}
+use Rattle.relay_core.proofs.Stops.{at_rest, back_all, shuts_all}
 use Rattle.relay_core.specs.Idle.{TellsIdle}
 use Rattle.relay_core.proofs.system.System.shut.Goals as goal
+
+-- an id is being stored
+pub returns-then-not-is_idle-clause-back : goal.returns-then-not-is_idle-clause-back
+returns-then-not-is_idle-clause-back g c =
+    let storing = subst (λ (b : Bool). TellsIdle c.args.self.shards b) c.if-not-is_idle.true
+    c.is_idle.ensures in
+    (refl, λ trusted x agrees. storing x.state.claim agrees.core.claims)
+
+-- there is no memory for the text
+pub returns-in-Err-clause-back : goal.returns-in-Err-clause-back
+returns-in-Err-clause-back g c = (
+  refl,
+  at_rest c.args.self
+      (subst (λ (b : Bool). TellsIdle c.args.self.shards b) c.if-not-is_idle.false
+      c.is_idle.ensures),
+)
 
 -- the stores and the text hold each world
 pub returns-clause-shut : goal.returns-clause-shut
