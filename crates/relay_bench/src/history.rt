@@ -48,8 +48,13 @@ fn resumed(
     ids: Vec<KeptId>,
 ) -> io::Result<Shards> {
     let shards = Shards::resume(alloc, RandomState::new(rt)?, ids)?;
-    print(rt, name, start)?;
-    Ok(shards)
+    match print(rt, name, start) {
+        Ok(()) => Ok(shards),
+        Err(error) => {
+            drop(shards);
+            Err(error)
+        }
+    }
 }
 
 /// So many ids, each of 49 octets and stored.
@@ -121,7 +126,9 @@ fn started(rt: &HostRuntime, alloc: Global, text: &[u8], count: u32) -> io::Resu
     print(rt, "read", start)?;
     let start = Instant::now(rt)?;
     let shards = resumed(rt, alloc, "resume", start, ids)?;
-    if shards.counts().stored != u128::from(count) {
+    let stored = shards.counts().stored;
+    drop(shards);
+    if stored != u128::from(count) {
         return Err(io::Error::from(ErrorKind::InvalidData));
     }
     Ok(())

@@ -10,7 +10,7 @@ mod relay;
 mod work;
 
 use loads::Load;
-use relay::Bench;
+use relay::{Counts, Relay};
 use std::process::ExitCode;
 use std::{env, fs, io};
 use work::{Job, seconds};
@@ -29,16 +29,17 @@ fn main(rt: HostRuntime) -> ExitCode {
 fn run(rt: &HostRuntime) -> io::Result<()> {
     let words: Vec<String> = env::args(rt)?.collect(rt.alloc())?;
     match words.get(1) {
-        Some(word) => asked(rt, word.as_str(), words.get(2..).unwrap_or(&[])),
+        Some(word) => asked(rt, word.as_str(), words.get(1..).unwrap_or(&[])),
         None => Ok(()),
     }
 }
 
-/// Does what a word asks, with those behind it. A word with a colon names a load of the relay,
+/// Does what a word asks, the first of these. A word with a colon names a load of the relay,
 /// `history` is a stop and a start, any other word a work on texts.
-fn asked(rt: &HostRuntime, word: &str, behind: &[String]) -> io::Result<()> {
+fn asked(rt: &HostRuntime, word: &str, words: &[String]) -> io::Result<()> {
+    let behind = words.get(1..).unwrap_or(&[]);
     if word.contains(':') {
-        serve_all(rt, word, behind)
+        serve_all(rt, words)
     } else if word == "history" {
         keep_all(rt, behind)
     } else {
@@ -58,33 +59,28 @@ fn keep_all(rt: &HostRuntime, words: &[String]) -> io::Result<()> {
 }
 
 /// Has one relay serve the load that each word names, in order.
-fn serve_all(rt: &HostRuntime, first: &str, others: &[String]) -> io::Result<()> {
-    let mut bench = Bench::new(rt)?;
-    let served = serve_each(rt, &mut bench, first, others);
-    drop(bench);
+fn serve_all(rt: &HostRuntime, words: &[String]) -> io::Result<()> {
+    let mut relay = relay::begun(rt)?;
+    let served = serve_each(rt, &mut relay, words);
+    drop(relay);
     served
 }
 
 /// Serves the load that each word names, in order.
-fn serve_each(
-    rt: &HostRuntime,
-    bench: &mut Bench,
-    first: &str,
-    others: &[String],
-) -> io::Result<()> {
-    serve(rt, bench, first)?;
-    for word in others {
-        serve(rt, bench, word.as_str())?;
+fn serve_each(rt: &HostRuntime, relay: &mut Relay, words: &[String]) -> io::Result<()> {
+    let mut counts = Counts::new();
+    for word in words {
+        serve(rt, relay, &mut counts, word.as_str())?;
     }
     Ok(())
 }
 
 /// Serves what a word as `take:10000` names, and prints its line.
-fn serve(rt: &HostRuntime, bench: &mut Bench, word: &str) -> io::Result<()> {
+fn serve(rt: &HostRuntime, relay: &mut Relay, counts: &mut Counts, word: &str) -> io::Result<()> {
     let Some((load, count)) = load_named(word) else {
         return Err(unknown());
     };
-    let (events, seconds) = bench.serve(rt, load, u64::from(count))?;
+    let (events, seconds) = relay::serve(rt, relay, counts, load, u64::from(count))?;
     print_served(rt, word, events, seconds)
 }
 

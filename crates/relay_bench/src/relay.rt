@@ -15,11 +15,12 @@ use std::time::Instant;
 const CYCBUFF: &[u8] = b"cycbuff:A:a:8192\ncycbuff:B:b:8192\ncycbuff:C:c:8192\ncycbuff:D:d:8192\n\
     metacycbuff:G:A,B,C,D\n";
 
-/// A relay under way.
+/// A relay over blocks in memory.
+pub type Relay = System<MemoryBlocks>;
+
+/// What a relay was asked so far.
 #[derive(Drop)]
-pub struct Bench {
-    alloc: Global,
-    relay: System<MemoryBlocks>,
+pub struct Counts {
     /// How many sessions there were,
     sessions: u64,
     /// how many ids were asked for and stayed unknown,
@@ -28,52 +29,27 @@ pub struct Bench {
     made: u64,
 }
 
-impl Bench {
-    /// A relay to which nothing has come.
-    pub fn new(rt: &HostRuntime) -> io::Result<Bench> {
-        let alloc = rt.alloc();
-        Ok(Bench {
-            alloc,
-            relay: relay(rt, alloc)?,
+impl Counts {
+    /// Nothing yet.
+    pub fn new() -> Counts {
+        Counts {
             sessions: 0,
             asked: 0,
             made: 0,
-        })
-    }
-
-    /// Serves a load for so many ids, in new sessions that take turns. How many events that were,
-    /// and the seconds that they took; before these the events are made, after them the replies
-    /// are counted: each id has one that begins as it has to.
-    pub fn serve(&mut self, rt: &HostRuntime, load: &Load, count: u64) -> io::Result<(usize, f64)> {
-        let sessions = count.div_ceil(load.share.max(1)).max(1);
-        self.open(rt, sessions)?;
-        let events = self.events(load, sessions, count)?;
-        let number = events.len();
-        let timed = self.timed(rt, &events, load.code);
-        drop(events);
-        let (replies, took) = timed?;
-        self.name(load.ids, count);
-        if replies != count {
-            return Err(io::Error::from(ErrorKind::InvalidData));
         }
-        Ok((number, took))
-    }
-
-    /// So many sessions open.
-    fn open(&mut self, rt: &HostRuntime, sessions: u64) -> io::Result<()> {
-        let events = openings(self.alloc, self.sessions, sessions)?;
-        self.sessions = self.sessions.saturating_add(sessions);
-        let timed = self.timed(rt, &events, b"");
-        drop(events);
-        let _greetings = timed?;
-        Ok(())
     }
 
     /// What happens for so many ids of a load, which the newest sessions name in turn.
-    fn events(&self, load: &Load, sessions: u64, count: u64) -> Result<Vec<Event>, AllocError> {
-        let body = body(self.alloc, load.block)?;
-        let mut events = Vec::new(self.alloc);
-        let added = self.add_all(&mut events, load, &body, sessions, count);
+    fn events(
+        &self,
+        alloc: Global,
+        load: &Load,
+        sessions: u64,
+        count: u64,
+    ) -> Result<Vec<Event>, AllocError> {
+        let body = body(alloc, load.block)?;
+        let mut events = Vec::new(alloc);
+        let added = self.add_all(alloc, &mut events, load, &body, sessions, count);
         drop(body);
         match added {
             Ok(()) => Ok(events),
@@ -87,6 +63,7 @@ impl Bench {
     /// Adds what happens for so many ids of a load, by the body that it sends.
     fn add_all(
         &self,
+        alloc: Global,
         events: &mut Vec<Event>,
         load: &Load,
         body: &[u8],
@@ -96,7 +73,7 @@ impl Bench {
         let first = self.sessions.saturating_sub(sessions);
         for place in 0..count {
             let session = first.saturating_add(place % sessions.max(1));
-            let piece = piece(self.alloc, load, body, self.number(load.ids, place))?;
+            let piece = piece(alloc, load, body, self.number(load.ids, place))?;
             add(events, load, session, piece)?;
         }
         Ok(())
@@ -119,18 +96,57 @@ impl Bench {
             Ids::Known => {}
         }
     }
+}
 
-    /// How many replies to these events begin with this code, and the seconds that the events take.
-    fn timed(&mut self, rt: &HostRuntime, events: &[Event], code: &[u8]) -> io::Result<(u64, f64)> {
-        let start = Instant::now(rt)?;
-        let Ok(outputs) = self.relay.run(events) else {
-            return Err(io::Error::from(ErrorKind::OutOfMemory));
-        };
-        let took = start.elapsed(rt);
-        let count = replies(&outputs, code);
-        drop(outputs);
-        Ok((count, took?.as_secs_f64()))
+/// Has a relay serve a load for so many ids, in new sessions that take turns. How many events that
+/// were, and the seconds that they took; before these the events are made, after them the replies
+/// are counted: each id has one that begins as it has to.
+pub fn serve(
+    rt: &HostRuntime,
+    relay: &mut Relay,
+    counts: &mut Counts,
+    load: &Load,
+    count: u64,
+) -> io::Result<(usize, f64)> {
+    let sessions = count.div_ceil(load.share.max(1)).max(1);
+    open(rt, relay, counts, sessions)?;
+    let events = counts.events(rt.alloc(), load, sessions, count)?;
+    let number = events.len();
+    let timed = timed(rt, relay, &events, load.code);
+    drop(events);
+    let (replies, took) = timed?;
+    counts.name(load.ids, count);
+    if replies != count {
+        return Err(io::Error::from(ErrorKind::InvalidData));
     }
+    Ok((number, took))
+}
+
+/// So many sessions open.
+fn open(rt: &HostRuntime, relay: &mut Relay, counts: &mut Counts, sessions: u64) -> io::Result<()> {
+    let events = openings(rt.alloc(), counts.sessions, sessions)?;
+    counts.sessions = counts.sessions.saturating_add(sessions);
+    let timed = timed(rt, relay, &events, b"");
+    drop(events);
+    let _greetings = timed?;
+    Ok(())
+}
+
+/// How many replies to these events begin with this code, and the seconds that the events take.
+fn timed(
+    rt: &HostRuntime,
+    relay: &mut Relay,
+    events: &[Event],
+    code: &[u8],
+) -> io::Result<(u64, f64)> {
+    let start = Instant::now(rt)?;
+    let Ok(outputs) = relay.run(events) else {
+        return Err(io::Error::from(ErrorKind::OutOfMemory));
+    };
+    let took = start.elapsed(rt);
+    let count = replies(&outputs, code);
+    drop(outputs);
+    Ok((count, took?.as_secs_f64()))
 }
 
 /// How many replies begin with this code.
@@ -146,14 +162,14 @@ fn replies(outputs: &[Output], code: &[u8]) -> u64 {
     count
 }
 
-/// A relay over blocks in memory.
-fn relay(rt: &HostRuntime, alloc: Global) -> io::Result<System<MemoryBlocks>> {
-    let Some(config) = config(alloc) else {
+/// A relay to which nothing has come.
+pub fn begun(rt: &HostRuntime) -> io::Result<Relay> {
+    let Some(config) = config(rt.alloc()) else {
         return Err(io::Error::from(ErrorKind::InvalidData));
     };
-    match stores_of(alloc, &config.buffers) {
-        Ok(stores) => match System::new(rt, alloc, config, stores) {
-            Ok(system) => Ok(system),
+    match stores_of(rt.alloc(), &config.buffers) {
+        Ok(stores) => match System::new(rt, rt.alloc(), config, stores) {
+            Ok(relay) => Ok(relay),
             Err(error) => {
                 drop(error);
                 Err(io::Error::from(ErrorKind::Other))
