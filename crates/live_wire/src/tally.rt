@@ -5,7 +5,7 @@ ghost use Rattle.live_wire.specs.Tally.{after_octets, after_reply, no_tally, tal
 
 /// How many replies of each kind a session said, and how many octets it read. Each number counts
 /// modulo 2^64.
-#[derive(Clone, Copy, Debug, PartialEq, Eq)]
+#[derive(Clone, Copy)]
 pub struct Tally {
     /// Articles that were taken: 239, 235.
     pub accepted: u64,
