@@ -113,34 +113,15 @@ pub(crate) fn lock_shards(shards: Vec<Shard>, room: Vec<Claims>) -> Vec<Claims>
     locks
 }
 
-/// The buffers behind their locks.
-pub(crate) fn lock_buffers<S: BlockStore + Drop, J: StorePremises>(
-    buffers: Vec<NumberedBuffer<S, J>>,
-    room: Vec<Mutex<NumberedBuffer<S, J>>>,
-) -> Vec<Mutex<NumberedBuffer<S, J>>>
+/// Values behind their locks.
+pub(crate) fn lock_all<T: Drop>(values: Vec<T>, room: Vec<Mutex<T>>) -> Vec<Mutex<T>>
     requires none { room.items ≡ [] }
-    requires room { length buffers.items ≤ vec_capacity room }
-    ensures { length result.items ≡ length buffers.items }
+    requires room { length values.items ≤ vec_capacity room }
+    ensures { length result.items ≡ length values.items }
 {
     let mut locks = room;
-    for buffer in buffers {
-        locks.push_reserved(Mutex::new(buffer));
-    }
-    locks
-}
-
-/// The groups behind their locks.
-pub(crate) fn lock_placed_groups(
-    placed_groups: Vec<PlacedGroup>,
-    room: Vec<Mutex<PlacedGroup>>,
-) -> Vec<Mutex<PlacedGroup>>
-    requires none { room.items ≡ [] }
-    requires room { length placed_groups.items ≤ vec_capacity room }
-    ensures { length result.items ≡ length placed_groups.items }
-{
-    let mut locks = room;
-    for placed_group in placed_groups {
-        locks.push_reserved(Mutex::new(placed_group));
+    for value in values {
+        locks.push_reserved(Mutex::new(value));
     }
     locks
 }
@@ -158,34 +139,15 @@ pub(crate) fn free_shards(locks: Vec<Claims>, room: Vec<Shard>) -> Vec<Shard>
     shards
 }
 
-/// The buffers out of their locks.
-pub(crate) fn free_buffers<S: BlockStore + Drop, J: StorePremises>(
-    locks: Vec<Mutex<NumberedBuffer<S, J>>>,
-    room: Vec<NumberedBuffer<S, J>>,
-) -> Vec<NumberedBuffer<S, J>>
+/// Values out of their locks.
+pub(crate) fn free_all<T: Drop>(locks: Vec<Mutex<T>>, room: Vec<T>) -> Vec<T>
     requires none { room.items ≡ [] }
     requires room { length locks.items ≤ vec_capacity room }
     ensures { length result.items ≡ length locks.items }
 {
-    let mut buffers = room;
+    let mut values = room;
     for lock in locks {
-        buffers.push_reserved(lock.into_inner());
+        values.push_reserved(lock.into_inner());
     }
-    buffers
-}
-
-/// The groups out of their locks.
-pub(crate) fn free_placed_groups(
-    locks: Vec<Mutex<PlacedGroup>>,
-    room: Vec<PlacedGroup>,
-) -> Vec<PlacedGroup>
-    requires none { room.items ≡ [] }
-    requires room { length locks.items ≤ vec_capacity room }
-    ensures { length result.items ≡ length locks.items }
-{
-    let mut placed_groups = room;
-    for lock in locks {
-        placed_groups.push_reserved(lock.into_inner());
-    }
-    placed_groups
+    values
 }

@@ -6,10 +6,7 @@ use crate::alone::Alone;
 use crate::claims::Claims;
 use crate::drawing::{Number, Numbers};
 use crate::forgetting::Rounds;
-use crate::locking::{
-    Locks, Parts, SlotsAndRounds, free_buffers, free_placed_groups, free_shards, lock_buffers,
-    lock_placed_groups, lock_shards,
-};
+use crate::locking::{Locks, Parts, SlotsAndRounds, free_all, free_shards, lock_all, lock_shards};
 use crate::slot::Slot;
 use crate::stopping::Unstopped;
 use block_shelf::{BeginError, PlacedGroup, StopFault};
@@ -235,8 +232,8 @@ impl<S: BlockStore + Drop, J: StorePremises, L: Ledger> Shared<S, J, L> {
             shards: lock_shards(shards, locks.shards),
             desk: Mutex::new(desk),
             feeds,
-            buffers: lock_buffers(buffers, locks.buffers),
-            placed_groups: lock_placed_groups(placed_groups, locks.placed_groups),
+            buffers: lock_all(buffers, locks.buffers),
+            placed_groups: lock_all(placed_groups, locks.placed_groups),
             slots: slots_and_rounds.slots,
             numbers: Numbers::over(last),
             stop,
@@ -272,8 +269,8 @@ impl<S: BlockStore + Drop, J: StorePremises, L: Ledger> Shared<S, J, L> {
             shards: free_shards(shards, parts.shards),
             desk: desk.into_inner(),
             feeds,
-            buffers: free_buffers(buffers, parts.buffers),
-            placed_groups: free_placed_groups(placed_groups, parts.placed_groups),
+            buffers: free_all(buffers, parts.buffers),
+            placed_groups: free_all(placed_groups, parts.placed_groups),
             last: numbers.into_last(),
             stop,
             remember,

@@ -1,8 +1,7 @@
-use Rattle.std.proofs.Common.{ap, arith, length}
-use Rattle.relay_live.proofs.Accounts.{length_snoc}
-use Rattle.relay_live.proofs.locking.free_buffers.Goals as goal
+use Rattle.std.proofs.Common.{◌∙◌, ◌∷◌, [], ap, arith, length, length-append}
+use Rattle.relay_live.proofs.locking.free_all.Goals as goal
 
--- there is room for a buffer more
+-- there is room for a value more
 pub push_reserved-requires : goal.push_reserved-requires
 push_reserved-requires g c =
     omega (
@@ -10,7 +9,7 @@ push_reserved-requires g c =
       c.loop-lock.invariant.count,
       c.loop-lock.invariant.room,
       c.in-Some.ensures.steps.1,
-      c.loop-lock.buffers.ok,
+      c.loop-lock.values.ok,
     )
 
 pub loop-lock-init : goal.loop-lock-init
@@ -24,7 +23,8 @@ pub loop-lock-preserved : goal.loop-lock-preserved
 loop-lock-preserved g c = record {
   count = omega (
     arith,
-    length_snoc _ _ _ c.push_reserved.ensures.items,
+    ap length c.push_reserved.ensures.items
+        ∙ length-append c.loop-lock.values.items (c.into_inner.result ∷ []),
     c.loop-lock.invariant.count,
     c.in-Some.ensures.steps.1,
   );
