@@ -1,6 +1,6 @@
 -- Ends that have served nothing yet.
 use Rattle.std.proofs.Common.{◌≡◌, ℕ, zero, suc, Bool, List, [], ◌∷◌, ◌++◌, length, map, Some, ap}
-use Rattle.std.proofs.Common.{◌+◌, append-nil, refl, sym, ◌∙◌, subst, arith}
+use Rattle.std.proofs.Common.{append-nil, refl, sym, ◌∙◌, subst}
 use Rattle.std.specs.Prelude.{slice_get}
 use Rattle.std.proofs.lemmas.List.{length-map, map-append}
 use Rattle.std.proofs.lemmas.Option.{same_Some}
@@ -74,14 +74,6 @@ module _ {X Y : Type 0} (f : X → Y) where
       → map g ps ++ map f rest ≡ all → rest ≡ [] → map g ps ≡ all
   all_read {P} g ps rest all so_far none =
       sym (append-nil (map g ps)) ∙ ap (λ (l : List X). map g ps ++ map f l) (sym none) ∙ so_far
-
-pub length_snoc : {X : Type 0} (xs now : List X) (x : X) → now ≡ xs ++ x ∷ []
-    → length now ≡ length xs + 1
-length_snoc {X} xs now x is = ap length is ∙ go xs
-  where
-    go : (ys : List X) → length (ys ++ x ∷ []) ≡ length ys + 1
-    go [] = omega arith
-    go (y ∷ ys) = let h = go ys in omega arith
 
 -- what is read of the marks is the same of the services that came back as of those that were given
 module _ {P V M Y : Type 0} (mark : V → M) (of : M → Y) (service : P → V) where

@@ -1,11 +1,10 @@
 use Rattle.std.proofs.Common.{◌≡◌, ◌∙◌, ◌++◌, ◌∷◌, [], ap, append_assoc, arith, length, All}
-use Rattle.std.proofs.Common.{subst, sym}
+use Rattle.std.proofs.Common.{length-append, subst, sym}
 use Rattle.std.proofs.lemmas.List.Elements.{All-head, All-rest}
 use Rattle.std.specs.Vec.Iter.{into_iter_items}
 use Rattle.std.proofs.lemmas.List.{nil_from_length}
 use Rattle.block_shelf.proofs.EachLemmas.{all_through, none_each, one_more_each}
 use Rattle.block_shelf.specs.Each.{AreEach}
-use Rattle.relay_live.proofs.Accounts.{length_snoc}
 use Rattle.relay_live.proofs.Blamed.{blamed_at, memory_refuses}
 use Rattle.relay_live.specs.Beginning.{IsNewOver}
 use Rattle.relay_live.proofs.making.new_buffers.Goals as goal
@@ -78,7 +77,8 @@ loop-store-preserved g c =
           })));
       count = omega (
         arith,
-        length_snoc _ _ _ c.push_reserved.ensures.items,
+        ap length c.push_reserved.ensures.items
+            ∙ length-append c.loop-store.buffers.items (c.in-Ok.buffer ∷ []),
         c.loop-store.invariant.count,
         c.in-Some.ensures.steps.1,
       );

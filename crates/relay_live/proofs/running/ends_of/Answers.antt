@@ -1,9 +1,9 @@
-use Rattle.std.proofs.Common.{◌≡◌, ◌++◌, [], ap, arith, length, map}
+use Rattle.std.proofs.Common.{◌≡◌, ◌∙◌, ◌++◌, ◌∷◌, [], ap, arith, length, length-append, map}
 use Rattle.std.proofs.lemmas.List.{nil_from_length}
 use Rattle.std.specs.Vec.Iter.{into_iter_items}
 use Rattle.article_verdict.specs.Config.{terms_of}
 use Rattle.relay_live.specs.PeerServers.{kept_of, peer_of, terms_at}
-use Rattle.relay_live.proofs.Accounts.{all_read, length_snoc, map_next}
+use Rattle.relay_live.proofs.Accounts.{all_read, map_next}
 use Rattle.relay_live.proofs.running.ends_of.Goals as goal
 
 pub loop-peer_source-init : goal.loop-peer_source-init
@@ -33,7 +33,7 @@ loop-peer_source-preserved g c =
     let sources = c.args.peer_sources.items in
     let left = into_iter_items c.loop-peer_source.peer_source-iterator in
     let next = into_iter_items c.next.new.self in
-    let long = length_snoc ends more c.new.result pushed.items in
+    let long = ap length pushed.items ∙ length-append ends (c.new.result ∷ []) in
     record {
       count = omega (arith, long, inv.count, steps.1);
       room = omega (arith, inv.room, pushed.capacity);

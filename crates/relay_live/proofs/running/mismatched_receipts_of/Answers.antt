@@ -1,10 +1,9 @@
 use Rattle.std.proofs.Common.{◌∙◌, ◌+◌, ◌++◌, ◌∷◌, [], ap, ap₂, arith, length, map, sym}
-use Rattle.std.proofs.Common.{take}
+use Rattle.std.proofs.Common.{length-append, take}
 use Rattle.std.proofs.lemmas.List.{map-append, take_all, take_more}
 use Rattle.std.proofs.lemmas.Result.{IfOk-weaker}
 use Rattle.live_jobs.specs.Mismatches.{mismatched_receipts_in}
 use Rattle.relay_live.specs.PeerServers.{kept_of}
-use Rattle.relay_live.proofs.Accounts.{length_snoc}
 use Rattle.relay_live.proofs.running.mismatched_receipts_of.Goals as goal
 
 pub loop-end-init : goal.loop-end-init
@@ -33,7 +32,8 @@ loop-end-preserved g c =
     let pushed = c.push_reserved.ensures in
     record {
       room = omega (arith, inv.room, pushed.capacity);
-      long = length_snoc _ _ _ pushed.items ∙ ap (λ n. n + 1) inv.long;
+      long = ap length pushed.items ∙ length-append c.loop-end.answers.items (c.kept.result ∷ [])
+          ∙ ap (λ n. n + 1) inv.long;
       finished = ap (map (λ a. a.now)) pushed.items
           ∙ map-append (λ a. a.now) c.loop-end.answers.items (c.kept.result ∷ [])
           ∙ (λ i. inv.finished i ++ c.kept.ensures i ∷ [])
