@@ -44,9 +44,7 @@ impl<S: BlockStore + Drop, J: StorePremises> Locks<S, J> {
     ) -> Result<Locks<S, J>, AllocError>
         ensures { IfOk result (HasLockRoom buffers placed_groups) }
     {
-        let shards = Vec::with_capacity(alloc, SHARD_COUNT)?;
-        let buffers = Vec::with_capacity(alloc, buffers)?;
-        let placed_groups = Vec::with_capacity(alloc, placed_groups)?;
+        let (shards, buffers, placed_groups) = rooms(alloc, SHARD_COUNT, buffers, placed_groups)?;
         Ok(Locks {
             shards,
             buffers,
@@ -64,15 +62,31 @@ impl<S: BlockStore + Drop, J: StorePremises> Parts<S, J> {
     ) -> Result<Parts<S, J>, AllocError>
         ensures { IfOk result (HasPartRoom buffers placed_groups) }
     {
-        let shards = Vec::with_capacity(alloc, SHARD_COUNT)?;
-        let buffers = Vec::with_capacity(alloc, buffers)?;
-        let placed_groups = Vec::with_capacity(alloc, placed_groups)?;
+        let (shards, buffers, placed_groups) = rooms(alloc, SHARD_COUNT, buffers, placed_groups)?;
         Ok(Parts {
             shards,
             buffers,
             placed_groups,
         })
     }
+}
+
+/// Room for so many of three kinds.
+pub(crate) fn rooms<A: Drop, B: Drop, C: Drop>(
+    alloc: Global,
+    one: usize,
+    other: usize,
+    third: usize,
+) -> Result<(Vec<A>, Vec<B>, Vec<C>), AllocError>
+    ensures none { IfOk result (λ rooms.
+        (rooms.0.items ≡ []) × (rooms.1.items ≡ []) × (rooms.2.items ≡ [])) }
+    ensures room { IfOk result (λ rooms. (one ≤ vec_capacity rooms.0)
+        × (other ≤ vec_capacity rooms.1) × (third ≤ vec_capacity rooms.2)) }
+{
+    let of_one = Vec::with_capacity(alloc, one)?;
+    let of_other = Vec::with_capacity(alloc, other)?;
+    let of_third = Vec::with_capacity(alloc, third)?;
+    Ok((of_one, of_other, of_third))
 }
 
 impl<J: StorePremises> SlotsAndRounds<J> {

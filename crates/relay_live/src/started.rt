@@ -12,6 +12,7 @@ ghost use Rattle.relay_live.specs.Starting.{IsNextStopped, OpensNext, StartsNext
 ghost use Rattle.relay_live.specs.Starting.{TriesNext, opening_count, opening_room, tried_count};
 ghost use Rattle.relay_live.specs.Starting.{stores_of, tried_room};
 
+use crate::locking::rooms;
 use block_shelf::{StopFault, Unstarted, blamed, fault_of, first_other, number_of, used_in};
 use cyc_block::BlockStore;
 use live_store::{ArticleLog, NumberedBuffer, StorePremises, UnopenedNumbered};
@@ -137,9 +138,7 @@ impl<S: BlockStore + Drop, J: StorePremises> Room<S, J> {
         ensures room { IfOk result (λ room. (count ≤ vec_capacity room.unopened)
             × (count ≤ vec_capacity room.opened) × (count ≤ vec_capacity room.stores)) }
     {
-        let unopened = Vec::with_capacity(alloc, count)?;
-        let opened = Vec::with_capacity(alloc, count)?;
-        let stores = Vec::with_capacity(alloc, count)?;
+        let (unopened, opened, stores) = rooms(alloc, count, count, count)?;
         Ok(Room {
             unopened,
             opened,
