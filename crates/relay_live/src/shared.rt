@@ -290,13 +290,14 @@ impl<S: BlockStore + Drop, J: StorePremises, L: Ledger> Shared<S, J, L> {
 
     /// Tells an end, where there is one of this number, what became of its job.
     pub(crate) fn tell<R: Wait>(&self, rt: &R, end: u64, answer: JobAnswer<J>) {
-        if let Some(slot) = self.slot(end) {
-            slot.tell(rt, answer);
+        match self.slot(end) {
+            Some(slot) => slot.tell(rt, answer),
+            None => drop(answer),
         }
     }
 
     /// The slot of an end.
     pub(crate) fn slot(&self, end: u64) -> Option<&Slot<J>> {
-        self.slots.get(usize::try_from(end).ok()?)
+        self.slots.get(end as usize)
     }
 }
