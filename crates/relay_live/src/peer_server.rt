@@ -165,14 +165,13 @@ impl<
         channels: &[JobChannel],
         seat: SessionSeat,
         number: Number<L>,
-        reader: <X as Connections<R>>::Reader,
-        writer: <X as Connections<R>>::Writer,
+        connection: (<X as Connections<R>>::Reader, <X as Connections<R>>::Writer),
     ) -> SessionSeat
     where
         X: Connections<R>,
         G: Gate<R>,
         requires seat { IsSeatOf channels.now seat }
-        requires new { (X.Reader.heard reader ≡ []) × (X.Writer.said writer ≡ []) }
+        requires new { (X.Reader.heard connection.0 ≡ []) × (X.Writer.said connection.1 ≡ []) }
         ensures seat { IsSeatOf channels.now result }
         ensures end { end_of result ≡ end_of seat }
         ensures one_more { (honest : Bool) → (honest ≡ true → J.trusted ≡ true)
@@ -181,6 +180,7 @@ impl<
             (hands_at result self.new.kept.items) ∥₁ }
         ensures same { (self.new.config ≡ self.old.config) × (self.new.peer ≡ self.old.peer) }
     {
+        let (reader, writer) = connection;
         let over = self.converse(rt, channels, seat, number, reader, writer);
         self.connections.let_go(rt, over.reader, over.writer);
         over.seat
@@ -207,14 +207,13 @@ impl<
         rt: &R,
         channels: &[JobChannel],
         seat: SessionSeat,
-        reader: <X as Connections<R>>::Reader,
-        writer: <X as Connections<R>>::Writer,
+        connection: (<X as Connections<R>>::Reader, <X as Connections<R>>::Writer),
     ) -> SessionSeat
     where
         X: Connections<R>,
         G: Gate<R>,
         requires seat { IsSeatOf channels.now seat }
-        requires new { (X.Reader.heard reader ≡ []) × (X.Writer.said writer ≡ []) }
+        requires new { (X.Reader.heard connection.0 ≡ []) × (X.Writer.said connection.1 ≡ []) }
         ensures seat { IsSeatOf channels.now result }
         ensures end { end_of result ≡ end_of seat }
         ensures kept { Accounted J.trusted (terms_of self.old.config.now) (end_of seat)
@@ -224,7 +223,7 @@ impl<
         ensures same { (self.new.config ≡ self.old.config) × (self.new.peer ≡ self.old.peer) }
     {
         match self.shared.draw(rt) {
-            Some(number) => self.serve_one(rt, channels, seat, number, reader, writer),
+            Some(number) => self.serve_one(rt, channels, seat, number, connection),
             None => seat,
         }
     }
@@ -266,12 +265,12 @@ where
     fn serve(&mut self, rt: &R, channels: &[JobChannel], seat: SessionSeat) -> SessionSeat {
         let mut seat = seat;
         for _ in rt.forever() {
-            let Some((reader, writer)) = self.connections.next_one(rt) else {
+            let Some(connection) = self.connections.next_one(rt) else {
                 return seat;
             };
             // Before its session is told of any id.
             drop(expire_round(rt, self.shared, self.clock.now()));
-            seat = self.serve_next(rt, channels, seat, reader, writer);
+            seat = self.serve_next(rt, channels, seat, connection);
         }
         unreachable!()
     }
