@@ -1,6 +1,6 @@
 use Rattle.std.proofs.Common.{◌≡◌, ◌∙◌, ◌<◌, ◌≤◌, Some, ap, arith, get_or, length, map, option_map}
 use Rattle.std.proofs.Common.{refl}
-use Rattle.std.proofs.Common.{rules, slice_get, subst, sym}
+use Rattle.std.proofs.Common.{slice_get, subst, sym}
 use Rattle.std.proofs.lemmas.List.{length-map}
 use Rattle.std.proofs.lemmas.Option.{slice_get-map, slice_get_read}
 use Rattle.cyc_buffer.specs.Agreement.{Agrees}
@@ -14,15 +14,16 @@ loop-unopened-preserved g c =
     let all = c.args.started.now.buffers.items in
     let k = c.loop-unopened.unopened-index in
     let one = c.unopened-item.result in
-    let within : k < length all = search rules in
+    let within : k < length all =
+    omega (arith, c.loop-unopened-test.true, ap length c.deref-unopened-items.ensures.value) in
     let is : one ≡ get_or all k one = c.unopened-item.is
     ∙ ap (λ items. get_or items k one) c.deref-unopened-items.ensures.value in
     let here : slice_get (map unopened_in all) k ≡ Some (unopened_in one) =
     slice_get-map unopened_in all k
     ∙ ap (option_map unopened_in) (slice_get_read all (length all) k one refl within is) in
     record {
-      count = search rules;
-      room = search rules;
+      count = omega (arith, c.push_reserved.ensures.len, c.loop-unopened.invariant.count);
+      room = omega (arith, c.push_reserved.ensures.capacity, c.loop-unopened.invariant.room);
       said = λ w σ failures keeps.
           filled_more (map unopened_in all) w σ failures keeps k (unopened_in one)
           c.loop-unopened.filled.items c.push_reserved.new.self.items c.filled_of.result here
@@ -35,7 +36,8 @@ loop-unopened-preserved g c =
 pub returns : goal.returns
 returns g c = λ w σ failures keeps.
     let all = c.args.started.now.buffers.items in
-    let past : length all ≤ c.loop-unopened.unopened-index = search rules in
+    let past : length all ≤ c.loop-unopened.unopened-index =
+    omega (arith, c.loop-unopened-test.false, ap length c.deref-unopened-items.ensures.value) in
     filled_all (map unopened_in all) w σ failures keeps c.loop-unopened.unopened-index
     c.loop-unopened.filled.items (omega (arith, past, length-map all unopened_in))
     (c.loop-unopened.invariant.said w σ failures keeps)

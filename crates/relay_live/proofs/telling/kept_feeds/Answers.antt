@@ -1,4 +1,4 @@
-use Rattle.std.proofs.Common.{◌≡◌, ◌∙◌, ◌<◌, ◌≤◌, ap, arith, length, rules, sym}
+use Rattle.std.proofs.Common.{◌≡◌, ◌∙◌, ◌≤◌, ap, arith, length, rules, sym, vec_capacity, vec_len}
 use Rattle.std.specs.Prelude.{Ok}
 use Rattle.relay_core.proofs.Stops.{kept_joins, some_of, waits_join}
 use Rattle.relay_live.proofs.telling.kept_feeds.Goals as goal
@@ -7,19 +7,27 @@ use Rattle.relay_live.proofs.telling.kept_feeds.Goals.{in-Some, in_default}
 -- there are fewer feeds than numbers
 pub overflow_cast-number : goal.overflow_cast-number
 overflow_cast-number g c =
-    let within : c.loop-number.number < c.args.count = search rules in
-    omega (arith, c.requires, within)
+    omega (arith, c.requires, c.loop-number-test.true)
 
 -- one feed more
 pub loop-number-preserved : goal.loop-number-preserved
 loop-number-preserved g c =
     let n = c.loop-number.number in
-    let within : n < c.args.count = search rules in
     elim c.match-branch-3.branch [
       | in-Some w ↦
           record {
-            count = search rules;
-            room = search rules;
+            count = omega (
+              arith,
+              ap vec_len w.kept-is,
+              w.push_reserved.ensures.len,
+              c.loop-number.invariant.count,
+            );
+            room = omega (
+              arith,
+              ap vec_capacity w.kept-is,
+              w.push_reserved.ensures.capacity,
+              c.loop-number.invariant.room,
+            );
             waits = waits_join c.loop-number.kept.items c.match-branch-3.kept.items w.in-Some.one
                 (cc (w.push_reserved.ensures.items, w.kept-is)) c.loop-number.invariant.waits
                 (some_of _ _ w.in-Some.one w.in-Some.is c.in_ok-one.ensures.fits);
@@ -31,15 +39,15 @@ loop-number-preserved g c =
           }
       | in_default w ↦
           record {
-            count = search rules;
-            room = search rules;
+            count = omega (arith, ap vec_len w.kept-is, c.loop-number.invariant.count);
+            room = omega (arith, ap vec_capacity w.kept-is, c.loop-number.invariant.room);
             waits = search rules;
             left = λ sizes feed keeps all. absurd (omega (
               arith,
               c.kept.ensures.missing.0 (c.in_ok-one.was ∙ ap Ok w.in_default.is),
               keeps.count,
               all,
-              within,
+              c.loop-number-test.true,
             ));
           }
     ]

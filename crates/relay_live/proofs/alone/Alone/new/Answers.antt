@@ -25,6 +25,18 @@ invariant_of-result g c = record {
   );
 }
 
+-- the stores are honest where they are trusted, and no more than a configuration has
+pub new_buffers-requires-clause-few : goal.new_buffers-requires-clause-few
+new_buffers-requires-clause-few g c =
+    omega (
+      arith,
+      same_count g.S.BlockStore c.args.config.now.buffers c.args.stores.items c.requires.stores,
+      c.args.config.now.buffers.few_buffers,
+    )
+
+pub new_buffers-requires-clause-honest : goal.new_buffers-requires-clause-honest
+new_buffers-requires-clause-honest g c = c.requires.honest
+
 -- each part is as it is before anything has come
 pub returns-clause-begins : goal.returns-clause-begins
 returns-clause-begins g c =

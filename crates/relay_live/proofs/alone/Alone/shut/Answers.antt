@@ -1,4 +1,4 @@
-use Rattle.std.proofs.Common.{Option, refl, subst}
+use Rattle.std.proofs.Common.{Option, arith, refl, subst}
 use Rattle.relay_live.proofs.Shuts.{shut_partly, shuts}
 use Rattle.relay_live.specs.Stopping.{IsShutAll}
 use Rattle.relay_live.proofs.alone.Alone.shut.Goals as goal
@@ -6,6 +6,29 @@ use Rattle.relay_live.proofs.alone.Alone.shut.Goals as goal
 -- it isn't idle
 pub returns-then-not-is_idle-clause-back : goal.returns-then-not-is_idle-clause-back
 returns-then-not-is_idle-clause-back g c = (refl, c.is_idle.ensures.busy c.if-not-is_idle.true)
+
+-- memory was refused
+pub returns-in-Err-clause-back : goal.returns-in-Err-clause-back
+returns-in-Err-clause-back g c = (refl, c.is_idle.ensures.idle c.if-not-is_idle.false)
+
+pub returns-in_default-clause-back : goal.returns-in_default-clause-back
+returns-in_default-clause-back g c = (refl, c.is_idle.ensures.idle c.if-not-is_idle.false)
+
+-- there is room for the stores of all buffers
+pub shut_all-requires-clause-few : goal.shut_all-requires-clause-few
+shut_all-requires-clause-few g c = omega (arith, c.args.self.few, c.args.self.buffers.ok)
+
+pub shut_all-requires-clause-none : goal.shut_all-requires-clause-none
+shut_all-requires-clause-none g c = c.in-Ok-with_capacity.ensures.items
+
+pub shut_all-requires-clause-room : goal.shut_all-requires-clause-room
+shut_all-requires-clause-room g c =
+    omega (
+      arith,
+      c.in-Ok-with_capacity.ensures.capacity,
+      c.len.ensures,
+      c.args.self.buffers.ok,
+    )
 
 -- it is stopped
 pub returns-in-None-default-clause-shut : goal.returns-in-None-default-clause-shut
