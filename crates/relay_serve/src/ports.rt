@@ -34,16 +34,41 @@ pub fn open_ports<'a, N: Net<Listener = TcpListener, Stream = TcpStream>>(
     ensures fault { IfErr result (IsPortFault relay.now.peers.items) }
 {
     let mut peer_sources = Vec::new(alloc);
+    match listen_all(net, relay, sessions, stop, &mut peer_sources) {
+        Ok(()) => Ok(peer_sources),
+        Err(error) => {
+            drop(peer_sources);
+            Err(error)
+        }
+    }
+}
+
+/// Adds the peer sources of each peer that has a port to none.
+fn listen_all<'a, N: Net<Listener = TcpListener, Stream = TcpStream>>(
+    net: &N,
+    relay: &Relay,
+    sessions: Option<u32>,
+    stop: &'a Stop,
+    peer_sources: &mut Vec<PeerSource<Port<'a>>>,
+) -> Result<(), ServeError>
+    requires { peer_sources.old.items ≡ [] }
+    ensures peers { OnOk result (map (λ peer_source. peer_source.peer) peer_sources.new.items
+        ≡ ends_from 0 relay.now.peers.items) }
+    ensures left { OnOk result
+        (All (λ peer_source. left_of peer_source.connections ≡ sessions) peer_sources.new.items) }
+    ensures few { OnOk result (length peer_sources.new.items ≤ 64 * 1024) }
+    ensures fault { IfErr result (IsPortFault relay.now.peers.items) }
+{
     for (number, peer) in relay.peers.iter().enumerate() {
         if peer.port == 0 {
             continue;
         }
         match Port::listen(net, relay.bind, peer.port, sessions, stop, relay.patience) {
-            Ok(first) => add_peer_sources(&mut peer_sources, number, peer, first)?,
+            Ok(first) => add_peer_sources(peer_sources, number, peer, first)?,
             Err(error) => return Err(lost(peer, error.kind())),
         }
     }
-    Ok(peer_sources)
+    Ok(())
 }
 
 /// Adds the peer sources of a peer, the one of this port last; the others are behind the same port.
@@ -67,14 +92,45 @@ fn add_peer_sources<'a>(
     ensures fault { (peers : List Peer) → Any (λ one. one.port ≡ peer.now.port) peers
         → IfErr result (IsPortFault peers) }
 {
-    for _ in 1..peer.connections {
-        let connections = match first.another() {
-            Ok(connections) => connections,
-            Err(error) => return Err(lost(peer, error.kind())),
-        };
-        add_peer_source(peer_sources, number, connections)?;
+    match add_further(peer_sources, number, peer, &first) {
+        Ok(()) => {
+            add_peer_source(peer_sources, number, first)?;
+            Ok(())
+        }
+        Err(error) => {
+            drop(first);
+            Err(error)
+        }
     }
-    add_peer_source(peer_sources, number, first)?;
+}
+
+/// Adds the peer sources of a peer but the last, behind the same port as that.
+fn add_further<'a>(
+    peer_sources: &mut Vec<PeerSource<Port<'a>>>,
+    number: usize,
+    peer: &Peer,
+    last: &Port<'a>,
+) -> Result<(), ServeError>
+    requires some { 1 ≤ peer.now.connections }
+    requires port { peer.now.port ≢ 0 }
+    ensures peers { OnOk result (map (λ peer_source. peer_source.peer) peer_sources.new.items
+        ++ number ∷ [] ≡ map (λ peer_source. peer_source.peer) peer_sources.old.items
+        ++ replicate peer.now.connections number) }
+    ensures count { OnOk result (length peer_sources.new.items + 1
+        ≡ length peer_sources.old.items + peer.now.connections) }
+    ensures left { (left : Option ℕ) → left_of last.now ≡ left
+        → All (λ peer_source. left_of peer_source.connections ≡ left) peer_sources.old.items
+        → OnOk result
+        (All (λ peer_source. left_of peer_source.connections ≡ left) peer_sources.new.items) }
+    ensures fault { (peers : List Peer) → Any (λ one. one.port ≡ peer.now.port) peers
+        → IfErr result (IsPortFault peers) }
+{
+    for _ in 1..peer.connections {
+        match last.another() {
+            Ok(connections) => add_peer_source(peer_sources, number, connections)?,
+            Err(error) => return Err(lost(peer, error.kind())),
+        }
+    }
     Ok(())
 }
 

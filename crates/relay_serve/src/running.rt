@@ -129,14 +129,22 @@ where
     let (book, all) = blank.open::<L>();
     let ends = peer_sources.len();
     let shared = begun_by::<S, J, L, R>(rt, alloc, config, register, beginning, book, ends)?;
-    let Surroundings { clock, gate, side } = surroundings;
     let serving = Serving {
         config,
-        gate,
+        gate: surroundings.gate,
         hasher,
         peer_sources,
     };
-    let counted = attended(rt, alloc, register, &shared, serving, all, clock, side);
+    let counted = attended(
+        rt,
+        alloc,
+        register,
+        &shared,
+        serving,
+        all,
+        surroundings.clock,
+        surroundings.side,
+    );
     match counted {
         Ok(counted) => finish(rt, alloc, config, shared, counted),
         Err(error) => {

@@ -66,27 +66,21 @@ where
     let stop = Stop::new();
     let gate = CountingGate::new(alloc, &config.relay.peers)?;
     let mut history = HostHistory::in_folder(rt, alloc, folder)?;
-    let (unbegun, peer_sources) = open_all(rt, alloc, config, folder, sessions, fresh, &stop)?;
-    let answer = match Control::listen(rt, alloc, folder) {
-        Ok(control) => {
-            let desk = Desk::new(alloc, &stop, &gate, control);
-            tell_serving(rt, peer_sources.len(), unbegun.stores.len());
-            let access = Access {
-                peer_sources,
-                gate: &gate,
-                desk: &desk,
-            };
-            let answer = begin_and_run(rt, alloc, config, unbegun, &mut history, access, writer);
-            desk.close(rt, folder);
-            drop(desk);
-            answer
-        }
-        Err(_) => {
-            drop(peer_sources);
-            drop(unbegun);
-            Err(ServeError::Control)
-        }
+    let asked = Asked {
+        folder,
+        sessions,
+        fresh,
     };
+    let answer = open_and_run(
+        rt,
+        alloc,
+        config,
+        &asked,
+        &stop,
+        &gate,
+        &mut history,
+        writer,
+    );
     drop(history);
     drop(gate);
     if answer.is_ok() {
@@ -95,15 +89,70 @@ where
     answer
 }
 
+/// How a relay is to be served.
+#[derive(Drop)]
+struct Asked<'a> {
+    /// Its folder.
+    folder: &'a str,
+    /// How many connections each port takes.
+    sessions: Option<u32>,
+    /// Whether it is to begin from nothing.
+    fresh: bool,
+}
+
+/// Opens what a relay is served over, last the socket by which it is asked, runs the relay, and
+/// takes the socket away.
+fn open_and_run<R, H: HistoryPlace, W: Write>(
+    rt: &R,
+    alloc: Global,
+    config: &Config,
+    asked: &Asked<'_>,
+    stop: &Stop,
+    gate: &CountingGate<'_>,
+    history: &mut H,
+    writer: &mut W,
+) -> Result<(), ServeError>
+where
+    R: Threads
+        + Wait
+        + Net<Listener = TcpListener, Stream = TcpStream>
+        + Files<File = File>
+        + Clock
+        + Eprint
+        + RandomSource
+        + Sync,
+    ensures { ServeGives config.now result (W.contents writer.old) (W.contents writer.new) }
+{
+    let (unbegun, peer_sources) = open_all(rt, alloc, config, asked, stop)?;
+    match Control::listen(rt, alloc, asked.folder) {
+        Ok(control) => {
+            let desk = Desk::new(alloc, stop, gate, control);
+            tell_serving(rt, peer_sources.len(), unbegun.stores.len());
+            let access = Access {
+                peer_sources,
+                gate,
+                desk: &desk,
+            };
+            let answer = begin_and_run(rt, alloc, config, unbegun, history, access, writer);
+            desk.close(rt, asked.folder);
+            drop(desk);
+            answer
+        }
+        Err(_) => {
+            drop(peer_sources);
+            drop(unbegun);
+            Err(ServeError::Control)
+        }
+    }
+}
+
 /// Has the files of the buffers, then the ports of the peers, and then makes the files as long as
 /// they have to be.
 fn open_all<'a, R>(
     rt: &R,
     alloc: Global,
     config: &Config,
-    folder: &str,
-    sessions: Option<u32>,
-    fresh: bool,
+    asked: &Asked<'_>,
     stop: &'a Stop,
 ) -> Result<(Unbegun, Vec<PeerSource<Port<'a>>>), ServeError>
 where
@@ -114,12 +163,12 @@ where
     ensures fault { IfErr result (λ error. IsFileFault config.now.buffers error
         ⊎ IsPortFault config.now.relay.peers.items error) }
 {
-    let files = hold_files(rt, alloc, &config.buffers, folder)?;
-    let peer_sources = open_ports(rt, alloc, &config.relay, sessions, stop)?;
+    let files = hold_files(rt, alloc, &config.buffers, asked.folder)?;
+    let peer_sources = open_ports(rt, alloc, &config.relay, asked.sessions, stop)?;
     let (stores, blank) = fit_files(alloc, &config.buffers, files)?;
     let unbegun = Unbegun {
         stores,
-        fresh,
+        fresh: asked.fresh,
         blank,
     };
     Ok((unbegun, peer_sources))
@@ -166,15 +215,14 @@ where
     requires few { length access.peer_sources.items < 2 ^ 62 }
     ensures { ServeGives config.now result (W.contents writer.old) (W.contents writer.new) }
 {
-    let Unbegun {
-        stores,
-        fresh,
-        blank,
-    } = unbegun;
-    let origin = begun_from(alloc, history, fresh, blank)?;
+    let origin = begun_from(alloc, history, unbegun.fresh, unbegun.blank)?;
     tell_start(rt, &origin);
-    let beginning = Beginning { stores, origin };
-    run_and_print(rt, alloc, config, beginning, history, access, writer)
+    let beginning = Beginning {
+        stores: unbegun.stores,
+        origin,
+    };
+    let totals = run_on(rt, alloc, config, beginning, history, access)?;
+    print_totals(alloc, &totals, writer)
 }
 
 /// Tells that the relay starts from what it was stopped with, where it does.
@@ -184,39 +232,15 @@ fn tell_start<R: Eprint>(rt: &R, origin: &Origin) {
     }
 }
 
-/// Runs the relay over these stores and ports, keeps its history, and writes its report.
-fn run_and_print<R, H: HistoryPlace, W: Write>(
+/// Runs the relay over what was opened, and keeps its history once all that its stores were given
+/// is on their devices. Where there is no memory for the totals the history is kept all the same.
+fn run_on<R, H: HistoryPlace>(
     rt: &R,
     alloc: Global,
     config: &Config,
     beginning: Beginning<RunBlocks>,
     history: &mut H,
     access: Access<'_>,
-    writer: &mut W,
-) -> Result<(), ServeError>
-where
-    R: Threads + Wait + Clock + Eprint + RandomSource + Sync,
-    requires stores { map count_of beginning.stores.items
-        ≡ map (λ buffer. buffer.blocks) config.now.buffers.buffers.items }
-    requires few { length access.peer_sources.items < 2 ^ 62 }
-    ensures { ServeGives config.now result (W.contents writer.old) (W.contents writer.new) }
-{
-    let totals = run_on(rt, alloc, config, beginning, history, access)?;
-    print_totals(alloc, &totals, writer)
-}
-
-/// Runs the relay over these stores and ports, by the machine's clock, and keeps its history once
-/// all that its stores were given is on their devices. Nothing says that a file of the machine is
-/// honest, so nothing is promised of what the stores give. Where there is no memory for the totals
-/// the history is kept all the same.
-#[tactic(auto, using(crate::proofs::ServeFaults::run_fails))]
-fn run_on<'a, R, H: HistoryPlace>(
-    rt: &R,
-    alloc: Global,
-    config: &Config,
-    beginning: Beginning<RunBlocks>,
-    history: &mut H,
-    access: Access<'a>,
 ) -> Result<Totals, ServeError>
 where
     R: Threads + Wait + Clock + Eprint + RandomSource + Sync,
@@ -226,19 +250,38 @@ where
     ensures totals { IfOk result (AreOf config.now) }
     ensures fault { IfErr result (IsServeFault config.now) }
 {
-    let Beginning { stores, origin } = beginning;
-    let Access {
-        peer_sources,
-        gate,
-        desk,
-    } = access;
     let register = ArticleLog::new(alloc)?;
-    let clock = MachineClock::new(rt);
-    let blank = Blank::new(channels_of(config) as u64);
+    match run_watched(rt, alloc, config, beginning, &register, access) {
+        Ok(finished) => keep_finished(history, finished),
+        Err(error) => Err(error),
+    }
+}
+
+/// Runs the relay over what was opened, by the machine's clock. Nothing says that a file of the
+/// machine is honest, so nothing is promised of what the stores give.
+#[tactic(auto, using(crate::proofs::ServeFaults::run_fails))]
+fn run_watched<'a, R>(
+    rt: &'a R,
+    alloc: Global,
+    config: &'a Config,
+    beginning: Beginning<RunBlocks>,
+    register: &ArticleLog,
+    access: Access<'_>,
+) -> Result<Finished<Watched<'a, RunBlocks, R>>, ServeError>
+where
+    R: Threads + Wait + Clock + Eprint + RandomSource + Sync,
+    requires stores { map count_of beginning.stores.items
+        ≡ map (λ buffer. buffer.blocks) config.now.buffers.buffers.items }
+    requires few { length access.peer_sources.items < 2 ^ 62 }
+    ensures totals { IfOk result (λ run. IfOk run.totals (AreOf config.now)) }
+    ensures fault { IfErr result (IsServeFault config.now) }
+{
+    let Beginning { stores, origin } = beginning;
     let stores = watch_all(rt, &config.buffers, stores)?;
-    match run_relay::<
-        Port<'a>,
-        Watched<'_, RunBlocks, R>,
+    let clock = MachineClock::new(rt);
+    run_relay::<
+        Port<'_>,
+        Watched<'a, RunBlocks, R>,
         Brand,
         Brand,
         MachineClock<'_, R>,
@@ -251,19 +294,16 @@ where
         config,
         Beginning { stores, origin },
         Records {
-            register: &register,
-            blank,
+            register,
+            blank: Blank::new(channels_of(config) as u64),
         },
-        peer_sources,
+        access.peer_sources,
         Surroundings {
             clock: &clock,
-            gate,
-            side: desk,
+            gate: access.gate,
+            side: access.desk,
         },
-    ) {
-        Ok(finished) => keep_finished(history, finished),
-        Err(error) => Err(error),
-    }
+    )
 }
 
 /// Keeps what a relay that has run was stopped with, and gives its totals, where there was memory

@@ -1,7 +1,7 @@
 use Rattle.std.proofs.Common.{◌≡◌, ◌++◌, ◌*◌, ◌≤◌, All, drop, length, map}
 use Rattle.live_wire.specs.Ports.{left_of}
 use Rattle.relay_serve.specs.Ports.{ends_from}
-use Rattle.relay_serve.proofs.ports.open_ports.Given as goal
+use Rattle.relay_serve.proofs.ports.listen_all.Given as goal
 
 -- the peer sources of the peers so far that have a port
 abbrev pub invariant-loop-number : goal.invariant-loop-number

@@ -7,7 +7,7 @@ use Rattle.relay_conf.specs.declared.relay.Peer.{Peer}
 use Rattle.relay_live.specs.declared.running.PeerSource.{PeerSource}
 use Rattle.relay_serve.specs.Ports.{IsPortFault, ends_from}
 use Rattle.relay_serve.proofs.PeerSources.{after_peer, drop_peer}
-use Rattle.relay_serve.proofs.ports.open_ports.Goals as goal
+use Rattle.relay_serve.proofs.ports.listen_all.Goals as goal
 
 pub returns-in-Err-clause-fault : goal.returns-in-Err-clause-fault
 returns-in-Err-clause-fault g c =

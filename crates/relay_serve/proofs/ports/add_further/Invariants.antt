@@ -1,7 +1,7 @@
 use Rattle.std.proofs.Common.{◌≡◌, ◌+◌, ◌∷◌, ◌++◌, [], ℕ, Option, All, length, map}
 use Rattle.std.specs.Prelude.{replicate}
 use Rattle.live_wire.specs.Ports.{left_of}
-use Rattle.relay_serve.proofs.ports.add_peer_sources.Given as goal
+use Rattle.relay_serve.proofs.ports.add_further.Given as goal
 
 -- with the last one there are as many peer sources of the peer as the loop has counted
 abbrev pub invariant-loop : goal.invariant-loop
@@ -10,7 +10,7 @@ invariant-loop l = record {
       ≡ map (λ peer_source. peer_source.peer) l.initial.peer_sources.items
       ++ replicate l.counter l.number;
   count : length l.peer_sources.items + 1 ≡ length l.initial.peer_sources.items + l.counter;
-  left : (left : Option ℕ) → left_of l.first ≡ left
+  left : (left : Option ℕ) → left_of l.last ≡ left
       → All (λ peer_source. left_of peer_source.connections ≡ left) l.initial.peer_sources.items
       → All (λ peer_source. left_of peer_source.connections ≡ left) l.peer_sources.items;
 }

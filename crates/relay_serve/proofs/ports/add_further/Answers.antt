@@ -6,7 +6,7 @@ use Rattle.live_wire.specs.Ports.{left_of}
 use Rattle.live_wire.specs.declared.port.Port.{Port}
 use Rattle.relay_live.specs.declared.running.PeerSource.{PeerSource}
 use Rattle.relay_serve.proofs.PeerSources.{one_more}
-use Rattle.relay_serve.proofs.ports.add_peer_sources.Goals as goal
+use Rattle.relay_serve.proofs.ports.add_further.Goals as goal
 
 pub loop-preserved : goal.loop-preserved
 loop-preserved c =
@@ -17,7 +17,7 @@ loop-preserved c =
     let peer_source : PeerSource Port =
     record { peer = number; connections = c.in-Ok.connections } in
     let added : c.add_peer_source.new.peer_sources.items ≡ before ++ peer_source ∷ [] =
-    c.in_ok-add_peer_source.ensures in
+    c.in_ok-add_peer_source-in-Ok.ensures in
     record {
       peers = ap (λ (peer_sources : List (PeerSource Port)). map peer_of peer_sources
           ++ number ∷ []) added
@@ -35,13 +35,3 @@ loop-preserved c =
           before peer_source
           (c.loop.invariant.left left is all) (c.in-Ok.ensures ∙ is));
     }
-
-pub returns-clause-left : goal.returns-clause-left
-returns-clause-left c = λ left is all.
-    let peer_source : PeerSource Port =
-    record { peer = c.args.number; connections = c.args.first } in
-    subst (All (λ (one : PeerSource Port). left_of one.connections ≡ left))
-    (sym c.in_ok-add_peer_source-2.ensures)
-    (All-push (λ (one : PeerSource Port). left_of one.connections ≡ left)
-    c.loop.peer_sources.items peer_source
-    (c.loop.invariant.left left is all) is)
