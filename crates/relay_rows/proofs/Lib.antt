@@ -1,2 +1,3 @@
 mod Named
+mod Rooms
 mod Serving

@@ -1,10 +1,10 @@
-//! Playing the rows of standard input.
+//! Playing the rows of a text.
 
 use crate::cell::octets_of;
 use crate::sheet::Sheet;
 use line_words::{cut, is_skipped};
 use std::io;
-use std::io::{ErrorKind, Read, Write};
+use std::io::{ErrorKind, Write};
 use std::process::ExitCode;
 
 /// The status where memory ran out.
@@ -17,15 +17,19 @@ pub trait Answers {
     fn answer(&mut self, call: &[u8], cells: &[Vec<u8>], sheet: &mut Sheet);
 }
 
-/// Reads standard input whole, and prints it with an answer behind each row. A line that is empty
-/// or begins with `#` is printed as it is; any other line is a row, cut into words at single
-/// spaces: a call and its cells. A row is printed with ` = ` and its answer behind it, which is `?`
-/// where the call is not known or an escape is bad. Where memory runs out the status is 5.
-pub fn play<A: Answers>(rt: &HostRuntime, answers: &mut A) -> ExitCode {
-    match play_all(rt, answers) {
-        Ok(()) => ExitCode::SUCCESS,
-        Err(error) => failed(rt, &error),
-    }
+/// Prints the lines of a text with an answer behind each row. A line that is empty or begins with
+/// `#` is printed as it is; any other line is a row, cut into words at single spaces: a call and its
+/// cells. A row is printed with ` = ` and its answer behind it, which is `?` where the call is not
+/// known or an escape is bad. Where memory runs out that is the error, once all before it is
+/// printed.
+pub fn play<A: Answers>(rt: &HostRuntime, text: &[u8], answers: &mut A) -> io::Result<()> {
+    let mut printed = Sheet::new(rt.alloc());
+    put_all(
+        answers,
+        text.strip_suffix(b"\n").unwrap_or(text),
+        &mut printed,
+    );
+    print(rt, &printed)
 }
 
 /// Says `memory`, or that it was not read or not written, and answers the status.
@@ -43,16 +47,6 @@ fn fault_text(kind: ErrorKind) -> &'static str {
         ErrorKind::OutOfMemory => "memory",
         _ => "not read or not written",
     }
-}
-
-/// Reads the lines, and prints them with their answers.
-fn play_all<A: Answers>(rt: &HostRuntime, answers: &mut A) -> io::Result<()> {
-    let mut input = Vec::new(rt.alloc());
-    rt.reader().read_to_end(&mut input)?;
-    let mut printed = Sheet::new(rt.alloc());
-    let lines = input.strip_suffix(b"\n").unwrap_or(&input);
-    put_all(answers, lines, &mut printed);
-    print(rt, &printed)
 }
 
 /// Prints what is written on a sheet. Where memory ran out, that is told then.

@@ -1,0 +1,33 @@
+//! Rows for what a clean stop leaves and what a start makes of it: buffers over blocks in memory,
+//! and texts of histories (cyc_buffer, id_history).
+
+mod articles;
+mod bench;
+mod calls;
+mod histories;
+mod octets;
+mod runs;
+mod steps;
+
+use bench::Bench;
+pub(crate) use bench::{Device, number, octet};
+use histories::Texts;
+pub(crate) use octets::end_of;
+use std::alloc::Global;
+
+/// The buffer and the text of a history that the rows so far have left.
+#[derive(Drop)]
+pub struct Stops<D: Device> {
+    bench: Bench<D>,
+    texts: Texts,
+}
+
+impl<D: Device> Stops<D> {
+    /// No row yet.
+    pub fn new(alloc: Global) -> Stops<D> {
+        Stops {
+            bench: Bench::Nothing,
+            texts: Texts::new(alloc),
+        }
+    }
+}

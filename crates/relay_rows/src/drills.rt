@@ -1,0 +1,56 @@
+//! Rows of the program, each under a line `== what it shows`: the words of the program, one behind
+//! each `$`, and its standard input, most often a drill script. The line is printed again, with
+//! what `relay_command::run` wrote, and where it failed with the text of its failure and the
+//! status. Behind `==` a drill is played in pieces of one octet, too; behind `=1` it isn't, behind
+//! `=#` what it gives is counted, and behind `=^` its octets are cut. The configurations that rows
+//! name stand in `data`.
+
+mod asker;
+mod devices;
+mod expand;
+mod machine;
+mod manner;
+mod row;
+mod server;
+mod streams;
+mod words;
+
+use manner::{Manner, manner_of};
+use row::Row;
+use std::io::Write;
+use std::{io, mem};
+
+/// Plays the rows of a text.
+pub(crate) fn play(rt: &HostRuntime, text: &[u8]) -> io::Result<()> {
+    let mut row = Row::new(rt.alloc(), Manner::Once, b"");
+    let played = play_rows(rt, text, &mut row);
+    drop(row);
+    played
+}
+
+/// Plays the rows of a text, behind this one.
+fn play_rows<'a>(rt: &HostRuntime, text: &'a [u8], row: &mut Row<'a>) -> io::Result<()> {
+    for line in text.split(|octet| *octet == b'\n') {
+        match manner_of(line) {
+            Some(manner) => {
+                print(rt, row)?;
+                drop(mem::replace(row, Row::new(rt.alloc(), manner, line)));
+            }
+            None => row.add(line)?,
+        }
+    }
+    print(rt, row)
+}
+
+/// Prints a row and what it gives. What stands before the first row is none.
+fn print(rt: &HostRuntime, row: &Row<'_>) -> io::Result<()> {
+    if row.head.is_empty() {
+        return Ok(());
+    }
+    let played = row.play(rt)?;
+    let mut output = io::writer(rt);
+    for part in [row.head, b"\n", &played] {
+        output.write_all(part)?;
+    }
+    Ok(())
+}
