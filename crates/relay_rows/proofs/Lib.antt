@@ -1,3 +1,2 @@
 mod Named
-mod Rooms
 mod Serving

@@ -7,9 +7,7 @@
 //! each part plays.
 #![tactic(auto)]
 
-mod crates;
 mod drills;
-mod threads;
 
 use row_text::{failed, place_of};
 use std::io;
@@ -81,9 +79,9 @@ where
     R: Threads + Wait + Clock + RandomSource + Print + Sync + 'static,
 {
     match part {
-        Part::Crates => crates::play(rt, rows),
+        Part::Crates => crate_rows::play(rt, rows),
         Part::Drills => drills::play(rt, rows),
-        Part::Threads => threads::play(threads, rt.alloc(), rows),
+        Part::Threads => thread_rows::play(threads, rt.alloc(), rows),
         Part::Front if rows.is_empty() => Ok(()),
         Part::Front => Err(io::Error::from(ErrorKind::InvalidInput)),
     }

@@ -1,0 +1,219 @@
+//! The articles of a buffer. The text of an article is computed from its class and its octets.
+use crate::stops::bench::{Bench, Device, number, octet};
+use cyc_block::CHUNK_OCTETS;
+use cyc_buffer::{BufError, Buffer, Found, Open};
+use cyc_token::Token;
+use line_words::is;
+use row_text::{Cells, Sheet};
+
+/// How an article that was begun ends.
+#[derive(Clone, Copy)]
+pub(crate) enum End {
+    /// It is finished.
+    Finished,
+    /// It is abandoned.
+    Abandoned,
+    /// Its write stays open.
+    Unfinished,
+}
+
+/// What is stored: an article of a class and of so many octets.
+#[derive(Clone, Copy)]
+struct Size {
+    class: u8,
+    octets: u32,
+}
+
+impl<D: Device> Bench<D> {
+    /// Writes the token under which an article is stored, or why it isn't.
+    pub(crate) fn store(&mut self, cells: &mut Cells<'_>, sheet: &mut Sheet) {
+        let size = size_in(cells, sheet);
+        let is_fresh = !cells.rest().is_empty();
+        if is_fresh && !is(cells.next(sheet), b"fresh") {
+            sheet.refuse();
+        }
+        cells.end(sheet);
+        let blocks = u64::from(size.octets).div_ceil(CHUNK_OCTETS as u64);
+        self.put_article(size, is_fresh, blocks, End::Finished, sheet);
+    }
+
+    /// Writes the token of an article of which so many blocks are written, and then no more.
+    pub(crate) fn leave(&mut self, cells: &mut Cells<'_>, end: End, sheet: &mut Sheet) {
+        let size = size_in(cells, sheet);
+        let blocks = cells.number(u64::MAX, sheet);
+        cells.end(sheet);
+        self.put_article(size, false, blocks, end, sheet);
+    }
+
+    /// Begins an article, writes so many of its blocks, ends it so, and writes its token.
+    fn put_article(
+        &mut self,
+        size: Size,
+        is_fresh: bool,
+        blocks: u64,
+        end: End,
+        sheet: &mut Sheet,
+    ) {
+        let text = text_of(size.class, size.octets, sheet);
+        if size.octets == 0 || sheet.is_spoilt() {
+            return sheet.refuse();
+        }
+        let Bench::Running(buffer) = self else {
+            return sheet.refuse();
+        };
+        match buffer.begin(size.class, size.octets, is_fresh) {
+            Ok(open) => write_article(buffer, open, &text, blocks, end, sheet),
+            Err(error) => sheet.debug(&error),
+        }
+    }
+
+    /// Writes what is read of the article under a token.
+    pub(crate) fn read(&mut self, cells: &mut Cells<'_>, sheet: &mut Sheet) {
+        let Ok(token) = Token::parse(cells.next(sheet)) else {
+            return sheet.refuse();
+        };
+        cells.end(sheet);
+        if sheet.is_spoilt() || self.buffer().is_none() {
+            return sheet.refuse();
+        }
+        let text = text_of(token.class, token.length, sheet);
+        self.compare(&token, &text, sheet);
+    }
+
+    /// The buffer, where there is one.
+    fn buffer(&self) -> Option<&Buffer<D>> {
+        match self {
+            Bench::Running(buffer) => Some(buffer),
+            Bench::Unopened(buffer) => Some(buffer.buffer()),
+            _ => None,
+        }
+    }
+
+    /// Reads the article under a token, block by block, and writes how it is beside its text.
+    fn compare(&mut self, token: &Token, text: &[u8], sheet: &mut Sheet) {
+        let mut chunk = [0; CHUNK_OCTETS];
+        let mut block = 0u32;
+        for expected in text.chunks(CHUNK_OCTETS) {
+            match self.block(token, block, &mut chunk) {
+                Ok(Found::Chunk(octets)) => {
+                    if !is(chunk.get(..octets).unwrap_or(b""), expected) {
+                        return sheet.put(b"other");
+                    }
+                }
+                other => return put_other(&other, sheet),
+            }
+            block = block.saturating_add(1);
+        }
+        sheet.put(b"whole");
+    }
+
+    /// Block k of the article under a token.
+    fn block(
+        &mut self,
+        token: &Token,
+        k: u32,
+        chunk: &mut [u8; CHUNK_OCTETS],
+    ) -> Result<Found, BufError> {
+        match self {
+            Bench::Running(buffer) => buffer.read_block(token, k, chunk),
+            Bench::Unopened(buffer) => buffer.read_block(token, k, chunk),
+            _ => Ok(Found::Unknown),
+        }
+    }
+
+    /// Writes the numbers of a buffer.
+    pub(crate) fn put_numbers(&self, cells: &Cells<'_>, sheet: &mut Sheet) {
+        cells.end(sheet);
+        match self.buffer() {
+            Some(buffer) => {
+                sheet.numbered(b"blocks ", u64::from(buffer.blocks()));
+                sheet.numbered(b" cycle ", u64::from(buffer.cycle()));
+                sheet.numbered(b" front ", buffer.front());
+                sheet.numbered(b" begun ", buffer.begun());
+                sheet.numbered(b" stored ", buffer.stored());
+            }
+            None => sheet.refuse(),
+        }
+    }
+}
+
+/// The article that the next two cells name.
+fn size_in(cells: &mut Cells<'_>, sheet: &mut Sheet) -> Size {
+    Size {
+        class: octet(cells, sheet),
+        octets: number(cells, sheet),
+    }
+}
+
+/// Writes so many blocks of an article that was begun, ends it so, and writes its token.
+fn write_article<D: Device>(
+    buffer: &mut Buffer<D>,
+    open: Open,
+    text: &[u8],
+    blocks: u64,
+    end: End,
+    sheet: &mut Sheet,
+) {
+    if write_blocks(buffer, &open, text, blocks, sheet) {
+        sheet.put(&ended(buffer, open, end).to_text());
+    } else {
+        buffer.abandon(open);
+    }
+}
+
+/// Writes so many blocks of an article; where one fails, that is written, and the answer is
+/// `false`.
+fn write_blocks<D: Device>(
+    buffer: &mut Buffer<D>,
+    open: &Open,
+    text: &[u8],
+    blocks: u64,
+    sheet: &mut Sheet,
+) -> bool {
+    for _block in 0..blocks {
+        if let Err(error) = buffer.write_next(open, text) {
+            sheet.debug(&error);
+            return false;
+        }
+    }
+    true
+}
+
+/// Ends an article so, and gives its token.
+fn ended<D: Device>(buffer: &mut Buffer<D>, open: Open, end: End) -> Token {
+    match end {
+        End::Finished => buffer.finish(open),
+        End::Abandoned => {
+            let token = open.token();
+            buffer.abandon(open);
+            token
+        }
+        End::Unfinished => open.into_token(),
+    }
+}
+
+/// The octet at a place of the text of an article of a class.
+fn octet_at(class: u8, place: usize) -> u8 {
+    (place.saturating_add(place / CHUNK_OCTETS) % 251) as u8 ^ class
+}
+
+/// The text of an article of a class and of so many octets.
+fn text_of(class: u8, octets: u32, sheet: &mut Sheet) -> Vec<u8> {
+    let mut text = Vec::new(sheet.alloc);
+    for place in 0..octets as usize {
+        if text.push(octet_at(class, place)).is_err() {
+            sheet.lack();
+            return text;
+        }
+    }
+    text
+}
+
+/// Writes what was found that is no block.
+fn put_other(found: &Result<Found, BufError>, sheet: &mut Sheet) {
+    match found {
+        Ok(Found::Gone(front)) => sheet.numbered(b"gone ", front.front()),
+        Ok(_) => sheet.put(b"unknown"),
+        Err(error) => sheet.debug(error),
+    }
+}

@@ -1,0 +1,218 @@
+//! The stops and starts of a buffer.
+
+use crate::stops::bench::{Bench, Device, number, octet};
+use crate::stops::runs::Runs;
+use cyc_buffer::{Buffer, RestartError, StartError, Unopened};
+use cyc_token::Token;
+use row_text::{Cells, Sheet, place_of};
+
+/// A stop or a start.
+#[derive(Clone, Copy)]
+pub(crate) enum Step {
+    /// The buffer is shut under the number of a stop.
+    Shut(u64),
+    /// The buffer is left as it is.
+    Leave,
+    /// The buffer of this number and first cycle is started.
+    Start(u8, u32),
+    /// The head of the buffer is opened.
+    Open,
+    /// The buffer is stopped under this number and started in place.
+    Restart(u64),
+}
+
+/// More calls of a device than a step takes in which each of them fails in turn.
+const MOST_CALLS: u64 = 64;
+
+impl<D: Device> Bench<D> {
+    /// Writes what the step of this name answers.
+    pub fn put_step(&mut self, name: &[u8], cells: &mut Cells<'_>, sheet: &mut Sheet) {
+        let step = step_of(name, cells, sheet);
+        if !sheet.is_spoilt() {
+            self.take_step(step, sheet);
+        }
+    }
+
+    /// Writes what the step that the cells name answers with each call of the device failing in
+    /// turn, the last time none.
+    pub fn put_each(&mut self, cells: &mut Cells<'_>, sheet: &mut Sheet) {
+        let name = cells.next(sheet);
+        let step = step_of(name, cells, sheet);
+        if sheet.is_spoilt() {
+            return;
+        }
+        let mut runs = Runs::new(sheet.alloc);
+        for failing in 1..MOST_CALLS {
+            let said = self.said_failing(step, failing, sheet);
+            let is_last = !is_error(&said);
+            runs.add(failing, said, sheet);
+            if is_last {
+                break;
+            }
+        }
+        runs.end(sheet);
+        self.arm(0);
+    }
+
+    /// What a step answers with this call of the device failing, as it is written.
+    fn said_failing(&mut self, step: Step, failing: u64, sheet: &mut Sheet) -> Vec<u8> {
+        let mut said = Sheet::new(sheet.alloc);
+        self.arm(failing);
+        self.take_step(step, &mut said);
+        said.onto(sheet)
+    }
+
+    /// Takes a step, and writes its answer.
+    pub(crate) fn take_step(&mut self, step: Step, sheet: &mut Sheet) {
+        let after = match self.take() {
+            Bench::Running(buffer) => stopped(buffer, step, sheet),
+            Bench::Unopened(buffer) => opened(buffer, step, sheet),
+            Bench::Stopped(device) => started(device, step, sheet),
+            Bench::Nothing => {
+                sheet.refuse();
+                Bench::Nothing
+            }
+        };
+        self.set(after);
+    }
+}
+
+/// The step of this name and these cells; where there is none, the row has no answer.
+fn step_of(name: &[u8], cells: &mut Cells<'_>, sheet: &mut Sheet) -> Step {
+    let step = match place_of("shut restart start open leave", name) {
+        Some(0) => Step::Shut(cells.number(u64::MAX, sheet)),
+        Some(1) => Step::Restart(cells.number(u64::MAX, sheet)),
+        Some(2) => start_in(cells, sheet),
+        Some(3) => Step::Open,
+        Some(_) => Step::Leave,
+        None => {
+            sheet.refuse();
+            Step::Leave
+        }
+    };
+    cells.end(sheet);
+    step
+}
+
+/// The start that the next two cells name.
+fn start_in(cells: &mut Cells<'_>, sheet: &mut Sheet) -> Step {
+    let buffer = octet(cells, sheet);
+    let cycle = number(cells, sheet);
+    Step::Start(buffer, cycle)
+}
+
+/// Whether an answer is an error: those begin with a capital letter.
+fn is_error(said: &[u8]) -> bool {
+    match said.first() {
+        Some(octet) => octet.is_ascii_uppercase(),
+        None => false,
+    }
+}
+
+/// Takes a step of a buffer that runs.
+fn stopped<D: Device>(buffer: Buffer<D>, step: Step, sheet: &mut Sheet) -> Bench<D> {
+    match step {
+        Step::Shut(stop) => shut(buffer, stop, sheet),
+        Step::Restart(stop) => restarted(buffer, stop, sheet),
+        Step::Leave => {
+            sheet.put(b"left");
+            Bench::Stopped(buffer.into_store())
+        }
+        Step::Start(_, _) | Step::Open => {
+            sheet.refuse();
+            Bench::Running(buffer)
+        }
+    }
+}
+
+/// Shuts a buffer under the number of a stop.
+fn shut<D: Device>(buffer: Buffer<D>, stop: u64, sheet: &mut Sheet) -> Bench<D> {
+    match buffer.shut(stop) {
+        Ok(device) => {
+            sheet.put(b"shut");
+            Bench::Stopped(device)
+        }
+        Err(refused) => {
+            sheet.debug(&refused.error);
+            Bench::Running(refused.buffer)
+        }
+    }
+}
+
+/// Stops a buffer and starts it in place.
+fn restarted<D: Device>(mut buffer: Buffer<D>, stop: u64, sheet: &mut Sheet) -> Bench<D> {
+    match buffer.restart(sheet.alloc, stop) {
+        Ok(tokens) => {
+            sheet.put(b"restarted");
+            put_tokens(&tokens, sheet);
+        }
+        Err(RestartError::Start(StartError::Memory)) => sheet.lack(),
+        Err(error) => sheet.debug(&error),
+    }
+    Bench::Running(buffer)
+}
+
+/// Takes a step of a buffer whose head isn't open.
+fn opened<D: Device>(buffer: Unopened<D>, step: Step, sheet: &mut Sheet) -> Bench<D> {
+    match step {
+        Step::Leave => {
+            sheet.put(b"left");
+            let mut device = buffer.into_store();
+            device.arm(0);
+            Bench::Stopped(device)
+        }
+        Step::Open => open(buffer, sheet),
+        _ => {
+            sheet.refuse();
+            Bench::Unopened(buffer)
+        }
+    }
+}
+
+/// Opens the head of a buffer.
+fn open<D: Device>(buffer: Unopened<D>, sheet: &mut Sheet) -> Bench<D> {
+    match buffer.open() {
+        Ok(buffer) => {
+            sheet.put(b"opened");
+            Bench::Running(buffer)
+        }
+        Err(buffer) => {
+            sheet.put(b"Device");
+            Bench::Unopened(buffer)
+        }
+    }
+}
+
+/// Takes a step of a device on which no buffer runs.
+fn started<D: Device>(device: D, step: Step, sheet: &mut Sheet) -> Bench<D> {
+    let Step::Start(number, cycle) = step else {
+        sheet.refuse();
+        return Bench::Stopped(device);
+    };
+    match Buffer::start(sheet.alloc, device, number, cycle) {
+        Ok(started) => {
+            sheet.numbered(b"stop ", started.stop);
+            put_tokens(&started.tokens, sheet);
+            Bench::Unopened(started.buffer)
+        }
+        Err(refused) => {
+            put_refusal(refused.error, sheet);
+            Bench::Stopped(refused.store)
+        }
+    }
+}
+
+/// Writes why a buffer isn't started.
+fn put_refusal(error: StartError, sheet: &mut Sheet) {
+    match error {
+        StartError::Memory => sheet.lack(),
+        other => sheet.debug(&other),
+    }
+}
+
+/// Writes tokens, each behind a space.
+fn put_tokens(tokens: &[Token], sheet: &mut Sheet) {
+    for token in tokens {
+        sheet.next(&token.to_text());
+    }
+}

@@ -1,0 +1,215 @@
+//! The calls of `article_parse`, `path_rules`, `article_fetch` and `date_rules`.
+
+use crate::texts::lines::{put_made, put_some};
+use crate::texts::walks::{Look, put_changes, put_fronts};
+use article_fetch::{LINE_ROOM, line, put_line};
+use article_parse::Article;
+use date_rules::judge;
+use path_rules::{identities, loops, updated};
+use row_text::Sheet;
+
+/// What is asked of an article.
+#[derive(Clone, Copy)]
+enum Asked<'a> {
+    /// Its message-id and its body.
+    Parts,
+    /// Its newsgroups.
+    Groups,
+    /// Its overview line.
+    Overview,
+    /// The content of the field of this name.
+    Field(&'a [u8]),
+    /// What becomes of it that comes to the first agent from the second.
+    Arrival(&'a [u8], &'a [u8]),
+    /// Whether its date lies in the window before a moment and a cutoff.
+    Date(u64, u64),
+}
+
+/// Writes the answer of a call of a text.
+pub fn of_text(call: usize, octets: &[u8], sheet: &mut Sheet) {
+    match call {
+        0 => sheet.cell(octets),
+        1 => put_fault(octets, sheet),
+        2 => put_fronts(Look::Article, octets, octets.len().saturating_add(1), sheet),
+        3 => put_fronts(
+            Look::Overview,
+            octets,
+            octets.len().saturating_add(1),
+            sheet,
+        ),
+        4 => put_asked(Asked::Parts, octets, sheet),
+        5 => put_asked(Asked::Groups, octets, sheet),
+        _ => put_asked(Asked::Overview, octets, sheet),
+    }
+}
+
+/// Writes the answer of a call of a text behind a cell.
+pub fn of_head(call: usize, head: &[u8], octets: &[u8], sheet: &mut Sheet) {
+    match call {
+        0 => put_asked(Asked::Field(head), octets, sheet),
+        _ => put_changes(Look::Article, head, octets, sheet),
+    }
+}
+
+/// Writes the answer of a call of a text behind two cells.
+pub fn of_heads(call: usize, first: &[u8], second: &[u8], octets: &[u8], sheet: &mut Sheet) {
+    match call {
+        0 => put_asked(Asked::Arrival(first, second), octets, sheet),
+        1 => {
+            let now = sheet.read(first);
+            let cutoff = sheet.read(second);
+            put_asked(Asked::Date(now, cutoff), octets, sheet);
+        }
+        _ => put_behind(first, second, octets, sheet),
+    }
+}
+
+/// Writes the fault of a text, `None` where it is an article.
+fn put_fault(octets: &[u8], sheet: &mut Sheet) {
+    match Article::parse(sheet.alloc, octets) {
+        Ok(article) => {
+            drop(article);
+            sheet.put(b"None");
+        }
+        Err(error) => sheet.debug(&Some(error)),
+    }
+}
+
+/// Writes what is asked of an article, or the text's fault.
+fn put_asked(asked: Asked<'_>, octets: &[u8], sheet: &mut Sheet) {
+    match Article::parse(sheet.alloc, octets) {
+        Ok(article) => {
+            put_of(asked, &article, sheet);
+            drop(article);
+        }
+        Err(error) => sheet.debug(&error),
+    }
+}
+
+/// Writes what is asked of an article.
+fn put_of(asked: Asked<'_>, article: &Article<'_>, sheet: &mut Sheet) {
+    match asked {
+        Asked::Parts => put_parts(article, sheet),
+        Asked::Groups => put_groups(article, sheet),
+        Asked::Overview => put_made(line(sheet.alloc, article), sheet),
+        Asked::Field(name) => put_some(article.field(name), sheet),
+        Asked::Arrival(own, expected) => put_arrival(own, expected, article, sheet),
+        Asked::Date(now, cutoff) => sheet.debug(&judge(sheet.alloc, article, now, cutoff)),
+    }
+}
+
+/// Writes the message-id of an article, the place of its body, and the body.
+fn put_parts(article: &Article<'_>, sheet: &mut Sheet) {
+    sheet.cell(article.id().as_bytes());
+    sheet.numbered(b" ", article.body_at() as u64);
+    sheet.next(article.body());
+}
+
+/// Writes the newsgroups of an article.
+fn put_groups(article: &Article<'_>, sheet: &mut Sheet) {
+    let Ok(groups) = article.groups(sheet.alloc) else {
+        return sheet.lack();
+    };
+    sheet.put(b"[");
+    for group in &groups {
+        sheet.next(group);
+    }
+    sheet.put(b" ]");
+}
+
+/// Writes what becomes of an article that comes to the first agent from the second.
+fn put_arrival(own: &[u8], expected: &[u8], article: &Article<'_>, sheet: &mut Sheet) {
+    match loops(article.field(b"Path").unwrap_or(b""), own) {
+        Ok(true) => sheet.put(b"Loop"),
+        Ok(false) => put_updated(own, expected, article, sheet),
+        Err(error) => sheet.debug(&error),
+    }
+}
+
+/// Writes how many octets the article has with its Path updated, for how many there is room, and
+/// the octets; or why the Path is refused.
+fn put_updated(own: &[u8], expected: &[u8], article: &Article<'_>, sheet: &mut Sheet) {
+    match updated(sheet.alloc, article, own, expected) {
+        Ok(octets) => {
+            sheet.number(octets.len() as u64);
+            sheet.numbered(b" ", octets.capacity() as u64);
+            sheet.next(&octets);
+        }
+        Err(error) => sheet.debug(&error),
+    }
+}
+
+/// Writes what a text gives: `Read(P, N)` for an article whose body has N octets at place P, or its
+/// fault.
+pub fn put_reading(octets: &[u8], sheet: &mut Sheet) {
+    match Article::parse(sheet.alloc, octets) {
+        Ok(article) => {
+            sheet.numbered(b"Read(", article.body_at() as u64);
+            sheet.numbered(b", ", article.body().len() as u64);
+            sheet.put(b")");
+            drop(article);
+        }
+        Err(error) => {
+            sheet.put(b"Refused(");
+            sheet.debug(&error);
+            sheet.put(b")");
+        }
+    }
+}
+
+/// Writes what a room has that had so many free octets behind these, once a line was put there, or
+/// that behind why none was put.
+fn put_behind(free: &[u8], before: &[u8], octets: &[u8], sheet: &mut Sheet) {
+    let free = sheet.read(free) as usize;
+    let mut room = room_of(before, free, sheet);
+    match put_line(&mut room, octets) {
+        Ok(()) => sheet.cell(&room),
+        Err(error) => {
+            sheet.debug(&error);
+            sheet.next(&room);
+        }
+    }
+}
+
+/// A room that has these octets, and so many free ones behind them.
+fn room_of(octets: &[u8], free: usize, sheet: &mut Sheet) -> Vec<u8> {
+    match Vec::with_capacity(sheet.alloc, octets.len().saturating_add(free)) {
+        Ok(mut room) => {
+            if room.extend_from_slice(octets).is_err() {
+                sheet.lack();
+            }
+            room
+        }
+        Err(_) => {
+            sheet.lack();
+            Vec::new(sheet.alloc)
+        }
+    }
+}
+
+/// Writes the overview line that a text gives in room that is enough, or why it gives none.
+pub fn put_front_line(octets: &[u8], sheet: &mut Sheet) {
+    let mut room = room_of(b"", octets.len().saturating_add(LINE_ROOM), sheet);
+    match put_line(&mut room, octets) {
+        Ok(()) => {
+            sheet.put(b"Line(");
+            sheet.cell(&room);
+            sheet.put(b")");
+        }
+        Err(error) => sheet.debug(&error),
+    }
+}
+
+/// Writes the identities of a Path, or why it is refused.
+pub fn put_identities(path: &[u8], sheet: &mut Sheet) {
+    match identities(sheet.alloc, path) {
+        Ok(list) => {
+            sheet.put(b"[");
+            for identity in &list {
+                sheet.next(identity.as_bytes());
+            }
+            sheet.put(b" ]");
+        }
+        Err(error) => sheet.debug(&error),
+    }
+}

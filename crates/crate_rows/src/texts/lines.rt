@@ -1,0 +1,97 @@
+//! The calls of `nntp_text` and `uwild`, and those of the other crates that take one content.
+
+use crate::texts::articles::put_identities;
+use crate::texts::walks::{Look, put_changes, put_fronts};
+use article_parse::{is_blank, unfolded};
+use date_rules::{seconds, stamp};
+use nntp_text::{Command, MsgId};
+use path_rules::loops;
+use row_text::Sheet;
+use std::alloc::AllocError;
+use stream_cut::stuff;
+use uwild::Expr;
+
+/// The last moment that has a stamp.
+const LAST_MOMENT: u64 = 253_370_764_799;
+
+/// Writes the answer of a call of one cell.
+pub fn of_line(call: usize, line: &[u8], sheet: &mut Sheet) {
+    match call {
+        0 => put_id(line, sheet),
+        1 => put_command(line, sheet),
+        2 => put_fronts(Look::Command, line, line.len(), sheet),
+        3 => put_fronts(Look::Expression, line, line.len(), sheet),
+        4 => put_expression_fault(line, sheet),
+        5 => put_made(stuff(sheet.alloc, line), sheet),
+        6 => put_made(unfolded(sheet.alloc, line), sheet),
+        7 => sheet.debug(&is_blank(line)),
+        8 => put_identities(line, sheet),
+        9 => put_seconds(line, sheet),
+        _ => put_stamp(line, sheet),
+    }
+}
+
+/// Writes what a text gives as a message-id.
+fn put_id(text: &[u8], sheet: &mut Sheet) {
+    sheet.debug(&MsgId::parse(sheet.alloc, text));
+}
+
+/// Writes what a command line gives.
+pub fn put_command(line: &[u8], sheet: &mut Sheet) {
+    sheet.debug(&Command::parse(sheet.alloc, line));
+}
+
+/// Writes the fault of a text, `None` where it is an expression.
+pub fn put_expression_fault(octets: &[u8], sheet: &mut Sheet) {
+    sheet.debug(&Expr::parse(sheet.alloc, octets).err());
+}
+
+/// Writes a text that was made.
+pub fn put_made(made: Result<Vec<u8>, AllocError>, sheet: &mut Sheet) {
+    match made {
+        Ok(octets) => sheet.cell(&octets),
+        Err(_) => sheet.lack(),
+    }
+}
+
+/// Writes the second that a content reads as.
+fn put_seconds(content: &[u8], sheet: &mut Sheet) {
+    match seconds(sheet.alloc, content) {
+        Ok(second) => sheet.debug(&second),
+        Err(_) => sheet.lack(),
+    }
+}
+
+/// Writes the stamp of a moment.
+fn put_stamp(moment: &[u8], sheet: &mut Sheet) {
+    let now = sheet.read(moment);
+    if now > LAST_MOMENT {
+        return sheet.refuse();
+    }
+    sheet.cell(&stamp(now));
+}
+
+/// Writes the answer of a call of two cells.
+pub fn of_two(call: usize, first: &[u8], second: &[u8], sheet: &mut Sheet) {
+    match call {
+        0 => put_changes(Look::Command, first, second, sheet),
+        1 => sheet.debug(&loops(second, first)),
+        _ => put_verdict(first, second, sheet),
+    }
+}
+
+/// Writes what an expression says of a name, or the fault of a text that is none.
+fn put_verdict(expression: &[u8], name: &[u8], sheet: &mut Sheet) {
+    match Expr::parse(sheet.alloc, expression) {
+        Ok(expression) => sheet.debug(&expression.judge(name)),
+        Err(error) => sheet.debug(&error),
+    }
+}
+
+/// Writes octets, or that there are none.
+pub fn put_some(octets: Option<&[u8]>, sheet: &mut Sheet) {
+    match octets {
+        Some(octets) => sheet.cell(octets),
+        None => sheet.put(b"None"),
+    }
+}

@@ -1,0 +1,125 @@
+//! The calls of `stream_cut`.
+
+use crate::texts::walks::Runs;
+use row_text::{Cells, Sheet, add_octets};
+use stream_cut::{Block, Cut, Want, cut_all};
+
+/// Writes the answer of a call of pieces: what is cut off them behind a limit and what is wanted.
+pub fn of_pieces(call: usize, cells: &mut Cells<'_>, sheet: &mut Sheet) {
+    match call {
+        0 => put_cut_all(cells, sheet),
+        1 => put_cut_in(cells, sheet),
+        _ => put_cut_in_two(cells, sheet),
+    }
+}
+
+/// Writes what is cut off the pieces that are the cells.
+fn put_cut_all(cells: &mut Cells<'_>, sheet: &mut Sheet) {
+    let limit = cells.number(u64::MAX, sheet) as usize;
+    let wants = cells.next(sheet);
+    put_cuts(limit, wants, cells.rest(), sheet);
+}
+
+/// Writes what is cut off these pieces, between square brackets.
+fn put_cuts(limit: usize, wants: &[u8], pieces: &[Vec<u8>], sheet: &mut Sheet) {
+    let wants = wants_of(wants, sheet);
+    match cut_all(sheet.alloc, limit, pieces, &wants) {
+        Ok(cuts) => {
+            sheet.put(b"[ ");
+            put_all(&cuts, sheet);
+            sheet.put(b"]");
+            drop(cuts);
+        }
+        Err(_) => sheet.lack(),
+    }
+}
+
+/// What is wanted: a block by a `B`, a line by any other octet.
+fn wants_of(letters: &[u8], sheet: &mut Sheet) -> Vec<Want> {
+    let mut wants = Vec::new(sheet.alloc);
+    for letter in letters {
+        let want = if *letter == b'B' {
+            Want::Block
+        } else {
+            Want::Line
+        };
+        if wants.push(want).is_err() {
+            sheet.lack();
+        }
+    }
+    wants
+}
+
+/// Writes what was cut.
+fn put_all(cuts: &[Cut], sheet: &mut Sheet) {
+    for cut in cuts {
+        put_cut(cut, sheet);
+    }
+}
+
+/// Writes what was cut, and a space.
+fn put_cut(cut: &Cut, sheet: &mut Sheet) {
+    match cut {
+        Cut::Line(line) => put_in(b"Line", line, sheet),
+        Cut::Block(Block::Whole(octets)) => put_in(b"Whole", octets, sheet),
+        Cut::Block(Block::Oversize) => sheet.put(b"Oversize "),
+        Cut::TooLong => sheet.put(b"TooLong "),
+    }
+}
+
+/// Writes octets between round brackets, behind a word, and a space.
+fn put_in(word: &[u8], octets: &[u8], sheet: &mut Sheet) {
+    sheet.put(word);
+    sheet.put(b"(");
+    sheet.cell(octets);
+    sheet.put(b") ");
+}
+
+/// Writes what is cut off a stream that comes in pieces of this size.
+fn put_cut_in(cells: &mut Cells<'_>, sheet: &mut Sheet) {
+    let size = cells.number(u64::MAX, sheet) as usize;
+    let limit = cells.number(u64::MAX, sheet) as usize;
+    let wants = cells.next(sheet);
+    let pieces = pieces_of(size, cells.next(sheet), sheet);
+    cells.end(sheet);
+    put_cuts(limit, wants, &pieces, sheet);
+}
+
+/// The pieces of this size of a stream.
+fn pieces_of(size: usize, stream: &[u8], sheet: &mut Sheet) -> Vec<Vec<u8>> {
+    let mut pieces = Vec::new(sheet.alloc);
+    for piece in stream.chunks(size.max(1)) {
+        add_octets(&mut pieces, piece, sheet);
+    }
+    pieces
+}
+
+/// Writes what is cut off a stream of two pieces, wherever the first one ends.
+fn put_cut_in_two(cells: &mut Cells<'_>, sheet: &mut Sheet) {
+    let limit = cells.number(u64::MAX, sheet) as usize;
+    let wants = cells.next(sheet);
+    let stream = cells.next(sheet);
+    cells.end(sheet);
+    let mut runs = Runs::new(sheet.alloc);
+    for place in 0..=stream.len() {
+        let (first, second) = stream.split_at(place);
+        runs.add(said_in_two(limit, wants, first, second, sheet), sheet);
+    }
+    runs.end(sheet);
+}
+
+/// What is cut off two pieces, as it is written.
+fn said_in_two(
+    limit: usize,
+    wants: &[u8],
+    first: &[u8],
+    second: &[u8],
+    sheet: &mut Sheet,
+) -> Vec<u8> {
+    let mut said = Sheet::new(sheet.alloc);
+    let mut pieces = Vec::new(sheet.alloc);
+    add_octets(&mut pieces, first, sheet);
+    add_octets(&mut pieces, second, sheet);
+    put_cuts(limit, wants, &pieces, &mut said);
+    said.onto(sheet)
+}

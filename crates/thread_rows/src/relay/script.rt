@@ -1,0 +1,93 @@
+//! What a session sends, and how its end of the connection behaves.
+
+use crate::articles::put_article;
+use crate::relay::gate::Turn;
+use crate::words::{number_in, word_of};
+use row_text::Sheet;
+use std::alloc::Global;
+
+/// How an end of a connection behaves.
+#[derive(Clone, Copy)]
+pub(crate) struct Habits {
+    /// It gives and takes an octet at a time, each after an interrupted try.
+    pub(crate) by_octets: bool,
+    /// How many octets it takes.
+    pub(crate) takes: usize,
+    /// It fails where it takes no more.
+    pub(crate) breaks: bool,
+}
+
+/// What a session sends.
+#[derive(Drop)]
+pub(crate) struct Script {
+    pub(crate) front: Sheet,
+    /// What it sends once a block is being written.
+    pub(crate) rest: Sheet,
+    /// What it sends next comes only then.
+    pub(crate) is_waiting: bool,
+    commands: u64,
+    pub(crate) habits: Habits,
+    /// Its connection comes in its turn, and the clock stands at this moment from then on.
+    pub(crate) comes: Option<u64>,
+}
+
+impl Script {
+    /// Nothing is sent yet.
+    pub(crate) fn new(alloc: Global) -> Script {
+        Script {
+            front: Sheet::new(alloc),
+            rest: Sheet::new(alloc),
+            is_waiting: false,
+            commands: 0,
+            habits: Habits {
+                by_octets: false,
+                takes: usize::MAX,
+                breaks: false,
+            },
+            comes: None,
+        }
+    }
+
+    /// It sends this line.
+    pub(crate) fn send(&mut self, line: &[u8]) {
+        let text = self.text();
+        text.put(line);
+        text.put(b"\r\n");
+    }
+
+    /// It sends this command, which has the next turn.
+    pub(crate) fn command(&mut self, session: u64, line: &[u8], is_beside: bool) -> Turn {
+        self.send(line);
+        let command = self.commands;
+        self.commands = command.saturating_add(1);
+        Turn {
+            session,
+            command,
+            is_beside,
+        }
+    }
+
+    /// It sends the lines of an article: the words are I, K and the newsgroups of it; without the
+    /// latter these are `misc.test`.
+    pub(crate) fn send_article(&mut self, words: &[u8]) {
+        let (id, words) = word_of(words);
+        let (digits, groups) = word_of(words);
+        let groups = if groups.is_empty() {
+            b"misc.test".as_slice()
+        } else {
+            groups
+        };
+        let text = self.text();
+        put_article(text, b"", id, number_in(digits), groups);
+        text.put(b".\r\n");
+    }
+
+    /// What it sends next.
+    fn text(&mut self) -> &mut Sheet {
+        if self.is_waiting {
+            &mut self.rest
+        } else {
+            &mut self.front
+        }
+    }
+}
