@@ -15,7 +15,7 @@ use line_words::{Between, first_word, has_only_digits, number_within, one_part, 
 use std::alloc::{AllocError, Global};
 
 /// Which part of an article a command asks for.
-#[derive(Clone, Copy, Debug, PartialEq, Eq)]
+#[derive(Clone, Copy, Debug)]
 pub enum Part {
     /// ARTICLE: the whole text (RFC 3977 section 6.2.1).
     WholeText,
@@ -63,7 +63,7 @@ pub enum Command<'a> {
 }
 
 /// Why a line is no command, in the order of trial.
-#[derive(Clone, Copy, Debug, PartialEq, Eq)]
+#[derive(Clone, Copy, Debug)]
 pub enum CmdError {
     /// Memory ran out for the message-id of the command that the line asks.
     Memory,

@@ -18,7 +18,7 @@ const LEAST_OCTETS: usize = 3;
 const MOST_OCTETS: usize = 250;
 
 /// Why a text is no message-id, in the order of trial.
-#[derive(Clone, Copy, Debug, PartialEq, Eq)]
+#[derive(Clone, Copy, Debug)]
 pub enum IdError {
     /// Memory ran out for a text that is a message-id.
     Memory,
