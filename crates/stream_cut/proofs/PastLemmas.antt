@@ -41,10 +41,6 @@ dots_of-append (l ∷ ls) ms = omega (arith, dots_of-append ls ms)
 pub spelled-append : (ls ms : List (List ℕ)) → spelled (ls ++ ms) ≡ spelled ls ++ spelled ms
 spelled-append ls ms = flat_map-append (λ (line : List ℕ). line ++ crlf) ls ms
 
--- none are lines
-pub AreLinesOf-none : AreLinesOf []
-AreLinesOf-none = record { lines = []; unclosed = tt; whole = refl }
-
 -- whole lines, and what was passed after them
 pub passed_on : (gone kept : List ℕ) (passed looked dots : ℕ) (g : AreLinesOf gone)
     → IsPassed kept passed looked dots

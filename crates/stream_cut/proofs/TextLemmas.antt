@@ -21,6 +21,13 @@ use Rattle.stream_cut.specs.Dots.{DotsAt, HasNoInnerDot, end_of}
 use Rattle.stream_cut.specs.Look.{IsLooked}
 use Rattle.stream_cut.proofs.PlaceLemmas.{EndsAt-front}
 
+-- what stands behind a place stands behind one before it
+drop_behind : (t : List ℕ) (at next : ℕ) → at < next
+    → drop next t ≡ drop (next - at) (drop at t)
+drop_behind t at next behind =
+    let count : next ≡ at + (next - at) = omega (arith, behind) in
+    ap (λ (n : ℕ). drop n t) count ∙ sym (drop-drop (next - at) at t)
+
 -- what changes a line where it begins with a dot, and then there alone
 pub record ChangesDots (f : List ℕ → List ℕ) : Type 0 where
   alone : (s more : List ℕ) → 0 < length s → f (s ++ more) ≡ f s ++ more
@@ -293,18 +300,15 @@ module _ (f : List ℕ → List ℕ) (changes : ChangesDots f) where
       ∙ append-nil (f (front ++ crlf)) ∙ ap f (sym ended)
 
   -- one piece more is sent
-  pub sent_more : (t before : List ℕ) (at end next : ℕ) → DotsAt (drop at t) end → next ≡ at + end
+  pub sent_more : (t before : List ℕ) (at next : ℕ) → DotsAt (drop at t) (next - at) → at < next
       → (before ++ f (take (next - at) (drop at t))) ++ Sent (drop next t)
       ≡ before ++ Sent (drop at t)
-  sent_more t before at end next dots e =
+  sent_more t before at next dots behind =
       let left = drop at t in
-      let count : next - at ≡ end = omega (arith, e) in
-      let after : drop next t ≡ drop end left = ap (λ (n : ℕ). drop n t) e
-      ∙ sym (drop-drop end at t) in
       append_assoc before (f (take (next - at) left)) (Sent (drop next t))
-      ∙ ap (λ (n : ℕ). before ++ (f (take n left) ++ Sent (drop next t))) count
-      ∙ ap (λ (x : List ℕ). before ++ (f (take end left) ++ Sent x)) after
-      ∙ ap (λ (x : List ℕ). before ++ x) (sym (sent_piece left end dots))
+      ∙ ap (λ (x : List ℕ). before ++ (f (take (next - at) left) ++ Sent x))
+      (drop_behind t at next behind)
+      ∙ ap (λ (x : List ℕ). before ++ x) (sym (sent_piece left (next - at) dots))
 
 -- a place of a dot is within the text, and not at its begin
 pub dots_within : (t : List ℕ) (k : ℕ) → DotsAt t k → (0 < k) × (k ≤ length t)
@@ -373,25 +377,25 @@ closed_later x a =
     ∙ ap (λ (y : List ℕ). y ++ crlf) (sym (append_assoc x a dot))
 
 -- one piece more is in it
-pub stuffed_more : (t before : List ℕ) (at end next : ℕ) → DotsAt (drop at t) end
-    → next ≡ at + end
+pub stuffed_more : (t before : List ℕ) (at next : ℕ) → DotsAt (drop at t) (next - at)
+    → at < next
     → (before ++ stuffed_line (take (next - at) (drop at t))) ++ stuffed (drop next t)
     ≡ before ++ stuffed (drop at t)
-stuffed_more t before at end next dots e =
+stuffed_more t before at next dots behind =
     let piece = stuffed_line (take (next - at) (drop at t)) in
     closed_later (before ++ piece) (sent stuffed_line (drop next t))
     ∙ ap (λ (y : List ℕ). (y ++ dot) ++ crlf)
-    (sent_more stuffed_line stuffed_line-dots t before at end next dots e)
+    (sent_more stuffed_line stuffed_line-dots t before at next dots behind)
     ∙ sym (closed_later before (sent stuffed_line (drop at t)))
 
 -- the octets of it
-pub stuffed_count : (t : List ℕ) (at end next : ℕ) → DotsAt (drop at t) end → next ≡ at + end
+pub stuffed_count : (t : List ℕ) (at next : ℕ) → DotsAt (drop at t) (next - at) → at < next
     → length (stuffed_line (take (next - at) (drop at t))) + length (stuffed (drop next t))
     ≡ length (stuffed (drop at t))
-stuffed_count t at end next dots e =
+stuffed_count t at next dots behind =
     let piece = stuffed_line (take (next - at) (drop at t)) in
     sym (length-append piece (stuffed (drop next t)))
-    ∙ ap length (stuffed_more t [] at end next dots e)
+    ∙ ap length (stuffed_more t [] at next dots behind)
 
 -- what is left is sent as one line is, with the end that it lacks
 pub stuffed_end : (t : List ℕ) (ended : Bool) → HasNoInnerDot t → ended ≡ ends_with eqb t crlf
@@ -416,13 +420,12 @@ pub whole_first : (t : List ℕ) → spelled (text_lines t) ≡ t → sent (λ s
 whole_first t whole = ap spelled (map-id (text_lines t)) ∙ whole
 
 -- where lines are whole, what follows a piece of them is
-pub whole_more : (t : List ℕ) (at end next : ℕ) → DotsAt (drop at t) end → next ≡ at + end
+pub whole_more : (t : List ℕ) (at next : ℕ) → DotsAt (drop at t) (next - at) → at < next
     → sent (λ s. s) (drop at t) ≡ drop at t → sent (λ s. s) (drop next t) ≡ drop next t
-whole_more t at end next dots e whole =
+whole_more t at next dots behind whole =
     let left = drop at t in
-    let after : drop next t ≡ drop end left = ap (λ (n : ℕ). drop n t) e
-    ∙ sym (drop-drop end at t) in
-    subst (λ (x : List ℕ). sent (λ s. s) x ≡ x) (sym after)
+    let end = next - at in
+    subst (λ (x : List ℕ). sent (λ s. s) x ≡ x) (sym (drop_behind t at next behind))
     (append_cancel_left (take end left) _ _
     (sym (sent_piece (λ s. s) unchanged-dots left end dots) ∙ whole
     ∙ sym (take-append-drop end left)))

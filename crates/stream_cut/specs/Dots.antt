@@ -1,7 +1,7 @@
 -- Lines that begin with a dot: those of a block, which their text has not, and those of a text,
 -- which get one more (RFC 3977 section 3.1.1).
-use Rattle.std.specs.Prelude.{◌≡◌, ◌≢◌, ℕ, ◌+◌, ◌≤◌, ◌==◌, if◌then◌else◌, List, [], ◌∷◌, ◌++◌}
-use Rattle.std.specs.Prelude.{Bool, length}
+use Rattle.std.specs.Prelude.{◌≡◌, ◌≢◌, ℕ, ◌+◌, ◌-◌, ◌<◌, ◌≤◌, ◌==◌, if◌then◌else◌, Bool}
+use Rattle.std.specs.Prelude.{List, [], ◌∷◌, ◌++◌, length, drop}
 use Rattle.news_terms.specs.Lines.{crlf}
 
 -- one where a line begins with a dot, else none
@@ -25,6 +25,12 @@ pub record DotsAt (text : List ℕ) (k : ℕ) : Type 0 where
   pub whole : text ≡ front ++ 13 ∷ 10 ∷ 46 ∷ after
   pub place : k ≡ length front + 2
   pub first : (x y : List ℕ) → text ≡ x ++ 13 ∷ 10 ∷ 46 ∷ y → length front ≤ length x
+
+-- behind place `at` the first line but the one there that begins with a dot begins at place `next`
+pub record IsNextDot (text : List ℕ) (at next : ℕ) : Type 0 where
+  pub dots : DotsAt (drop at text) (next - at)
+  pub behind : at < next
+  pub within : next ≤ length text
 
 -- what ends the last line of a text, where that lacks its end
 abbrev pub end_of : Bool → List ℕ

@@ -1,11 +1,11 @@
 //! Dot-stuffing (RFC 3977 section 3.1.1).
 ghost use Rattle.std.specs.Prelude.{◌≡◌, ◌+◌, ◌^◌, ◌≤◌, ◌<◌, ◌++◌, [], ◌∷◌, length, List, ℕ};
-ghost use Rattle.std.specs.Prelude.{IfOk, OnOk, vec_len, vec_capacity};
+ghost use Rattle.std.specs.Prelude.{drop, IfOk, OnOk, MatchOption, vec_len, vec_capacity};
 ghost use Rattle.news_terms.specs.Lines.{spelled};
 ghost use Rattle.news_terms.specs.Blocks.{stuffed, stuffed_line, text_lines};
 ghost use Rattle.news_terms.specs.Blocks.{unstuffed, unstuffed_line};
 ghost use Rattle.news_terms.specs.Blocks as terms;
-ghost use Rattle.stream_cut.specs.Dots.{HasNoInnerDot, end_of};
+ghost use Rattle.stream_cut.specs.Dots.{HasNoInnerDot, IsNextDot, end_of};
 
 use crate::look::inner_dot;
 use line_words::put_octets;
@@ -37,12 +37,22 @@ pub fn put_stuffed(block: &mut Vec<u8>, text: &[u8])
     ensures capacity { vec_capacity block.new ≡ vec_capacity block.old }
 {
     let mut at = 0;
-    while let Some(end) = inner_dot(&text[at..], 0) {
-        let next = at + end;
+    while let Some(next) = next_dot(text, at) {
         put_stuffed_line(block, &text[at..next]);
         at = next;
     }
     put_last(block, &text[at..]);
+}
+
+/// Where behind place `at` the first line begins that begins with a dot, but not the line there.
+fn next_dot(octets: &[u8], at: usize) -> Option<usize>
+    requires { at ≤ length octets.now }
+    ensures { MatchOption result (HasNoInnerDot (drop at octets.now)) (IsNextDot octets.now at) }
+{
+    match inner_dot(&octets[at..], 0) {
+        Some(end) => Some(at + end),
+        None => None,
+    }
 }
 
 /// Adds the block that sends octets of which no line but the first begins with a dot.
@@ -90,8 +100,7 @@ pub fn unstuff(alloc: Global, lines: &[u8], len: usize) -> Result<Vec<u8>, Alloc
 {
     let mut text = Vec::with_capacity(alloc, len)?;
     let mut at = 0;
-    while let Some(end) = inner_dot(&lines[at..], 0) {
-        let next = at + end;
+    while let Some(next) = next_dot(lines, at) {
         push_unstuffed(&mut text, &lines[at..next])?;
         at = next;
     }
