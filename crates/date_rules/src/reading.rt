@@ -42,7 +42,12 @@ fn second_in(text: &[u8]) -> Option<i64>
 fn is_ascii(text: &[u8]) -> bool
     ensures { result ≡ list_all is_ascii text.now }
 {
-    text.iter().all(|octet| octet.is_ascii())
+    for octet in text {
+        if !octet.is_ascii() {
+            return false;
+        }
+    }
+    true
 }
 
 /// The second that a text reads as.

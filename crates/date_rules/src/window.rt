@@ -14,7 +14,7 @@ use std::alloc::{AllocError, Global};
 const DAY: i128 = 86_400;
 
 /// Why an article's date is refused, in the order of trial.
-#[derive(Clone, Copy, Debug, PartialEq, Eq)]
+#[derive(Clone, Copy, Debug)]
 pub enum DateError {
     /// Memory ran out, which says nothing of the date.
     Memory,
