@@ -1,24 +1,12 @@
 -- Which blocks are in memory alone after a call.
-use Rattle.std.proofs.Common.{◌≡◌, ◌∙◌, ◌+◌, ◌<◌, ◌≤◌, inl, inr, ℕ, List, []}
-use Rattle.std.proofs.Common.{get_or, length, sym, ap, subst, arith, Result, Ok, Err, OnErr, OnOk}
+use Rattle.std.proofs.Common.{◌≡◌, ◌∙◌, ◌+◌, ◌<◌, inl, inr, ℕ, List, []}
+use Rattle.std.proofs.Common.{length, sym, ap, subst, arith, Result, Ok, Err, OnErr, OnOk}
 use Rattle.std.proofs.lemmas.Bool.{cases_lt}
 use Rattle.file_blocks.proofs.CutLemmas.{length-blocks_of}
 use Rattle.run_blocks.specs.Run.{Holds}
-use Rattle.run_blocks.specs.Store.{AreWritten, IsSetAside, KeepsAside}
-use Rattle.run_blocks.specs.Store.{blocks_seen, blocks_there, gathered_of}
-use Rattle.run_blocks.specs.declared.file.RunFile.{Ghosts}
+use Rattle.run_blocks.specs.Store.{AreWritten, IsSetAside, KeepsAside, gathered_of}
 use Rattle.run_blocks.specs.declared.run.Run.{Run}
 use Rattle.run_blocks.specs.declared.store.RunBlocks.{RunBlocks}
-use Rattle.run_blocks.proofs.SeenLemmas.{there_seen}
-
--- a block that isn't in memory alone is seen as it is in the file
-pub is_there : {F : Type 0} (g : Ghosts F) (store : RunBlocks F) (first last k : ℕ)
-    → AreWritten first last store → first ≤ k → k ≤ last
-    → get_or (blocks_seen g store) k [] ≡ get_or (blocks_there g store) k []
-is_there g store first last k written since until =
-    let run = store.gathered in
-    there_seen store.count run.first run.count k (g.held store.file) run.octets.items
-    store.gathered_within (λ from before. written k since until (from, before))
 
 -- where nothing is gathered all blocks are in the file
 pub all_written : {F : Type 0} (store : RunBlocks F) (first last : ℕ) → gathered_of store ≡ []
