@@ -21,7 +21,7 @@ use Rattle.news_terms.specs.BlockImage.{chunk_size}
 use Rattle.news_terms.specs.Token.{Token}
 use Rattle.peer_session.specs.Answers.{IsAnswerTo, IsStepOf, handed}
 use Rattle.peer_session.specs.Hearing.{Forgets, Gathers}
-use Rattle.peer_session.specs.Planning.{Planned}
+use Rattle.peer_session.specs.Planning.{DueGiven, Planned}
 use Rattle.peer_session.specs.Said.{IsSaid}
 use Rattle.peer_session.specs.Session.{Stands, has_parted}
 use Rattle.peer_session.specs.declared.session.Session.{Session}
@@ -243,3 +243,10 @@ WentOn {J} {g} w old said new =
     (honest : Bool) → (honest ≡ true → g.trusted ≡ true)
     → (s end : ℕ) (first p : Point) → Going honest w s end first old p
     → ∥ WentTo honest w s end first p said new ∥₁
+
+-- from wherever the session planned this step at this moment, it went on
+abbrev pub TakesPlanned : {J : Type 0} {g : Ghosts J} → Terms → (now : ℕ) → Step → LiveSession J g
+    → List ℕ → LiveSession J g → Type 0
+TakesPlanned {J} {g} w now step planned said new =
+    (old : LiveSession J g) → DueGiven w old.session now step planned.session
+    → KeepsButSession old planned → WentOn w old said new

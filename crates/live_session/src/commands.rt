@@ -4,7 +4,7 @@ ghost use Rattle.live_session.specs.Commands.{newest_in, next_after, number_of, 
 
 /// A command of a session, of which a gate is asked, and told once its reply was written. Only the
 /// session that reads the command makes one.
-#[derive(Clone, Copy, Debug, PartialEq, Eq)]
+#[derive(Clone, Copy)]
 pub struct Command {
     session: u64,
     number: u64,

@@ -1,19 +1,20 @@
 //! A turn: the session plans, its step is done, and it hears the answer.
-ghost use Rattle.std.specs.Prelude.{◌≡◌, ◌≢◌, [], false};
+ghost use Rattle.std.specs.Prelude.{◌≡◌, ◌≢◌, ◌≤◌, [], false};
 ghost use Rattle.article_verdict.specs.Config.{terms_of};
 ghost use Rattle.live_jobs.specs.Seats.{IsSeatOf, end_of};
 ghost use Rattle.live_session.specs.Carried.{Refusal};
 ghost use Rattle.live_session.specs.Going.{HearsAnswer, KeepsButSession, LetsGo};
-ghost use Rattle.live_session.specs.Going.{WentOn, said_in};
+ghost use Rattle.live_session.specs.Going.{TakesPlanned, WentOn, said_in};
 ghost use Rattle.live_session.specs.declared.live.Turned.TheVariants as turns;
 ghost use Rattle.peer_session.specs.declared.steps.Answer.TheVariants as answers;
+ghost use Rattle.relay_model.specs.Terms.{last_moment};
 
 use crate::commands::Commands;
 use crate::live::{LiveSession, SessionContext, Turned};
 use crate::shares::{Clock, Gate, Shares};
 use crate::sharing::share;
 use live_store::StorePremises;
-use peer_session::Answer;
+use peer_session::{Answer, Step};
 use std::alloc::Global;
 use std::sync::Wait;
 
@@ -38,18 +39,47 @@ pub(crate) fn turn<S: Shares<J, R>, C: Clock, G: Gate<R>, J: StorePremises, R: W
         return Turned::Memory;
     };
     if live.session.is_resting() {
-        drop(step);
-        forget(live);
+        give_up(live, step);
         return Turned::Rests;
     }
     if at_command && !is_let_in(rt, context.gate, commands) {
-        drop(step);
-        forget(live);
+        give_up(live, step);
         return Turned::Held;
     }
+    take_planned(rt, alloc, context, live, step, now)
+}
+
+/// The step that the session planned at this moment is done, and it hears the answer.
+fn take_planned<S: Shares<J, R>, C, G, J: StorePremises, R: Wait>(
+    rt: &R,
+    alloc: Global,
+    context: &SessionContext<S, C, G>,
+    live: &mut LiveSession<J>,
+    step: Step,
+    now: u64,
+) -> Turned
+    requires register { context.now.register.now ≡ J.register }
+    requires seat { IsSeatOf context.now.channels.now live.old.seat }
+    requires moment { now ≤ last_moment }
+    ensures seat { IsSeatOf context.now.channels.now live.new.seat }
+    ensures end { end_of live.new.seat ≡ end_of live.old.seat }
+    ensures went { TakesPlanned (terms_of context.now.config.now) now step live.old
+        (said_in result) live.new }
+    ensures let_in { result ≢ turns.Held }
+{
     let answer = share(rt, alloc, context, live, &step, now);
     drop(step);
     hear(live, answer)
+}
+
+/// The step isn't done, and the session forgets what it planned.
+fn give_up<J: StorePremises>(live: &mut LiveSession<J>, step: Step)
+    ensures gone { LetsGo live.old [] live.new }
+    ensures rest { KeepsButSession live.old live.new }
+    ensures seat { live.new.seat ≡ live.old.seat }
+{
+    drop(step);
+    forget(live);
 }
 
 /// Whether the gate lets the next command in.

@@ -12,7 +12,7 @@ use live_store::StorePremises;
 use live_wire::{Hears, Says, say_all};
 
 /// How a session ended.
-#[derive(Clone, Copy, Debug, PartialEq, Eq)]
+#[derive(Clone, Copy)]
 pub enum Finish {
     /// After QUIT (RFC 3977 section 5.4).
     Quit,

@@ -2,9 +2,8 @@ use Rattle.std.proofs.Common.{[], refl, subst, sym}
 use Rattle.article_verdict.specs.Config.{terms_of}
 use Rattle.live_jobs.specs.Seats.{IsSeatOf}
 use Rattle.live_jobs.specs.declared.session.SessionSeat.{SessionSeat}
-use Rattle.live_session.proofs.LiveSessions.{let_go, still, turned}
+use Rattle.live_session.proofs.LiveSessions.{let_go, still}
 use Rattle.live_session.proofs.turn.turn.Goals as goal
-use Rattle.live_session.specs.Going.{said_in}
 
 pub returns-in_default-clause-went : goal.returns-in_default-clause-went
 returns-in_default-clause-went g c =
@@ -16,53 +15,41 @@ returns-in_default-clause-went g c =
 pub returns-then-is_resting-clause-seat : goal.returns-then-is_resting-clause-seat
 returns-then-is_resting-clause-seat g c =
     let P : SessionSeat → Type 0 = λ s. IsSeatOf c.args.context.now.channels.now s in
-    subst P (sym c.forget.ensures.seat) c.requires.seat
+    subst P (sym c.give_up.ensures.seat) c.requires.seat
 
 pub returns-then-is_resting-clause-went : goal.returns-then-is_resting-clause-went
 returns-then-is_resting-clause-went g c =
     let w = terms_of c.args.context.now.config.now in
     let live = c.args.live.now in
     let planned = record live { session = c.plan.new.self } in
-    let_go w live c.forget.new.live c.in-Ok.step c.now-now.result planned planned []
+    let_go w live c.give_up.new.live c.in-Ok.step c.now-now.result planned planned []
     c.in-Ok.ensures.due
     (record { reads = refl; hands = refl; place = record { number = refl; end_is = refl } })
     (record { session = refl; reads = refl; hands = refl })
-    (record { number = refl; end_is = refl }) c.forget.ensures.gone c.forget.ensures.rest
+    (record { number = refl; end_is = refl }) c.give_up.ensures.gone c.give_up.ensures.rest
 
 pub returns-then-not-is_let_in-clause-seat : goal.returns-then-not-is_let_in-clause-seat
 returns-then-not-is_let_in-clause-seat g c =
     let P : SessionSeat → Type 0 = λ s. IsSeatOf c.args.context.now.channels.now s in
-    subst P (sym c.forget-then-not-is_let_in.ensures.seat) c.requires.seat
+    subst P (sym c.give_up-then-not-is_let_in.ensures.seat) c.requires.seat
 
 pub returns-then-not-is_let_in-clause-went : goal.returns-then-not-is_let_in-clause-went
 returns-then-not-is_let_in-clause-went g c =
     let w = terms_of c.args.context.now.config.now in
     let live = c.args.live.now in
     let planned = record live { session = c.plan.new.self } in
-    let gone = c.forget-then-not-is_let_in in
+    let gone = c.give_up-then-not-is_let_in in
     let_go w live gone.new.live c.in-Ok.step c.now-now.result planned planned []
     c.in-Ok.ensures.due
     (record { reads = refl; hands = refl; place = record { number = refl; end_is = refl } })
     (record { session = refl; reads = refl; hands = refl })
     (record { number = refl; end_is = refl }) gone.ensures.gone gone.ensures.rest
 
-pub returns-clause-seat : goal.returns-clause-seat
-returns-clause-seat g c =
-    let P : SessionSeat → Type 0 = λ s. IsSeatOf c.args.context.now.channels.now s in
-    subst P (sym c.hear.ensures.seat) c.share-answer.ensures.seat
-
 pub returns-clause-went : goal.returns-clause-went
 returns-clause-went g c =
-    let w = terms_of c.args.context.now.config.now in
-    let live = c.args.live.now in
-    let planned = record live { session = c.plan.new.self } in
-    let share = c.share-answer in
-    turned w live c.hear.new.live c.in-Ok.step c.now-now.result planned share.new.live
-    share.result (said_in c.hear.result) c.now-now.ensures c.in-Ok.ensures.due
+    c.take_planned.ensures.went c.args.live.now c.in-Ok.ensures.due
     (record { reads = refl; hands = refl; place = record { number = refl; end_is = refl } })
-    share.ensures.shared share.ensures.place share.ensures.memory
-    c.hear.ensures.heard c.hear.ensures.memory c.hear.ensures.rest
 
 -- a turn that was had isn't held
 pub returns-clause-held : goal.returns-clause-held
-returns-clause-held g c held = absurd (c.hear.ensures.let_in held)
+returns-clause-held g c held = absurd (c.take_planned.ensures.let_in held)
