@@ -304,5 +304,10 @@ fn feed_place(feeds: &[Feed], peer: usize) -> Option<usize>
         ≡ position (λ (feed : FeedTerms). feed.peer == peer) (map feed_view feeds.now) }
     ensures within { IfSome result (λ place. place < length feeds.now) }
 {
-    feeds.iter().position(|feed| usize::from(feed.peer) == peer)
+    for (place, feed) in feeds.iter().enumerate() {
+        if usize::from(feed.peer) == peer {
+            return Some(place);
+        }
+    }
+    None
 }
