@@ -12,7 +12,7 @@ use path_rules::loops;
 use std::alloc::{AllocError, Global};
 
 /// Why an article is refused, in the order of trial (docs/PROTOCOL.md, Judging).
-#[derive(Clone, Copy, Debug, PartialEq, Eq)]
+#[derive(Clone, Copy)]
 pub enum Reason {
     /// The block was oversize: its text has more octets than an article may have.
     Size,
