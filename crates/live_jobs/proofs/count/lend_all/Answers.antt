@@ -1,9 +1,35 @@
-use Rattle.std.proofs.Common.{◌<◌, List, length, map, ap, sym, ◌∙◌, arith}
+use Rattle.std.proofs.Common.{◌<◌, List, length, map, ap, refl, sym, ◌∙◌, arith}
+use Rattle.std.proofs.lemmas.List.{take_all}
 use Rattle.std.specs.Prelude.{slice_get}
 use Rattle.live_jobs.specs.declared.outcome.FinishedJob.{FinishedJob}
+use Rattle.live_jobs.specs.Gathered.{kept_by_all}
 use Rattle.live_jobs.proofs.Passes.{read_at, length_set, map_at, map_set_same}
 use Rattle.live_jobs.proofs.Counts.{kept_next, here_next}
+use Rattle.live_jobs.proofs.Writers.{length_map}
 use Rattle.live_jobs.proofs.count.lend_all.Goals as goal
+
+pub loop-group-init : goal.loop-group-init
+loop-group-init g c = record {
+  count = refl;
+  parts = c.requires.none.0;
+  amount = c.requires.none.1;
+  here = λ k w past at. c.requires.here k w at;
+  finished = refl;
+  pass = refl;
+  closed = refl;
+}
+
+pub lend-requires : goal.lend-requires
+lend-requires g c =
+    let all = c.args.writers.now.ok.0 in
+    let inv = c.loop-group.invariant in
+    let below : c.loop-group.group < length c.loop-group.writers.items =
+    omega (arith, inv.count, c.len-group-end.ensures) in
+    record {
+      here = inv.here c.loop-group.group c.index_mut.result.now (omega arith)
+          (read_at c.loop-group.writers.items c.loop-group.group c.index_mut.result.now below
+          c.index_mut.ensures.value);
+    }
 
 pub loop-group-preserved : goal.loop-group-preserved
 loop-group-preserved g c =
@@ -32,3 +58,13 @@ loop-group-preserved g c =
       closed = map_set_same (λ w. w.closed.items) c.loop-group.writers.items c.loop-group.group
           c.index_mut.result.now c.lend.new.self at e.same.2 ∙ inv.closed;
     }
+
+pub returns-clause-amount : goal.returns-clause-amount
+returns-clause-amount g c =
+    let all = c.args.writers.now.ok.0 in
+    let past = c.loop-group-test.false in
+    let long = length_map (λ w. w.finished.items) c.args.writers.now.items in
+    c.loop-group.invariant.amount
+    ∙ ap (kept_by_all g.O.Outcome.kept) (take_all c.loop-group.group
+    (map (λ w. w.finished.items) c.args.writers.now.items)
+    (omega (arith, c.len-group-end.ensures)))
