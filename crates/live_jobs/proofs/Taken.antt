@@ -1,8 +1,9 @@
 -- What a writer took, after one parcel more.
 use Rattle.std.proofs.Common.{◌≡◌, ◌≢◌, ℕ, zero, suc, ◌+◌, ◌<◌, ◌≤◌, Bool, true, false, List, []}
 use Rattle.std.proofs.Common.{◌∷◌, ◌++◌, length, map, Some, refl, sym, ap, ◌∙◌, subst, ⊎_elim}
-use Rattle.std.proofs.Common.{arith}
-use Rattle.std.specs.Prelude.{slice_get, slice_set}
+use Rattle.std.proofs.Common.{arith, true≢false}
+use Rattle.std.proofs.lemmas.Option.{same_Some}
+use Rattle.std.specs.Prelude.{replicate, slice_get, slice_set}
 use native.Mathlib.Decide.{ℕ_discrete}
 use Rattle.crossbeam_queue.specs.Passes.{view}
 use Rattle.job_queue.specs.declared.parcel.Handed.{Handed}
@@ -10,7 +11,7 @@ use Rattle.job_queue.specs.declared.parcel.Parcel.{Parcel}
 use Rattle.job_queue.specs.declared.parcel.Parcel.TheVariants as parcels
 use Rattle.job_queue.specs.declared.known.Known.{Known}
 use Rattle.job_queue.specs.Parcels.{end_of, of_end, has_mark, jobs_of}
-use Rattle.job_queue.specs.Delivery.{OfWriter, HasTaken}
+use Rattle.job_queue.specs.Delivery.{OfWriter, HasTaken, writer_knows}
 use Rattle.job_queue.specs.Passes.{QueuePass}
 use Rattle.job_queue.proofs.Lists.{of_end_snoc, of_end_snoc_else}
 use Rattle.live_jobs.specs.declared.outcome.FinishedJob.{FinishedJob}
@@ -156,3 +157,23 @@ module _ {O : Type 0} (kept : O → Bool) where
     where
       summed : count + one ≡ kept_in kept ds + worth (kept d.outcome)
       summed = omega arith
+
+-- where no mark is noted, no end is noted as closed
+pub no_flags : (n k : ℕ) → slice_get (replicate n false) k ≡ Some true → ⊥
+no_flags zero k e = absurd (cc)
+no_flags (suc n) zero e = true≢false (sym (same_Some false true e))
+no_flags (suc n) (suc k) e = no_flags n k e
+
+-- a writer that took nothing
+pub none_taken : {O : Type 0} (fits : O → Handed → Type 0) (pass : QueuePass)
+    (finished : List (FinishedJob O)) (closed : List Bool) → view {V = Known} pass ≡ writer_knows []
+    → finished ≡ [] → ((e : ℕ) → slice_get closed e ≡ Some true → ⊥)
+    → Took fits pass finished closed
+none_taken fits pass finished closed is none open_ends = record {
+  takes = is ∙ ap writer_knows (sym (ap (λ (k : Known). k.taken) is));
+  told = ap (map finished_name) none
+      ∙ ap (λ (k : Known). map name_of (jobs_of k.taken)) (sym is);
+  fit = λ k d j at there. let nothing = ap (λ (l : List (FinishedJob _)). slice_get l k) (sym none)
+      ∙ at in absurd (cc);
+  marks = λ e at. absurd (open_ends e at);
+}

@@ -1,6 +1,6 @@
 //! The channels and the seats of a run are made.
-ghost use Rattle.std.specs.Prelude.{◌≡◌, ◌+◌, ◌<◌, ◌^◌, ◌++◌, [], ◌∷◌, false};
-ghost use Rattle.std.specs.Prelude.{length, map, vec_capacity, vec_len, IfOk};
+ghost use Rattle.std.specs.Prelude.{◌≡◌, ◌+◌, ◌<◌, ◌^◌, ◌++◌, [], ◌∷◌, ℕ, true, false, Some};
+ghost use Rattle.std.specs.Prelude.{length, map, replicate, slice_get, vec_capacity, vec_len, IfOk};
 ghost use Rattle.crossbeam_queue.specs.Passes.{view, IsPassOf};
 ghost use Rattle.job_queue.specs.Delivery.{writer_knows};
 ghost use Rattle.live_jobs.specs.JobChannels.{queue_of};
@@ -92,28 +92,35 @@ fn give_passes<V>(
     Ok(())
 }
 
-/// A writer that has taken nothing yet.
+/// A flag for each end, that its closing mark wasn't taken yet.
+fn no_marks(alloc: Global, ends: usize) -> Result<Vec<bool>, AllocError>
+    ensures { IfOk result (λ closed. closed.items ≡ replicate ends false) }
+{
+    Vec::from_elem(alloc, false, ends)
+}
+
+/// A writer that has taken nothing yet, with a flag for each end.
 fn new_writer<L: Ledger, O: Outcome>(
     alloc: Global,
     pass: QueuePass,
     share: Share<L>,
-    ends: usize,
-) -> Result<WriterSeat<L, O>, AllocError>
+    closed: Vec<bool>,
+) -> WriterSeat<L, O>
     requires pass { view pass ≡ writer_knows [] }
     requires share { (share.parts ≡ 1) × (share.amount ≡ 0) }
-    ensures pass { IfOk result (λ w. w.pass ≡ pass) }
-    ensures flags { IfOk result (λ w. (w.lent ≡ false) × (length w.closed.items ≡ ends)) }
-    ensures none { IfOk result (λ w. w.finished.items ≡ []) }
+    requires none { (e : ℕ) → slice_get closed.items e ≡ Some true → ⊥ }
+    ensures pass { result.pass ≡ pass }
+    ensures flags { (result.lent ≡ false) × (result.closed.items ≡ closed.items) }
+    ensures none { result.finished.items ≡ [] }
 {
-    let closed = Vec::from_elem(alloc, false, ends)?;
-    Ok(WriterSeat {
+    WriterSeat {
         pass,
         finished: FinishedList::new(alloc),
         closed,
         kept: 0,
         share,
         lent: false,
-    })
+    }
 }
 
 /// The channels of a run, in the order of the groups, and the seats of its ends and writers.
@@ -179,20 +186,13 @@ fn add_group<L: Ledger, O: Outcome + Drop, V: Drop>(
         ≡ map (λ p. p.service) opened.old.plans.items) }
 {
     reserve_group(opened)?;
+    let closed = no_marks(alloc, ends)?;
     let (channel, pass, first) = add_channel(alloc, &opened.channels, &mut opened.plans)?;
-    match new_writer(alloc, pass, share, ends) {
-        Ok(writer) => {
-            opened.channels.push_reserved(channel);
-            opened.rests.push_reserved(first);
-            opened.writers.push_reserved(writer);
-            Ok(())
-        }
-        Err(error) => {
-            drop(channel);
-            drop(first);
-            Err(error)
-        }
-    }
+    let writer = new_writer(alloc, pass, share, closed);
+    opened.channels.push_reserved(channel);
+    opened.rests.push_reserved(first);
+    opened.writers.push_reserved(writer);
+    Ok(())
 }
 
 /// Finds room for a group more.

@@ -1,4 +1,6 @@
-use Rattle.std.proofs.Common.{◌∙◌, ◌++◌, ◌∷◌, [], ap, arith, sym, subst, length, List}
+use Rattle.std.proofs.Common.{◌∙◌, ◌++◌, ◌∷◌, [], ap, arith, false, sym, subst, length, List}
+use Rattle.std.proofs.lemmas.List.{length-replicate}
+use Rattle.std.specs.Prelude.{slice_get}
 use Rattle.crossbeam_queue.specs.Passes.{IsPassOf}
 use Rattle.job_queue.specs.Passes.{QueuePass}
 use Rattle.live_jobs.specs.Gathered.{IsRest}
@@ -9,6 +11,7 @@ use Rattle.live_jobs.specs.declared.channel.JobChannel.{JobChannel}
 use Rattle.live_jobs.specs.declared.start.Plan.{Plan}
 use Rattle.live_jobs.proofs.Rows.{length_snoc}
 use Rattle.live_jobs.proofs.Plans.{ready_grown}
+use Rattle.live_jobs.proofs.Taken.{no_flags}
 use Rattle.live_jobs.proofs.Writers.{rests_snoc}
 use Rattle.live_jobs.proofs.open.add_group.Goals as goal
 
@@ -18,19 +21,24 @@ add_channel-requires-clause-fit g c =
     subst (λ (x : List JobChannel × List (Plan _)). From (λ e p. IsUnused x.0 e p.seat) 0 x.1)
     (λ i. (sym (c.deref.ensures.value ∙ same.0) i, sym same.2 i)) c.requires.fit.plans
 
+pub new_writer-writer-requires-clause-none : goal.new_writer-writer-requires-clause-none
+new_writer-writer-requires-clause-none g c = λ e at.
+    no_flags c.args.ends e (ap (λ l. slice_get l e) (sym c.in_ok-closed.ensures) ∙ at)
+
 -- the channel, its first pass and its writer stand behind those of the groups before
-pub returns-in-Ok-clause-fit : goal.returns-in-Ok-clause-fit
-returns-in-Ok-clause-fit g c =
+pub returns-clause-fit : goal.returns-clause-fit
+returns-clause-fit g c =
     let before = c.args.opened.now in
     let same = c.reserve_group.ensures.same in
     let was = c.requires.fit in
     let add = c.in_ok-channel.ensures in
-    let made = c.in-Ok.ensures in
+    let made = c.new_writer-writer.ensures in
     let channels = c.push_reserved.ensures.items
     ∙ (λ i. same.0 i ++ c.in_ok-channel.channel ∷ []) in
-    let rests = c.push_reserved-in-Ok.ensures.items
+    let rests = c.push_reserved-2.ensures.items
     ∙ (λ i. same.1 i ++ c.in_ok-channel.first ∷ []) in
-    let writers = c.push_reserved-in-Ok-2.ensures.items ∙ (λ i. same.3 i ++ c.in-Ok.writer ∷ []) in
+    let writers = c.push_reserved-3.ensures.items
+    ∙ (λ i. same.3 i ++ c.new_writer-writer.result ∷ []) in
     let ends = ap length same.2 ∙ was.ends_count in
     let one = length_snoc _ _ _ writers in
     record {
@@ -47,9 +55,11 @@ returns-in-Ok-clause-fit g c =
           c.in_ok-channel.first was.rests channels rests add.rest.0
           (subst (λ n. IsRest n c.in_ok-channel.first) ends add.rest.1);
       writers = ready_grown (λ w. w.pass) (λ w. w.lent) (λ w. w.closed.items)
-          before.channels.items _ c.in_ok-channel.channel _ before.writers.items _ c.in-Ok.writer
+          before.channels.items _ c.in_ok-channel.channel _ before.writers.items _
+          c.new_writer-writer.result
           was.writers was.count channels writers
           (subst (λ (p : QueuePass). IsPassOf (queue_of c.in_ok-channel.channel) p)
           (sym made.pass) add.writer.0)
-          made.flags.0 made.flags.1;
+          made.flags.0
+          (ap length (made.flags.1 ∙ c.in_ok-closed.ensures) ∙ length-replicate c.args.ends false);
     }
