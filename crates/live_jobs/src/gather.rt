@@ -148,7 +148,7 @@ fn compare_rests<L: Ledger, O: Outcome>(
 }
 
 /// How many jobs all writers kept, and how many posts the desk made.
-#[derive(Clone, Copy, Debug, PartialEq, Eq)]
+#[derive(Clone, Copy)]
 pub struct Totals {
     pub accepted: u64,
     pub posted: Posts,
