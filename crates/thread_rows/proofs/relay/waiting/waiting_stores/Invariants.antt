@@ -1,4 +1,4 @@
-use Rattle.std.proofs.Common.{◌≡◌, All, ℕ, List, length, map, take}
+use Rattle.std.proofs.Common.{◌≡◌, length, map, take}
 use Rattle.relay_conf.specs.declared.cycbuff.BufferConf.{BufferConf}
 use Rattle.thread_rows.proofs.relay.waiting.waiting_stores.Given as goal
 
