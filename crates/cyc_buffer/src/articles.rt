@@ -111,8 +111,8 @@ fn read_images<S: BlockStore>(store: &mut S, token: &Token) -> Result<(), StartE
     Ok(())
 }
 
-/// Whether the octets are an image of the first block of the article under a token, which has to end
-/// by this block.
+/// Whether the octets are an image of the first block of the article under a token, which has to
+/// end by this block.
 fn begins_with(octets: &[u8; BLOCK_OCTETS], token: &Token, end: u32) -> bool
     requires { token.now.first ≤ end }
     ensures some { IsTrue result → 1 ≤ token.now.length }

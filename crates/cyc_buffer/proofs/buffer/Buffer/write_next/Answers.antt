@@ -75,11 +75,12 @@ returns-clause-written g c can =
           old.progress h.writing refl refl agrees.keeps.writing
           can.owned continues can.left c.count_block.ensures.progress
           (λ is. subst (λ n. ChangesOnly n (g.S.BlockStore.blocks c.args.self.now.store)
-          (g.S.BlockStore.blocks c.write.new.self)) here (c.write.ensures.others (agrees.honest is)))
+          (g.S.BlockStore.blocks c.write.new.self)) here
+          (c.write.ensures.others (agrees.honest is)))
           (λ is. (agrees.holds is).open_one)
           (λ is. image_there (g.S.BlockStore.blocks c.args.self.now.store)
-          (g.S.BlockStore.blocks c.write.new.self) c.next_stamp-stamp.result c.args.write.now.token _
-          c.block_image-image.result c.chunk_of.result.now c.args.text.now
+          (g.S.BlockStore.blocks c.write.new.self) c.next_stamp-stamp.result
+          c.args.write.now.token _ c.block_image-image.result c.chunk_of.result.now c.args.text.now
           (without_error c.write.result (sym c.is_err.ensures.value ∙ c.if-is_err.false)
           (c.write.ensures.written (agrees.honest is)))
           (omega (arith, here, c.next_stamp-stamp.ensures.within, c.args.self.now.counted))
