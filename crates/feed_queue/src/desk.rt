@@ -23,7 +23,7 @@ use id_history::{KeptFeed, Settled};
 use std::alloc::{AllocError, Global};
 
 /// What is taken of a feed's ring.
-#[derive(Debug, Drop)]
+#[derive(Drop)]
 pub struct Taken {
     /// How many tokens were overwritten untaken since the last take.
     pub missed: u64,
@@ -32,7 +32,7 @@ pub struct Taken {
 }
 
 /// The counts of a feed, in tokens.
-#[derive(Clone, Copy, Debug, PartialEq, Eq)]
+#[derive(Clone, Copy)]
 pub struct Counts {
     /// All that the feed ever gained.
     pub gained: u64,
