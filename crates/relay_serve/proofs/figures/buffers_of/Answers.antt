@@ -1,4 +1,5 @@
 use Rattle.std.proofs.Common.{◌∙◌, ap, arith, length, map}
+use Rattle.std.proofs.lemmas.List.{take_all}
 use Rattle.relay_report.specs.declared.figures.NamedBuffer.{NamedBuffer}
 use Rattle.relay_serve.proofs.Rows.{longer, one_more_made}
 use Rattle.relay_serve.proofs.figures.buffers_of.Goals as goal
@@ -51,3 +52,14 @@ loop-number-preserved g c =
           c.deref-buffer-items.ensures.value c.loop-number-test.true c.buffer-item.is
           (c.in_ok-name.ensures ∙ c.as_slice.ensures) before.names;
     }
+
+-- that was the last
+pub returns : goal.returns
+returns g c =
+    c.loop-number.invariant.names
+    ∙ ap (map (λ buffer. buffer.name))
+    (take_all c.loop-number.number c.args.config.now.buffers.buffers.items (omega (
+      arith,
+      c.loop-number-test.false,
+      ap length c.deref-buffer-items.ensures.value,
+    )))

@@ -1,4 +1,5 @@
 use Rattle.std.proofs.Common.{◌∙◌, ap, arith, length, map}
+use Rattle.std.proofs.lemmas.List.{take_all}
 use Rattle.std.specs.Prelude.{slice_get}
 use Rattle.article_verdict.proofs.FewFeeds.{few_feeds}
 use Rattle.relay_report.specs.Figures.{name_of}
@@ -68,3 +69,14 @@ loop-number-preserved g c =
           c.deref.ensures.value)
           before.names;
     }
+
+-- that was the last
+pub returns : goal.returns
+returns g c =
+    c.loop-number.invariant.names
+    ∙ ap (map (λ feed. name_of (slice_get c.args.config.now.relay.peers.items feed.peer)))
+    (take_all c.loop-number.number c.args.config.now.relay.feeds.items (omega (
+      arith,
+      c.loop-number-test.false,
+      ap length c.deref-feed-items.ensures.value,
+    )))
