@@ -1,8 +1,15 @@
-use Rattle.std.proofs.Common.{sym, subst, List, ℕ}
+use Rattle.std.proofs.Common.{◌<◌, ◌∙◌, length, sym, subst, List, ℕ}
 use Rattle.relay_drill.specs.Progress.{Performs, stand_view}
 use Rattle.relay_drill.specs.Todo.{bring_each}
 use Rattle.relay_drill.proofs.Courses.{goes_none, goes_still}
 use Rattle.relay_drill.proofs.play.play_line.Goals as goal
+
+-- octets that are lent twice are as many both times
+pub bring-requires : goal.bring-requires
+bring-requires g c =
+    let same = c.deref-in-Bring.ensures.value ∙ sym c.deref.ensures.value in
+    λ some. c.piece_size-size.ensures.some
+    (subst (λ (octets : List ℕ). 0 < length octets) same some)
 
 pub returns-in-Open : goal.returns-in-Open
 returns-in-Open g c = λ next. rw c.in-Open.is (c.open.ensures next)
