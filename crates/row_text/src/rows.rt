@@ -18,9 +18,9 @@ pub trait Answers {
 }
 
 /// Prints the lines of a text with an answer behind each row. A line that is empty or begins with
-/// `#` is printed as it is; any other line is a row, cut into words at single spaces: a call and its
-/// cells. A row is printed with ` = ` and its answer behind it, which is `?` where the call is not
-/// known or an escape is bad. Where memory runs out that is the error, once all before it is
+/// `#` is printed as it is; any other line is a row, cut into words at single spaces: a call and
+/// its cells. A row is printed with ` = ` and its answer behind it, which is `?` where the call is
+/// not known or an escape is bad. Where memory runs out that is the error, once all before it is
 /// printed.
 pub fn play<A: Answers>(rt: &HostRuntime, text: &[u8], answers: &mut A) -> io::Result<()> {
     let mut printed = Sheet::new(rt.alloc());

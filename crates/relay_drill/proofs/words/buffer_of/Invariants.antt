@@ -7,6 +7,6 @@ use Rattle.relay_drill.proofs.words.buffer_of.Given as goal
 -- none so far has the name
 abbrev pub invariant-loop-place : goal.invariant-loop-place
 invariant-loop-place l =
-    position_or_len (bytes_eq l.name) (map (λ (one : BufferConf). one.name) l.buffers)
+    position_or_len (bytes_eq l.name) (map (λ (b : BufferConf). b.name) l.buffers)
     ≡ l.place
-    + position_or_len (bytes_eq l.name) (map (λ (one : BufferConf). one.name) (drop l.place l.buffers))
+    + position_or_len (bytes_eq l.name) (map (λ (b : BufferConf). b.name) (drop l.place l.buffers))
