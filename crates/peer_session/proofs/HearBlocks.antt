@@ -15,7 +15,6 @@ use Rattle.peer_session.specs.declared.phase.Phase.TheVariants as phases
 use Rattle.peer_session.specs.declared.phase.Planned.{Planned as CodePlanned}
 use Rattle.peer_session.specs.declared.phase.Todo.TheVariants as todos
 use Rattle.peer_session.specs.declared.phase.Transfer.{Transfer}
-use Rattle.peer_session.specs.declared.room.Room.{Room}
 use Rattle.peer_session.specs.declared.session.Session.{Session}
 use Rattle.peer_session.specs.declared.steps.Answer.{Answer}
 use Rattle.peer_session.specs.declared.steps.Answer.TheVariants as answers
@@ -23,7 +22,7 @@ use Rattle.peer_session.proofs.HearCommon.{by_due, has_other, heard_of, IsPlanne
 
 -- a refusal was heard
 pub refuses : (s : ℕ) (old new : Session) (answer : Answer) (said : List ℕ)
-    (planned : CodePlanned) (read : ℕ) (room : Room) → IsPlanned old (todos.Refuse room) read
+    (planned : CodePlanned) (read : ℕ) (room : ℕ) → IsPlanned old (todos.Refuse room) read
     → ((transfer : Transfer) (id : List ℕ) → answer ≡ answers.Nothing
     → old.phase ≡ phases.AwaitsBlock transfer (Some id) → HeardIs said (with_planned old planned)
     (says (block_passed read old id) (hears.rejected (transfer_view transfer) id)) new)
@@ -40,7 +39,7 @@ refuses s old new answer said planned read room todo arm = λ w m d gathered tol
 
 -- an accepted article was answered
 pub takes : (s : ℕ) (old new : Session) (answer : Answer) (said : List ℕ)
-    (planned : CodePlanned) (read : ℕ) (copy : List ℕ) (article : Accepted) (room : Room)
+    (planned : CodePlanned) (read : ℕ) (copy : List ℕ) (article : Accepted) (room : ℕ)
     → IsPlanned old (todos.Take copy article room) read
     → ((transfer : Transfer) (told : Take) → answer ≡ answers.Take told
     → old.phase ≡ phases.AwaitsBlock transfer (Some copy) → HeardIs said (with_planned old planned)

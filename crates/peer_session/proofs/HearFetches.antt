@@ -26,7 +26,6 @@ use Rattle.article_fetch.specs.declared.chunk.Chunk.{Chunk}
 use Rattle.peer_session.specs.declared.phase.Phase.TheVariants as phases
 use Rattle.peer_session.specs.declared.phase.Planned.{Planned as CodePlanned}
 use Rattle.peer_session.specs.declared.phase.Todo.TheVariants as todos
-use Rattle.peer_session.specs.declared.room.Room.{Room}
 use Rattle.peer_session.specs.declared.session.Session.{Session}
 use Rattle.peer_session.specs.declared.steps.Answer.{Answer}
 use Rattle.peer_session.specs.declared.steps.Answer.TheVariants as answers
@@ -110,7 +109,7 @@ read_of w s session fetch found told said old new told_is is limit =
 
 -- an id was looked up
 pub looks : (s : ℕ) (old new : Session) (answer : Answer) (said : List ℕ)
-    (planned : CodePlanned) (read : ℕ) (part : Part) (id : List ℕ) (room : Room)
+    (planned : CodePlanned) (read : ℕ) (part : Part) (id : List ℕ) (room : ℕ)
     → IsPlanned old (todos.Look part id room) read
     → ((told : Option Token) → answer ≡ answers.Look told → old.phase ≡ phases.Ready
     → HeardIs said (with_planned old planned)
@@ -192,15 +191,15 @@ reads_on s old new answer said planned read todo arm = λ w m d gathered told h.
 
 -- a queue was taken
 pub takes_queue : (s : ℕ) (old new : Session) (answer : Answer) (said : List ℕ)
-    (planned : CodePlanned) (read : ℕ) (room : Room) → IsPlanned old (todos.Queue room) read
+    (planned : CodePlanned) (read : ℕ) (room : ℕ) → IsPlanned old (todos.Queue room) read
     → ((taken : Taken) → answer ≡ answers.Queue taken
-    → length taken.items.items ≤ room.items → old.phase ≡ phases.Ready
+    → length taken.items.items ≤ room → old.phase ≡ phases.Ready
     → HeardIs said (with_planned old planned)
     (says (passed read old) (QueueFollows taken.missed (map item_view taken.items.items))) new)
     → Heeds s old answer said new
 takes_queue s old new answer said planned read room todo arm = λ w m d gathered told h.
     let had = has_other w old m d gathered answer (todos.Queue room) read todo (λ e. cc) h in
-    let due : Due = due_as (asks.TakesQueue had.due_is.0 room.items) (passed read old) in
+    let due : Due = due_as (asks.TakesQueue had.due_is.0 room) (passed read old) in
     by_due w s d due gathered answer told said new had.due_is.1
     (λ is. let taken : Taken = is.0 in
     heard_of w s due told said (with_planned old planned) new

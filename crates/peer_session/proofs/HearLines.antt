@@ -15,7 +15,6 @@ use Rattle.peer_session.specs.Session.{passed}
 use Rattle.peer_session.specs.declared.phase.Phase.TheVariants as phases
 use Rattle.peer_session.specs.declared.phase.Planned.{Planned as CodePlanned}
 use Rattle.peer_session.specs.declared.phase.Todo.TheVariants as todos
-use Rattle.peer_session.specs.declared.room.Room.{Room}
 use Rattle.peer_session.specs.declared.session.Session.{Session}
 use Rattle.peer_session.specs.declared.steps.Answer.{Answer}
 use Rattle.peer_session.specs.declared.steps.Answer.TheVariants as answers
@@ -68,7 +67,7 @@ leaves_with s old new answer said planned read octets todo arm = λ w m d gather
 
 -- CHECK is answered
 pub checks : (s : ℕ) (old new : Session) (answer : Answer) (said : List ℕ)
-    (planned : CodePlanned) (read : ℕ) (id : List ℕ) (room : Room)
+    (planned : CodePlanned) (read : ℕ) (id : List ℕ) (room : ℕ)
     → IsPlanned old (todos.Check id room) read
     → ((told : Offer) → answer ≡ answers.Offer told → is_full old.offers id ≡ false
     → old.phase ≡ phases.Ready → HeardIs said (with_planned old planned)
@@ -84,7 +83,7 @@ checks s old new answer said planned read id room todo arm = λ w m d gathered t
 
 -- IHAVE is answered
 pub offers : (s : ℕ) (old new : Session) (answer : Answer) (said : List ℕ)
-    (planned : CodePlanned) (read : ℕ) (id copy : List ℕ) (room : Room)
+    (planned : CodePlanned) (read : ℕ) (id copy : List ℕ) (room : ℕ)
     → IsPlanned old (todos.Ihave id copy room) read
     → ((told : Offer) → answer ≡ answers.Offer told → copy ≡ id
     → is_full old.offers id ≡ false → old.phase ≡ phases.Ready

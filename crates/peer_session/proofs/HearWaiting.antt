@@ -23,7 +23,6 @@ use Rattle.peer_session.specs.declared.phase.Planned.{Planned as CodePlanned}
 use Rattle.peer_session.specs.declared.phase.Todo.{Todo}
 use Rattle.peer_session.specs.declared.phase.Todo.TheVariants as todos
 use Rattle.peer_session.specs.declared.phase.Transfer.{Transfer}
-use Rattle.peer_session.specs.declared.room.Room.{Room}
 use Rattle.peer_session.specs.declared.session.Session.{Session}
 use Rattle.peer_session.specs.declared.steps.Answer.{Answer}
 use Rattle.peer_session.specs.declared.steps.Answer.TheVariants as answers
@@ -101,7 +100,7 @@ hands_over old result hand given none = λ w m d gathered job planned ask.
 -- a held article was answered
 pub takes_held : (s : ℕ) (old new : Session) (answer : Answer) (said : List ℕ)
     (planned : CodePlanned) (read : ℕ) (copy : List ℕ) → IsPlanned old (todos.TakeHeld copy) read
-    → ((article : Accepted) (room : Room) (told : Take) → answer ≡ answers.Take told
+    → ((article : Accepted) (room : ℕ) (told : Take) → answer ≡ answers.Take told
     → old.phase ≡ phases.Holds copy article room → old.cutter.dropped ≡ 0
     → HeardIs said (with_planned old planned)
     (take_heard s (in_phase (session_view old) model.Ready) model.TakesThis copy
@@ -166,7 +165,7 @@ pushes s old answer planned read todo = λ w m d gathered told h is.
 -- the slot was looked into
 pub looks_in_slot : (s : ℕ) (old new : Session) (answer : Answer) (said : List ℕ)
     (planned : CodePlanned) (read : ℕ) → IsPlanned old todos.Slot read
-    → ((transfer : Transfer) (id : List ℕ) (room : Room) (told : Option Outcome)
+    → ((transfer : Transfer) (id : List ℕ) (room : ℕ) (told : Option Outcome)
     → answer ≡ answers.Slot told → old.phase ≡ phases.Waits transfer id room
     → old.cutter.dropped ≡ 0 → HeardIs said (with_planned old planned)
     (slot_heard (session_view old) (transfer_view transfer) id
@@ -176,7 +175,7 @@ looks_in_slot s old new answer said planned read todo arm = λ w m d gathered to
     let had = has_other w old m d gathered answer todos.Slot read todo (λ e. cc) h in
     let transfer : Transfer = had.due_is.0 in
     let id : List ℕ = had.due_is.1 in
-    let room : Room = had.due_is.2 in
+    let room : ℕ = had.due_is.2 in
     let waits : old.phase ≡ phases.Waits transfer id room = had.due_is.3 in
     let kept : old.cutter.dropped ≡ 0 =
     kept_in old (phases.Waits transfer id room) waits had.stands.has_all in

@@ -14,13 +14,12 @@ use Rattle.peer_session.specs.Session.{HasReadNone, gathered_of, session_view, t
 use Rattle.peer_session.specs.declared.phase.Due.{Due as CodeDue}
 use Rattle.peer_session.specs.declared.phase.Phase.TheVariants as phases
 use Rattle.peer_session.specs.declared.phase.Transfer.{Transfer}
-use Rattle.peer_session.specs.declared.room.Room.{Room}
 use Rattle.peer_session.specs.declared.session.Session.{Session}
 use Rattle.peer_session.proofs.PlanCommon.{due_in, plan_of, stands_so}
 
 -- a held article is tried again
 pub plans_held : (w : Terms) (session : Session) (now : ℕ) (id : List ℕ) (article : Accepted)
-    (room : Room) (one : CodeDue) → session.phase ≡ phases.Holds id article room
+    (room : ℕ) (one : CodeDue) → session.phase ≡ phases.Holds id article room
     → IsHeldAsked id one → Plans w session now one session
 plans_held w session now id article room one holds asked =
     plan_of w session now one session (λ limit has_all.
@@ -57,7 +56,7 @@ plans_push w session now job one has none pushes due =
 
 -- the outcome of an article is awaited
 pub plans_waiting : (w : Terms) (session : Session) (now : ℕ) (transfer : Transfer)
-    (id : List ℕ) (room : Room) (hand : Option Job) (one : CodeDue)
+    (id : List ℕ) (room : ℕ) (hand : Option Job) (one : CodeDue)
     → session.phase ≡ phases.Waits transfer id room → session.hand ≡ hand
     → IsWaitingAsked hand one → Plans w session now one session
 plans_waiting w session now transfer id room (Some job) one waits has asked =

@@ -29,7 +29,6 @@ use Rattle.peer_session.specs.declared.phase.Phase.TheVariants as phases
 use Rattle.peer_session.specs.declared.phase.Todo.{Todo}
 use Rattle.peer_session.specs.declared.phase.Todo.TheVariants as todos
 use Rattle.peer_session.specs.declared.phase.Transfer.{Transfer}
-use Rattle.peer_session.specs.declared.room.Room.{Room}
 use Rattle.peer_session.specs.declared.session.Session.{Session}
 use Rattle.peer_session.specs.declared.steps.Step.{Step}
 use Rattle.peer_session.specs.declared.steps.Step.TheVariants as steps
@@ -63,7 +62,7 @@ pub record IsLeaving (reply : Reply) (one : Todo × Step) : Type 0 where
 
 -- the id is looked up for this part
 pub record IsLooking (part : Part) (id : List ℕ) (one : Todo × Step) : Type 0 where
-  pub room : Room
+  pub room : ℕ
   pub is : one ≡ (todos.Look part id room, steps.Look id)
 
 -- the word is a token whose first block is read, or none
@@ -100,9 +99,9 @@ TextAt read text stream =
 -- what is asked of a text that was judged: it is refused, or taken
 pub data IsJudged (w : Terms) (from now : ℕ) (id : List ℕ) (text : Option (List ℕ))
     (one : Todo × Step) : Type 0 where
-  IsRefused : (reason : Reason) → (room : Room) → Judges w from id now text (Err reason)
+  IsRefused : (reason : Reason) → (room : ℕ) → Judges w from id now text (Err reason)
       → one ≡ (todos.Refuse room, steps.Refuse id) → IsJudged w from now id text one
-  IsAccepted : (article : Accepted) → (room : Room)
+  IsAccepted : (article : Accepted) → (room : ℕ)
       → Judges w from id now text (Ok (article_view article))
       → one ≡ (todos.Take id article room, steps.Take id) → IsJudged w from now id text one
 

@@ -5,6 +5,7 @@ pub mod Given
 pub mod Hearing
 pub mod Places
 pub mod Planning
+pub mod Room
 pub mod Said
 pub mod Session
 pub mod Table

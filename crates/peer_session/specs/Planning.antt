@@ -20,7 +20,6 @@ use Rattle.peer_session.specs.declared.phase.Phase.TheVariants as phases
 use Rattle.peer_session.specs.declared.phase.Todo.{Todo}
 use Rattle.peer_session.specs.declared.phase.Todo.TheVariants as todos
 use Rattle.peer_session.specs.declared.phase.Transfer.{Transfer}
-use Rattle.peer_session.specs.declared.room.Room.{Room}
 use Rattle.peer_session.specs.declared.session.Session.{Session}
 use Rattle.peer_session.specs.declared.steps.Step.{Step}
 
@@ -57,7 +56,7 @@ DueIs todos.ReadOn read session d =
     × (d ≡ due_as (asks.Reads reading.asked reading.token reading.had)
     (in_phase (session_view session) model.Ready))
 DueIs (todos.Queue room) read session d =
-    (feed : ℕ) × (d ≡ due_as (asks.TakesQueue feed room.items) (passed read session))
+    (feed : ℕ) × (d ≡ due_as (asks.TakesQueue feed room) (passed read session))
 DueIs (todos.Refuse room) read session d =
     (transfer : Transfer) × (id : List ℕ) × (session.phase ≡ phases.AwaitsBlock transfer (Some id))
     × (d ≡ due_as (asks.Refuses (transfer_view transfer) id) (block_passed read session id))
@@ -66,14 +65,14 @@ DueIs (todos.Take copy article room) read session d =
     × (d ≡ due_as (asks.Takes (transfer_view transfer) copy (article_view article))
     (block_passed read session copy))
 DueIs (todos.TakeHeld copy) read session d =
-    (article : Accepted) × (room : Room) × (session.phase ≡ phases.Holds copy article room)
+    (article : Accepted) × (room : ℕ) × (session.phase ≡ phases.Holds copy article room)
     × (d ≡ due_as (asks.Takes model.TakesThis copy (article_view article))
     (in_phase (session_view session) model.Ready))
 DueIs todos.Push read session d =
     (job : Job) × (session.hand ≡ Some job)
     × (d ≡ due_as (asks.Pushes (job_view job)) (session_view session))
 DueIs todos.Slot read session d =
-    (transfer : Transfer) × (id : List ℕ) × (room : Room)
+    (transfer : Transfer) × (id : List ℕ) × (room : ℕ)
     × (session.phase ≡ phases.Waits transfer id room)
     × (d ≡ due_as (asks.LooksInSlot (transfer_view transfer) id) (session_view session))
 DueIs todos.Release read session d =

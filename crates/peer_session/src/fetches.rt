@@ -159,7 +159,7 @@ impl Session {
     /// What was taken of a feed's queue.
     pub(crate) fn hear_queue(&mut self, read: usize, room: Room, answer: Answer) -> Vec<u8>
         ensures heard { (taken : Taken) → answer ≡ Answer.Queue taken
-            → length taken.items.items ≤ room.items → self.old.phase ≡ Phase.Ready
+            → length taken.items.items ≤ room → self.old.phase ≡ Phase.Ready
             → HeardIs result.items self.old (says (passed read self.old)
             (QueueFollows taken.missed (map item_view taken.items.items))) self.new }
         ensures memory { answer ≡ Answer.Memory → self.new ≡ self.old }

@@ -1,5 +1,5 @@
 //! Room for a reply, which is taken before it is known what the reply says.
-ghost use Rattle.std.specs.Prelude.{◌≡◌, ◌+◌, ◌*◌, ◌≤◌, [], length, map, IfOk, vec_capacity};
+ghost use Rattle.std.specs.Prelude.{◌≡◌, ◌≤◌, length, map, IfOk};
 ghost use Rattle.news_terms.specs.Reply.{QueueFollows, reply_text};
 ghost use Rattle.nntp_text.specs.Reply.{item_view, reply_room, reply_view, room_of};
 ghost use Rattle.peer_session.specs.Said.{IsReply};
@@ -7,27 +7,38 @@ ghost use Rattle.peer_session.specs.Said.{IsReply};
 use cyc_token::Token;
 use nntp_text::{ITEM_ROOM, REPLY_ROOM, Reply, put_reply};
 use std::alloc::{AllocError, Global};
+use std::marker::Model;
 
-/// Room for a reply that shows nothing of an article, and for so many items of a queue.
+/// Room for a reply that shows nothing of an article, and for so many items of a queue. A contract
+/// sees how many, and not the octets.
 #[derive(Drop)]
 pub(crate) struct Room {
-    pub(crate) octets: Vec<u8>,
-    pub(crate) items: usize,
-    ghost has_room: { length octets.items + reply_room + 53 * items ≤ vec_capacity octets },
-    ghost is_empty: { octets.items ≡ [] },
+    octets: Vec<u8>,
+    items: usize,
+}
+
+impl Model for Room {
+    ghost use Rattle.std.specs.Prelude.{ℕ};
+    ghost use Rattle.peer_session.specs.Room.{IsRoom};
+
+    ghost Value = { ℕ };
+
+    ghost view = { λ room. room.items };
+
+    ghost invariant = { λ room. IsRoom room.octets room.items };
 }
 
 impl Room {
     /// Room for a reply that shows no article and no queue.
     pub(crate) fn new(alloc: Global) -> Result<Room, AllocError>
-        ensures { IfOk result (λ room. room.items ≡ 0) }
+        ensures { IfOk result (λ room. room ≡ 0) }
     {
         Room::for_items(alloc, 0)
     }
 
     /// Room for a reply that shows so many items of a queue.
     pub(crate) fn for_items(alloc: Global, items: usize) -> Result<Room, AllocError>
-        ensures { IfOk result (λ room. room.items ≡ items) }
+        ensures { IfOk result (λ room. room ≡ items) }
     {
         let room = items.checked_mul(ITEM_ROOM).ok_or(AllocError)?;
         let room = room.checked_add(REPLY_ROOM).ok_or(AllocError)?;
@@ -48,7 +59,7 @@ impl Room {
     /// The octets of a reply that shows what was taken of a queue: the items that there is room
     /// for.
     pub(crate) fn say_queue(self, missed: u64, items: &[(u64, Token)]) -> Vec<u8>
-        ensures { length items.now ≤ self.items
+        ensures { length items.now ≤ self
             → IsReply result.items (QueueFollows missed (map item_view items.now)) }
     {
         let mut octets = self.octets;
