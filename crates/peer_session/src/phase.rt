@@ -4,6 +4,7 @@ use crate::steps::Step;
 use article_fetch::Reading;
 use buffer_group::Accepted;
 use nntp_text::{MsgId, Part};
+use std::marker::Model;
 
 /// How a peer sends an article.
 #[derive(Clone, Copy)]
@@ -79,6 +80,50 @@ pub(crate) enum Todo {
 pub(crate) struct Planned {
     pub(crate) todo: Todo,
     pub(crate) read: usize,
+}
+
+/// What a session has planned, as it lies there until the answer comes. It has a type of its own so
+/// that what holds a session isn't checked down to all that may be planned.
+#[derive(Drop)]
+pub(crate) struct Plan {
+    planned: Planned,
+}
+
+impl Model for Plan {
+    ghost use Rattle.peer_session.specs.declared.phase.Planned.{Planned};
+
+    ghost Value = { Planned };
+
+    ghost view = { λ plan. plan.planned };
+}
+
+impl Plan {
+    ghost use Rattle.std.specs.Prelude.{◌≡◌};
+    ghost use Rattle.peer_session.specs.Planning.{rests};
+
+    /// This is planned.
+    pub(crate) fn new(planned: Planned) -> Plan
+        ensures { result ≡ planned }
+    {
+        Plan { planned }
+    }
+
+    /// Whether nothing is due.
+    pub(crate) fn is_resting(&self) -> bool
+        ensures { result ≡ rests self.now.todo }
+    {
+        match &self.planned.todo {
+            Todo::Rest => true,
+            _ => false,
+        }
+    }
+
+    /// What was planned.
+    pub(crate) fn into_planned(self) -> Planned
+        ensures { result ≡ self }
+    {
+        self.planned
+    }
 }
 
 /// What is due: what is planned, and the step that it names.

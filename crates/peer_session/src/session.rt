@@ -21,7 +21,7 @@ ghost use Rattle.peer_session.specs.declared.steps.Answer.TheVariants as answers
 use crate::fetches::reading_due;
 use crate::leaving::leaving_due;
 use crate::offers::OpenOffers;
-use crate::phase::{Due, Phase, Planned, Todo, Transfer};
+use crate::phase::{Due, Phase, Plan, Planned, Todo, Transfer};
 use crate::steps::{Answer, Step};
 use crate::waiting::{held_due, waiting_due};
 use buffer_group::Job;
@@ -44,7 +44,7 @@ pub struct Session {
     pub(crate) phase: Phase,
     /// The accepted article that isn't pushed yet.
     pub(crate) hand: Option<Job>,
-    pub(crate) planned: Planned,
+    pub(crate) planned: Plan,
 }
 
 impl Session {
@@ -66,10 +66,10 @@ impl Session {
             offers,
             phase: Phase::Ready,
             hand: None,
-            planned: Planned {
+            planned: Plan::new(Planned {
                 todo: Todo::Rest,
                 read: 0,
-            },
+            }),
         })
     }
 
@@ -127,10 +127,7 @@ impl Session {
     pub fn is_resting(&self) -> bool
         ensures { result ≡ rests self.now.planned.todo }
     {
-        match &self.planned.todo {
-            Todo::Rest => true,
-            _ => false,
-        }
+        self.planned.is_resting()
     }
 
     /// What is due in a turn at this moment, in seconds since the first of 1970: at most one line
@@ -150,7 +147,8 @@ impl Session {
     {
         let due = self.due(config, now)?;
         let Due { todo, read, step } = due;
-        drop(mem::replace(&mut self.planned, Planned { todo, read }));
+        let planned = Plan::new(Planned { todo, read });
+        drop(mem::replace(&mut self.planned, planned));
         Ok(step)
     }
 
@@ -184,16 +182,16 @@ impl Session {
         ensures plan { answer ≡ answers.Memory → self.new ≡ without_plan self.old }
         ensures quiet { answer ≡ answers.Memory → result.items ≡ [] }
     {
-        let rest = Planned {
+        let rest = Plan::new(Planned {
             todo: Todo::Rest,
             read: 0,
-        };
+        });
         let planned = mem::replace(&mut self.planned, rest);
         if let Answer::Memory = answer {
             drop(planned);
             return Vec::new(self.alloc);
         }
-        self.hear(number, planned, answer)
+        self.hear(number, planned.into_planned(), answer)
     }
 
     /// The answer to the step of this plan, which is the session's no more.

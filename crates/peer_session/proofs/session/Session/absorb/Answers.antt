@@ -1,4 +1,4 @@
-use Rattle.std.proofs.Common.{subst}
+use Rattle.std.proofs.Common.{◌∙◌, subst}
 use Rattle.peer_session.specs.Given.{HeedsRead}
 use Rattle.peer_session.specs.Hearing.{Heeds}
 use Rattle.peer_session.proofs.HearCommon.{with_planned}
@@ -7,9 +7,11 @@ use Rattle.peer_session.proofs.session.Session.absorb.Goals as goal
 pub returns-clause-heard : goal.returns-clause-heard
 returns-clause-heard c =
     subst (λ planned. Heeds c.args.number (with_planned c.args.self.now planned) c.args.answer
-    c.hear.result.items c.hear.new.self) c.replace-planned.ensures.value c.hear.ensures.heard
+    c.hear.result.items c.hear.new.self) (c.into_planned.ensures ∙ c.replace-planned.ensures.value)
+    c.hear.ensures.heard
 
 pub returns-clause-given : goal.returns-clause-given
 returns-clause-given c =
     subst (λ planned. HeedsRead (with_planned c.args.self.now planned) c.args.answer
-    c.hear.result.items c.hear.new.self) c.replace-planned.ensures.value c.hear.ensures.given
+    c.hear.result.items c.hear.new.self) (c.into_planned.ensures ∙ c.replace-planned.ensures.value)
+    c.hear.ensures.given
