@@ -1,5 +1,9 @@
 use Rattle.std.proofs.Common.{◌<◌, ◌≤◌, ℕ, refl, subst, sym, ◌∙◌}
+use Rattle.relay_model.specs.Run as run
 use Rattle.relay_core.proofs.Queues.{as_taken, inside_of, late_write, no_group, written}
+use Rattle.relay_core.proofs.Refusing as refusing
+use Rattle.relay_core.specs.declared.event.CoreError.TheVariants as faults
+use Rattle.relay_core.specs.declared.event.Output.TheVariants as outputs
 use Rattle.relay_core.proofs.system.System.write.Goals as goal
 
 -- there is no such group
@@ -9,6 +13,13 @@ returns-then-group-len-clause-steps g c =
     (subst (λ (k : ℕ). k ≤ c.args.group) (c.len.ensures ∙ c.args.self.now.group_writers.ok.0)
     c.if-group-len.true)
 
+pub returns-then-group-len-clause-refused : goal.returns-then-group-len-clause-refused
+returns-then-group-len-clause-refused g c =
+    refusing.refused_first c.args.self.now (run.Write c.args.group c.args.now) faults.NoGroup
+    (refusing.no_group c.args.self.now c.args.group c.args.now
+    (subst (λ (k : ℕ). k ≤ c.args.group) (c.len.ensures ∙ c.args.self.now.group_writers.ok.0)
+    c.if-group-len.true))
+
 -- it is too late
 pub returns-then-now-gt-LAST_MOMENT-clause-steps : goal.returns-then-now-gt-LAST_MOMENT-clause-steps
 returns-then-now-gt-LAST_MOMENT-clause-steps g c =
@@ -16,6 +27,15 @@ returns-then-now-gt-LAST_MOMENT-clause-steps g c =
     (inside_of c.args.self.now.group_writers c.args.group
     (subst (λ (k : ℕ). c.args.group < k) c.len.ensures c.if-group-len.false))
     c.if-now-gt-LAST_MOMENT.true
+
+pub returns-then-now-gt-LAST_MOMENT-clause-refused
+    : goal.returns-then-now-gt-LAST_MOMENT-clause-refused
+returns-then-now-gt-LAST_MOMENT-clause-refused g c =
+    refusing.refused_first c.args.self.now (run.Write c.args.group c.args.now) faults.BadMoment
+    (refusing.late_write c.args.self.now c.args.group c.args.now
+    (inside_of c.args.self.now.group_writers c.args.group
+    (subst (λ (k : ℕ). c.args.group < k) c.len.ensures c.if-group-len.false))
+    c.if-now-gt-LAST_MOMENT.true)
 
 -- the writer goes on
 pub returns-clause-steps : goal.returns-clause-steps
@@ -30,3 +50,12 @@ returns-clause-steps g c =
     (as_taken c.args.group c.args.now c.index_mut.result.now.writer c.replace-taken.result _ _ _
     (sym c.replace-taken.ensures.value) c.advance-writer.ensures.advances)
     c.advance-writer.ensures.frame c.index_mut-2.ensures.value refl c.replace.ensures.after
+
+pub returns-clause-refused : goal.returns-clause-refused
+returns-clause-refused g c =
+    refusing.not_refused c.args.self.now (run.Write c.args.group c.args.now) outputs.Quiet _
+    (refusing.write_open c.args.self.now c.args.group c.args.now
+    (inside_of c.args.self.now.group_writers c.args.group
+    (subst (λ (k : ℕ). c.args.group < k) c.len.ensures c.if-group-len.false))
+    c.if-now-gt-LAST_MOMENT.false)
+    (λ fault is. cc)
