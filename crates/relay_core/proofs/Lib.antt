@@ -1,6 +1,7 @@
 mod Arms
 pub mod Beginnings
 mod Chunks
+mod Dispatch
 mod Dues
 mod Feeds
 pub mod Fillings

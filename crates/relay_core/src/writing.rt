@@ -9,13 +9,13 @@ use peer_session::Outcome;
 use std::mem;
 
 impl<S: BlockStore> System<S> {
-    ghost use Rattle.std.specs.Prelude.{ℕ, ◌<◌, None, Some, vec_len};
+    ghost use Rattle.std.specs.Prelude.{ℕ, ◌<◌, vec_len};
     ghost use Rattle.buffer_group.specs.declared.writer.Writer.TheVariants as writers;
     ghost use Rattle.relay_model.specs.Run as run;
     ghost use Rattle.relay_core.specs.Refusals.{RefusesRightly};
     ghost use Rattle.relay_core.specs.Steps.{Steps};
     ghost use Rattle.relay_core.specs.Sharing.{KeepsFrame};
-    ghost use Rattle.relay_core.specs.Writing.{Advances, outcome_writer};
+    ghost use Rattle.relay_core.specs.Writing.{Advances};
 
     /// The next bit of the work of a group's writer. It takes no memory.
     pub(crate) fn write(&mut self, group: usize, now: u64) -> Output
@@ -47,11 +47,27 @@ impl<S: BlockStore> System<S> {
             Writer::Writing(job, begun, written) => self.write_next(job, begun, written),
             Writer::Finished(job, token) => self.settle(job, token, now),
             Writer::Failed(job, open_one) => match open_one {
-                Some(begun) => self.abandon(job, begun),
-                None => self.forget(job),
+                // A block of the open write couldn't be written.
+                Some(begun) => {
+                    self.buffer_set.abandon(begun);
+                    Writer::Failed(job, None)
+                }
+                // The article is given up: its id is unknown.
+                None => {
+                    let session = job.session;
+                    self.shards.forget(&job.id, session);
+                    drop(job);
+                    Writer::Forgotten(session)
+                }
             },
-            Writer::Settled(session) => self.answer(session, Outcome::Kept),
-            Writer::Forgotten(session) => self.answer(session, Outcome::Failed),
+            Writer::Settled(session) => {
+                self.peers.tell(session, Outcome::Kept);
+                Writer::Idle
+            }
+            Writer::Forgotten(session) => {
+                self.peers.tell(session, Outcome::Failed);
+                Writer::Idle
+            }
         }
     }
 
@@ -121,37 +137,5 @@ impl<S: BlockStore> System<S> {
                 Writer::Settled(session)
             }
         }
-    }
-
-    /// It abandons the open write, a block of which couldn't be written.
-    fn abandon(&mut self, job: Job, begun: Begun) -> Writer<Begun>
-        ensures advances { (group now : ℕ)
-            → Advances group now (writers.Failed job (Some begun)) self.old result self.new }
-        ensures frame { KeepsFrame self.old self.new }
-    {
-        self.buffer_set.abandon(begun);
-        Writer::Failed(job, None)
-    }
-
-    /// It gives the article up: its id is unknown.
-    fn forget(&mut self, job: Job) -> Writer<Begun>
-        ensures advances { (group now : ℕ)
-            → Advances group now (writers.Failed job None) self.old result self.new }
-        ensures frame { KeepsFrame self.old self.new }
-    {
-        let session = job.session;
-        self.shards.forget(&job.id, session);
-        drop(job);
-        Writer::Forgotten(session)
-    }
-
-    /// It puts the outcome in the session's slot.
-    fn answer(&mut self, session: u64, outcome: Outcome) -> Writer<Begun>
-        ensures advances { (group now : ℕ) → Advances group now (outcome_writer session outcome)
-            self.old result self.new }
-        ensures frame { KeepsFrame self.old self.new }
-    {
-        self.peers.tell(session, outcome);
-        Writer::Idle
     }
 }

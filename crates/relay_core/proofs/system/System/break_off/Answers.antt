@@ -1,6 +1,11 @@
-use Rattle.std.proofs.Common.{◌∙◌}
+use Rattle.std.proofs.Common.{false, true, ◌∙◌}
+use Rattle.relay_model.specs.Run as run
+use Rattle.relay_model.specs.Run.{is_reading}
+use Rattle.relay_core.proofs.Dispatch.{is_lent}
+use Rattle.relay_core.proofs.Refusing.{break_reason, not_refused, refused_first}
 use Rattle.relay_core.proofs.SessionSteps.{broken, not_there}
 use Rattle.relay_core.proofs.Turning.{place_of}
+use Rattle.relay_core.specs.declared.event.CoreError.TheVariants as faults
 use Rattle.relay_core.proofs.system.System.break_off.Goals as goal
 
 -- no such session reads
@@ -8,6 +13,17 @@ pub returns-then-not-is_reading-clause-steps : goal.returns-then-not-is_reading-
 returns-then-not-is_reading-clause-steps g c =
     not_there c.args.self.now c.args.number c.is_reading.result c.is_reading.ensures
     c.if-not-is_reading.true
+
+pub returns-then-not-is_reading-clause-refused : goal.returns-then-not-is_reading-clause-refused
+returns-then-not-is_reading-clause-refused g c =
+    refused_first c.args.self.now (run.Break c.args.number) faults.NoSession
+    (λ laned. break_reason c.args.self.now c.args.number c.is_reading.result false
+    c.is_reading.ensures c.if-not-is_reading.true)
+
+pub returns-in-None : goal.returns-in-None
+returns-in-None g c =
+    is_lent is_reading c.args.number c.args.self.now.peers c.lend.new.self c.is_reading.result
+    c.lend.result c.is_reading.ensures c.if-not-is_reading.false c.lend.ensures c.in-None.is
 
 -- it leaves
 pub returns-in-Some-clause-steps : goal.returns-in-Some-clause-steps
@@ -18,3 +34,9 @@ returns-in-Some-clause-steps g c =
     (c.give_back.ensures.given (place_of c.args.number c.args.self.now.peers c.lend.result
     c.lend.new.self c.in-Some.peer c.lend.ensures c.in-Some.is))
     (c.new-in-Some.ensures ∙ c.new.ensures.items)
+
+pub returns-in-Some-clause-refused : goal.returns-in-Some-clause-refused
+returns-in-Some-clause-refused g c =
+    not_refused c.args.self.now (run.Break c.args.number) _ _
+    (λ laned. break_reason c.args.self.now c.args.number c.is_reading.result true
+    c.is_reading.ensures c.if-not-is_reading.false) (λ fault is. cc)

@@ -1,9 +1,13 @@
-use Rattle.std.proofs.Common.{ℕ, List, refl, subst, true}
+use Rattle.std.proofs.Common.{ℕ, List, false, refl, subst, true}
 use Rattle.peer_session.specs.Session.{Fed}
 use Rattle.relay_model.specs.Run as run
-use Rattle.relay_core.proofs.Refusing.{bytes_reason, memory_wanted}
+use Rattle.relay_model.specs.Run.{is_reading}
+use Rattle.relay_core.proofs.Dispatch.{is_lent}
+use Rattle.relay_core.proofs.Refusing.{bytes_reason, memory_wanted, not_refused, refused_first}
 use Rattle.relay_core.proofs.SessionSteps.{fed, not_reading, unfed, wanted}
 use Rattle.relay_core.proofs.Turning.{place_of}
+use Rattle.relay_core.specs.declared.event.CoreError.TheVariants as faults
+use Rattle.relay_core.specs.declared.event.Output.TheVariants as outputs
 use Rattle.relay_core.proofs.system.System.bytes.Goals as goal
 
 -- no such session reads
@@ -11,6 +15,17 @@ pub returns-then-not-is_reading-clause-steps : goal.returns-then-not-is_reading-
 returns-then-not-is_reading-clause-steps g c =
     not_reading c.args.self.now c.args.number c.args.piece.now c.is_reading.result
     c.is_reading.ensures c.if-not-is_reading.true
+
+pub returns-then-not-is_reading-clause-refused : goal.returns-then-not-is_reading-clause-refused
+returns-then-not-is_reading-clause-refused g c =
+    refused_first c.args.self.now (run.Bytes c.args.number c.args.piece.now) faults.NoSession
+    (λ laned. bytes_reason c.args.self.now c.args.number c.args.piece.now c.is_reading.result
+    false c.is_reading.ensures c.if-not-is_reading.true)
+
+pub returns-in-None : goal.returns-in-None
+returns-in-None g c =
+    is_lent is_reading c.args.number c.args.self.now.peers c.lend.new.self c.is_reading.result
+    c.lend.result c.is_reading.ensures c.if-not-is_reading.false c.lend.ensures c.in-None.is
 
 -- the octets come to it
 pub returns-in-Ok-clause-steps : goal.returns-in-Ok-clause-steps
@@ -22,6 +37,12 @@ returns-in-Ok-clause-steps g c =
     (subst P c.as_slice.ensures c.in-Ok.ensures.fed)
     (c.give_back.ensures.given (place_of c.args.number c.args.self.now.peers c.lend.result
     c.lend.new.self c.in-Some.peer c.lend.ensures c.in-Some.is))
+
+pub returns-in-Ok-clause-refused : goal.returns-in-Ok-clause-refused
+returns-in-Ok-clause-refused g c =
+    not_refused c.args.self.now (run.Bytes c.args.number c.args.piece.now) outputs.Quiet _
+    (λ laned. bytes_reason c.args.self.now c.args.number c.args.piece.now c.is_reading.result true
+    c.is_reading.ensures c.if-not-is_reading.false) (λ fault is. cc)
 
 -- there is no memory for them
 pub returns-in-Err-clause-steps : goal.returns-in-Err-clause-steps

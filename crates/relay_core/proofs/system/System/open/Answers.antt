@@ -1,8 +1,10 @@
 use Rattle.std.proofs.Common.{◌<◌, ◌≤◌, ℕ, refl, subst, true, ◌∙◌}
 use Rattle.relay_model.specs.Run as run
-use Rattle.relay_core.proofs.Refusing.{may_open, memory_wanted}
+use Rattle.relay_core.proofs.Refusing as refusing
+use Rattle.relay_core.proofs.Refusing.{may_open, memory_wanted, not_refused, refused_first}
 use Rattle.relay_core.proofs.SessionSteps.{no_peer, opened_one, peers_count, unopened, wanted}
 use Rattle.relay_core.proofs.SessionSteps.{was_taken}
+use Rattle.relay_core.specs.declared.event.CoreError.TheVariants as faults
 use Rattle.relay_core.proofs.system.System.open.Goals as goal
 
 -- the number was had before
@@ -11,6 +13,12 @@ returns-then-is_taken-clause-steps g c =
     was_taken c.args.self.now c.args.number c.args.peer c.is_taken.result c.is_taken.ensures
     c.if-is_taken.true
 
+pub returns-then-is_taken-clause-refused : goal.returns-then-is_taken-clause-refused
+returns-then-is_taken-clause-refused g c =
+    refused_first c.args.self.now (run.Open c.args.number c.args.peer) faults.SessionTaken
+    (λ laned. refusing.was_taken c.args.self.now c.args.number c.args.peer c.is_taken.result
+    c.is_taken.ensures c.if-is_taken.true)
+
 -- there is no such peer
 pub returns-then-peer-len-clause-steps : goal.returns-then-peer-len-clause-steps
 returns-then-peer-len-clause-steps g c =
@@ -18,6 +26,14 @@ returns-then-peer-len-clause-steps g c =
     c.if-is_taken.false
     (subst (λ (k : ℕ). k ≤ c.args.peer)
     (c.len.ensures ∙ peers_count c.args.self.now.config) c.if-peer-len.true)
+
+pub returns-then-peer-len-clause-refused : goal.returns-then-peer-len-clause-refused
+returns-then-peer-len-clause-refused g c =
+    refused_first c.args.self.now (run.Open c.args.number c.args.peer) faults.NoPeer
+    (λ laned. refusing.no_peer c.args.self.now c.args.number c.args.peer c.is_taken.result
+    c.is_taken.ensures c.if-is_taken.false
+    (subst (λ (k : ℕ). k ≤ c.args.peer)
+    (c.len.ensures ∙ peers_count c.args.self.now.config) c.if-peer-len.true))
 
 -- there is no memory for its greeting
 pub returns-in-Err-clause-steps : goal.returns-in-Err-clause-steps
@@ -57,6 +73,14 @@ returns-in-Ok-open-2-clause-steps g c =
     (subst (λ (k : ℕ). c.args.peer < k)
     (c.len.ensures ∙ peers_count c.args.self.now.config) c.if-peer-len.false)
     c.in-Ok-open.ensures (c.new.ensures ∙ c.in-Ok.ensures) c.in-Ok-open-2.ensures.opened
+
+pub returns-in-Ok-open-2-clause-refused : goal.returns-in-Ok-open-2-clause-refused
+returns-in-Ok-open-2-clause-refused g c =
+    not_refused c.args.self.now (run.Open c.args.number c.args.peer) _ _
+    (λ laned. may_open c.args.self.now c.args.number c.args.peer c.is_taken.result
+    c.is_taken.ensures c.if-is_taken.false
+    (subst (λ (k : ℕ). c.args.peer < k)
+    (c.len.ensures ∙ peers_count c.args.self.now.config) c.if-peer-len.false)) (λ fault is. cc)
 
 -- there is no memory for its place
 pub returns-in-Err-open-2-clause-steps : goal.returns-in-Err-open-2-clause-steps

@@ -1,11 +1,27 @@
-use Rattle.std.proofs.Common.{◌≡◌, ◌<◌, ℕ, false, ap, subst, sym, ◌∙◌}
+use Rattle.std.proofs.Common.{◌≡◌, ◌<◌, ◌≤◌, ℕ, false, ap, refl, subst, sym, ◌∙◌}
+use Rattle.std.proofs.Math.ListN.{length-set}
 use Rattle.std.specs.Prelude.{length, nat_le}
+use Rattle.peer_session.specs.declared.steps.Answer.TheVariants as answers
+use Rattle.relay_core.proofs.Dispatch.{never}
 use Rattle.relay_core.proofs.GroupWriters.{same_group_writer}
-use Rattle.relay_core.proofs.Pushing.{full_push, job_pushed, no_job}
+use Rattle.relay_core.proofs.Pushing.{full_push, job_pushed, no_job, past_push}
 use Rattle.relay_core.proofs.Queues.{inside_of}
 use Rattle.relay_core.specs.Queues.{jobs_of}
 use Rattle.relay_core.specs.declared.system.GroupWriter.{GroupWriter}
 use Rattle.relay_core.proofs.system.System.push.Goals as goal
+
+-- there is no such group
+pub returns-then-group-len : goal.returns-then-group-len
+returns-then-group-len g c =
+    record {
+      shared = λ number now. past_push c.args.group c.args.self.now c.args.peer.now number now
+          (subst (λ (k : ℕ). k ≤ c.args.group)
+          (c.len.ensures ∙ c.args.self.now.group_writers.ok.0) c.if-group-len.true);
+      memory = λ number. never (answers.Pushed false) refl;
+      never = never (answers.Pushed false) refl;
+      frame = record { config = refl; group_writers = refl };
+      peers = refl;
+    }
 
 -- there is no room
 pub returns-then-is_full-clause-shared : goal.returns-then-is_full-clause-shared
@@ -34,3 +50,7 @@ pub returns-in-None-clause-shared : goal.returns-in-None-clause-shared
 returns-in-None-clause-shared g c = λ number now.
     no_job c.args.group c.args.self.now c.args.peer.now number now c.hand_over.new.self
     c.hand_over.result c.in-None.is c.hand_over.ensures
+
+pub returns-in-Some-clause-frame : goal.returns-in-Some-clause-frame
+returns-in-Some-clause-frame g c =
+    record { config = refl; group_writers = length-set c.args.self.now.group_writers.items _ _ }

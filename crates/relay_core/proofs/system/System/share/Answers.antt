@@ -1,74 +1,162 @@
-use Rattle.std.proofs.Common.{ap, subst, sym, ◌∙◌}
+use Rattle.std.proofs.Common.{ap, refl, subst, sym, ◌∙◌}
+use Rattle.peer_session.specs.declared.steps.Answer.TheVariants as answers
 use Rattle.peer_session.specs.declared.steps.Step.{Step}
 use Rattle.peer_session.specs.declared.steps.Step.TheVariants as steps
-use Rattle.relay_core.proofs.Arms.{look_shared, none_shared, offer_shared, refuse_shared}
-use Rattle.relay_core.proofs.Arms.{release_shared, slot_shared, take_shared}
+use Rattle.relay_core.proofs.Arms.{claims_left, look_shared, none_shared, offer_shared}
+use Rattle.relay_core.proofs.Arms.{refuse_shared, release_shared, slot_shared, take_shared}
+use Rattle.relay_core.proofs.Dispatch.{never}
 use Rattle.relay_core.proofs.ReadArm.{read_shared}
-use Rattle.relay_core.specs.Sharing.{SharesStep}
+use Rattle.relay_core.specs.Sharing.{SharesStep, WantsMemory}
 use Rattle.relay_core.proofs.system.System.share.Goals as goal
 
-pub returns-in-Nothing-clause-shared : goal.returns-in-Nothing-clause-shared
-returns-in-Nothing-clause-shared g c =
-    none_shared c.args.number c.args.now c.args.self.now c.args.peer.now c.args.step.now
-    c.in-Nothing.is
+pub returns-in-Nothing : goal.returns-in-Nothing
+returns-in-Nothing g c =
+    record {
+      shared = none_shared c.args.number c.args.now c.args.self.now c.args.peer.now
+          c.args.step.now c.in-Nothing.is;
+      memory = never answers.Nothing refl;
+      wants = never answers.Nothing refl;
+      frame = record { config = refl; group_writers = refl };
+      peers = refl;
+    }
 
-pub returns-in-Ok-clause-shared : goal.returns-in-Ok-clause-shared
-returns-in-Ok-clause-shared g c =
-    offer_shared c.args.number c.args.now c.args.self.now c.args.peer.now c.in-Offer.id
-    c.in-Ok.answer c.offer.new.self c.in-Ok.ensures.answer c.in-Ok.ensures.claims c.args.step.now
-    c.in-Offer.is
+pub returns-in-Ok : goal.returns-in-Ok
+returns-in-Ok g c =
+    record {
+      shared = offer_shared c.args.number c.args.now c.args.self.now c.args.peer.now
+          c.in-Offer.id c.in-Ok.answer c.offer.new.self c.in-Ok.ensures.answer
+          c.in-Ok.ensures.claims c.args.step.now c.in-Offer.is;
+      memory = never (answers.Offer c.in-Ok.answer) refl;
+      wants = never (answers.Offer c.in-Ok.answer) refl;
+      frame = record { config = refl; group_writers = refl };
+      peers = refl;
+    }
 
-pub returns-in-Look-clause-shared : goal.returns-in-Look-clause-shared
-returns-in-Look-clause-shared g c =
-    look_shared c.args.number c.args.now c.args.self.now c.args.peer.now c.in-Look.id
-    c.look.result c.look.ensures c.args.step.now c.in-Look.is
+pub returns-in-Err : goal.returns-in-Err
+returns-in-Err g c =
+    record {
+      shared = λ x m d gathered but slot fits planned asked some. absurd (some refl);
+      memory = λ memory. claims_left c.args.number c.args.now c.args.self.now c.args.peer.now
+          c.offer.new.self c.in-Err.ensures.err;
+      wants = λ memory. subst WantsMemory (sym c.in-Offer.is) tt;
+      frame = record { config = refl; group_writers = refl };
+      peers = refl;
+    }
 
-pub returns-in-Read-clause-shared : goal.returns-in-Read-clause-shared
-returns-in-Read-clause-shared g c =
-    read_shared c.args.number c.args.now c.args.self.now c.args.peer.now c.in-Read.token
-    c.in-Read.k c.read_chunk.result c.read_chunk.new.buffer_set c.read_chunk.ensures c.args.step.now
-    c.in-Read.is
+pub returns-in-Look : goal.returns-in-Look
+returns-in-Look g c =
+    record {
+      shared = look_shared c.args.number c.args.now c.args.self.now c.args.peer.now c.in-Look.id
+          c.look.result c.look.ensures c.args.step.now c.in-Look.is;
+      memory = never (answers.Look c.look.result) refl;
+      wants = never (answers.Look c.look.result) refl;
+      frame = record { config = refl; group_writers = refl };
+      peers = refl;
+    }
 
-pub returns-in-TakeQueue-clause-shared : goal.returns-in-TakeQueue-clause-shared
-returns-in-TakeQueue-clause-shared g c =
+pub returns-in-Read : goal.returns-in-Read
+returns-in-Read g c =
+    record {
+      shared = read_shared c.args.number c.args.now c.args.self.now c.args.peer.now
+          c.in-Read.token c.in-Read.k c.read_chunk.result c.read_chunk.new.buffer_set
+          c.read_chunk.ensures c.args.step.now c.in-Read.is;
+      memory = never (answers.Chunk c.read_chunk.result) refl;
+      wants = never (answers.Chunk c.read_chunk.result) refl;
+      frame = record { config = refl; group_writers = refl };
+      peers = refl;
+    }
+
+pub returns-in-TakeQueue : goal.returns-in-TakeQueue
+returns-in-TakeQueue g c =
     let P : Step → Type 0 = λ step. SharesStep c.args.number c.args.now step c.args.self.now
     c.args.peer.now c.take_queue.result c.take_queue.new.self c.args.peer.now in
-    subst P (sym c.in-TakeQueue.is)
-    (c.take_queue.ensures.shared c.args.number c.args.now c.args.peer.now)
+    record {
+      shared = subst P (sym c.in-TakeQueue.is) (c.take_queue.ensures.shared c.args.number
+          c.args.now c.args.peer.now);
+      memory = c.take_queue.ensures.memory c.args.number c.args.peer.now;
+      wants = λ memory. subst WantsMemory (sym c.in-TakeQueue.is) tt;
+      frame = c.take_queue.ensures.frame;
+      peers = c.take_queue.ensures.peers;
+    }
 
-pub returns-in-TakeQueue-clause-memory : goal.returns-in-TakeQueue-clause-memory
-returns-in-TakeQueue-clause-memory g c =
-    c.take_queue.ensures.memory c.args.number c.args.peer.now
+pub returns-in-Ok-refuse : goal.returns-in-Ok-refuse
+returns-in-Ok-refuse g c =
+    record {
+      shared = refuse_shared c.args.number c.args.now c.args.self.now c.args.peer.now
+          c.in-Refuse.id c.refuse.new.self c.in-Ok-refuse.ensures.claims c.args.step.now
+          c.in-Refuse.is;
+      memory = never answers.Nothing refl;
+      wants = never answers.Nothing refl;
+      frame = record { config = refl; group_writers = refl };
+      peers = refl;
+    }
 
-pub returns-in-Ok-refuse-clause-shared : goal.returns-in-Ok-refuse-clause-shared
-returns-in-Ok-refuse-clause-shared g c =
-    refuse_shared c.args.number c.args.now c.args.self.now c.args.peer.now c.in-Refuse.id
-    c.refuse.new.self c.in-Ok-refuse.ensures.claims c.args.step.now c.in-Refuse.is
+pub returns-in-Err-refuse : goal.returns-in-Err-refuse
+returns-in-Err-refuse g c =
+    record {
+      shared = λ x m d gathered but slot fits planned asked some. absurd (some refl);
+      memory = λ memory. claims_left c.args.number c.args.now c.args.self.now c.args.peer.now
+          c.refuse.new.self c.in-Err-refuse.ensures.err;
+      wants = λ memory. subst WantsMemory (sym c.in-Refuse.is) tt;
+      frame = record { config = refl; group_writers = refl };
+      peers = refl;
+    }
 
-pub returns-in-Ok-take-clause-shared : goal.returns-in-Ok-take-clause-shared
-returns-in-Ok-take-clause-shared g c =
-    take_shared c.args.number c.args.now c.args.self.now c.args.peer.now c.in-Take.id
-    c.in-Ok-take.answer c.take.new.self c.in-Ok-take.ensures.answer
-    c.in-Ok-take.ensures.claims c.args.step.now c.in-Take.is
+pub returns-in-Ok-take : goal.returns-in-Ok-take
+returns-in-Ok-take g c =
+    record {
+      shared = take_shared c.args.number c.args.now c.args.self.now c.args.peer.now c.in-Take.id
+          c.in-Ok-take.answer c.take.new.self c.in-Ok-take.ensures.answer
+          c.in-Ok-take.ensures.claims c.args.step.now c.in-Take.is;
+      memory = never (answers.Take c.in-Ok-take.answer) refl;
+      wants = never (answers.Take c.in-Ok-take.answer) refl;
+      frame = record { config = refl; group_writers = refl };
+      peers = refl;
+    }
 
-pub returns-in-Push-clause-shared : goal.returns-in-Push-clause-shared
-returns-in-Push-clause-shared g c =
+pub returns-in-Err-take : goal.returns-in-Err-take
+returns-in-Err-take g c =
+    record {
+      shared = λ x m d gathered but slot fits planned asked some. absurd (some refl);
+      memory = λ memory. claims_left c.args.number c.args.now c.args.self.now c.args.peer.now
+          c.take.new.self c.in-Err-take.ensures.err;
+      wants = λ memory. subst WantsMemory (sym c.in-Take.is) tt;
+      frame = record { config = refl; group_writers = refl };
+      peers = refl;
+    }
+
+pub returns-in-Push : goal.returns-in-Push
+returns-in-Push g c =
     let P : Step → Type 0 = λ step. SharesStep c.args.number c.args.now step c.args.self.now
     c.args.peer.now c.push.result c.push.new.self c.push.new.peer in
-    subst P (ap steps.Push c.from.ensures ∙ sym c.in-Push.is)
-    (c.push.ensures.shared c.args.number c.args.now)
+    record {
+      shared = subst P (ap steps.Push c.from.ensures ∙ sym c.in-Push.is) (c.push.ensures.shared
+          c.args.number c.args.now);
+      memory = c.push.ensures.memory c.args.number;
+      wants = λ memory. absurd (c.push.ensures.never memory);
+      frame = c.push.ensures.frame;
+      peers = c.push.ensures.peers;
+    }
 
-pub returns-in-Push-clause-memory : goal.returns-in-Push-clause-memory
-returns-in-Push-clause-memory g c = c.push.ensures.memory c.args.number
+pub returns-in-Slot : goal.returns-in-Slot
+returns-in-Slot g c =
+    record {
+      shared = slot_shared c.args.number c.args.now c.args.self.now c.args.peer.now
+          c.take-in-Slot.result c.take-in-Slot.new.self c.take-in-Slot.ensures.value
+          c.take-in-Slot.ensures.after c.args.step.now c.in-Slot.is;
+      memory = never (answers.Slot c.take-in-Slot.result) refl;
+      wants = never (answers.Slot c.take-in-Slot.result) refl;
+      frame = record { config = refl; group_writers = refl };
+      peers = refl;
+    }
 
-pub returns-in-Slot-clause-shared : goal.returns-in-Slot-clause-shared
-returns-in-Slot-clause-shared g c =
-    slot_shared c.args.number c.args.now c.args.self.now c.args.peer.now c.take-in-Slot.result
-    c.take-in-Slot.new.self c.take-in-Slot.ensures.value c.take-in-Slot.ensures.after
-    c.args.step.now
-    c.in-Slot.is
-
-pub returns-in-Release-clause-shared : goal.returns-in-Release-clause-shared
-returns-in-Release-clause-shared g c =
-    release_shared c.args.number c.args.now c.args.self.now c.args.peer.now c.in-Release.id
-    c.release.new.self c.release.ensures c.args.step.now c.in-Release.is
+pub returns-in-Release : goal.returns-in-Release
+returns-in-Release g c =
+    record {
+      shared = release_shared c.args.number c.args.now c.args.self.now c.args.peer.now
+          c.in-Release.id c.release.new.self c.release.ensures c.args.step.now c.in-Release.is;
+      memory = never answers.Nothing refl;
+      wants = never answers.Nothing refl;
+      frame = record { config = refl; group_writers = refl };
+      peers = refl;
+    }

@@ -2,8 +2,12 @@ use Rattle.std.proofs.Common.{refl, subst, sym}
 use Rattle.relay_model.specs.Run as run
 use Rattle.relay_core.specs.Peers.{HasPlace}
 use Rattle.relay_core.specs.declared.peers.Peers.{Peers}
-use Rattle.relay_core.proofs.Refusing.{refused_last, turn_open}
+use Rattle.relay_model.specs.Run.{is_running}
+use Rattle.relay_core.proofs.Dispatch.{is_lent}
+use Rattle.relay_core.proofs.Refusing as refusing
+use Rattle.relay_core.proofs.Refusing.{refused_first, refused_last, turn_open}
 use Rattle.relay_core.proofs.Turning.{back_is, none_runs, place_of, still, too_late, turned}
+use Rattle.relay_core.specs.declared.event.CoreError.TheVariants as faults
 use Rattle.relay_core.proofs.system.System.turn.Goals as goal
 
 -- no such session runs
@@ -12,11 +16,30 @@ returns-then-not-is_running-clause-steps g c =
     none_runs c.args.self.now c.args.number c.args.now c.is_running.result c.is_running.ensures
     c.if-not-is_running.true
 
+pub returns-then-not-is_running-clause-refused : goal.returns-then-not-is_running-clause-refused
+returns-then-not-is_running-clause-refused g c =
+    refused_first c.args.self.now (run.Turn c.args.number c.args.now) faults.NoSession
+    (λ laned. refusing.none_runs c.args.self.now c.args.number c.args.now c.is_running.result
+    c.is_running.ensures c.if-not-is_running.true)
+
+pub returns-in-None : goal.returns-in-None
+returns-in-None g c =
+    is_lent is_running c.args.number c.args.self.now.peers c.lend.new.self c.is_running.result
+    c.lend.result c.is_running.ensures c.if-not-is_running.false c.lend.ensures c.in-None.is
+
 -- it is too late
-pub returns-then-now-gt-LAST_MOMENT-clause-steps : goal.returns-then-now-gt-LAST_MOMENT-clause-steps
+pub returns-then-now-gt-LAST_MOMENT-clause-steps :
+    goal.returns-then-now-gt-LAST_MOMENT-clause-steps
 returns-then-now-gt-LAST_MOMENT-clause-steps g c =
     too_late c.args.self.now c.args.number c.args.now c.is_running.result c.is_running.ensures
     c.if-not-is_running.false c.if-now-gt-LAST_MOMENT.true
+
+pub returns-then-now-gt-LAST_MOMENT-clause-refused
+    : goal.returns-then-now-gt-LAST_MOMENT-clause-refused
+returns-then-now-gt-LAST_MOMENT-clause-refused g c =
+    refused_first c.args.self.now (run.Turn c.args.number c.args.now) faults.BadMoment
+    (λ laned. refusing.late_turn c.args.self.now c.args.number c.args.now c.is_running.result
+    c.is_running.ensures c.if-not-is_running.false c.if-now-gt-LAST_MOMENT.true)
 
 -- it has its Turn
 pub returns-in-Some-clause-steps : goal.returns-in-Some-clause-steps

@@ -1,0 +1,90 @@
+use Rattle.std.proofs.Common.{ap, refl, ◌∙◌}
+use Rattle.buffer_group.specs.declared.writer.Writer.TheVariants as writers
+use Rattle.peer_session.specs.declared.steps.Outcome.TheVariants as outcomes
+use Rattle.relay_core.proofs.Queues.{as_taken, told_one}
+use Rattle.relay_core.proofs.Writings.{closed_one, forgotten_one}
+use Rattle.relay_core.proofs.system.System.advance.Goals as goal
+
+-- the next job is taken
+pub returns-in-Idle : goal.returns-in-Idle
+returns-in-Idle g c =
+    record {
+      advances = as_taken c.args.group c.args.now c.args.writer _ c.args.self.now _ _
+          c.in-Idle.is
+          (c.pop.ensures.advances c.args.now);
+      frame = c.pop.ensures.frame;
+    }
+
+-- it is begun
+pub returns-in-Popped : goal.returns-in-Popped
+returns-in-Popped g c =
+    record {
+      advances = as_taken c.args.group c.args.now c.args.writer _ c.args.self.now _ _
+          c.in-Popped.is
+          (c.begin.ensures.advances c.args.group c.args.now);
+      frame = c.begin.ensures.frame;
+    }
+
+-- its next block is written
+pub returns-in-Writing : goal.returns-in-Writing
+returns-in-Writing g c =
+    record {
+      advances = as_taken c.args.group c.args.now c.args.writer _ c.args.self.now _ _
+          c.in-Writing.is
+          (c.write_next.ensures.advances c.args.group c.args.now);
+      frame = c.write_next.ensures.frame;
+    }
+
+-- it is settled
+pub returns-in-Finished : goal.returns-in-Finished
+returns-in-Finished g c =
+    record {
+      advances = as_taken c.args.group c.args.now c.args.writer _ c.args.self.now _ _
+          c.in-Finished.is
+          (c.settle.ensures.advances c.args.group);
+      frame = c.settle.ensures.frame;
+    }
+
+-- the open write is abandoned
+pub returns-in-Some : goal.returns-in-Some
+returns-in-Some g c =
+    record {
+      advances = as_taken c.args.group c.args.now c.args.writer _ c.args.self.now _ _
+          (c.in-Failed.is ∙ ap (writers.Failed c.in-Failed.job) c.in-Some.is)
+          (closed_one c.args.group c.args.now c.in-Failed.job c.args.self.now c.in-Some.begun
+          c.abandon.new.self c.abandon.ensures.abandoned);
+      frame = record { config = refl; group_writers = refl };
+    }
+
+-- the article is given up
+pub returns-in-None : goal.returns-in-None
+returns-in-None g c =
+    record {
+      advances = as_taken c.args.group c.args.now c.args.writer _ c.args.self.now _ _
+          (c.in-Failed.is ∙ ap (writers.Failed c.in-Failed.job) c.in-None.is)
+          (forgotten_one c.args.group c.args.now c.in-Failed.job c.args.self.now c.forget.new.self
+          c.forget.ensures);
+      frame = record { config = refl; group_writers = refl };
+    }
+
+-- the session is told
+pub returns-in-Settled : goal.returns-in-Settled
+returns-in-Settled g c =
+    record {
+      advances = as_taken c.args.group c.args.now c.args.writer _ c.args.self.now _ _
+          c.in-Settled.is
+          (told_one c.args.group c.args.now c.args.self.now c.in-Settled.session outcomes.Kept
+          c.tell.new.self c.tell.ensures);
+      frame = record { config = refl; group_writers = refl };
+    }
+
+-- and told of the failure
+pub returns-in-Forgotten : goal.returns-in-Forgotten
+returns-in-Forgotten g c =
+    record {
+      advances = as_taken c.args.group c.args.now c.args.writer _ c.args.self.now _ _
+          c.in-Forgotten.is
+          (told_one c.args.group c.args.now c.args.self.now c.in-Forgotten.session outcomes.Failed
+          c.tell-in-Forgotten.new.self c.tell-in-Forgotten.ensures);
+      frame = record { config = refl; group_writers = refl };
+    }
