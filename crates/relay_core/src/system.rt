@@ -69,3 +69,11 @@ pub struct System<S: BlockStore> {
     /// The number of the last stop; before the first it is 0.
     pub(crate) stop: u64,
 }
+
+impl<S: BlockStore + Drop> System<S> {
+    /// Lets the relay go, with its stores. Its users call this in place of `drop`: the letting go
+    /// of all that it has is proved here once.
+    pub fn let_go(self) {
+        drop(self);
+    }
+}

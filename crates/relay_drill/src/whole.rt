@@ -74,7 +74,7 @@ pub fn drill_failing<R: Read, W: Write>(
     match System::new(rt, alloc, config, stores) {
         Ok(mut relay) => {
             let played = play(alloc, &mut relay, groups, &lines, writer);
-            drop(relay);
+            relay.let_go();
             played
         }
         Err(error) => Err(refused(error)),
