@@ -12,6 +12,7 @@ use Rattle.relay_model.specs.Hears.{Heard, goes_on, says, silent}
 use Rattle.relay_model.specs.State as model
 use Rattle.relay_model.specs.State.{Asked, in_phase}
 use Rattle.relay_model.specs.Terms.{Terms}
+use Rattle.peer_session.specs.Hearing.{Heeds}
 use Rattle.peer_session.specs.Planning.{Planned}
 use Rattle.peer_session.specs.Said.{IsSaid}
 use Rattle.peer_session.specs.Session.{HasAll, Stands, gathered_of, has_parted, session_view}
@@ -65,3 +66,10 @@ pub record ReadAnyIs (said : List ℕ) (old : Session) (session : model.Session)
   pub gathers : gathered_of new.phase
       ≡ gathered_on (goes_on fetch.asked fetch.token fetch.had (given fetch.gathered chunk))
       fetch.gathered chunk
+
+-- The session of this number heard the answer to what it had planned: as the definitions say, and
+-- of a read whatever that gave. No public contract cites it.
+pub record HearsPlanned (s : ℕ) (old : Session) (answer : Answer) (said : List ℕ) (new : Session)
+    : Type 0 where
+  pub heard : Heeds s old answer said new
+  pub given : HeedsRead old answer said new

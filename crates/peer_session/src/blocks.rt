@@ -17,7 +17,7 @@ ghost use Rattle.peer_session.specs.Planning.{Plans, block_passed};
 ghost use Rattle.peer_session.specs.Session.{HasAll, IsBounded, StandsAsBefore, session_view};
 ghost use Rattle.peer_session.specs.Session.{transfer_view};
 
-use crate::lines::said;
+use crate::lines::{room_and_copy, said};
 use crate::phase::{Due, Phase, Todo, Transfer};
 use crate::room::Room;
 use crate::session::Session;
@@ -118,13 +118,15 @@ impl Session {
         ensures { IfOk result
             (IsJudged (terms_of config.now) self.now.peer now id.now (option_copied text.entry)) }
     {
-        let room = Room::new(self.alloc)?;
-        let asked = id.copied(self.alloc)?;
+        let (room, asked) = room_and_copy(self.alloc, id)?;
         match verdict(self.alloc, config, id, self.peer, text, now)? {
-            Ok(article) => {
-                let copy = id.copied(self.alloc)?;
-                Ok((Todo::Take(copy, article, room), Step::Take(asked)))
-            }
+            Ok(article) => match id.copied(self.alloc) {
+                Ok(copy) => Ok((Todo::Take(copy, article, room), Step::Take(asked))),
+                Err(error) => {
+                    drop(article);
+                    Err(error)
+                }
+            },
             Err(_) => Ok((Todo::Refuse(room), Step::Refuse(asked))),
         }
     }

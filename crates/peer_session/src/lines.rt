@@ -126,9 +126,8 @@ impl Session {
         if self.offers.is_full(&id) {
             return said(self.alloc, &Reply::AskLater(&id));
         }
-        let room = Room::new(self.alloc)?;
-        let step = Step::Offer(id.copied(self.alloc)?);
-        Ok((Todo::Check(id, room), step))
+        let (room, copy) = room_and_copy(self.alloc, &id)?;
+        Ok((Todo::Check(id, room), Step::Offer(copy)))
     }
 
     /// IHAVE of an id.
@@ -139,10 +138,9 @@ impl Session {
         if self.offers.is_full(&id) {
             return said(self.alloc, &Reply::IhaveLater);
         }
-        let room = Room::new(self.alloc)?;
         let copy = id.copied(self.alloc)?;
-        let step = Step::Offer(id.copied(self.alloc)?);
-        Ok((Todo::Ihave(id, copy, room), step))
+        let (room, asked) = room_and_copy(self.alloc, &id)?;
+        Ok((Todo::Ihave(id, copy, room), Step::Offer(asked)))
     }
 
     /// XTAKE of at most so many.
@@ -261,13 +259,21 @@ fn left(alloc: Global, reply: &Reply) -> Result<(Todo, Step), AllocError>
     Ok((Todo::Leave(octets), Step::Nothing))
 }
 
+/// Room for the reply to a step of this id, and the id once more, for the step.
+pub(crate) fn room_and_copy(alloc: Global, id: &MsgId) -> Result<(Room, MsgId), AllocError>
+    ensures { IfOk result (λ pair. pair.1 ≡ id.now) }
+{
+    let room = Room::new(alloc)?;
+    let copy = id.copied(alloc)?;
+    Ok((room, copy))
+}
+
 /// ARTICLE, HEAD, BODY, OVER or STAT of an id.
 fn look_asked(alloc: Global, part: Part, id: MsgId) -> Result<(Todo, Step), AllocError>
     ensures { IfOk result (IsLooking part id) }
 {
-    let room = Room::new(alloc)?;
-    let step = Step::Look(id.copied(alloc)?);
-    Ok((Todo::Look(part, id, room), step))
+    let (room, copy) = room_and_copy(alloc, &id)?;
+    Ok((Todo::Look(part, id, room), Step::Look(copy)))
 }
 
 /// XFETCH of a word.

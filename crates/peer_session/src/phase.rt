@@ -82,8 +82,8 @@ pub(crate) struct Planned {
     pub(crate) read: usize,
 }
 
-/// What a session has planned, as it lies there until the answer comes. It has a type of its own so
-/// that what holds a session isn't checked down to all that may be planned.
+/// What a session has planned, as it lies there until the answer comes. A contract sees what is
+/// planned.
 #[derive(Drop)]
 pub(crate) struct Plan {
     planned: Planned,

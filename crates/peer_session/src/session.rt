@@ -8,7 +8,7 @@ ghost use Rattle.relay_model.specs.State as model;
 ghost use Rattle.relay_model.specs.State.{in_phase};
 ghost use Rattle.relay_model.specs.Terms.{last_moment};
 ghost use Rattle.peer_session.specs.Asking.{IsAwaitingBlock};
-ghost use Rattle.peer_session.specs.Given.{HeedsRead};
+ghost use Rattle.peer_session.specs.Given.{HearsPlanned, HeedsRead};
 ghost use Rattle.peer_session.specs.Hearing.{Forgets, HeardIs, Heeds};
 ghost use Rattle.peer_session.specs.Planning.{DueGiven, HandsOver, Plans, rests};
 ghost use Rattle.peer_session.specs.Said.{IsReply};
@@ -196,9 +196,7 @@ impl Session {
 
     /// The answer to the step of this plan, which is the session's no more.
     fn hear(&mut self, number: u64, planned: Planned, answer: Answer) -> Vec<u8>
-        ensures heard { Heeds number (record self.old { planned = planned }) answer result.items
-            self.new }
-        ensures given { HeedsRead (record self.old { planned = planned }) answer result.items
+        ensures { HearsPlanned number (record self.old { planned = planned }) answer result.items
             self.new }
     {
         let Planned { todo, read } = planned;

@@ -7,5 +7,5 @@ pub returns : goal.returns
 returns c = record {
   room = c.in_ok-room.room;
   is = ap (λ id. (todos.Look c.args.part c.args.id c.in_ok-room.room, steps.Look id))
-      c.in_ok-copied.ensures;
+      c.in_ok-room.ensures;
 }

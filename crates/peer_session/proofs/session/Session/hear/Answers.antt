@@ -10,287 +10,251 @@ use Rattle.peer_session.proofs.HearLines.{checks, leaves_with, offers, owes, rep
 use Rattle.peer_session.proofs.HearWaiting.{looks_in_slot, pushes, takes_held}
 use Rattle.peer_session.proofs.session.Session.hear.Goals as goal
 
-pub returns-in-Rest-clause-heard : goal.returns-in-Rest-clause-heard
-returns-in-Rest-clause-heard c =
+pub returns-in-Rest : goal.returns-in-Rest
+returns-in-Rest c =
     let had = with_planned c.args.self.now c.args.planned in
-    subst (λ said. Heeds c.args.number had c.args.answer said
-    (with_planned had c.args.self.now.planned)) (sym c.new.ensures.items)
-    (rests c.args.number had c.args.answer c.args.self.now.planned
-    c.args.planned.read
-    (was_planned had c.args.planned _ refl c.in-Rest.is))
+    record {
+      heard = subst (λ said. Heeds c.args.number had c.args.answer said
+          (with_planned had c.args.self.now.planned)) (sym c.new.ensures.items)
+          (rests c.args.number had c.args.answer c.args.self.now.planned
+          c.args.planned.read
+          (was_planned had c.args.planned _ refl c.in-Rest.is));
+      given = not_read had (with_planned had c.args.self.now.planned) c.args.answer
+          c.new.result.items todos.Rest c.args.planned.read refl
+          (was_planned had c.args.planned _ refl c.in-Rest.is);
+    }
 
-pub returns-in-Push-clause-heard : goal.returns-in-Push-clause-heard
-returns-in-Push-clause-heard c =
+pub returns-in-Push : goal.returns-in-Push
+returns-in-Push c =
     let had = with_planned c.args.self.now c.args.planned in
-    subst (λ said. Heeds c.args.number had c.args.answer said
-    (with_planned had c.args.self.now.planned)) (sym c.new-in-Push.ensures.items)
-    (pushes c.args.number had c.args.answer c.args.self.now.planned
-    c.args.planned.read
-    (was_planned had c.args.planned _ refl c.in-Push.is))
+    record {
+      heard = subst (λ said. Heeds c.args.number had c.args.answer said
+          (with_planned had c.args.self.now.planned)) (sym c.new-in-Push.ensures.items)
+          (pushes c.args.number had c.args.answer c.args.self.now.planned
+          c.args.planned.read
+          (was_planned had c.args.planned _ refl c.in-Push.is));
+      given = not_read had (with_planned had c.args.self.now.planned) c.args.answer
+          c.new-in-Push.result.items todos.Push c.args.planned.read refl
+          (was_planned had c.args.planned _ refl c.in-Push.is);
+    }
 
-pub returns-in-Owe-clause-heard : goal.returns-in-Owe-clause-heard
-returns-in-Owe-clause-heard c =
+pub returns-in-Owe : goal.returns-in-Owe
+returns-in-Owe c =
     let had = with_planned c.args.self.now c.args.planned in
-    owes c.args.number had c.hear_owed.new.self c.args.answer c.hear_owed.result.items
-    c.args.self.now.planned c.args.planned.read c.in-Owe.id
-    (was_planned had c.args.planned _ refl c.in-Owe.is)
-    c.hear_owed.ensures.heard
+    record {
+      heard = owes c.args.number had c.hear_owed.new.self c.args.answer c.hear_owed.result.items
+          c.args.self.now.planned c.args.planned.read c.in-Owe.id
+          (was_planned had c.args.planned _ refl c.in-Owe.is)
+          c.hear_owed.ensures.heard;
+      given = not_read had c.hear_owed.new.self c.args.answer c.hear_owed.result.items
+          (todos.Owe c.in-Owe.id) c.args.planned.read refl
+          (was_planned had c.args.planned _ refl c.in-Owe.is);
+    }
 
-pub returns-in-Say-clause-heard : goal.returns-in-Say-clause-heard
-returns-in-Say-clause-heard c =
+pub returns-in-Say : goal.returns-in-Say
+returns-in-Say c =
     let had = with_planned c.args.self.now c.args.planned in
-    replies c.args.number had c.hear_said.new.self c.args.answer
-    c.hear_said.result.items
-    c.args.self.now.planned c.args.planned.read c.in-Say.octets
-    (was_planned had c.args.planned _ refl c.in-Say.is)
-    c.hear_said.ensures.heard
+    record {
+      heard = replies c.args.number had c.hear_said.new.self c.args.answer
+          c.hear_said.result.items
+          c.args.self.now.planned c.args.planned.read c.in-Say.octets
+          (was_planned had c.args.planned _ refl c.in-Say.is)
+          c.hear_said.ensures.heard;
+      given = not_read had c.hear_said.new.self c.args.answer c.hear_said.result.items
+          (todos.Say c.in-Say.octets) c.args.planned.read refl
+          (was_planned had c.args.planned _ refl c.in-Say.is);
+    }
 
-pub returns-in-Leave-clause-heard : goal.returns-in-Leave-clause-heard
-returns-in-Leave-clause-heard c =
+pub returns-in-Leave : goal.returns-in-Leave
+returns-in-Leave c =
     let had = with_planned c.args.self.now c.args.planned in
-    leaves_with c.args.number had c.hear_left.new.self c.args.answer
-    c.hear_left.result.items
-    c.args.self.now.planned c.args.planned.read c.in-Leave.octets
-    (was_planned had c.args.planned _ refl c.in-Leave.is)
-    c.hear_left.ensures.heard
+    record {
+      heard = leaves_with c.args.number had c.hear_left.new.self c.args.answer
+          c.hear_left.result.items
+          c.args.self.now.planned c.args.planned.read c.in-Leave.octets
+          (was_planned had c.args.planned _ refl c.in-Leave.is)
+          c.hear_left.ensures.heard;
+      given = not_read had c.hear_left.new.self c.args.answer c.hear_left.result.items
+          (todos.Leave c.in-Leave.octets) c.args.planned.read refl
+          (was_planned had c.args.planned _ refl c.in-Leave.is);
+    }
 
-pub returns-in-Check-clause-heard : goal.returns-in-Check-clause-heard
-returns-in-Check-clause-heard c =
+pub returns-in-Check : goal.returns-in-Check
+returns-in-Check c =
     let had = with_planned c.args.self.now c.args.planned in
-    checks c.args.number had c.hear_check.new.self c.args.answer
-    c.hear_check.result.items
-    c.args.self.now.planned c.args.planned.read c.in-Check.id c.in-Check.room
-    (was_planned had c.args.planned _ refl c.in-Check.is)
-    c.hear_check.ensures.heard
+    record {
+      heard = checks c.args.number had c.hear_check.new.self c.args.answer
+          c.hear_check.result.items
+          c.args.self.now.planned c.args.planned.read c.in-Check.id c.in-Check.room
+          (was_planned had c.args.planned _ refl c.in-Check.is)
+          c.hear_check.ensures.heard;
+      given = not_read had c.hear_check.new.self c.args.answer c.hear_check.result.items
+          (todos.Check c.in-Check.id c.in-Check.room) c.args.planned.read refl
+          (was_planned had c.args.planned _ refl c.in-Check.is);
+    }
 
-pub returns-in-Ihave-clause-heard : goal.returns-in-Ihave-clause-heard
-returns-in-Ihave-clause-heard c =
+pub returns-in-Ihave : goal.returns-in-Ihave
+returns-in-Ihave c =
     let had = with_planned c.args.self.now c.args.planned in
-    offers c.args.number had c.hear_ihave.new.self c.args.answer
-    c.hear_ihave.result.items
-    c.args.self.now.planned c.args.planned.read c.in-Ihave.id c.in-Ihave.copy c.in-Ihave.room
-    (was_planned had c.args.planned _ refl c.in-Ihave.is)
-    c.hear_ihave.ensures.heard
+    record {
+      heard = offers c.args.number had c.hear_ihave.new.self c.args.answer
+          c.hear_ihave.result.items
+          c.args.self.now.planned c.args.planned.read c.in-Ihave.id c.in-Ihave.copy c.in-Ihave.room
+          (was_planned had c.args.planned _ refl c.in-Ihave.is)
+          c.hear_ihave.ensures.heard;
+      given = not_read had c.hear_ihave.new.self c.args.answer c.hear_ihave.result.items
+          (todos.Ihave c.in-Ihave.id c.in-Ihave.copy c.in-Ihave.room) c.args.planned.read refl
+          (was_planned had c.args.planned _ refl c.in-Ihave.is);
+    }
 
-pub returns-in-Look-clause-heard : goal.returns-in-Look-clause-heard
-returns-in-Look-clause-heard c =
+pub returns-in-Look : goal.returns-in-Look
+returns-in-Look c =
     let had = with_planned c.args.self.now c.args.planned in
-    looks c.args.number had c.hear_look.new.self c.args.answer c.hear_look.result.items
-    c.args.self.now.planned c.args.planned.read c.in-Look.part c.in-Look.id c.in-Look.room
-    (was_planned had c.args.planned _ refl c.in-Look.is)
-    c.hear_look.ensures.heard
+    record {
+      heard = looks c.args.number had c.hear_look.new.self c.args.answer c.hear_look.result.items
+          c.args.self.now.planned c.args.planned.read c.in-Look.part c.in-Look.id c.in-Look.room
+          (was_planned had c.args.planned _ refl c.in-Look.is)
+          c.hear_look.ensures.heard;
+      given = not_read had c.hear_look.new.self c.args.answer c.hear_look.result.items
+          (todos.Look c.in-Look.part c.in-Look.id c.in-Look.room) c.args.planned.read refl
+          (was_planned had c.args.planned _ refl c.in-Look.is);
+    }
 
-pub returns-in-Fetch-clause-heard : goal.returns-in-Fetch-clause-heard
-returns-in-Fetch-clause-heard c =
+pub returns-in-Fetch : goal.returns-in-Fetch
+returns-in-Fetch c =
     let had = with_planned c.args.self.now c.args.planned in
-    reads_first c.args.number had c.hear_first.new.self c.args.answer
-    c.hear_first.result.items
-    c.args.self.now.planned c.args.planned.read c.in-Fetch.reading
-    (was_planned had c.args.planned _ refl c.in-Fetch.is)
-    c.hear_first.ensures.heard
+    record {
+      heard = reads_first c.args.number had c.hear_first.new.self c.args.answer
+          c.hear_first.result.items
+          c.args.self.now.planned c.args.planned.read c.in-Fetch.reading
+          (was_planned had c.args.planned _ refl c.in-Fetch.is)
+          c.hear_first.ensures.heard;
+      given = given_first had c.hear_first.new.self c.args.answer c.hear_first.result.items
+          c.args.self.now.planned c.args.planned.read c.in-Fetch.reading
+          (was_planned had c.args.planned _ refl c.in-Fetch.is)
+          c.hear_first.ensures.given;
+    }
 
-pub returns-in-ReadOn-clause-heard : goal.returns-in-ReadOn-clause-heard
-returns-in-ReadOn-clause-heard c =
+pub returns-in-ReadOn : goal.returns-in-ReadOn
+returns-in-ReadOn c =
     let had = with_planned c.args.self.now c.args.planned in
-    reads_on c.args.number had c.hear_next.new.self c.args.answer
-    c.hear_next.result.items
-    c.args.self.now.planned c.args.planned.read
-    (was_planned had c.args.planned _ refl
-    c.in-ReadOn.is)
-    c.hear_next.ensures.heard
+    record {
+      heard = reads_on c.args.number had c.hear_next.new.self c.args.answer
+          c.hear_next.result.items
+          c.args.self.now.planned c.args.planned.read
+          (was_planned had c.args.planned _ refl
+          c.in-ReadOn.is)
+          c.hear_next.ensures.heard;
+      given = given_on had c.hear_next.new.self c.args.answer c.hear_next.result.items
+          c.args.self.now.planned c.args.planned.read
+          (was_planned had c.args.planned _ refl
+          c.in-ReadOn.is)
+          c.hear_next.ensures.given;
+    }
 
-pub returns-in-Queue-clause-heard : goal.returns-in-Queue-clause-heard
-returns-in-Queue-clause-heard c =
+pub returns-in-Queue : goal.returns-in-Queue
+returns-in-Queue c =
     let had = with_planned c.args.self.now c.args.planned in
-    takes_queue c.args.number had c.hear_queue.new.self c.args.answer
-    c.hear_queue.result.items
-    c.args.self.now.planned c.args.planned.read c.in-Queue.room
-    (was_planned had c.args.planned _ refl c.in-Queue.is)
-    c.hear_queue.ensures.heard
+    record {
+      heard = takes_queue c.args.number had c.hear_queue.new.self c.args.answer
+          c.hear_queue.result.items
+          c.args.self.now.planned c.args.planned.read c.in-Queue.room
+          (was_planned had c.args.planned _ refl c.in-Queue.is)
+          c.hear_queue.ensures.heard;
+      given = not_read had c.hear_queue.new.self c.args.answer c.hear_queue.result.items
+          (todos.Queue c.in-Queue.room) c.args.planned.read refl
+          (was_planned had c.args.planned _ refl c.in-Queue.is);
+    }
 
-pub returns-in-Refuse-clause-heard : goal.returns-in-Refuse-clause-heard
-returns-in-Refuse-clause-heard c =
+pub returns-in-Refuse : goal.returns-in-Refuse
+returns-in-Refuse c =
     let had = with_planned c.args.self.now c.args.planned in
-    refuses c.args.number had c.hear_refused.new.self c.args.answer
-    c.hear_refused.result.items
-    c.args.self.now.planned c.args.planned.read c.in-Refuse.room
-    (was_planned had c.args.planned _ refl
-    c.in-Refuse.is)
-    c.hear_refused.ensures.heard
+    record {
+      heard = refuses c.args.number had c.hear_refused.new.self c.args.answer
+          c.hear_refused.result.items
+          c.args.self.now.planned c.args.planned.read c.in-Refuse.room
+          (was_planned had c.args.planned _ refl
+          c.in-Refuse.is)
+          c.hear_refused.ensures.heard;
+      given = not_read had c.hear_refused.new.self c.args.answer c.hear_refused.result.items
+          (todos.Refuse c.in-Refuse.room) c.args.planned.read refl
+          (was_planned had c.args.planned _ refl
+          c.in-Refuse.is);
+    }
 
-pub returns-in-Take-clause-heard : goal.returns-in-Take-clause-heard
-returns-in-Take-clause-heard c =
+pub returns-in-Take : goal.returns-in-Take
+returns-in-Take c =
     let had = with_planned c.args.self.now c.args.planned in
-    takes c.args.number had c.hear_taken.new.self c.args.answer
-    c.hear_taken.result.items
-    c.args.self.now.planned c.args.planned.read c.in-Take.copy c.in-Take.article
-    c.in-Take.room
-    (was_planned had c.args.planned _ refl c.in-Take.is)
-    c.hear_taken.ensures.heard
+    record {
+      heard = takes c.args.number had c.hear_taken.new.self c.args.answer
+          c.hear_taken.result.items
+          c.args.self.now.planned c.args.planned.read c.in-Take.copy c.in-Take.article
+          c.in-Take.room
+          (was_planned had c.args.planned _ refl c.in-Take.is)
+          c.hear_taken.ensures.heard;
+      given = not_read had c.hear_taken.new.self c.args.answer c.hear_taken.result.items
+          (todos.Take c.in-Take.copy c.in-Take.article c.in-Take.room) c.args.planned.read refl
+          (was_planned had c.args.planned _ refl c.in-Take.is);
+    }
 
-pub returns-in-TakeHeld-clause-heard : goal.returns-in-TakeHeld-clause-heard
-returns-in-TakeHeld-clause-heard c =
+pub returns-in-TakeHeld : goal.returns-in-TakeHeld
+returns-in-TakeHeld c =
     let had = with_planned c.args.self.now c.args.planned in
-    takes_held c.args.number had c.hear_held.new.self c.args.answer
-    c.hear_held.result.items
-    c.args.self.now.planned c.args.planned.read c.in-TakeHeld.copy
-    (was_planned had c.args.planned _ refl
-    c.in-TakeHeld.is)
-    c.hear_held.ensures.heard
+    record {
+      heard = takes_held c.args.number had c.hear_held.new.self c.args.answer
+          c.hear_held.result.items
+          c.args.self.now.planned c.args.planned.read c.in-TakeHeld.copy
+          (was_planned had c.args.planned _ refl
+          c.in-TakeHeld.is)
+          c.hear_held.ensures.heard;
+      given = not_read had c.hear_held.new.self c.args.answer c.hear_held.result.items
+          (todos.TakeHeld c.in-TakeHeld.copy) c.args.planned.read refl
+          (was_planned had c.args.planned _ refl
+          c.in-TakeHeld.is);
+    }
 
-pub returns-in-Slot-clause-heard : goal.returns-in-Slot-clause-heard
-returns-in-Slot-clause-heard c =
+pub returns-in-Slot : goal.returns-in-Slot
+returns-in-Slot c =
     let had = with_planned c.args.self.now c.args.planned in
-    looks_in_slot c.args.number had c.hear_slot.new.self c.args.answer
-    c.hear_slot.result.items
-    c.args.self.now.planned c.args.planned.read
-    (was_planned had c.args.planned _ refl c.in-Slot.is)
-    c.hear_slot.ensures.heard
+    record {
+      heard = looks_in_slot c.args.number had c.hear_slot.new.self c.args.answer
+          c.hear_slot.result.items
+          c.args.self.now.planned c.args.planned.read
+          (was_planned had c.args.planned _ refl c.in-Slot.is)
+          c.hear_slot.ensures.heard;
+      given = not_read had c.hear_slot.new.self c.args.answer c.hear_slot.result.items
+          todos.Slot c.args.planned.read refl
+          (was_planned had c.args.planned _ refl c.in-Slot.is);
+    }
 
-pub returns-in-Release-clause-heard : goal.returns-in-Release-clause-heard
-returns-in-Release-clause-heard c =
+pub returns-in-Release : goal.returns-in-Release
+returns-in-Release c =
     let had = with_planned c.args.self.now c.args.planned in
-    releases c.args.number had c.hear_released.new.self c.args.answer
-    c.hear_released.result.items
-    c.args.self.now.planned c.args.planned.read
-    (was_planned had c.args.planned _ refl
-    c.in-Release.is)
-    c.hear_released.ensures.heard
+    record {
+      heard = releases c.args.number had c.hear_released.new.self c.args.answer
+          c.hear_released.result.items
+          c.args.self.now.planned c.args.planned.read
+          (was_planned had c.args.planned _ refl
+          c.in-Release.is)
+          c.hear_released.ensures.heard;
+      given = not_read had c.hear_released.new.self c.args.answer c.hear_released.result.items
+          todos.Release c.args.planned.read refl
+          (was_planned had c.args.planned _ refl
+          c.in-Release.is);
+    }
 
-pub returns-in-End-clause-heard : goal.returns-in-End-clause-heard
-returns-in-End-clause-heard c =
+pub returns-in-End : goal.returns-in-End
+returns-in-End c =
     let had = with_planned c.args.self.now c.args.planned in
-    ends c.args.number had c.hear_ended.new.self c.args.answer c.hear_ended.result.items
-    c.args.self.now.planned c.args.planned.read
-    (was_planned had c.args.planned _ refl c.in-End.is)
-    c.hear_ended.ensures.heard
-
--- what was read of a block is heard whatever it is
-pub returns-in-Fetch-clause-given : goal.returns-in-Fetch-clause-given
-returns-in-Fetch-clause-given c =
-    let had = with_planned c.args.self.now c.args.planned in
-    given_first had c.hear_first.new.self c.args.answer c.hear_first.result.items
-    c.args.self.now.planned c.args.planned.read c.in-Fetch.reading
-    (was_planned had c.args.planned _ refl c.in-Fetch.is)
-    c.hear_first.ensures.given
-
-pub returns-in-ReadOn-clause-given : goal.returns-in-ReadOn-clause-given
-returns-in-ReadOn-clause-given c =
-    let had = with_planned c.args.self.now c.args.planned in
-    given_on had c.hear_next.new.self c.args.answer c.hear_next.result.items
-    c.args.self.now.planned c.args.planned.read
-    (was_planned had c.args.planned _ refl
-    c.in-ReadOn.is)
-    c.hear_next.ensures.given
-
--- no other plan asks for a block
-pub returns-in-Rest-clause-given : goal.returns-in-Rest-clause-given
-returns-in-Rest-clause-given c =
-    let had = with_planned c.args.self.now c.args.planned in
-    not_read had (with_planned had c.args.self.now.planned) c.args.answer
-    c.new.result.items todos.Rest c.args.planned.read refl
-    (was_planned had c.args.planned _ refl c.in-Rest.is)
-
-pub returns-in-Push-clause-given : goal.returns-in-Push-clause-given
-returns-in-Push-clause-given c =
-    let had = with_planned c.args.self.now c.args.planned in
-    not_read had (with_planned had c.args.self.now.planned) c.args.answer
-    c.new-in-Push.result.items todos.Push c.args.planned.read refl
-    (was_planned had c.args.planned _ refl c.in-Push.is)
-
-pub returns-in-Owe-clause-given : goal.returns-in-Owe-clause-given
-returns-in-Owe-clause-given c =
-    let had = with_planned c.args.self.now c.args.planned in
-    not_read had c.hear_owed.new.self c.args.answer c.hear_owed.result.items
-    (todos.Owe c.in-Owe.id) c.args.planned.read refl
-    (was_planned had c.args.planned _ refl c.in-Owe.is)
-
-pub returns-in-Say-clause-given : goal.returns-in-Say-clause-given
-returns-in-Say-clause-given c =
-    let had = with_planned c.args.self.now c.args.planned in
-    not_read had c.hear_said.new.self c.args.answer c.hear_said.result.items
-    (todos.Say c.in-Say.octets) c.args.planned.read refl
-    (was_planned had c.args.planned _ refl c.in-Say.is)
-
-pub returns-in-Leave-clause-given : goal.returns-in-Leave-clause-given
-returns-in-Leave-clause-given c =
-    let had = with_planned c.args.self.now c.args.planned in
-    not_read had c.hear_left.new.self c.args.answer c.hear_left.result.items
-    (todos.Leave c.in-Leave.octets) c.args.planned.read refl
-    (was_planned had c.args.planned _ refl c.in-Leave.is)
-
-pub returns-in-Check-clause-given : goal.returns-in-Check-clause-given
-returns-in-Check-clause-given c =
-    let had = with_planned c.args.self.now c.args.planned in
-    not_read had c.hear_check.new.self c.args.answer c.hear_check.result.items
-    (todos.Check c.in-Check.id c.in-Check.room) c.args.planned.read refl
-    (was_planned had c.args.planned _ refl c.in-Check.is)
-
-pub returns-in-Ihave-clause-given : goal.returns-in-Ihave-clause-given
-returns-in-Ihave-clause-given c =
-    let had = with_planned c.args.self.now c.args.planned in
-    not_read had c.hear_ihave.new.self c.args.answer c.hear_ihave.result.items
-    (todos.Ihave c.in-Ihave.id c.in-Ihave.copy c.in-Ihave.room) c.args.planned.read refl
-    (was_planned had c.args.planned _ refl c.in-Ihave.is)
-
-pub returns-in-Look-clause-given : goal.returns-in-Look-clause-given
-returns-in-Look-clause-given c =
-    let had = with_planned c.args.self.now c.args.planned in
-    not_read had c.hear_look.new.self c.args.answer c.hear_look.result.items
-    (todos.Look c.in-Look.part c.in-Look.id c.in-Look.room) c.args.planned.read refl
-    (was_planned had c.args.planned _ refl c.in-Look.is)
-
-pub returns-in-Queue-clause-given : goal.returns-in-Queue-clause-given
-returns-in-Queue-clause-given c =
-    let had = with_planned c.args.self.now c.args.planned in
-    not_read had c.hear_queue.new.self c.args.answer c.hear_queue.result.items
-    (todos.Queue c.in-Queue.room) c.args.planned.read refl
-    (was_planned had c.args.planned _ refl c.in-Queue.is)
-
-pub returns-in-Refuse-clause-given : goal.returns-in-Refuse-clause-given
-returns-in-Refuse-clause-given c =
-    let had = with_planned c.args.self.now c.args.planned in
-    not_read had c.hear_refused.new.self c.args.answer c.hear_refused.result.items
-    (todos.Refuse c.in-Refuse.room) c.args.planned.read refl
-    (was_planned had c.args.planned _ refl
-    c.in-Refuse.is)
-
-pub returns-in-Take-clause-given : goal.returns-in-Take-clause-given
-returns-in-Take-clause-given c =
-    let had = with_planned c.args.self.now c.args.planned in
-    not_read had c.hear_taken.new.self c.args.answer c.hear_taken.result.items
-    (todos.Take c.in-Take.copy c.in-Take.article c.in-Take.room) c.args.planned.read refl
-    (was_planned had c.args.planned _ refl c.in-Take.is)
-
-pub returns-in-TakeHeld-clause-given : goal.returns-in-TakeHeld-clause-given
-returns-in-TakeHeld-clause-given c =
-    let had = with_planned c.args.self.now c.args.planned in
-    not_read had c.hear_held.new.self c.args.answer c.hear_held.result.items
-    (todos.TakeHeld c.in-TakeHeld.copy) c.args.planned.read refl
-    (was_planned had c.args.planned _ refl
-    c.in-TakeHeld.is)
-
-pub returns-in-Slot-clause-given : goal.returns-in-Slot-clause-given
-returns-in-Slot-clause-given c =
-    let had = with_planned c.args.self.now c.args.planned in
-    not_read had c.hear_slot.new.self c.args.answer c.hear_slot.result.items
-    todos.Slot c.args.planned.read refl
-    (was_planned had c.args.planned _ refl c.in-Slot.is)
-
-pub returns-in-Release-clause-given : goal.returns-in-Release-clause-given
-returns-in-Release-clause-given c =
-    let had = with_planned c.args.self.now c.args.planned in
-    not_read had c.hear_released.new.self c.args.answer c.hear_released.result.items
-    todos.Release c.args.planned.read refl
-    (was_planned had c.args.planned _ refl
-    c.in-Release.is)
-
-pub returns-in-End-clause-given : goal.returns-in-End-clause-given
-returns-in-End-clause-given c =
-    let had = with_planned c.args.self.now c.args.planned in
-    not_read had c.hear_ended.new.self c.args.answer c.hear_ended.result.items
-    todos.End c.args.planned.read refl
-    (was_planned had c.args.planned _ refl c.in-End.is)
+    record {
+      heard = ends c.args.number had c.hear_ended.new.self c.args.answer c.hear_ended.result.items
+          c.args.self.now.planned c.args.planned.read
+          (was_planned had c.args.planned _ refl c.in-End.is)
+          c.hear_ended.ensures.heard;
+      given = not_read had c.hear_ended.new.self c.args.answer c.hear_ended.result.items
+          todos.End c.args.planned.read refl
+          (was_planned had c.args.planned _ refl c.in-End.is);
+    }
 
 -- what hears an answer asks nothing
 pub hear_owed-requires : goal.hear_owed-requires

@@ -8,18 +8,16 @@ use Rattle.peer_session.specs.declared.phase.Todo.TheVariants as todos
 use Rattle.peer_session.specs.declared.steps.Step.TheVariants as steps
 use Rattle.peer_session.proofs.session.Session.judged.Goals as goal
 
-pub returns-in_ok-copy-in-Ok : goal.returns-in_ok-copy-in-Ok
-returns-in_ok-copy-in-Ok c =
+pub returns-in-Ok-copied : goal.returns-in-Ok-copied
+returns-in-Ok-copied c =
     asking.IsAccepted c.in-Ok.article c.in_ok-room.room
     (subst (λ verdict. Judges (terms_of c.args.config.now) c.args.self.now.peer c.args.id.now
     c.args.now (option_copied c.args.text) (verdict_view verdict)) c.in-Ok.is
     c.in_ok-article.ensures)
-    (ap (λ copy. (
-      todos.Take copy c.in-Ok.article c.in_ok-room.room,
-      steps.Take c.in_ok-asked.asked,
-    )) c.in_ok-copy-in-Ok.ensures
+    (ap (λ copy. (todos.Take copy c.in-Ok.article c.in_ok-room.room, steps.Take c.in_ok-room.asked))
+    c.in-Ok-copied.ensures
     ∙ ap (λ copy. (todos.Take c.args.id.now c.in-Ok.article c.in_ok-room.room, steps.Take copy))
-    c.in_ok-asked.ensures)
+    c.in_ok-room.ensures)
 
 pub returns-in-Err : goal.returns-in-Err
 returns-in-Err c =
@@ -27,5 +25,4 @@ returns-in-Err c =
     (subst (λ verdict. Judges (terms_of c.args.config.now) c.args.self.now.peer c.args.id.now
     c.args.now (option_copied c.args.text) (verdict_view verdict)) c.in-Err.is
     c.in_ok-article.ensures)
-    (ap (λ copy. (todos.Refuse c.in_ok-room.room, steps.Refuse copy))
-    c.in_ok-asked.ensures)
+    (ap (λ copy. (todos.Refuse c.in_ok-room.room, steps.Refuse copy)) c.in_ok-room.ensures)
