@@ -3,3 +3,4 @@ pub mod Going
 pub mod Carried
 pub mod Commands
 pub mod Counts
+pub mod Turns

@@ -4,7 +4,8 @@ ghost use Rattle.article_verdict.specs.Config.{terms_of};
 ghost use Rattle.live_jobs.specs.Seats.{IsSeatOf, end_of};
 ghost use Rattle.live_session.specs.Carried.{Refusal};
 ghost use Rattle.live_session.specs.Going.{HearsAnswer, KeepsButSession, LetsGo};
-ghost use Rattle.live_session.specs.Going.{TakesPlanned, WentOn, said_in};
+ghost use Rattle.live_session.specs.Going.{TakesPlanned, said_in};
+ghost use Rattle.live_session.specs.Turns.{HadTurn};
 ghost use Rattle.live_session.specs.declared.live.Turned.TheVariants as turns;
 ghost use Rattle.peer_session.specs.declared.steps.Answer.TheVariants as answers;
 ghost use Rattle.relay_model.specs.Terms.{last_moment};
@@ -28,10 +29,8 @@ pub(crate) fn turn<S: Shares<J, R>, C: Clock, G: Gate<R>, J: StorePremises, R: W
 ) -> Turned
     requires register { context.now.register.now ≡ J.register }
     requires seat { IsSeatOf context.now.channels.now live.old.seat }
-    ensures seat { IsSeatOf context.now.channels.now live.new.seat }
-    ensures end { end_of live.new.seat ≡ end_of live.old.seat }
-    ensures went { WentOn (terms_of context.now.config.now) live.old (said_in result) live.new }
-    ensures held { result ≡ turns.Held → Refusal (G.refuses context.now.gate.now) }
+    ensures { HadTurn (terms_of context.now.config.now) (G.refuses context.now.gate.now)
+        context.now.channels.now live.old live.new result }
 {
     let at_command = live.session.is_at_command();
     let now = context.clock.now();

@@ -1,0 +1,35 @@
+-- What a turn of a session comes to. No public contract cites it.
+use Rattle.std.specs.Prelude.{◌≡◌, List}
+use Rattle.live_jobs.specs.Seats.{IsSeatOf, end_of}
+use Rattle.live_jobs.specs.declared.channel.JobChannel.{JobChannel}
+use Rattle.live_session.specs.Carried.{Carried, Lasts, Refusal, ServesOn}
+use Rattle.live_session.specs.Counts.{turns_in}
+use Rattle.live_session.specs.Going.{WentOn, said_in}
+use Rattle.live_session.specs.declared.commands.Command.{Command}
+use Rattle.live_session.specs.declared.counts.Counts.{Counts}
+use Rattle.live_session.specs.declared.live.LiveSession.{LiveSession}
+use Rattle.live_session.specs.declared.live.Turned.{Turned}
+use Rattle.live_session.specs.declared.live.Turned.TheVariants as turns
+use Rattle.live_store.specs.declared.record.StorePremises.{Ghosts}
+use Rattle.relay_model.specs.Terms.{Terms}
+
+-- a turn was had or not: the session went on by what it said, on the same seat, and it is held only
+-- where the gate said no
+pub record HadTurn {J : Type 0} {g : Ghosts J} (w : Terms) (refuses : Command → Type 0)
+    (channels : List JobChannel) (old new : LiveSession J g) (turned : Turned)
+    : Type 0 where
+  pub seat : IsSeatOf channels new.seat
+  pub end : end_of new.seat ≡ end_of old.seat
+  pub went : WentOn w old (said_in turned) new
+  pub held : turned ≡ turns.Held → Refusal refuses
+
+-- a turn of a session that leaves: its connection carries on what it said, on the same seat, and no
+-- turn is counted
+pub record HadLastTurn {J : Type 0} {g : Ghosts J} (w : Terms) (channels : List JobChannel)
+    (old new : LiveSession J g) (before after : Carried) (counts counts' : Counts)
+    : Type 0 where
+  pub seat : IsSeatOf channels new.seat
+  pub end : end_of new.seat ≡ end_of old.seat
+  pub served : ServesOn w old new before after
+  pub ends : Lasts before.finish after.finish
+  pub turns : turns_in counts' ≡ turns_in counts
