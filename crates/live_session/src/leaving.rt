@@ -1,12 +1,9 @@
 //! A session leaves.
-ghost use Rattle.std.specs.Prelude.{◌≡◌, false};
+ghost use Rattle.std.specs.Prelude.{◌≡◌};
 ghost use Rattle.article_verdict.specs.Config.{terms_of};
-ghost use Rattle.live_jobs.specs.Seats.{IsSeatOf, end_of};
-ghost use Rattle.live_session.specs.Carried.{Carried, Lasts, ServesOn, carried};
-ghost use Rattle.live_session.specs.Counts.{turns_in};
-ghost use Rattle.live_session.specs.Turns.{HadLastTurn};
-ghost use Rattle.peer_session.specs.Session.{session_view};
-ghost use Rattle.relay_model.specs.Run.{is_running};
+ghost use Rattle.live_jobs.specs.Seats.{IsSeatOf};
+ghost use Rattle.live_session.specs.Carried.{Carried, ServesOn, carried};
+ghost use Rattle.live_session.specs.Turns.{HadLastTurn, HasLeft};
 ghost use Rattle.relay_model.specs.Terms.{Terms};
 
 use crate::commands::Commands;
@@ -41,15 +38,11 @@ pub(crate) fn leave<
 )
     requires register { context.now.register.now ≡ J.register }
     requires seat { IsSeatOf context.now.channels.now live.old.seat }
-    ensures seat { IsSeatOf context.now.channels.now live.new.seat }
-    ensures end { end_of live.new.seat ≡ end_of live.old.seat }
-    ensures served { ServesOn (terms_of context.now.config.now) live.old live.new
+    ensures { HasLeft (terms_of context.now.config.now) context.now.channels.now
+        live.old live.new
         (carried (H.heard wire.old.reader) (W.said wire.old.writer) wire.old.outbox wire.old.finish)
         (carried (H.heard wire.new.reader) (W.said wire.new.writer)
-        wire.new.outbox wire.new.finish) }
-    ensures closed { is_running (session_view live.new.session).phase ≡ false }
-    ensures ends { Lasts wire.old.finish wire.new.finish }
-    ensures turns { turns_in counts.new ≡ turns_in counts.old }
+        wire.new.outbox wire.new.finish) counts.old counts.new }
 {
     for _ in rt.forever() {
         if !live.session.is_running() {

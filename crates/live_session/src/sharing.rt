@@ -4,10 +4,9 @@ ghost use Rattle.article_verdict.specs.Config.{terms_of};
 ghost use Rattle.cyc_token.specs.Token.{token_view};
 ghost use Rattle.id_history.specs.declared.claims.Take.TheVariants as takes;
 ghost use Rattle.live_jobs.specs.Seats.{IsSeatOf};
-ghost use Rattle.live_session.specs.Going.{IsFrontOf, KeepsPlace, ReadsFor};
-ghost use Rattle.live_session.specs.Going.{SharesFor, StaysSame};
+ghost use Rattle.live_session.specs.Going.{IsFrontOf, ReadsFor};
+ghost use Rattle.live_session.specs.Turns.{DidStep};
 ghost use Rattle.peer_session.specs.Session.{holds_article};
-ghost use Rattle.peer_session.specs.declared.steps.Answer.TheVariants as answers;
 
 use crate::live::{LiveSession, SessionContext};
 use crate::pushing::{look_in_slot, push};
@@ -33,10 +32,8 @@ pub(crate) fn share<S: Shares<J, R>, C, G, J: StorePremises, R: Wait>(
 ) -> Answer
     requires register { context.now.register.now ≡ J.register }
     requires seat { IsSeatOf context.now.channels.now live.old.seat }
-    ensures seat { IsSeatOf context.now.channels.now live.new.seat }
-    ensures place { KeepsPlace live.old live.new }
-    ensures shared { SharesFor (terms_of context.now.config.now) step.now live.old result live.new }
-    ensures memory { result ≡ answers.Memory → StaysSame live.old live.new }
+    ensures { DidStep (terms_of context.now.config.now) context.now.channels.now step.now
+        live.old result live.new }
 {
     match step {
         Step::Nothing => Answer::Nothing,

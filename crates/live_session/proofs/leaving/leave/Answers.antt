@@ -1,4 +1,4 @@
-use Rattle.std.proofs.Common.{◌∙◌}
+use Rattle.std.proofs.Common.{◌∙◌, sym}
 use Rattle.live_session.proofs.leaving.leave.Goals as goal
 
 pub loop-preserved : goal.loop-preserved
@@ -17,4 +17,17 @@ loop-preserved g c =
         unheld = λ held. so.ends.unheld (turn.ends.unheld held);
       };
       turns = turn.turns ∙ so.turns;
+    }
+
+-- it is closed once it runs no more
+pub returns-then-not-is_running : goal.returns-then-not-is_running
+returns-then-not-is_running g c =
+    let so = c.loop.invariant in
+    record {
+      seat = so.seat;
+      end = so.end_is;
+      served = so.served;
+      closed = sym c.is_running.ensures ∙ c.if-not-is_running.true;
+      ends = so.ends;
+      turns = so.turns;
     }
