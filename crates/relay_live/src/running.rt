@@ -194,10 +194,10 @@ fn mismatched_receipts_of<
     mismatched_receipts(alloc, answers.as_slice(), seats.writers.as_slice())
 }
 
-/// What is counted of the seats that have come back, beside these totals of theirs.
+/// The seats that have come back, with what is counted of them beside these totals of theirs.
 fn counted_of<
     'a,
-    X,
+    X: Drop,
     S: BlockStore + Drop,
     J: StorePremises,
     L: Ledger,
@@ -207,24 +207,26 @@ fn counted_of<
 >(
     alloc: Global,
     totals: Totals,
-    seats: &Seats<L, StoreResult<J>, PeerServer<'a, X, S, J, L, C, G, Q>>,
-) -> Result<Counted, AllocError>
-    ensures totals { IfOk result (λ counted. (accepted_in counted ≡ totals.accepted)
-        × (posted_in counted ≡ totals.posted)) }
-    ensures mismatched_receipts { IfOk result (λ counted. mismatched_receipts_of counted
-        ≡ mismatched_receipts_in (map kept_of seats.now.services.items)
-        (map (λ w. w.finished.items) seats.now.writers.items)) }
-    ensures ids_stored_again { IfOk result (λ counted. ids_stored_again_of counted
-        ≡ ids_stored_again_in (map (λ w. w.finished.items) seats.now.writers.items)) }
+    seats: Seats<L, StoreResult<J>, PeerServer<'a, X, S, J, L, C, G, Q>>,
+) -> Result<CountedRun<L, StoreResult<J>, PeerServer<'a, X, S, J, L, C, G, Q>>, LiveError>
+    ensures totals { IfOk result (λ run. (run.seats ≡ seats.entry)
+        × (accepted_in run.counted ≡ totals.accepted)
+        × (posted_in run.counted ≡ totals.posted)) }
+    ensures mismatched_receipts { IfOk result (λ run. mismatched_receipts_of run.counted
+        ≡ mismatched_receipts_in (map kept_of run.seats.services.items)
+        (map (λ w. w.finished.items) run.seats.writers.items)) }
+    ensures ids_stored_again { IfOk result (λ run. ids_stored_again_of run.counted
+        ≡ ids_stored_again_in (map (λ w. w.finished.items) run.seats.writers.items)) }
 {
-    let mismatched_receipts = mismatched_receipts_of(alloc, seats)?;
+    let mismatched_receipts = mismatched_receipts_of(alloc, &seats)?;
     let ids_stored_again = ids_stored_again(alloc, seats.writers.as_slice())?;
-    Ok(Counted {
+    let counted = Counted {
         accepted: totals.accepted,
         posted: totals.posted,
         mismatched_receipts,
         ids_stored_again,
-    })
+    };
+    Ok(CountedRun { seats, counted })
 }
 
 /// Serves an end behind each peer source, one thread for each of them and for each group's writer,
@@ -315,6 +317,5 @@ where
         Err(why) => return Err(live_error(why)),
     };
     let totals = close(rt, channels, &keeper.shared.desk, &mut rests, &mut seats);
-    let counted = counted_of(alloc, totals, &seats)?;
-    Ok(CountedRun { seats, counted })
+    counted_of(alloc, totals, seats)
 }

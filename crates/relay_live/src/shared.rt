@@ -4,7 +4,7 @@ ghost use Rattle.relay_model.specs.Terms.{shard_count};
 
 use crate::alone::Alone;
 use crate::claims::Claims;
-use crate::drawing::{Number, Numbers};
+use crate::drawing::{Last, Number};
 use crate::forgetting::Rounds;
 use crate::locking::{Locks, Parts, SlotsAndRounds, free_all, free_shards, lock_all, lock_shards};
 use crate::slot::Slot;
@@ -33,7 +33,8 @@ pub struct Shared<S: BlockStore + Drop, J: StorePremises, L: Ledger> {
     pub(crate) buffers: Vec<Mutex<NumberedBuffer<S, J>>>,
     pub(crate) placed_groups: Vec<Mutex<PlacedGroup>>,
     pub(crate) slots: Vec<Slot<J>>,
-    numbers: Numbers<L>,
+    /// The number of the session that was drawn last.
+    last: Mutex<Last<L>>,
     /// The number of the last stop; before the first it is 0.
     stop: u64,
     /// For how many seconds ids are remembered; without it for good.
@@ -235,7 +236,7 @@ impl<S: BlockStore + Drop, J: StorePremises, L: Ledger> Shared<S, J, L> {
             buffers: lock_all(buffers, locks.buffers),
             placed_groups: lock_all(placed_groups, locks.placed_groups),
             slots: slots_and_rounds.slots,
-            numbers: Numbers::over(last),
+            last: Mutex::new(last),
             stop,
             remember,
             rounds: slots_and_rounds.rounds,
@@ -260,7 +261,7 @@ impl<S: BlockStore + Drop, J: StorePremises, L: Ledger> Shared<S, J, L> {
             buffers,
             placed_groups,
             slots,
-            numbers,
+            last,
             stop,
             remember,
             rounds,
@@ -271,7 +272,7 @@ impl<S: BlockStore + Drop, J: StorePremises, L: Ledger> Shared<S, J, L> {
             feeds,
             buffers: free_all(buffers, parts.buffers),
             placed_groups: free_all(placed_groups, parts.placed_groups),
-            last: numbers.into_last(),
+            last: last.into_inner(),
             stop,
             remember,
         };
@@ -280,7 +281,7 @@ impl<S: BlockStore + Drop, J: StorePremises, L: Ledger> Shared<S, J, L> {
 
     /// Draws the number of a session: one above the last, from 1 on, none after the greatest.
     pub(crate) fn draw<R: Wait>(&self, rt: &R) -> Option<Number<L>> {
-        self.numbers.draw(rt)
+        self.last.lock(rt).next()
     }
 
     /// The shard that has the message-id.

@@ -2,6 +2,7 @@ use Rattle.std.proofs.Common.{◌∙◌, ◌<◌, ◌^◌, ℕ, List, [], ap, ar
 use denote.Param.Send.{sendable}
 use Rattle.std.specs.Prelude.{slice_get}
 use Rattle.std.proofs.lemmas.List.{length-map}
+use Rattle.std.proofs.lemmas.Result.{IfOk-weaker}
 use Rattle.article_verdict.specs.Config.{terms_of}
 use Rattle.job_queue.specs.declared.parcel.Handed.{Handed}
 use Rattle.live_jobs.specs.Desks.{posts_in}
@@ -57,42 +58,55 @@ pub returns-clause-lefts : goal.returns-clause-lefts
 returns-clause-lefts g c =
     let peer_sources = same_length kept_of _ c.in_ok-ends.ends.items
     c.args.serving.peer_sources.items c.in_ok-ends.ensures.new in
-    sym (length-map c.close-totals.new.seats.lefts.items left_by)
+    IfOk-weaker c.counted_of.result _ _ (λ run is.
+    ap (λ seats. length seats.lefts.items) is.0
+    ∙ sym (length-map c.close-totals.new.seats.lefts.items left_by)
     ∙ ap length c.close-totals.ensures.handed
     ∙ length-map c.in-Ok.seats.lefts.items left_by
-    ∙ c.in-Ok.ensures.lefts.0 ∙ c.in_ok-channels.ensures.channels.2 ∙ peer_sources
+    ∙ c.in-Ok.ensures.lefts.0 ∙ c.in_ok-channels.ensures.channels.2 ∙ peer_sources)
+    c.counted_of.ensures.totals
 
 pub returns-clause-lists : goal.returns-clause-lists
 returns-clause-lists g c =
-    subst (HasLists c.args.groups) (sym c.close-totals.ensures.handed)
+    IfOk-weaker c.counted_of.result _ _ (λ run is.
+    subst (HasLists c.args.groups)
+    (sym (ap (λ seats. hands_of seats.lefts.items) is.0 ∙ c.close-totals.ensures.handed))
     (lists_of_all c.as_slice-channels.result.now c.args.groups c.in-Ok.seats.lefts.items
     (ap length c.as_slice-channels.ensures.value ∙ c.in_ok-channels.ensures.channels.0)
-    (λ k left at. (c.in-Ok.ensures.lefts.1 k left at).1))
+    (λ k left at. (c.in-Ok.ensures.lefts.1 k left at).1))) c.counted_of.ensures.totals
 
 -- so do all writers
 pub returns-clause-writers : goal.returns-clause-writers
 returns-clause-writers g c =
-    sym (length-map c.close-totals.new.seats.writers.items (λ w. w.finished.items))
+    IfOk-weaker c.counted_of.result _ _ (λ run is.
+    ap (λ seats. length seats.writers.items) is.0
+    ∙ sym (length-map c.close-totals.new.seats.writers.items (λ w. w.finished.items))
     ∙ ap length c.close-totals.ensures.finished
     ∙ length-map c.in-Ok.seats.writers.items (λ w. w.finished.items)
-    ∙ c.in-Ok.ensures.writers.0 ∙ c.in_ok-channels.ensures.channels.1
+    ∙ c.in-Ok.ensures.writers.0 ∙ c.in_ok-channels.ensures.channels.1)
+    c.counted_of.ensures.totals
 
 pub returns-clause-jobs : goal.returns-clause-jobs
 returns-clause-jobs g c =
+    IfOk-weaker c.counted_of.result _ _ (λ run is.
+    let finished = ap (λ seats. map (λ w. w.finished.items) seats.writers.items) is.0
+    ∙ c.close-totals.ensures.finished in
+    let handed = ap (λ seats. hands_of seats.lefts.items) is.0 ∙ c.close-totals.ensures.handed in
     subst (λ (x : List (List (FinishedJob _)) × List (List (List Handed))).
-    AllTold (FitsJob g.J.StorePremises.holds) x.0 x.1)
-    (λ i. (sym c.close-totals.ensures.finished i, sym c.close-totals.ensures.handed i))
-    c.close-totals.ensures.jobs
+    AllTold (FitsJob g.J.StorePremises.holds) x.0 x.1) (λ i. (sym finished i, sym handed i))
+    c.close-totals.ensures.jobs) c.counted_of.ensures.totals
 
 pub returns-clause-none : goal.returns-clause-none
 returns-clause-none g c =
     let peer_sources = same_length kept_of _ c.in_ok-ends.ends.items
     c.args.serving.peer_sources.items c.in_ok-ends.ensures.new in
     let long = c.in-Ok.ensures.lefts.0 ∙ c.in_ok-channels.ensures.channels.2 ∙ peer_sources in
-    subst (λ (n : ℕ).
-    NoneElse n (map (λ w. w.finished.items) c.close-totals.new.seats.writers.items)) long
-    (subst (NoneElse (length c.in-Ok.seats.lefts.items)) (sym c.close-totals.ensures.finished)
-    c.close-totals.ensures.none)
+    IfOk-weaker c.counted_of.result _ _ (λ run is.
+    subst (λ (n : ℕ). NoneElse n (map (λ w. w.finished.items) run.seats.writers.items)) long
+    (subst (NoneElse (length c.in-Ok.seats.lefts.items))
+    (sym (ap (λ seats. map (λ w. w.finished.items) seats.writers.items) is.0
+    ∙ c.close-totals.ensures.finished))
+    c.close-totals.ensures.none)) c.counted_of.ensures.totals
 
 pub serve_seats-requires-clause-writers : goal.serve_seats-requires-clause-writers
 serve_seats-requires-clause-writers g c κs within =
@@ -104,29 +118,35 @@ serve_seats-requires-clause-writers g c κs within =
 -- what an end is stays, whatever it serves
 pub returns-clause-peers : goal.returns-clause-peers
 returns-clause-peers g c =
-    ap (map peer_of) c.close-totals.ensures.services
+    IfOk-weaker c.counted_of.result _ _ (λ run is.
+    ap (λ seats. map peer_of seats.services.items) is.0
+    ∙ ap (map peer_of) c.close-totals.ensures.services
     ∙ marked _ (λ m. m.0) (λ p. p.service) c.in-Ok.seats.services.items c.in_ok-ends.ends.items
     c.in_ok-channels.field-0.plans.items c.in-Ok.ensures.marks c.in_ok-channels.ensures.services
-    ∙ c.in_ok-ends.ensures.peers
+    ∙ c.in_ok-ends.ensures.peers) c.counted_of.ensures.totals
 
 pub returns-clause-terms : goal.returns-clause-terms
 returns-clause-terms g c =
-    ap (map terms_at) c.close-totals.ensures.services
+    IfOk-weaker c.counted_of.result _ _ (λ run is.
+    ap (λ seats. map terms_at seats.services.items) is.0
+    ∙ ap (map terms_at) c.close-totals.ensures.services
     ∙ marked _ (λ m. terms_of m.1) (λ p. p.service) c.in-Ok.seats.services.items
     c.in_ok-ends.ends.items
     c.in_ok-channels.field-0.plans.items c.in-Ok.ensures.marks c.in_ok-channels.ensures.services
-    ∙ c.in_ok-ends.ensures.terms
+    ∙ c.in_ok-ends.ensures.terms) c.counted_of.ensures.totals
 
 -- the seats are compared, and what the ends keep stays
 pub returns-clause-kept : goal.returns-clause-kept
 returns-clause-kept g c =
+    IfOk-weaker c.counted_of.result _ _ (λ run is.
     subst (λ hands.
     AllKept (λ end number count jobs. Accounted g.J.StorePremises.trusted (terms_at end) number
-    (peer_of end) count jobs (kept_of end)) hands c.close-totals.new.seats.services.items)
-    (sym c.close-totals.ensures.handed)
+    (peer_of end) count jobs (kept_of end)) hands run.seats.services.items)
+    (sym (ap (λ seats. hands_of seats.lefts.items) is.0 ∙ c.close-totals.ensures.handed))
     (subst (AllKept (λ end number count jobs. Accounted g.J.StorePremises.trusted (terms_at end)
     number (peer_of end) count jobs (kept_of end)) (hands_of c.in-Ok.seats.lefts.items))
-    (sym c.close-totals.ensures.services) c.in-Ok.ensures.kept)
+    (sym (ap (λ seats. seats.services.items) is.0 ∙ c.close-totals.ensures.services))
+    c.in-Ok.ensures.kept)) c.counted_of.ensures.totals
 
 -- what was posted has parts for contracts alone, which any thread may have
 pub serve_seats-requires-send-O : goal.serve_seats-requires-send-O
@@ -135,19 +155,22 @@ serve_seats-requires-send-O g c κs within = search (sendable, store_result_send
 -- what was counted is of the seats that come back
 pub returns-clause-accepted : goal.returns-clause-accepted
 returns-clause-accepted g c =
-    c.in_ok-counted.ensures.totals.0 ∙ c.close-totals.ensures.accepted
-    ∙ ap (kept_by_all is_kept) (sym c.close-totals.ensures.finished)
+    IfOk-weaker c.counted_of.result _ _ (λ run is.
+    is.1 ∙ c.close-totals.ensures.accepted
+    ∙ ap (kept_by_all is_kept)
+    (sym (ap (λ seats. map (λ w. w.finished.items) seats.writers.items) is.0
+    ∙ c.close-totals.ensures.finished))) c.counted_of.ensures.totals
 
 pub returns-clause-posted : goal.returns-clause-posted
 returns-clause-posted g c =
-    ap posts_in c.in_ok-counted.ensures.totals.1 ∙ c.close-totals.ensures.posted
-    ∙ sym c.in_ok-counted.ensures.totals.0
+    IfOk-weaker c.counted_of.result _ _ (λ run is.
+    ap posts_in is.2 ∙ c.close-totals.ensures.posted ∙ sym is.1) c.counted_of.ensures.totals
 
 pub returns-clause-mismatched_receipts : goal.returns-clause-mismatched_receipts
-returns-clause-mismatched_receipts g c = c.in_ok-counted.ensures.mismatched_receipts
+returns-clause-mismatched_receipts g c = c.counted_of.ensures.mismatched_receipts
 
 pub returns-clause-ids_stored_again : goal.returns-clause-ids_stored_again
-returns-clause-ids_stored_again g c = c.in_ok-counted.ensures.ids_stored_again
+returns-clause-ids_stored_again g c = c.counted_of.ensures.ids_stored_again
 
 -- there is a writer for each part of the ledger
 pub close-totals-requires-clause-parts : goal.close-totals-requires-clause-parts
