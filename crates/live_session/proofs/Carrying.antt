@@ -1,7 +1,7 @@
 -- What a connection carries as it is written to, read from and stopped.
 use Rattle.std.proofs.Common.{◌≡◌, ◌≢◌, ℕ, ◌++◌, Bool, true, false, List, [], ◌∷◌, Option, None}
 use Rattle.std.proofs.Common.{Some, refl, sym, ap, subst, ◌∙◌, take, drop, if◌then◌else◌, length}
-use Rattle.std.proofs.Common.{◌==◌, ⊎_elim}
+use Rattle.std.proofs.Common.{◌==◌, ⊎_elim, inl}
 use Rattle.std.specs.Global.{Vec}
 use Rattle.std.specs.Prelude.{is_some, unwrap_or, vec_len}
 use Rattle.std.proofs.lemmas.List.{append-nil, append_assoc, take-append-drop}
@@ -225,6 +225,36 @@ pub refused_by : {refuses : Command → Type 0} (conversed left last : Option Fi
 refused_by conversed left last one two three is =
     ⊎_elim (λ none. absurd (none-some finishes.Held none)) (λ refusal. refusal)
     (one.held (two.unheld (three.unheld is)))
+
+-- what lasted over both parts of a turn lasts, and nothing was held in it
+pub lasts_on : {refuses : Command → Type 0} (first mid last : Option Finish) → Lasts first mid
+    → Lasts mid last → LastsOrHeld refuses first last
+lasts_on first mid last one two = record {
+  ended = λ none. one.ended (two.ended none);
+  unspent = λ spent. one.unspent (two.unspent spent);
+  held = λ held. inl (one.unheld (two.unheld held));
+}
+
+-- what is stopped for one reason had ended before, where it is over for another
+pub stopped_for : (last stopped : Option Finish) (why other : Finish) → (why ≡ other → ⊥)
+    → stopped ≡ Some (unwrap_or last why) → stopped ≡ Some other → last ≡ Some other
+stopped_for None stopped why other differs stops is =
+    absurd (differs (ap (λ o. unwrap_or o finishes.Broken) (sym stops ∙ is)))
+stopped_for (Some finish) stopped why other differs stops is = sym stops ∙ is
+
+-- what is stopped is over
+pub stopped_over : (last stopped : Option Finish) (why : Finish)
+    → stopped ≡ Some (unwrap_or last why) → stopped ≡ None → ⊥
+stopped_over last stopped why stops none = none-some (unwrap_or last why) (sym none ∙ stops)
+
+-- what had ended when it was stopped as broken lasts
+pub lasts_broken : (last stopped : Option Finish)
+    → stopped ≡ Some (unwrap_or last finishes.Broken) → Lasts last stopped
+lasts_broken last stopped stops = record {
+  ended = λ none. absurd (stopped_over last stopped finishes.Broken stops none);
+  unspent = stopped_for last stopped finishes.Broken finishes.TurnsSpent (λ e. cc) stops;
+  unheld = stopped_for last stopped finishes.Broken finishes.Held (λ e. cc) stops;
+}
 
 -- an end is the end
 pub end_of_some : (o : Option Finish) (other : Finish) → is_some o ≡ true

@@ -2,7 +2,7 @@
 use Rattle.std.specs.Prelude.{◌≡◌, false, List}
 use Rattle.live_jobs.specs.Seats.{IsSeatOf, end_of}
 use Rattle.live_jobs.specs.declared.channel.JobChannel.{JobChannel}
-use Rattle.live_session.specs.Carried.{Carried, Lasts, Refusal, ServesOn}
+use Rattle.live_session.specs.Carried.{Carried, Lasts, LastsOrHeld, Refusal, ServesOn}
 use Rattle.live_session.specs.Counts.{turns_in}
 use Rattle.live_session.specs.Going.{KeepsPlace, SharesFor, StaysSame, WentOn, said_in}
 use Rattle.live_session.specs.declared.commands.Command.{Command}
@@ -37,6 +37,18 @@ pub record HadTurn {J : Type 0} {g : Ghosts J} (w : Terms) (refuses : Command �
   pub end : end_of new.seat ≡ end_of old.seat
   pub went : WentOn w old (said_in turned) new
   pub held : turned ≡ turns.Held → Refusal refuses
+
+-- a turn was had with its reply, or what waits was written and the session read: its connection
+-- carries that on, on the same seat, and no turn is counted
+pub record HadRound {J : Type 0} {g : Ghosts J} (w : Terms) (refuses : Command → Type 0)
+    (channels : List JobChannel) (old new : LiveSession J g) (before after : Carried)
+    (counts counts' : Counts)
+    : Type 0 where
+  pub seat : IsSeatOf channels new.seat
+  pub end : end_of new.seat ≡ end_of old.seat
+  pub served : ServesOn w old new before after
+  pub ends : LastsOrHeld refuses before.finish after.finish
+  pub turns : turns_in counts' ≡ turns_in counts
 
 -- a turn of a session that leaves: its connection carries on what it said, on the same seat, and no
 -- turn is counted

@@ -7,6 +7,7 @@ ghost use Rattle.live_session.specs.Carried.{Begins, CarriesSame, IsFormed, IsSe
 ghost use Rattle.live_session.specs.Carried.{Lasts, LastsOrHeld, Refusal, ServesOn, carried};
 ghost use Rattle.live_session.specs.Counts.{most_turns, turns_in};
 ghost use Rattle.live_session.specs.Going.{hands_at};
+ghost use Rattle.live_session.specs.Turns.{HadRound};
 ghost use Rattle.live_session.specs.declared.wire.Finish.TheVariants as finishes;
 ghost use Rattle.peer_session.specs.Session.{session_view};
 ghost use Rattle.relay_model.specs.Run.{is_running};
@@ -287,14 +288,11 @@ fn round<S: Shares<J, R>, C: Clock, G: Gate<R>, J: StorePremises, H: Hears, W: S
 )
     requires register { context.now.register.now ≡ J.register }
     requires seat { IsSeatOf context.now.channels.now live.old.seat }
-    ensures seat { IsSeatOf context.now.channels.now live.new.seat }
-    ensures end { end_of live.new.seat ≡ end_of live.old.seat }
-    ensures served { ServesOn (terms_of context.now.config.now) live.old live.new
+    ensures { HadRound (terms_of context.now.config.now) (G.refuses context.now.gate.now)
+        context.now.channels.now live.old live.new
         (carried (H.heard wire.old.reader) (W.said wire.old.writer) wire.old.outbox wire.old.finish)
         (carried (H.heard wire.new.reader) (W.said wire.new.writer)
-        wire.new.outbox wire.new.finish) }
-    ensures ends { LastsOrHeld (G.refuses context.now.gate.now) wire.old.finish wire.new.finish }
-    ensures turns { turns_in counts.new ≡ turns_in counts.old }
+        wire.new.outbox wire.new.finish) counts.old counts.new }
 {
     match turn(rt, alloc, context, live, commands) {
         Turned::Says(said) => {

@@ -1,13 +1,15 @@
-use Rattle.std.proofs.Common.{subst, sym}
+use Rattle.std.proofs.Common.{◌∙◌, ap, inr, refl, subst, sym}
 use Rattle.article_verdict.specs.Config.{terms_of}
-use Rattle.live_jobs.specs.Seats.{IsSeatOf}
+use Rattle.live_jobs.specs.Seats.{IsSeatOf, end_of}
 use Rattle.live_jobs.specs.declared.session.SessionSeat.{SessionSeat}
+use Rattle.live_session.proofs.Carrying.{lasts_broken, lasts_on, stopped_for, stopped_over}
 use Rattle.live_session.proofs.LiveSessions.{served_still, served_turn, then_on, then_same}
 use Rattle.live_session.proofs.serve.round.Goals as goal
 use Rattle.live_session.specs.Carried.{carried}
+use Rattle.live_session.specs.declared.wire.Finish.TheVariants as finishes
 
-pub returns-in-Says-clause-served : goal.returns-in-Says-clause-served
-returns-in-Says-clause-served g c =
+pub returns-in-Says : goal.returns-in-Says
+returns-in-Says g c =
     let w = terms_of c.args.context.now.config.now in
     let live = c.args.live.now in
     let new = c.turn.new.live in
@@ -20,18 +22,20 @@ returns-in-Says-clause-served g c =
     said.finish in
     let after = carried (g.H.Hears.heard last.reader) (g.W.Says.said last.writer) last.outbox
     last.finish in
-    then_same w live new before mid after
-    (served_turn w live new c.in-Says.said.items before mid c.in-Says.ensures.went
-    c.say.ensures.on)
-    c.write_on.ensures.same
+    record {
+      seat = c.turn.ensures.seat;
+      end = c.turn.ensures.end;
+      served = then_same w live new before mid after
+          (served_turn w live new c.in-Says.said.items before mid c.in-Says.ensures.went
+          c.say.ensures.on)
+          c.write_on.ensures.same;
+      ends = lasts_on wire.finish said.finish last.finish c.say.ensures.ends
+          c.write_on.ensures.ends;
+      turns = c.say.ensures.turns;
+    }
 
-pub returns-in-Rests-clause-seat : goal.returns-in-Rests-clause-seat
-returns-in-Rests-clause-seat g c =
-    let P : SessionSeat → Type 0 = λ s. IsSeatOf c.args.context.now.channels.now s in
-    subst P (sym c.receive.ensures.seat) c.turn.ensures.seat
-
-pub returns-in-Rests-clause-served : goal.returns-in-Rests-clause-served
-returns-in-Rests-clause-served g c =
+pub returns-in-Rests : goal.returns-in-Rests
+returns-in-Rests g c =
     let w = terms_of c.args.context.now.config.now in
     let live = c.args.live.now in
     let mid = c.turn.new.live in
@@ -44,22 +48,45 @@ returns-in-Rests-clause-served g c =
     flushed.outbox flushed.finish in
     let after = carried (g.H.Hears.heard last.reader) (g.W.Says.said last.writer) last.outbox
     last.finish in
-    then_on w live mid c.receive.new.live before between after
-    (served_still w live mid c.in-Rests.ensures.went before between c.flush.ensures.same)
-    (c.receive.ensures.served w)
+    let P : SessionSeat → Type 0 = λ s. IsSeatOf c.args.context.now.channels.now s in
+    record {
+      seat = subst P (sym c.receive.ensures.seat) c.turn.ensures.seat;
+      end = ap end_of c.receive.ensures.seat ∙ c.turn.ensures.end;
+      served = then_on w live mid c.receive.new.live before between after
+          (served_still w live mid c.in-Rests.ensures.went before between c.flush.ensures.same)
+          (c.receive.ensures.served w);
+      ends = lasts_on wire.finish flushed.finish last.finish c.flush.ensures.ends
+          c.receive.ensures.ends;
+      turns = c.receive.ensures.turns ∙ c.tell.ensures.rest.1;
+    }
 
-pub returns-in-Held-clause-served : goal.returns-in-Held-clause-served
-returns-in-Held-clause-served g c =
+-- the gate said no
+pub returns-in-Held : goal.returns-in-Held
+returns-in-Held g c =
     let wire = c.args.wire.now in
     let last = c.stop.new.wire in
-    served_still (terms_of c.args.context.now.config.now) c.args.live.now c.turn.new.live
-    c.in-Held.ensures.went
-    (carried (g.H.Hears.heard wire.reader) (g.W.Says.said wire.writer) wire.outbox wire.finish)
-    (carried (g.H.Hears.heard last.reader) (g.W.Says.said last.writer) last.outbox last.finish)
-    c.stop.ensures.same
+    record {
+      seat = c.turn.ensures.seat;
+      end = c.turn.ensures.end;
+      served = served_still (terms_of c.args.context.now.config.now) c.args.live.now
+          c.turn.new.live c.in-Held.ensures.went
+          (carried (g.H.Hears.heard wire.reader) (g.W.Says.said wire.writer) wire.outbox
+          wire.finish)
+          (carried (g.H.Hears.heard last.reader) (g.W.Says.said last.writer) last.outbox
+          last.finish)
+          c.stop.ensures.same;
+      ends = record {
+        ended = λ none. absurd (stopped_over wire.finish last.finish finishes.Held
+            c.stop.ensures.finish none);
+        unspent = stopped_for wire.finish last.finish finishes.Held finishes.TurnsSpent (λ e. cc)
+            c.stop.ensures.finish;
+        held = λ held. inr (c.in-Held.ensures.held refl);
+      };
+      turns = refl;
+    }
 
-pub returns-in-Memory-clause-served : goal.returns-in-Memory-clause-served
-returns-in-Memory-clause-served g c =
+pub returns-in-Memory : goal.returns-in-Memory
+returns-in-Memory g c =
     let w = terms_of c.args.context.now.config.now in
     let live = c.args.live.now in
     let new = c.turn.new.live in
@@ -72,7 +99,14 @@ returns-in-Memory-clause-served g c =
     flushed.outbox flushed.finish in
     let after = carried (g.H.Hears.heard last.reader) (g.W.Says.said last.writer) last.outbox
     last.finish in
-    then_same w live new before between after
-    (served_still w live new c.in-Memory.ensures.went before between
-    c.flush-in-Memory.ensures.same)
-    c.stop-in-Memory.ensures.same
+    record {
+      seat = c.turn.ensures.seat;
+      end = c.turn.ensures.end;
+      served = then_same w live new before between after
+          (served_still w live new c.in-Memory.ensures.went before between
+          c.flush-in-Memory.ensures.same)
+          c.stop-in-Memory.ensures.same;
+      ends = lasts_on wire.finish flushed.finish last.finish c.flush-in-Memory.ensures.ends
+          (lasts_broken flushed.finish last.finish c.stop-in-Memory.ensures.finish);
+      turns = refl;
+    }
