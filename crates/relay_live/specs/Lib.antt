@@ -9,6 +9,7 @@ pub mod Making
 pub mod Numbers
 pub mod Rounds
 pub mod Sessions
+pub mod Settling
 pub mod Slots
 pub mod Starting
 pub mod Stopping
