@@ -137,10 +137,45 @@ rest_room (rests.Text text) = stuffed_room (length text.now)
 rest_room (rests.Line line) = length line.now + 5
 rest_room (rests.Queue missed items) = item_room * length items.now + 25
 
+-- what the first line of a reply names
+abbrev pub named_of : Reply → Named
+named_of (replies.DateIs digits) = named.Digits digits
+named_of (replies.SendIt id) = named.Id id
+named_of (replies.AskLater id) = named.Id id
+named_of (replies.NotWanted id) = named.Id id
+named_of (replies.Kept id) = named.Id id
+named_of (replies.Rejected id) = named.Id id
+named_of (replies.ArticleFollows id text) = named.Id id
+named_of (replies.HeaderFollows id text) = named.Id id
+named_of (replies.BodyFollows id text) = named.Id id
+named_of (replies.Exists id) = named.Id id
+named_of (replies.TokenFollows token text) = named.Token token
+named_of (replies.TokenGone token) = named.Gone token
+named_of (replies.TokenUnknown token) = named.Unknown token
+named_of reply = named.Nothing
+
+-- what follows the first line of a reply
+abbrev pub rest_of : Reply → Rest
+rest_of (replies.ArticleFollows id text) = rests.Text text
+rest_of (replies.HeaderFollows id text) = rests.Text text
+rest_of (replies.BodyFollows id text) = rests.Text text
+rest_of (replies.TokenFollows token text) = rests.Text text
+rest_of (replies.OverviewFollows line) = rests.Line line
+rest_of (replies.QueueFollows missed items) = rests.Queue missed items
+rest_of reply = rests.Nothing
+
+-- the octets of a reply by the words of its first line, what that names and what follows it
+abbrev pub text_by : (words : List ℕ) → Named → Rest → List ℕ
+text_by words named rest = rest_after (line_of (named_after words named)) rest
+
 -- the octets of a reply by its parts
 abbrev pub text_of : Parts → List ℕ
-text_of parts = rest_after (line_of (named_after parts.words.now parts.named)) parts.rest
+text_of parts = text_by parts.words.now parts.named parts.rest
+
+-- the most octets of a first line by its words and what it names
+abbrev pub first_room_by : (words : List ℕ) → Named → ℕ
+first_room_by words named = length words + named_room named + 2
 
 -- the most octets of a first line
 abbrev pub first_room : Parts → ℕ
-first_room parts = length parts.words.now + named_room parts.named + 2
+first_room parts = first_room_by parts.words.now parts.named

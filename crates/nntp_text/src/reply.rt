@@ -6,8 +6,8 @@ ghost use Rattle.news_terms.specs.Blocks.{stuffed_room};
 ghost use Rattle.news_terms.specs.Reply.{line_of, queue_line, reply_text};
 ghost use Rattle.news_terms.specs.Token.{token_text};
 ghost use Rattle.nntp_text.specs.Reply as terms;
-ghost use Rattle.nntp_text.specs.Reply.{first_room, item_view, named_after, reply_view};
-ghost use Rattle.nntp_text.specs.Reply.{rest_after, room_of, text_of};
+ghost use Rattle.nntp_text.specs.Reply.{first_room, first_room_by, item_view, named_after};
+ghost use Rattle.nntp_text.specs.Reply.{reply_view, rest_after, room_of, text_by, text_of};
 
 use crate::id::MsgId;
 use cyc_token::Token;
@@ -153,43 +153,94 @@ fn parts_of<'a>(reply: &Reply<'a>) -> Parts<'a>
     ensures first { first_room result ≤ terms.reply_room }
     ensures room { first_room result + terms.rest_room result.rest ≤ room_of reply.now }
 {
-    let (words, named, rest): (&'static [u8], _, _) = match *reply {
-        Reply::Greeting => (GREETING, Named::Nothing, Rest::Nothing),
-        Reply::CapabilityList => (CAPABILITIES, Named::Nothing, Rest::Nothing),
-        Reply::HelpText => (HELP, Named::Nothing, Rest::Nothing),
-        Reply::DateIs(digits) => (b"111 ", Named::Digits(digits), Rest::Nothing),
-        Reply::Bye => (b"205 Bye", Named::Nothing, Rest::Nothing),
-        Reply::StreamingPermitted => (b"203 Streaming permitted", Named::Nothing, Rest::Nothing),
-        Reply::PostingProhibited => (b"201 Posting prohibited", Named::Nothing, Rest::Nothing),
-        Reply::SendIt(id) => (b"238 ", Named::Id(id), Rest::Nothing),
-        Reply::AskLater(id) => (b"431 ", Named::Id(id), Rest::Nothing),
-        Reply::NotWanted(id) => (b"438 ", Named::Id(id), Rest::Nothing),
-        Reply::Kept(id) => (b"239 ", Named::Id(id), Rest::Nothing),
-        Reply::Rejected(id) => (b"439 ", Named::Id(id), Rest::Nothing),
-        Reply::NotStored => (b"400 Not stored, closing", Named::Nothing, Rest::Nothing),
-        Reply::IhaveSend => (b"335 Send it", Named::Nothing, Rest::Nothing),
-        Reply::IhaveNotWanted => (b"435 Not wanted", Named::Nothing, Rest::Nothing),
-        Reply::IhaveLater => (b"436 Try again later", Named::Nothing, Rest::Nothing),
-        Reply::IhaveKept => (b"235 Transferred", Named::Nothing, Rest::Nothing),
-        Reply::IhaveRejected => (b"437 Rejected", Named::Nothing, Rest::Nothing),
-        Reply::ArticleFollows(id, text) => (b"220 0 ", Named::Id(id), Rest::Text(text)),
-        Reply::HeaderFollows(id, text) => (b"221 0 ", Named::Id(id), Rest::Text(text)),
-        Reply::BodyFollows(id, text) => (b"222 0 ", Named::Id(id), Rest::Text(text)),
-        Reply::Exists(id) => (b"223 0 ", Named::Id(id), Rest::Nothing),
-        Reply::OverviewFollows(line) => (b"224 Overview follows", Named::Nothing, Rest::Line(line)),
-        Reply::NoArticle => (b"430 No such article", Named::Nothing, Rest::Nothing),
-        Reply::NoGroup => (b"412 No group selected", Named::Nothing, Rest::Nothing),
-        Reply::DeviceFault => (b"403 Device fault", Named::Nothing, Rest::Nothing),
-        Reply::QueueFollows(missed, items) => (QUEUE, Named::Nothing, Rest::Queue(missed, items)),
-        Reply::NoFeed => (b"490 No feed", Named::Nothing, Rest::Nothing),
-        Reply::TokenFollows(token, text) => (b"292 ", Named::Token(token), Rest::Text(text)),
-        Reply::TokenGone(token) => (b"492 ", Named::Gone(token), Rest::Nothing),
-        Reply::TokenUnknown(token) => (b"493 ", Named::Unknown(token), Rest::Nothing),
-        Reply::UnknownCommand => (b"500 Unknown command", Named::Nothing, Rest::Nothing),
-        Reply::SyntaxError => (b"501 Syntax error", Named::Nothing, Rest::Nothing),
-        Reply::LineTooLong => (b"501 Line too long", Named::Nothing, Rest::Nothing),
-    };
-    Parts { words, named, rest }
+    Parts {
+        words: words_of(reply),
+        named: named_of(reply),
+        rest: rest_of(reply),
+    }
+}
+
+/// The words of the first line of a reply.
+fn words_of(reply: &Reply<'_>) -> &'static [u8]
+    ensures text { reply_text (reply_view reply.now)
+        ≡ text_by result.now (terms.named_of reply.now) (terms.rest_of reply.now) }
+    ensures first { first_room_by result.now (terms.named_of reply.now) ≤ terms.reply_room }
+    ensures room { first_room_by result.now (terms.named_of reply.now)
+        + terms.rest_room (terms.rest_of reply.now) ≤ room_of reply.now }
+{
+    match *reply {
+        Reply::Greeting => GREETING,
+        Reply::CapabilityList => CAPABILITIES,
+        Reply::HelpText => HELP,
+        Reply::DateIs(_) => b"111 ",
+        Reply::Bye => b"205 Bye",
+        Reply::StreamingPermitted => b"203 Streaming permitted",
+        Reply::PostingProhibited => b"201 Posting prohibited",
+        Reply::SendIt(_) => b"238 ",
+        Reply::AskLater(_) => b"431 ",
+        Reply::NotWanted(_) => b"438 ",
+        Reply::Kept(_) => b"239 ",
+        Reply::Rejected(_) => b"439 ",
+        Reply::NotStored => b"400 Not stored, closing",
+        Reply::IhaveSend => b"335 Send it",
+        Reply::IhaveNotWanted => b"435 Not wanted",
+        Reply::IhaveLater => b"436 Try again later",
+        Reply::IhaveKept => b"235 Transferred",
+        Reply::IhaveRejected => b"437 Rejected",
+        Reply::ArticleFollows(_, _) => b"220 0 ",
+        Reply::HeaderFollows(_, _) => b"221 0 ",
+        Reply::BodyFollows(_, _) => b"222 0 ",
+        Reply::Exists(_) => b"223 0 ",
+        Reply::OverviewFollows(_) => b"224 Overview follows",
+        Reply::NoArticle => b"430 No such article",
+        Reply::NoGroup => b"412 No group selected",
+        Reply::DeviceFault => b"403 Device fault",
+        Reply::QueueFollows(_, _) => QUEUE,
+        Reply::NoFeed => b"490 No feed",
+        Reply::TokenFollows(_, _) => b"292 ",
+        Reply::TokenGone(_) => b"492 ",
+        Reply::TokenUnknown(_) => b"493 ",
+        Reply::UnknownCommand => b"500 Unknown command",
+        Reply::SyntaxError => b"501 Syntax error",
+        Reply::LineTooLong => b"501 Line too long",
+    }
+}
+
+/// What the first line of a reply names.
+fn named_of<'a>(reply: &Reply<'a>) -> Named<'a>
+    ensures { result ≡ terms.named_of reply.now }
+{
+    match *reply {
+        Reply::DateIs(digits) => Named::Digits(digits),
+        Reply::SendIt(id)
+        | Reply::AskLater(id)
+        | Reply::NotWanted(id)
+        | Reply::Kept(id)
+        | Reply::Rejected(id)
+        | Reply::ArticleFollows(id, _)
+        | Reply::HeaderFollows(id, _)
+        | Reply::BodyFollows(id, _)
+        | Reply::Exists(id) => Named::Id(id),
+        Reply::TokenFollows(token, _) => Named::Token(token),
+        Reply::TokenGone(token) => Named::Gone(token),
+        Reply::TokenUnknown(token) => Named::Unknown(token),
+        _ => Named::Nothing,
+    }
+}
+
+/// What follows the first line of a reply.
+fn rest_of<'a>(reply: &Reply<'a>) -> Rest<'a>
+    ensures { result ≡ terms.rest_of reply.now }
+{
+    match *reply {
+        Reply::ArticleFollows(_, text)
+        | Reply::HeaderFollows(_, text)
+        | Reply::BodyFollows(_, text)
+        | Reply::TokenFollows(_, text) => Rest::Text(text),
+        Reply::OverviewFollows(line) => Rest::Line(line),
+        Reply::QueueFollows(missed, items) => Rest::Queue(missed, items),
+        _ => Rest::Nothing,
+    }
 }
 
 /// The first line of a session, but its end.
