@@ -31,7 +31,7 @@ pub struct BufferConf {
 }
 
 /// The order in which a group fills its buffers.
-#[derive(Clone, Copy, Debug, PartialEq, Eq)]
+#[derive(Clone, Copy)]
 pub enum Mode {
     /// Article by article, one buffer after the other.
     Interleave,

@@ -8,7 +8,7 @@ use std::alloc::{AllocError, AllocFailed};
 /// What is wrong with a line, or with a whole file (docs/FORMATS.md, Configuration). In one line
 /// they are looked for in the order Syntax, UnknownKey, Number, Pattern, Duplicate; UnknownName,
 /// Shared and NoBuffers only after the last line.
-#[derive(Clone, Copy, Debug, PartialEq, Eq)]
+#[derive(Clone, Copy)]
 pub enum Fault {
     /// A line of no form of its file, a word that breaks the grammar of its place, an entry without
     /// its end, a file without what it needs.
@@ -64,14 +64,14 @@ impl Fault {
 }
 
 /// A fault with its line, counted from 1; a fault of the whole file has line 0.
-#[derive(Clone, Copy, Debug, PartialEq, Eq)]
+#[derive(Clone, Copy)]
 pub struct LineFault {
     pub line: usize,
     pub fault: Fault,
 }
 
 /// Why a file gives no settings.
-#[derive(Clone, Copy, Debug, PartialEq, Eq)]
+#[derive(Clone, Copy)]
 pub enum ConfError {
     /// Memory ran out, which says nothing of the file.
     Memory,

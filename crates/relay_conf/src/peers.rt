@@ -88,19 +88,9 @@ pub(crate) fn connected(
 {
     let mut made = Vec::new(alloc);
     for peer in peers {
-        let Peer {
-            name,
-            identity,
-            port,
-            connections: _,
-        } = peer;
-        let connections = connections_for(all, name.as_slice());
-        made.push(Peer {
-            name,
-            identity,
-            port,
-            connections,
-        })?;
+        let mut peer = peer;
+        peer.connections = connections_for(all, peer.name.as_slice());
+        made.push(peer)?;
     }
     Ok(made)
 }

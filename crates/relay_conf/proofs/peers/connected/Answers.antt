@@ -9,7 +9,7 @@ loop-peer-preserved c =
     map_next (connected c.args.all.now) c.loop-peer.made.items c.push.new.self.items
     (into_iter_items c.loop-peer.peer-iterator) (into_iter_items c.next.new.self)
     c.args.peers.items c.in-Some.peer c.in-Some.ensures.steps.0
-    (rw (c.connections_for-connections.ensures, c.as_slice.ensures) at c.in_ok-push.ensures.items)
+    (rw (c.connections_for.ensures, c.as_slice.ensures) at c.in_ok-push.ensures.items)
     c.loop-peer.invariant
 
 pub returns : goal.returns
