@@ -34,22 +34,17 @@ impl Display for Unexplained {
     ghost output = { λ unexplained. Some (explain_text unexplained.error) };
 
     fn fmt<W: fmt::Write>(&self, formatter: &mut Formatter<W>) -> fmt::Result {
-        match &self.error {
-            CheckError::Memory => formatter.write_str("out of memory"),
-            CheckError::Unreadable(file) => write!(
+        let told = &self.error;
+        match told {
+            CheckError::Unreadable(_) => write!(
                 formatter,
-                "{file}: unreadable\nthere is no such file in the folder, or it can't be read"
+                "{told}\nthere is no such file in the folder, or it can't be read"
             ),
-            CheckError::Faulty {
-                file,
-                line,
-                code,
-                name,
-            } => {
+            CheckError::Faulty { file, code, .. } => {
                 let words = fault_words(*file, *code);
-                write!(formatter, "{file}:{line}: {code} {name}\n{words}")
+                write!(formatter, "{told}\n{words}")
             }
-            CheckError::Unwritten => formatter.write_str("stdout: unwritten"),
+            CheckError::Memory | CheckError::Unwritten => Display::fmt(told, formatter),
         }
     }
 }
@@ -60,28 +55,16 @@ impl Error for Unexplained {}
 fn fault_words(file: ConfFile, code: u8) -> &'static str
     ensures { result.now ≡ terms.fault_words file code }
 {
-    if code == 1 {
-        return "the line has no form of its file, or something lacks";
+    match code {
+        1 => "the line has no form of its file, or something lacks",
+        2 => "a first word or a key that the file doesn't know",
+        3 => "a name or a key for the second time",
+        4 => unknown_words(file),
+        5 => "no number, one out of its range, or one line too many of its kind",
+        6 => "an expression over newsgroups that can't be read",
+        7 => "a buffer in two groups, or twice in one",
+        _ => "a group without a buffer, or no group at all",
     }
-    if code == 2 {
-        return "a first word or a key that the file doesn't know";
-    }
-    if code == 3 {
-        return "a name or a key for the second time";
-    }
-    if code == 4 {
-        return unknown_words(file);
-    }
-    if code == 5 {
-        return "no number, one out of its range, or one line too many of its kind";
-    }
-    if code == 6 {
-        return "an expression over newsgroups that can't be read";
-    }
-    if code == 7 {
-        return "a buffer in two groups, or twice in one";
-    }
-    "a group without a buffer, or no group at all"
 }
 
 /// A name that stands for nothing, in words, by the file that has it.

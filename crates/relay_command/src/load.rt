@@ -16,7 +16,7 @@ use std::fs::Files;
 use std::path::Path;
 
 /// The files of a configuration, in the order in which they are read.
-#[derive(Clone, Copy, Debug, PartialEq, Eq)]
+#[derive(Clone, Copy)]
 pub enum ConfFile {
     Cycbuff,
     Storage,
@@ -45,7 +45,7 @@ impl Display for ConfFile {
 }
 
 /// Why a configuration can't be had, or is not told. Its text is what the program prints.
-#[derive(Debug, Drop)]
+#[derive(Drop)]
 pub enum CheckError {
     /// Memory ran out, which says nothing of the configuration.
     Memory,
@@ -77,6 +77,12 @@ impl Display for CheckError {
             } => write!(formatter, "{file}:{line}: {code} {name}"),
             CheckError::Unwritten => formatter.write_str("stdout: unwritten"),
         }
+    }
+}
+
+impl fmt::Debug for CheckError {
+    fn fmt<W: fmt::Write>(&self, formatter: &mut Formatter<W>) -> fmt::Result {
+        Display::fmt(self, formatter)
     }
 }
 
