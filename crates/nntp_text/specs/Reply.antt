@@ -9,11 +9,11 @@ use Rattle.cyc_token.specs.Token.{token_view}
 use Rattle.cyc_token.specs.declared.Token.{Token}
 use Rattle.nntp_text.specs.declared.reply.Reply.{Reply}
 use Rattle.nntp_text.specs.declared.reply.Reply.TheVariants as replies
-use Rattle.nntp_text.specs.declared.reply.Named.{Named}
-use Rattle.nntp_text.specs.declared.reply.Named.TheVariants as named
-use Rattle.nntp_text.specs.declared.reply.Rest.{Rest}
-use Rattle.nntp_text.specs.declared.reply.Rest.TheVariants as rests
-use Rattle.nntp_text.specs.declared.reply.Parts.{Parts}
+use Rattle.nntp_text.specs.declared.parts.Named.{Named}
+use Rattle.nntp_text.specs.declared.parts.Named.TheVariants as named
+use Rattle.nntp_text.specs.declared.parts.Rest.{Rest}
+use Rattle.nntp_text.specs.declared.parts.Rest.TheVariants as rests
+use Rattle.nntp_text.specs.declared.parts.Parts.{Parts}
 
 -- an item of a queue as the definitions have it: its serial number and its token
 abbrev pub item_view : ℕ × Token → ℕ × token_terms.Token

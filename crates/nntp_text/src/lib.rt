@@ -8,6 +8,7 @@
 mod command;
 mod id;
 mod keyword;
+mod parts;
 mod reply;
 mod words;
 

@@ -3,10 +3,10 @@ use Rattle.std.proofs.Common.{append_assoc, length-append}
 use Rattle.std.specs.Prelude.{codes}
 use Rattle.news_terms.specs.Reply.{line_of}
 use Rattle.nntp_text.specs.Reply.{named_after, rest_after, text_of}
-use Rattle.nntp_text.specs.declared.reply.Named.{Named}
-use Rattle.nntp_text.specs.declared.reply.Named.TheVariants as named
-use Rattle.nntp_text.specs.declared.reply.Rest.{Rest}
-use Rattle.nntp_text.specs.declared.reply.Rest.TheVariants as rests
+use Rattle.nntp_text.specs.declared.parts.Named.{Named}
+use Rattle.nntp_text.specs.declared.parts.Named.TheVariants as named
+use Rattle.nntp_text.specs.declared.parts.Rest.{Rest}
+use Rattle.nntp_text.specs.declared.parts.Rest.TheVariants as rests
 use Rattle.nntp_text.proofs.reply.put_parts.Goals as goal
 
 pub put_octets-requires-2 : goal.put_octets-requires-2
