@@ -1,13 +1,16 @@
 //! Reading the program's words (docs/PROTOCOL.md, Commands).
-ghost use Rattle.std.specs.Prelude.{◌≡◌, bytes_eq, false, map, string_bytes, None, Some, IfOk};
+ghost use Rattle.std.specs.Prelude.{◌≡◌, bytes_eq, codes, false, map, string_bytes, None, Some};
+ghost use Rattle.std.specs.Prelude.{IfOk};
 ghost use Rattle.clap.specs.Words.{App, Rule, found_of, new_app, rows_of, rule_of};
 ghost use Rattle.clap.specs.Words.{subcommand_rows_of, with_rule, with_subcommand};
 ghost use Rattle.relay_command.specs.CommandLine.{Reads, ReadsWords, asked, asked_by};
 ghost use Rattle.relay_command.specs.CommandLine.{word_given, check_words, drill_words};
-ghost use Rattle.relay_command.specs.CommandLine.{explains_by, fresh_given, fresh_rule};
-ghost use Rattle.relay_command.specs.CommandLine.{serves_by, sessions_given, sessions_rule};
+ghost use Rattle.relay_command.specs.CommandLine.{Drills, Explains, Serves};
+ghost use Rattle.relay_command.specs.CommandLine.{fresh_given, fresh_rule};
+ghost use Rattle.relay_command.specs.CommandLine.{sessions_given, sessions_rule};
 ghost use Rattle.relay_command.specs.CommandLine.{needed, program_words, report_words, serve_words};
 ghost use Rattle.relay_command.specs.CommandLine.{stop_words, token_words, version_words};
+ghost use Rattle.relay_command.specs.Questions.{question_given};
 
 use crate::question::{Question, explain, question_in};
 use crate::version::VERSION;
@@ -99,54 +102,59 @@ fn job_named(alloc: Global, name: &str, given: &ArgMatches<'_>) -> Result<Job, A
     ensures { IfOk result (λ job. asked job
         ≡ asked_by (Some (name.now, rows_of (found_of given.now)))) }
 {
-    if is(name, "check") {
-        return Ok(Job::Check(word(alloc, given, "DIR")?));
-    }
-    if is(name, "explain") {
-        return explanation(alloc, given);
-    }
     if is(name, "token") {
         return Ok(Job::Token(word(alloc, given, "TEXT")?));
     }
+    let folder = word(alloc, given, "DIR")?;
+    if is(name, "check") {
+        return Ok(Job::Check(folder));
+    }
+    if is(name, "explain") {
+        return explanation(alloc, given, folder);
+    }
     if is(name, "serve") {
-        return service(alloc, given);
+        return Ok(service(given, folder));
     }
     if is(name, "stop") {
-        return Ok(Job::Stop(word(alloc, given, "DIR")?));
+        return Ok(Job::Stop(folder));
     }
     if is(name, "report") {
-        return Ok(Job::Report(word(alloc, given, "DIR")?));
+        return Ok(Job::Report(folder));
     }
-    Ok(Job::Drill {
-        folder: word(alloc, given, "DIR")?,
-        script: word(alloc, given, "SCRIPT")?,
-    })
+    drilling(alloc, given, folder)
 }
 
-/// What `serve` asks for, with what was given for its words.
-fn service(alloc: Global, given: &ArgMatches<'_>) -> Result<Job, AllocError>
-    ensures { IfOk result (λ job. asked job ≡ serves_by (rows_of (found_of given.now))) }
+/// What `drill` asks for in this folder, with what was given for its words.
+fn drilling(alloc: Global, given: &ArgMatches<'_>, folder: String) -> Result<Job, AllocError>
+    ensures { IfOk result (λ job. asked job ≡ Drills (string_bytes folder)
+        (word_given (codes "SCRIPT") (rows_of (found_of given.now)))) }
 {
-    let folder = word(alloc, given, "DIR")?;
+    let script = word(alloc, given, "SCRIPT")?;
+    Ok(Job::Drill { folder, script })
+}
+
+/// What `serve` asks for in this folder, with what was given for its words.
+fn service(given: &ArgMatches<'_>, folder: String) -> Job
+    ensures { asked result ≡ Serves (string_bytes folder)
+        (sessions_given (rows_of (found_of given.now)))
+        (fresh_given (rows_of (found_of given.now))) }
+{
     let sessions = sessions(given);
     let fresh = fresh(given);
-    Ok(Job::Serve {
+    Job::Serve {
         folder,
         sessions,
         fresh,
-    })
+    }
 }
 
-/// What `explain` asks for, with what was given for its words.
-fn explanation(alloc: Global, given: &ArgMatches<'_>) -> Result<Job, AllocError>
-    ensures { IfOk result (λ job. asked job ≡ explains_by (rows_of (found_of given.now))) }
+/// What `explain` asks for in this folder, with what was given for its words.
+fn explanation(alloc: Global, given: &ArgMatches<'_>, folder: String) -> Result<Job, AllocError>
+    ensures { IfOk result (λ job. asked job ≡ Explains (string_bytes folder)
+        (question_given (rows_of (found_of given.now)))) }
 {
     let question = question_in(alloc, given)?;
-    let named = word(alloc, given, "DIR")?;
-    Ok(Job::Explain {
-        folder: named,
-        question,
-    })
+    Ok(Job::Explain { folder, question })
 }
 
 /// How many connections each port is to serve, where a number was given.
