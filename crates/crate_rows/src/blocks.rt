@@ -6,11 +6,10 @@ use cyc_block::{BLOCK_OCTETS, CHUNK_OCTETS, Stamp, block_image, read_image};
 use row_text::{Cells, Sheet, place_of};
 
 /// Writes the answer of a call.
-pub fn answer(call: &[u8], cells: &[Vec<u8>], sheet: &mut Sheet) {
-    let mut cells = Cells::new(cells);
+pub fn answer(call: &[u8], cells: &mut Cells<'_>, sheet: &mut Sheet) {
     match place_of("image_read image_write", call) {
-        Some(0) => put_image(&mut cells, sheet),
-        Some(_) => put_image_of(&mut cells, sheet),
+        Some(0) => put_image(cells.next(), sheet),
+        Some(_) => put_image_of(cells, sheet),
         None => sheet.refuse(),
     }
 }
@@ -18,24 +17,22 @@ pub fn answer(call: &[u8], cells: &[Vec<u8>], sheet: &mut Sheet) {
 /// Writes the image of the block with the stamp of five cells and the payload of the last one.
 fn put_image_of(cells: &mut Cells<'_>, sheet: &mut Sheet) {
     let stamp = Stamp {
-        cycle: number(cells, sheet),
-        first: number(cells, sheet),
-        index: number(cells, sheet),
-        article_length: number(cells, sheet),
-        class: octet(cells, sheet),
+        cycle: number(cells),
+        first: number(cells),
+        index: number(cells),
+        article_length: number(cells),
+        class: octet(cells),
     };
-    let payload = cells.next(sheet);
-    cells.end(sheet);
+    let payload = cells.next();
     if payload.is_empty() || payload.len() > CHUNK_OCTETS {
         return sheet.refuse();
     }
-    put_block(&block_image(&stamp, payload), sheet);
+    let block = block_image(&stamp, payload);
+    sheet.cell(block.get(..end_of(&block)).unwrap_or(b""));
 }
 
 /// Writes the stamp and the payload of the image that a block has, or that it has none.
-fn put_image(cells: &mut Cells<'_>, sheet: &mut Sheet) {
-    let octets = cells.next(sheet);
-    cells.end(sheet);
+fn put_image(octets: &[u8], sheet: &mut Sheet) {
     match read_image(&block_of(octets, sheet)) {
         Some(image) => {
             sheet.debug(&image.stamp);
@@ -54,12 +51,4 @@ fn block_of(octets: &[u8], sheet: &mut Sheet) -> [u8; BLOCK_OCTETS] {
     }
     block[..octets.len()].copy_from_slice(octets);
     block
-}
-
-/// Writes the octets of a block, but for the zeros at its end.
-fn put_block(block: &[u8; BLOCK_OCTETS], sheet: &mut Sheet) {
-    match block.get(..end_of(block)) {
-        Some(octets) => sheet.cell(octets),
-        None => sheet.refuse(),
-    }
 }

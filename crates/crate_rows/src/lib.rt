@@ -51,8 +51,13 @@ impl<D: Device> Answers for Rows<D> {
     fn answer(&mut self, call: &[u8], cells: &[Vec<u8>], sheet: &mut Sheet) {
         if is(call, b"part") {
             self.begin(cells, sheet);
+        } else if is(call, b"text") && !matches!(self.part, Part::Stops) {
+            self.name(cells, sheet);
         } else {
-            self.put(call, cells, sheet);
+            let meant = self.names.meant(cells, sheet);
+            let mut cells = Cells::new(&meant);
+            self.put(call, &mut cells, sheet);
+            cells.end(sheet);
         }
         // Of want of memory nothing is expected, so that no answer may stand in its place.
         if says_memory(sheet.octets()) {
@@ -74,14 +79,13 @@ impl<D: Device> Rows<D> {
         }
     }
 
-    /// Writes the answer of a call of the part.
-    fn put(&mut self, call: &[u8], cells: &[Vec<u8>], sheet: &mut Sheet) {
-        if matches!(self.part, Part::Stops) {
-            self.stops.put_answer(call, &mut Cells::new(cells), sheet);
-        } else if is(call, b"text") {
-            self.name(cells, sheet);
-        } else {
-            self.put_meant(call, &self.names.meant(cells, sheet), sheet);
+    /// Writes the answer of a call of the part, of cells in which no text has a name.
+    fn put(&mut self, call: &[u8], cells: &mut Cells<'_>, sheet: &mut Sheet) {
+        match self.part {
+            Part::Texts => texts::answer(call, cells, sheet),
+            Part::Blocks => blocks::answer(call, cells, sheet),
+            Part::Sessions => sessions::answer(self.hasher, call, cells, sheet),
+            Part::Stops => self.stops.put_answer(call, cells, sheet),
         }
     }
 
@@ -93,16 +97,6 @@ impl<D: Device> Rows<D> {
         let octets = joined(&self.names.meant(parts, sheet), sheet);
         sheet.number(octets.len() as u64);
         self.names.name(copy_of(name, sheet), octets, sheet);
-    }
-
-    /// Writes the answer of a call of cells in which no text has a name.
-    fn put_meant(&self, call: &[u8], cells: &[Vec<u8>], sheet: &mut Sheet) {
-        match self.part {
-            Part::Texts => texts::answer(call, cells, sheet),
-            Part::Blocks => blocks::answer(call, cells, sheet),
-            Part::Sessions => sessions::answer(self.hasher, call, cells, sheet),
-            Part::Stops => sheet.refuse(),
-        }
     }
 }
 

@@ -5,7 +5,7 @@ use id_history::{Offer, Take};
 use line_words::is;
 use peer_session::{Answer, Outcome, Session};
 use relay_conf::Config;
-use row_text::{Sheet, place_of};
+use row_text::{Cells, Sheet, place_of};
 use std::hash::RandomState;
 
 /// The number of the session.
@@ -16,16 +16,13 @@ const MOMENT: u64 = 1_609_459_200;
 
 /// Writes the answer of a call: what a session of the first peer of K1 says that is sent this line,
 /// and whose steps hear these answers in turn.
-pub fn answer(hasher: RandomState, call: &[u8], cells: &[Vec<u8>], sheet: &mut Sheet) {
-    let [line, answers @ ..] = cells else {
-        return sheet.refuse();
-    };
+pub fn answer(hasher: RandomState, call: &[u8], cells: &mut Cells<'_>, sheet: &mut Sheet) {
     if !is(call, b"ask") {
         return sheet.refuse();
     }
     match Config::k1(sheet.alloc) {
         Ok(config) => {
-            ask(hasher, &config, line, answers, sheet);
+            ask(hasher, &config, cells.next(), cells.rest(), sheet);
             drop(config);
         }
         Err(_) => sheet.lack(),
@@ -63,23 +60,18 @@ fn put_turns(session: &mut Session, config: &Config, answers: &[Vec<u8>], sheet:
     }
 }
 
-/// Writes what is said in one turn, whose step hears the answer of this place: the octets, or
+/// Plans a step, and writes what is said once it hears the answer of this place: the octets, or
 /// `nothing`.
 fn put_turn(session: &mut Session, config: &Config, place: usize, sheet: &mut Sheet) {
-    plan(session, config, sheet);
+    match session.plan(config, MOMENT) {
+        Ok(step) => drop(step),
+        Err(_) => sheet.lack(),
+    }
     let said = session.absorb(NUMBER, answer_at(place));
     if said.is_empty() {
         sheet.next(b"nothing");
     } else {
         sheet.next(&said);
-    }
-}
-
-/// A session plans a step.
-fn plan(session: &mut Session, config: &Config, sheet: &mut Sheet) {
-    match session.plan(config, MOMENT) {
-        Ok(step) => drop(step),
-        Err(_) => sheet.lack(),
     }
 }
 

@@ -1,19 +1,36 @@
 //! Lists of names and of texts.
 
 use crate::sheet::Sheet;
-use line_words::is;
+use line_words::{cut, is};
 
 /// The place of a name in a list of names between single spaces. So a further name is a number
 /// more to match; of a `match` over texts each name is a comparison to prove.
 pub fn place_of(names: &str, name: &[u8]) -> Option<usize> {
     let mut place = 0usize;
-    for known in names.split(' ') {
-        if is(known.as_bytes(), name) {
+    let mut unread = Some(names.as_bytes());
+    while let Some(rest) = unread {
+        let (known, after) = cut(rest, b' ');
+        if is(known, name) {
             return Some(place);
         }
         place = place.saturating_add(1);
+        unread = after;
     }
     None
+}
+
+/// The parts of a text between octets of one value, none where there is no text.
+pub fn parts_of<'a>(text: Option<&'a [u8]>, octet: u8, sheet: &mut Sheet) -> Vec<&'a [u8]> {
+    let mut parts = Vec::new(sheet.alloc);
+    let mut unread = text;
+    while let Some(rest) = unread {
+        let (part, after) = cut(rest, octet);
+        if parts.push(part).is_err() {
+            sheet.lack();
+        }
+        unread = after;
+    }
+    parts
 }
 
 /// A copy of these octets, empty where memory ran out.

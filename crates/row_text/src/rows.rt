@@ -1,6 +1,7 @@
 //! Playing the rows of a text.
 
 use crate::cell::octets_of;
+use crate::lists::parts_of;
 use crate::sheet::Sheet;
 use line_words::{cut, is_skipped};
 use std::io;
@@ -60,7 +61,7 @@ fn print(rt: &HostRuntime, sheet: &Sheet) -> io::Result<()> {
 
 /// Writes lines with their answers, up to where memory runs out.
 fn put_all<A: Answers>(answers: &mut A, lines: &[u8], sheet: &mut Sheet) {
-    for line in lines.split(|octet| *octet == b'\n') {
+    for line in &parts_of(Some(lines), b'\n', sheet) {
         put_line(answers, line, sheet);
         if sheet.is_spoilt() {
             return;
@@ -92,11 +93,9 @@ fn put_answer<A: Answers>(answers: &mut A, row: &[u8], sheet: &mut Sheet) {
 /// The octets of the cells that follow a call.
 fn cells_of(rest: Option<&[u8]>, sheet: &mut Sheet) -> Vec<Vec<u8>> {
     let mut cells = Vec::new(sheet.alloc);
-    if let Some(rest) = rest {
-        for word in rest.split(|octet| *octet == b' ') {
-            if cells.push(octets_of(word, sheet)).is_err() {
-                sheet.lack();
-            }
+    for word in &parts_of(rest, b' ', sheet) {
+        if cells.push(octets_of(word, sheet)).is_err() {
+            sheet.lack();
         }
     }
     cells

@@ -87,6 +87,19 @@ impl Sheet {
         self.number(number);
     }
 
+    /// Writes a text with these numbers in the places of its `#`.
+    pub fn filled(&mut self, text: &[u8], numbers: &[u64]) {
+        let mut place = 0usize;
+        for octet in text {
+            if *octet == b'#' {
+                self.number(numbers.get(place).copied().unwrap_or(0));
+                place = place.saturating_add(1);
+            } else {
+                self.put(&[*octet]);
+            }
+        }
+    }
+
     /// Writes a value as its `Debug` does.
     pub fn debug<T: Debug>(&mut self, value: &T) {
         if write!(self, "{value:?}").is_err() {

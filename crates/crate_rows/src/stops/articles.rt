@@ -19,73 +19,69 @@ pub(crate) enum End {
 
 /// What is stored: an article of a class and of so many octets.
 #[derive(Clone, Copy)]
-struct Size {
+struct Stored {
     class: u8,
     octets: u32,
+    /// It begins a cycle.
+    is_fresh: bool,
+    /// So many of its blocks are written.
+    blocks: u64,
+    end: End,
 }
 
 impl<D: Device> Bench<D> {
     /// Writes the token under which an article is stored, or why it isn't.
     pub(crate) fn store(&mut self, cells: &mut Cells<'_>, sheet: &mut Sheet) {
-        let size = size_in(cells, sheet);
-        let is_fresh = !cells.rest().is_empty();
-        if is_fresh && !is(cells.next(sheet), b"fresh") {
-            sheet.refuse();
+        let class = octet(cells);
+        let octets = number(cells);
+        let is_fresh = cells.has_more();
+        if is_fresh && !is(cells.next(), b"fresh") {
+            return sheet.refuse();
         }
-        cells.end(sheet);
-        let blocks = u64::from(size.octets).div_ceil(CHUNK_OCTETS as u64);
-        self.put_article(size, is_fresh, blocks, End::Finished, sheet);
+        let stored = Stored {
+            class,
+            octets,
+            is_fresh,
+            blocks: u64::from(octets).div_ceil(CHUNK_OCTETS as u64),
+            end: End::Finished,
+        };
+        self.put_article(stored, sheet);
     }
 
     /// Writes the token of an article of which so many blocks are written, and then no more.
     pub(crate) fn leave(&mut self, cells: &mut Cells<'_>, end: End, sheet: &mut Sheet) {
-        let size = size_in(cells, sheet);
-        let blocks = cells.number(u64::MAX, sheet);
-        cells.end(sheet);
-        self.put_article(size, false, blocks, end, sheet);
+        let stored = Stored {
+            class: octet(cells),
+            octets: number(cells),
+            is_fresh: false,
+            blocks: cells.number(u64::MAX),
+            end,
+        };
+        self.put_article(stored, sheet);
     }
 
     /// Begins an article, writes so many of its blocks, ends it so, and writes its token.
-    fn put_article(
-        &mut self,
-        size: Size,
-        is_fresh: bool,
-        blocks: u64,
-        end: End,
-        sheet: &mut Sheet,
-    ) {
-        let text = text_of(size.class, size.octets, sheet);
-        if size.octets == 0 || sheet.is_spoilt() {
-            return sheet.refuse();
-        }
+    fn put_article(&mut self, stored: Stored, sheet: &mut Sheet) {
         let Bench::Running(buffer) = self else {
             return sheet.refuse();
         };
-        match buffer.begin(size.class, size.octets, is_fresh) {
-            Ok(open) => write_article(buffer, open, &text, blocks, end, sheet),
+        if stored.octets == 0 {
+            return sheet.refuse();
+        }
+        match buffer.begin(stored.class, stored.octets, stored.is_fresh) {
+            Ok(open) => write_article(buffer, open, stored, sheet),
             Err(error) => sheet.debug(&error),
         }
     }
 
     /// Writes what is read of the article under a token.
     pub(crate) fn read(&mut self, cells: &mut Cells<'_>, sheet: &mut Sheet) {
-        let Ok(token) = Token::parse(cells.next(sheet)) else {
-            return sheet.refuse();
-        };
-        cells.end(sheet);
-        if sheet.is_spoilt() || self.buffer().is_none() {
-            return sheet.refuse();
-        }
-        let text = text_of(token.class, token.length, sheet);
-        self.compare(&token, &text, sheet);
-    }
-
-    /// The buffer, where there is one.
-    fn buffer(&self) -> Option<&Buffer<D>> {
-        match self {
-            Bench::Running(buffer) => Some(buffer),
-            Bench::Unopened(buffer) => Some(buffer.buffer()),
-            _ => None,
+        match Token::parse(cells.next()) {
+            Ok(token) => {
+                let text = text_of(token.class, token.length, sheet);
+                self.compare(&token, &text, sheet);
+            }
+            Err(_) => sheet.refuse(),
         }
     }
 
@@ -122,40 +118,32 @@ impl<D: Device> Bench<D> {
     }
 
     /// Writes the numbers of a buffer.
-    pub(crate) fn put_numbers(&self, cells: &Cells<'_>, sheet: &mut Sheet) {
-        cells.end(sheet);
-        match self.buffer() {
-            Some(buffer) => {
-                sheet.numbered(b"blocks ", u64::from(buffer.blocks()));
-                sheet.numbered(b" cycle ", u64::from(buffer.cycle()));
-                sheet.numbered(b" front ", buffer.front());
-                sheet.numbered(b" begun ", buffer.begun());
-                sheet.numbered(b" stored ", buffer.stored());
-            }
-            None => sheet.refuse(),
+    pub(crate) fn put_numbers(&self, sheet: &mut Sheet) {
+        match self {
+            Bench::Running(buffer) => put_numbers(buffer, sheet),
+            Bench::Unopened(buffer) => put_numbers(buffer.buffer(), sheet),
+            _ => sheet.refuse(),
         }
     }
 }
 
-/// The article that the next two cells name.
-fn size_in(cells: &mut Cells<'_>, sheet: &mut Sheet) -> Size {
-    Size {
-        class: octet(cells, sheet),
-        octets: number(cells, sheet),
-    }
+/// Writes the numbers of a buffer.
+fn put_numbers<D: Device>(buffer: &Buffer<D>, sheet: &mut Sheet) {
+    let numbers = [
+        u64::from(buffer.blocks()),
+        u64::from(buffer.cycle()),
+        buffer.front(),
+        buffer.begun(),
+        buffer.stored(),
+    ];
+    sheet.filled(b"blocks # cycle # front # begun # stored #", &numbers);
 }
 
 /// Writes so many blocks of an article that was begun, ends it so, and writes its token.
-fn write_article<D: Device>(
-    buffer: &mut Buffer<D>,
-    open: Open,
-    text: &[u8],
-    blocks: u64,
-    end: End,
-    sheet: &mut Sheet,
-) {
-    if write_blocks(buffer, &open, text, blocks, sheet) {
-        sheet.put(&ended(buffer, open, end).to_text());
+fn write_article<D: Device>(buffer: &mut Buffer<D>, open: Open, stored: Stored, sheet: &mut Sheet) {
+    let text = text_of(stored.class, stored.octets, sheet);
+    if write_blocks(buffer, &open, &text, stored.blocks, sheet) {
+        sheet.put(&ended(buffer, open, stored.end).to_text());
     } else {
         buffer.abandon(open);
     }

@@ -59,9 +59,7 @@ impl<D: Device> Bench<D> {
 
     /// Makes a device of so many blocks of zeros.
     pub fn make(&mut self, cells: &mut Cells<'_>, sheet: &mut Sheet) {
-        let blocks = number(cells, sheet);
-        cells.end(sheet);
-        if let Some(device) = zeros(blocks, sheet) {
+        if let Some(device) = zeros(number(cells), sheet) {
             sheet.put(b"made");
             self.set(Bench::Stopped(device));
         }
@@ -70,11 +68,13 @@ impl<D: Device> Bench<D> {
     /// Makes a buffer of the number and at the cycle that the cells say, over a device of so many
     /// blocks, of which a call fails where one is named.
     pub fn format(&mut self, cells: &mut Cells<'_>, sheet: &mut Sheet) {
-        let blocks = number(cells, sheet);
-        let buffer = octet(cells, sheet);
-        let cycle = number(cells, sheet);
-        let failing = failing_in(cells, sheet);
-        cells.end(sheet);
+        let blocks = number(cells);
+        let buffer = octet(cells);
+        let cycle = number(cells);
+        let mut failing = 0;
+        if cells.has_more() {
+            failing = cells.number(u64::MAX);
+        }
         if let Some(device) = zeros(blocks, sheet) {
             self.set(formatted(device, failing, buffer, cycle, sheet));
         }
@@ -82,12 +82,8 @@ impl<D: Device> Bench<D> {
 
     /// The call of the device of this number fails; with 0 none does.
     pub fn fail(&mut self, cells: &mut Cells<'_>, sheet: &mut Sheet) {
-        let call = cells.number(u64::MAX, sheet);
-        cells.end(sheet);
-        if !sheet.is_spoilt() {
-            self.arm(call);
-            sheet.put(b"armed");
-        }
+        self.arm(cells.number(u64::MAX));
+        sheet.put(b"armed");
     }
 
     /// From here the call of the device of this number fails; but for a buffer whose head isn't
@@ -102,28 +98,17 @@ impl<D: Device> Bench<D> {
 }
 
 /// The number up to 2^32 - 1 that the next cell writes.
-pub(crate) fn number(cells: &mut Cells<'_>, sheet: &mut Sheet) -> u32 {
-    cells.number(4_294_967_295, sheet) as u32
+pub(crate) fn number(cells: &mut Cells<'_>) -> u32 {
+    cells.number(4_294_967_295) as u32
 }
 
 /// The number up to 255 that the next cell writes.
-pub(crate) fn octet(cells: &mut Cells<'_>, sheet: &mut Sheet) -> u8 {
-    cells.number(255, sheet) as u8
+pub(crate) fn octet(cells: &mut Cells<'_>) -> u8 {
+    cells.number(255) as u8
 }
 
-/// The number of the call that fails, 0 where no further cell names one.
-fn failing_in(cells: &mut Cells<'_>, sheet: &mut Sheet) -> u64 {
-    if cells.rest().is_empty() {
-        return 0;
-    }
-    cells.number(u64::MAX, sheet)
-}
-
-/// A device of so many blocks of zeros, where the row has an answer.
+/// A device of so many blocks of zeros.
 fn zeros<D: Device>(blocks: u32, sheet: &mut Sheet) -> Option<D> {
-    if sheet.is_spoilt() {
-        return None;
-    }
     match D::zeros(sheet.alloc, blocks) {
         Ok(device) => Some(device),
         Err(_) => {
@@ -148,16 +133,11 @@ fn formatted<D: Device>(
             Bench::Running(buffer)
         }
         Err(refused) => {
-            put_format_error(refused.error, sheet);
+            match refused.error {
+                FormatError::Memory => sheet.lack(),
+                FormatError::Device => sheet.put(b"Device"),
+            }
             Bench::Stopped(refused.store)
         }
-    }
-}
-
-/// Writes why a buffer isn't made.
-fn put_format_error(error: FormatError, sheet: &mut Sheet) {
-    match error {
-        FormatError::Memory => sheet.lack(),
-        FormatError::Device => sheet.put(b"Device"),
     }
 }

@@ -3,7 +3,7 @@ ghost use Rattle.std.specs.Prelude.{◌<◌};
 
 use crate::stops::bench::{Bench, Device, number, octet};
 use crate::stops::runs::Runs;
-use crate::stops::steps::Step;
+use crate::stops::steps::{Step, start_in};
 use cyc_block::{BLOCK_OCTETS, BlockStore, head_count};
 use hex::FromHexError;
 use row_text::{Cells, Sheet, place_of};
@@ -18,141 +18,102 @@ enum Block {
 
 /// What is done to the octets of a block at a place.
 #[derive(Clone, Copy)]
-enum Change {
+pub(crate) enum Change {
     /// The bits of a mask are turned in the octet there.
     Turn(u8),
-    /// From there on are zeros.
+    /// They end there: a block has zeros from there on.
     Cut,
 }
 
 impl<D: Device> Bench<D> {
-    /// Writes the octets of a block but for the zeros at its end.
-    pub(crate) fn put_octets(&mut self, cells: &mut Cells<'_>, sheet: &mut Sheet) {
+    /// Writes the answer of the call of this place, which is of the block that two cells name.
+    pub(crate) fn put_of_block(&mut self, place: usize, cells: &mut Cells<'_>, sheet: &mut Sheet) {
         let block = block_in(cells, sheet);
-        cells.end(sheet);
+        match place {
+            9 => self.put_octets(block, sheet),
+            10 => self.change(block, cells, sheet),
+            11 => self.walk(block, Change::Turn(octet(cells)), start_in(cells), sheet),
+            _ => self.walk(block, Change::Cut, start_in(cells), sheet),
+        }
+    }
+
+    /// Writes the octets of a block but for the zeros at its end.
+    fn put_octets(&mut self, block: Block, sheet: &mut Sheet) {
         let octets = self.octets_of(block, sheet);
         put_hex(octets.get(..end_of(&octets)).unwrap_or(b""), sheet);
     }
 
     /// Puts octets into a block from a place on.
-    pub(crate) fn change(&mut self, cells: &mut Cells<'_>, sheet: &mut Sheet) {
-        let block = block_in(cells, sheet);
-        let place = number(cells, sheet) as usize;
-        let other = octets_by(cells.next(sheet), sheet);
-        cells.end(sheet);
+    fn change(&mut self, block: Block, cells: &mut Cells<'_>, sheet: &mut Sheet) {
+        let place = number(cells) as usize;
+        let other = octets_by(cells.next(), sheet);
         let mut octets = self.octets_of(block, sheet);
-        put_at(&mut octets, place, &other, sheet);
+        match octets.get_mut(place..place.saturating_add(other.len())) {
+            Some(part) => part.copy_from_slice(&other),
+            None => return sheet.refuse(),
+        }
         self.put_block(block, &octets, sheet);
         sheet.put(b"put");
     }
 
-    /// Writes what a start answers with a mask's bits turned in each octet of a block in turn.
-    pub(crate) fn put_changes(&mut self, cells: &mut Cells<'_>, sheet: &mut Sheet) {
-        let block = block_in(cells, sheet);
-        let change = Change::Turn(octet(cells, sheet));
-        self.walk(block, change, cells, sheet);
-    }
-
-    /// Writes what a start answers with zeros from each octet of a block on in turn.
-    pub(crate) fn put_cuts(&mut self, cells: &mut Cells<'_>, sheet: &mut Sheet) {
-        let block = block_in(cells, sheet);
-        self.walk(block, Change::Cut, cells, sheet);
-    }
-
-    /// Writes what the start that the cells name answers with this change at each octet of a block
-    /// in turn. The block is then as it was.
-    fn walk(&mut self, block: Block, change: Change, cells: &mut Cells<'_>, sheet: &mut Sheet) {
-        let buffer = octet(cells, sheet);
-        let cycle = number(cells, sheet);
-        cells.end(sheet);
+    /// Writes what a start answers with this change at each octet of a block in turn. The block is
+    /// then as it was.
+    fn walk(&mut self, block: Block, change: Change, start: Step, sheet: &mut Sheet) {
         let octets = self.octets_of(block, sheet);
         if sheet.is_spoilt() {
             return;
         }
         let mut runs = Runs::new(sheet.alloc);
+        let mut unread = Sheet::new(sheet.alloc);
         for place in 0..BLOCK_OCTETS {
             let mut said = Sheet::new(sheet.alloc);
             self.put_block(block, &changed(&octets, place, change), &mut said);
-            self.take_step(Step::Start(buffer, cycle), &mut said);
-            self.stop_again();
+            self.take_step(start, &mut said);
+            self.take_step(Step::Leave, &mut unread);
             runs.add(place as u64, said.onto(sheet), sheet);
         }
         runs.end(sheet);
         self.put_block(block, &octets, sheet);
     }
 
-    /// A buffer that was started is left again.
-    fn stop_again(&mut self) {
-        let after = match self.take() {
-            Bench::Unopened(buffer) => Bench::Stopped(buffer.into_store()),
-            other => other,
-        };
-        self.set(after);
-    }
-
     /// The octets of a block; where there is none, the row has no answer.
     fn octets_of(&mut self, block: Block, sheet: &mut Sheet) -> [u8; BLOCK_OCTETS] {
         let mut octets = [0; BLOCK_OCTETS];
-        match self {
-            Bench::Stopped(device) => read_block(device, block, &mut octets, sheet),
-            _ => sheet.refuse(),
+        let Bench::Stopped(device) = self else {
+            sheet.refuse();
+            return octets;
+        };
+        let count = device.count();
+        let is_read = match block {
+            Block::Head(k) => k < head_count(count) && device.read_head(k, &mut octets).is_ok(),
+            Block::Data(k) => k < count && device.read(k, &mut octets).is_ok(),
+        };
+        if !is_read {
+            sheet.refuse();
         }
         octets
     }
 
-    /// Puts octets into a block, where the row has an answer; where there is no such block, it has
-    /// none.
+    /// Puts octets into a block; where there is none, the row has no answer.
     fn put_block(&mut self, block: Block, octets: &[u8; BLOCK_OCTETS], sheet: &mut Sheet) {
-        if sheet.is_spoilt() {
-            return;
+        let Bench::Stopped(device) = self else {
+            return sheet.refuse();
+        };
+        let count = device.count();
+        let is_written = match block {
+            Block::Head(k) => k < head_count(count) && device.write_head(k, octets).is_ok(),
+            Block::Data(k) => k < count && device.write(k, octets).is_ok(),
+        };
+        if !is_written {
+            sheet.refuse();
         }
-        match self {
-            Bench::Stopped(device) => write_block(device, block, octets, sheet),
-            _ => sheet.refuse(),
-        }
-    }
-}
-
-/// Reads a block of a device; where there is none, the row has no answer.
-fn read_block<D: Device>(
-    device: &mut D,
-    block: Block,
-    octets: &mut [u8; BLOCK_OCTETS],
-    sheet: &mut Sheet,
-) {
-    let count = device.count();
-    let read = match block {
-        Block::Head(k) if k < head_count(count) => device.read_head(k, octets),
-        Block::Data(k) if k < count => device.read(k, octets),
-        _ => return sheet.refuse(),
-    };
-    if read.is_err() {
-        sheet.refuse();
-    }
-}
-
-/// Writes a block of a device; where there is none, the row has no answer.
-fn write_block<D: Device>(
-    device: &mut D,
-    block: Block,
-    octets: &[u8; BLOCK_OCTETS],
-    sheet: &mut Sheet,
-) {
-    let count = device.count();
-    let written = match block {
-        Block::Head(k) if k < head_count(count) => device.write_head(k, octets),
-        Block::Data(k) if k < count => device.write(k, octets),
-        _ => return sheet.refuse(),
-    };
-    if written.is_err() {
-        sheet.refuse();
     }
 }
 
 /// The block that the next two cells name.
 fn block_in(cells: &mut Cells<'_>, sheet: &mut Sheet) -> Block {
-    let kind = cells.next(sheet);
-    let block = number(cells, sheet);
+    let kind = cells.next();
+    let block = number(cells);
     match place_of("head block", kind) {
         Some(0) => Block::Head(block),
         Some(_) => Block::Data(block),
@@ -195,14 +156,6 @@ pub(crate) fn octets_by(digits: &[u8], sheet: &mut Sheet) -> Vec<u8> {
         Err(_) => sheet.refuse(),
     }
     Vec::new(sheet.alloc)
-}
-
-/// Puts octets into others from a place on; where there is no room for them, the row has no answer.
-fn put_at(octets: &mut [u8; BLOCK_OCTETS], place: usize, other: &[u8], sheet: &mut Sheet) {
-    match octets.get_mut(place..place.saturating_add(other.len())) {
-        Some(part) => part.copy_from_slice(other),
-        None => sheet.refuse(),
-    }
 }
 
 /// The octets with this change at a place.

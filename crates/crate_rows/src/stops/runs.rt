@@ -1,5 +1,6 @@
 //! Answers of a walk, which are written in runs.
 
+use line_words::is;
 use row_text::Sheet;
 use std::alloc::Global;
 
@@ -28,7 +29,7 @@ impl Runs {
 
     /// Takes the answer at the next place; where it is another, what was said before is written.
     pub fn add(&mut self, place: u64, said: Vec<u8>, sheet: &mut Sheet) {
-        if !self.has_some || self.said.as_slice() != said.as_slice() {
+        if !self.has_some || !is(&self.said, &said) {
             self.end(sheet);
             self.said = said;
             self.first = place;

@@ -2,7 +2,7 @@
 
 use crate::stops::bench::{Bench, Device, number, octet};
 use crate::stops::runs::Runs;
-use cyc_buffer::{Buffer, RestartError, StartError, Unopened};
+use cyc_buffer::{Buffer, Unopened};
 use cyc_token::Token;
 use row_text::{Cells, Sheet, place_of};
 
@@ -27,20 +27,19 @@ const MOST_CALLS: u64 = 64;
 impl<D: Device> Bench<D> {
     /// Writes what the step of this name answers.
     pub fn put_step(&mut self, name: &[u8], cells: &mut Cells<'_>, sheet: &mut Sheet) {
-        let step = step_of(name, cells, sheet);
-        if !sheet.is_spoilt() {
-            self.take_step(step, sheet);
+        match step_of(name, cells) {
+            Some(step) => self.take_step(step, sheet),
+            None => sheet.refuse(),
         }
     }
 
     /// Writes what the step that the cells name answers with each call of the device failing in
     /// turn, the last time none.
     pub fn put_each(&mut self, cells: &mut Cells<'_>, sheet: &mut Sheet) {
-        let name = cells.next(sheet);
-        let step = step_of(name, cells, sheet);
-        if sheet.is_spoilt() {
-            return;
-        }
+        let name = cells.next();
+        let Some(step) = step_of(name, cells) else {
+            return sheet.refuse();
+        };
         let mut runs = Runs::new(sheet.alloc);
         for failing in 1..MOST_CALLS {
             let said = self.said_failing(step, failing, sheet);
@@ -77,27 +76,22 @@ impl<D: Device> Bench<D> {
     }
 }
 
-/// The step of this name and these cells; where there is none, the row has no answer.
-fn step_of(name: &[u8], cells: &mut Cells<'_>, sheet: &mut Sheet) -> Step {
-    let step = match place_of("shut restart start open leave", name) {
-        Some(0) => Step::Shut(cells.number(u64::MAX, sheet)),
-        Some(1) => Step::Restart(cells.number(u64::MAX, sheet)),
-        Some(2) => start_in(cells, sheet),
-        Some(3) => Step::Open,
-        Some(_) => Step::Leave,
-        None => {
-            sheet.refuse();
-            Step::Leave
-        }
+/// The step of this name and these cells.
+fn step_of(name: &[u8], cells: &mut Cells<'_>) -> Option<Step> {
+    let step = match place_of("shut restart start open leave", name)? {
+        0 => Step::Shut(cells.number(u64::MAX)),
+        1 => Step::Restart(cells.number(u64::MAX)),
+        2 => start_in(cells),
+        3 => Step::Open,
+        _ => Step::Leave,
     };
-    cells.end(sheet);
-    step
+    if cells.are_read() { Some(step) } else { None }
 }
 
 /// The start that the next two cells name.
-fn start_in(cells: &mut Cells<'_>, sheet: &mut Sheet) -> Step {
-    let buffer = octet(cells, sheet);
-    let cycle = number(cells, sheet);
+pub(crate) fn start_in(cells: &mut Cells<'_>) -> Step {
+    let buffer = octet(cells);
+    let cycle = number(cells);
     Step::Start(buffer, cycle)
 }
 
@@ -146,7 +140,6 @@ fn restarted<D: Device>(mut buffer: Buffer<D>, stop: u64, sheet: &mut Sheet) -> 
             sheet.put(b"restarted");
             put_tokens(&tokens, sheet);
         }
-        Err(RestartError::Start(StartError::Memory)) => sheet.lack(),
         Err(error) => sheet.debug(&error),
     }
     Bench::Running(buffer)
@@ -196,22 +189,14 @@ fn started<D: Device>(device: D, step: Step, sheet: &mut Sheet) -> Bench<D> {
             Bench::Unopened(started.buffer)
         }
         Err(refused) => {
-            put_refusal(refused.error, sheet);
+            sheet.debug(&refused.error);
             Bench::Stopped(refused.store)
         }
     }
 }
 
-/// Writes why a buffer isn't started.
-fn put_refusal(error: StartError, sheet: &mut Sheet) {
-    match error {
-        StartError::Memory => sheet.lack(),
-        other => sheet.debug(&other),
-    }
-}
-
 /// Writes tokens, each behind a space.
-fn put_tokens(tokens: &[Token], sheet: &mut Sheet) {
+pub(crate) fn put_tokens(tokens: &[Token], sheet: &mut Sheet) {
     for token in tokens {
         sheet.next(&token.to_text());
     }

@@ -8,59 +8,17 @@ use date_rules::judge;
 use path_rules::{identities, loops, updated};
 use row_text::Sheet;
 
-/// What is asked of an article.
-#[derive(Clone, Copy)]
-enum Asked<'a> {
-    /// Its message-id and its body.
-    Parts,
-    /// Its newsgroups.
-    Groups,
-    /// Its overview line.
-    Overview,
-    /// The content of the field of this name.
-    Field(&'a [u8]),
-    /// What becomes of it that comes to the first agent from the second.
-    Arrival(&'a [u8], &'a [u8]),
-    /// Whether its date lies in the window before a moment and a cutoff.
-    Date(u64, u64),
-}
-
-/// Writes the answer of a call of a text.
-pub fn of_text(call: usize, octets: &[u8], sheet: &mut Sheet) {
+/// Writes the answer of a call of a text, behind these cells.
+pub fn of_text(call: usize, heads: [&[u8]; 2], octets: &[u8], sheet: &mut Sheet) {
+    let fronts = octets.len().saturating_add(1);
     match call {
-        0 => sheet.cell(octets),
-        1 => put_fault(octets, sheet),
-        2 => put_fronts(Look::Article, octets, octets.len().saturating_add(1), sheet),
-        3 => put_fronts(
-            Look::Overview,
-            octets,
-            octets.len().saturating_add(1),
-            sheet,
-        ),
-        4 => put_asked(Asked::Parts, octets, sheet),
-        5 => put_asked(Asked::Groups, octets, sheet),
-        _ => put_asked(Asked::Overview, octets, sheet),
-    }
-}
-
-/// Writes the answer of a call of a text behind a cell.
-pub fn of_head(call: usize, head: &[u8], octets: &[u8], sheet: &mut Sheet) {
-    match call {
-        0 => put_asked(Asked::Field(head), octets, sheet),
-        _ => put_changes(Look::Article, head, octets, sheet),
-    }
-}
-
-/// Writes the answer of a call of a text behind two cells.
-pub fn of_heads(call: usize, first: &[u8], second: &[u8], octets: &[u8], sheet: &mut Sheet) {
-    match call {
-        0 => put_asked(Asked::Arrival(first, second), octets, sheet),
-        1 => {
-            let now = sheet.read(first);
-            let cutoff = sheet.read(second);
-            put_asked(Asked::Date(now, cutoff), octets, sheet);
-        }
-        _ => put_behind(first, second, octets, sheet),
+        17 => sheet.cell(octets),
+        18 => put_fault(octets, sheet),
+        19 => put_fronts(Look::Article, octets, fronts, sheet),
+        20 => put_fronts(Look::Overview, octets, fronts, sheet),
+        25 => put_changes(Look::Article, heads[0], octets, sheet),
+        28 => put_behind(heads[0], heads[1], octets, sheet),
+        _ => put_asked(call, heads, octets, sheet),
     }
 }
 
@@ -76,10 +34,10 @@ fn put_fault(octets: &[u8], sheet: &mut Sheet) {
 }
 
 /// Writes what is asked of an article, or the text's fault.
-fn put_asked(asked: Asked<'_>, octets: &[u8], sheet: &mut Sheet) {
+fn put_asked(call: usize, heads: [&[u8]; 2], octets: &[u8], sheet: &mut Sheet) {
     match Article::parse(sheet.alloc, octets) {
         Ok(article) => {
-            put_of(asked, &article, sheet);
+            put_of(call, heads, &article, sheet);
             drop(article);
         }
         Err(error) => sheet.debug(&error),
@@ -87,14 +45,19 @@ fn put_asked(asked: Asked<'_>, octets: &[u8], sheet: &mut Sheet) {
 }
 
 /// Writes what is asked of an article.
-fn put_of(asked: Asked<'_>, article: &Article<'_>, sheet: &mut Sheet) {
-    match asked {
-        Asked::Parts => put_parts(article, sheet),
-        Asked::Groups => put_groups(article, sheet),
-        Asked::Overview => put_made(line(sheet.alloc, article), sheet),
-        Asked::Field(name) => put_some(article.field(name), sheet),
-        Asked::Arrival(own, expected) => put_arrival(own, expected, article, sheet),
-        Asked::Date(now, cutoff) => sheet.debug(&judge(sheet.alloc, article, now, cutoff)),
+fn put_of(call: usize, heads: [&[u8]; 2], article: &Article<'_>, sheet: &mut Sheet) {
+    let [first, second] = heads;
+    match call {
+        21 => put_parts(article, sheet),
+        22 => put_groups(article, sheet),
+        23 => put_made(line(sheet.alloc, article), sheet),
+        24 => put_some(article.field(first), sheet),
+        26 => put_arrival(first, second, article, sheet),
+        _ => {
+            let now = sheet.read(first);
+            let cutoff = sheet.read(second);
+            sheet.debug(&judge(sheet.alloc, article, now, cutoff));
+        }
     }
 }
 
@@ -131,8 +94,8 @@ fn put_arrival(own: &[u8], expected: &[u8], article: &Article<'_>, sheet: &mut S
 fn put_updated(own: &[u8], expected: &[u8], article: &Article<'_>, sheet: &mut Sheet) {
     match updated(sheet.alloc, article, own, expected) {
         Ok(octets) => {
-            sheet.number(octets.len() as u64);
-            sheet.numbered(b" ", octets.capacity() as u64);
+            let numbers = [octets.len() as u64, octets.capacity() as u64];
+            sheet.filled(b"# #", &numbers);
             sheet.next(&octets);
         }
         Err(error) => sheet.debug(&error),
@@ -144,9 +107,8 @@ fn put_updated(own: &[u8], expected: &[u8], article: &Article<'_>, sheet: &mut S
 pub fn put_reading(octets: &[u8], sheet: &mut Sheet) {
     match Article::parse(sheet.alloc, octets) {
         Ok(article) => {
-            sheet.numbered(b"Read(", article.body_at() as u64);
-            sheet.numbered(b", ", article.body().len() as u64);
-            sheet.put(b")");
+            let numbers = [article.body_at() as u64, article.body().len() as u64];
+            sheet.filled(b"Read(#, #)", &numbers);
             drop(article);
         }
         Err(error) => {

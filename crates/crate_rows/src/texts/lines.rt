@@ -17,7 +17,7 @@ const LAST_MOMENT: u64 = 253_370_764_799;
 /// Writes the answer of a call of one cell.
 pub fn of_line(call: usize, line: &[u8], sheet: &mut Sheet) {
     match call {
-        0 => put_id(line, sheet),
+        0 => sheet.debug(&MsgId::parse(sheet.alloc, line)),
         1 => put_command(line, sheet),
         2 => put_fronts(Look::Command, line, line.len(), sheet),
         3 => put_fronts(Look::Expression, line, line.len(), sheet),
@@ -29,11 +29,6 @@ pub fn of_line(call: usize, line: &[u8], sheet: &mut Sheet) {
         9 => put_seconds(line, sheet),
         _ => put_stamp(line, sheet),
     }
-}
-
-/// Writes what a text gives as a message-id.
-fn put_id(text: &[u8], sheet: &mut Sheet) {
-    sheet.debug(&MsgId::parse(sheet.alloc, text));
 }
 
 /// Writes what a command line gives.
@@ -74,8 +69,8 @@ fn put_stamp(moment: &[u8], sheet: &mut Sheet) {
 /// Writes the answer of a call of two cells.
 pub fn of_two(call: usize, first: &[u8], second: &[u8], sheet: &mut Sheet) {
     match call {
-        0 => put_changes(Look::Command, first, second, sheet),
-        1 => sheet.debug(&loops(second, first)),
+        11 => put_changes(Look::Command, first, second, sheet),
+        12 => sheet.debug(&loops(second, first)),
         _ => put_verdict(first, second, sheet),
     }
 }

@@ -4,20 +4,21 @@ use crate::texts::walks::Runs;
 use row_text::{Cells, Sheet, add_octets};
 use stream_cut::{Block, Cut, Want, cut_all};
 
-/// Writes the answer of a call of pieces: what is cut off them behind a limit and what is wanted.
+/// Writes the answer of a call of pieces, which come behind a limit and what is wanted: what is cut
+/// off them, off a stream in pieces of a size that stands in front, or off one of two pieces.
 pub fn of_pieces(call: usize, cells: &mut Cells<'_>, sheet: &mut Sheet) {
+    let size = if call == 15 {
+        cells.number(u64::MAX) as usize
+    } else {
+        0
+    };
+    let limit = cells.number(u64::MAX) as usize;
+    let wants = cells.next();
     match call {
-        0 => put_cut_all(cells, sheet),
-        1 => put_cut_in(cells, sheet),
-        _ => put_cut_in_two(cells, sheet),
+        14 => put_cuts(limit, wants, cells.rest(), sheet),
+        15 => put_cuts(limit, wants, &pieces_of(size, cells.next(), sheet), sheet),
+        _ => put_cuts_in_two(limit, wants, cells.next(), sheet),
     }
-}
-
-/// Writes what is cut off the pieces that are the cells.
-fn put_cut_all(cells: &mut Cells<'_>, sheet: &mut Sheet) {
-    let limit = cells.number(u64::MAX, sheet) as usize;
-    let wants = cells.next(sheet);
-    put_cuts(limit, wants, cells.rest(), sheet);
 }
 
 /// Writes what is cut off these pieces, between square brackets.
@@ -26,7 +27,9 @@ fn put_cuts(limit: usize, wants: &[u8], pieces: &[Vec<u8>], sheet: &mut Sheet) {
     match cut_all(sheet.alloc, limit, pieces, &wants) {
         Ok(cuts) => {
             sheet.put(b"[ ");
-            put_all(&cuts, sheet);
+            for cut in &cuts {
+                put_cut(cut, sheet);
+            }
             sheet.put(b"]");
             drop(cuts);
         }
@@ -50,13 +53,6 @@ fn wants_of(letters: &[u8], sheet: &mut Sheet) -> Vec<Want> {
     wants
 }
 
-/// Writes what was cut.
-fn put_all(cuts: &[Cut], sheet: &mut Sheet) {
-    for cut in cuts {
-        put_cut(cut, sheet);
-    }
-}
-
 /// Writes what was cut, and a space.
 fn put_cut(cut: &Cut, sheet: &mut Sheet) {
     match cut {
@@ -75,16 +71,6 @@ fn put_in(word: &[u8], octets: &[u8], sheet: &mut Sheet) {
     sheet.put(b") ");
 }
 
-/// Writes what is cut off a stream that comes in pieces of this size.
-fn put_cut_in(cells: &mut Cells<'_>, sheet: &mut Sheet) {
-    let size = cells.number(u64::MAX, sheet) as usize;
-    let limit = cells.number(u64::MAX, sheet) as usize;
-    let wants = cells.next(sheet);
-    let pieces = pieces_of(size, cells.next(sheet), sheet);
-    cells.end(sheet);
-    put_cuts(limit, wants, &pieces, sheet);
-}
-
 /// The pieces of this size of a stream.
 fn pieces_of(size: usize, stream: &[u8], sheet: &mut Sheet) -> Vec<Vec<u8>> {
     let mut pieces = Vec::new(sheet.alloc);
@@ -95,31 +81,16 @@ fn pieces_of(size: usize, stream: &[u8], sheet: &mut Sheet) -> Vec<Vec<u8>> {
 }
 
 /// Writes what is cut off a stream of two pieces, wherever the first one ends.
-fn put_cut_in_two(cells: &mut Cells<'_>, sheet: &mut Sheet) {
-    let limit = cells.number(u64::MAX, sheet) as usize;
-    let wants = cells.next(sheet);
-    let stream = cells.next(sheet);
-    cells.end(sheet);
+fn put_cuts_in_two(limit: usize, wants: &[u8], stream: &[u8], sheet: &mut Sheet) {
     let mut runs = Runs::new(sheet.alloc);
     for place in 0..=stream.len() {
         let (first, second) = stream.split_at(place);
-        runs.add(said_in_two(limit, wants, first, second, sheet), sheet);
+        let mut said = Sheet::new(sheet.alloc);
+        let mut pieces = Vec::new(sheet.alloc);
+        add_octets(&mut pieces, first, sheet);
+        add_octets(&mut pieces, second, sheet);
+        put_cuts(limit, wants, &pieces, &mut said);
+        runs.add(said.onto(sheet), sheet);
     }
     runs.end(sheet);
-}
-
-/// What is cut off two pieces, as it is written.
-fn said_in_two(
-    limit: usize,
-    wants: &[u8],
-    first: &[u8],
-    second: &[u8],
-    sheet: &mut Sheet,
-) -> Vec<u8> {
-    let mut said = Sheet::new(sheet.alloc);
-    let mut pieces = Vec::new(sheet.alloc);
-    add_octets(&mut pieces, first, sheet);
-    add_octets(&mut pieces, second, sheet);
-    put_cuts(limit, wants, &pieces, &mut said);
-    said.onto(sheet)
 }
