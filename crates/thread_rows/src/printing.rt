@@ -1,4 +1,5 @@
 //! What a fetch found.
+use line_words::is;
 use live_store::{Fetched, StorePremises};
 use row_text::Sheet;
 
@@ -12,7 +13,7 @@ pub(crate) fn put_fetched<J: StorePremises>(
         Fetched::Whole(whole) => {
             sheet.numbered(b"record ", whole.number() as u64);
             sheet.put(b", the same text: ");
-            sheet.debug(&(whole.octets() == octets));
+            sheet.debug(&is(whole.octets(), octets));
         }
         Fetched::Gone(front) => {
             sheet.put(b"gone, ");

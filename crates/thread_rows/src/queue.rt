@@ -70,14 +70,11 @@ fn take<R: Wait>(rt: &R, sheet: &mut Sheet, queue: &JobQueue, pass: &mut QueuePa
 {
     match take_one(rt, queue, pass) {
         Some(Parcel::Job(handed)) => {
-            sheet.numbered(b"taken: job ", handed.number);
-            sheet.numbered(b" of end ", handed.end);
-            sheet.put(b"\n");
+            sheet.filled(b"taken: job # of end #\n", &[handed.number, handed.end]);
             drop(handed);
         }
         Some(Parcel::Mark(end)) => {
-            sheet.numbered(b"taken: the mark of end ", end);
-            sheet.put(b"\n");
+            sheet.filled(b"taken: the mark of end #\n", &[end]);
         }
         None => {}
     }
@@ -132,8 +129,7 @@ fn put_full<R: Wait>(
     requires open { IsOpen 0 (view zero.old) }
 {
     let count = filled(rt, sheet, queue, zero);
-    sheet.numbered(b"full queue: ", count);
-    sheet.put(b" handed over\n");
+    sheet.filled(b"full queue: # handed over\n", &[count]);
     let early = mark_closed(rt, queue, zero, 0);
     put_line(sheet, b"full queue, closed: ", early);
     if early {

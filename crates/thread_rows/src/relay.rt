@@ -14,9 +14,11 @@ mod serving;
 mod waiting;
 
 use crate::print;
+use row_text::{Sheet, parts_of};
 use serving::played;
 use std::alloc::Global;
 use std::io;
+use std::io::ErrorKind;
 use std::random::RandomSource;
 use std::sync::Wait;
 use std::thread::Threads;
@@ -30,15 +32,29 @@ pub(crate) fn play<R>(rt: &R, alloc: Global, text: &[u8]) -> io::Result<()>
 where
     R: Threads + Wait + Clock + RandomSource + Print + Sync + 'static,
 {
-    let mut lines = Vec::new(alloc);
-    for line in text.split(|octet| *octet == b'\n') {
-        if line.starts_with(MARK) {
-            print_row(rt, alloc, &lines)?;
-            lines.clear();
-        }
-        lines.push(line)?;
+    let mut faults = Sheet::new(alloc);
+    let lines = parts_of(Some(text), b'\n', &mut faults);
+    if faults.is_spoilt() {
+        return Err(io::Error::from(ErrorKind::OutOfMemory));
     }
-    print_row(rt, alloc, &lines)
+    print_rows(rt, alloc, &lines)
+}
+
+/// Plays the rows of these lines.
+fn print_rows<R>(rt: &R, alloc: Global, lines: &[&[u8]]) -> io::Result<()>
+where
+    R: Threads + Wait + Clock + RandomSource + Print + Sync + 'static,
+{
+    let mut begin = 0usize;
+    let mut end = 0usize;
+    for line in lines {
+        if line.starts_with(MARK) {
+            print_row(rt, alloc, lines.get(begin..end).unwrap_or(&[]))?;
+            begin = end;
+        }
+        end = end.saturating_add(1);
+    }
+    print_row(rt, alloc, lines.get(begin..).unwrap_or(&[]))
 }
 
 /// Plays the row of these lines, where they begin one.

@@ -3,6 +3,7 @@
 
 use crate::clock::Hands;
 use crate::looks::{MOST_LOOKS, pause};
+use line_words::cut;
 use std::alloc::{AllocError, Global};
 use std::sync::{Mutex, Wait};
 use std::time::Clock;
@@ -160,10 +161,13 @@ fn linger<R: Wait + Clock>(rt: &R, sign: Sign) {
 
 /// Whether one of the lines begins with this code.
 fn has_reply(text: &[u8], code: [u8; 3]) -> bool {
-    for line in text.split(|octet| *octet == b'\n') {
+    let mut unread = Some(text);
+    while let Some(rest) = unread {
+        let (line, after) = cut(rest, b'\n');
         if line.starts_with(code.as_slice()) {
             return true;
         }
+        unread = after;
     }
     false
 }

@@ -9,7 +9,7 @@ use line_words::number_within;
 use live_store::StorePremises;
 use relay_conf::Config;
 use relay_live::{Counted, Shared};
-use row_text::Sheet;
+use row_text::{Sheet, parts_of};
 use std::sync::Wait;
 use std::sync::ledger::Ledger;
 
@@ -30,8 +30,7 @@ fn put_sessions<R: Wait>(rt: &R, sheet: &mut Sheet, board: &Board) {
     let mut session = 0u64;
     for room in &board.rooms {
         session = session.saturating_add(1);
-        sheet.numbered(b"session ", session);
-        sheet.put(b"\n");
+        sheet.filled(b"session #\n", &[session]);
         put_shortened(sheet, room.lock(rt).written.as_slice());
     }
 }
@@ -58,8 +57,7 @@ fn put_shortened(sheet: &mut Sheet, octets: &[u8]) {
 /// Writes so many times `x`, or how many they are.
 fn put_run(sheet: &mut Sheet, run: u64) {
     if run > LONGEST {
-        sheet.numbered(b"{", run);
-        sheet.put(b" x}");
+        sheet.filled(b"{# x}", &[run]);
     } else {
         for _time in 0..run {
             sheet.put(b"x");
@@ -71,20 +69,18 @@ fn put_run(sheet: &mut Sheet, run: u64) {
 fn put_codes<R: Wait>(rt: &R, sheet: &mut Sheet, board: &Board) {
     let mut counts = [0u64; 600];
     for room in &board.rooms {
-        count_codes(&mut counts, room.lock(rt).written.as_slice());
+        count_codes(&mut counts, room.lock(rt).written.as_slice(), sheet);
     }
     for (code, count) in counts.iter().enumerate() {
         if *count > 0 {
-            sheet.number(code as u64);
-            sheet.numbered(b": ", *count);
-            sheet.put(b" times\n");
+            sheet.filled(b"#: # times\n", &[code as u64, *count]);
         }
     }
 }
 
 /// Counts the codes of a text's lines.
-fn count_codes(counts: &mut [u64; 600], written: &[u8]) {
-    for line in written.split(|octet| *octet == b'\n') {
+fn count_codes(counts: &mut [u64; 600], written: &[u8], sheet: &mut Sheet) {
+    for line in &parts_of(Some(written), b'\n', sheet) {
         let code = number_within(100, 599, line.get(..3).unwrap_or(b""));
         if let Some(count) = counts.get_mut(code.unwrap_or(600) as usize) {
             *count = count.saturating_add(1);
@@ -94,9 +90,8 @@ fn count_codes(counts: &mut [u64; 600], written: &[u8]) {
 
 /// Writes what the seats were counted to, and how often something was waited for in vain.
 pub(crate) fn put_counted<R: Wait>(rt: &R, sheet: &mut Sheet, board: &Board, counted: &Counted) {
-    sheet.numbered(b"accepted ", counted.accepted());
-    sheet.numbered(b" posted ", counted.posted().count());
-    sheet.put(b" mismatched receipts ");
+    let numbers = [counted.accepted(), counted.posted().count()];
+    sheet.filled(b"accepted # posted # mismatched receipts ", &numbers);
     sheet.debug(&counted.mismatched_receipts());
     sheet.put(b" ids stored again ");
     sheet.debug(&counted.ids_stored_again());
@@ -124,23 +119,22 @@ pub(crate) fn put_figures<S: BlockStore + Drop, J: StorePremises, L: Ledger, R: 
 /// Writes the figures of a buffer.
 fn put_buffer(sheet: &mut Sheet, number: usize, figures: Option<BufferFigures>) {
     if let Some(figures) = figures {
-        sheet.numbered(b"buffer ", number as u64);
-        sheet.numbered(b" cycle ", u64::from(figures.cycle));
-        sheet.numbered(b" front ", figures.front);
-        sheet.numbered(b" begun ", figures.begun);
-        sheet.numbered(b" stored ", figures.stored);
-        sheet.put(b"\n");
+        let numbers = [
+            number as u64,
+            u64::from(figures.cycle),
+            figures.front,
+            figures.begun,
+            figures.stored,
+        ];
+        sheet.filled(b"buffer # cycle # front # begun # stored #\n", &numbers);
     }
 }
 
 /// Writes the counts of a feed.
 fn put_feed(sheet: &mut Sheet, number: usize, counts: Option<FeedCounts>) {
     if let Some(counts) = counts {
-        sheet.numbered(b"feed ", number as u64);
-        sheet.numbered(b" gained ", counts.gained);
-        sheet.numbered(b" taken ", counts.taken);
-        sheet.numbered(b" waiting ", counts.waiting);
-        sheet.put(b"\n");
+        let numbers = [number as u64, counts.gained, counts.taken, counts.waiting];
+        sheet.filled(b"feed # gained # taken # waiting #\n", &numbers);
     }
 }
 
