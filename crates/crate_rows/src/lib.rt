@@ -54,10 +54,7 @@ impl<D: Device> Answers for Rows<D> {
         } else if is(call, b"text") && !matches!(self.part, Part::Stops) {
             self.name(cells, sheet);
         } else {
-            let meant = self.names.meant(cells, sheet);
-            let mut cells = Cells::new(&meant);
-            self.put(call, &mut cells, sheet);
-            cells.end(sheet);
+            self.put_meant(call, cells, sheet);
         }
         // Of want of memory nothing is expected, so that no answer may stand in its place.
         if says_memory(sheet.octets()) {
@@ -77,6 +74,14 @@ impl<D: Device> Rows<D> {
             }
             None => sheet.refuse(),
         }
+    }
+
+    /// Writes the answer of a call of the part.
+    fn put_meant(&mut self, call: &[u8], cells: &[Vec<u8>], sheet: &mut Sheet) {
+        let meant = self.names.meant(cells, sheet);
+        let mut cells = Cells::new(&meant);
+        self.put(call, &mut cells, sheet);
+        cells.end(sheet);
     }
 
     /// Writes the answer of a call of the part, of cells in which no text has a name.
