@@ -1,7 +1,7 @@
 #!/usr/bin/env python3
-"""Times the crates of texts and settings, and prints a table of RESULTS.md: parts.py RELAY_BENCH WORD.
+"""Times the crates of texts and settings, and prints a table of RESULTS.md: parts.py RELAY_ROWS WORD.
 
-RELAY_BENCH is the program of crates/relay_bench, which times work on texts that it reads from files. Here stand the
+RELAY_ROWS is the program of crates/relay_rows, which times work on texts that it reads from files. Here stand the
 rows: their texts, each of so many parts and of twice as many, which are timed in turn; the least of 9 times counts.
 """
 import subprocess

@@ -1,7 +1,7 @@
 #!/usr/bin/env python3
 """Times the whole relay over memory, and prints the tables of RESULTS.md, The relay.
 
-relay.py RELAY_BENCH COPIES [count]: RELAY_BENCH is the program of crates/relay_bench, COPIES that of bench/copies.rs. Each
+relay.py RELAY_ROWS COPIES [count]: RELAY_ROWS is the program of crates/relay_rows, COPIES that of bench/copies.rs. Each
 is run ROUNDS times for so many and for twice as many, in turn. A row has the median and the least time; what twice as
 many take is by the least. With `count` valgrind's callgrind counts instructions instead, which other work beside
 doesn't change.
@@ -28,7 +28,7 @@ ROWS = [
 
 
 def served(words):
-    """What relay_bench prints for these words, line by line: the word, events, seconds, octets of memory."""
+    """What relay_rows prints for these words, line by line: the word, events, seconds, octets of memory."""
     lines = subprocess.run([CORE, *words.split()], check=True, capture_output=True, text=True).stdout.splitlines()
     for line in lines:
         word, events, seconds, pages = line.split()
@@ -83,7 +83,7 @@ def print_million():
 
 
 def instructions(words):
-    """The instructions that relay_bench runs for these words."""
+    """The instructions that relay_rows runs for these words."""
     tool = ["valgrind", "--tool=callgrind", "--callgrind-out-file=/dev/null"]
     done = subprocess.run([*tool, CORE, *words.split()], check=True, capture_output=True, text=True)
     return int(re.search(r"Collected : (\d+)", done.stderr)[1])

@@ -5,16 +5,15 @@
 set -euo pipefail
 cd "$(dirname "${BASH_SOURCE[0]}")"
 word="${1:-cutting}"
-out=../crates/relay_bench/out
+out=../crates/relay_rows/out
+# Without words and rows the program does nothing: this proves and builds it.
+(cd ../crates/relay_rows && rt run </dev/null)
 if [ "$word" = history ]; then
-    (cd ../crates/relay_bench && rt run)
-    exec "$out/relay_bench" history "${2:-1000000}"
+    exec "$out/relay_rows" history "${2:-1000000}"
 fi
-# Without words the program does nothing: this proves and builds it.
-(cd ../crates/relay_bench && rt run)
 if [ "$word" = relay ]; then
     rustc -O -o "$out/copies" copies.rs
-    python3 relay.py "$out/relay_bench" "$out/copies" ${2:+"$2"}
+    python3 relay.py "$out/relay_rows" "$out/copies" ${2:+"$2"}
 else
-    python3 parts.py "$out/relay_bench" "$word"
+    python3 parts.py "$out/relay_rows" "$word"
 fi

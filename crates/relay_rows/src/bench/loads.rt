@@ -1,4 +1,5 @@
 //! What a peer can ask for, over and over.
+use line_words::{cut, is, number_within};
 
 /// Which message-ids a load names, by number.
 #[derive(Clone, Copy)]
@@ -14,7 +15,7 @@ pub enum Ids {
 /// What a peer asks for, for each number.
 pub struct Load {
     /// The word that names it.
-    pub name: &'static str,
+    pub name: &'static [u8],
     /// What is sent in front of the id,
     pub front: &'static str,
     /// and the block that is sent behind the line.
@@ -39,10 +40,19 @@ pub enum Block {
     Article(u32),
 }
 
+/// The most ids that a load can be for.
+const MOST: u64 = 1_000_000_000;
+
+/// The load that a word as `take:10000` names, and for how many ids.
+pub fn read(word: &[u8]) -> Option<(&'static Load, u64)> {
+    let (name, count) = cut(word, b':');
+    Some((named(name)?, number_within(0, MOST, count?)?))
+}
+
 /// The load of this name.
-pub fn named(name: &str) -> Option<&'static Load> {
+fn named(name: &[u8]) -> Option<&'static Load> {
     for load in LOADS.iter() {
-        if load.name == name {
+        if is(load.name, name) {
             return Some(load);
         }
     }
@@ -55,7 +65,7 @@ const ALL: u64 = u64::MAX;
 /// What can be asked for. A session has at most 256 open offers (docs/PROTOCOL.md, Limits).
 static LOADS: [Load; 7] = [
     Load {
-        name: "check",
+        name: b"check",
         front: "CHECK <new.",
         block: Block::Missing,
         ids: Ids::Asked,
@@ -64,7 +74,7 @@ static LOADS: [Load; 7] = [
         code: b"238 ",
     },
     Load {
-        name: "known",
+        name: b"known",
         front: "CHECK <",
         block: Block::Missing,
         ids: Ids::Known,
@@ -73,7 +83,7 @@ static LOADS: [Load; 7] = [
         code: b"438 ",
     },
     Load {
-        name: "refuse",
+        name: b"refuse",
         front: "TAKETHIS <",
         block: Block::Faulty,
         ids: Ids::Made,
@@ -82,7 +92,7 @@ static LOADS: [Load; 7] = [
         code: b"439 ",
     },
     Load {
-        name: "take",
+        name: b"take",
         front: "TAKETHIS <",
         block: Block::Article(14),
         ids: Ids::Made,
@@ -91,7 +101,7 @@ static LOADS: [Load; 7] = [
         code: b"239 ",
     },
     Load {
-        name: "take64",
+        name: b"take64",
         front: "TAKETHIS <",
         block: Block::Article(1_090),
         ids: Ids::Made,
@@ -100,7 +110,7 @@ static LOADS: [Load; 7] = [
         code: b"239 ",
     },
     Load {
-        name: "article",
+        name: b"article",
         front: "ARTICLE <",
         block: Block::Missing,
         ids: Ids::Known,
@@ -109,7 +119,7 @@ static LOADS: [Load; 7] = [
         code: b"220 ",
     },
     Load {
-        name: "article64",
+        name: b"article64",
         front: "ARTICLE <",
         block: Block::Missing,
         ids: Ids::Known,

@@ -1,7 +1,7 @@
 use Rattle.std.proofs.Common.{◌≡◌, length, map, take}
 use Rattle.cyc_block.specs.declared.memory.MemoryBlocks.{MemoryBlocks}
 use Rattle.relay_conf.specs.declared.cycbuff.BufferConf.{BufferConf}
-use Rattle.relay_bench.proofs.relay.stores_of.Given as goal
+use Rattle.relay_rows.proofs.bench.relay.stores_of.Given as goal
 
 -- the stores so far have as many blocks as the buffers so far
 abbrev pub invariant-loop-buffer : goal.invariant-loop-buffer

@@ -1,26 +1,26 @@
 //! A relay that serves loads, one after the other.
 ghost use Rattle.std.specs.Prelude.{◌≡◌, length, map, IfOk};
 
-use crate::events::{add, body, openings, piece};
-use crate::loads::{Ids, Load};
+use crate::bench::events::{add, body, openings, piece};
+use crate::bench::loads::{Ids, Load, read};
 use cyc_block::{BlockStore, MemoryBlocks};
 use relay_conf::{Buffers, Config, read_cycbuff};
 use relay_core::{Event, Output, System};
 use std::alloc::{AllocError, Global};
-use std::io;
 use std::io::ErrorKind;
 use std::time::Instant;
+use std::{fs, io};
 
 /// cycbuff.conf of the relay: one group of four buffers of 8 MB, 16,384 blocks each.
 const CYCBUFF: &[u8] = b"cycbuff:A:a:8192\ncycbuff:B:b:8192\ncycbuff:C:c:8192\ncycbuff:D:d:8192\n\
     metacycbuff:G:A,B,C,D\n";
 
 /// A relay over blocks in memory.
-pub type Relay = System<MemoryBlocks>;
+type Relay = System<MemoryBlocks>;
 
 /// What a relay was asked so far.
 #[derive(Drop)]
-pub struct Counts {
+struct Counts {
     /// How many sessions there were,
     sessions: u64,
     /// how many ids were asked for and stayed unknown,
@@ -31,7 +31,7 @@ pub struct Counts {
 
 impl Counts {
     /// Nothing yet.
-    pub fn new() -> Counts {
+    fn new() -> Counts {
         Counts {
             sessions: 0,
             asked: 0,
@@ -98,37 +98,61 @@ impl Counts {
     }
 }
 
-/// Has a relay serve a load for so many ids, in new sessions that take turns. How many events that
-/// were, and the seconds that they took; before these the events are made, after them the replies
-/// are counted: each id has one that begins as it has to.
-pub fn serve(
-    rt: &HostRuntime,
-    relay: &mut Relay,
-    counts: &mut Counts,
-    load: &Load,
-    count: u64,
-) -> io::Result<(usize, f64)> {
+/// Has one relay serve the load that each word names, in order.
+pub fn serve_all(rt: &HostRuntime, words: &[String]) -> io::Result<()> {
+    let Some(config) = config(rt.alloc()) else {
+        return Err(io::Error::from(ErrorKind::InvalidData));
+    };
+    let Ok(stores) = stores_of(rt.alloc(), &config.buffers) else {
+        drop(config);
+        return Err(io::Error::from(ErrorKind::OutOfMemory));
+    };
+    match System::new(rt, rt.alloc(), config, stores) {
+        Ok(mut relay) => {
+            let served = serve_each(rt, &mut relay, words);
+            drop(relay);
+            served
+        }
+        Err(error) => {
+            drop(error);
+            Err(io::Error::from(ErrorKind::Other))
+        }
+    }
+}
+
+/// Serves the load that each word names, in order.
+fn serve_each(rt: &HostRuntime, relay: &mut Relay, words: &[String]) -> io::Result<()> {
+    let mut counts = Counts::new();
+    for word in words {
+        serve(rt, relay, &mut counts, word.as_str())?;
+    }
+    Ok(())
+}
+
+/// Serves the load that a word names, in new sessions that take turns, and prints its line. Before
+/// the events are timed they are made, afterwards the replies are counted: each id has one that
+/// begins as it has to.
+fn serve(rt: &HostRuntime, relay: &mut Relay, counts: &mut Counts, word: &str) -> io::Result<()> {
+    let Some((load, count)) = read(word.as_bytes()) else {
+        return Err(io::Error::from(ErrorKind::InvalidInput));
+    };
     let sessions = count.div_ceil(load.share.max(1)).max(1);
     open(rt, relay, counts, sessions)?;
     let events = counts.events(rt.alloc(), load, sessions, count)?;
     let number = events.len();
-    let timed = timed(rt, relay, &events, load.code);
-    drop(events);
-    let (replies, took) = timed?;
+    let (replies, took) = timed(rt, relay, events, load.code)?;
     counts.name(load.ids, count);
     if replies != count {
         return Err(io::Error::from(ErrorKind::InvalidData));
     }
-    Ok((number, took))
+    print(rt, word, number, took)
 }
 
 /// So many sessions open.
 fn open(rt: &HostRuntime, relay: &mut Relay, counts: &mut Counts, sessions: u64) -> io::Result<()> {
     let events = openings(rt.alloc(), counts.sessions, sessions)?;
     counts.sessions = counts.sessions.saturating_add(sessions);
-    let timed = timed(rt, relay, &events, b"");
-    drop(events);
-    let _greetings = timed?;
+    let _greetings = timed(rt, relay, events, b"")?;
     Ok(())
 }
 
@@ -136,11 +160,11 @@ fn open(rt: &HostRuntime, relay: &mut Relay, counts: &mut Counts, sessions: u64)
 fn timed(
     rt: &HostRuntime,
     relay: &mut Relay,
-    events: &[Event],
+    events: Vec<Event>,
     code: &[u8],
 ) -> io::Result<(u64, f64)> {
     let start = Instant::now(rt)?;
-    let Ok(outputs) = relay.run(events) else {
+    let Ok(outputs) = relay.run(&events) else {
         return Err(io::Error::from(ErrorKind::OutOfMemory));
     };
     let took = start.elapsed(rt);
@@ -162,24 +186,12 @@ fn replies(outputs: &[Output], code: &[u8]) -> u64 {
     count
 }
 
-/// A relay to which nothing has come.
-pub fn begun(rt: &HostRuntime) -> io::Result<Relay> {
-    let Some(config) = config(rt.alloc()) else {
-        return Err(io::Error::from(ErrorKind::InvalidData));
-    };
-    match stores_of(rt.alloc(), &config.buffers) {
-        Ok(stores) => match System::new(rt, rt.alloc(), config, stores) {
-            Ok(relay) => Ok(relay),
-            Err(error) => {
-                drop(error);
-                Err(io::Error::from(ErrorKind::Other))
-            }
-        },
-        Err(error) => {
-            drop(config);
-            Err(io::Error::from(error))
-        }
-    }
+/// Prints the line of a load: the word, how many events there were, the seconds that they took, and
+/// the pages of memory that the program has afterwards.
+fn print(rt: &HostRuntime, word: &str, events: usize, seconds: f64) -> io::Result<()> {
+    let memory = fs::read_to_string(rt, "/proc/self/statm")?;
+    let pages = memory.as_str().split(' ').nth(1).unwrap_or("0");
+    println!(rt; "{word} {events} {seconds:.6} {pages}")
 }
 
 /// A store in memory for each buffer, of as many blocks.

@@ -1,5 +1,5 @@
 //! What happens to the relay for a load.
-use crate::loads::{Block, Load};
+use crate::bench::loads::{Block, Load};
 use line_words::Octets;
 use relay_core::Event;
 use std::alloc::{AllocError, Global};
@@ -61,22 +61,22 @@ fn add_writes(events: &mut Vec<Event>, count: u32) -> Result<(), AllocError> {
 
 /// What is sent for the id of this number; the body is that of the load.
 pub fn piece(alloc: Global, load: &Load, body: &[u8], number: u64) -> Result<Octets, AllocError> {
-    let front = load.front;
-    let line = format!(in alloc; "{front}{number}@x>\r\n")?;
-    let header = match load.block {
-        Block::Article(_) => header(alloc, number)?,
-        _ => String::new(alloc),
-    };
-    Ok(Octets::new([line.as_bytes(), header.as_bytes(), body].concat(alloc)?))
+    let begun = begun(alloc, load, number)?;
+    Ok(Octets::new([begun.as_bytes(), body].concat(alloc)?))
 }
 
-/// The header of an article with the id of this number (docs/FORMATS.md, Example article), and the
-/// empty line behind it.
-fn header(alloc: Global, number: u64) -> Result<String, AllocError> {
-    format!(in alloc;
-        "Path: one.example!not-for-mail\r\nFrom: a@x.example\r\nNewsgroups: misc.test\r\n\
-         Subject: t\r\nMessage-ID: <{number}@x>\r\nDate: Fri, 01 Jan 2021 00:00:00 +0000\r\n\r\n"
-    )
+/// The line for the id of this number, and behind it, where an article is sent, the header of one
+/// (docs/FORMATS.md, Example article) and the empty line.
+fn begun(alloc: Global, load: &Load, number: u64) -> Result<String, AllocError> {
+    let front = load.front;
+    match load.block {
+        Block::Article(_) => format!(in alloc;
+            "{front}{number}@x>\r\nPath: one.example!not-for-mail\r\nFrom: a@x.example\r\n\
+             Newsgroups: misc.test\r\nSubject: t\r\nMessage-ID: <{number}@x>\r\n\
+             Date: Fri, 01 Jan 2021 00:00:00 +0000\r\n\r\n"
+        ),
+        _ => format!(in alloc; "{front}{number}@x>\r\n"),
+    }
 }
 
 /// What is sent behind the line and the header: a body, if there is one, and the dot.

@@ -2,7 +2,7 @@ use Rattle.std.proofs.Common.{◌∙◌, ◌∷◌, [], ◌++◌, ap, arith, get
 use Rattle.std.proofs.lemmas.List.{length-replicate, map-append, take_all, take_more}
 use Rattle.cyc_block.specs.declared.memory.MemoryBlocks.{MemoryBlocks}
 use Rattle.relay_conf.specs.declared.cycbuff.BufferConf.{BufferConf}
-use Rattle.relay_bench.proofs.relay.stores_of.Goals as goal
+use Rattle.relay_rows.proofs.bench.relay.stores_of.Goals as goal
 
 pub loop-buffer-preserved : goal.loop-buffer-preserved
 loop-buffer-preserved c =

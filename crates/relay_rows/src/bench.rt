@@ -1,0 +1,93 @@
+//! Benchmarks: how fast the crates of texts and settings are, how fast the whole relay is over
+//! blocks in memory, with one thread, and what a stop and a start take. They promise nothing and
+//! are no tests.
+
+mod events;
+mod history;
+mod loads;
+mod relay;
+mod work;
+
+use std::io::ErrorKind;
+use std::process::ExitCode;
+use std::{fs, io};
+use work::{Job, seconds};
+
+/// Does what words of the command line ask, and says why where it can't be done.
+pub(crate) fn run(rt: &HostRuntime, words: &[String]) -> ExitCode {
+    match asked(rt, words) {
+        Ok(()) => ExitCode::SUCCESS,
+        Err(error) => {
+            let _unseen = eprintln!(rt; "relay_rows: {error}");
+            ExitCode::FAILURE
+        }
+    }
+}
+
+/// Does what the words ask. A first one with a colon names a load of the relay, as all do then,
+/// `history` is a stop and a start, any other word a work on texts.
+fn asked(rt: &HostRuntime, words: &[String]) -> io::Result<()> {
+    let Some((first, behind)) = words.split_first() else {
+        return Ok(());
+    };
+    let word = first.as_str();
+    if word.contains(':') {
+        return relay::serve_all(rt, words);
+    }
+    if word == "history" {
+        return keep_all(rt, behind);
+    }
+    time_all(rt, word, behind)
+}
+
+/// Goes through a stop and a start with as many message-ids as the next word says.
+fn keep_all(rt: &HostRuntime, words: &[String]) -> io::Result<()> {
+    let Some(word) = words.first() else {
+        return Err(io::Error::from(ErrorKind::InvalidInput));
+    };
+    match word.as_str().parse::<u32>() {
+        Ok(count) => history::time(rt, count),
+        Err(_) => Err(io::Error::from(ErrorKind::InvalidInput)),
+    }
+}
+
+/// Times the work of this name. The words are the number that it needs, how often it is done on
+/// each text, and the files of the texts.
+fn time_all(rt: &HostRuntime, name: &str, words: &[String]) -> io::Result<()> {
+    let job = Job {
+        work: work::named(name),
+        number: count(words.first()),
+    };
+    let texts = texts_of(rt, words.get(2..).unwrap_or(&[]))?;
+    for run in 0..count(words.get(1)) {
+        let _run = run;
+        print_times(rt, job, &texts)?;
+    }
+    Ok(())
+}
+
+/// The texts of these files.
+fn texts_of(rt: &HostRuntime, paths: &[String]) -> io::Result<Vec<Vec<u8>>> {
+    let mut texts = Vec::new(rt.alloc());
+    for path in paths {
+        texts.push(fs::read(rt, path.as_str())?)?;
+    }
+    Ok(texts)
+}
+
+/// Does the work on each text in turn, and prints a line for each: the seconds that it took.
+fn print_times(rt: &HostRuntime, job: Job, texts: &[Vec<u8>]) -> io::Result<()> {
+    for text in texts {
+        let took = seconds(rt, job, text)?;
+        println!(rt; "{took:.6}")?;
+    }
+    Ok(())
+}
+
+/// The count that a word names, or none.
+fn count(word: Option<&String>) -> usize {
+    match word {
+        Some(word) => word.as_str().parse::<usize>().unwrap_or(0),
+        None => 0,
+    }
+}
