@@ -15,6 +15,7 @@ mod server;
 mod streams;
 mod words;
 
+use line_words::cut;
 use manner::{Manner, manner_of};
 use row::Row;
 use std::io::Write;
@@ -30,7 +31,10 @@ pub(crate) fn play(rt: &HostRuntime, text: &[u8]) -> io::Result<()> {
 
 /// Plays the rows of a text, behind this one.
 fn play_rows<'a>(rt: &HostRuntime, text: &'a [u8], row: &mut Row<'a>) -> io::Result<()> {
-    for line in text.split(|octet| *octet == b'\n') {
+    let mut unread = Some(text);
+    while let Some(rest) = unread {
+        let (line, after) = cut(rest, b'\n');
+        unread = after;
         match manner_of(line) {
             Some(manner) => {
                 print(rt, row)?;

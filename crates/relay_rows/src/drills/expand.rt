@@ -5,29 +5,25 @@ use std::alloc::{AllocError, Global};
 /// The most that a number of a repeat can be.
 const MOST: u64 = 1_000_000;
 
-/// The header of A(I, K), with `#` in the place of I, and the empty line behind it
-/// (docs/FORMATS.md, Example article).
-const HEADER: &[&[u8]] = &[
-    b"Path: one.example!not-for-mail",
-    b"From: a@x.example",
-    b"Newsgroups: misc.test",
-    b"Subject: t",
-    b"Message-ID: <#@x>",
-    b"Date: Fri, 01 Jan 2021 00:00:00 +0000",
-    b"",
-];
+/// The lines that send the header of A(I, K), the empty line behind it and the front of its body,
+/// with `%` in the place of the session and `#` in that of I (docs/FORMATS.md, Example article).
+const HEADER: &[u8] = b"send % Path: one.example!not-for-mail\nsend % From: a@x.example\n\
+    send % Newsgroups: misc.test\nsend % Subject: t\nsend % Message-ID: <#@x>\n\
+    send % Date: Fri, 01 Jan 2021 00:00:00 +0000\nsend % \nsend % ";
 
 /// The hexadecimal digits.
 const DIGITS: &[u8; 16] = b"0123456789ABCDEF";
 
 /// The text with what stands between each `{` and `}` written out.
 pub fn expanded(alloc: Global, text: &[u8]) -> Result<Vec<u8>, AllocError> {
-    let (front, _) = cut(text, b'{');
+    let (front, mut unread) = cut(text, b'{');
     let mut whole = Vec::from_slice(alloc, front)?;
-    for marked in text.split(|octet| *octet == b'{').skip(1) {
+    while let Some(rest) = unread {
+        let (marked, after) = cut(rest, b'{');
         let (inside, behind) = cut(marked, b'}');
         add_marked(alloc, &mut whole, inside)?;
         whole.extend_from_slice(behind.unwrap_or(b""))?;
+        unread = after;
     }
     Ok(whole)
 }
@@ -81,18 +77,25 @@ fn add_numbered(
     let last = number_within(0, MOST, ends.1).unwrap_or(0);
     for number in first..=last {
         let digits = format!(in alloc; "{number}")?;
-        add_with(whole, text, digits.as_bytes())?;
+        // No session is named here: a `%` stays one.
+        add_with(whole, text, b"%", digits.as_bytes())?;
     }
     Ok(())
 }
 
-/// Adds a text with this in the place of each `#`.
-fn add_with(whole: &mut Vec<u8>, text: &[u8], with: &[u8]) -> Result<(), AllocError> {
-    let (front, _) = cut(text, b'#');
-    whole.extend_from_slice(front)?;
-    for part in text.split(|octet| *octet == b'#').skip(1) {
-        whole.extend_from_slice(with)?;
-        whole.extend_from_slice(part)?;
+/// Adds a text with these in the place of each `%` and of each `#`.
+fn add_with(
+    whole: &mut Vec<u8>,
+    text: &[u8],
+    session: &[u8],
+    number: &[u8],
+) -> Result<(), AllocError> {
+    for octet in text {
+        match *octet {
+            b'%' => whole.extend_from_slice(session)?,
+            b'#' => whole.extend_from_slice(number)?,
+            other => whole.push(other)?,
+        }
     }
     Ok(())
 }
@@ -102,21 +105,7 @@ fn add_article(whole: &mut Vec<u8>, words: Option<&[u8]>) -> Result<(), AllocErr
     let Some((session, id, count)) = three_parts(words, b' ') else {
         return Ok(());
     };
-    for line in HEADER {
-        add_send(whole, session)?;
-        add_with(whole, line, id)?;
-        whole.push(b'\n')?;
-    }
-    add_send(whole, session)?;
+    add_with(whole, HEADER, session, id)?;
     add_repeat(whole, count, b"x")?;
-    whole.push(b'\n')?;
-    add_send(whole, session)?;
-    whole.extend_from_slice(b".")
-}
-
-/// Adds the words before the text of a line that is sent by this session.
-fn add_send(whole: &mut Vec<u8>, session: &[u8]) -> Result<(), AllocError> {
-    whole.extend_from_slice(b"send ")?;
-    whole.extend_from_slice(session)?;
-    whole.extend_from_slice(b" ")
+    add_with(whole, b"\nsend % .", session, id)
 }

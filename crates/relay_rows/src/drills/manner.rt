@@ -1,4 +1,5 @@
 //! How a row is played, and what is printed of it.
+use line_words::cut;
 use std::alloc::{AllocError, Global};
 
 /// The line behind which stands what a row gives in pieces of one octet, where that differs.
@@ -64,15 +65,15 @@ pub fn add_cut(
 pub fn counted(alloc: Global, text: &[u8]) -> Result<Vec<u8>, AllocError> {
     let mut lines = 0u64;
     let mut last: &[u8] = b"";
-    for line in text.split(|octet| *octet == b'\n') {
+    let mut unread = Some(text);
+    while let Some(rest) = unread {
+        let (line, after) = cut(rest, b'\n');
+        unread = after;
         if !line.is_empty() {
             lines = lines.saturating_add(1);
             last = line;
         }
     }
     let counts = format!(in alloc; "{lines} lines, {} octets, at last:\n", text.len())?;
-    let mut printed = Vec::from_slice(alloc, counts.as_bytes())?;
-    printed.extend_from_slice(last)?;
-    printed.push(b'\n')?;
-    Ok(printed)
+    [counts.as_bytes(), last, b"\n"].concat(alloc)
 }

@@ -96,9 +96,8 @@ impl<'a> Row<'a> {
 
     /// What is printed of the row as it is and in pieces of one octet.
     fn play_twice(&self, rt: &HostRuntime, script: &[u8]) -> io::Result<Vec<u8>> {
+        let split = [SPLIT, script].concat(rt.alloc())?;
         let whole = self.play_script(rt, script)?;
-        let mut split = Vec::from_slice(rt.alloc(), SPLIT)?;
-        split.extend_from_slice(script)?;
         let pieces = self.play_script(rt, &split)?;
         Ok(joined(whole, &pieces)?)
     }
