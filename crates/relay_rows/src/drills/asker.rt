@@ -11,11 +11,11 @@ pub fn ask(alloc: Global, manner: &[u8], folder: &str, request: Request) -> io::
     if let Some(kind) = failure_of(manner) {
         return Err(io::Error::from(kind));
     }
-    let told = match request {
-        Request::Stop => format!(in alloc; "{folder} was told to stop\n")?,
-        Request::Report => format!(in alloc; "{folder} was asked for its report\n")?,
+    let told: &[u8] = match request {
+        Request::Stop => b" was told to stop\n",
+        Request::Report => b" was asked for its report\n",
     };
-    Ok(Vec::from_slice(alloc, told.as_bytes())?)
+    Ok([folder.as_bytes(), told].concat(alloc)?)
 }
 
 /// The failure that a row's line names: no socket is there, nobody hears at it, it is another
