@@ -110,7 +110,7 @@ pub fn serve_all(rt: &HostRuntime, words: &[String]) -> io::Result<()> {
     match System::new(rt, rt.alloc(), config, stores) {
         Ok(mut relay) => {
             let served = serve_each(rt, &mut relay, words);
-            drop(relay);
+            relay.let_go();
             served
         }
         Err(error) => {
