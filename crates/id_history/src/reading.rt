@@ -19,45 +19,45 @@ use std::alloc::Global;
 pub(crate) const MARK: [u8; 4] = *b"CNR1";
 
 /// One octet.
-fn octet(bytes: &[u8]) -> Result<(u8, &[u8]), HistoryError>
-    ensures { Gives (λ x. (x.0, x.1.now)) result (octet_at bytes.now) }
+fn octet(bytes: &[u8]) -> Option<(u8, &[u8])>
+    ensures { octet_at bytes.now ≡ option_map (λ x. (x.0, x.1.now)) result }
 {
     match bytes {
-        [] => Err(HistoryError::BadHistory),
-        [octet, rest @ ..] => Ok((*octet, rest)),
+        [] => None,
+        [octet, rest @ ..] => Some((*octet, rest)),
     }
 }
 
 /// A number of four octets.
-fn number32(bytes: &[u8]) -> Result<(u32, &[u8]), HistoryError>
-    ensures { Gives (λ x. (x.0, x.1.now)) result (number_at w32 bytes.now) }
+fn number32(bytes: &[u8]) -> Option<(u32, &[u8])>
+    ensures { number_at w32 bytes.now ≡ option_map (λ x. (x.0, x.1.now)) result }
 {
     if bytes.len() < 4 {
-        return Err(HistoryError::BadHistory);
+        return None;
     }
     let (front, rest) = bytes.split_at(4);
     let number = u32::from_be_bytes([front[0], front[1], front[2], front[3]]);
-    Ok((number, rest))
+    Some((number, rest))
 }
 
 /// A number of eight octets.
-fn number64(bytes: &[u8]) -> Result<(u64, &[u8]), HistoryError>
-    ensures { Gives (λ x. (x.0, x.1.now)) result (number_at w64 bytes.now) }
+fn number64(bytes: &[u8]) -> Option<(u64, &[u8])>
+    ensures { number_at w64 bytes.now ≡ option_map (λ x. (x.0, x.1.now)) result }
 {
     if bytes.len() < 8 {
-        return Err(HistoryError::BadHistory);
+        return None;
     }
     let (front, rest) = bytes.split_at(8);
     let number = u64::from_be_bytes([
         front[0], front[1], front[2], front[3], front[4], front[5], front[6], front[7],
     ]);
-    Ok((number, rest))
+    Some((number, rest))
 }
 
 /// A token.
 #[tactic(auto, unfolding(crate::specs::Reading::token_at))]
-fn token(bytes: &[u8]) -> Result<(Token, &[u8]), HistoryError>
-    ensures { Gives (λ x. (token_view x.0, x.1.now)) result (token_at bytes.now) }
+fn token(bytes: &[u8]) -> Option<(Token, &[u8])>
+    ensures { token_at bytes.now ≡ option_map (λ x. (token_view x.0, x.1.now)) result }
 {
     let (class, rest) = octet(bytes)?;
     let (buffer, rest) = octet(rest)?;
@@ -71,7 +71,7 @@ fn token(bytes: &[u8]) -> Result<(Token, &[u8]), HistoryError>
         first,
         length,
     };
-    Ok((token, rest))
+    Some((token, rest))
 }
 
 /// A message-id.
@@ -79,7 +79,9 @@ fn token(bytes: &[u8]) -> Result<(Token, &[u8]), HistoryError>
 fn id(alloc: Global, bytes: &[u8]) -> Result<(MsgId, &[u8]), HistoryError>
     ensures { Gives (λ x. (x.0, x.1.now)) result (id_at bytes.now) }
 {
-    let (count, rest) = octet(bytes)?;
+    let Some((count, rest)) = octet(bytes) else {
+        return Err(HistoryError::BadHistory);
+    };
     let count = usize::from(count);
     if rest.len() < count {
         return Err(HistoryError::BadHistory);
@@ -94,20 +96,21 @@ fn id(alloc: Global, bytes: &[u8]) -> Result<(MsgId, &[u8]), HistoryError>
 
 /// What became of a message-id: the token, where it is stored, and the moment.
 #[tactic(auto, unfolding(crate::specs::Reading::fate_at))]
-fn fate(bytes: &[u8]) -> Result<(Option<Token>, u64, &[u8]), HistoryError>
-    ensures { Gives (λ x. ((option_map token_view x.0, x.1), x.2.now)) result (fate_at bytes.now) }
+fn fate(bytes: &[u8]) -> Option<(Option<Token>, u64, &[u8])>
+    ensures { fate_at bytes.now
+        ≡ option_map (λ x. ((option_map token_view x.0, x.1), x.2.now)) result }
 {
     match bytes {
         [1, rest @ ..] => {
             let (moment, rest) = number64(rest)?;
-            Ok((None, moment, rest))
+            Some((None, moment, rest))
         }
         [2, rest @ ..] => {
             let (moment, rest) = number64(rest)?;
             let (token, rest) = token(rest)?;
-            Ok((Some(token), moment, rest))
+            Some((Some(token), moment, rest))
         }
-        _ => Err(HistoryError::BadHistory),
+        _ => None,
     }
 }
 
@@ -117,8 +120,10 @@ fn kept_id(alloc: Global, bytes: &[u8]) -> Result<(KeptId, &[u8]), HistoryError>
     ensures { Gives (λ x. (id_view x.0, x.1.now)) result (kept_id_at bytes.now) }
 {
     let (id, rest) = id(alloc, bytes)?;
-    let (token, moment, rest) = fate(rest)?;
-    Ok((KeptId { id, token, moment }, rest))
+    match fate(rest) {
+        Some((token, moment, rest)) => Ok((KeptId { id, token, moment }, rest)),
+        None => Err(HistoryError::BadHistory),
+    }
 }
 
 /// So many message-ids.
@@ -144,7 +149,9 @@ fn tokens(alloc: Global, count: u32, bytes: &[u8]) -> Result<(Vec<Token>, &[u8])
     let mut tokens = Vec::new(alloc);
     let mut rest = bytes;
     for _ in 0..count {
-        let (one, after) = token(rest)?;
+        let Some((one, after)) = token(rest) else {
+            return Err(HistoryError::BadHistory);
+        };
         tokens.push(one)?;
         rest = after;
     }
@@ -156,10 +163,18 @@ fn tokens(alloc: Global, count: u32, bytes: &[u8]) -> Result<(Vec<Token>, &[u8])
 fn feed(alloc: Global, bytes: &[u8]) -> Result<(KeptFeed, &[u8]), HistoryError>
     ensures { Gives (λ x. (feed_view x.0, x.1.now)) result (feed_at bytes.now) }
 {
-    let (gained, rest) = number64(bytes)?;
-    let (passed, rest) = number64(rest)?;
-    let (taken, rest) = number64(rest)?;
-    let (count, rest) = number32(rest)?;
+    let Some((gained, rest)) = number64(bytes) else {
+        return Err(HistoryError::BadHistory);
+    };
+    let Some((passed, rest)) = number64(rest) else {
+        return Err(HistoryError::BadHistory);
+    };
+    let Some((taken, rest)) = number64(rest) else {
+        return Err(HistoryError::BadHistory);
+    };
+    let Some((count, rest)) = number32(rest) else {
+        return Err(HistoryError::BadHistory);
+    };
     let (waiting, rest) = tokens(alloc, count, rest)?;
     let feed = KeptFeed {
         gained,
@@ -193,7 +208,9 @@ fn positions(alloc: Global, count: u32, bytes: &[u8]) -> Result<(Vec<u32>, &[u8]
     let mut positions = Vec::new(alloc);
     let mut rest = bytes;
     for _ in 0..count {
-        let (one, after) = number32(rest)?;
+        let Some((one, after)) = number32(rest) else {
+            return Err(HistoryError::BadHistory);
+        };
         positions.push(one)?;
         rest = after;
     }
@@ -206,7 +223,9 @@ fn counted_ids(alloc: Global, bytes: &[u8]) -> Result<(Vec<KeptId>, &[u8]), Hist
     ensures { Gives (λ x. (map id_view x.0.items, x.1.now)) result
         (counted_at w64 kept_id_at bytes.now) }
 {
-    let (count, rest) = number64(bytes)?;
+    let Some((count, rest)) = number64(bytes) else {
+        return Err(HistoryError::BadHistory);
+    };
     kept_ids(alloc, count, rest)
 }
 
@@ -220,9 +239,13 @@ fn lists(
 ) -> Result<(History, &[u8]), HistoryError>
     ensures { Gives (λ x. (history_view x.0, x.1.now)) result (lists_at stop newest bytes.now) }
 {
-    let (count, rest) = number32(bytes)?;
+    let Some((count, rest)) = number32(bytes) else {
+        return Err(HistoryError::BadHistory);
+    };
     let (positions, rest) = positions(alloc, count, rest)?;
-    let (count, rest) = number32(rest)?;
+    let Some((count, rest)) = number32(rest) else {
+        return Err(HistoryError::BadHistory);
+    };
     let (feeds, rest) = feeds(alloc, count, rest)?;
     let (ids, rest) = match counted_ids(alloc, rest) {
         Ok(read) => read,
@@ -257,8 +280,12 @@ fn all(alloc: Global, bytes: &[u8]) -> Result<History, HistoryError>
     ensures { Gives history_view result (all_of bytes.now) }
 {
     let rest = marked(bytes)?;
-    let (stop, rest) = number64(rest)?;
-    let (newest, rest) = number64(rest)?;
+    let Some((stop, rest)) = number64(rest) else {
+        return Err(HistoryError::BadHistory);
+    };
+    let Some((newest, rest)) = number64(rest) else {
+        return Err(HistoryError::BadHistory);
+    };
     let (history, rest) = lists(alloc, stop, newest, rest)?;
     if !rest.is_empty() {
         drop(history);

@@ -46,16 +46,14 @@ fn put_numbers(out: &mut Vec<u8>, stop: u64, newest: u64) -> Result<(), AllocErr
 fn put32(out: &mut Vec<u8>, number: u32) -> Result<(), AllocError>
     ensures { OnOk result (out.new.items ≡ out.old.items ++ to_be_bytes w32 number) }
 {
-    out.extend_from_slice(&number.to_be_bytes())?;
-    Ok(())
+    out.extend_from_slice(&number.to_be_bytes())
 }
 
 /// A number of eight octets.
 fn put64(out: &mut Vec<u8>, number: u64) -> Result<(), AllocError>
     ensures { OnOk result (out.new.items ≡ out.old.items ++ to_be_bytes w64 number) }
 {
-    out.extend_from_slice(&number.to_be_bytes())?;
-    Ok(())
+    out.extend_from_slice(&number.to_be_bytes())
 }
 
 /// The positions, after their number.
