@@ -21,7 +21,7 @@ use std::thread;
 use std::thread::{PromisedHandle, Scope, Threads};
 
 /// Why no seats come back.
-#[derive(Clone, Copy, Debug, PartialEq, Eq)]
+#[derive(Clone, Copy)]
 pub enum SeatsError {
     /// Memory ran out before a thread was started.
     Memory,
@@ -201,27 +201,26 @@ fn run_threads<
     let ends = plans.len();
     let groups = writers.len();
     let alloc = *plans.allocator();
-    let Ok((mut running, mut serving)) = no_handles(alloc, groups, ends) else {
-        return Err(SeatsError::Memory);
-    };
-    let Ok(mut seats) = no_seats(alloc, groups, ends) else {
+    let Ok((mut running, mut serving, mut seats)) = no_rooms(alloc, groups, ends) else {
         return Err(SeatsError::Memory);
     };
     if !start_writers(scope, rt, channels, store, writers, ends, &mut running) {
         leave_running(rt, channels, plans, running.len());
+        drop(seats);
         return Err(SeatsError::NoThread);
     }
     let all = start_ends(scope, rt, channels, plans, leaves, &mut serving);
     join_ends(rt, channels, serving, &mut seats.lefts, &mut seats.services);
     join_writers(rt, channels, ends, running, &mut seats.writers);
     if !all {
+        drop(seats);
         return Err(SeatsError::NoThread);
     }
     Ok(seats)
 }
 
-/// Room for the handles of so many writers and ends.
-fn no_handles<'s, L: Ledger, O: Outcome + Drop, V: Accounts + Drop>(
+/// Room for the handles and the seats of so many writers and ends.
+fn no_rooms<'s, L: Ledger, O: Outcome + Drop, V: Accounts + Drop>(
     alloc: Global,
     groups: usize,
     ends: usize,
@@ -229,17 +228,21 @@ fn no_handles<'s, L: Ledger, O: Outcome + Drop, V: Accounts + Drop>(
     (
         Vec<PromisedHandle<WriterSeat<L, O>, WriterFinished<'s>>>,
         Vec<PromisedHandle<Leaver<V>, EndFinished<'s, V>>>,
+        Seats<L, O, V>,
     ),
     AllocError,
 >
-    ensures none { IfOk result (λ handles. (length handles.0.items ≡ 0)
-        × (length handles.1.items ≡ 0)) }
-    ensures room { IfOk result (λ handles. (groups ≤ vec_capacity handles.0)
-        × (ends ≤ vec_capacity handles.1)) }
+    ensures none { IfOk result (λ rooms. (length rooms.0.items ≡ 0)
+        × (length rooms.1.items ≡ 0) × (length rooms.2.lefts.items ≡ 0)
+        × (length rooms.2.services.items ≡ 0) × (length rooms.2.writers.items ≡ 0)) }
+    ensures room { IfOk result (λ rooms. (groups ≤ vec_capacity rooms.0)
+        × (ends ≤ vec_capacity rooms.1) × (ends ≤ vec_capacity rooms.2.lefts)
+        × (ends ≤ vec_capacity rooms.2.services) × (groups ≤ vec_capacity rooms.2.writers)) }
 {
     let running = Vec::with_capacity(alloc, groups)?;
     let serving = Vec::with_capacity(alloc, ends)?;
-    Ok((running, serving))
+    let seats = no_seats(alloc, groups, ends)?;
+    Ok((running, serving, seats))
 }
 
 /// Room for the seats of so many writers and ends.

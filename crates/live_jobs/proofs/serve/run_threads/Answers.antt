@@ -27,14 +27,14 @@ start_ends-all-requires-clause-room g c κs within = (
 -- and for the seats
 pub join_ends-requires-clause-none : goal.join_ends-requires-clause-none
 join_ends-requires-clause-none g c =
-    (c.in-Ok-no_seats.ensures.none.0, c.in-Ok-no_seats.ensures.none.1)
+    (c.in-Ok.ensures.none.2, c.in-Ok.ensures.none.3)
 
 pub join_ends-requires-clause-room : goal.join_ends-requires-clause-room
 join_ends-requires-clause-room g c =
-    let room = c.in-Ok-no_seats.ensures.room in
+    let room = c.in-Ok.ensures.room in
     let all = c.args.plans.ok.0 in (
-      omega (arith, all, c.start_ends-all.ensures.some, room.0, c.len-ends.ensures),
-      omega (arith, all, c.start_ends-all.ensures.some, room.1, c.len-ends.ensures),
+      omega (arith, all, c.start_ends-all.ensures.some, room.2, c.len-ends.ensures),
+      omega (arith, all, c.start_ends-all.ensures.some, room.3, c.len-ends.ensures),
     )
 
 pub join_writers-requires-clause-room : goal.join_writers-requires-clause-room
@@ -42,7 +42,7 @@ join_writers-requires-clause-room g c =
     omega (
       arith,
       c.start_writers.ensures.some,
-      c.in-Ok-no_seats.ensures.room.2,
+      c.in-Ok.ensures.room.4,
       c.len-groups.ensures,
       c.args.writers.ok.0,
     )
