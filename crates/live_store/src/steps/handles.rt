@@ -8,7 +8,7 @@ use cyc_buffer::{BufError, Fault};
 
 /// Nothing is stored, and no device failed: the text is none for the buffer, another write is open
 /// there, or the open write isn't the record's. The steps alone say so.
-#[derive(Clone, Copy, Debug, PartialEq, Eq)]
+#[derive(Clone, Copy)]
 pub struct Conflict(pub(super) ());
 
 /// The octets of a text, where it has some and no more than a token can say.

@@ -78,39 +78,33 @@ impl Record {
     {
         let Begun { token, fresh } = begun;
         for _ in rt.forever() {
-            let record = Record {
-                token: Snapshot::of(&token),
-                text: Snapshot::of(text),
-                fresh: Snapshot::of(&fresh),
-            };
-            match register.enter(rt, record) {
-                Ok(shown) => return Entered::new(token, shown),
-                Err(refused) => {
-                    drop(refused);
-                    thread::yield_now();
-                }
+            if let Ok(shown) = Record::enter_once(rt, register, &token, fresh, text) {
+                return Entered::new(token, shown);
             }
+            thread::yield_now();
         }
         unreachable!()
     }
 
-    /// Enters an article that a start read under its token. Where memory is refused it isn't
+    /// Enters an article under its token in the register. Where memory is refused it isn't
     /// entered.
-    pub(super) fn enter_again<R: Wait>(
+    pub(super) fn enter_once<R: Wait>(
         rt: &R,
         register: &ArticleLog,
         token: &Token,
+        fresh: bool,
         text: &Vec<u8>,
     ) -> Result<RecordNumber, AllocError>
         requires article { ∥ IsArticle text.now.items ∥₁ }
         ensures shown { IfOk result (Shows register.now) }
         ensures token { IfOk result (λ shown. named_in shown ≡ token.now) }
+        ensures fresh { IfOk result (λ shown. fresh_in shown ≡ fresh) }
         ensures text { IfOk result (λ shown. text_in shown ≡ text.now.items) }
     {
         let record = Record {
             token: Snapshot::of(token),
             text: Snapshot::of(text),
-            fresh: Snapshot::of(&false),
+            fresh: Snapshot::of(&fresh),
         };
         match register.enter(rt, record) {
             Ok(shown) => Ok(shown),

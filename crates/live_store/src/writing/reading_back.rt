@@ -84,7 +84,7 @@ fn enter_article<S: BlockStore, R: Wait>(
 {
     let text = read_text(alloc, buffer, token)?;
     judge(alloc, &text)?;
-    match Record::enter_again(rt, register, token, &text) {
+    match Record::enter_once(rt, register, token, false, &text) {
         Ok(shown) => Ok(shown),
         Err(_refused) => Err(StartError::Memory),
     }

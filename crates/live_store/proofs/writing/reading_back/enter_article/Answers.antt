@@ -19,8 +19,8 @@ returns-in-Ok-clause-text g c h agrees live =
     c.in-Ok.ensures.text ∙ c.in_ok-text.ensures.text h agrees live
 
 -- what was judged is the text
-pub enter_again-requires : goal.enter_again-requires
-enter_again-requires g c = record {
+pub enter_once-requires : goal.enter_once-requires
+enter_once-requires g c = record {
   article = subst (λ octets. ∥ IsArticle octets ∥₁) c.deref.ensures.value
       c.in_ok-judge.ensures.article;
 }
