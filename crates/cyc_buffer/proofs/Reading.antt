@@ -14,7 +14,7 @@ use Rattle.cyc_token.specs.declared.Token.{Token}
 use Rattle.cyc_buffer.specs.Agreement.{Holds}
 use Rattle.cyc_buffer.specs.Answers.{Answer, Chunk, Gone, Unknown, by_text, front_view}
 use Rattle.cyc_buffer.specs.Answers.{or_by_text, answer, Shows, IsLiveBlock, IsOfLive, IsUnread}
-use Rattle.cyc_buffer.specs.Answers.{IsRead}
+use Rattle.cyc_buffer.specs.Answers.{IsRead, IsOther}
 use Rattle.cyc_buffer.specs.History.{Article, History, finished_at, text_under}
 use Rattle.cyc_buffer.specs.History.{text_of}
 use Rattle.cyc_buffer.specs.Look.{look_by, look_of, has_marks, numbers_of}
@@ -323,6 +323,15 @@ module _ (r : BufferState) (h : History) (token : Token) (k : ℕ) (keeps : Keep
           → by_text k (text_under h (token_view token)) ≡ Unknown
       by_none None e = ap (by_text k) e
       by_none (Some text) e = absurd (none text e)
+
+-- a chunk, and that nothing is known, say of nothing that it is gone
+pub other_chunk : (octets : ℕ) (numbers : Option Answer) → IsOther (found.Chunk octets) numbers
+other_chunk octets (Some answer) = tt
+other_chunk octets None = tt
+
+pub other_unknown : (numbers : Option Answer) → IsOther found.Unknown numbers
+other_unknown (Some answer) = tt
+other_unknown None = tt
 
 -- What is known of a block that may be a finished article's.
 module _ (r : BufferState) (h : History) (block : ℕ) (keeps : Keeps r h)

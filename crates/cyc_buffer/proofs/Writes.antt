@@ -3,7 +3,8 @@ use Rattle.std.proofs.Common.{◌≡◌, ◌≢◌, ◌∙◌, ℕ, ◌+◌, ◌
 use Rattle.std.proofs.Common.{true, false, refl, sym, ap, subst, arith, List, [], ◌∷◌, length, take}
 use Rattle.std.proofs.Common.{drop, set, Result, Ok, Err, is_err, OnOk, Option, None, Some}
 use Rattle.std.specs.List.{AllByRecursion}
-use Rattle.std.proofs.lemmas.Bool.{cases_lt, true≢false}
+use Rattle.std.specs.Prelude.{OnErr}
+use Rattle.std.proofs.lemmas.Bool.{cases_lt, false≢true, true≢false}
 use Rattle.std.proofs.lemmas.List.{take-take, take_all, drop-take, length-take, length-drop}
 use Rattle.std.proofs.lemmas.List.{get_or-set_same}
 use Rattle.news_terms.specs.BlockImage.{Block, block_of, block_image, chunk, chunk_size}
@@ -337,6 +338,11 @@ chunk_length k text = length-take chunk_size (drop (chunk_size * k) text)
 pub without_error : {T E P : Type 0} (r : Result T E) → is_err r ≡ false → OnOk r P → P
 without_error (Ok x) e h = h
 without_error (Err x) e h = absurd (true≢false e)
+
+-- what is so where there is an error, is so where there is one
+pub with_error : {T E P : Type 0} (r : Result T E) → is_err r ≡ true → OnErr r P → P
+with_error (Ok x) e h = absurd (false≢true e)
+with_error (Err x) e h = h
 
 -- the block that was written holds the image of its stamp and chunk
 pub image_there : (blocks after : List (List ℕ)) (stamp : Stamp) (token : Token) (k : ℕ)

@@ -2,15 +2,18 @@
 use Rattle.std.proofs.Common.{◌≡◌, ◌∙◌, sym, ap, subst, refl, rules, inl, inr, Some}
 use Rattle.news_terms.specs.BlockImage.{block_image}
 use Rattle.cyc_block.specs.Store.{block_at}
-use Rattle.cyc_buffer.specs.Answers.{Shows, Gone}
+use Rattle.cyc_token.specs.Token.{token_view}
+use Rattle.cyc_buffer.specs.Agreement.{Holds}
+use Rattle.cyc_buffer.specs.Answers.{Shows, Gone, by_numbers}
+use Rattle.cyc_buffer.specs.History.{front_of}
 use Rattle.cyc_buffer.specs.Look.{has_marks, numbers_of}
 use Rattle.cyc_buffer.specs.declared.answers.Found.TheVariants as found
 use Rattle.cyc_buffer.specs.declared.answers.Front.{Front}
 use Rattle.cyc_buffer.proofs.Reading.{unknown_answer, there, there_under, answer_none, look_block}
 use Rattle.cyc_buffer.proofs.Reading.{not_unread, looked_up, block_is_gone, block_is_unknown}
-use Rattle.cyc_buffer.proofs.Reading.{shows_chunk, gone_answer}
+use Rattle.cyc_buffer.proofs.Reading.{shows_chunk, gone_answer, other_chunk, other_unknown}
 use Rattle.cyc_buffer.proofs.RememberedLemmas.{gone_numbers, read_within}
-use Rattle.cyc_buffer.proofs.Writes.{without_error}
+use Rattle.cyc_buffer.proofs.Writes.{with_error, without_error}
 use Rattle.cyc_buffer.proofs.buffer.Buffer.read_block.Goals as goal
 
 pub returns-in-Unknown-clause-reads : goal.returns-in-Unknown-clause-reads
@@ -24,7 +27,8 @@ returns-in-Unknown-clause-reads g c =
           (sym (unknown_answer r h token k agrees.keeps r.line.within is)) tt;
       unread = λ trusted h agrees unread. subst (Shows found.Unknown c.args.chunk.now)
           (sym (unknown_answer r h token k agrees.keeps r.line.within is)) tt;
-      other = search rules;
+      other = λ trusted h agrees. other_unknown
+          (by_numbers h.buffer (front_of h) (token_view token) k);
       fault = tt;
       room = tt;
       rest = refl;
@@ -78,14 +82,25 @@ returns-then-is_err-clause-reads g c =
       fault = search rules;
       room = tt;
       rest = refl;
-      same = search rules;
+      same = λ trusted h agrees. record {
+        keeps = agrees.keeps;
+        honest = λ is. c.read.ensures.honest (agrees.honest is);
+        holds = λ is. subst (λ blocks. Holds blocks r h)
+            (sym (c.read.ensures.same (agrees.honest is))) (agrees.holds is);
+      };
       buffer_state = refl;
       opened = refl;
       calls = inr c.read.ensures.calls;
       uncalled = λ trusted h agrees unread. absurd
           (not_unread r h token k agrees.keeps r.line.within block.0 block.1 unread);
       read = λ trusted h agrees read. c.read.ensures.calls;
-      device = search rules;
+      device = record {
+        failed = with_error c.read.result (sym c.is_err.ensures.value ∙ c.if-is_err.true)
+            c.read.ensures.failed;
+        no_failure = tt;
+        honest = c.read.ensures.honest;
+        blocks = c.read.ensures.count;
+      };
     }
 
 pub returns-in-Some-clause-reads : goal.returns-in-Some-clause-reads
@@ -109,11 +124,17 @@ returns-in-Some-clause-reads g c =
           taken.0 taken.1;
       unread = λ trusted h agrees unread. absurd
           (not_unread r h token k agrees.keeps r.line.within block.0 block.1 unread);
-      other = search rules;
+      other = λ trusted h agrees. other_chunk c.in-Some.octets
+          (by_numbers h.buffer (front_of h) (token_view token) k);
       fault = tt;
       room = c.in-Some.ensures.room;
       rest = c.in-Some.ensures.rest;
-      same = search rules;
+      same = λ trusted h agrees. record {
+        keeps = agrees.keeps;
+        honest = λ is. c.read.ensures.honest (agrees.honest is);
+        holds = λ is. subst (λ blocks. Holds blocks r h)
+            (sym (c.read.ensures.same (agrees.honest is))) (agrees.holds is);
+      };
       buffer_state = refl;
       opened = refl;
       calls = inr c.read.ensures.calls;
@@ -150,11 +171,17 @@ returns-in-None-clause-reads g c =
           c.in-None.ensures.same t.block t.is_block image t.says))) tt;
       unread = λ trusted h agrees unread. absurd
           (not_unread r h token k agrees.keeps r.line.within block.0 block.1 unread);
-      other = search rules;
+      other = λ trusted h agrees. other_unknown
+          (by_numbers h.buffer (front_of h) (token_view token) k);
       fault = tt;
       room = tt;
       rest = c.in-None.ensures.none;
-      same = search rules;
+      same = λ trusted h agrees. record {
+        keeps = agrees.keeps;
+        honest = λ is. c.read.ensures.honest (agrees.honest is);
+        holds = λ is. subst (λ blocks. Holds blocks r h)
+            (sym (c.read.ensures.same (agrees.honest is))) (agrees.holds is);
+      };
       buffer_state = refl;
       opened = refl;
       calls = inr c.read.ensures.calls;
