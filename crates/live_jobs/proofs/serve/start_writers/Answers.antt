@@ -1,5 +1,6 @@
 use Rattle.std.proofs.Common.{◌≡◌, ◌<◌, ◌∙◌, ap, sym, Some, length, arith}
 use Rattle.std.specs.Prelude.{slice_get}
+use Rattle.std.proofs.lemmas.Bool.{false≢true}
 use Rattle.live_jobs.specs.Started.{Ready, Runs}
 use Rattle.live_jobs.proofs.Passes.{read_at}
 use Rattle.live_jobs.proofs.Rows.{from_head, from_next, from_start, from_none, each_snoc}
@@ -99,6 +100,9 @@ pub returns-clause-fit : goal.returns-clause-fit
 returns-clause-fit g c = c.loop-seat.invariant.fit
 
 -- or one couldn't be started
+pub returns-in-None-start_writer-clause-all : goal.returns-in-None-start_writer-clause-all
+returns-in-None-start_writer-clause-all g c = λ yes. absurd (false≢true yes)
+
 pub returns-in-None-start_writer-clause-some : goal.returns-in-None-start_writer-clause-some
 returns-in-None-start_writer-clause-some g c = omega (arith, c.loop-seat.invariant.count)
 
