@@ -54,7 +54,9 @@ fn token_of(octets: &[u8; BLOCK_OCTETS], buffer: u8, cycle: u32, first: u32) -> 
     ensures only { IfSome result (λ token. IsOfToken octets.now (token_view token)) }
     ensures none { IfNone result ((b : Block) → IsBlock b → octets.now ≡ image_of b → ⊥) }
 {
-    let image = read_image(octets)?;
+    let Some(image) = read_image(octets) else {
+        return None;
+    };
     Some(Token {
         class: image.stamp.class,
         buffer,

@@ -320,7 +320,9 @@ fn take_chunk(
     ensures rest { IfSome result (λ octets. drop octets chunk.new ≡ drop octets chunk.old) }
     ensures none { IfNone result (chunk.new ≡ chunk.old) }
 {
-    let read = read_image(image)?;
+    let Some(read) = read_image(image) else {
+        return None;
+    };
     let wanted = Stamp {
         cycle: token.cycle,
         first: token.first,
