@@ -87,6 +87,9 @@ module _ (heads blocks : List (List ℕ)) (buffer : Buffer) (stop : ℕ) (buffer
     same_used : buffer_state.line.used ≡ used_of h
     same_used = ap (λ (b : HeadBlock). b.head) in_buffer_state
 
+    pub same_stop : stop ≡ kept_stop
+    same_stop = ap (λ (b : HeadBlock). b.stop) in_buffer_state
+
     same_blocks : s.numbers.blocks ≡ buffer_state.line.blocks
     same_blocks = sym (ap (λ (b : HeadBlock). b.blocks) s.buffer_state_is)
 

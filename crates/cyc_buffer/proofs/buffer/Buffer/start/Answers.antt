@@ -3,7 +3,7 @@ use Rattle.std.proofs.Common.{List, ℕ, length, sym, subst}
 use Rattle.news_terms.specs.Places.{Buffer}
 use Rattle.cyc_buffer.specs.Agreement.{Holds}
 use Rattle.cyc_buffer.proofs.Answered.{holds_history, keeps_history, lists_live, outside_of}
-use Rattle.cyc_buffer.proofs.Answered.{reason_of, starts_of}
+use Rattle.cyc_buffer.proofs.Answered.{reason_of, same_stop, starts_of}
 use Rattle.cyc_buffer.proofs.buffer.Buffer.start.Goals as goal
 
 pub returns-in-Ok-clause-agrees : goal.returns-in-Ok-clause-agrees
@@ -29,6 +29,11 @@ returns-in-Ok-clause-agrees g c honest stop h held is =
           (c.in-Ok.ensures.started honest) stop h
           held);
     }
+
+pub returns-in-Ok-clause-stop : goal.returns-in-Ok-clause-stop
+returns-in-Ok-clause-stop g c honest stop h held =
+    same_stop _ _ _ c.in-Ok.stopped.stop c.in-Ok.stopped.buffer_state c.in-Ok.stopped.tokens.items
+    (c.in-Ok.ensures.started honest) stop h held
 
 pub returns-in-Ok-clause-tokens : goal.returns-in-Ok-clause-tokens
 returns-in-Ok-clause-tokens g c honest stop h held =
