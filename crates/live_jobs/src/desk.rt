@@ -15,7 +15,7 @@ use std::sync::ledger::{Book, Ledger, Share};
 const MOST_POSTS: u64 = 1 << 62;
 
 /// How many posts a desk had made, which a desk alone says.
-#[derive(Clone, Copy)]
+#[derive(Clone, Copy, Debug, PartialEq, Eq)]
 pub struct Posts {
     count: u64,
 }
