@@ -13,3 +13,8 @@ loop-preserved g c =
       config = served.same.0 ∙ before.config;
       kept = served.kept before.kept;
     }
+
+-- its peer and its configuration stay
+pub returns-in_default-clause-mark : goal.returns-in_default-clause-mark
+returns-in_default-clause-mark g c = λ i.
+    (c.loop.invariant.peer i, (c.loop.invariant.config i).now)
