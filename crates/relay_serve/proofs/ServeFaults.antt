@@ -84,7 +84,7 @@ kept None = tt
 kept (Some octets) = refl
 
 -- where nothing is served nothing is written
-none_served : (config : Config) (error : ServeError) (held : Option (List ℕ))
+pub none_served : (config : Config) (error : ServeError) (held : Option (List ℕ))
     → IsServeFault config error → ServeGives config (Err error) held held
 none_served config (faults.File lost) held names = (names, kept held)
 none_served config (faults.Port lost) held none = absurd none

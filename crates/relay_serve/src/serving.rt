@@ -65,7 +65,13 @@ where
     fill_streams(rt);
     let stop = Stop::new();
     let gate = CountingGate::new(alloc, &config.relay.peers)?;
-    let mut history = HostHistory::in_folder(rt, alloc, folder)?;
+    let mut history = match HostHistory::in_folder(rt, alloc, folder) {
+        Ok(history) => history,
+        Err(_) => {
+            drop(gate);
+            return Err(ServeError::Memory);
+        }
+    };
     let asked = Asked {
         folder,
         sessions,
@@ -215,14 +221,23 @@ where
     requires few { length access.peer_sources.items < 2 ^ 62 }
     ensures { ServeGives config.now result (W.contents writer.old) (W.contents writer.new) }
 {
-    let origin = begun_from(alloc, history, unbegun.fresh, unbegun.blank)?;
+    let origin = match begun_from(alloc, history, unbegun.fresh, unbegun.blank) {
+        Ok(origin) => origin,
+        Err(error) => {
+            drop(access);
+            drop(unbegun);
+            return Err(error);
+        }
+    };
     tell_start(rt, &origin);
     let beginning = Beginning {
         stores: unbegun.stores,
         origin,
     };
     let totals = run_on(rt, alloc, config, beginning, history, access)?;
-    print_totals(alloc, &totals, writer)
+    let printed = print_totals(alloc, &totals, writer);
+    drop(totals);
+    printed
 }
 
 /// Tells that the relay starts from what it was stopped with, where it does.
@@ -250,10 +265,20 @@ where
     ensures totals { IfOk result (AreOf config.now) }
     ensures fault { IfErr result (IsServeFault config.now) }
 {
-    let register = ArticleLog::new(alloc)?;
-    match run_watched(rt, alloc, config, beginning, &register, access) {
-        Ok(finished) => keep_finished(history, finished),
-        Err(error) => Err(error),
+    match ArticleLog::new(alloc) {
+        Ok(register) => {
+            let ran = run_watched(rt, alloc, config, beginning, &register, access);
+            drop(register);
+            match ran {
+                Ok(finished) => keep_finished(history, finished),
+                Err(error) => Err(error),
+            }
+        }
+        Err(_) => {
+            drop(access);
+            drop(beginning);
+            Err(ServeError::Memory)
+        }
     }
 }
 
