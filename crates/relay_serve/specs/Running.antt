@@ -1,6 +1,7 @@
 -- What a run of a relay in threads comes to (docs/PROTOCOL.md, Threads).
 use Rattle.std.specs.Prelude.{◌≡◌, ◌⊎◌, ◌==◌, ◌<◌, ◌^◌}
 use Rattle.std.specs.Prelude.{ℕ, List, length, slice_get, Some, if◌then◌else◌}
+use Rattle.std.specs.Prelude.{Result, IfErr, IfOk}
 use Rattle.std.specs.Prelude.{string_bytes}
 use Rattle.std.specs.Str.Lossy.{utf8_lossy}
 use Rattle.std.specs.declared.io.ErrorKind.{ErrorKind}
@@ -124,6 +125,12 @@ pub record Ran {J : Type 0} (g : Ghosts J) (config : Config) (peers : List ℕ) 
   pub posted : posts_in (posted_in counted) ≡ accepted_in counted
   pub mismatched_receipts : mismatched_receipts_of counted ≡ mismatched_receipts_in kept finished
   pub ids_stored_again : ids_stored_again_of counted ≡ ids_stored_again_in finished
+
+-- what was counted is of a run of these ends, or an error ended it
+pub record RunGives {J : Type 0} (g : Ghosts J) (config : Config) (peers : List ℕ)
+    (result : Result Counted ServeError) : Type 0 where
+  pub ran : IfOk result (Ran g config peers)
+  pub fault : IfErr result IsRunFault
 
 -- A relay can be run: the ledger has a part for each writer, all of these parts are at hand, and
 -- nothing is counted by them yet; there is a slot for each peer source, and of these not too many.

@@ -6,6 +6,7 @@ ghost use Rattle.relay_live.specs.Holding.{has_buffer};
 ghost use Rattle.relay_live.specs.Making.{buffers_in, ends_in, slots_of};
 ghost use Rattle.relay_serve.specs.Lives.{AreOfOrigin, IsNoStart, StartsAsTold};
 ghost use Rattle.relay_serve.specs.Running.{CanRun, CountsOf, IsRelayFault, IsRunFault, Ran};
+ghost use Rattle.relay_serve.specs.Running.{RunGives};
 ghost use Rattle.relay_serve.specs.Running.{ended_as};
 ghost use Rattle.relay_serve.specs.Running.{channel_count, unbegun_as};
 ghost use Rattle.relay_report.specs.Serve.{AreOf};
@@ -264,9 +265,8 @@ where
     <X as Connections<R>>::Writer: Drop + Send,
     requires { CanRun (channel_count serving.config.now) L.parts all.parts all.amount
         (slots_of keeper.now) (length serving.peer_sources.items) }
-    ensures ran { IfOk result (Ran ⟦<J as StorePremises>⟧ serving.entry.config.now
-        (map (λ peer_source. peer_source.peer) serving.entry.peer_sources.items)) }
-    ensures fault { IfErr result IsRunFault }
+    ensures { RunGives ⟦<J as StorePremises>⟧ serving.entry.config.now
+        (map (λ peer_source. peer_source.peer) serving.entry.peer_sources.items) result }
 {
     let groups = channels_of(serving.config);
     match serve_all(rt, alloc, keeper, serving, groups, all) {
@@ -318,9 +318,8 @@ where
     let run = move || -> Result<Counted, ServeError>
         requires { CanRun (channel_count serving.config.now) L.parts all.parts all.amount
             (slots_of keeper.now) (length serving.peer_sources.items) }
-        ensures ran { IfOk result (Ran J.StorePremises serving.entry.config.now
-            (map (λ peer_source. peer_source.peer) serving.entry.peer_sources.items)) }
-        ensures fault { IfErr result IsRunFault }
+        ensures { RunGives J.StorePremises serving.entry.config.now
+            (map (λ peer_source. peer_source.peer) serving.entry.peer_sources.items) result }
     { run_shared(rt, alloc, keeper, serving, all) };
     run_beside(rt, run, side, &served)
 }
