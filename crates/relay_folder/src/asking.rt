@@ -1,12 +1,11 @@
 //! Asking a relay that is served.
-use crate::socket_place::NAME;
+use crate::socket_place::{NAME, path_in};
 use crate::words::Word;
 use std::alloc::Global;
 use std::io;
 use std::io::{ErrorKind, Read, Write};
 use std::net::Net;
 use std::os::unix::net::UnixStream;
-use std::path::Path;
 
 /// Asks the relay of a folder, and gives all that it tells, until it lets go: after `stop` that is
 /// when it has ended.
@@ -18,7 +17,7 @@ pub fn ask<N: Net>(net: &N, alloc: Global, folder: &str, word: Word) -> io::Resu
 
 /// A connection to the relay of a folder.
 fn connect<N: Net>(net: &N, alloc: Global, folder: &str) -> io::Result<UnixStream> {
-    let path = Path::new(folder).join(alloc, NAME)?;
+    let path = path_in(alloc, folder, NAME)?;
     UnixStream::connect(net, path.as_str())
 }
 

@@ -3,11 +3,12 @@ ghost use Rattle.std.specs.Prelude.{None};
 ghost use Rattle.relay_folder.specs.Place.{Nothing};
 
 use crate::history_place::HistoryPlace;
+use crate::socket_place::path_in;
 use std::alloc::{AllocError, Global};
 use std::fs::{File, Files, metadata, remove_file, rename};
 use std::io;
 use std::io::{ErrorKind, Read, Write};
-use std::path::{Path, PathBuf};
+use std::path::PathBuf;
 
 /// The name of the file in the relay's folder.
 const NAME: &str = "relay.hist";
@@ -33,8 +34,8 @@ impl<'a, R> HostHistory<'a, R> {
         alloc: Global,
         folder: &'a str,
     ) -> Result<HostHistory<'a, R>, AllocError> {
-        let path = Path::new(folder).join(alloc, NAME)?;
-        let beside = Path::new(folder).join(alloc, BESIDE)?;
+        let path = path_in(alloc, folder, NAME)?;
+        let beside = path_in(alloc, folder, BESIDE)?;
         Ok(HostHistory {
             rt,
             folder,

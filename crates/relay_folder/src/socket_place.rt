@@ -1,5 +1,5 @@
 //! The place of a relay's socket in its folder.
-use std::alloc::Global;
+use std::alloc::{AllocError, Global};
 use std::fs::{
     DirBuilder, Files, Permissions, hard_link, remove_dir, remove_file, set_permissions,
     symlink_metadata,
@@ -9,7 +9,7 @@ use std::io::ErrorKind;
 use std::net::Net;
 use std::os::unix::fs::{DirBuilderExt, FileTypeExt, MetadataExt, PermissionsExt};
 use std::os::unix::net::{UnixListener, UnixStream};
-use std::path::Path;
+use std::path::{Path, PathBuf};
 
 /// The name of the socket in its folder.
 pub(crate) const NAME: &str = "control";
@@ -41,10 +41,15 @@ pub(crate) fn listen_in<R: Files + Net>(
     alloc: Global,
     folder: &str,
 ) -> io::Result<(UnixListener, Identity)> {
-    let path = Path::new(folder).join(alloc, NAME)?;
-    let room = Path::new(folder).join(alloc, ROOM)?;
-    let there = Path::new(room.as_str()).join(alloc, THERE)?;
+    let path = path_in(alloc, folder, NAME)?;
+    let room = path_in(alloc, folder, ROOM)?;
+    let there = path_in(alloc, room.as_str(), THERE)?;
     listen_over(rt, room.as_str(), there.as_str(), path.as_str())
+}
+
+/// The path of what has this name in the folder.
+pub(crate) fn path_in(alloc: Global, folder: &str, name: &str) -> Result<PathBuf, AllocError> {
+    Path::new(folder).join(alloc, name)
 }
 
 /// Listens at this path, over what another relay left there, by this folder, which is gone then.
@@ -124,7 +129,7 @@ pub(crate) fn take_away<R: Files>(
     folder: &str,
     identity: Identity,
 ) -> io::Result<()> {
-    let path = Path::new(folder).join(alloc, NAME)?;
+    let path = path_in(alloc, folder, NAME)?;
     if is_socket_at(rt, path.as_str()) && identity_at(rt, path.as_str())? == identity {
         remove_file(rt, path.as_str())?;
     }
