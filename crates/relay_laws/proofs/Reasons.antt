@@ -5,7 +5,7 @@ use Rattle.std.proofs.Common.{true≢false}
 use Rattle.std.proofs.lemmas.Option.{none-some}
 use Rattle.std.specs.Char.{is_ascii_graphic}
 use Rattle.std.specs.List.{list_all}
-use Rattle.std.specs.Prelude.{IsSomeAnd, is_some, slice_get}
+use Rattle.std.specs.Prelude.{IfErr, IfOk, IsSomeAnd, is_some, slice_get}
 use Rattle.news_terms.specs.Article.{Article, message_id, newsgroups}
 use Rattle.news_terms.specs.Dates.{date_fault}
 use Rattle.news_terms.specs.Path.{has_identity, path_octets}
@@ -79,64 +79,53 @@ record IsClassed (w : Terms) (from : ℕ) (a : Article) (found : Option Entry) (
   permitted : accepted.permitted ≡ permitted w from a
   room : fits (slice_get w.groups entry.group) (size_of (length (stored_text w from a))) ≡ true
 
--- by its class
-classed_ok : (w : Terms) (from : ℕ) (a : Article) (accepted : Accepted) (found : Option Entry)
-    → classed w from a found ≡ Ok accepted → IsClassed w from a found accepted
-classed_ok w from a accepted None e = absurd (cc)
-classed_ok w from a accepted (Some entry) e =
-    by (fits (slice_get w.groups entry.group) (size_of (length (stored_text w from a)))) refl e
-  where
-    one : Accepted
-    one = record {
-      class = entry.class;
-      group = entry.group;
-      permitted = permitted w from a;
-      text = stored_text w from a;
-    }
+-- one that falls to this class
+abbrev accepted_as : Terms → ℕ → Article → Entry → Accepted
+accepted_as w from a entry = record {
+  class = entry.class;
+  group = entry.group;
+  permitted = permitted w from a;
+  text = stored_text w from a;
+}
 
+-- by its class
+is_classed : (w : Terms) (from : ℕ) (a : Article) (found : Option Entry)
+    → IfOk (classed w from a found) (IsClassed w from a found)
+is_classed w from a None = tt
+is_classed w from a (Some entry) =
+    by (fits (slice_get w.groups entry.group) (size_of (length (stored_text w from a)))) refl
+  where
     by : (room : Bool)
         → fits (slice_get w.groups entry.group) (size_of (length (stored_text w from a))) ≡ room
-        → (if room then Ok one else Err TooLarge) ≡ Ok accepted
-        → IsClassed w from a (Some entry) accepted
-    by true has is =
-        let same : one ≡ accepted = cc in
-        record {
-          entry = entry;
-          chosen = refl;
-          class = ap (λ (o : Accepted). o.class) (sym same);
-          group = ap (λ (o : Accepted). o.group) (sym same);
-          text = ap (λ (o : Accepted). o.text) (sym same);
-          permitted = ap (λ (o : Accepted). o.permitted) (sym same);
-          room = has;
-        }
-    by false has is = absurd (cc)
+        → IfOk (if room then Ok (accepted_as w from a entry) else Err TooLarge)
+        (IsClassed w from a (Some entry))
+    by true has = record {
+      entry = entry;
+      chosen = refl;
+      class = refl;
+      group = refl;
+      text = refl;
+      permitted = refl;
+      room = has;
+    }
+    by false has = tt
 
 -- a class that gives a reason: there is none, or no room
-classed_err : (w : Terms) (from : ℕ) (id : List ℕ) (now : ℕ) (a : Article) (reason : Reason)
-    (found : Option Entry) → entry_of w from a ≡ found → classed w from a found ≡ Err reason
-    → Applies w from id now a reason
-classed_err w from id now a reason None is e =
-    let one : NoClass ≡ reason = cc in subst (Applies w from id now a) one is
-classed_err w from id now a reason (Some entry) is e =
-    by (fits (slice_get w.groups entry.group) (size_of (length (stored_text w from a)))) refl e
+gives_reason : (w : Terms) (from : ℕ) (id : List ℕ) (now : ℕ) (a : Article)
+    (found : Option Entry) → entry_of w from a ≡ found
+    → IfErr (classed w from a found) (Applies w from id now a)
+gives_reason w from id now a None is = is
+gives_reason w from id now a (Some entry) is =
+    by (fits (slice_get w.groups entry.group) (size_of (length (stored_text w from a)))) refl
   where
-    one : Accepted
-    one = record {
-      class = entry.class;
-      group = entry.group;
-      permitted = permitted w from a;
-      text = stored_text w from a;
-    }
-
     by : (room : Bool)
         → fits (slice_get w.groups entry.group) (size_of (length (stored_text w from a))) ≡ room
-        → (if room then Ok one else Err TooLarge) ≡ Err reason → Applies w from id now a reason
-    by true has same = absurd (cc)
-    by false has same =
-        let large : TooLarge ≡ reason = cc in
-        subst (Applies w from id now a) large
-        (subst (λ o. IsSomeAnd o (λ each. fits (slice_get w.groups each.group)
-        (size_of (length (stored_text w from a))) ≡ false)) (sym is) has)
+        → IfErr (if room then Ok (accepted_as w from a entry) else Err TooLarge)
+        (Applies w from id now a)
+    by true has = tt
+    by false has =
+        subst (λ o. IsSomeAnd o (λ each. fits (slice_get w.groups each.group)
+        (size_of (length (stored_text w from a))) ≡ false)) (sym is) has
 
 -- an article for which there is no class
 classed_none : (w : Terms) (from : ℕ) (id : List ℕ) (now : ℕ) (a : Article)
@@ -175,7 +164,8 @@ is_right w from id now a accepted e = by (says w from id now a)
       printable = printable;
       here = here;
       late = late;
-      class = classed_ok w from a accepted (entry_of w from a) (sym is ∙ e);
+      class = subst (λ r. IfOk r (IsClassed w from a (entry_of w from a))) (sym is ∙ e)
+          (is_classed w from a (entry_of w from a));
     }
 
 -- it has the offered message-id
@@ -251,7 +241,8 @@ said_applies w from now id a reason e = by (says w from id now a)
     by (IsLoop same printable here is) = is_said Loop is here
     by (IsLate same printable here late is) = is_said Date is late
     by (IsFree same printable here late is) =
-        classed_err w from id now a reason (entry_of w from a) refl (sym is ∙ e)
+        subst (λ r. IfErr r (Applies w from id now a)) (sym is ∙ e)
+        (gives_reason w from id now a (entry_of w from a) refl)
 
 -- another message-id
 pub other_id_said : (w : Terms) (from now : ℕ) (id : List ℕ) (a : Article)
