@@ -16,7 +16,7 @@ mod stop;
 mod tally;
 mod wire;
 
-pub use connections::{Connections, Given};
+pub use connections::Connections;
 pub use line::Line;
 pub use port::Port;
 pub use stop::Stop;

@@ -1,6 +1,5 @@
 //! A port of a peer.
-ghost use Rattle.std.specs.Prelude.{◌≡◌, [], IfOk, IfSome};
-ghost use Rattle.live_wire.specs.Wire.{heard_by, said_by};
+ghost use Rattle.std.specs.Prelude.{◌≡◌, IfOk};
 ghost use Rattle.live_wire.specs.Ports.{left_of};
 
 use crate::connections::Connections;
@@ -92,22 +91,14 @@ impl<'a> Port<'a> {
     }
 
     /// Takes one connection, or none where that fails or none has come for a part of a wait.
-    fn accept(&self) -> io::Result<(RecordingReader<Line<'a>>, RecordingWriter<Line<'a>>)>
-        ensures { IfOk result (λ pair. (heard_by pair.0 ≡ []) × (said_by pair.1 ≡ [])) }
-    {
+    fn accept(&self) -> io::Result<(Line<'a>, Line<'a>)> {
         let (stream, _peer) = self.listener.accept()?;
-        let (reader, writer) = Line::both(stream, self.stop, self.patience)?;
-        Ok((RecordingReader::new(reader), RecordingWriter::new(writer)))
+        Line::both(stream, self.stop, self.patience)
     }
 
     /// Waits until all ports are served, then for a connection, both in parts; none comes once it
     /// is to stop.
-    fn wait<R: Wait + Clock + Eprint>(
-        &self,
-        rt: &R,
-    ) -> Option<(RecordingReader<Line<'a>>, RecordingWriter<Line<'a>>)>
-        ensures { IfSome result (λ pair. (heard_by pair.0 ≡ []) × (said_by pair.1 ≡ [])) }
-    {
+    fn wait<R: Wait + Clock + Eprint>(&self, rt: &R) -> Option<(Line<'a>, Line<'a>)> {
         for _ in rt.forever() {
             if self.stop.is_asked() {
                 return None;
@@ -184,9 +175,9 @@ impl<'a, R: Wait + Clock + Eprint> Connections<R> for Port<'a> {
             Some(left) => Some(left - 1),
             None => None,
         };
-        let pair = self.wait(rt)?;
+        let (reader, writer) = self.wait(rt)?;
         self.left = later;
-        Some(pair)
+        Some((RecordingReader::new(reader), RecordingWriter::new(writer)))
     }
 
     /// The peer is let to read what was written, at most for some seconds, then it is closed.

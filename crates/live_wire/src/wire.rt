@@ -107,13 +107,6 @@ impl<W: Write> RecordingWriter<W> {
             said: Log::new(),
         }
     }
-
-    /// The writer below.
-    pub fn into_writer(self) -> W
-        ensures { result ≡ self.writer }
-    {
-        self.writer
-    }
 }
 
 impl<W: Write> Says for RecordingWriter<W> {
