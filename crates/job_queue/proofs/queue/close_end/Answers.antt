@@ -19,3 +19,9 @@ returns-then-mark_closed-clause-marked g c =
     let pass = c.mark_closed.new.pass in
     subst (λ known. HasHanded known (parcels.Mark c.args.end) (view pass)) c.loop.invariant.1
     (c.mark_closed.ensures.marked c.if-mark_closed.true)
+
+pub returns-then-mark_closed-clause-pass : goal.returns-then-mark_closed-clause-pass
+returns-then-mark_closed-clause-pass g c = c.mark_closed.ensures.pass
+
+pub returns-then-mark_closed-clause-closed : goal.returns-then-mark_closed-clause-closed
+returns-then-mark_closed-clause-closed g c = c.mark_closed.ensures.closed c.if-mark_closed.true
