@@ -169,12 +169,6 @@ HasOctets (readings.Chunk n shown) = n ≤ chunk_size
 HasOctets (readings.Gone front) = Unit {0}
 HasOctets readings.Unknown = Unit {0}
 
--- a chunk is one of the record of this number
-abbrev pub IsOfRecord : Where Record → Reading → Type 0
-IsOfRecord own (readings.Chunk n shown) = IsSameRecord shown own
-IsOfRecord own (readings.Gone front) = Unit {0}
-IsOfRecord own readings.Unknown = Unit {0}
-
 -- this front of the token's buffer has passed the article that the token is of
 pub record IsGoneBy (front : Front) (token : Token) : Type 0 where
   pub number : front.buffer ≡ token.buffer

@@ -46,15 +46,6 @@ pub enum Fetched<J: StorePremises> {
     Device(Fault),
 }
 
-/// What the blocks after the first one gave.
-#[derive(Drop)]
-pub(crate) enum Rest<J: StorePremises> {
-    /// All of the text.
-    All(Vec<u8>),
-    /// The answer of the fetch.
-    Not(Fetched<J>),
-}
-
 /// What was fetched is what the holder of the number had entered, in any thread.
 pub fn same_text<J: StorePremises>(register: &ArticleLog, text: &Text<J>, shown: &RecordNumber)
     requires register { register.now ≡ J.register }

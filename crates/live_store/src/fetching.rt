@@ -1,17 +1,14 @@
 //! A fetch, in any thread: one block at a time under the buffer's lock.
-ghost use Rattle.std.specs.Prelude.{◌≡◌, true, IfOk};
-ghost use Rattle.boxcar.specs.Table.{Shows};
+ghost use Rattle.std.specs.Prelude.{◌≡◌, ◌++◌, [], None, IfOk, OnOk};
 ghost use Rattle.cyc_token.specs.Token.{token_view};
-ghost use Rattle.live_store.specs.Fetches.{IsFetched, IsFirst, IsRest};
-ghost use Rattle.live_store.specs.Tied.{text_in};
+ghost use Rattle.live_store.specs.Fetches.{IsFetched, IsGathered};
 
-use crate::answers::Reading;
-use crate::fetched::{Fetched, Rest, Text};
+use crate::fetched::{Fetched, Text};
+use crate::following::OneRecord;
 use crate::numbered::NumberedBuffer;
-use crate::reading::read_block;
-use crate::record::{ArticleLog, RecordNumber, StorePremises};
+use crate::record::{ArticleLog, StorePremises};
 use cyc_block::{BlockStore, CHUNK_OCTETS};
-use cyc_buffer::size_of;
+use cyc_buffer::{Found, size_of};
 use cyc_token::Token;
 use std::alloc::{AllocError, Global};
 use std::marker::PhantomData;
@@ -32,100 +29,64 @@ pub fn fetch<S: BlockStore, J: StorePremises, R: Wait>(
     let Some(buffer) = buffers.get(usize::from(token.buffer)) else {
         return Ok(Fetched::Unknown);
     };
-    let mut chunk = [0; CHUNK_OCTETS];
-    match read_block(rt, buffer, register, token, 0, None, &mut chunk) {
-        Ok(Reading::Chunk(octets, shown)) => {
-            fetch_from(rt, alloc, buffer, register, token, shown, &chunk[..octets])
+    let mut text = Vec::new(alloc);
+    let mut reads = OneRecord::new();
+    match gather(rt, buffer, register, token, &mut reads, &mut text) {
+        Ok(None) => {}
+        Ok(Some(fetched)) => {
+            drop(reads);
+            return Ok(fetched);
         }
-        Ok(Reading::Gone(front)) => Ok(Fetched::Gone(front)),
-        Ok(Reading::Unknown) => Ok(Fetched::Unknown),
-        Err(fault) => Ok(Fetched::Device(fault)),
-    }
-}
-
-/// Fetches the text of the record of this number, which begins with these octets.
-fn fetch_from<S: BlockStore, J: StorePremises, R: Wait>(
-    rt: &R,
-    alloc: Global,
-    buffer: &Mutex<NumberedBuffer<S, J>>,
-    register: &ArticleLog,
-    token: &Token,
-    shown: RecordNumber,
-    first: &[u8],
-) -> Result<Fetched<J>, AllocError>
-    requires register { register.now ≡ J.register }
-    requires shown { Shows J.register shown }
-    requires first { J.trusted ≡ true → IsFirst (token_view token.now) shown first.now }
-    ensures { IfOk result (IsFetched J.trusted (token_view token.now)) }
-{
-    let text = match begun(alloc, token, first) {
-        Ok(text) => text,
         Err(error) => {
-            drop(shown);
+            drop(reads);
             return Err(error);
         }
-    };
-    match rest(rt, buffer, register, token, &shown, text) {
-        Ok(Rest::All(text)) => Ok(Fetched::Whole(whole(text, shown))),
-        Ok(Rest::Not(fetched)) => {
-            drop(shown);
-            Ok(fetched)
-        }
-        Err(error) => {
-            drop(shown);
-            Err(error)
-        }
+    }
+    let OneRecord { shown, of: _ } = reads;
+    match shown {
+        Some(shown) => Ok(Fetched::Whole(Text {
+            octets: text,
+            shown,
+            of: PhantomData,
+        })),
+        None => Ok(Fetched::Unknown),
     }
 }
 
-/// The first octets of a text, with room for all of it.
-fn begun(alloc: Global, token: &Token, octets: &[u8]) -> Result<Vec<u8>, AllocError>
-    ensures { IfOk result (λ text. text.items ≡ octets.now) }
-{
-    let mut text = Vec::with_capacity(alloc, token.length as usize)?;
-    text.extend_from_slice(octets)?;
-    Ok(text)
-}
-
-/// Reads the blocks after the first one, each of the record of this number.
-fn rest<S: BlockStore, J: StorePremises, R: Wait>(
+/// Reads all blocks of an article, each of one record. `None` where all of its text was gathered,
+/// else the answer of the fetch.
+fn gather<S: BlockStore, J: StorePremises, R: Wait>(
     rt: &R,
     buffer: &Mutex<NumberedBuffer<S, J>>,
     register: &ArticleLog,
     token: &Token,
-    shown: &RecordNumber,
-    mut text: Vec<u8>,
-) -> Result<Rest<J>, AllocError>
+    reads: &mut OneRecord<J>,
+    text: &mut Vec<u8>,
+) -> Result<Option<Fetched<J>>, AllocError>
     requires register { register.now ≡ J.register }
-    requires shown { Shows J.register shown.now }
-    requires first { J.trusted ≡ true → IsFirst (token_view token.now) shown.now text.items }
-    ensures { IfOk result (IsRest J.trusted (token_view token.now) shown.now) }
+    requires none { (reads.old.shown ≡ None) × (text.old.items ≡ []) }
+    ensures { IfOk result
+        (IsGathered J.trusted (token_view token.now) reads.new.shown text.new.items) }
 {
     let mut chunk = [0; CHUNK_OCTETS];
-    for k in 1..size_of(token.length) {
-        let reading = read_block(rt, buffer, register, token, k, Some(shown), &mut chunk);
-        match reading {
-            Ok(Reading::Chunk(octets, same)) => {
-                drop(same);
-                text.extend_from_slice(&chunk[..octets])?;
-            }
-            Ok(Reading::Gone(front)) => return Ok(Rest::Not(Fetched::Gone(front))),
-            Ok(Reading::Unknown) => return Ok(Rest::Not(Fetched::Unknown)),
-            Err(fault) => return Ok(Rest::Not(Fetched::Device(fault))),
+    for k in 0..size_of(token.length) {
+        match reads.read(rt, buffer, register, token, k, &mut chunk) {
+            Ok(Found::Chunk(octets)) => join(text, token.length, &chunk[..octets])?,
+            Ok(Found::Gone(front)) => return Ok(Some(Fetched::Gone(front))),
+            Ok(Found::Unknown) => return Ok(Some(Fetched::Unknown)),
+            Err(fault) => return Ok(Some(Fetched::Device(fault))),
         }
     }
-    Ok(Rest::All(text))
+    Ok(None)
 }
 
-/// A text of which all blocks were read.
-fn whole<J: StorePremises>(octets: Vec<u8>, shown: RecordNumber) -> Text<J>
-    requires here { Shows J.register shown }
-    requires whole { J.trusted ≡ true → octets.items ≡ text_in shown }
-    ensures { result.shown ≡ shown }
+/// Octets of a text of this length join those before them. With the first ones memory is taken for
+/// all.
+fn join(text: &mut Vec<u8>, length: u32, octets: &[u8]) -> Result<(), AllocError>
+    ensures { OnOk result (text.new.items ≡ text.old.items ++ octets.now) }
 {
-    Text {
-        octets,
-        shown,
-        of: PhantomData,
+    if text.is_empty() {
+        text.reserve(length as usize)?;
     }
+    text.extend_from_slice(octets)
 }

@@ -123,7 +123,7 @@ pub(crate) fn no_numbers(
 {
     let mut numbers = Vec::with_capacity(alloc, blocks as usize)?;
     for _ in 0..blocks {
-        numbers.push(None)?;
+        numbers.push_reserved(None);
     }
     Ok(numbers)
 }

@@ -1,10 +1,11 @@
 //! The reads of one article, a block at a time, in any thread.
+ghost use Rattle.std.specs.Prelude.{◌≡◌, true};
 ghost use Rattle.std.specs.Option.{ForSome};
 ghost use Rattle.boxcar.specs.Table.{Shows};
+ghost use Rattle.live_store.specs.Tied.{IsSameRecord};
 
 use crate::answers::Reading;
 use crate::numbered::NumberedBuffer;
-use crate::reading::read_block;
 use crate::record::{ArticleLog, RecordNumber, StorePremises};
 use cyc_block::{BlockStore, CHUNK_OCTETS};
 use cyc_buffer::{Fault, Found};
@@ -22,10 +23,13 @@ pub struct OneRecord<J: StorePremises> {
 }
 
 impl<J: StorePremises> OneRecord<J> {
-    ghost use Rattle.std.specs.Prelude.{◌≡◌, true, None, Some, IfOk, IfErr, IfSome};
+    ghost use Rattle.std.specs.Prelude.{◌≡◌, true, false, None, Some, IfOk, IfErr, IfSome};
+    ghost use Rattle.std.specs.Option.{IsSomeAnd};
+    ghost use Rattle.boxcar.specs.Table.{Shows};
     ghost use Rattle.cyc_buffer.specs.Answers.{HasRoom};
     ghost use Rattle.cyc_token.specs.Token.{token_view};
     ghost use Rattle.live_store.specs.Steps.{IsFoundIn, IsFoundGone, IsReadFault, IsRecordAfter};
+    ghost use Rattle.live_store.specs.Tied.{IsSameRecord};
 
     /// Nothing is read yet.
     pub fn new() -> OneRecord<J>
@@ -60,18 +64,45 @@ impl<J: StorePremises> OneRecord<J> {
         ensures gone { IfOk result (IsFoundGone (token_view token.now)) }
         ensures fault { IfErr result (IsReadFault (token_view token.now)) }
     {
-        let own = self.shown.as_ref();
-        match read_block(rt, buffer, register, token, k, own, chunk)? {
+        match buffer.lock(rt).read(token, k, chunk)? {
             Reading::Chunk(octets, shown) => {
-                if self.shown.is_none() {
-                    drop(self.shown.replace(shown));
+                if self.takes(register, shown) {
+                    Ok(Found::Chunk(octets))
                 } else {
-                    drop(shown);
+                    Ok(Found::Unknown)
                 }
-                Ok(Found::Chunk(octets))
             }
             Reading::Gone(front) => Ok(Found::Gone(front)),
             Reading::Unknown => Ok(Found::Unknown),
         }
     }
+
+    /// Whether a chunk of the record of this number is one of these reads: the first one always is.
+    fn takes(&mut self, register: &ArticleLog, shown: RecordNumber) -> bool
+        requires register { register.now ≡ J.register }
+        requires shown { Shows J.register shown }
+        ensures same { result ≡ true → IsSomeAnd self.new.shown (IsSameRecord shown) }
+        ensures kept { IfSome self.old.shown (λ w. self.new.shown ≡ Some w) }
+        ensures other { result ≡ false → self.new.shown ≡ self.old.shown }
+    {
+        let Some(own) = &self.shown else {
+            drop(self.shown.replace(shown));
+            return true;
+        };
+        let same = is_same(register, &shown, own);
+        drop(shown);
+        same
+    }
+}
+
+/// Whether two numbers are one, and so of one record.
+fn is_same(register: &ArticleLog, a: &RecordNumber, b: &RecordNumber) -> bool
+    requires { Shows register.now a.now × Shows register.now b.now }
+    ensures { result ≡ true → IsSameRecord a.now b.now }
+{
+    if a.index() != b.index() {
+        return false;
+    }
+    register.agrees(a, b);
+    true
 }
