@@ -256,6 +256,18 @@ lasts_broken last stopped stops = record {
   unheld = stopped_for last stopped finishes.Broken finishes.Held (λ e. cc) stops;
 }
 
+-- what breaks isn't ended for another reason
+pub breaks : (last : Option Finish) → Lasts last (Some finishes.Broken)
+breaks last = record {
+  ended = λ none. absurd (none-some finishes.Broken (sym none));
+  unspent = λ spent. absurd (cc);
+  unheld = λ held. absurd (cc);
+}
+
+-- what stays lasts
+pub lasts_same : (last : Option Finish) → Lasts last last
+lasts_same last = record { ended = λ e. e; unspent = λ e. e; unheld = λ e. e }
+
 -- an end is the end
 pub end_of_some : (o : Option Finish) (other : Finish) → is_some o ≡ true
     → o ≡ Some (unwrap_or o other)

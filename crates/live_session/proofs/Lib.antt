@@ -3,3 +3,5 @@ pub mod Closing
 pub mod Hearings
 pub mod Sharings
 pub mod LiveSessions
+pub mod Rounds
+pub mod Differs

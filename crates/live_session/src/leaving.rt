@@ -3,7 +3,7 @@ ghost use Rattle.std.specs.Prelude.{◌≡◌};
 ghost use Rattle.article_verdict.specs.Config.{terms_of};
 ghost use Rattle.live_jobs.specs.Seats.{IsSeatOf};
 ghost use Rattle.live_session.specs.Carried.{Carried, ServesOn, carried};
-ghost use Rattle.live_session.specs.Turns.{HadLastTurn, HasLeft};
+ghost use Rattle.live_session.specs.Turns.{HadLastTurn, LeftClosed};
 ghost use Rattle.relay_model.specs.Terms.{Terms};
 
 use crate::commands::Commands;
@@ -38,7 +38,7 @@ pub(crate) fn leave<
 )
     requires register { context.now.register.now ≡ J.register }
     requires seat { IsSeatOf context.now.channels.now live.old.seat }
-    ensures { HasLeft (terms_of context.now.config.now) context.now.channels.now
+    ensures { LeftClosed (terms_of context.now.config.now) context.now.channels.now
         live.old live.new
         (carried (H.heard wire.old.reader) (W.said wire.old.writer) wire.old.outbox wire.old.finish)
         (carried (H.heard wire.new.reader) (W.said wire.new.writer)

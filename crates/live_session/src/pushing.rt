@@ -1,7 +1,7 @@
 //! A session's job is handed over, and its outcome looked for.
-ghost use Rattle.std.specs.Prelude.{◌≡◌, true};
+ghost use Rattle.std.specs.Prelude.{◌≡◌};
 ghost use Rattle.live_jobs.specs.Seats.{IsSeatOf};
-ghost use Rattle.live_session.specs.Going.{KeepsPlace, SharesFor, StaysSame};
+ghost use Rattle.live_session.specs.Turns.{DidStep, LookedInSlot};
 ghost use Rattle.peer_session.specs.declared.steps.Answer.TheVariants as answers;
 ghost use Rattle.peer_session.specs.declared.steps.Step.TheVariants as steps;
 ghost use Rattle.relay_model.specs.Terms.{Terms};
@@ -25,9 +25,7 @@ pub(crate) fn push<J: StorePremises, R: Wait>(
     group: usize,
 ) -> Answer
     requires seat { IsSeatOf channels.now live.old.seat }
-    ensures seat { IsSeatOf channels.now live.new.seat }
-    ensures place { KeepsPlace live.old live.new }
-    ensures shared { (w : Terms) → SharesFor w (steps.Push group) live.old result live.new }
+    ensures did { (w : Terms) → DidStep w channels.now (steps.Push group) live.old result live.new }
     ensures memory { result ≡ answers.Memory → ⊥ }
 {
     if group >= channels.len() || live.seat.handed() >= JOB_NUMBERS {
@@ -49,10 +47,7 @@ pub(crate) fn look_in_slot<S: Shares<J, R>, J: StorePremises, R: Wait>(
     shares: &S,
     live: &mut LiveSession<J>,
 ) -> Answer
-    ensures seat { live.new.seat ≡ live.old.seat }
-    ensures place { KeepsPlace live.old live.new }
-    ensures shared { (w : Terms) → SharesFor w steps.Slot live.old result live.new }
-    ensures memory { result ≡ answers.Memory → StaysSame live.old live.new }
+    ensures { LookedInSlot live.old result live.new }
 {
     let handed = live.seat.handed();
     if handed == 0 {

@@ -1,17 +1,16 @@
 //! A session is served over a connection.
-ghost use Rattle.std.specs.Prelude.{◌≡◌, ◌≤◌, ◌^◌, Bool, true, false, [], IfOk, None, Some};
+ghost use Rattle.std.specs.Prelude.{◌≡◌, ◌≤◌, ◌^◌, Bool, true, false, [], IfOk, IfSome, None, Some};
 ghost use Rattle.std.specs.Prelude.{is_some};
 ghost use Rattle.article_verdict.specs.Config.{terms_of};
 ghost use Rattle.live_jobs.specs.Seats.{IsSeatOf, count_of, end_of};
 ghost use Rattle.live_session.specs.Carried.{Begins, CarriesSame, IsFormed, IsServed, IsServedBy};
-ghost use Rattle.live_session.specs.Carried.{Lasts, LastsOrHeld, Refusal, ServesOn, carried};
+ghost use Rattle.live_session.specs.Carried.{Lasts, Refusal, ServesOn, carried};
 ghost use Rattle.live_session.specs.Counts.{most_turns, turns_in};
 ghost use Rattle.live_session.specs.Going.{hands_at};
-ghost use Rattle.live_session.specs.Turns.{HadRound};
+ghost use Rattle.live_session.specs.Turns.{Conversed, HadRound, HasRead, ServedThrough};
 ghost use Rattle.live_session.specs.declared.wire.Finish.TheVariants as finishes;
 ghost use Rattle.peer_session.specs.Session.{session_view};
 ghost use Rattle.relay_model.specs.Run.{is_running};
-ghost use Rattle.relay_model.specs.Terms.{Terms};
 
 use crate::commands::{Command, Commands};
 use crate::counts::Counts;
@@ -88,12 +87,9 @@ pub fn serve_session<
     // It is held only where the gate said no to a command.
     ensures held { result.finish ≡ finishes.Held → Refusal (G.refuses context.now.gate.now) }
 {
-    if seat.handed() >= MOST_JOBS {
-        return unserved(seat, kept, connection);
-    }
-    match open(alloc, hasher, context.config, connection.peer) {
-        Ok(opened) => served(rt, alloc, context, opened, seat, kept, connection),
-        Err(_) => unserved(seat, kept, connection),
+    match begin(alloc, hasher, context.config, connection.peer, &seat) {
+        Some(opened) => served(rt, alloc, context, opened, seat, kept, connection),
+        None => unserved(seat, kept, connection),
     }
 }
 
@@ -172,18 +168,11 @@ fn serve_through<
     requires seat { IsSeatOf context.now.channels.now live.old.seat }
     requires none { turns_in counts.old ≡ 0 }
     requires begun { wire.old.finish ≡ None }
-    ensures seat { IsSeatOf context.now.channels.now live.new.seat }
-    ensures end { end_of live.new.seat ≡ end_of live.old.seat }
-    ensures served { ServesOn (terms_of context.now.config.now) live.old live.new
+    ensures { ServedThrough (terms_of context.now.config.now) (G.refuses context.now.gate.now)
+        context.now.channels.now live.old live.new
         (carried (H.heard wire.old.reader) (W.said wire.old.writer) wire.old.outbox wire.old.finish)
         (carried (H.heard wire.new.reader) (W.said wire.new.writer)
-        wire.new.outbox wire.new.finish) }
-    ensures closed { is_running (session_view live.new.session).phase ≡ false }
-    ensures waiting { wire.new.outbox.items ≡ [] }
-    ensures ended { is_some wire.new.finish ≡ true }
-    ensures spent { wire.new.finish ≡ Some finishes.TurnsSpent → turns_in counts.new ≡ most_turns }
-    ensures held { wire.new.finish ≡ Some finishes.Held
-        → Refusal (G.refuses context.now.gate.now) }
+        wire.new.outbox wire.new.finish) counts.new }
 {
     converse(rt, alloc, context, live, wire, counts);
     break_off(live);
@@ -224,6 +213,25 @@ struct Opened {
     piece: Vec<u8>,
 }
 
+/// What a session of this seat begins with; none where the end has handed over all its jobs, or
+/// memory was refused.
+fn begin(
+    alloc: Global,
+    hasher: RandomState,
+    config: &Config,
+    peer: usize,
+    seat: &SessionSeat,
+) -> Option<Opened>
+    ensures begins { IfSome result (λ opened. Begins (terms_of config.now) peer opened.session
+        opened.greeting.items) }
+    ensures many { 2 ^ 62 ≤ count_of seat.now → result ≡ None }
+{
+    if seat.handed() >= MOST_JOBS {
+        return None;
+    }
+    open(alloc, hasher, config, peer).ok()
+}
+
 /// A session of a peer to which nothing has come.
 fn open(
     alloc: Global,
@@ -257,13 +265,11 @@ fn converse<S: Shares<J, R>, C: Clock, G: Gate<R>, J: StorePremises, H: Hears, W
     requires register { context.now.register.now ≡ J.register }
     requires seat { IsSeatOf context.now.channels.now live.old.seat }
     requires none { turns_in counts.old ≡ 0 }
-    ensures seat { IsSeatOf context.now.channels.now live.new.seat }
-    ensures end { end_of live.new.seat ≡ end_of live.old.seat }
-    ensures served { ServesOn (terms_of context.now.config.now) live.old live.new
+    ensures conversed { Conversed (terms_of context.now.config.now)
+        (G.refuses context.now.gate.now) context.now.channels.now live.old live.new
         (carried (H.heard wire.old.reader) (W.said wire.old.writer) wire.old.outbox wire.old.finish)
         (carried (H.heard wire.new.reader) (W.said wire.new.writer)
         wire.new.outbox wire.new.finish) }
-    ensures ends { LastsOrHeld (G.refuses context.now.gate.now) wire.old.finish wire.new.finish }
     ensures turns { wire.new.finish ≡ None → turns_in counts.new ≡ most_turns }
 {
     let mut commands = Commands::of(live.number);
@@ -347,13 +353,10 @@ fn receive<J: StorePremises, H: Hears, W: Says>(
     wire: &mut Wire<H, W>,
     counts: &mut Counts,
 )
-    ensures seat { live.new.seat ≡ live.old.seat }
-    ensures served { (w : Terms) → ServesOn w live.old live.new
+    ensures { HasRead live.old live.new
         (carried (H.heard wire.old.reader) (W.said wire.old.writer) wire.old.outbox wire.old.finish)
         (carried (H.heard wire.new.reader) (W.said wire.new.writer)
-        wire.new.outbox wire.new.finish) }
-    ensures ends { Lasts wire.old.finish wire.new.finish }
-    ensures turns { turns_in counts.new ≡ turns_in counts.old }
+        wire.new.outbox wire.new.finish) counts.old counts.new }
 {
     if wire.finish.is_some() || !live.session.is_reading() {
         return;

@@ -3,11 +3,10 @@ ghost use Rattle.std.specs.Prelude.{◌≡◌, ◌≢◌, ◌≤◌, [], false};
 ghost use Rattle.article_verdict.specs.Config.{terms_of};
 ghost use Rattle.live_jobs.specs.Seats.{IsSeatOf, end_of};
 ghost use Rattle.live_session.specs.Carried.{Refusal};
-ghost use Rattle.live_session.specs.Going.{HearsAnswer, KeepsButSession, LetsGo};
+ghost use Rattle.live_session.specs.Going.{KeepsButSession, LetsGo};
 ghost use Rattle.live_session.specs.Going.{TakesPlanned, said_in};
-ghost use Rattle.live_session.specs.Turns.{HadTurn};
+ghost use Rattle.live_session.specs.Turns.{HadTurn, HasHeard};
 ghost use Rattle.live_session.specs.declared.live.Turned.TheVariants as turns;
-ghost use Rattle.peer_session.specs.declared.steps.Answer.TheVariants as answers;
 ghost use Rattle.relay_model.specs.Terms.{last_moment};
 
 use crate::commands::Commands;
@@ -92,11 +91,7 @@ fn is_let_in<G: Gate<R>, R>(rt: &R, gate: &G, commands: &mut Commands) -> bool
 /// The session hears the answer to what it planned. Where that is want of memory it forgets what it
 /// planned.
 fn hear<J: StorePremises>(live: &mut LiveSession<J>, answer: Answer) -> Turned
-    ensures heard { HearsAnswer live.old answer (said_in result) live.new }
-    ensures memory { answer ≡ answers.Memory → LetsGo live.old (said_in result) live.new }
-    ensures rest { KeepsButSession live.old live.new }
-    ensures seat { live.new.seat ≡ live.old.seat }
-    ensures let_in { result ≢ turns.Held }
+    ensures { HasHeard live.old answer result live.new }
 {
     if let Answer::Memory = answer {
         forget(live);

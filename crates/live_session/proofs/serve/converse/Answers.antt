@@ -1,21 +1,15 @@
-use Rattle.std.proofs.Common.{◌∙◌, ◌+◌, ⊎_elim, ap, inr}
+use Rattle.std.proofs.Common.{◌∙◌, ◌+◌, ap}
+use Rattle.live_session.proofs.Rounds.{conversed_none, conversed_on}
 use Rattle.live_session.proofs.serve.converse.Goals as goal
+
+pub loop-init : goal.loop-init
+loop-init g c = record { conversed = conversed_none c.requires.seat; turns = c.requires.none }
 
 pub loop-preserved : goal.loop-preserved
 loop-preserved g c =
     let so = c.loop.invariant in
     let round = c.round.ensures in
     record {
-      seat = round.seat;
-      end_is = round.end ∙ so.end_is;
-      served = λ honest trust s end first read written here.
-          round.served honest trust s end first read written
-          (so.served honest trust s end first read written here);
-      ends = record {
-        ended = λ none. so.ends.ended (round.ends.ended none);
-        unspent = λ spent. so.ends.unspent (round.ends.unspent spent);
-        held = λ held. ⊎_elim (λ was. so.ends.held was) (λ refusal. inr refusal)
-            (round.ends.held held);
-      };
+      conversed = conversed_on so.conversed round.conversed;
       turns = round.turns ∙ c.turn.ensures.turns ∙ ap (λ n. n + 1) so.turns;
     }

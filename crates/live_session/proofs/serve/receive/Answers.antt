@@ -1,63 +1,106 @@
 use Rattle.std.proofs.Common.{◌∙◌, ◌++◌, [], Some, ap, refl, sym, take}
 use Rattle.std.proofs.lemmas.List.{append-nil}
-use Rattle.live_session.proofs.Carrying.{lost, piece_came}
+use Rattle.live_session.proofs.Carrying.{breaks, lasts_same, lost, piece_came, same_heard}
 use Rattle.live_session.proofs.LiveSessions.{fed, served_still, still, then_same}
 use Rattle.live_session.proofs.serve.receive.Goals as goal
 use Rattle.live_session.specs.Carried.{carried}
 use Rattle.live_session.specs.declared.wire.Finish.TheVariants as finishes
 use Rattle.cyc_buffer.proofs.StopLemmas.{none_of}
 
-pub returns-in-Ok-eq0-clause-served : goal.returns-in-Ok-eq0-clause-served
-returns-in-Ok-eq0-clause-served g c w =
+pub returns-in-Ok-eq0 : goal.returns-in-Ok-eq0
+returns-in-Ok-eq0 g c =
     let live = c.args.live.now in
     let wire = c.args.wire.now in
     let old = carried (g.H.Hears.heard wire.reader) (g.W.Says.said wire.writer) wire.outbox
     wire.finish in
     let heard = g.H.Hears.heard c.hear.new.self in
-    then_same w live live old old (record old { heard = heard; finish = Some finishes.Broken })
-    (λ honest trust s end first read written one. one)
-    (lost old heard (take c.in-Ok-eq0.field-0 c.hear.new.room.items) c.in-Ok-eq0.ensures.ok.1
-    (none_of wire.finish (sym c.is_some.ensures ∙ c.if-is_some.false)))
+    record {
+      seat = refl;
+      served = λ w.
+          then_same w live live old old
+          (record old { heard = heard; finish = Some finishes.Broken })
+          (λ honest trust s end first read written one. one)
+          (lost old heard (take c.in-Ok-eq0.field-0 c.hear.new.room.items) c.in-Ok-eq0.ensures.ok.1
+          (none_of wire.finish (sym c.is_some.ensures ∙ c.if-is_some.false)));
+      ends = breaks wire.finish;
+      turns = refl;
+    }
 
-pub returns-in-Ok-feed-clause-served : goal.returns-in-Ok-feed-clause-served
-returns-in-Ok-feed-clause-served g c w =
+pub returns-in-Ok-feed : goal.returns-in-Ok-feed
+returns-in-Ok-feed g c =
     let live = c.args.live.now in
     let wire = c.args.wire.now in
     let old = carried (g.H.Hears.heard wire.reader) (g.W.Says.said wire.writer) wire.outbox
     wire.finish in
     let heard = g.H.Hears.heard c.hear.new.self in
     let piece = take c.in-Ok.n c.deref.result.now in
-    fed w live (record live { session = c.feed.new.self }) piece c.in-Ok-feed.ensures.fed
-    (sym c.is_reading.ensures ∙ c.if-not-is_reading.false) refl refl
-    (record { number = refl; end_is = refl }) old (record old { heard = heard })
-    (piece_came old heard piece
-    (c.in-Ok.ensures.ok.1
-    ∙ ap (λ l. old.heard ++ take c.in-Ok.n l) (sym c.deref.ensures.value))
-    (none_of wire.finish (sym c.is_some.ensures ∙ c.if-is_some.false)))
+    record {
+      seat = refl;
+      served = λ w.
+          fed w live (record live { session = c.feed.new.self }) piece c.in-Ok-feed.ensures.fed
+          (sym c.is_reading.ensures ∙ c.if-not-is_reading.false) refl refl
+          (record { number = refl; end_is = refl }) old (record old { heard = heard })
+          (piece_came old heard piece
+          (c.in-Ok.ensures.ok.1
+          ∙ ap (λ l. old.heard ++ take c.in-Ok.n l) (sym c.deref.ensures.value))
+          (none_of wire.finish (sym c.is_some.ensures ∙ c.if-is_some.false)));
+      ends = lasts_same wire.finish;
+      turns = c.read.ensures.rest.2;
+    }
 
-pub returns-in-Err-feed-clause-served : goal.returns-in-Err-feed-clause-served
-returns-in-Err-feed-clause-served g c w =
+pub returns-in-Err-feed : goal.returns-in-Err-feed
+returns-in-Err-feed g c =
     let live = c.args.live.now in
     let wire = c.args.wire.now in
     let old = carried (g.H.Hears.heard wire.reader) (g.W.Says.said wire.writer) wire.outbox
     wire.finish in
     let heard = g.H.Hears.heard c.hear.new.self in
     let new = record live { session = c.feed.new.self } in
-    served_still w live new
-    (still w live new refl refl (record { number = refl; end_is = refl })
-    (c.in-Err-feed.ensures.err w)) old
-    (record old { heard = heard; finish = Some finishes.Broken })
-    (lost old heard (take c.in-Ok.n c.hear.new.room.items) c.in-Ok.ensures.ok.1
-    (none_of wire.finish (sym c.is_some.ensures ∙ c.if-is_some.false)))
+    record {
+      seat = refl;
+      served = λ w.
+          served_still w live new
+          (still w live new refl refl (record { number = refl; end_is = refl })
+          (c.in-Err-feed.ensures.err w)) old
+          (record old { heard = heard; finish = Some finishes.Broken })
+          (lost old heard (take c.in-Ok.n c.hear.new.room.items) c.in-Ok.ensures.ok.1
+          (none_of wire.finish (sym c.is_some.ensures ∙ c.if-is_some.false)));
+      ends = breaks wire.finish;
+      turns = c.read.ensures.rest.2;
+    }
 
-pub returns-then-ne-clause-served : goal.returns-then-ne-clause-served
-returns-then-ne-clause-served g c w =
+pub returns-then-ne : goal.returns-then-ne
+returns-then-ne g c =
     let live = c.args.live.now in
     let wire = c.args.wire.now in
     let old = carried (g.H.Hears.heard wire.reader) (g.W.Says.said wire.writer) wire.outbox
     wire.finish in
     let heard = g.H.Hears.heard c.hear.new.self in
-    then_same w live live old old (record old { heard = heard; finish = Some finishes.Broken })
-    (λ honest trust s end first read written one. one)
-    (lost old heard [] (c.in-Err.ensures.err ∙ sym (append-nil old.heard))
-    (none_of wire.finish (sym c.is_some.ensures ∙ c.if-is_some.false)))
+    record {
+      seat = refl;
+      served = λ w.
+          then_same w live live old old
+          (record old { heard = heard; finish = Some finishes.Broken })
+          (λ honest trust s end first read written one. one)
+          (lost old heard [] (c.in-Err.ensures.err ∙ sym (append-nil old.heard))
+          (none_of wire.finish (sym c.is_some.ensures ∙ c.if-is_some.false)));
+      ends = breaks wire.finish;
+      turns = refl;
+    }
+
+pub returns-else-ne : goal.returns-else-ne
+returns-else-ne g c =
+    let live = c.args.live.now in
+    let wire = c.args.wire.now in
+    let old = carried (g.H.Hears.heard wire.reader) (g.W.Says.said wire.writer) wire.outbox
+    wire.finish in
+    let heard = g.H.Hears.heard c.hear.new.self in
+    record {
+      seat = refl;
+      served = λ w.
+          then_same w live live old old (record old { heard = heard })
+          (λ honest trust s end first read written one. one)
+          (same_heard old heard c.in-Err.ensures.err);
+      ends = lasts_same wire.finish;
+      turns = refl;
+    }

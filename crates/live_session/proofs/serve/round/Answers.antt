@@ -3,6 +3,7 @@ use Rattle.article_verdict.specs.Config.{terms_of}
 use Rattle.live_jobs.specs.Seats.{IsSeatOf, end_of}
 use Rattle.live_jobs.specs.declared.session.SessionSeat.{SessionSeat}
 use Rattle.live_session.proofs.Carrying.{lasts_broken, lasts_on, stopped_for, stopped_over}
+use Rattle.live_session.proofs.Differs.{held-spent}
 use Rattle.live_session.proofs.LiveSessions.{served_still, served_turn, then_on, then_same}
 use Rattle.live_session.proofs.serve.round.Goals as goal
 use Rattle.live_session.specs.Carried.{carried}
@@ -23,14 +24,16 @@ returns-in-Says g c =
     let after = carried (g.H.Hears.heard last.reader) (g.W.Says.said last.writer) last.outbox
     last.finish in
     record {
-      seat = c.turn.ensures.seat;
-      end = c.turn.ensures.end;
-      served = then_same w live new before mid after
-          (served_turn w live new c.in-Says.said.items before mid c.in-Says.ensures.went
-          c.say.ensures.on)
-          c.write_on.ensures.same;
-      ends = lasts_on wire.finish said.finish last.finish c.say.ensures.ends
-          c.write_on.ensures.ends;
+      conversed = record {
+        seat = c.turn.ensures.seat;
+        end = c.turn.ensures.end;
+        served = then_same w live new before mid after
+            (served_turn w live new c.in-Says.said.items before mid c.in-Says.ensures.went
+            c.say.ensures.on)
+            c.write_on.ensures.same;
+        ends = lasts_on wire.finish said.finish last.finish c.say.ensures.ends
+            c.write_on.ensures.ends;
+      };
       turns = c.say.ensures.turns;
     }
 
@@ -50,13 +53,15 @@ returns-in-Rests g c =
     last.finish in
     let P : SessionSeat → Type 0 = λ s. IsSeatOf c.args.context.now.channels.now s in
     record {
-      seat = subst P (sym c.receive.ensures.seat) c.turn.ensures.seat;
-      end = ap end_of c.receive.ensures.seat ∙ c.turn.ensures.end;
-      served = then_on w live mid c.receive.new.live before between after
-          (served_still w live mid c.in-Rests.ensures.went before between c.flush.ensures.same)
-          (c.receive.ensures.served w);
-      ends = lasts_on wire.finish flushed.finish last.finish c.flush.ensures.ends
-          c.receive.ensures.ends;
+      conversed = record {
+        seat = subst P (sym c.receive.ensures.seat) c.turn.ensures.seat;
+        end = ap end_of c.receive.ensures.seat ∙ c.turn.ensures.end;
+        served = then_on w live mid c.receive.new.live before between after
+            (served_still w live mid c.in-Rests.ensures.went before between c.flush.ensures.same)
+            (c.receive.ensures.served w);
+        ends = lasts_on wire.finish flushed.finish last.finish c.flush.ensures.ends
+            c.receive.ensures.ends;
+      };
       turns = c.receive.ensures.turns ∙ c.tell.ensures.rest.1;
     }
 
@@ -66,21 +71,23 @@ returns-in-Held g c =
     let wire = c.args.wire.now in
     let last = c.stop.new.wire in
     record {
-      seat = c.turn.ensures.seat;
-      end = c.turn.ensures.end;
-      served = served_still (terms_of c.args.context.now.config.now) c.args.live.now
-          c.turn.new.live c.in-Held.ensures.went
-          (carried (g.H.Hears.heard wire.reader) (g.W.Says.said wire.writer) wire.outbox
-          wire.finish)
-          (carried (g.H.Hears.heard last.reader) (g.W.Says.said last.writer) last.outbox
-          last.finish)
-          c.stop.ensures.same;
-      ends = record {
-        ended = λ none. absurd (stopped_over wire.finish last.finish finishes.Held
-            c.stop.ensures.finish none);
-        unspent = stopped_for wire.finish last.finish finishes.Held finishes.TurnsSpent (λ e. cc)
-            c.stop.ensures.finish;
-        held = λ held. inr (c.in-Held.ensures.held refl);
+      conversed = record {
+        seat = c.turn.ensures.seat;
+        end = c.turn.ensures.end;
+        served = served_still (terms_of c.args.context.now.config.now) c.args.live.now
+            c.turn.new.live c.in-Held.ensures.went
+            (carried (g.H.Hears.heard wire.reader) (g.W.Says.said wire.writer) wire.outbox
+            wire.finish)
+            (carried (g.H.Hears.heard last.reader) (g.W.Says.said last.writer) last.outbox
+            last.finish)
+            c.stop.ensures.same;
+        ends = record {
+          ended = λ none. absurd (stopped_over wire.finish last.finish finishes.Held
+              c.stop.ensures.finish none);
+          unspent = stopped_for wire.finish last.finish finishes.Held finishes.TurnsSpent held-spent
+              c.stop.ensures.finish;
+          held = λ held. inr (c.in-Held.ensures.held refl);
+        };
       };
       turns = refl;
     }
@@ -100,13 +107,15 @@ returns-in-Memory g c =
     let after = carried (g.H.Hears.heard last.reader) (g.W.Says.said last.writer) last.outbox
     last.finish in
     record {
-      seat = c.turn.ensures.seat;
-      end = c.turn.ensures.end;
-      served = then_same w live new before between after
-          (served_still w live new c.in-Memory.ensures.went before between
-          c.flush-in-Memory.ensures.same)
-          c.stop-in-Memory.ensures.same;
-      ends = lasts_on wire.finish flushed.finish last.finish c.flush-in-Memory.ensures.ends
-          (lasts_broken flushed.finish last.finish c.stop-in-Memory.ensures.finish);
+      conversed = record {
+        seat = c.turn.ensures.seat;
+        end = c.turn.ensures.end;
+        served = then_same w live new before between after
+            (served_still w live new c.in-Memory.ensures.went before between
+            c.flush-in-Memory.ensures.same)
+            c.stop-in-Memory.ensures.same;
+        ends = lasts_on wire.finish flushed.finish last.finish c.flush-in-Memory.ensures.ends
+            (lasts_broken flushed.finish last.finish c.stop-in-Memory.ensures.finish);
+      };
       turns = refl;
     }

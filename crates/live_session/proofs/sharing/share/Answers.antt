@@ -2,10 +2,12 @@ use Rattle.std.proofs.Common.{refl, subst, sym}
 use Rattle.article_verdict.specs.Config.{terms_of}
 use Rattle.live_jobs.specs.Seats.{IsSeatOf}
 use Rattle.live_jobs.specs.declared.session.SessionSeat.{SessionSeat}
+use Rattle.live_session.proofs.Differs.{chunk-memory}
 use Rattle.live_session.proofs.Sharings.{looked, nothing, offered, queued, refused, released}
 use Rattle.live_session.proofs.Sharings.{taken_up, was_read}
 use Rattle.live_session.proofs.sharing.share.Goals as goal
 use Rattle.live_session.specs.Going.{SharesFor}
+use Rattle.live_session.specs.Turns.{DidStep}
 use Rattle.peer_session.specs.declared.steps.Answer.TheVariants as answers
 use Rattle.peer_session.specs.declared.steps.Step.{Step}
 use Rattle.peer_session.specs.declared.steps.Step.TheVariants as steps
@@ -62,7 +64,7 @@ returns-in-Read g c =
           (was_read w live c.in-Read.token c.in-Read.k c.read.result new
           (record { session = refl; hands = refl; place = record { number = refl; end_is = refl } })
           c.read.ensures);
-      memory = λ is. absurd (cc);
+      memory = λ is. absurd (chunk-memory c.read.result is);
     }
 
 pub returns-in-Ok-take_queue : goal.returns-in-Ok-take_queue
@@ -154,14 +156,11 @@ returns-in-Err-take g c = record {
 pub returns-in-Push : goal.returns-in-Push
 returns-in-Push g c =
     let w = terms_of c.args.context.now.config.now in
-    let P : Step → Type 0 = λ s. SharesFor w s c.args.live.now c.push.result c.push.new.live in
-    record {
-      seat = c.push.ensures.seat;
-      place = c.push.ensures.place;
-      shared = subst P (sym c.in-Push.is)
-          (subst (λ n. P (steps.Push n)) c.from.ensures (c.push.ensures.shared w));
-      memory = λ is. absurd (c.push.ensures.memory is);
-    }
+    let live = c.args.live.now in
+    let P : Step → Type 0 =
+    λ s. DidStep w c.args.context.now.channels.now s live c.push.result c.push.new.live in
+    subst P (sym c.in-Push.is)
+    (subst (λ n. P (steps.Push n)) c.from.ensures (c.push.ensures.did w))
 
 pub returns-in-Slot : goal.returns-in-Slot
 returns-in-Slot g c =

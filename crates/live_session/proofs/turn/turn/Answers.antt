@@ -2,6 +2,7 @@ use Rattle.std.proofs.Common.{[], ap, refl, subst, sym}
 use Rattle.article_verdict.specs.Config.{terms_of}
 use Rattle.live_jobs.specs.Seats.{IsSeatOf, end_of}
 use Rattle.live_jobs.specs.declared.session.SessionSeat.{SessionSeat}
+use Rattle.live_session.proofs.Differs.{memory-held, rests-held}
 use Rattle.live_session.proofs.LiveSessions.{let_go, still}
 use Rattle.live_session.proofs.turn.turn.Goals as goal
 
@@ -15,7 +16,7 @@ returns-in_default g c =
       end = refl;
       went = still w live (record live { session = c.plan.new.self }) refl refl
           (record { number = refl; end_is = refl }) (c.in_default.ensures.err w);
-      held = λ e. absurd (cc);
+      held = λ e. absurd (memory-held e);
     }
 
 pub returns-then-is_resting : goal.returns-then-is_resting
@@ -32,7 +33,7 @@ returns-then-is_resting g c =
           (record { reads = refl; hands = refl; place = record { number = refl; end_is = refl } })
           (record { session = refl; reads = refl; hands = refl })
           (record { number = refl; end_is = refl }) c.give_up.ensures.gone c.give_up.ensures.rest;
-      held = λ e. absurd (cc);
+      held = λ e. absurd (rests-held e);
     }
 
 -- the gate says no to the command
