@@ -1,5 +1,5 @@
 -- The rows with which threads are started, and the rows of their handles.
-use Rattle.std.specs.Prelude.{◌≡◌, ℕ, Bool, false, List, [], length, map, Some, slice_get}
+use Rattle.std.specs.Prelude.{◌≡◌, ◌≤◌, ℕ, Bool, false, List, [], length, map, Some, slice_get}
 use Rattle.job_queue.specs.Passes.{QueuePass}
 use Rattle.job_queue.specs.declared.parcel.Handed.{Handed}
 use Rattle.live_jobs.specs.Gathered.{OfChannel, AllClosed, RestsFit, hands_of}
@@ -85,6 +85,19 @@ abbrev pub AllRight : {V : Type 0} → (V → (end count : ℕ) → List (List H
     → List (Plan V) → Type 0
 AllRight fits plans =
     From (λ e p. fits p.service e (count_of p.seat) (handed_by p.seat)) 0 plans
+
+-- A run of these ends and writers can begin: of so many flags there is one for each end, and a
+-- channel for each writer; each writer can be started, each end can be served, and what it keeps is
+-- right.
+pub record CanRun {L O V : Type 0} {o : Ghosts O}
+    (fits : V → (end count : ℕ) → List (List Handed) → Type 0) (channels : List JobChannel)
+    (plans : List (Plan V)) (writers : List (WriterSeat L O o)) (flags : ℕ)
+    : Type 0 where
+  pub flagged : length plans ≤ flags
+  pub grouped : length writers ≤ length channels
+  pub ready : AllReady channels (length plans) writers
+  pub opened : AllOpen channels plans
+  pub right : AllRight fits plans
 
 -- So many groups are opened to so many ends: a channel, a first pass and a writer for each group;
 -- the ends have handed nothing over.

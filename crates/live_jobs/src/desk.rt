@@ -15,7 +15,7 @@ use std::sync::ledger::{Book, Ledger, Share};
 const MOST_POSTS: u64 = 1 << 62;
 
 /// How many posts a desk had made, which a desk alone says.
-#[derive(Clone, Copy, Debug, PartialEq, Eq)]
+#[derive(Clone, Copy)]
 pub struct Posts {
     count: u64,
 }
@@ -216,22 +216,6 @@ impl<L: Ledger> CountedDesk<L> {
         } = self;
         book.audit(all);
         Posts { count: *posts }
-    }
-
-    /// No share counts more than the posts, so its amount has room in a number.
-    pub fn bound(&mut self, some: &mut Share<L>)
-        ensures bound { some.old.amount ≤ posts_of self.old }
-        ensures share { (some.new.parts ≡ some.old.parts) × (some.new.amount ≡ some.old.amount) }
-        ensures desk { (desk_of self.new ≡ desk_of self.old)
-            × (posts_of self.new ≡ posts_of self.old) }
-    {
-        let CountedDesk {
-            desk: _desk,
-            before: _before,
-            posts: _posts,
-            book,
-        } = self;
-        book.audit(some);
     }
 }
 

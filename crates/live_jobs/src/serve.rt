@@ -1,14 +1,16 @@
 //! Threads over rows of seats.
 ghost use Rattle.std.specs.Prelude.{◌≡◌, ◌≤◌, true, map, length, vec_len, vec_capacity, IfOk};
+ghost use Rattle.std.specs.Vec.Iter.{into_iter_items};
 ghost use Rattle.live_jobs.specs.Rows.{From};
 ghost use Rattle.live_jobs.specs.Gathered.{hands_of};
+ghost use Rattle.live_jobs.specs.Seats.{IsSeatOf};
 ghost use Rattle.live_jobs.specs.Started.{AllReady, AllOpen, AllRight, Runs, Serves};
-ghost use Rattle.live_jobs.specs.Started.{AllEnded, AllLeft, AllKept, CameBack};
+ghost use Rattle.live_jobs.specs.Started.{AllEnded, AllLeft, AllKept, CameBack, CanRun};
 
 use crate::channel::JobChannel;
 use crate::gather::Seats;
 use crate::outcome::Outcome;
-use crate::session::{LeftSeat, SessionSeat, hang_up, push_marks};
+use crate::session::{LeftSeat, SessionSeat, push_marks};
 use crate::start::{
     Accounts, EndFinished, Leaver, Plan, Service, WriterFinished, start_end, start_writer,
 };
@@ -19,6 +21,7 @@ use std::sync::atomic::AtomicBool;
 use std::sync::ledger::Ledger;
 use std::thread;
 use std::thread::{PromisedHandle, Scope, Threads};
+use std::vec::IntoIter;
 
 /// Why no seats come back.
 #[derive(Clone, Copy)]
@@ -87,19 +90,18 @@ fn start_ends<'s, E, V: Service<R> + Drop + Send + 's, R: Threads + Wait + Sync>
     ensures marks { result ≡ true → map (λ h. V.mark h.promise.service.value) serving.new.items
         ≡ map (λ p. V.mark p.service) plans.items }
 {
-    let mut all = true;
-    for plan in plans {
+    let mut left = plans.into_iter();
+    while let Some(plan) = left.next() {
         let end = serving.len();
-        if !all {
-            hang_up(rt, channels, plan.seat);
-            continue;
-        }
         match start_end(scope, rt, channels, plan, &leaves[end]) {
             Some(handle) => serving.push_reserved(handle),
-            None => all = false,
+            None => {
+                leave_running(rt, channels, left, channels.len());
+                return false;
+            }
         }
     }
-    all
+    true
 }
 
 /// Joins the writers' threads, in order.
@@ -156,11 +158,11 @@ fn join_ends<'a, V: Accounts + Drop, R: Threads>(
 fn leave_running<V: Drop, R: Wait>(
     rt: &R,
     channels: &[JobChannel],
-    plans: Vec<Plan<V>>,
+    plans: IntoIter<Plan<V>>,
     groups: usize,
 )
     requires groups { groups ≤ length channels.now }
-    requires fit { AllOpen channels.now plans.items }
+    requires fit { From (λ e p. IsSeatOf channels.now p.seat) 0 (into_iter_items plans) }
 {
     for plan in plans {
         let Plan { seat, service: _ } = plan;
@@ -191,11 +193,7 @@ fn run_threads<
     writers: Vec<WriterSeat<L, O>>,
     leaves: &'s Vec<AtomicBool>,
 ) -> Result<Seats<L, O, V>, SeatsError>
-    requires leaves { length plans.items ≤ length leaves.now.items }
-    requires channels { length writers.items ≤ length channels.now }
-    requires writers { AllReady channels.now (length plans.items) writers.items }
-    requires ends { AllOpen channels.now plans.items }
-    requires kept { AllRight V.fits plans.items }
+    requires { CanRun V.fits channels.now plans.items writers.items (length leaves.now.items) }
     ensures { IfOk result (CameBack V.fits V.mark channels.now plans.items writers.items) }
 {
     let ends = plans.len();
@@ -205,7 +203,7 @@ fn run_threads<
         return Err(SeatsError::Memory);
     };
     if !start_writers(scope, rt, channels, store, writers, ends, &mut running) {
-        leave_running(rt, channels, plans, running.len());
+        leave_running(rt, channels, plans.into_iter(), running.len());
         drop(seats);
         return Err(SeatsError::NoThread);
     }
@@ -308,10 +306,8 @@ pub fn serve_seats<
         thread::scope_env(),
         rt,
         move |scope| -> Result<Seats<L, O, V>, SeatsError>
-            requires { (length plans.items ≤ length leaves.now.items)
-                × (length writers.items ≤ length channels.now)
-                × AllReady channels.now (length plans.items) writers.items
-                × AllOpen channels.now plans.items × AllRight V.fits plans.items }
+            requires { CanRun V.fits channels.now plans.items writers.items
+                (length leaves.now.items) }
             ensures { IfOk result
                 (CameBack V.fits V.mark channels.entry.now plans.items writers.items) }
         { run_threads(scope, rt, channels, store, plans, writers, leaves) },

@@ -1,6 +1,6 @@
 //! The seat of an end.
 ghost use Rattle.std.specs.Prelude.{◌≡◌, ◌+◌, ◌<◌, ◌≤◌, ◌^◌, ◌++◌, [], ◌∷◌};
-ghost use Rattle.std.specs.Prelude.{length, slice_set, slice_index_or, IfOk, IfErr};
+ghost use Rattle.std.specs.Prelude.{length, slice_set, slice_index_or};
 ghost use lib.Dec.{ltb};
 ghost use Rattle.live_jobs.specs.Seats.{PassesFit, AreOpen, handed_of};
 ghost use Rattle.live_jobs.specs.Seats.{IsSeatOf, HasLeft, end_of, count_of, handed_by};
@@ -12,8 +12,7 @@ use job_queue::{Handed, QueuePass};
 use std::sync::Wait;
 
 /// An end's right to hand jobs over to each group: a pass of each channel, and how many jobs it has
-/// handed over. Jobs are handed over by `hand_over` and `try_hand_over` alone, so no two jobs of an
-/// end have one number.
+/// handed over. Jobs are handed over by `hand_over` alone, so no two of an end have one number.
 #[derive(Drop)]
 pub struct SessionSeat {
     pub(crate) end: u64,
@@ -41,44 +40,6 @@ impl SessionSeat {
         ensures { result ≡ count_of self.now }
     {
         self.handed
-    }
-
-    /// Hands a job over to a group, in one step, and answers its number; or gives it back where the
-    /// queue was full at one moment. It waits for no room.
-    pub fn try_hand_over<R: Wait>(
-        &mut self,
-        rt: &R,
-        channels: &[JobChannel],
-        group: usize,
-        job: Job,
-    ) -> Result<u64, Job>
-        requires group { group < length channels.now }
-        requires seat { IsSeatOf channels.now self.old }
-        requires room { count_of self.old < 2 ^ 63 }
-        ensures seat { IsSeatOf channels.now self.new }
-        ensures end { end_of self.new ≡ end_of self.old }
-        ensures number { IfOk result (λ number. number ≡ count_of self.old) }
-        ensures count { IfOk result (λ _. count_of self.new ≡ count_of self.old + 1) }
-        ensures taken { IfOk result (λ _. handed_by self.new
-            ≡ slice_set (handed_by self.old) group (slice_index_or (handed_by self.old) group []
-            ++ record { end = end_of self.old; number = count_of self.old; job = job } ∷ [])) }
-        ensures full { IfErr result (λ back. (back ≡ job)
-            × (count_of self.new ≡ count_of self.old)
-            × (handed_by self.new ≡ handed_by self.old)) }
-    {
-        let number = self.handed;
-        let handed = Handed {
-            end: self.end,
-            number,
-            job,
-        };
-        match channels[group].try_hand_over(rt, &mut self.passes[group], handed) {
-            Ok(()) => {
-                self.handed += 1;
-                Ok(number)
-            }
-            Err(back) => Err(back.job),
-        }
     }
 
     /// Hands a job over to a group, and answers its number. Where the queue is full it waits until

@@ -77,3 +77,17 @@ returns-clause-none g c =
     let less = within (map (λ w. w.finished.items) c.args.writers.now.items) k finished at in
     let long = length_map (λ w. w.finished.items) c.args.writers.now.items in
     inv.none k e finished (omega (arith, inv.count, c.len-group-end.ensures)) at
+
+-- there are as many channels as writers
+pub bounds-channels-group : goal.bounds-channels-group
+bounds-channels-group g c =
+    let inv = c.loop-group.invariant in
+    omega (
+      arith,
+      c.args.writers.now.ok.0,
+      c.loop-group-test.true,
+      inv.count,
+      c.len-group-end.ensures,
+      inv.writers.0,
+      length_map (λ w. w.pass) c.loop-group.writers.items,
+    )

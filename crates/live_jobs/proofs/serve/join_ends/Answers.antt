@@ -1,9 +1,12 @@
-use Rattle.std.proofs.Common.{◌∙◌, ap, sym, map, subst, length, arith}
+use Rattle.std.proofs.Common.{◌≡◌, ◌∙◌, [], ap, sym, map, subst, length, arith}
+use Rattle.std.proofs.lemmas.List.{nil_from_length}
+use Rattle.std.specs.Vec.Iter.{into_iter_items}
 use Rattle.live_jobs.specs.Seats.{left_by}
 use Rattle.live_jobs.specs.Started.{Serves, Left, HasKept}
 use Rattle.live_jobs.proofs.Rows.{from_head, from_next, from_start, from_none, each_snoc}
 use Rattle.live_jobs.proofs.Rows.{length_snoc}
-use Rattle.live_jobs.proofs.Plans.{left, none_kept, kept_snoc, services_start, services_next}
+use Rattle.live_jobs.proofs.Plans.{left, none_kept, kept_snoc, services_end, services_next}
+use Rattle.live_jobs.proofs.Plans.{services_start}
 use Rattle.live_jobs.proofs.serve.join_ends.Goals as goal
 
 pub loop-handle-init : goal.loop-handle-init
@@ -71,3 +74,12 @@ loop-handle-preserved g c =
           (subst (λ n. HasKept g.V.Accounts.fits c.join-seat.result.service n
           (left_by c.join-seat.result.seat)) head.0 c.join-seat.ensures.2);
     }
+
+-- that was the last
+pub returns-clause-marks : goal.returns-clause-marks
+returns-clause-marks g c =
+    let rest = c.loop-handle.handle-iterator in
+    let none : into_iter_items rest ≡ [] = nil_from_length rest.rest.items
+    (omega (arith, c.in-None.ensures.steps.0, rest.rest.ok)) in
+    services_end g.V.Accounts.mark c.loop-handle.services.items _ _ c.loop-handle.invariant.marks
+    (ap (map (λ h. g.V.Accounts.mark h.promise.service.value)) none)

@@ -1,13 +1,14 @@
-use Rattle.std.proofs.Common.{refl}
+use Rattle.std.proofs.Common.{subst, sym}
+use Rattle.std.specs.Vec.Iter.{into_iter_items}
+use Rattle.live_jobs.specs.Rows.{From}
 use Rattle.live_jobs.specs.Seats.{IsSeatOf}
-use Rattle.live_jobs.specs.Started.{Open}
-use Rattle.live_jobs.proofs.Rows.{from_head, from_any, from_start}
+use Rattle.live_jobs.proofs.Rows.{from_head, from_any}
 use Rattle.live_jobs.proofs.serve.leave_running.Goals as goal
 
 pub loop-plan-init : goal.loop-plan-init
 loop-plan-init g c =
-    λ k p at. (from_start (λ n p. Open c.args.channels.now n p.seat) 0 _ _ c.requires.fit refl
-    c.into_iter-plan-iterator.ensures.into_iter_gives.0 k p at).1
+    subst (λ left. From (λ n p. IsSeatOf c.args.channels.now p.seat) 0 (into_iter_items left))
+    (sym c.into_iter-plan-iterator.ensures.into_iter_gives) c.requires.fit
 
 pub push_marks-requires-clause-fits : goal.push_marks-requires-clause-fits
 push_marks-requires-clause-fits g c =

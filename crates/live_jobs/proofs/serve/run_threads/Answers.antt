@@ -1,4 +1,5 @@
-use Rattle.std.proofs.Common.{◌∙◌, ℕ, arith, subst, sym}
+use Rattle.std.proofs.Common.{◌∙◌, ℕ, ap, arith, subst, sym}
+use Rattle.std.specs.Prelude.{slice_get}
 use Rattle.live_jobs.specs.Started.{AllEnded, AllReady}
 use Rattle.live_jobs.proofs.serve.run_threads.Goals as goal
 
@@ -13,7 +14,16 @@ start_writers-requires-clause-room g c κs within =
 pub start_writers-requires-clause-fit : goal.start_writers-requires-clause-fit
 start_writers-requires-clause-fit g c κs within =
     subst (λ (n : ℕ). AllReady c.args.channels.now n c.args.writers.items)
-    (sym (c.len-ends.ensures ∙ c.args.plans.ok.0)) c.requires.writers
+    (sym (c.len-ends.ensures ∙ c.args.plans.ok.0)) c.requires.ready
+
+pub start_writers-requires-clause-channels : goal.start_writers-requires-clause-channels
+start_writers-requires-clause-channels g c κs within = c.requires.grouped
+
+pub start_ends-all-requires-clause-fit : goal.start_ends-all-requires-clause-fit
+start_ends-all-requires-clause-fit g c κs within = c.requires.opened
+
+pub start_ends-all-requires-clause-kept : goal.start_ends-all-requires-clause-kept
+start_ends-all-requires-clause-kept g c κs within = c.requires.right
 
 pub start_ends-all-requires-clause-none : goal.start_ends-all-requires-clause-none
 start_ends-all-requires-clause-none g c κs within = c.in-Ok.ensures.none.1
@@ -21,8 +31,13 @@ start_ends-all-requires-clause-none g c κs within = c.in-Ok.ensures.none.1
 pub start_ends-all-requires-clause-room : goal.start_ends-all-requires-clause-room
 start_ends-all-requires-clause-room g c κs within = (
   omega (arith, c.args.plans.ok.0, c.in-Ok.ensures.room.1, c.len-ends.ensures),
-  c.requires.leaves,
+  c.requires.flagged,
 )
+
+-- those whose threads aren't started leave
+pub leave_running-requires-clause-fit : goal.leave_running-requires-clause-fit
+leave_running-requires-clause-fit g c = λ k p at.
+    (c.requires.opened k p (ap (λ l. slice_get l k) (sym c.into_iter.ensures.rest) ∙ at)).1
 
 -- and for the seats
 pub join_ends-requires-clause-none : goal.join_ends-requires-clause-none

@@ -51,6 +51,17 @@ start_writer-requires-clause-ends g c κs within =
     (from_head (λ n w. Ready c.args.channels.now c.args.ends n w.pass w.lent w.closed.items)
     (length c.loop-seat.running.items) _ _ _ c.loop-seat.invariant.todo c.in-Some.ensures.steps.0).2
 
+pub bounds-channels-group : goal.bounds-channels-group
+bounds-channels-group g c =
+    let here = c.loop-seat.running.ok.0 in
+    omega (
+      arith,
+      c.len-group.ensures,
+      c.loop-seat.invariant.count,
+      c.in-Some.ensures.steps.1,
+      c.requires.channels,
+    )
+
 pub push_reserved-requires : goal.push_reserved-requires
 push_reserved-requires g c =
     let here = c.loop-seat.running.ok.0 in
