@@ -15,7 +15,7 @@ mod rule;
 pub use known::Known;
 pub use parcel::{Handed, Parcel};
 pub use queue::{
-    JobQueue, QueuePass, close_end, compare, compare_rest, end_pass, hand_over, mark_closed,
-    new_queue, take_one, writer_pass,
+    JobQueue, QueuePass, compare, compare_rest, end_pass, hand_over, mark_closed, new_queue,
+    take_one, writer_pass,
 };
 pub use rule::InOrder;

@@ -15,7 +15,6 @@ use crate::rule::{Compares, HandsOver, InOrder, Meets, NextEnd, TakesOne, TheEnd
 use crossbeam_queue::{Pass, RuledArrayQueue};
 use std::alloc::{AllocError, Global};
 use std::sync::Wait;
-use std::thread;
 
 /// The parcels that a queue has room for.
 const QUEUE_LIMIT: usize = 64;
@@ -96,24 +95,6 @@ pub fn mark_closed<R: Wait>(rt: &R, queue: &JobQueue, pass: &mut QueuePass, end:
         Ok(()) => true,
         Err(_) => false,
     }
-}
-
-/// Pushes the closing mark of an end. Where the queue is full it tries again until there is room,
-/// and gives way to other threads between.
-pub fn close_end<R: Wait>(rt: &R, queue: &JobQueue, pass: &mut QueuePass, end: u64)
-    requires pass { IsPassOf queue.now pass.old }
-    requires open { IsOpen end (view pass.old) }
-    ensures pass { IsPassOf queue.now pass.new }
-    ensures closed { IsClosed end (view pass.new) }
-    ensures marked { HasHanded (view pass.old) (parcels.Mark end) (view pass.new) }
-{
-    for _ in rt.forever() {
-        if mark_closed(rt, queue, pass, end) {
-            return;
-        }
-        thread::yield_now();
-    }
-    unreachable!()
 }
 
 /// Takes the oldest parcel, or none where the queue was empty at one moment of the call. It waits
