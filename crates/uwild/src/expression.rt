@@ -1,8 +1,7 @@
 //! Expressions: patterns with their marks.
-ghost use Rattle.std.specs.Prelude.{◌≡◌, find, map, reverse, IfOk, IfErr};
-ghost use Rattle.std.specs.Option.{option_copied};
+ghost use Rattle.std.specs.Prelude.{◌≡◌, IfOk, IfErr};
 ghost use Rattle.news_terms.specs.Pattern as terms;
-ghost use Rattle.uwild.specs.Expression.{verdict_view, pattern_view, item_view, IsFault};
+ghost use Rattle.uwild.specs.Expression.{verdict_view, IsFault};
 ghost use Rattle.uwild.specs.declared.expression.WildError.TheVariants.{Memory};
 
 use crate::matching::matches;
@@ -95,21 +94,13 @@ impl Expr {
     pub fn judge(&self, name: &[u8]) -> Verdict
         ensures { verdict_view result ≡ terms.verdict self.now name.now }
     {
-        match deciding(&self.patterns, name) {
-            Some(pattern) => pattern.mark,
-            None => Verdict::Fail,
+        let mut left = self.patterns.as_slice();
+        while let Some((last, before)) = left.split_last() {
+            if matches(&last.items, name) {
+                return last.mark;
+            }
+            left = before;
         }
+        Verdict::Fail
     }
-}
-
-/// The last pattern that matches the name.
-fn deciding<'a>(patterns: &'a [Pattern], name: &[u8]) -> Option<&'a Pattern>
-    ensures { option_copied result
-        ≡ find (λ p. terms.matches (map item_view p.items.items) name.now)
-        (reverse patterns.now) }
-{
-    patterns
-        .iter()
-        .rev()
-        .find(|pattern| matches(&pattern.items, name))
 }
