@@ -1,6 +1,5 @@
 //! What is told of the buffers of cycbuff.conf.
-ghost use Rattle.std.specs.Prelude.{◌≡◌, ◌==◌, ◌++◌, map, take, IfOk, OnOk};
-ghost use Rattle.std.specs.List.{list_any};
+ghost use Rattle.std.specs.Prelude.{◌≡◌, ◌++◌, map, IfOk, OnOk};
 ghost use Rattle.std.specs.Option.{option_copied};
 ghost use Rattle.relay_explain.specs.Found.{cycbuff};
 ghost use Rattle.relay_explain.specs.Lines.{told_line};
@@ -147,7 +146,10 @@ fn put_odds(
     ensures { OnOk result (text.new.items
         ≡ text.old.items ++ terms.buffer_odds config.now line number buffer.now) }
 {
-    let first = first_with(&config.buffers.buffers, number, buffer.file.as_slice());
+    let file = buffer.file.as_slice();
+    let first = first_with(first_ones(&config.buffers.buffers, number), file);
+    let largest = largest_stored(config);
+    let mut octets = Buffer::new();
     put_odd(
         text,
         !is_in_group(&config.buffers.groups, number),
@@ -156,24 +158,9 @@ fn put_odds(
         &[b"the buffer is in no group: it takes no article"],
     )?;
     put_shared(text, CYCBUFF, line, b"the file is that of buffer ", first)?;
-    put_room_odd(text, line, buffer.blocks, largest_stored(config))
-}
-
-/// Puts what is odd in a buffer of so many blocks in which the largest article finds no room.
-#[tactic(auto, unfolding(crate::specs::Buffers::room_odd))]
-fn put_room_odd(
-    text: &mut Vec<u8>,
-    line: usize,
-    blocks: u32,
-    largest: u64,
-) -> Result<(), AllocError>
-    ensures { OnOk result (text.new.items
-        ≡ text.old.items ++ terms.room_odd line blocks largest) }
-{
-    let mut octets = Buffer::new();
     put_odd(
         text,
-        room_of(blocks) < largest,
+        room_of(buffer.blocks) < largest,
         CYCBUFF,
         line,
         &[
@@ -190,30 +177,16 @@ fn is_in_group(groups: &[GroupConf], number: usize) -> bool
     ensures { result ≡ terms.is_in_group number groups.now }
 {
     for group in groups {
-        if has_member(group, number) {
+        if group.buffers.contains(&number) {
             return true;
         }
     }
     false
 }
 
-/// Whether this group has the buffer of this number.
-fn has_member(group: &GroupConf, number: usize) -> bool
-    ensures { result ≡ list_any (λ i. i == number) group.now.buffers.items }
-{
-    group.buffers.contains(&number)
-}
-
-/// The name of the first of so many buffers that has this file.
-fn first_with<'a>(buffers: &'a [BufferConf], most: usize, file: &[u8]) -> Option<&'a [u8]>
-    ensures { option_copied result ≡ terms.first_with file.now (take most buffers.now) }
-{
-    first_of_file(first_ones(buffers, most), file)
-}
-
 /// The name of the first buffer that has this file.
 #[tactic(auto, unfolding(crate::specs::Buffers::first_with))]
-fn first_of_file<'a>(buffers: &'a [BufferConf], file: &[u8]) -> Option<&'a [u8]>
+fn first_with<'a>(buffers: &'a [BufferConf], file: &[u8]) -> Option<&'a [u8]>
     ensures { option_copied result ≡ terms.first_with file.now buffers.now }
 {
     for buffer in buffers {

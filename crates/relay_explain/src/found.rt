@@ -2,7 +2,7 @@
 ghost use Rattle.std.specs.Prelude.{◌≡◌, ◌==◌, ◌++◌, OnOk, Some};
 ghost use Rattle.std.specs.List.{list_all};
 ghost use Rattle.std.specs.Option.{option_copied};
-ghost use Rattle.relay_explain.specs.Found.{found_text, is_inn, is_own, odd_file};
+ghost use Rattle.relay_explain.specs.Found.{found_text, odd_file};
 ghost use Rattle.relay_explain.specs.Found as terms;
 
 use crate::text::{put_line, put_odd};
@@ -12,7 +12,7 @@ use std::alloc::AllocError;
 pub(crate) const CYCBUFF: &[u8] = b"cycbuff.conf";
 
 /// What lies where the file of a buffer is to be (docs/FORMATS.md, Blocks on the device).
-#[derive(Clone, Copy, PartialEq, Eq)]
+#[derive(Clone, Copy)]
 pub enum Found {
     /// A file that begins as one of this program, with a block or with zeros, or is empty.
     Fit,
@@ -34,20 +34,13 @@ pub enum Found {
 pub fn found_of(front: &[u8]) -> Found
     ensures { result ≡ terms.found_of front.now }
 {
-    if begins_own(front) {
+    if front.starts_with(b"CNB1") || has_zeros_alone(front) {
         Found::Fit
-    } else if begins_inn(front) {
+    } else if front.starts_with(b"CBuf") || front.starts_with(b"Cycbuff") {
         Found::Inn
     } else {
         Found::Other
     }
-}
-
-/// Whether a file with this front may be one of this program.
-fn begins_own(front: &[u8]) -> bool
-    ensures { result ≡ is_own front.now }
-{
-    front.starts_with(b"CNB1") || has_zeros_alone(front)
 }
 
 /// Whether each octet is zero.
@@ -60,13 +53,6 @@ fn has_zeros_alone(front: &[u8]) -> bool
         }
     }
     true
-}
-
-/// Whether a file with this front is a buffer of INN.
-fn begins_inn(front: &[u8]) -> bool
-    ensures { result ≡ is_inn front.now }
-{
-    front.starts_with(b"CBuf") || front.starts_with(b"Cycbuff")
 }
 
 /// Puts what is told of the file of a buffer, which this line names, by what lies there.

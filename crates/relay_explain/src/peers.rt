@@ -1,5 +1,5 @@
 //! What is told of the peers of relay.conf.
-ghost use Rattle.std.specs.Prelude.{◌≡◌, ◌++◌, bytes_eq, map, take, IfOk, OnOk};
+ghost use Rattle.std.specs.Prelude.{◌≡◌, ◌++◌, map, take, OnOk};
 ghost use Rattle.std.specs.Option.{option_copied};
 ghost use Rattle.relay_explain.specs.Lines.{told_line};
 ghost use Rattle.relay_explain.specs.Peers as terms;
@@ -8,16 +8,15 @@ ghost use Rattle.relay_explain.specs.Settings.{relay_conf};
 use crate::lines::peer_line;
 use crate::rows::first_ones;
 use crate::settings::RELAY;
-use crate::text::{put, put_line, put_odd, put_shared};
+use crate::text::{put_line, put_odd, put_shared};
 use itoa::Buffer;
 use line_words::is;
 use relay_conf::{Peer, Relay};
-use std::alloc::{AllocError, Global};
+use std::alloc::AllocError;
 
 /// Puts what is told of all peers.
 #[tactic(auto, unfolding(crate::specs::Peers::peers_text))]
 pub(crate) fn put_peers(
-    alloc: Global,
     text: &mut Vec<u8>,
     relay: &Relay,
     lines: &[&[u8]],
@@ -26,14 +25,13 @@ pub(crate) fn put_peers(
         ++ terms.peers_text relay.now (map (λ line. line.now) lines.now)) }
 {
     for (number, peer) in relay.peers.iter().enumerate() {
-        put_peer(alloc, text, relay, lines, number, peer)?;
+        put_peer(text, relay, lines, number, peer)?;
     }
     Ok(())
 }
 
 /// Puts what is told of the peer of this number.
 fn put_peer(
-    alloc: Global,
     text: &mut Vec<u8>,
     relay: &Relay,
     lines: &[&[u8]],
@@ -44,57 +42,43 @@ fn put_peer(
         ++ terms.peer_text relay.now (map (λ line. line.now) lines.now) (number, peer.now)) }
 {
     let line = peer_line(lines, b"peer", peer.name.as_slice());
-    put_peer_line(alloc, text, line, peer)?;
+    put_peer_line(text, line, peer)?;
     put_odds(text, relay, line, number, peer)
 }
 
 /// Puts the line of a peer.
-#[tactic(auto, unfolding(crate::specs::Peers::peer_told))]
-fn put_peer_line(
-    alloc: Global,
-    text: &mut Vec<u8>,
-    line: usize,
-    peer: &Peer,
-) -> Result<(), AllocError>
+#[tactic(auto, unfolding(crate::specs::Peers::peer_told, crate::specs::Peers::port_text))]
+fn put_peer_line(text: &mut Vec<u8>, line: usize, peer: &Peer) -> Result<(), AllocError>
     ensures { OnOk result (text.new.items
         ≡ text.old.items ++ told_line relay_conf line (terms.peer_told peer.now)) }
 {
-    let port = port_text(alloc, peer)?;
+    let (name, identity) = (peer.name.as_slice(), peer.identity.as_slice());
+    if peer.port == 0 {
+        let told = b"no port: it isn't served".as_slice();
+        return put_line(
+            text,
+            RELAY,
+            line,
+            &[b"peer ", name, b", identity ", identity, b", ", told],
+        );
+    }
+    let (mut port, mut connections) = (Buffer::new(), Buffer::new());
     put_line(
         text,
         RELAY,
         line,
         &[
             b"peer ",
-            peer.name.as_slice(),
+            name,
             b", identity ",
-            peer.identity.as_slice(),
+            identity,
             b", ",
-            &port,
-        ],
-    )
-}
-
-/// Where a peer is served, and how many of its connections at once.
-#[tactic(auto, unfolding(crate::specs::Peers::port_text))]
-fn port_text(alloc: Global, peer: &Peer) -> Result<Vec<u8>, AllocError>
-    ensures { IfOk result (λ text. text.items ≡ terms.port_text peer.now) }
-{
-    if peer.port == 0 {
-        return Vec::from_slice(alloc, b"no port: it isn't served");
-    }
-    let (mut port, mut connections) = (Buffer::new(), Buffer::new());
-    let mut text = Vec::new(alloc);
-    put(
-        &mut text,
-        &[
             b"port ",
             port.format(peer.port).as_bytes(),
             b", connections at once: ",
             connections.format(peer.connections).as_bytes(),
         ],
-    )?;
-    Ok(text)
+    )
 }
 
 /// Puts what is odd in a peer of this number.
@@ -109,6 +93,7 @@ fn put_odds(
     ensures { OnOk result (text.new.items
         ≡ text.old.items ++ terms.peer_odds relay.now line number peer.now) }
 {
+    let identity = peer.identity.as_slice();
     put_shared(
         text,
         RELAY,
@@ -121,22 +106,15 @@ fn put_odds(
         RELAY,
         line,
         b"the identity is that of peer ",
-        first_known_as(&relay.peers, number, peer.identity.as_slice()),
+        first_known_as(first_ones(&relay.peers, number), identity),
     )?;
     put_odd(
         text,
-        is_own(relay, peer),
+        is(identity, relay.own.as_slice()),
         RELAY,
         line,
         &[b"the identity is the relay's own"],
     )
-}
-
-/// Whether a peer has the relay's own identity.
-fn is_own(relay: &Relay, peer: &Peer) -> bool
-    ensures { result ≡ bytes_eq peer.now.identity relay.now.own }
-{
-    is(peer.identity.as_slice(), relay.own.as_slice())
 }
 
 /// The name of the first of so many peers that is served on this port.
@@ -163,16 +141,9 @@ fn first_of_port(peers: &[Peer], port: u16) -> Option<&[u8]>
     None
 }
 
-/// The name of the first of so many peers that has this identity.
-fn first_known_as<'a>(peers: &'a [Peer], most: usize, identity: &[u8]) -> Option<&'a [u8]>
-    ensures { option_copied result ≡ terms.first_known_as identity.now (take most peers.now) }
-{
-    known_as(first_ones(peers, most), identity)
-}
-
 /// The name of the first peer that has this identity.
 #[tactic(auto, unfolding(crate::specs::Peers::first_known_as))]
-fn known_as<'a>(peers: &'a [Peer], identity: &[u8]) -> Option<&'a [u8]>
+fn first_known_as<'a>(peers: &'a [Peer], identity: &[u8]) -> Option<&'a [u8]>
     ensures { option_copied result ≡ terms.first_known_as identity.now peers.now }
 {
     for other in peers {

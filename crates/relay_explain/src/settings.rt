@@ -106,37 +106,21 @@ fn put_remember(
         None => text.extend_from_slice(
             b"relay.conf: remember (no line says it): no message-id is forgotten\n",
         ),
-        Some(seconds) => put_remembered(text, lines, cutoff, seconds),
+        Some(seconds) => {
+            let told = b"seconds for which a message-id is remembered at least".as_slice();
+            put_number(text, lines, b"remember", seconds, told)?;
+            put_odd(
+                text,
+                is_soon_forgotten(cutoff, seconds),
+                RELAY,
+                key_line(lines, b"remember"),
+                &[
+                    b"an article of a message-id that is forgotten may come again: ",
+                    b"remember isn't above cutoff by more than 86400",
+                ],
+            )
+        }
     }
-}
-
-/// Puts for how long ids are remembered.
-fn put_remembered(
-    text: &mut Vec<u8>,
-    lines: &[&[u8]],
-    cutoff: u64,
-    seconds: u64,
-) -> Result<(), AllocError>
-    ensures { OnOk result (text.new.items ≡ text.old.items
-        ++ terms.remembered_text (map (λ line. line.now) lines.now) cutoff seconds) }
-{
-    put_number(
-        text,
-        lines,
-        b"remember",
-        seconds,
-        b"seconds for which a message-id is remembered at least",
-    )?;
-    put_odd(
-        text,
-        is_soon_forgotten(cutoff, seconds),
-        RELAY,
-        key_line(lines, b"remember"),
-        &[
-            b"an article of a message-id that is forgotten may come again: ",
-            b"remember isn't above cutoff by more than 86400",
-        ],
-    )
 }
 
 /// Whether an id may be forgotten while its article would still be taken.

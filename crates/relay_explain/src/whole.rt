@@ -36,25 +36,11 @@ pub fn explain(
         ≡ terms.explained config.now sources.now found.now) }
 {
     let mut text = Vec::new(alloc);
-    put_all(alloc, &mut text, config, sources, found)?;
+    put_cycbuff(alloc, &mut text, config, &sources.cycbuff, found)?;
+    put_storage(alloc, &mut text, config, &sources.storage)?;
+    put_relay(alloc, &mut text, config, &sources.relay)?;
+    put_wants(&mut text, config)?;
     Ok(text)
-}
-
-/// Puts what is told of the three files, and of what the configuration takes of the machine.
-fn put_all(
-    alloc: Global,
-    text: &mut Vec<u8>,
-    config: &Config,
-    sources: &Sources,
-    found: &[Found],
-) -> Result<(), AllocError>
-    ensures { OnOk result (text.new.items ≡ text.old.items
-        ++ terms.explained config.now sources.now found.now) }
-{
-    put_cycbuff(alloc, text, config, &sources.cycbuff, found)?;
-    put_storage(alloc, text, config, &sources.storage)?;
-    put_relay(alloc, text, config, &sources.relay)?;
-    put_wants(text, config)
 }
 
 /// Puts what is told of cycbuff.conf, of which this is the text.
@@ -102,6 +88,6 @@ fn put_relay(
     let all = lines_of(alloc, source)?;
     let lines = all.as_slice();
     put_settings(alloc, text, &config.relay, lines)?;
-    put_peers(alloc, text, &config.relay, lines)?;
+    put_peers(text, &config.relay, lines)?;
     put_feeds(text, &config.relay, lines)
 }

@@ -1,18 +1,26 @@
 use Rattle.std.proofs.Common.{◌∙◌, ap, take}
-use Rattle.relay_explain.specs.Buffers.{buffer_odds, first_with, is_in_group}
+use Rattle.relay_explain.specs.Buffers.{buffer_odds, first_with, is_in_group, room_odd}
 use Rattle.relay_explain.proofs.Puts.{on_ok, three}
 use Rattle.relay_explain.proofs.buffers.put_odds.Goals as goal
 
 pub returns : goal.returns
-unfolding buffer_odds
+unfolding buffer_odds room_odd
 returns c =
     let first = c.first_with-first.ensures
-    ∙ ap (λ buffers. first_with c.as_slice.result.now (take c.args.number buffers))
+    ∙ ap (first_with c.as_slice-file.result.now) c.first_ones.ensures
+    ∙ ap (λ buffers. first_with c.as_slice-file.result.now (take c.args.number buffers))
     c.deref.ensures.value
     ∙ ap (λ file. first_with file (take c.args.number c.args.config.now.buffers.buffers.items))
-    c.as_slice.ensures in
+    c.as_slice-file.ensures in
     let grouped = c.is_in_group.ensures
     ∙ ap (λ groups. is_in_group c.args.number groups) c.deref-2.ensures.value in
-    rw (← grouped, ← first, ← c.largest_stored.ensures)
+    let octets = c.as_bytes.ensures.value ∙ c.format.ensures.text in
+    rw (
+      ← grouped,
+      ← first,
+      ← c.largest_stored-largest.ensures,
+      ← c.room_of.ensures,
+      ← octets,
+    )
     (on_ok _ (three _ _ _ _ _ _ _ c.in_ok-put_odd.ensures c.in_ok-put_shared.ensures)
-    c.put_room_odd.ensures)
+    c.put_odd-2.ensures)

@@ -10,10 +10,12 @@ returns c =
     ∙ ap (λ peers. first_on c.args.peer.now.port (take c.args.number peers))
     c.deref.ensures.value in
     let known = c.first_known_as.ensures
-    ∙ ap (λ peers. first_known_as c.as_slice.result.now (take c.args.number peers))
+    ∙ ap (first_known_as c.as_slice-identity.result.now) c.first_ones.ensures
+    ∙ ap (λ peers. first_known_as c.as_slice-identity.result.now (take c.args.number peers))
     c.deref-2.ensures.value
     ∙ ap (λ identity. first_known_as identity (take c.args.number c.args.relay.now.peers.items))
-    c.as_slice.ensures in
-    rw (← served, ← known, ← c.is_own.ensures)
+    c.as_slice-identity.ensures in
+    let own = rw (c.as_slice-identity.ensures, c.as_slice.ensures) at c.is.ensures in
+    rw (← served, ← known, ← own)
     (on_ok _ (three _ _ _ _ _ _ _ c.in_ok-put_shared.ensures c.in_ok-put_shared-2.ensures)
     c.put_odd.ensures)

@@ -1,6 +1,6 @@
 use Rattle.std.proofs.Common.{◌≡◌, drop}
 use Rattle.relay_explain.specs.Peers.{first_known_as}
-use Rattle.relay_explain.proofs.peers.known_as.Given as goal
+use Rattle.relay_explain.proofs.peers.first_known_as.Given as goal
 
 -- no peer so far has the identity
 abbrev pub invariant-loop-other : goal.invariant-loop-other
