@@ -1,13 +1,11 @@
 pub mod BuiltIn
 pub mod CycbuffReadings
-pub mod Entries
 pub mod FaultlessLines
 pub mod FileLines
 pub mod FirstFaults
 pub mod JoinedLines
 pub mod LinesRead
 pub mod ListedOnce
-pub mod NameTexts
 pub mod Numbered
 pub mod OneExpression
 pub mod OneReading

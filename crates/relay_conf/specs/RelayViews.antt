@@ -1,5 +1,5 @@
 -- Lines of relay.conf that were read, as the definitions have them.
-use Rattle.std.specs.Prelude.{ℕ, List, Result, Ok, Err, IsTrue}
+use Rattle.std.specs.Prelude.{ℕ, List, Result, Ok, Err}
 use Rattle.std.specs.Net.Addr.{ipv4_octets}
 use Rattle.relay_conf.specs.declared.faults.Fault.{Fault}
 use Rattle.relay_conf.specs.declared.relay_lines.Line.{Line}
@@ -7,7 +7,6 @@ use Rattle.relay_conf.specs.declared.relay_lines.Line.TheVariants as lines
 use Rattle.relay_conf.specs.declared.faults.LineFault.{LineFault}
 use Rattle.relay_conf.specs.declared.faults.ConfError.{ConfError}
 use Rattle.relay_conf.specs.declared.settings.Relay.{Relay}
-use Rattle.relay_conf.specs.Words.{is_name}
 use Rattle.relay_conf.specs.LineByLine.{SayTogether, HaveFault, LinesGive}
 use Rattle.relay_conf.specs.RelayLines.{LineSays, RelayLine, RawLine, Skipped, Own, MaxArticle}
 use Rattle.relay_conf.specs.RelayLines.{Cutoff, Remember, Patience, Bind, PeerLine, ConnectionsLine}
@@ -31,19 +30,6 @@ raw_view (lines.Feed name ring text) = FeedLine name.now ring text.now
 abbrev pub raw_by : Result Line Fault → RawLine
 raw_by (Ok line) = Ok (raw_view line)
 raw_by (Err fault) = Err fault
-
--- the name of a feed, and that of connections, is a name
-abbrev pub IsNamed : Line → Type 0
-IsNamed lines.Skipped = Unit {0}
-IsNamed (lines.Own identity) = Unit {0}
-IsNamed (lines.MaxArticle octets) = Unit {0}
-IsNamed (lines.Cutoff seconds) = Unit {0}
-IsNamed (lines.Remember seconds) = Unit {0}
-IsNamed (lines.Patience seconds) = Unit {0}
-IsNamed (lines.Bind address) = Unit {0}
-IsNamed (lines.Peer name identity port) = Unit {0}
-IsNamed (lines.Connections name connections) = IsTrue (is_name name.now)
-IsNamed (lines.Feed name ring text) = IsTrue (is_name name.now)
 
 -- the settings of relay.conf as the definitions have them
 abbrev pub relay_view : Relay → RelaySettings

@@ -1,6 +1,6 @@
 //! The first entry whose conditions hold.
-ghost use Rattle.std.specs.Prelude.{◌≡◌, find, map};
-ghost use Rattle.std.specs.Option.{option_copied, option_map};
+ghost use Rattle.std.specs.Prelude.{◌≡◌, map};
+ghost use Rattle.std.specs.Option.{option_map};
 ghost use Rattle.news_terms.specs.StorageClass.{chosen_entry};
 ghost use Rattle.news_terms.specs.StorageClass as terms;
 ghost use Rattle.relay_conf.specs.Storage.{entry_view};
@@ -16,25 +16,9 @@ pub fn choose(storage_entries: &[StorageEntry], groups: &[&[u8]], size: u64) -> 
     ensures { result ≡ option_map given
         (chosen_entry (map entry_view storage_entries.now) (map octets_of groups.now) size) }
 {
-    match first_that_takes(storage_entries, groups, size) {
-        Some(storage_entry) => Some((storage_entry.class, storage_entry.group)),
-        None => None,
-    }
-}
-
-/// The first entry whose conditions hold.
-fn first_that_takes<'a>(
-    storage_entries: &'a [StorageEntry],
-    groups: &[&[u8]],
-    size: u64,
-) -> Option<&'a StorageEntry>
-    ensures { option_copied result
-        ≡ find (λ m. terms.takes (entry_view m) (map octets_of groups.now) size)
-        storage_entries.now }
-{
     for storage_entry in storage_entries {
         if takes_size(storage_entry, size) && takes_groups(storage_entry, groups) {
-            return Some(storage_entry);
+            return Some((storage_entry.class, storage_entry.group));
         }
     }
     None

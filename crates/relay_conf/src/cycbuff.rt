@@ -153,11 +153,24 @@ fn add_buffer(
     if has_buffer(buffers, name) {
         return Err(Refusal::Faulty(Fault::Duplicate));
     }
-    buffers.push(BufferConf {
-        name: Octets::copied(alloc, name)?,
-        file: Octets::copied(alloc, file)?,
-        blocks,
-    })?;
+    push_buffer(alloc, buffers, name, file, blocks)?;
+    Ok(())
+}
+
+/// Keeps a buffer.
+fn push_buffer(
+    alloc: Global,
+    buffers: &mut Vec<BufferConf>,
+    name: &[u8],
+    file: &[u8],
+    blocks: u32,
+) -> Result<(), AllocError>
+    ensures { OnOk result (buffers.new.items ≡ buffers.old.items
+        ++ record { name = name.now; file = file.now; blocks = blocks } ∷ []) }
+{
+    let name = Octets::copied(alloc, name)?;
+    let file = Octets::copied(alloc, file)?;
+    buffers.push(BufferConf { name, file, blocks })?;
     Ok(())
 }
 

@@ -14,7 +14,6 @@ mod expressions;
 mod faults;
 pub mod laws;
 mod lines;
-mod names;
 mod peers;
 mod relay;
 mod relay_lines;

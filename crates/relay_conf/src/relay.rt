@@ -1,20 +1,18 @@
 //! relay.conf: the relay itself, its peers and their feeds (docs/FORMATS.md, Configuration).
-ghost use Rattle.std.specs.Prelude.{◌≡◌, ◌≤◌, ◌∷◌, ◌++◌, [], length, IsTrue, Ok, OnOk};
+ghost use Rattle.std.specs.Prelude.{◌≡◌, ◌≤◌, ◌∷◌, ◌++◌, [], length, Ok, OnOk};
 ghost use Rattle.relay_conf.specs.Faults.{ConfGives, LineGives};
 ghost use Rattle.relay_conf.specs.Lines.{lines_of};
 ghost use Rattle.relay_conf.specs.Relay.{RelaySettings, peer_fault};
-ghost use Rattle.relay_conf.specs.RelayDraft.{RelayStep, ConnectionsStep, FeedStep, Lists, nothing};
+ghost use Rattle.relay_conf.specs.RelayDraft.{RelayStep, ConnectionsStep, FeedStep, nothing};
 ghost use Rattle.relay_conf.specs.RelayDraft.{draft_view, draft_said, with_peers};
-ghost use Rattle.relay_conf.specs.RelayViews.{relay_view, raw_view, IsNamed, RelayGives};
+ghost use Rattle.relay_conf.specs.RelayViews.{relay_view, raw_view, RelayGives};
 ghost use Rattle.relay_conf.specs.SoundRelay.{IsSoundRelay};
-ghost use Rattle.relay_conf.specs.Words.{is_name};
 
 use crate::drafts::{LineByLine, read_lines, set_once};
 use crate::expressions::expression_of;
 use crate::faults::{ConfError, Fault, LineFault, Refusal};
 use crate::lines::lines_of;
-use crate::names::NameSet;
-use crate::peers::{connected, is_peer, known_names, numbered};
+use crate::peers::{connected, has_connections, has_feed, is_peer, known_names, numbered};
 use crate::relay_lines::{Line, relay_line};
 use crate::settings::Relay;
 use line_words::Octets;
@@ -83,10 +81,6 @@ pub(crate) struct RelayDraft {
     feeds: Vec<NamedFeed>,
     /// The names of peers that lines say something of.
     named: Vec<NamedLine>,
-    /// The names of the connections.
-    connected_names: NameSet,
-    /// The names of the feeds.
-    feed_names: NameSet,
 }
 
 /// The number of a line, and the name of the peer that it says something of.
@@ -129,8 +123,7 @@ impl LineByLine for RelayDraft {
 
 impl RelayDraft {
     fn new(alloc: Global) -> RelayDraft
-        ensures stand { draft_view result ≡ nothing }
-        ensures listed { Lists result }
+        ensures { draft_view result ≡ nothing }
     {
         RelayDraft {
             own: None,
@@ -143,17 +136,13 @@ impl RelayDraft {
             connections: Vec::new(alloc),
             feeds: Vec::new(alloc),
             named: Vec::new(alloc),
-            connected_names: NameSet::new(alloc),
-            feed_names: NameSet::new(alloc),
         }
     }
 
     /// Adds what the line of this number says.
     fn add(&mut self, alloc: Global, number: usize, said: Line<'_>) -> Result<(), Refusal>
-        requires { IsNamed said }
-        ensures step { Lists self.old → RelayStep number (draft_view self.old)
-            (Ok (raw_view said.entry)) (draft_view self.new) result }
-        ensures listed { Lists self.old → OnOk result (Lists self.new) }
+        ensures { RelayStep number (draft_view self.old) (Ok (raw_view said.entry))
+            (draft_view self.new) result }
     {
         match said {
             Line::Skipped => Ok(()),
@@ -184,8 +173,6 @@ impl RelayDraft {
             (self.old.peers.items
             ++ record { name = name.now; identity = identity.now; port = port; connections = 1 }
             ∷ [])) }
-        ensures names { OnOk result (self.new.feed_names ≡ self.old.feed_names) }
-        ensures connected { OnOk result (self.new.connected_names ≡ self.old.connected_names) }
     {
         if self.peers.len() >= 1_024 {
             return Err(Refusal::Faulty(Fault::Number));
@@ -205,12 +192,10 @@ impl RelayDraft {
         name: &[u8],
         connections: u32,
     ) -> Result<(), Refusal>
-        requires { IsTrue (is_name name.now) }
-        ensures step { Lists self.old → ConnectionsStep line name.now connections
-            (draft_view self.old) (draft_view self.new) result }
-        ensures listed { Lists self.old → OnOk result (Lists self.new) }
+        ensures { ConnectionsStep line name.now connections (draft_view self.old)
+            (draft_view self.new) result }
     {
-        if !self.connected_names.add(alloc, name)? {
+        if has_connections(&self.connections, name) {
             return Err(Refusal::Faulty(Fault::Duplicate));
         }
         push_connections(alloc, &mut self.connections, name, connections)?;
@@ -227,13 +212,11 @@ impl RelayDraft {
         ring: u32,
         text: &[u8],
     ) -> Result<(), Refusal>
-        requires { IsTrue (is_name name.now) }
-        ensures step { Lists self.old → FeedStep line name.now ring text.now (draft_view self.old)
+        ensures { FeedStep line name.now ring text.now (draft_view self.old)
             (draft_view self.new) result }
-        ensures listed { Lists self.old → OnOk result (Lists self.new) }
     {
         let expression = expression_of(alloc, text)?;
-        if !self.feed_names.add(alloc, name)? {
+        if has_feed(&self.feeds, name) {
             return Err(Refusal::Faulty(Fault::Duplicate));
         }
         push_feed(alloc, &mut self.feeds, name, ring, expression)?;
@@ -332,11 +315,7 @@ fn finished(alloc: Global, draft: RelayDraft) -> Result<Relay, ConfError>
         connections,
         feeds,
         named,
-        connected_names,
-        feed_names,
     } = draft;
-    drop(connected_names);
-    drop(feed_names);
     let Some(own) = own else {
         return Err(ConfError::Faulty(LineFault {
             line: 0,

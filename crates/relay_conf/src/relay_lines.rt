@@ -2,7 +2,7 @@
 ghost use Rattle.std.specs.Prelude.{◌≡◌, ◌≤◌, ◌∷◌, IfOk};
 ghost use Rattle.line_words.specs.Parts.{one_of, two_of, three_of};
 ghost use Rattle.relay_conf.specs.RelayLines as terms;
-ghost use Rattle.relay_conf.specs.RelayViews.{raw_by, IsNamed};
+ghost use Rattle.relay_conf.specs.RelayViews.{raw_by};
 ghost use Rattle.relay_conf.specs.Words.{words};
 
 use crate::faults::Fault;
@@ -36,8 +36,7 @@ pub(crate) enum Line<'a> {
 
 /// Reads a line alone, but for the expression of a feed.
 pub(crate) fn relay_line(line: &[u8]) -> Result<Line<'_>, Fault>
-    ensures says { raw_by result ≡ terms.relay_line line.now }
-    ensures named { IfOk result IsNamed }
+    ensures { raw_by result ≡ terms.relay_line line.now }
 {
     let line = trim(line);
     if is_skipped(line) {
@@ -51,8 +50,7 @@ pub(crate) fn relay_line(line: &[u8]) -> Result<Line<'_>, Fault>
 
 /// Reads a line by its first word and what follows it.
 fn line_of<'a>(word: &[u8], rest: &'a [u8]) -> Result<Line<'a>, Fault>
-    ensures says { raw_by result ≡ terms.relay_words (word.now ∷ words rest.now) }
-    ensures named { IfOk result IsNamed }
+    ensures { raw_by result ≡ terms.relay_words (word.now ∷ words rest.now) }
 {
     if is(word, b"own") {
         own_line(rest)
@@ -79,8 +77,7 @@ fn line_of<'a>(word: &[u8], rest: &'a [u8]) -> Result<Line<'a>, Fault>
 
 /// Reads what follows `own`.
 fn own_line(rest: &[u8]) -> Result<Line<'_>, Fault>
-    ensures named { IfOk result IsNamed }
-    ensures says { raw_by result ≡ terms.own_line (one_of (words rest.now)) }
+    ensures { raw_by result ≡ terms.own_line (one_of (words rest.now)) }
 {
     match one_word(rest) {
         Some(identity) if is_identity(identity) => Ok(Line::Own(identity)),
@@ -104,8 +101,7 @@ fn number_line(least: u64, most: u64, rest: &[u8]) -> Result<u64, Fault>
 
 /// Reads what follows `bind`.
 fn bind_line(rest: &[u8]) -> Result<Line<'_>, Fault>
-    ensures named { IfOk result IsNamed }
-    ensures says { raw_by result ≡ terms.bind_line (one_of (words rest.now)) }
+    ensures { raw_by result ≡ terms.bind_line (one_of (words rest.now)) }
 {
     let Some(word) = one_word(rest) else {
         return Err(Fault::Syntax);
@@ -148,8 +144,7 @@ fn octet_of(word: &[u8]) -> Option<u8>
 
 /// Reads what follows `peer`.
 fn peer_line(rest: &[u8]) -> Result<Line<'_>, Fault>
-    ensures named { IfOk result IsNamed }
-    ensures says { raw_by result ≡ terms.peer_line (three_of (words rest.now)) }
+    ensures { raw_by result ≡ terms.peer_line (three_of (words rest.now)) }
 {
     let Some((name, identity, port)) = three_words(rest) else {
         return Err(Fault::Syntax);
@@ -165,8 +160,7 @@ fn peer_line(rest: &[u8]) -> Result<Line<'_>, Fault>
 
 /// Reads what follows `connections`.
 fn connections_line(rest: &[u8]) -> Result<Line<'_>, Fault>
-    ensures says { raw_by result ≡ terms.connections_line (two_of (words rest.now)) }
-    ensures named { IfOk result IsNamed }
+    ensures { raw_by result ≡ terms.connections_line (two_of (words rest.now)) }
 {
     let Some((name, connections)) = two_words(rest) else {
         return Err(Fault::Syntax);
@@ -182,8 +176,7 @@ fn connections_line(rest: &[u8]) -> Result<Line<'_>, Fault>
 
 /// Reads what follows `feed`, but for the expression.
 fn feed_line(rest: &[u8]) -> Result<Line<'_>, Fault>
-    ensures says { raw_by result ≡ terms.feed_line (three_of (words rest.now)) }
-    ensures named { IfOk result IsNamed }
+    ensures { raw_by result ≡ terms.feed_line (three_of (words rest.now)) }
 {
     let Some((name, ring, text)) = three_words(rest) else {
         return Err(Fault::Syntax);

@@ -5,11 +5,11 @@ use Rattle.relay_conf.proofs.relay.RelayDraftLineByLine.add_line.Goals as goal
 pub returns-in-Ok : goal.returns-in-Ok
 returns-in-Ok c = λ known.
     relay_step c.args.number c.args.line.now c.args.self.now c.add.new.self c.add.result
-    (rw (← c.in-Ok.ensures.says) c.add.ensures.step) c.add.ensures.listed
+    (rw (← c.in-Ok.ensures) c.add.ensures)
 
 pub returns-in-Err : goal.returns-in-Err
 returns-in-Err c = λ known said number of. record {
   one = Err c.in-Err.fault;
-  says = rw (← c.in-Err.ensures.says) refl;
+  says = rw (← c.in-Err.ensures) refl;
   found = refl;
 }
