@@ -1,15 +1,19 @@
 -- Commands that are built word by word, and what clap answers of them.
-use Rattle.std.proofs.Common.{◌≡◌, ◌∙◌, ap, ap₂, false, true, Bool, Option, List, []}
+use Rattle.std.proofs.Common.{◌≡◌, ◌∙◌, ap, ap₂, false, true, Bool, Option, List, [], ℕ}
 use Rattle.std.proofs.Common.{refl, sym, subst}
 use Rattle.std.specs.Prelude.{◌||◌}
+use denote.Ref.{Bor}
+use Rattle.clap.specs.Simple.{app_of_fields}
 use Rattle.clap.specs.Words.{AddsArg, AddsSubcommand, App, Rule, rule_of, with_rule}
 use Rattle.clap.specs.Words.{with_subcommand, HasKind, Row, Text, fault_of, is_simple}
 use Rattle.clap.specs.Words.{is_simple_and_free, subcommand_of}
 use Rattle.clap.specs.declared.builder.Arg.{Arg}
 use Rattle.clap.specs.declared.builder.Command.{Command}
 use Rattle.clap.specs.declared.error.Error.{Error}
-use Rattle.relay_command.specs.CommandLine.{Asked, IsAskedBy, IsRefusedBy, Reads}
-use Rattle.relay_command.specs.CommandLine.{asked_by, program_words}
+use Rattle.clap.specs.declared.builder.Command.TheViews.{out-Command as fields_of}
+use Rattle.relay_command.specs.CommandLine.{Asked, IsAskedBy, IsRefusedBy}
+use Rattle.relay_command.specs.CommandLine.{Reads, asked_by, needed, program_words}
+use Rattle.relay_command.specs.Questions.{optional}
 
 -- A command with one more word reads that too.
 pub with_word : (old new : Command) (a : Arg) (app : App) (rule : Rule) → Reads old app
@@ -27,6 +31,21 @@ with_command old sub new app below before under adds = record {
       (ap (λ (a : App). a.top) under.words);
   own = adds.globals ∙ ap₂ (λ (x y : Bool). x || y) before.own under.own;
 }
+
+-- What is told of a command changes nothing of what it reads.
+pub told_reads : (old new : Command) (app : App) (told : Option (Bor (List ℕ))) → Reads old app
+    → fields_of new ≡ record (fields_of old) { about = told } → Reads new app
+told_reads old new app told before made = record {
+  words = ap app_of_fields made ∙ before.words;
+  own = rw made before.own;
+}
+
+-- A word that has to be there is one that may be left out and is asked for.
+pub asked_for : (old new : Arg) (name : Text) → rule_of old ≡ optional name
+    → new ≡ record old { required = true } → rule_of new ≡ needed name
+asked_for old new name of made =
+    let required : Rule → Rule = λ r. record r { required = true } in
+    ap rule_of made ∙ ap required of
 
 -- The program's words are of the plain kind of which clap states all.
 words_are_plain : is_simple_and_free program_words ≡ true

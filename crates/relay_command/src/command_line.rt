@@ -1,16 +1,17 @@
 //! Reading the program's words (docs/PROTOCOL.md, Commands).
-ghost use Rattle.std.specs.Prelude.{◌≡◌, bytes_eq, codes, false, map, string_bytes, None, Some};
-ghost use Rattle.std.specs.Prelude.{IfOk};
-ghost use Rattle.clap.specs.Words.{App, Rule, found_of, new_app, rows_of, rule_of};
+ghost use Rattle.std.specs.Prelude.{◌≡◌, codes, false, map, option_and_then, string_bytes, None};
+ghost use Rattle.std.specs.Prelude.{IfOk, Some};
+ghost use Rattle.clap.specs.Words.{App, Rule, found_of, new_app, one_of, rows_of, rule_of};
 ghost use Rattle.clap.specs.Words.{subcommand_rows_of, with_rule, with_subcommand};
 ghost use Rattle.relay_command.specs.CommandLine.{Reads, ReadsWords, asked, asked_by};
-ghost use Rattle.relay_command.specs.CommandLine.{word_given, check_words, drill_words};
+ghost use Rattle.relay_command.specs.CommandLine.{word_given, drill_words};
 ghost use Rattle.relay_command.specs.CommandLine.{Drills, Explains, Serves};
 ghost use Rattle.relay_command.specs.CommandLine.{fresh_given, fresh_rule};
 ghost use Rattle.relay_command.specs.CommandLine.{sessions_given, sessions_rule};
-ghost use Rattle.relay_command.specs.CommandLine.{needed, program_words, report_words, serve_words};
-ghost use Rattle.relay_command.specs.CommandLine.{stop_words, token_words, version_words};
-ghost use Rattle.relay_command.specs.Questions.{question_given};
+ghost use Rattle.relay_command.specs.CommandLine.{needed, program_words, serve_words};
+ghost use Rattle.relay_command.specs.CommandLine.{version_words};
+ghost use Rattle.relay_command.specs.Numbers.{number_of};
+ghost use Rattle.relay_command.specs.Questions.{optional, question_given};
 
 use crate::question::{Question, explain, question_in};
 use crate::version::VERSION;
@@ -22,6 +23,18 @@ pub(crate) const CONFIGURED: &str = "The folder of the configuration: K1 is the 
 
 /// What is told of the folder of a relay that is asked.
 const SERVED: &str = "The folder in which the relay is served";
+
+/// What is told of `check`.
+const CHECKS: &str = "Reads a configuration and says what it has";
+
+/// What is told of `report`.
+const REPORTS: &str = "Prints the report of a relay that is served";
+
+/// What is told of `stop`.
+const STOPS: &str = "Ends a relay that is served";
+
+/// What is told of `token`.
+const TELLS: &str = "Says what a token stands for";
 
 /// What the words ask for.
 #[derive(Drop)]
@@ -90,35 +103,28 @@ fn first_drill(alloc: Global) -> Result<Job, AllocError>
     })
 }
 
-/// Whether these are the same word.
-fn is(word: &str, other: &str) -> bool
-    ensures { result ≡ bytes_eq word.now other.now }
-{
-    word == other
-}
-
 /// What the subcommand of this name asks for, with what was given for its words.
 fn job_named(alloc: Global, name: &str, given: &ArgMatches<'_>) -> Result<Job, AllocError>
     ensures { IfOk result (λ job. asked job
         ≡ asked_by (Some (name.now, rows_of (found_of given.now)))) }
 {
-    if is(name, "token") {
+    if name == "token" {
         return Ok(Job::Token(word(alloc, given, "TEXT")?));
     }
     let folder = word(alloc, given, "DIR")?;
-    if is(name, "check") {
+    if name == "check" {
         return Ok(Job::Check(folder));
     }
-    if is(name, "explain") {
+    if name == "explain" {
         return explanation(alloc, given, folder);
     }
-    if is(name, "serve") {
+    if name == "serve" {
         return Ok(service(given, folder));
     }
-    if is(name, "stop") {
+    if name == "stop" {
         return Ok(Job::Stop(folder));
     }
-    if is(name, "report") {
+    if name == "report" {
         return Ok(Job::Report(folder));
     }
     drilling(alloc, given, folder)
@@ -139,7 +145,7 @@ fn service(given: &ArgMatches<'_>, folder: String) -> Job
         (sessions_given (rows_of (found_of given.now)))
         (fresh_given (rows_of (found_of given.now))) }
 {
-    let sessions = sessions(given);
+    let sessions = number(given, "sessions");
     let fresh = fresh(given);
     Job::Serve {
         folder,
@@ -157,11 +163,12 @@ fn explanation(alloc: Global, given: &ArgMatches<'_>, folder: String) -> Result<
     Ok(Job::Explain { folder, question })
 }
 
-/// How many connections each port is to serve, where a number was given.
-fn sessions(given: &ArgMatches<'_>) -> Option<u32>
-    ensures { result ≡ sessions_given (rows_of (found_of given.now)) }
+/// The number that was given for a name, where one was.
+pub(crate) fn number(given: &ArgMatches<'_>, name: &str) -> Option<u32>
+    ensures { result ≡ option_and_then number_of
+        (one_of name.now (rows_of (found_of given.now))) }
 {
-    given.get_one::<u32>("sessions")
+    given.get_one::<u32>(name)
 }
 
 /// Whether all buffers are to be formatted.
@@ -189,13 +196,15 @@ fn word(alloc: Global, given: &ArgMatches<'_>, name: &str) -> Result<String, All
 fn command<'a>(alloc: Global) -> Result<Command<'a>, AllocError>
     ensures { IfOk result (λ command. Reads command program_words) }
 {
-    let words = with_command(Ok(program(alloc)), check(alloc));
+    let checks = of_word(alloc, "check", CHECKS, "DIR", CONFIGURED);
+    let words = with_command(Ok(program(alloc)), checks);
     let words = with_command(words, drill(alloc));
     let words = with_command(words, explain(alloc));
-    let words = with_command(words, report(alloc));
+    let words = with_command(words, of_word(alloc, "report", REPORTS, "DIR", SERVED));
     let words = with_command(words, serve(alloc));
-    let words = with_command(words, stop(alloc));
-    with_command(words, token(alloc))
+    let words = with_command(words, of_word(alloc, "stop", STOPS, "DIR", SERVED));
+    let tells = of_word(alloc, "token", TELLS, "TEXT", "The text of the token");
+    with_command(words, tells)
 }
 
 /// A command with one more below it, where both could be made.
@@ -222,18 +231,21 @@ fn with_command<'a>(
     }
 }
 
-/// A command of this name, what it does, and its first word.
+/// A command of this name, what it does, and its first word, which has to be there, with what is
+/// told of that.
 pub(crate) fn of_word<'a>(
     alloc: Global,
     name: &'a str,
     about: &'a str,
-    word: Arg<'a>,
+    word: &'a str,
+    told: &'a str,
 ) -> Result<Command<'a>, AllocError>
-    requires { word.global ≡ false }
-    ensures { (rule : Rule) → rule_of word.entry ≡ rule
-        → IfOk result (λ one. Reads one (with_rule (new_app name.entry.now) rule)) }
+    ensures { IfOk result (λ one. Reads one
+        (with_rule (new_app name.entry.now) (needed word.entry.now))) }
 {
-    Command::new(alloc, name).about(about).arg(word)
+    Command::new(alloc, name)
+        .about(about)
+        .arg(needed(alloc, word, told))
 }
 
 /// A command with one more word, where it could be made.
@@ -264,57 +276,26 @@ fn program<'a>(alloc: Global) -> Command<'a>
         .about("The incoming side of a Netnews transit server")
 }
 
-/// `check DIR`.
-fn check<'a>(alloc: Global) -> Result<Command<'a>, AllocError>
-    ensures { IfOk result (λ command. Reads command check_words) }
-{
-    let folder = needed(alloc, "DIR", CONFIGURED);
-    of_word(
-        alloc,
-        "check",
-        "Reads a configuration and says what it has",
-        folder,
-    )
-}
-
 /// `drill DIR SCRIPT`.
 fn drill<'a>(alloc: Global) -> Result<Command<'a>, AllocError>
     ensures { IfOk result (λ command. Reads command drill_words) }
 {
-    let folder = needed(alloc, "DIR", CONFIGURED);
     let script = needed(
         alloc,
         "SCRIPT",
         "The script's file: stdin is standard input",
     );
-    let command = of_word(alloc, "drill", "Runs a script over memory", folder);
+    let told = "Runs a script over memory";
+    let command = of_word(alloc, "drill", told, "DIR", CONFIGURED);
     with_word(command, script)
-}
-
-/// `report DIR`.
-fn report<'a>(alloc: Global) -> Result<Command<'a>, AllocError>
-    ensures { IfOk result (λ command. Reads command report_words) }
-{
-    let folder = needed(alloc, "DIR", SERVED);
-    of_word(
-        alloc,
-        "report",
-        "Prints the report of a relay that is served",
-        folder,
-    )
 }
 
 /// `serve DIR [--sessions N] [--fresh]`.
 fn serve<'a>(alloc: Global) -> Result<Command<'a>, AllocError>
     ensures { IfOk result (λ command. Reads command serve_words) }
 {
-    let folder = needed(alloc, "DIR", CONFIGURED);
-    let command = of_word(
-        alloc,
-        "serve",
-        "Serves a configuration on its peers' ports",
-        folder,
-    );
+    let told = "Serves a configuration on its peers' ports";
+    let command = of_word(alloc, "serve", told, "DIR", CONFIGURED);
     let command = with_word(command, limit(alloc));
     with_word(command, anew(alloc))
 }
@@ -324,12 +305,11 @@ fn limit<'a>(alloc: Global) -> Arg<'a>
     ensures rule { rule_of result ≡ sessions_rule }
     ensures own { result.global ≡ false }
 {
-    Arg::new(alloc, "sessions")
+    let told = "Each port ends after so many connections: 1 to 1000000";
+    optional(alloc, "sessions", told)
         .long("sessions")
         .value_name("N")
         .value_parser(value_parser!(u32).range(1..1_000_001))
-        .action(ArgAction::Set)
-        .help("Each port ends after so many connections: 1 to 1000000")
 }
 
 /// `--fresh`.
@@ -343,29 +323,18 @@ fn anew<'a>(alloc: Global) -> Arg<'a>
         .help("Begins with empty buffers, whatever the files have")
 }
 
-/// `stop DIR`.
-fn stop<'a>(alloc: Global) -> Result<Command<'a>, AllocError>
-    ensures { IfOk result (λ command. Reads command stop_words) }
-{
-    let folder = needed(alloc, "DIR", SERVED);
-    of_word(alloc, "stop", "Ends a relay that is served", folder)
-}
-
-/// `token TEXT`.
-fn token<'a>(alloc: Global) -> Result<Command<'a>, AllocError>
-    ensures { IfOk result (λ command. Reads command token_words) }
-{
-    let text = needed(alloc, "TEXT", "The text of the token");
-    of_word(alloc, "token", "Says what a token stands for", text)
-}
-
 /// A word that has to be there, and what is told of it.
-pub(crate) fn needed<'a>(alloc: Global, name: &'a str, told: &'a str) -> Arg<'a>
+fn needed<'a>(alloc: Global, name: &'a str, told: &'a str) -> Arg<'a>
     ensures rule { rule_of result ≡ needed name.entry.now }
     ensures own { result.global ≡ false }
 {
-    Arg::new(alloc, name)
-        .required(true)
-        .action(ArgAction::Set)
-        .help(told)
+    optional(alloc, name, told).required(true)
+}
+
+/// A word that may be left out, and what is told of it.
+pub(crate) fn optional<'a>(alloc: Global, name: &'a str, told: &'a str) -> Arg<'a>
+    ensures rule { rule_of result ≡ optional name.entry.now }
+    ensures own { result.global ≡ false }
+{
+    Arg::new(alloc, name).action(ArgAction::Set).help(told)
 }

@@ -1,7 +1,7 @@
 //! Saying what a configuration does (docs/PROTOCOL.md, `explain`).
 ghost use Rattle.std.specs.Prelude.{◌≡◌, string_bytes, IfErr, IfOk, Some};
 ghost use Rattle.relay_explain.specs.Choice.{choice_text};
-ghost use Rattle.relay_command.specs.Explain.{ExplainGives, ExplainsFolder, IsAnswer, IsToldOf};
+ghost use Rattle.relay_command.specs.Explain.{ExplainsFolder, IsAnswer, IsToldOf};
 ghost use Rattle.relay_command.specs.Explain.{IsUntold, explain_text};
 ghost use Rattle.relay_command.specs.Questions.{question_of};
 ghost use Rattle.relay_command.specs.Sources.{IsSaidIn};
@@ -80,8 +80,8 @@ fn unknown_words(file: ConfFile) -> &'static str
     }
 }
 
-/// Says what the configuration in a folder does, or, where that is asked, where an article goes by
-/// it.
+/// Writes what the configuration in a folder does, or the built-in one where the folder is `K1`;
+/// or, where that is asked, where an article goes by it.
 pub(crate) fn explain_folder<R: Files, W: Write>(
     rt: &R,
     alloc: Global,
@@ -92,31 +92,15 @@ pub(crate) fn explain_folder<R: Files, W: Write>(
     ensures { ExplainsFolder folder.now (question_of question.now) result
         (W.contents writer.old) (W.contents writer.new) }
 {
-    match explain_in(rt, alloc, folder, question, writer) {
-        Ok(()) => Ok(()),
+    match answer(rt, alloc, folder, question) {
+        Ok(text) => match put(writer, &text) {
+            Ok(()) => Ok(()),
+            Err(_) => {
+                let error = CheckError::Unwritten;
+                Err(Failure::Explain(Unexplained { error }))
+            }
+        },
         Err(error) => Err(Failure::Explain(Unexplained { error })),
-    }
-}
-
-/// Writes what the configuration in a folder does, or the built-in one where the folder is `K1`;
-/// or, where that is asked, where an article goes by it.
-fn explain_in<R: Files, W: Write>(
-    rt: &R,
-    alloc: Global,
-    folder: &str,
-    question: &Option<Question>,
-    writer: &mut W,
-) -> Result<(), CheckError>
-    ensures { ExplainGives result folder.now (question_of question.now) (W.contents writer.old)
-        (W.contents writer.new) }
-{
-    let text = match answer(rt, alloc, folder, question) {
-        Ok(text) => text,
-        Err(error) => return Err(error),
-    };
-    match put(writer, &text) {
-        Ok(()) => Ok(()),
-        Err(_) => Err(CheckError::Unwritten),
     }
 }
 

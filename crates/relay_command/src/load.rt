@@ -1,5 +1,5 @@
 //! Reading a configuration (docs/PROTOCOL.md, Program; docs/FORMATS.md, Configuration).
-ghost use Rattle.std.specs.Prelude.{◌≡◌, ◌⊎◌, bytes_eq, codes, IfOk, IfErr, Some};
+ghost use Rattle.std.specs.Prelude.{◌≡◌, ◌⊎◌, IfOk, IfErr, Some};
 ghost use Rattle.relay_command.specs.Check.{IsErrorIn, IsTextOf, IsUnread, LoadGives};
 ghost use Rattle.relay_command.specs.Check.{check_text, file_name, k1_text, unread_as};
 ghost use Rattle.relay_command.specs.declared.load.CheckError.TheVariants.{Memory, Unreadable};
@@ -36,14 +36,6 @@ impl ConfFile {
     }
 }
 
-impl Display for ConfFile {
-    ghost output = { λ file. Some (file_name file) };
-
-    fn fmt<W: fmt::Write>(&self, formatter: &mut Formatter<W>) -> fmt::Result {
-        formatter.write_str(self.name())
-    }
-}
-
 /// Why a configuration can't be had, or is not told. Its text is what the program prints.
 #[derive(Drop)]
 pub enum CheckError {
@@ -68,13 +60,19 @@ impl Display for CheckError {
     fn fmt<W: fmt::Write>(&self, formatter: &mut Formatter<W>) -> fmt::Result {
         match self {
             CheckError::Memory => formatter.write_str("out of memory"),
-            CheckError::Unreadable(file) => write!(formatter, "{file}: unreadable"),
+            CheckError::Unreadable(file) => {
+                let file = file.name();
+                write!(formatter, "{file}: unreadable")
+            }
             CheckError::Faulty {
                 file,
                 line,
                 code,
                 name,
-            } => write!(formatter, "{file}:{line}: {code} {name}"),
+            } => {
+                let file = file.name();
+                write!(formatter, "{file}:{line}: {code} {name}")
+            }
             CheckError::Unwritten => formatter.write_str("stdout: unwritten"),
         }
     }
@@ -136,18 +134,11 @@ pub(crate) fn text_of<R: Files>(
     ensures text { IfOk result (λ text. IsTextOf folder.now file text.items) }
     ensures error { IfErr result (IsUnread folder.now file) }
 {
-    if is_built_in(folder) {
+    if folder == "K1" {
         let text = Vec::from_slice(alloc, k1_text(file))?;
         return Ok(text);
     }
     text_in(rt, alloc, folder, file)
-}
-
-/// Whether the folder is the name of the built-in configuration.
-fn is_built_in(folder: &str) -> bool
-    ensures { result ≡ bytes_eq folder.now (codes "K1") }
-{
-    folder == "K1"
 }
 
 /// The text of a file of the built-in configuration.

@@ -1,4 +1,0 @@
-use Rattle.relay_command.proofs.command_line.stop.Goals as goal
-
-pub returns : goal.returns
-returns c = c.of_word.ensures _ c.needed-folder.ensures.rule
