@@ -49,11 +49,4 @@ impl Octets {
     {
         &self.octets
     }
-
-    /// The list, for who owns them.
-    pub fn into_vec(self) -> Vec<u8>
-        ensures { result.items ≡ self }
-    {
-        self.octets
-    }
 }
