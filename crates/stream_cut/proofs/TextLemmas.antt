@@ -172,6 +172,18 @@ occurs_within t hay looked x y rest new e =
 abbrev pub sent : (List ℕ → List ℕ) → List ℕ → List ℕ
 sent f t = spelled (map f (text_lines t))
 
+-- something stands where an octet does
+length-more : (a : ℕ) (l : List ℕ) → 0 < length (a ∷ l)
+length-more a l = omega arith
+
+-- a CRLF begins with no dot
+crlf-undotted : (after : List ℕ) → crlf ≢ 46 ∷ after
+crlf-undotted after same = cc
+
+-- nor does nothing
+nil-undotted : (after : List ℕ) → [] ≢ 46 ∷ after
+nil-undotted after same = cc
+
 module _ (f : List ℕ → List ℕ) (changes : ChangesDots f) where
   abbrev Sent : List ℕ → List ℕ
   Sent = sent f
@@ -179,9 +191,9 @@ module _ (f : List ℕ → List ℕ) (changes : ChangesDots f) where
   -- f looks at no CRLF
   even : (l : List ℕ) → f (l ++ crlf) ≡ f l ++ crlf
   even [] =
-      changes.plain crlf (λ after e. cc)
-      ∙ ap (λ (x : List ℕ). x ++ crlf) (sym (changes.plain [] (λ after e. cc)))
-  even (a ∷ l) = changes.alone (a ∷ l) crlf (omega arith)
+      changes.plain crlf crlf-undotted
+      ∙ ap (λ (x : List ℕ). x ++ crlf) (sym (changes.plain [] nil-undotted))
+  even (a ∷ l) = changes.alone (a ∷ l) crlf (length-more a l)
 
   -- a line, and lines after it of which the first begins with no dot, are sent as one line is
   joined : (l more : List ℕ) → ((after : List ℕ) → more ≢ 46 ∷ after)
