@@ -1,11 +1,10 @@
 -- A Path, cut at its first `!`: its pieces, its leftmost identity, its identities.
-use Rattle.std.proofs.Common.{◌≡◌, ℕ, suc, ◌+◌, ◌-◌, ◌<◌, Bool, true, false, not, ◌&&◌, ◌||◌, List}
+use Rattle.std.proofs.Common.{◌≡◌, ℕ, suc, ◌+◌, ◌-◌, ◌<◌, Bool, true, false, not, ◌||◌, List}
 use Rattle.std.proofs.Common.{[], ◌∷◌}
 use Rattle.std.proofs.Common.{◌++◌, length, take, drop, get_or, Some, None, refl, sym, ap}
 use Rattle.std.proofs.Common.{◌∙◌, append_assoc, append-nil, inl, inr, arith, cond}
 use Rattle.std.specs.Prelude.{◌==◌, filter}
-use Rattle.std.specs.List.{list_all, list_any, onto_first, position, position_or_len}
-use Rattle.std.specs.Char.{is_ascii_graphic}
+use Rattle.std.specs.List.{list_any, onto_first, position, position_or_len}
 use Rattle.std.specs.Str.{byte, bytes_eq, str_eq_ignore_ascii_case, str_to_ascii_lowercase}
 use Rattle.std.proofs.lemmas.Bool.{not-true, cases_Bool, ltb-false, eqb-true, or_parts, both_ways}
 use Rattle.std.proofs.lemmas.Bool.{false_from_ne_true}
@@ -21,15 +20,7 @@ use Rattle.news_terms.specs.Path.{is_folding, path_octets, path_pieces, before_t
 use Rattle.news_terms.specs.Path.{is_posted, is_identity, path_identities, leftmost_identity}
 use Rattle.news_terms.specs.Path.{first_before_tail, has_identity, before_posted}
 use Rattle.news_terms.proofs.PathUpdates.{cut_pieces}
-use Rattle.path_rules.specs.Pieces.{has_bang, is_good}
-
--- the octets are printable where each that is no white space is
-pub good-octets : (text : List ℕ) → is_good text ≡ list_all is_ascii_graphic (path_octets text)
-good-octets [] = refl
-good-octets (c ∷ text) = elim (cases_Bool (is_folding c)) [
-  | inl y ↦ rw y (good-octets text)
-  | inr n ↦ rw n (ap (λ b. is_ascii_graphic c && b) (good-octets text))
-]
+use Rattle.path_rules.specs.Pieces.{has_bang}
 
 -- no octet of a text is `!` where none is at any place
 none_at : (text : List ℕ) → ((k : ℕ) → k < length text → (get_or text k 0 == byte "!") ≡ false)

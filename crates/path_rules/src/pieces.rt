@@ -5,7 +5,7 @@ ghost use Rattle.std.specs.Char.{is_ascii_graphic};
 ghost use Rattle.std.specs.Str.{byte};
 ghost use Rattle.news_terms.specs.Path.{path_octets, leftmost_identity};
 ghost use Rattle.news_terms.specs.Path as terms;
-ghost use Rattle.path_rules.specs.Pieces.{CutGives, is_good};
+ghost use Rattle.path_rules.specs.Pieces.{CutGives};
 
 use crate::words::{begins, is_folding, is_same, spells};
 
@@ -44,14 +44,6 @@ fn bang_place(path: &[u8]) -> Option<usize>
 /// Whether each octet is printable, white space left out.
 pub(crate) fn is_good(path: &[u8]) -> bool
     ensures { result ≡ list_all is_ascii_graphic (path_octets path.now) }
-{
-    let good = has_good_octets(path);
-    good
-}
-
-/// Whether each octet is white space or printable.
-fn has_good_octets(path: &[u8]) -> bool
-    ensures { result ≡ is_good path.now }
 {
     for octet in path {
         if !is_folding(*octet) && !octet.is_ascii_graphic() {

@@ -81,17 +81,9 @@ fn listed_identities(alloc: Global, path: &[u8]) -> Result<Vec<Identity>, AllocE
     Ok(list)
 }
 
-/// The octets of a piece as an identity.
+/// The octets of a piece without white space, as an identity.
 fn identity_of(alloc: Global, piece: &[u8]) -> Result<Identity, AllocError>
     ensures { IfOk result (λ identity. identity ≡ terms.path_octets piece.now) }
-{
-    let octets = octets_of(alloc, piece)?;
-    Ok(Identity { octets })
-}
-
-/// The octets of a piece without white space.
-fn octets_of(alloc: Global, piece: &[u8]) -> Result<Vec<u8>, AllocError>
-    ensures { IfOk result (λ octets. octets.items ≡ terms.path_octets piece.now) }
 {
     let mut octets = Vec::new(alloc);
     for octet in piece {
@@ -99,7 +91,7 @@ fn octets_of(alloc: Global, piece: &[u8]) -> Result<Vec<u8>, AllocError>
             octets.push(*octet)?;
         }
     }
-    Ok(octets)
+    Ok(Identity { octets })
 }
 
 /// Whether the own identity is among the identities of a Path's content, without regard to ASCII

@@ -1,8 +1,7 @@
 //! A piece of a Path against a word. The white space that folds a Path is passed over where it
 //! stands, so that nothing is copied to leave it out.
-ghost use Rattle.std.specs.Prelude.{◌≡◌, ◌&&◌, nat_eq, bytes_eq};
-ghost use Rattle.std.specs.List.{list_all, starts_with};
-ghost use Rattle.std.specs.Char.{is_ascii_graphic};
+ghost use Rattle.std.specs.Prelude.{◌≡◌, nat_eq, bytes_eq};
+ghost use Rattle.std.specs.List.{starts_with};
 ghost use Rattle.std.specs.Str.{str_eq_ignore_ascii_case};
 ghost use Rattle.news_terms.specs.Path.{path_octets};
 ghost use Rattle.news_terms.specs.Path as terms;

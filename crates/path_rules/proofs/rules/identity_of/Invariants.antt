@@ -1,6 +1,6 @@
 use Rattle.std.proofs.Common.{◌≡◌, ◌++◌, drop}
 use Rattle.news_terms.specs.Path.{path_octets}
-use Rattle.path_rules.proofs.rules.octets_of.Given as goal
+use Rattle.path_rules.proofs.rules.identity_of.Given as goal
 
 -- the octets kept stand before those of what is left
 abbrev pub invariant-loop-octet : goal.invariant-loop-octet
