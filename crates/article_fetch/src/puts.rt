@@ -97,10 +97,9 @@ fn count_lines(body: &[u8]) -> usize
 {
     let mut lines = 0;
     for octet in body {
-        if *octet != b'\n' {
-            continue;
+        if *octet == b'\n' {
+            lines += 1;
         }
-        lines += 1;
     }
     lines
 }
