@@ -5,6 +5,5 @@ pub mod FieldLines
 pub mod FirstFaults
 pub mod HeaderCuts
 pub mod Layouts
-pub mod NamedFields
 pub mod Pairs
 pub mod Readings

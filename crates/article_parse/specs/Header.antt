@@ -1,11 +1,10 @@
 -- How a header is cut into fields. Of this, public contracts cite `field_view`, and what stands at
 -- the front of a text: `IsFieldAt` and `IsEmptyLineAt`.
-use Rattle.std.specs.Prelude.{◌≡◌, ℕ, ◌+◌, ◌≤◌, ◌<◌, Bool, true, false, not, ◌||◌, ◌&&◌, List, ◌∷◌}
+use Rattle.std.specs.Prelude.{◌≡◌, ℕ, ◌+◌, ◌≤◌, ◌<◌, Bool, true, false, not, ◌||◌, List, ◌∷◌}
 use Rattle.std.specs.Prelude.{◌++◌}
 use Rattle.std.specs.Prelude.{length, take, drop, flat_map, IsTrue}
 use Rattle.std.specs.List.{list_all, AllByRecursion}
 use Rattle.std.specs.Str.{str_eq_ignore_ascii_case}
-use Rattle.news_terms.specs.Article.{is_empty, trimmed}
 use Rattle.news_terms.specs.Article.{is_of_line_end, is_paired, is_folded, has_empty_line}
 use Rattle.news_terms.specs.Article.{begins_field, continues_field, are_header_lines, header_lines}
 use Rattle.news_terms.specs.Article.{IsField, field_text}
@@ -20,10 +19,6 @@ field_view f = record { name = f.name.now; content = f.content.now }
 -- the field has the name, without regard to ASCII case
 abbrev pub is_named : List ℕ → Field → Bool
 is_named name f = str_eq_ignore_ascii_case f.name.now name
-
--- the field has the name and nothing but white space
-abbrev pub is_named_blank : List ℕ → Field → Bool
-is_named_blank name f = is_named name f && is_empty (trimmed f.content.now)
 
 -- no octet is CR or LF
 abbrev pub is_plain : List ℕ → Bool

@@ -1,9 +1,9 @@
 //! The faults of a text that is no article.
-ghost use Rattle.std.specs.Prelude.{◌≡◌, length, map, count_by};
+ghost use Rattle.std.specs.Prelude.{◌≡◌, length, map};
 ghost use Rattle.std.specs.List.{list_any};
 ghost use Rattle.news_terms.specs.Article.{contents_of, is_empty, trimmed, name_of};
 ghost use Rattle.news_terms.specs.Article as terms;
-ghost use Rattle.article_parse.specs.Header.{field_view, is_named, is_named_blank};
+ghost use Rattle.article_parse.specs.Header.{field_view, is_named};
 ghost use Rattle.article_parse.specs.Faults.{FaultGives, first_that, is_wrong, faults_of};
 ghost use Rattle.article_parse.specs.Faults.{optional_faults_of, named_faults, name_view};
 ghost use Rattle.article_parse.specs.declared.faults.ArtError.TheVariants.{Memory};
@@ -118,20 +118,11 @@ fn try_optional(fields: &[Field<'_>], name: FieldName) -> Result<(), ArtError>
 fn times(fields: &[Field<'_>], name: &[u8]) -> usize
     ensures { result ≡ length (contents_of name.now (map field_view fields.now)) }
 {
-    let times = count_named(fields, name);
-    times
-}
-
-/// How many fields have the name, counted one by one.
-fn count_named(fields: &[Field<'_>], name: &[u8]) -> usize
-    ensures { result ≡ count_by (λ f. is_named name.now f) fields.now }
-{
     let mut times = 0;
     for field in fields {
-        if !is_named(field, name) {
-            continue;
+        if is_named(field, name) {
+            times += 1;
         }
-        times += 1;
     }
     times
 }
@@ -141,27 +132,12 @@ fn leaves_empty(fields: &[Field<'_>], name: &[u8]) -> bool
     ensures { result ≡ list_any (λ c. is_empty (trimmed c))
         (contents_of name.now (map field_view fields.now)) }
 {
-    let found = any_named_blank(fields, name);
-    found
-}
-
-/// Whether a field of the name has nothing but white space, looked for one by one.
-fn any_named_blank(fields: &[Field<'_>], name: &[u8]) -> bool
-    ensures { result ≡ list_any (λ f. is_named_blank name.now f) fields.now }
-{
     for field in fields {
-        if is_named_blank(field, name) {
+        if is_named(field, name) && is_blank(field.content) {
             return true;
         }
     }
     false
-}
-
-/// Whether the field has the name and nothing but white space.
-fn is_named_blank(field: &Field<'_>, name: &[u8]) -> bool
-    ensures { result ≡ is_named_blank name.now field.now }
-{
-    is_named(field, name) && is_blank(field.content)
 }
 
 /// Whether the field has the name, without regard to ASCII case (RFC 5536, section 2.2).
