@@ -108,7 +108,7 @@ plans_judged : (w : Terms) (session : Session) (now read : ℕ) (transfer : Tran
     → IsJudged w session.peer now id text one
     → Plans w session now (record { todo = one.0; read = read; step = one.1 }) session
 plans_judged w session now read transfer id text one owes text_at
-    (IsRefused reason room judges is) =
+    (IsRefused reason judges is) =
     plan_of w session now _ session (λ limit has_all.
     subst (λ one. PlanFor w (session_view session) (gathered_of session.phase) now
     (record { todo = one.0; read = read; step = one.1 }) session) (sym is) (record {
@@ -122,7 +122,7 @@ plans_judged w session now read transfer id text one owes text_at
       asks_of = tt;
     }))
 plans_judged w session now read transfer id text one owes text_at
-    (IsAccepted article room judges is) =
+    (IsAccepted article judges is) =
     plan_of w session now _ session (λ limit has_all.
     subst (λ one. PlanFor w (session_view session) (gathered_of session.phase) now
     (record { todo = one.0; read = read; step = one.1 }) session) (sym is) (record {

@@ -97,7 +97,7 @@ pub look_asked_so : (w : Terms) (now : ℕ) (session : Session) (part : Part) (i
     → IsAskedBy w now session (Ok (commands.Fetch (part_view part) id)) one
 look_asked_so w now session part id one looking read ready =
     subst (AskedFor w now read session (Ok (commands.Fetch (part_view part) id)))
-    (sym looking.is) (record {
+    (sym looking) (record {
       due = due_as (asks.Looks (part_view part) id) (passed read session);
       is_due = refl;
       due_is = refl;

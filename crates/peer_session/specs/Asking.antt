@@ -60,10 +60,9 @@ pub record IsLeaving (reply : Reply) (one : Todo × Step) : Type 0 where
   pub said : IsReply octets.items reply
   pub is : one ≡ (todos.Leave octets, steps.Nothing)
 
--- the id is looked up for this part
-pub record IsLooking (part : Part) (id : List ℕ) (one : Todo × Step) : Type 0 where
-  pub room : ℕ
-  pub is : one ≡ (todos.Look part id room, steps.Look id)
+-- the id is looked up for this part, and the reply has room for no items
+abbrev pub IsLooking : Part → List ℕ → Todo × Step → Type 0
+IsLooking part id one = one ≡ (todos.Look part id 0, steps.Look id)
 
 -- the word is a token whose first block is read, or none
 pub data IsFetching (word : List ℕ) (one : Todo × Step) : Type 0 where
@@ -96,14 +95,13 @@ TextAt read text stream =
     next_block stream.limit stream.unread
     ≡ next_text text (drop (stream.dropped + read) stream.unread)
 
--- what is asked of a text that was judged: it is refused, or taken
+-- what is asked of a text that was judged: it is refused, or taken; the reply has room for no items
 pub data IsJudged (w : Terms) (from now : ℕ) (id : List ℕ) (text : Option (List ℕ))
     (one : Todo × Step) : Type 0 where
-  IsRefused : (reason : Reason) → (room : ℕ) → Judges w from id now text (Err reason)
-      → one ≡ (todos.Refuse room, steps.Refuse id) → IsJudged w from now id text one
-  IsAccepted : (article : Accepted) → (room : ℕ)
-      → Judges w from id now text (Ok (article_view article))
-      → one ≡ (todos.Take id article room, steps.Take id) → IsJudged w from now id text one
+  IsRefused : (reason : Reason) → Judges w from id now text (Err reason)
+      → one ≡ (todos.Refuse 0, steps.Refuse id) → IsJudged w from now id text one
+  IsAccepted : (article : Accepted) → Judges w from id now text (Ok (article_view article))
+      → one ≡ (todos.Take id article 0, steps.Take id) → IsJudged w from now id text one
 
 -- what is asked of a block that was owed under this id; where there is none, that is said
 abbrev pub IsOwedAsked : Terms → (from now : ℕ) → Option (List ℕ) → Option (List ℕ) → Todo × Step

@@ -259,9 +259,11 @@ fn left(alloc: Global, reply: &Reply) -> Result<(Todo, Step), AllocError>
     Ok((Todo::Leave(octets), Step::Nothing))
 }
 
-/// Room for the reply to a step of this id, and the id once more, for the step.
+/// Room for the reply to a step of this id, which shows no items, and the id once more, for the
+/// step.
 pub(crate) fn room_and_copy(alloc: Global, id: &MsgId) -> Result<(Room, MsgId), AllocError>
-    ensures { IfOk result (λ pair. pair.1 ≡ id.now) }
+    ensures room { IfOk result (λ pair. pair.0 ≡ 0) }
+    ensures copy { IfOk result (λ pair. pair.1 ≡ id.now) }
 {
     let room = Room::new(alloc)?;
     let copy = id.copied(alloc)?;

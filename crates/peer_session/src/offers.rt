@@ -1,7 +1,7 @@
-ghost use Rattle.std.specs.Prelude.{◌≡◌, ◌≢◌, ◌≤◌, ◌↔◌, [], ◌∷◌, List, ℕ, length, true, false};
+ghost use Rattle.std.specs.Prelude.{◌≡◌, ◌≢◌, ◌≤◌, [], ◌∷◌, List, ℕ, length, true, false};
 ghost use Rattle.std.specs.Prelude.{IfOk, MatchOption};
 ghost use Rattle.std.specs.List.{AllPairs};
-ghost use Rattle.relay_model.specs.Asks.{is_open, is_full, with_offer, without_offer};
+ghost use Rattle.relay_model.specs.Asks.{is_full, with_offer, without_offer};
 ghost use Rattle.relay_model.specs.Terms.{offer_limit};
 
 use crate::table::Table;
@@ -48,20 +48,6 @@ impl OpenOffers {
         ensures few { length self.now ≤ offer_limit }
     {
         self.table.count()
-    }
-
-    /// Whether none are open.
-    pub fn is_empty(&self) -> bool
-        ensures { result ≡ true ↔ (self.now ≡ []) }
-    {
-        self.table.count() == 0
-    }
-
-    /// Whether the id is among the open offers.
-    pub fn is_open(&self, id: &MsgId) -> bool
-        ensures { result ≡ is_open self.now id.now }
-    {
-        self.table.is_open(id)
     }
 
     /// Whether no further offer may be opened, and the id is none of the open ones.

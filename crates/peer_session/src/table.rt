@@ -55,7 +55,7 @@ impl Table {
     }
 
     /// Whether the id is open.
-    pub(crate) fn is_open(&self, id: &MsgId) -> bool
+    fn is_open(&self, id: &MsgId) -> bool
         requires { IsTable self.now }
         ensures { result ≡ is_open (open_ids self.now.ids.items) id.now }
     {

@@ -10,19 +10,22 @@ use Rattle.peer_session.proofs.session.Session.judged.Goals as goal
 
 pub returns-in-Ok-copied : goal.returns-in-Ok-copied
 returns-in-Ok-copied c =
-    asking.IsAccepted c.in-Ok.article c.in_ok-room.room
+    let article = c.in-Ok.article in
+    asking.IsAccepted article
     (subst (λ verdict. Judges (terms_of c.args.config.now) c.args.self.now.peer c.args.id.now
     c.args.now (option_copied c.args.text) (verdict_view verdict)) c.in-Ok.is
     c.in_ok-article.ensures)
-    (ap (λ copy. (todos.Take copy c.in-Ok.article c.in_ok-room.room, steps.Take c.in_ok-room.asked))
+    (ap (λ copy. (todos.Take copy article c.in_ok-room.room, steps.Take c.in_ok-room.asked))
     c.in-Ok-copied.ensures
-    ∙ ap (λ copy. (todos.Take c.args.id.now c.in-Ok.article c.in_ok-room.room, steps.Take copy))
-    c.in_ok-room.ensures)
+    ∙ ap (λ room. (todos.Take c.args.id.now article room, steps.Take c.in_ok-room.asked))
+    c.in_ok-room.ensures.room
+    ∙ ap (λ copy. (todos.Take c.args.id.now article 0, steps.Take copy)) c.in_ok-room.ensures.copy)
 
 pub returns-in-Err : goal.returns-in-Err
 returns-in-Err c =
-    asking.IsRefused (reason_view c.in-Err.field-0) c.in_ok-room.room
+    asking.IsRefused (reason_view c.in-Err.field-0)
     (subst (λ verdict. Judges (terms_of c.args.config.now) c.args.self.now.peer c.args.id.now
     c.args.now (option_copied c.args.text) (verdict_view verdict)) c.in-Err.is
     c.in_ok-article.ensures)
-    (ap (λ copy. (todos.Refuse c.in_ok-room.room, steps.Refuse copy)) c.in_ok-room.ensures)
+    (ap (λ room. (todos.Refuse room, steps.Refuse c.in_ok-room.asked)) c.in_ok-room.ensures.room
+    ∙ ap (λ copy. (todos.Refuse 0, steps.Refuse copy)) c.in_ok-room.ensures.copy)
