@@ -189,9 +189,7 @@ fn id_of(alloc: Global, fields: &[Field<'_>]) -> Result<MsgId, ArtError>
     match MsgId::parse(alloc, trim(&line)) {
         Ok(id) => Ok(id),
         Err(IdError::Memory) => Err(ArtError::Memory),
-        Err(IdError::Length) => Err(ArtError::BadId),
-        Err(IdError::Brackets) => Err(ArtError::BadId),
-        Err(IdError::Octet) => Err(ArtError::BadId),
+        Err(IdError::Length | IdError::Brackets | IdError::Octet) => Err(ArtError::BadId),
     }
 }
 
