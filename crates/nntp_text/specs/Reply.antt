@@ -1,5 +1,5 @@
 -- What a session says, as the definitions have it (docs/FORMATS.md, Replies), and room for it.
-use Rattle.std.specs.Prelude.{ℕ, ◌+◌, ◌*◌, List, ◌++◌, length, map, flat_map, codes, decimal}
+use Rattle.std.specs.Prelude.{◌≡◌, ◌≤◌, ℕ, ◌+◌, ◌*◌, List, ◌++◌, length, map, flat_map, codes, decimal}
 use Rattle.news_terms.specs.Blocks.{stuffed, stuffed_room}
 use Rattle.news_terms.specs.Reply.{line_of, queue_line}
 use Rattle.news_terms.specs.Reply as terms
@@ -179,3 +179,10 @@ first_room_by words named = length words + named_room named + 2
 -- the most octets of a first line
 abbrev pub first_room : Parts → ℕ
 first_room parts = first_room_by parts.words.now parts.named
+
+-- These are the words of a reply's first line: they make its text with what it names and what
+-- follows it, and there is room for them.
+pub record HasWords (reply : Reply) (words : List ℕ) : Type 0 where
+  pub text : terms.reply_text (reply_view reply) ≡ text_by words (named_of reply) (rest_of reply)
+  pub first : first_room_by words (named_of reply) ≤ reply_room
+  pub room : first_room_by words (named_of reply) + rest_room (rest_of reply) ≤ room_of reply

@@ -1,10 +1,12 @@
 //! The first words of the commands.
-ghost use Rattle.std.specs.Prelude.{◌≡◌};
+ghost use Rattle.std.specs.Prelude.{◌≡◌, map};
 ghost use Rattle.std.specs.Option.{option_map};
+ghost use Rattle.std.specs.Str.{str_eq_ignore_ascii_case};
 ghost use Rattle.news_terms.specs.Command as terms;
 ghost use Rattle.nntp_text.specs.Command.{keyword_view};
 
 /// The first word of a command (RFC 3977, RFC 4644; docs/FORMATS.md, Command lines).
+#[derive(Clone, Copy)]
 pub(crate) enum Keyword {
     Capabilities,
     Help,
@@ -27,37 +29,44 @@ pub(crate) enum Keyword {
 pub(crate) fn keyword_of(word: &[u8]) -> Option<Keyword>
     ensures { option_map keyword_view result ≡ terms.keyword_of word.now }
 {
-    if word.eq_ignore_ascii_case(b"CAPABILITIES") {
-        Some(Keyword::Capabilities)
-    } else if word.eq_ignore_ascii_case(b"HELP") {
-        Some(Keyword::Help)
-    } else if word.eq_ignore_ascii_case(b"DATE") {
-        Some(Keyword::Date)
-    } else if word.eq_ignore_ascii_case(b"QUIT") {
-        Some(Keyword::Quit)
-    } else if word.eq_ignore_ascii_case(b"MODE") {
-        Some(Keyword::Mode)
-    } else if word.eq_ignore_ascii_case(b"CHECK") {
-        Some(Keyword::Check)
-    } else if word.eq_ignore_ascii_case(b"IHAVE") {
-        Some(Keyword::Ihave)
-    } else if word.eq_ignore_ascii_case(b"TAKETHIS") {
-        Some(Keyword::TakeThis)
-    } else if word.eq_ignore_ascii_case(b"ARTICLE") {
-        Some(Keyword::Article)
-    } else if word.eq_ignore_ascii_case(b"HEAD") {
-        Some(Keyword::Head)
-    } else if word.eq_ignore_ascii_case(b"BODY") {
-        Some(Keyword::Body)
-    } else if word.eq_ignore_ascii_case(b"STAT") {
-        Some(Keyword::Stat)
-    } else if word.eq_ignore_ascii_case(b"OVER") {
-        Some(Keyword::Over)
-    } else if word.eq_ignore_ascii_case(b"XTAKE") {
-        Some(Keyword::Xtake)
-    } else if word.eq_ignore_ascii_case(b"XFETCH") {
-        Some(Keyword::Xfetch)
-    } else {
-        None
+    look_up(
+        word,
+        &[
+            (b"CAPABILITIES", Keyword::Capabilities),
+            (b"HELP", Keyword::Help),
+            (b"DATE", Keyword::Date),
+            (b"QUIT", Keyword::Quit),
+            (b"MODE", Keyword::Mode),
+            (b"CHECK", Keyword::Check),
+            (b"IHAVE", Keyword::Ihave),
+            (b"TAKETHIS", Keyword::TakeThis),
+            (b"ARTICLE", Keyword::Article),
+            (b"HEAD", Keyword::Head),
+            (b"BODY", Keyword::Body),
+            (b"STAT", Keyword::Stat),
+            (b"OVER", Keyword::Over),
+            (b"XTAKE", Keyword::Xtake),
+            (b"XFETCH", Keyword::Xfetch),
+        ],
+    )
+}
+
+/// What the first spelling of a table stands for that is the word's, without regard to ASCII case.
+fn look_up(word: &[u8], table: &[(&[u8], Keyword)]) -> Option<Keyword>
+    ensures { option_map keyword_view result
+        ≡ terms.look_up (map (λ entry. (entry.0.now, keyword_view entry.1)) table.now) word.now }
+{
+    for entry in table {
+        if is_spelled(word, entry.0) {
+            return Some(entry.1);
+        }
     }
+    None
+}
+
+/// Whether the word is spelled so, without regard to ASCII case.
+fn is_spelled(word: &[u8], spelling: &[u8]) -> bool
+    ensures { result ≡ str_eq_ignore_ascii_case word.now spelling.now }
+{
+    word.eq_ignore_ascii_case(spelling)
 }

@@ -2,8 +2,7 @@
 ghost use Rattle.std.specs.Prelude.{◌≡◌, ◌+◌, ◌≤◌};
 ghost use Rattle.news_terms.specs.Reply.{reply_text};
 ghost use Rattle.nntp_text.specs.Reply as terms;
-ghost use Rattle.nntp_text.specs.Reply.{first_room, first_room_by, reply_view, room_of};
-ghost use Rattle.nntp_text.specs.Reply.{text_by, text_of};
+ghost use Rattle.nntp_text.specs.Reply.{HasWords, first_room, reply_view, room_of, text_of};
 
 use crate::id::MsgId;
 use crate::reply::Reply;
@@ -55,11 +54,7 @@ pub(crate) fn parts_of<'a>(reply: &Reply<'a>) -> Parts<'a>
 
 /// The words of the first line of a reply.
 fn words_of(reply: &Reply<'_>) -> &'static [u8]
-    ensures text { reply_text (reply_view reply.now)
-        ≡ text_by result.now (terms.named_of reply.now) (terms.rest_of reply.now) }
-    ensures first { first_room_by result.now (terms.named_of reply.now) ≤ terms.reply_room }
-    ensures room { first_room_by result.now (terms.named_of reply.now)
-        + terms.rest_room (terms.rest_of reply.now) ≤ room_of reply.now }
+    ensures { HasWords reply.now result.now }
 {
     match *reply {
         Reply::Greeting => GREETING,

@@ -1,9 +1,9 @@
-use Rattle.std.proofs.Common.{◌≡◌, sym, subst, Option, Result, Ok, Err}
-use Rattle.std.specs.Prelude.{IsErrAnd}
+use Rattle.std.proofs.Common.{◌≡◌, ◌∙◌, sym, subst, ℕ, List, Option, Result, Ok, Err, Bor}
+use Rattle.std.specs.Prelude.{IsErrAnd, MatchResult}
 use Rattle.std.specs.Str.{IsUtf8}
 use Rattle.std.proofs.lemmas.Str.{IsUtf8-from_ascii}
 use Rattle.news_terms.specs.MessageId.{IdFault, id_fault}
-use Rattle.nntp_text.specs.MessageId.{IdGives}
+use Rattle.nntp_text.specs.MessageId.{IdGives, IsId}
 use Rattle.nntp_text.specs.declared.id.IdError.{IdError}
 use Rattle.nntp_text.specs.declared.id.IdError.TheVariants.{Memory}
 use Rattle.nntp_text.proofs.Ids.{ascii_from_no_fault, ok_from_fact}
@@ -32,3 +32,19 @@ pub returns-in_err-from_str-clause-fault : goal.returns-in_err-from_str-clause-f
 returns-in_err-from_str-clause-fault c =
     handed_on (Unit {0}) c.from_residual-in_err-from_str.result Memory (id_fault c.args.text.now)
     c.from_residual-in_err-from_str.ensures.1 c.in_ok-tried.ensures.fault
+
+-- the text as it was read is the octets
+read_as : {E : Type 0} (text : List ℕ) (r : Result (Bor (List ℕ)) E) (read : Bor (List ℕ))
+    (Q : E → Type 0) → r ≡ Ok read → MatchResult r (λ s. (s.now ≡ text) × IsUtf8 text) Q
+    → read.now ≡ text
+read_as text r read Q is cases =
+    (subst (λ one. MatchResult one (λ s. (s.now ≡ text) × IsUtf8 text) Q) is cases).0
+
+pub invariant_of-result : goal.invariant_of-result
+invariant_of-result c =
+    let text = c.args.text.now in
+    let none = c.in_ok-tried.ensures.fault in
+    subst IsId (sym (c.in_ok-from_str.ensures.ok
+    ∙ read_as text c.from_utf8.result c.unwrap-text.result _ c.unwrap-text.ensures
+    c.from_utf8.ensures.cases))
+    (record { no_fault = none; ascii = ascii_from_no_fault text none })
