@@ -10,7 +10,7 @@ ghost use Rattle.relay_model.specs.Hears as hears;
 ghost use Rattle.relay_model.specs.Hears.{says, take_heard};
 ghost use Rattle.relay_model.specs.Terms.{last_moment};
 ghost use Rattle.stream_cut.specs.Stream.{ShowsBlock};
-ghost use Rattle.peer_session.specs.Asking.{IsJudged, IsOwedAsked, IsAwaitingBlock, TakesOwed};
+ghost use Rattle.peer_session.specs.Asking.{IsOwedAsked, IsAwaitingBlock, TakesOwed};
 ghost use Rattle.peer_session.specs.Asking.{TextAt};
 ghost use Rattle.peer_session.specs.Hearing.{HeardIs};
 ghost use Rattle.peer_session.specs.Planning.{Plans, block_passed};
@@ -83,51 +83,10 @@ impl Session {
     {
         match &self.phase {
             Phase::AwaitsBlock(_, id) => {
-                let (todo, step) = self.owed_asked(config, now, id, text)?;
+                let (todo, step) = owed_asked(self.alloc, config, self.peer, now, id, text)?;
                 Ok(Due { todo, read, step })
             }
             _ => Ok(Due::rest()),
-        }
-    }
-
-    /// What is asked of a block that was owed under this id; where there is none, that is said.
-    fn owed_asked(
-        &self,
-        config: &Config,
-        now: u64,
-        id: &Option<MsgId>,
-        text: Option<&[u8]>,
-    ) -> Result<(Todo, Step), AllocError>
-        ensures { IfOk result (IsOwedAsked (terms_of config.now) self.now.peer now id.now
-            (option_copied text.entry)) }
-    {
-        match id {
-            Some(id) => self.judged(config, now, id, text),
-            None => said(self.alloc, &Reply::SyntaxError),
-        }
-    }
-
-    /// What is asked once the text of an id is judged.
-    fn judged(
-        &self,
-        config: &Config,
-        now: u64,
-        id: &MsgId,
-        text: Option<&[u8]>,
-    ) -> Result<(Todo, Step), AllocError>
-        ensures { IfOk result
-            (IsJudged (terms_of config.now) self.now.peer now id.now (option_copied text.entry)) }
-    {
-        let (room, asked) = room_and_copy(self.alloc, id)?;
-        match verdict(self.alloc, config, id, self.peer, text, now)? {
-            Ok(article) => match id.copied(self.alloc) {
-                Ok(copy) => Ok((Todo::Take(copy, article, room), Step::Take(asked))),
-                Err(error) => {
-                    drop(article);
-                    Err(error)
-                }
-            },
-            Err(_) => Ok((Todo::Refuse(room), Step::Refuse(asked))),
         }
     }
 
@@ -238,6 +197,35 @@ impl Session {
                 }
             },
         }
+    }
+}
+
+/// What is asked of a block from the peer of this number that was owed under this id, once its text
+/// is judged; where there is no id, that is said.
+fn owed_asked(
+    alloc: Global,
+    config: &Config,
+    peer: usize,
+    now: u64,
+    id: &Option<MsgId>,
+    text: Option<&[u8]>,
+) -> Result<(Todo, Step), AllocError>
+    ensures { IfOk result
+        (IsOwedAsked (terms_of config.now) peer now id.now (option_copied text.entry)) }
+{
+    let Some(id) = id else {
+        return said(alloc, &Reply::SyntaxError);
+    };
+    let (room, asked) = room_and_copy(alloc, id)?;
+    match verdict(alloc, config, id, peer, text, now)? {
+        Ok(article) => match id.copied(alloc) {
+            Ok(copy) => Ok((Todo::Take(copy, article, room), Step::Take(asked))),
+            Err(error) => {
+                drop(article);
+                Err(error)
+            }
+        },
+        Err(_) => Ok((Todo::Refuse(room), Step::Refuse(asked))),
     }
 }
 

@@ -20,6 +20,7 @@ ghost use Rattle.peer_session.specs.Hearing.{HeardIs};
 ghost use Rattle.peer_session.specs.Planning.{Plans};
 ghost use Rattle.peer_session.specs.Session.{StandsAsBefore, passed, session_view};
 
+use crate::offers::OpenOffers;
 use crate::phase::{Due, Phase, Todo, Transfer};
 use crate::room::Room;
 use crate::session::Session;
@@ -102,12 +103,12 @@ impl Session {
             IsAskedBy (terms_of config.now) now self.now (Ok (command_view command.entry)) one) }
     {
         match command {
-            Command::Check(id) => self.check_asked(id),
-            Command::Ihave(id) => self.ihave_asked(id),
+            Command::Check(id) => check_asked(self.alloc, &self.offers, id),
+            Command::Ihave(id) => ihave_asked(self.alloc, &self.offers, id),
             Command::TakeThis(id) => Ok((Todo::Owe(id), Step::Nothing)),
             Command::Fetch(part, id) => look_asked(self.alloc, part, id),
             Command::FetchToken(word) => token_asked(self.alloc, word),
-            Command::TakeQueue(most) => self.queue_asked(config, most),
+            Command::TakeQueue(most) => queue_asked(self.alloc, config, self.peer, most),
             Command::NeedsGroup => said(self.alloc, &Reply::NoGroup),
             Command::Quit => left(self.alloc, &Reply::Bye),
             Command::AskDate => said(self.alloc, &Reply::DateIs(stamp(now))),
@@ -115,46 +116,6 @@ impl Session {
             Command::AskHelp => said(self.alloc, &Reply::HelpText),
             Command::ModeStream => said(self.alloc, &Reply::StreamingPermitted),
             Command::ModeReader => said(self.alloc, &Reply::PostingProhibited),
-        }
-    }
-
-    /// CHECK of an id.
-    fn check_asked(&self, id: MsgId) -> Result<(Todo, Step), AllocError>
-        ensures { IfOk result (λ one. (w : Terms) (now : ℕ)
-            → IsAskedBy w now self.now (Ok (commands.Check id)) one) }
-    {
-        if self.offers.is_full(&id) {
-            return said(self.alloc, &Reply::AskLater(&id));
-        }
-        let (room, copy) = room_and_copy(self.alloc, &id)?;
-        Ok((Todo::Check(id, room), Step::Offer(copy)))
-    }
-
-    /// IHAVE of an id.
-    fn ihave_asked(&self, id: MsgId) -> Result<(Todo, Step), AllocError>
-        ensures { IfOk result (λ one. (w : Terms) (now : ℕ)
-            → IsAskedBy w now self.now (Ok (commands.Ihave id)) one) }
-    {
-        if self.offers.is_full(&id) {
-            return said(self.alloc, &Reply::IhaveLater);
-        }
-        let copy = id.copied(self.alloc)?;
-        let (room, asked) = room_and_copy(self.alloc, &id)?;
-        Ok((Todo::Ihave(id, copy, room), Step::Offer(asked)))
-    }
-
-    /// XTAKE of at most so many.
-    fn queue_asked(&self, config: &Config, most: u16) -> Result<(Todo, Step), AllocError>
-        ensures { IfOk result (λ one. (now : ℕ) → IsAskedBy (terms_of config.now) now self.now
-            (Ok (commands.TakeQueue most)) one) }
-    {
-        match feed_number(config, self.peer) {
-            Some(feed) => {
-                let most = usize::from(most);
-                let room = Room::for_items(self.alloc, most)?;
-                Ok((Todo::Queue(room), Step::TakeQueue(feed, most)))
-            }
-            None => said(self.alloc, &Reply::NoFeed),
         }
     }
 
@@ -268,6 +229,50 @@ pub(crate) fn room_and_copy(alloc: Global, id: &MsgId) -> Result<(Room, MsgId), 
     let room = Room::new(alloc)?;
     let copy = id.copied(alloc)?;
     Ok((room, copy))
+}
+
+/// CHECK of an id, where these offers are open.
+fn check_asked(alloc: Global, offers: &OpenOffers, id: MsgId) -> Result<(Todo, Step), AllocError>
+    ensures { IfOk result (λ one. (w : Terms) (now : ℕ) (session : Session)
+        → session.offers ≡ offers.now → IsAskedBy w now session (Ok (commands.Check id)) one) }
+{
+    if offers.is_full(&id) {
+        return said(alloc, &Reply::AskLater(&id));
+    }
+    let (room, copy) = room_and_copy(alloc, &id)?;
+    Ok((Todo::Check(id, room), Step::Offer(copy)))
+}
+
+/// IHAVE of an id, where these offers are open.
+fn ihave_asked(alloc: Global, offers: &OpenOffers, id: MsgId) -> Result<(Todo, Step), AllocError>
+    ensures { IfOk result (λ one. (w : Terms) (now : ℕ) (session : Session)
+        → session.offers ≡ offers.now → IsAskedBy w now session (Ok (commands.Ihave id)) one) }
+{
+    if offers.is_full(&id) {
+        return said(alloc, &Reply::IhaveLater);
+    }
+    let copy = id.copied(alloc)?;
+    let (room, asked) = room_and_copy(alloc, &id)?;
+    Ok((Todo::Ihave(id, copy, room), Step::Offer(asked)))
+}
+
+/// XTAKE of at most so many by the peer of this number.
+fn queue_asked(
+    alloc: Global,
+    config: &Config,
+    peer: usize,
+    most: u16,
+) -> Result<(Todo, Step), AllocError>
+    ensures { IfOk result (λ one. (now : ℕ) (session : Session) → session.peer ≡ peer
+        → IsAskedBy (terms_of config.now) now session (Ok (commands.TakeQueue most)) one) }
+{
+    match feed_number(config, peer) {
+        Some(feed) => {
+            let room = Room::for_items(alloc, most)?;
+            Ok((Todo::Queue(room), Step::TakeQueue(feed, usize::from(most))))
+        }
+        None => said(alloc, &Reply::NoFeed),
+    }
 }
 
 /// ARTICLE, HEAD, BODY, OVER or STAT of an id.

@@ -37,12 +37,11 @@ impl Room {
     }
 
     /// Room for a reply that shows so many items of a queue.
-    pub(crate) fn for_items(alloc: Global, items: usize) -> Result<Room, AllocError>
+    pub(crate) fn for_items(alloc: Global, items: u16) -> Result<Room, AllocError>
         ensures { IfOk result (λ room. room ≡ items) }
     {
-        let room = items.checked_mul(ITEM_ROOM).ok_or(AllocError)?;
-        let room = room.checked_add(REPLY_ROOM).ok_or(AllocError)?;
-        let octets = Vec::with_capacity(alloc, room)?;
+        let items = usize::from(items);
+        let octets = Vec::with_capacity(alloc, REPLY_ROOM + items * ITEM_ROOM)?;
         Ok(Room { octets, items })
     }
 

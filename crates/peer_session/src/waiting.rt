@@ -126,14 +126,18 @@ impl Session {
             → HeardIs result.items self.old (outcome_heard (session_view self.old)
             (transfer_view transfer) id (outcome_view outcome)) self.new }
     {
-        match (transfer, outcome) {
-            (Transfer::TakesThis, Outcome::Kept) => room.say(&Reply::Kept(&id)),
-            (Transfer::TakesThis, Outcome::Failed) => {
-                self.enter(Phase::Leaving);
-                room.say(&Reply::NotStored)
-            }
-            (Transfer::Has, Outcome::Kept) => room.say(&Reply::IhaveKept),
-            (Transfer::Has, Outcome::Failed) => room.say(&Reply::IhaveLater),
+        match transfer {
+            Transfer::TakesThis => match outcome {
+                Outcome::Kept => room.say(&Reply::Kept(&id)),
+                Outcome::Failed => {
+                    self.enter(Phase::Leaving);
+                    room.say(&Reply::NotStored)
+                }
+            },
+            Transfer::Has => match outcome {
+                Outcome::Kept => room.say(&Reply::IhaveKept),
+                Outcome::Failed => room.say(&Reply::IhaveLater),
+            },
         }
     }
 }

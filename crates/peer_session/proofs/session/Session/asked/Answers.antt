@@ -83,3 +83,24 @@ returns-in-ModeReader c =
     (said_asked (terms_of c.args.config.now) c.args.now c.args.self.now
     (Ok commands.ModeReader) replies.PostingProhibited one (λ m. refl) says))
     c.said-in-ModeReader.ensures
+
+pub returns-in-Check : goal.returns-in-Check
+returns-in-Check c =
+    if_ok _ _ c.check_asked.result (λ one asked.
+    subst (λ command. IsAskedBy (terms_of c.args.config.now) c.args.now c.args.self.now
+    (Ok (command_view command)) one) (sym c.in-Check.is)
+    (asked (terms_of c.args.config.now) c.args.now c.args.self.now refl)) c.check_asked.ensures
+
+pub returns-in-Ihave : goal.returns-in-Ihave
+returns-in-Ihave c =
+    if_ok _ _ c.ihave_asked.result (λ one asked.
+    subst (λ command. IsAskedBy (terms_of c.args.config.now) c.args.now c.args.self.now
+    (Ok (command_view command)) one) (sym c.in-Ihave.is)
+    (asked (terms_of c.args.config.now) c.args.now c.args.self.now refl)) c.ihave_asked.ensures
+
+pub returns-in-TakeQueue : goal.returns-in-TakeQueue
+returns-in-TakeQueue c =
+    if_ok _ _ c.queue_asked.result (λ one asked.
+    subst (λ command. IsAskedBy (terms_of c.args.config.now) c.args.now c.args.self.now
+    (Ok (command_view command)) one) (sym c.in-TakeQueue.is)
+    (asked c.args.now c.args.self.now refl)) c.queue_asked.ensures
