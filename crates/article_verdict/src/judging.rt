@@ -51,15 +51,7 @@ fn unread(error: ArtError) -> Result<Reason, AllocError>
 {
     match error {
         ArtError::Memory => Err(AllocError),
-        ArtError::Nul => Ok(Reason::Grammar),
-        ArtError::BareCrLf => Ok(Reason::Grammar),
-        ArtError::NoBlankLine => Ok(Reason::Grammar),
-        ArtError::BadHeader => Ok(Reason::Grammar),
-        ArtError::Missing(_) => Ok(Reason::Grammar),
-        ArtError::Twice(_) => Ok(Reason::Grammar),
-        ArtError::EmptyField(_) => Ok(Reason::Grammar),
-        ArtError::BadId => Ok(Reason::Grammar),
-        ArtError::BadGroups => Ok(Reason::Grammar),
+        _ => Ok(Reason::Grammar),
     }
 }
 

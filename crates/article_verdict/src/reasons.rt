@@ -58,8 +58,6 @@ pub(crate) fn has_date_fault(
     match judge(alloc, article, now, cutoff) {
         Ok(()) => Ok(false),
         Err(DateError::Memory) => Err(AllocError),
-        Err(DateError::BadDate) => Ok(true),
-        Err(DateError::Future) => Ok(true),
-        Err(DateError::TooOld) => Ok(true),
+        Err(DateError::BadDate | DateError::Future | DateError::TooOld) => Ok(true),
     }
 }
