@@ -207,7 +207,7 @@ pub(crate) fn said(alloc: Global, reply: &Reply) -> Result<(Todo, Step), AllocEr
     requires { room_of reply.now ≡ reply_room }
     ensures { IfOk result (IsSaying (reply_view reply.now)) }
 {
-    let octets = Room::new(alloc)?.say(reply);
+    let octets = Room::for_items(alloc, 0)?.say(reply);
     Ok((Todo::Say(octets), Step::Nothing))
 }
 
@@ -216,7 +216,7 @@ fn left(alloc: Global, reply: &Reply) -> Result<(Todo, Step), AllocError>
     requires { room_of reply.now ≡ reply_room }
     ensures { IfOk result (IsLeaving (reply_view reply.now)) }
 {
-    let octets = Room::new(alloc)?.say(reply);
+    let octets = Room::for_items(alloc, 0)?.say(reply);
     Ok((Todo::Leave(octets), Step::Nothing))
 }
 
@@ -226,7 +226,7 @@ pub(crate) fn room_and_copy(alloc: Global, id: &MsgId) -> Result<(Room, MsgId), 
     ensures room { IfOk result (λ pair. pair.0 ≡ 0) }
     ensures copy { IfOk result (λ pair. pair.1 ≡ id.now) }
 {
-    let room = Room::new(alloc)?;
+    let room = Room::for_items(alloc, 0)?;
     let copy = id.copied(alloc)?;
     Ok((room, copy))
 }

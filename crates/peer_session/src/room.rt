@@ -29,14 +29,7 @@ impl Model for Room {
 }
 
 impl Room {
-    /// Room for a reply that shows no article and no queue.
-    pub(crate) fn new(alloc: Global) -> Result<Room, AllocError>
-        ensures { IfOk result (λ room. room ≡ 0) }
-    {
-        Room::for_items(alloc, 0)
-    }
-
-    /// Room for a reply that shows so many items of a queue.
+    /// Room for a reply that shows no article, and so many items of a queue.
     pub(crate) fn for_items(alloc: Global, items: u16) -> Result<Room, AllocError>
         ensures { IfOk result (λ room. room ≡ items) }
     {
