@@ -6,7 +6,7 @@ use std::marker::Model;
 
 /// Octets that are kept: those that come from a peer or go to one, and what a configuration names.
 /// A contract sees their list, and not how it lies in memory.
-#[derive(Debug, Drop)]
+#[derive(Drop)]
 pub struct Octets {
     octets: Vec<u8>,
 }
