@@ -1,5 +1,5 @@
 -- The line of the parts of an article, and the room that it needs.
-use Rattle.std.proofs.Common.{◌≡◌, ℕ, ◌+◌, ◌<◌, ◌≤◌, ◌^◌, length, refl, ap, arith}
+use Rattle.std.proofs.Common.{◌≡◌, ◌≢◌, ℕ, ◌+◌, ◌<◌, ◌≤◌, ◌^◌, length, refl, ap, arith, Ok, Err}
 use Rattle.news_terms.specs.Article.{Article, article_text}
 use Rattle.news_terms.specs.Overview.{overview_line}
 use Rattle.article_fetch.specs.declared.parts.Parts.{Parts}
@@ -24,3 +24,7 @@ line_fits p a header h small sum =
       h.octets,
       ap length h.body,
     )
+
+-- what is put is no fault
+pub ok_no_err : {X E : Type 0} (x : X) (e : E) → Ok x ≢ Err e
+ok_no_err x e same = cc

@@ -2,7 +2,7 @@ use Rattle.std.proofs.Common.{◌<◌, ◌^◌, ◌++◌, ◌∙◌, ap, arith, 
 use Rattle.news_terms.specs.Article.{Article, article_text}
 use Rattle.news_terms.specs.Overview.{overview_line}
 use Rattle.news_terms.proofs.ArticleReadings.{one_article}
-use Rattle.article_fetch.proofs.Lines.{line_fits, same_line}
+use Rattle.article_fetch.proofs.Lines.{line_fits, ok_no_err, same_line}
 use Rattle.article_fetch.proofs.overview.put_line.Goals as goal
 
 pub put_parts-requires : goal.put_parts-requires
@@ -27,7 +27,7 @@ returns-clause-line c = λ a laid.
 
 pub returns-clause-no_room : goal.returns-clause-no_room
 returns-clause-no_room c = (
-  λ e. absurd (cc),
+  λ e. absurd (ok_no_err _ _ e),
   λ w. let made = c.in-Some.ensures in
       let room = c.if-not-has_room.ensures.0 refl in
       let same = one_article c.args.text.now w.0 made.0 w.1 made.1 in

@@ -1,6 +1,6 @@
 use Rattle.std.proofs.Common.{◌+◌, ◌∷◌, ◌++◌, [], ◌≡◌, ◌∙◌, sym, ap, arith, drop, List, ℕ}
-use Rattle.std.proofs.Common.{append_assoc, length, vec_len}
-use Rattle.std.proofs.lemmas.List.{take_rest, length-map}
+use Rattle.std.proofs.Common.{append-nil, append_assoc, length, vec_len}
+use Rattle.std.proofs.lemmas.List.{drop_all, take_rest, length-map}
 use Rattle.news_terms.specs.Article.{without_crlf}
 use Rattle.news_terms.specs.Overview.{without_tabs}
 use Rattle.article_parse.proofs.Contents.{pair_passed_by, pair_fits, octet_kept_at}
@@ -46,3 +46,22 @@ loop-at-preserved c =
       len = omega (arith, ap length kept);
       capacity = c.push_reserved.ensures.capacity ∙ l.invariant.capacity;
     }
+
+pub returns-clause-items : goal.returns-clause-items
+returns-clause-items c =
+    sym (append-nil c.loop-at.room.items)
+    ∙ ap (λ left. c.loop-at.room.items ++ without_tabs (without_crlf left))
+    (sym (drop_all c.loop-at.at c.args.text.now c.loop-at-test.false))
+    ∙ c.loop-at.invariant.passed
+
+pub returns-clause-len : goal.returns-clause-len
+returns-clause-len c =
+    let s = c.args.text.now in
+    let same : length (without_tabs (without_crlf s)) ≡ length (without_crlf s) =
+    length-map (without_crlf s) _ in
+    omega (
+      arith,
+      same,
+      c.loop-at.invariant.len,
+      ap (λ left. length (without_crlf left)) (drop_all c.loop-at.at s c.loop-at-test.false),
+    )

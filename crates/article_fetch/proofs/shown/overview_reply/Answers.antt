@@ -74,3 +74,12 @@ returns-in-Err-clause-given c =
       c.said.ensures.octets,
       c.said.ensures.some,
     )
+
+pub returns-in-Ok-clause-octets : goal.returns-in-Ok-clause-octets
+returns-in-Ok-clause-octets c = λ a laid.
+    line_said c.put_octets.new.room.items (overview_line a) c.put_line.new.room.items
+    c.put_octets-in-Ok.new.room.items
+    (c.put_octets.ensures.items
+    ∙ ap (λ l. l ++ line_of (codes "224 Overview follows")) c.requires.empty)
+    (c.in-Ok.ensures.line a laid)
+    c.put_octets-in-Ok.ensures.items
