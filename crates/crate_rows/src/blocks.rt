@@ -1,34 +1,34 @@
 //! Rows for the octets of blocks (cyc_block). The octets of a block are a word without the zeros at
 //! its end.
 
-use crate::stops::{end_of, number, octet};
+use crate::runs::{number, octet};
 use cyc_block::{BLOCK_OCTETS, CHUNK_OCTETS, Stamp, block_image, read_image};
-use row_text::{Cells, Sheet, place_of};
+use row_text::{Row, Sheet, place_of};
 
 /// Writes the answer of a call.
-pub fn answer(call: &[u8], cells: &mut Cells<'_>, sheet: &mut Sheet) {
+pub fn answer(call: &[u8], row: &mut Row<'_>) {
     match place_of("image_read image_write", call) {
-        Some(0) => put_image(cells.next(), sheet),
-        Some(_) => put_image_of(cells, sheet),
-        None => sheet.refuse(),
+        Some(0) => put_image(row.next(), &mut row.sheet),
+        Some(_) => put_image_of(row),
+        None => row.sheet.refuse(),
     }
 }
 
 /// Writes the image of the block with the stamp of five cells and the payload of the last one.
-fn put_image_of(cells: &mut Cells<'_>, sheet: &mut Sheet) {
+fn put_image_of(row: &mut Row<'_>) {
     let stamp = Stamp {
-        cycle: number(cells),
-        first: number(cells),
-        index: number(cells),
-        article_length: number(cells),
-        class: octet(cells),
+        cycle: number(row),
+        first: number(row),
+        index: number(row),
+        article_length: number(row),
+        class: octet(row),
     };
-    let payload = cells.next();
+    let payload = row.next();
     if payload.is_empty() || payload.len() > CHUNK_OCTETS {
-        return sheet.refuse();
+        return row.sheet.refuse();
     }
     let block = block_image(&stamp, payload);
-    sheet.cell(block.get(..end_of(&block)).unwrap_or(b""));
+    row.sheet.cell(without_zeros(&block));
 }
 
 /// Writes the stamp and the payload of the image that a block has, or that it has none.
@@ -43,12 +43,24 @@ fn put_image(octets: &[u8], sheet: &mut Sheet) {
 }
 
 /// The block of these octets and as many zeros as it has room for.
-fn block_of(octets: &[u8], sheet: &mut Sheet) -> [u8; BLOCK_OCTETS] {
+pub fn block_of(octets: &[u8], sheet: &mut Sheet) -> [u8; BLOCK_OCTETS] {
     let mut block = [0; BLOCK_OCTETS];
-    if octets.len() > BLOCK_OCTETS {
-        sheet.refuse();
-        return block;
+    match block.get_mut(..octets.len()) {
+        Some(front) => front.copy_from_slice(octets),
+        None => sheet.refuse(),
     }
-    block[..octets.len()].copy_from_slice(octets);
     block
+}
+
+/// The octets of a block but for the zeros at its end.
+pub fn without_zeros(octets: &[u8; BLOCK_OCTETS]) -> &[u8] {
+    let mut end = 0;
+    let mut place = 0usize;
+    for octet in octets.iter() {
+        place = place.saturating_add(1);
+        if *octet != 0 {
+            end = place;
+        }
+    }
+    octets.get(..end).unwrap_or(b"")
 }

@@ -3,23 +3,28 @@
 #![tactic(auto)]
 
 mod blocks;
+mod runs;
 mod sessions;
 mod stops;
 mod texts;
 
 use cyc_block::{FailAt, MemoryBlocks};
 use line_words::is;
-use row_text::{Answers, Cells, Names, Sheet, copy_of, joined, place_of};
+use row_text::{Answers, Names, Row, copy_of, joined, place_of};
 use std::hash::RandomState;
 use std::io;
 use stops::{Device, Stops};
 
 /// Plays the rows of a text.
 pub fn play(rt: &HostRuntime, text: &[u8]) -> io::Result<()> {
+    play_over::<FailAt<MemoryBlocks>>(rt, text)
+}
+
+/// Plays the rows of a text, those of stops over devices of this kind.
+fn play_over<D: Device>(rt: &HostRuntime, text: &[u8]) -> io::Result<()> {
     let hasher = RandomState::new(rt)?;
-    let mut rows: Rows<FailAt<MemoryBlocks>> = Rows {
+    let mut rows: Rows<D> = Rows {
         part: Part::Texts,
-        names: Names::new(rt.alloc()),
         hasher,
         stops: Stops::new(rt.alloc()),
     };
@@ -37,85 +42,61 @@ enum Part {
     Stops,
 }
 
-/// The part that the next row is of, the texts that the rows of this part named, the random numbers
-/// of sessions, and what stops have left.
+/// The part that the next row is of, the random numbers of sessions, and what stops have left.
 #[derive(Drop)]
 struct Rows<D: Device> {
     part: Part,
-    names: Names,
     hasher: RandomState,
     stops: Stops<D>,
 }
 
 impl<D: Device> Answers for Rows<D> {
-    fn answer(&mut self, call: &[u8], cells: &[Vec<u8>], sheet: &mut Sheet) {
+    fn answer(&mut self, call: &[u8], row: &mut Row<'_>, names: &mut Names) {
         if is(call, b"part") {
-            self.begin(cells, sheet);
+            self.begin(row, names);
         } else if is(call, b"text") && !matches!(self.part, Part::Stops) {
-            self.name(cells, sheet);
+            name(row, names);
         } else {
-            self.put_meant(call, cells, sheet);
+            self.put(call, row);
         }
         // Of want of memory nothing is expected, so that no answer may stand in its place.
-        if says_memory(sheet.octets()) {
-            sheet.lack();
+        if says_memory(row.sheet.octets()) {
+            row.sheet.lack();
         }
     }
 }
 
 impl<D: Device> Rows<D> {
     /// `part NAME`: the rows behind are of this part, and no text has a name.
-    fn begin(&mut self, cells: &[Vec<u8>], sheet: &mut Sheet) {
-        match part_of(cells) {
-            Some(part) => {
-                self.part = part;
-                self.names = Names::new(sheet.alloc);
-                sheet.put(b"begins");
-            }
-            None => sheet.refuse(),
-        }
+    fn begin(&mut self, row: &mut Row<'_>, names: &mut Names) {
+        self.part = match place_of("texts blocks sessions stops", row.next()) {
+            Some(0) => Part::Texts,
+            Some(1) => Part::Blocks,
+            Some(2) => Part::Sessions,
+            Some(_) => Part::Stops,
+            None => return row.sheet.refuse(),
+        };
+        names.clear();
+        row.sheet.put(b"begins");
     }
 
     /// Writes the answer of a call of the part.
-    fn put_meant(&mut self, call: &[u8], cells: &[Vec<u8>], sheet: &mut Sheet) {
-        let meant = self.names.meant(cells, sheet);
-        let mut cells = Cells::new(&meant);
-        self.put(call, &mut cells, sheet);
-        cells.end(sheet);
-    }
-
-    /// Writes the answer of a call of the part, of cells in which no text has a name.
-    fn put(&mut self, call: &[u8], cells: &mut Cells<'_>, sheet: &mut Sheet) {
+    fn put(&mut self, call: &[u8], row: &mut Row<'_>) {
         match self.part {
-            Part::Texts => texts::answer(call, cells, sheet),
-            Part::Blocks => blocks::answer(call, cells, sheet),
-            Part::Sessions => sessions::answer(self.hasher, call, cells, sheet),
-            Part::Stops => self.stops.put_answer(call, cells, sheet),
+            Part::Texts => texts::answer(call, row),
+            Part::Blocks => blocks::answer(call, row),
+            Part::Sessions => sessions::answer(self.hasher, call, row),
+            Part::Stops => self.stops.answer(call, row),
         }
-    }
-
-    /// `text NAME PARTS..`: names a text, and writes how many octets it has.
-    fn name(&mut self, cells: &[Vec<u8>], sheet: &mut Sheet) {
-        let [name, parts @ ..] = cells else {
-            return sheet.refuse();
-        };
-        let octets = joined(&self.names.meant(parts, sheet), sheet);
-        sheet.number(octets.len() as u64);
-        self.names.name(copy_of(name, sheet), octets, sheet);
     }
 }
 
-/// The part that the one cell names.
-fn part_of(cells: &[Vec<u8>]) -> Option<Part> {
-    let [name] = cells else {
-        return None;
-    };
-    match place_of("texts blocks sessions stops", name)? {
-        0 => Some(Part::Texts),
-        1 => Some(Part::Blocks),
-        2 => Some(Part::Sessions),
-        _ => Some(Part::Stops),
-    }
+/// `text NAME PARTS..`: names a text, and writes how many octets it has.
+fn name(row: &mut Row<'_>, names: &mut Names) {
+    let name = copy_of(row.next(), &mut row.sheet);
+    let octets = joined(row.rest(), &mut row.sheet);
+    row.sheet.number(octets.len() as u64);
+    names.name(name, octets, &mut row.sheet);
 }
 
 /// Whether an answer has the fault `Memory`.

@@ -6,13 +6,11 @@ mod bench;
 mod calls;
 mod histories;
 mod octets;
-mod runs;
 mod steps;
 
 use bench::Bench;
-pub(crate) use bench::{Device, number, octet};
+pub(crate) use bench::Device;
 use histories::Texts;
-pub(crate) use octets::end_of;
 use std::alloc::Global;
 
 /// The buffer and the text of a history that the rows so far have left.

@@ -33,15 +33,18 @@ pub fn parts_of<'a>(text: Option<&'a [u8]>, octet: u8, sheet: &mut Sheet) -> Vec
     parts
 }
 
+/// These octets follow.
+pub(crate) fn add(octets: &mut Vec<u8>, more: &[u8], sheet: &mut Sheet) {
+    if octets.extend_from_slice(more).is_err() {
+        sheet.lack();
+    }
+}
+
 /// A copy of these octets, empty where memory ran out.
 pub fn copy_of(octets: &[u8], sheet: &mut Sheet) -> Vec<u8> {
-    match Vec::from_slice(sheet.alloc, octets) {
-        Ok(copy) => copy,
-        Err(_) => {
-            sheet.lack();
-            Vec::new(sheet.alloc)
-        }
-    }
+    let mut copy = Vec::new(sheet.alloc);
+    add(&mut copy, octets, sheet);
+    copy
 }
 
 /// A text of these octets follows.
@@ -55,9 +58,7 @@ pub fn add_octets(texts: &mut Vec<Vec<u8>>, octets: &[u8], sheet: &mut Sheet) {
 pub fn joined(parts: &[Vec<u8>], sheet: &mut Sheet) -> Vec<u8> {
     let mut octets = Vec::new(sheet.alloc);
     for part in parts {
-        if octets.extend_from_slice(part).is_err() {
-            sheet.lack();
-        }
+        add(&mut octets, part, sheet);
     }
     octets
 }

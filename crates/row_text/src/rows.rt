@@ -1,7 +1,9 @@
 //! Playing the rows of a text.
 
 use crate::cell::octets_of;
-use crate::lists::parts_of;
+use crate::lists::add_octets;
+use crate::names::Names;
+use crate::row::Row;
 use crate::sheet::Sheet;
 use line_words::{cut, is_skipped};
 use std::io;
@@ -13,90 +15,84 @@ const MEMORY: u8 = 5;
 
 /// What answers the calls of rows.
 pub trait Answers {
-    /// Writes the answer of a row with this call and these cells, which has none where the call is
-    /// not known.
-    fn answer(&mut self, call: &[u8], cells: &[Vec<u8>], sheet: &mut Sheet);
+    /// Writes the answer of a row with this call, in whose cells the texts stand that have a name.
+    /// It has none where the call is not known.
+    fn answer(&mut self, call: &[u8], row: &mut Row<'_>, names: &mut Names);
 }
 
 /// Prints the lines of a text with an answer behind each row. A line that is empty or begins with
 /// `#` is printed as it is; any other line is a row, cut into words at single spaces: a call and
 /// its cells. A row is printed with ` = ` and its answer behind it, which is `?` where the call is
-/// not known or an escape is bad. Where memory runs out that is the error, once all before it is
-/// printed.
+/// not known, an escape is bad, or it takes other cells. Where memory runs out that is the error,
+/// once all before it is printed.
 pub fn play<A: Answers>(rt: &HostRuntime, text: &[u8], answers: &mut A) -> io::Result<()> {
     let mut printed = Sheet::new(rt.alloc());
-    put_all(
-        answers,
-        text.strip_suffix(b"\n").unwrap_or(text),
-        &mut printed,
-    );
-    print(rt, &printed)
-}
-
-/// Says `memory`, or that it was not read or not written, and answers the status.
-pub fn failed(rt: &HostRuntime, error: &io::Error) -> ExitCode {
-    let _unseen = eprintln!(rt; "{}", fault_text(error.kind()));
-    match error.kind() {
-        ErrorKind::OutOfMemory => ExitCode::from(MEMORY),
-        _ => ExitCode::FAILURE,
-    }
-}
-
-/// What is said of an error of reading or writing.
-fn fault_text(kind: ErrorKind) -> &'static str {
-    match kind {
-        ErrorKind::OutOfMemory => "memory",
-        _ => "not read or not written",
-    }
-}
-
-/// Prints what is written on a sheet. Where memory ran out, that is told then.
-fn print(rt: &HostRuntime, sheet: &Sheet) -> io::Result<()> {
-    io::writer(rt).write_all(sheet.octets())?;
-    if sheet.is_spoilt() {
+    put_all(answers, text, &mut printed);
+    io::writer(rt).write_all(printed.octets())?;
+    if printed.is_spoilt() {
         return Err(io::Error::from(ErrorKind::OutOfMemory));
     }
     Ok(())
 }
 
-/// Writes lines with their answers, up to where memory runs out.
-fn put_all<A: Answers>(answers: &mut A, lines: &[u8], sheet: &mut Sheet) {
-    for line in &parts_of(Some(lines), b'\n', sheet) {
-        put_line(answers, line, sheet);
-        if sheet.is_spoilt() {
-            return;
-        }
-    }
+/// Says `memory`, or that it was not read or not written, and answers the status.
+pub fn failed(rt: &HostRuntime, error: &io::Error) -> ExitCode {
+    let (said, status) = match error.kind() {
+        ErrorKind::OutOfMemory => ("memory", ExitCode::from(MEMORY)),
+        _ => ("not read or not written", ExitCode::FAILURE),
+    };
+    let _unseen = eprintln!(rt; "{said}");
+    status
 }
 
-/// Writes a line with its answer.
-fn put_line<A: Answers>(answers: &mut A, line: &[u8], sheet: &mut Sheet) {
-    sheet.put(line);
-    if !is_skipped(line) {
-        sheet.put(b" = ");
-        put_answer(answers, line, sheet);
+/// Writes lines with their answers.
+fn put_all<A: Answers>(answers: &mut A, lines: &[u8], sheet: &mut Sheet) {
+    let mut names = Names::new(sheet.alloc);
+    let mut unread = Some(lines);
+    while let Some(rest) = unread {
+        let (line, after) = cut(rest, b'\n');
+        sheet.put(line);
+        if !is_skipped(line) {
+            put_answer(answers, line, &mut names, sheet);
+        }
+        if after.is_some() {
+            sheet.put(b"\n");
+        }
+        unread = after;
     }
-    sheet.put(b"\n");
 }
 
 /// Writes the answer of a row.
-fn put_answer<A: Answers>(answers: &mut A, row: &[u8], sheet: &mut Sheet) {
-    let (call, rest) = cut(row, b' ');
+fn put_answer<A: Answers>(answers: &mut A, line: &[u8], names: &mut Names, sheet: &mut Sheet) {
+    let (call, rest) = cut(line, b' ');
     let mut said = Sheet::new(sheet.alloc);
-    let cells = cells_of(rest, &mut said);
-    if !said.is_spoilt() {
-        answers.answer(call, &cells, &mut said);
-    }
-    said.end(sheet);
+    let cells = cells_of(rest, names, &mut said);
+    put_said(answers, call, Row::new(&cells, said), names, sheet);
 }
 
-/// The octets of the cells that follow a call.
-fn cells_of(rest: Option<&[u8]>, sheet: &mut Sheet) -> Vec<Vec<u8>> {
+/// Writes what a row is answered.
+fn put_said<A: Answers>(
+    answers: &mut A,
+    call: &[u8],
+    mut row: Row<'_>,
+    names: &mut Names,
+    sheet: &mut Sheet,
+) {
+    if !row.sheet.is_spoilt() {
+        answers.answer(call, &mut row, names);
+    }
+    row.end(sheet);
+}
+
+/// The octets of the cells that follow a call, and of a name its text.
+fn cells_of(rest: Option<&[u8]>, names: &Names, sheet: &mut Sheet) -> Vec<Vec<u8>> {
     let mut cells = Vec::new(sheet.alloc);
-    for word in &parts_of(rest, b' ', sheet) {
-        if cells.push(octets_of(word, sheet)).is_err() {
-            sheet.lack();
-        }
+    let mut unread = rest;
+    while let Some(rest) = unread {
+        let (word, after) = cut(rest, b' ');
+        let octets = octets_of(word, sheet);
+        add_octets(&mut cells, names.meaning(&octets), sheet);
+        unread = after;
     }
     cells
 }

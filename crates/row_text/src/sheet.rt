@@ -2,7 +2,7 @@
 ghost use Rattle.std.specs.Prelude.{◌≤◌};
 
 use itoa::Buffer;
-use line_words::number_within;
+use line_words::{cut, number_within};
 use std::alloc::Global;
 use std::fmt;
 use std::fmt::{Debug, Write};
@@ -54,19 +54,20 @@ impl Sheet {
 
     /// Writes one octet of a cell.
     fn octet(&mut self, octet: u8) {
-        match octet {
-            b' ' => self.put(b"\\s"),
-            b'\t' => self.put(b"\\t"),
-            b'\r' => self.put(b"\\r"),
-            b'\n' => self.put(b"\\n"),
-            b'\\' => self.put(b"\\\\"),
-            0x21..=0x7E => self.put(&[octet]),
+        let letter = match octet {
+            b' ' => b's',
+            b'\t' => b't',
+            b'\r' => b'r',
+            b'\n' => b'n',
+            b'\\' => b'\\',
+            0x21..=0x7E => return self.put(&[octet]),
             _ => {
                 let high = DIGITS[usize::from(octet >> 4)];
                 let low = DIGITS[usize::from(octet & 15)];
-                self.put(&[b'\\', b'x', high, low]);
+                return self.put(&[b'\\', b'x', high, low]);
             }
-        }
+        };
+        self.put(&[b'\\', letter]);
     }
 
     /// Writes octets as a cell behind a space.
@@ -89,15 +90,13 @@ impl Sheet {
 
     /// Writes a text with these numbers in the places of its `#`.
     pub fn filled(&mut self, text: &[u8], numbers: &[u64]) {
-        let mut place = 0usize;
-        for octet in text {
-            if *octet == b'#' {
-                self.number(numbers.get(place).copied().unwrap_or(0));
-                place = place.saturating_add(1);
-            } else {
-                self.put(&[*octet]);
-            }
+        let mut rest = text;
+        for number in numbers {
+            let (before, behind) = cut(rest, b'#');
+            self.numbered(before, *number);
+            rest = behind.unwrap_or(b"");
         }
+        self.put(rest);
     }
 
     /// Writes a value as its `Debug` does.
@@ -152,15 +151,12 @@ impl Sheet {
         self.octets
     }
 
-    /// Writes the answer on another sheet, `?` where the row has none; that memory ran out is noted
-    /// there too.
-    pub(crate) fn end(self, other: &mut Sheet) {
+    /// Writes the answer on another sheet behind ` = `, `?` where the row has none; that memory ran
+    /// out is noted there too.
+    pub(crate) fn end(&self, other: &mut Sheet) {
         other.lacks = other.lacks || self.lacks;
-        if self.refused {
-            other.put(b"?");
-        } else {
-            other.put(&self.octets);
-        }
+        other.put(b" = ");
+        other.put(if self.refused { b"?" } else { &self.octets });
     }
 }
 

@@ -1,10 +1,11 @@
 //! The articles of a buffer. The text of an article is computed from its class and its octets.
-use crate::stops::bench::{Bench, Device, number, octet};
+use crate::runs::{number, octet};
+use crate::stops::bench::{Bench, Device};
 use cyc_block::CHUNK_OCTETS;
 use cyc_buffer::{BufError, Buffer, Found, Open};
 use cyc_token::Token;
 use line_words::is;
-use row_text::{Cells, Sheet};
+use row_text::{Row, Sheet};
 
 /// How an article that was begun ends.
 #[derive(Clone, Copy)]
@@ -30,34 +31,26 @@ struct Stored {
 }
 
 impl<D: Device> Bench<D> {
-    /// Writes the token under which an article is stored, or why it isn't.
-    pub(crate) fn store(&mut self, cells: &mut Cells<'_>, sheet: &mut Sheet) {
-        let class = octet(cells);
-        let octets = number(cells);
-        let is_fresh = cells.has_more();
-        if is_fresh && !is(cells.next(), b"fresh") {
-            return sheet.refuse();
+    /// Writes the token under which an article is stored, or why it isn't. Of one that isn't
+    /// finished so many blocks are written as the last cell says; one that is may begin a cycle.
+    pub(crate) fn store(&mut self, end: End, row: &mut Row<'_>) {
+        let class = octet(row);
+        let octets = number(row);
+        let mut blocks = u64::from(octets).div_ceil(CHUNK_OCTETS as u64);
+        let mut is_fresh = false;
+        if !matches!(end, End::Finished) {
+            blocks = row.number(u64::MAX);
+        } else if row.has_more() {
+            is_fresh = is(row.next(), b"fresh");
         }
         let stored = Stored {
             class,
             octets,
             is_fresh,
-            blocks: u64::from(octets).div_ceil(CHUNK_OCTETS as u64),
-            end: End::Finished,
-        };
-        self.put_article(stored, sheet);
-    }
-
-    /// Writes the token of an article of which so many blocks are written, and then no more.
-    pub(crate) fn leave(&mut self, cells: &mut Cells<'_>, end: End, sheet: &mut Sheet) {
-        let stored = Stored {
-            class: octet(cells),
-            octets: number(cells),
-            is_fresh: false,
-            blocks: cells.number(u64::MAX),
+            blocks,
             end,
         };
-        self.put_article(stored, sheet);
+        self.put_article(stored, &mut row.sheet);
     }
 
     /// Begins an article, writes so many of its blocks, ends it so, and writes its token.
@@ -75,13 +68,13 @@ impl<D: Device> Bench<D> {
     }
 
     /// Writes what is read of the article under a token.
-    pub(crate) fn read(&mut self, cells: &mut Cells<'_>, sheet: &mut Sheet) {
-        match Token::parse(cells.next()) {
+    pub(crate) fn read(&mut self, row: &mut Row<'_>) {
+        match Token::parse(row.next()) {
             Ok(token) => {
-                let text = text_of(token.class, token.length, sheet);
-                self.compare(&token, &text, sheet);
+                let text = text_of(token.class, token.length, &mut row.sheet);
+                self.compare(&token, &text, &mut row.sheet);
             }
-            Err(_) => sheet.refuse(),
+            Err(_) => row.sheet.refuse(),
         }
     }
 
@@ -119,24 +112,20 @@ impl<D: Device> Bench<D> {
 
     /// Writes the numbers of a buffer.
     pub(crate) fn put_numbers(&self, sheet: &mut Sheet) {
-        match self {
-            Bench::Running(buffer) => put_numbers(buffer, sheet),
-            Bench::Unopened(buffer) => put_numbers(buffer.buffer(), sheet),
-            _ => sheet.refuse(),
-        }
+        let buffer = match self {
+            Bench::Running(buffer) => buffer,
+            Bench::Unopened(buffer) => buffer.buffer(),
+            _ => return sheet.refuse(),
+        };
+        let numbers = [
+            u64::from(buffer.blocks()),
+            u64::from(buffer.cycle()),
+            buffer.front(),
+            buffer.begun(),
+            buffer.stored(),
+        ];
+        sheet.filled(b"blocks # cycle # front # begun # stored #", &numbers);
     }
-}
-
-/// Writes the numbers of a buffer.
-fn put_numbers<D: Device>(buffer: &Buffer<D>, sheet: &mut Sheet) {
-    let numbers = [
-        u64::from(buffer.blocks()),
-        u64::from(buffer.cycle()),
-        buffer.front(),
-        buffer.begun(),
-        buffer.stored(),
-    ];
-    sheet.filled(b"blocks # cycle # front # begun # stored #", &numbers);
 }
 
 /// Writes so many blocks of an article that was begun, ends it so, and writes its token.

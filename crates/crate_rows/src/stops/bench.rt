@@ -1,8 +1,9 @@
 //! A device in memory, and the buffer that runs over it, where one does.
 
+use crate::runs::{number, octet};
 use cyc_block::{BlockStore, FailAt, MemoryBlocks};
 use cyc_buffer::{Buffer, FormatError, Unopened};
-use row_text::{Cells, Sheet};
+use row_text::{Row, Sheet};
 use std::alloc::{AllocError, Global};
 use std::mem;
 
@@ -52,38 +53,34 @@ impl<D: Device> Bench<D> {
         drop(mem::replace(self, bench));
     }
 
-    /// What the rows have left, in whose place there is nothing.
-    pub(crate) fn take(&mut self) -> Bench<D> {
-        mem::replace(self, Bench::Nothing)
-    }
-
     /// Makes a device of so many blocks of zeros.
-    pub fn make(&mut self, cells: &mut Cells<'_>, sheet: &mut Sheet) {
-        if let Some(device) = zeros(number(cells), sheet) {
-            sheet.put(b"made");
+    pub fn make(&mut self, row: &mut Row<'_>) {
+        if let Some(device) = zeros(number(row), &mut row.sheet) {
+            row.sheet.put(b"made");
             self.set(Bench::Stopped(device));
         }
     }
 
     /// Makes a buffer of the number and at the cycle that the cells say, over a device of so many
     /// blocks, of which a call fails where one is named.
-    pub fn format(&mut self, cells: &mut Cells<'_>, sheet: &mut Sheet) {
-        let blocks = number(cells);
-        let buffer = octet(cells);
-        let cycle = number(cells);
-        let mut failing = 0;
-        if cells.has_more() {
-            failing = cells.number(u64::MAX);
-        }
-        if let Some(device) = zeros(blocks, sheet) {
-            self.set(formatted(device, failing, buffer, cycle, sheet));
+    pub fn format(&mut self, row: &mut Row<'_>) {
+        let blocks = number(row);
+        let buffer = octet(row);
+        let cycle = number(row);
+        let failing = if row.has_more() {
+            row.number(u64::MAX)
+        } else {
+            0
+        };
+        if let Some(device) = zeros(blocks, &mut row.sheet) {
+            self.set(formatted(device, failing, buffer, cycle, &mut row.sheet));
         }
     }
 
     /// The call of the device of this number fails; with 0 none does.
-    pub fn fail(&mut self, cells: &mut Cells<'_>, sheet: &mut Sheet) {
-        self.arm(cells.number(u64::MAX));
-        sheet.put(b"armed");
+    pub fn fail(&mut self, row: &mut Row<'_>) {
+        self.arm(row.number(u64::MAX));
+        row.sheet.put(b"armed");
     }
 
     /// From here the call of the device of this number fails; but for a buffer whose head isn't
@@ -95,16 +92,6 @@ impl<D: Device> Bench<D> {
             Bench::Stopped(device) => device.arm(number),
         }
     }
-}
-
-/// The number up to 2^32 - 1 that the next cell writes.
-pub(crate) fn number(cells: &mut Cells<'_>) -> u32 {
-    cells.number(4_294_967_295) as u32
-}
-
-/// The number up to 255 that the next cell writes.
-pub(crate) fn octet(cells: &mut Cells<'_>) -> u8 {
-    cells.number(255) as u8
 }
 
 /// A device of so many blocks of zeros.

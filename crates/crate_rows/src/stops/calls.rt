@@ -1,56 +1,54 @@
 //! The calls and their names.
 
+use crate::runs::{Change, octet};
 use crate::stops::Stops;
 use crate::stops::articles::End;
-use crate::stops::bench::{Bench, Device, octet};
+use crate::stops::bench::{Bench, Device};
 use crate::stops::histories::Texts;
-use crate::stops::octets::Change;
-use row_text::{Cells, Sheet, place_of};
+use row_text::{Row, place_of};
 
-/// The names of the calls, in the order of `put_at`, but for those of a step.
+/// The names of the calls, in the order of `answer`, but for those of a step.
 const NAMES: &str = "format zeros fail each store abandon unfinished read numbers octets put \
     changes cuts setting text history text_changes text_cuts";
 
 impl<D: Device> Stops<D> {
     /// Writes the answer of a call.
-    pub(crate) fn put_answer(&mut self, call: &[u8], cells: &mut Cells<'_>, sheet: &mut Sheet) {
-        let Some(place) = place_of(NAMES, call) else {
-            return self.bench.put_step(call, cells, sheet);
-        };
-        match place {
-            0..=8 => self.bench.put_at(place, cells, sheet),
-            9..=12 => self.bench.put_of_block(place, cells, sheet),
-            _ => self.texts.put_at(place, cells, sheet),
+    pub(crate) fn answer(&mut self, call: &[u8], row: &mut Row<'_>) {
+        match place_of(NAMES, call) {
+            None => self.bench.put_step(call, row),
+            Some(place @ 0..=8) => self.bench.answer(place, row),
+            Some(place @ 9..=12) => self.bench.answer_of_block(place, row),
+            Some(place) => self.texts.answer(place, row),
         }
     }
 }
 
 impl<D: Device> Bench<D> {
     /// Writes the answer of the call of a device or an article whose name has this place.
-    fn put_at(&mut self, place: usize, cells: &mut Cells<'_>, sheet: &mut Sheet) {
+    fn answer(&mut self, place: usize, row: &mut Row<'_>) {
         match place {
-            0 => self.format(cells, sheet),
-            1 => self.make(cells, sheet),
-            2 => self.fail(cells, sheet),
-            3 => self.put_each(cells, sheet),
-            4 => self.store(cells, sheet),
-            5 => self.leave(cells, End::Abandoned, sheet),
-            6 => self.leave(cells, End::Unfinished, sheet),
-            7 => self.read(cells, sheet),
-            _ => self.put_numbers(sheet),
+            0 => self.format(row),
+            1 => self.make(row),
+            2 => self.fail(row),
+            3 => self.put_each(row),
+            4 => self.store(End::Finished, row),
+            5 => self.store(End::Abandoned, row),
+            6 => self.store(End::Unfinished, row),
+            7 => self.read(row),
+            _ => self.put_numbers(&mut row.sheet),
         }
     }
 }
 
 impl Texts {
     /// Writes the answer of the call of a text whose name has this place.
-    fn put_at(&mut self, place: usize, cells: &mut Cells<'_>, sheet: &mut Sheet) {
+    fn answer(&mut self, place: usize, row: &mut Row<'_>) {
         match place {
-            13 => self.set(cells, sheet),
-            14 => self.name(cells, sheet),
-            15 => self.put_history(sheet),
-            16 => self.walk(Change::Turn(octet(cells)), sheet),
-            _ => self.walk(Change::Cut, sheet),
+            13 => self.set(row),
+            14 => self.name(row),
+            15 => self.put_history(&mut row.sheet),
+            16 => self.walk(Change::Turn(octet(row)), &mut row.sheet),
+            _ => self.walk(Change::Cut, &mut row.sheet),
         }
     }
 }

@@ -1,12 +1,12 @@
 //! Texts of histories.
 ghost use Rattle.id_history.specs.Room.{HasRoom};
 
-use crate::stops::octets::{Change, octets_by};
-use crate::stops::runs::Runs;
+use crate::runs::{Change, Runs, changed, number};
+use crate::stops::octets::octets_by;
 use crate::stops::steps::put_tokens;
 use id_history::{History, HistoryError, KeptFeed, KeptId, Setting, read, write};
 use line_words::is;
-use row_text::{Cells, Sheet, copy_of, joined, parts_of};
+use row_text::{Row, Sheet, joined, parts_of};
 use std::alloc::Global;
 use std::mem;
 
@@ -34,20 +34,20 @@ impl Texts {
     }
 
     /// From here the setting is that of the cells.
-    pub fn set(&mut self, cells: &mut Cells<'_>, sheet: &mut Sheet) {
+    pub fn set(&mut self, row: &mut Row<'_>) {
         let setting = Setting {
-            buffers: cells.number(MOST) as u32,
-            groups: numbers_of(cells.next(), sheet),
-            rings: numbers_of(cells.next(), sheet),
+            buffers: number(row),
+            groups: numbers_of(row.next(), &mut row.sheet),
+            rings: numbers_of(row.next(), &mut row.sheet),
         };
         drop(mem::replace(&mut self.setting, setting));
-        sheet.put(b"set");
+        row.sheet.put(b"set");
     }
 
     /// From here the text is that whose digits stand in the cells.
-    pub fn name(&mut self, cells: &mut Cells<'_>, sheet: &mut Sheet) {
-        self.text = octets_by(&joined(cells.rest(), sheet), sheet);
-        sheet.number(self.text.len() as u64);
+    pub fn name(&mut self, row: &mut Row<'_>) {
+        self.text = octets_by(&joined(row.rest(), &mut row.sheet), &mut row.sheet);
+        row.sheet.number(self.text.len() as u64);
     }
 
     /// Writes the history that the text says, or that it says none.
@@ -63,12 +63,12 @@ impl Texts {
 
     /// Writes what the text gives with this change at each of its octets in turn.
     pub(crate) fn walk(&self, change: Change, sheet: &mut Sheet) {
-        let mut runs = Runs::new(sheet.alloc);
+        let mut runs = Runs::new(sheet.alloc, false, 0);
         for place in 0..self.text.len() {
             let text = changed(&self.text, place, change, sheet);
             let mut said = Sheet::new(sheet.alloc);
             put_reading(&text, &self.setting, &mut said);
-            runs.add(place as u64, said.onto(sheet), sheet);
+            runs.add(said.onto(sheet), sheet);
         }
         runs.end(sheet);
     }
@@ -129,20 +129,6 @@ fn put_ids(ids: &[KeptId], sheet: &mut Sheet) {
             None => sheet.put(b" refused"),
         }
     }
-}
-
-/// A text with this change at a place.
-fn changed(text: &[u8], place: usize, change: Change, sheet: &mut Sheet) -> Vec<u8> {
-    let mut other = copy_of(text, sheet);
-    match change {
-        Change::Cut => other.truncate(place),
-        Change::Turn(mask) => {
-            if let Some(octet) = other.get_mut(place) {
-                *octet ^= mask;
-            }
-        }
-    }
-    other
 }
 
 /// Writes `read` where a text is that of the history that it says, else `other`, or its fault.

@@ -1,12 +1,12 @@
 //! The octets of a device on which no buffer runs.
-ghost use Rattle.std.specs.Prelude.{◌<◌};
 
-use crate::stops::bench::{Bench, Device, number, octet};
-use crate::stops::runs::Runs;
+use crate::blocks::{block_of, without_zeros};
+use crate::runs::{Change, Runs, changed, number, octet};
+use crate::stops::bench::{Bench, Device};
 use crate::stops::steps::{Step, start_in};
 use cyc_block::{BLOCK_OCTETS, BlockStore, head_count};
 use hex::FromHexError;
-use row_text::{Cells, Sheet, place_of};
+use row_text::{Row, Sheet, place_of};
 use std::alloc::AllocError;
 
 /// A block of a device.
@@ -16,64 +16,72 @@ enum Block {
     Data(u32),
 }
 
-/// What is done to the octets of a block at a place.
-#[derive(Clone, Copy)]
-pub(crate) enum Change {
-    /// The bits of a mask are turned in the octet there.
-    Turn(u8),
-    /// They end there: a block has zeros from there on.
-    Cut,
-}
-
 impl<D: Device> Bench<D> {
     /// Writes the answer of the call of this place, which is of the block that two cells name.
-    pub(crate) fn put_of_block(&mut self, place: usize, cells: &mut Cells<'_>, sheet: &mut Sheet) {
-        let block = block_in(cells, sheet);
+    pub(crate) fn answer_of_block(&mut self, place: usize, row: &mut Row<'_>) {
+        let block = block_in(row);
         match place {
-            9 => self.put_octets(block, sheet),
-            10 => self.change(block, cells, sheet),
-            11 => self.walk(block, Change::Turn(octet(cells)), start_in(cells), sheet),
-            _ => self.walk(block, Change::Cut, start_in(cells), sheet),
+            9 => self.put_octets(block, &mut row.sheet),
+            10 => self.change(block, row),
+            11 => self.walk(block, Change::Turn(octet(row)), row),
+            _ => self.walk(block, Change::Cut, row),
         }
     }
 
     /// Writes the octets of a block but for the zeros at its end.
     fn put_octets(&mut self, block: Block, sheet: &mut Sheet) {
         let octets = self.octets_of(block, sheet);
-        put_hex(octets.get(..end_of(&octets)).unwrap_or(b""), sheet);
+        put_hex(without_zeros(&octets), sheet);
     }
 
     /// Puts octets into a block from a place on.
-    fn change(&mut self, block: Block, cells: &mut Cells<'_>, sheet: &mut Sheet) {
-        let place = number(cells) as usize;
-        let other = octets_by(cells.next(), sheet);
-        let mut octets = self.octets_of(block, sheet);
+    fn change(&mut self, block: Block, row: &mut Row<'_>) {
+        let place = number(row) as usize;
+        let other = octets_by(row.next(), &mut row.sheet);
+        let mut octets = self.octets_of(block, &mut row.sheet);
         match octets.get_mut(place..place.saturating_add(other.len())) {
             Some(part) => part.copy_from_slice(&other),
-            None => return sheet.refuse(),
+            None => return row.sheet.refuse(),
         }
-        self.put_block(block, &octets, sheet);
-        sheet.put(b"put");
+        self.put_block(block, &octets, &mut row.sheet);
+        row.sheet.put(b"put");
     }
 
-    /// Writes what a start answers with this change at each octet of a block in turn. The block is
-    /// then as it was.
-    fn walk(&mut self, block: Block, change: Change, start: Step, sheet: &mut Sheet) {
-        let octets = self.octets_of(block, sheet);
-        if sheet.is_spoilt() {
+    /// Writes what a start answers with this change at each octet of a block in turn; it has zeros
+    /// behind a cut. The block is then as it was.
+    fn walk(&mut self, block: Block, change: Change, row: &mut Row<'_>) {
+        let start = start_in(row);
+        let octets = self.octets_of(block, &mut row.sheet);
+        if row.sheet.is_spoilt() {
             return;
         }
-        let mut runs = Runs::new(sheet.alloc);
-        let mut unread = Sheet::new(sheet.alloc);
+        let mut runs = Runs::new(row.sheet.alloc, false, 0);
         for place in 0..BLOCK_OCTETS {
-            let mut said = Sheet::new(sheet.alloc);
-            self.put_block(block, &changed(&octets, place, change), &mut said);
-            self.take_step(start, &mut said);
-            self.take_step(Step::Leave, &mut unread);
-            runs.add(place as u64, said.onto(sheet), sheet);
+            let other = block_of(
+                &changed(&octets, place, change, &mut row.sheet),
+                &mut row.sheet,
+            );
+            let said = self.said_of(block, &other, start, &mut row.sheet);
+            runs.add(said, &mut row.sheet);
         }
-        runs.end(sheet);
-        self.put_block(block, &octets, sheet);
+        runs.end(&mut row.sheet);
+        self.put_block(block, &octets, &mut row.sheet);
+    }
+
+    /// What a start answers where a block has these octets. No buffer runs then.
+    fn said_of(
+        &mut self,
+        block: Block,
+        octets: &[u8; BLOCK_OCTETS],
+        start: Step,
+        sheet: &mut Sheet,
+    ) -> Vec<u8> {
+        let mut said = Sheet::new(sheet.alloc);
+        self.put_block(block, octets, &mut said);
+        self.take_step(start, &mut said);
+        let mut unread = Sheet::new(sheet.alloc);
+        self.take_step(Step::Leave, &mut unread);
+        said.onto(sheet)
     }
 
     /// The octets of a block; where there is none, the row has no answer.
@@ -111,30 +119,17 @@ impl<D: Device> Bench<D> {
 }
 
 /// The block that the next two cells name.
-fn block_in(cells: &mut Cells<'_>, sheet: &mut Sheet) -> Block {
-    let kind = cells.next();
-    let block = number(cells);
-    match place_of("head block", kind) {
+fn block_in(row: &mut Row<'_>) -> Block {
+    let kind = place_of("head block", row.next());
+    let block = number(row);
+    match kind {
         Some(0) => Block::Head(block),
         Some(_) => Block::Data(block),
         None => {
-            sheet.refuse();
+            row.sheet.refuse();
             Block::Data(block)
         }
     }
-}
-
-/// Where the zeros at a block's end begin.
-pub(crate) fn end_of(octets: &[u8; BLOCK_OCTETS]) -> usize {
-    let mut end = 0;
-    let mut place = 0usize;
-    for octet in octets.iter() {
-        place = place.saturating_add(1);
-        if *octet != 0 {
-            end = place;
-        }
-    }
-    end
 }
 
 /// Writes the digits of octets, `zeros` where there are none.
@@ -156,16 +151,4 @@ pub(crate) fn octets_by(digits: &[u8], sheet: &mut Sheet) -> Vec<u8> {
         Err(_) => sheet.refuse(),
     }
     Vec::new(sheet.alloc)
-}
-
-/// The octets with this change at a place.
-fn changed(octets: &[u8; BLOCK_OCTETS], place: usize, change: Change) -> [u8; BLOCK_OCTETS]
-    requires { place < 512 }
-{
-    let mut other = *octets;
-    match change {
-        Change::Turn(mask) => other[place] ^= mask,
-        Change::Cut => other[place..].fill(0),
-    }
-    other
 }

@@ -1,10 +1,11 @@
 //! The stops and starts of a buffer.
 
-use crate::stops::bench::{Bench, Device, number, octet};
-use crate::stops::runs::Runs;
+use crate::runs::{Runs, number, octet};
+use crate::stops::bench::{Bench, Device};
 use cyc_buffer::{Buffer, Unopened};
 use cyc_token::Token;
-use row_text::{Cells, Sheet, place_of};
+use row_text::{Row, Sheet, place_of};
+use std::mem;
 
 /// A stop or a start.
 #[derive(Clone, Copy)]
@@ -26,25 +27,29 @@ const MOST_CALLS: u64 = 64;
 
 impl<D: Device> Bench<D> {
     /// Writes what the step of this name answers.
-    pub fn put_step(&mut self, name: &[u8], cells: &mut Cells<'_>, sheet: &mut Sheet) {
-        match step_of(name, cells) {
-            Some(step) => self.take_step(step, sheet),
-            None => sheet.refuse(),
+    pub fn put_step(&mut self, name: &[u8], row: &mut Row<'_>) {
+        match step_of(name, row) {
+            Some(step) => self.take_step(step, &mut row.sheet),
+            None => row.sheet.refuse(),
         }
     }
 
     /// Writes what the step that the cells name answers with each call of the device failing in
     /// turn, the last time none.
-    pub fn put_each(&mut self, cells: &mut Cells<'_>, sheet: &mut Sheet) {
-        let name = cells.next();
-        let Some(step) = step_of(name, cells) else {
-            return sheet.refuse();
-        };
-        let mut runs = Runs::new(sheet.alloc);
+    pub fn put_each(&mut self, row: &mut Row<'_>) {
+        match step_of(row.next(), row) {
+            Some(step) => self.put_failing(step, &mut row.sheet),
+            None => row.sheet.refuse(),
+        }
+    }
+
+    /// Writes what a step answers with each call of the device failing in turn, the last time none.
+    fn put_failing(&mut self, step: Step, sheet: &mut Sheet) {
+        let mut runs = Runs::new(sheet.alloc, false, 1);
         for failing in 1..MOST_CALLS {
             let said = self.said_failing(step, failing, sheet);
             let is_last = !is_error(&said);
-            runs.add(failing, said, sheet);
+            runs.add(said, sheet);
             if is_last {
                 break;
             }
@@ -63,7 +68,7 @@ impl<D: Device> Bench<D> {
 
     /// Takes a step, and writes its answer.
     pub(crate) fn take_step(&mut self, step: Step, sheet: &mut Sheet) {
-        let after = match self.take() {
+        let after = match mem::replace(self, Bench::Nothing) {
             Bench::Running(buffer) => stopped(buffer, step, sheet),
             Bench::Unopened(buffer) => opened(buffer, step, sheet),
             Bench::Stopped(device) => started(device, step, sheet),
@@ -77,21 +82,21 @@ impl<D: Device> Bench<D> {
 }
 
 /// The step of this name and these cells.
-fn step_of(name: &[u8], cells: &mut Cells<'_>) -> Option<Step> {
+fn step_of(name: &[u8], row: &mut Row<'_>) -> Option<Step> {
     let step = match place_of("shut restart start open leave", name)? {
-        0 => Step::Shut(cells.number(u64::MAX)),
-        1 => Step::Restart(cells.number(u64::MAX)),
-        2 => start_in(cells),
+        0 => Step::Shut(row.number(u64::MAX)),
+        1 => Step::Restart(row.number(u64::MAX)),
+        2 => start_in(row),
         3 => Step::Open,
         _ => Step::Leave,
     };
-    if cells.are_read() { Some(step) } else { None }
+    if row.are_read() { Some(step) } else { None }
 }
 
 /// The start that the next two cells name.
-pub(crate) fn start_in(cells: &mut Cells<'_>) -> Step {
-    let buffer = octet(cells);
-    let cycle = number(cells);
+pub(crate) fn start_in(row: &mut Row<'_>) -> Step {
+    let buffer = octet(row);
+    let cycle = number(row);
     Step::Start(buffer, cycle)
 }
 

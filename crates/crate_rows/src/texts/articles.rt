@@ -1,7 +1,8 @@
 //! The calls of `article_parse`, `path_rules`, `article_fetch` and `date_rules`.
 
-use crate::texts::lines::{put_made, put_some};
-use crate::texts::walks::{Look, put_changes, put_fronts};
+use crate::runs::Change;
+use crate::texts::lines::{put_first, put_made, put_some};
+use crate::texts::walks::{Look, walk};
 use article_fetch::{LINE_ROOM, line, put_line};
 use article_parse::Article;
 use date_rules::judge;
@@ -13,23 +14,18 @@ pub fn of_text(call: usize, heads: [&[u8]; 2], octets: &[u8], sheet: &mut Sheet)
     let fronts = octets.len().saturating_add(1);
     match call {
         17 => sheet.cell(octets),
-        18 => put_fault(octets, sheet),
-        19 => put_fronts(Look::Article, octets, fronts, sheet),
-        20 => put_fronts(Look::Overview, octets, fronts, sheet),
-        25 => put_changes(Look::Article, heads[0], octets, sheet),
+        18 => sheet.debug(&Article::parse(sheet.alloc, octets).err()),
+        19 => walk(Look::Article, octets, Change::Cut, fronts, sheet),
+        20 => walk(Look::Overview, octets, Change::Cut, fronts, sheet),
+        25 => walk(
+            Look::Article,
+            octets,
+            put_first(heads[0]),
+            octets.len(),
+            sheet,
+        ),
         28 => put_behind(heads[0], heads[1], octets, sheet),
         _ => put_asked(call, heads, octets, sheet),
-    }
-}
-
-/// Writes the fault of a text, `None` where it is an article.
-fn put_fault(octets: &[u8], sheet: &mut Sheet) {
-    match Article::parse(sheet.alloc, octets) {
-        Ok(article) => {
-            drop(article);
-            sheet.put(b"None");
-        }
-        Err(error) => sheet.debug(&Some(error)),
     }
 }
 

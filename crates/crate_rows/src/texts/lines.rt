@@ -1,10 +1,11 @@
 //! The calls of `nntp_text` and `uwild`, and those of the other crates that take one content.
 
+use crate::runs::Change;
 use crate::texts::articles::put_identities;
-use crate::texts::walks::{Look, put_changes, put_fronts};
+use crate::texts::walks::{Look, put_look, walk};
 use article_parse::{is_blank, unfolded};
 use date_rules::{seconds, stamp};
-use nntp_text::{Command, MsgId};
+use nntp_text::MsgId;
 use path_rules::loops;
 use row_text::Sheet;
 use std::alloc::AllocError;
@@ -18,10 +19,10 @@ const LAST_MOMENT: u64 = 253_370_764_799;
 pub fn of_line(call: usize, line: &[u8], sheet: &mut Sheet) {
     match call {
         0 => sheet.debug(&MsgId::parse(sheet.alloc, line)),
-        1 => put_command(line, sheet),
-        2 => put_fronts(Look::Command, line, line.len(), sheet),
-        3 => put_fronts(Look::Expression, line, line.len(), sheet),
-        4 => put_expression_fault(line, sheet),
+        1 => put_look(Look::Command, line, sheet),
+        2 => walk(Look::Command, line, Change::Cut, line.len(), sheet),
+        3 => walk(Look::Expression, line, Change::Cut, line.len(), sheet),
+        4 => put_look(Look::Expression, line, sheet),
         5 => put_made(stuff(sheet.alloc, line), sheet),
         6 => put_made(unfolded(sheet.alloc, line), sheet),
         7 => sheet.debug(&is_blank(line)),
@@ -29,16 +30,6 @@ pub fn of_line(call: usize, line: &[u8], sheet: &mut Sheet) {
         9 => put_seconds(line, sheet),
         _ => put_stamp(line, sheet),
     }
-}
-
-/// Writes what a command line gives.
-pub fn put_command(line: &[u8], sheet: &mut Sheet) {
-    sheet.debug(&Command::parse(sheet.alloc, line));
-}
-
-/// Writes the fault of a text, `None` where it is an expression.
-pub fn put_expression_fault(octets: &[u8], sheet: &mut Sheet) {
-    sheet.debug(&Expr::parse(sheet.alloc, octets).err());
 }
 
 /// Writes a text that was made.
@@ -69,7 +60,7 @@ fn put_stamp(moment: &[u8], sheet: &mut Sheet) {
 /// Writes the answer of a call of two cells.
 pub fn of_two(call: usize, first: &[u8], second: &[u8], sheet: &mut Sheet) {
     match call {
-        11 => put_changes(Look::Command, first, second, sheet),
+        11 => walk(Look::Command, second, put_first(first), second.len(), sheet),
         12 => sheet.debug(&loops(second, first)),
         _ => put_verdict(first, second, sheet),
     }
@@ -81,6 +72,11 @@ fn put_verdict(expression: &[u8], name: &[u8], sheet: &mut Sheet) {
         Ok(expression) => sheet.debug(&expression.judge(name)),
         Err(error) => sheet.debug(&error),
     }
+}
+
+/// That the first of these octets stands in the place of another.
+pub fn put_first(octets: &[u8]) -> Change {
+    Change::Put(octets.first().copied().unwrap_or(0))
 }
 
 /// Writes octets, or that there are none.

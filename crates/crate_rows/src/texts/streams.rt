@@ -1,28 +1,43 @@
 //! The calls of `stream_cut`.
 
-use crate::texts::walks::Runs;
-use row_text::{Cells, Sheet, add_octets};
+use crate::runs::Change;
+use crate::texts::walks::{Look, walk};
+use row_text::{Row, Sheet, add_octets};
 use stream_cut::{Block, Cut, Want, cut_all};
 
 /// Writes the answer of a call of pieces, which come behind a limit and what is wanted: what is cut
 /// off them, off a stream in pieces of a size that stands in front, or off one of two pieces.
-pub fn of_pieces(call: usize, cells: &mut Cells<'_>, sheet: &mut Sheet) {
-    let size = if call == 15 {
-        cells.number(u64::MAX) as usize
-    } else {
-        0
-    };
-    let limit = cells.number(u64::MAX) as usize;
-    let wants = cells.next();
-    match call {
-        14 => put_cuts(limit, wants, cells.rest(), sheet),
-        15 => put_cuts(limit, wants, &pieces_of(size, cells.next(), sheet), sheet),
-        _ => put_cuts_in_two(limit, wants, cells.next(), sheet),
+pub fn of_pieces(call: usize, row: &mut Row<'_>) {
+    if call == 15 {
+        return put_stream(row);
     }
+    let limit = row.number(u64::MAX) as usize;
+    let wants = row.next();
+    if call == 14 {
+        return put_cuts(limit, wants, row.rest(), &mut row.sheet);
+    }
+    let stream = row.next();
+    let look = Look::Pieces(stream, limit, wants);
+    walk(
+        look,
+        stream,
+        Change::Cut,
+        stream.len().saturating_add(1),
+        &mut row.sheet,
+    );
+}
+
+/// Writes what is cut off a stream in pieces of a size.
+fn put_stream(row: &mut Row<'_>) {
+    let size = row.number(u64::MAX) as usize;
+    let limit = row.number(u64::MAX) as usize;
+    let wants = row.next();
+    let pieces = pieces_of(size, row.next(), &mut row.sheet);
+    put_cuts(limit, wants, &pieces, &mut row.sheet);
 }
 
 /// Writes what is cut off these pieces, between square brackets.
-fn put_cuts(limit: usize, wants: &[u8], pieces: &[Vec<u8>], sheet: &mut Sheet) {
+pub fn put_cuts(limit: usize, wants: &[u8], pieces: &[Vec<u8>], sheet: &mut Sheet) {
     let wants = wants_of(wants, sheet);
     match cut_all(sheet.alloc, limit, pieces, &wants) {
         Ok(cuts) => {
@@ -78,19 +93,4 @@ fn pieces_of(size: usize, stream: &[u8], sheet: &mut Sheet) -> Vec<Vec<u8>> {
         add_octets(&mut pieces, piece, sheet);
     }
     pieces
-}
-
-/// Writes what is cut off a stream of two pieces, wherever the first one ends.
-fn put_cuts_in_two(limit: usize, wants: &[u8], stream: &[u8], sheet: &mut Sheet) {
-    let mut runs = Runs::new(sheet.alloc);
-    for place in 0..=stream.len() {
-        let (first, second) = stream.split_at(place);
-        let mut said = Sheet::new(sheet.alloc);
-        let mut pieces = Vec::new(sheet.alloc);
-        add_octets(&mut pieces, first, sheet);
-        add_octets(&mut pieces, second, sheet);
-        put_cuts(limit, wants, &pieces, &mut said);
-        runs.add(said.onto(sheet), sheet);
-    }
-    runs.end(sheet);
 }

@@ -1,102 +1,55 @@
-//! Walks over a text, whose answers are written in runs.
+//! Walks over a text.
 
+use crate::runs::{Change, Runs, changed};
 use crate::texts::articles::{put_front_line, put_reading};
-use crate::texts::lines::{put_command, put_expression_fault};
-use line_words::is;
-use row_text::Sheet;
-use std::alloc::Global;
+use crate::texts::streams::put_cuts;
+use nntp_text::Command;
+use row_text::{Sheet, add_octets};
+use uwild::Expr;
 
 /// What is looked at in a walk.
 #[derive(Clone, Copy)]
-pub enum Look {
+pub enum Look<'a> {
     /// What a command line gives.
     Command,
-    /// The fault of an expression.
+    /// The fault of a text, `None` where it is an expression.
     Expression,
     /// The overview line of a text.
     Overview,
     /// What an article gives.
     Article,
+    /// What is cut off this stream in two pieces, of which the text is the first, with a limit, by
+    /// what is wanted.
+    Pieces(&'a [u8], usize, &'a [u8]),
 }
 
-/// Writes what each front of a text gives, as many of them as are asked for, from the one of no
-/// octet on.
-pub fn put_fronts(look: Look, octets: &[u8], fronts: usize, sheet: &mut Sheet) {
-    let mut runs = Runs::new(sheet.alloc);
-    for end in 0..fronts {
-        let front = octets.get(..end).unwrap_or(octets);
-        runs.add(said_of(look, front, sheet), sheet);
+/// Writes what a text gives with this change at each of so many places in turn.
+pub fn walk(look: Look<'_>, octets: &[u8], change: Change, places: usize, sheet: &mut Sheet) {
+    let mut runs = Runs::new(sheet.alloc, true, 0);
+    for place in 0..places {
+        let text = changed(octets, place, change, sheet);
+        let mut said = Sheet::new(sheet.alloc);
+        put_look(look, &text, &mut said);
+        runs.add(said.onto(sheet), sheet);
     }
     runs.end(sheet);
 }
 
-/// Writes what a text gives with these octets in the place of each of its own in turn.
-pub fn put_changes(look: Look, octet: &[u8], octets: &[u8], sheet: &mut Sheet) {
-    let mut runs = Runs::new(sheet.alloc);
-    for place in 0..octets.len() {
-        let mut changed = Sheet::new(sheet.alloc);
-        changed.put(&octets[..place]);
-        changed.put(octet);
-        changed.put(&octets[place + 1..]);
-        let text = changed.onto(sheet);
-        runs.add(said_of(look, &text, sheet), sheet);
-    }
-    runs.end(sheet);
-}
-
-/// What a text gives in a walk, as it is written.
-fn said_of(look: Look, octets: &[u8], sheet: &mut Sheet) -> Vec<u8> {
-    let mut said = Sheet::new(sheet.alloc);
+/// Writes what a text gives.
+pub fn put_look(look: Look<'_>, octets: &[u8], sheet: &mut Sheet) {
     match look {
-        Look::Command => put_command(octets, &mut said),
-        Look::Expression => put_expression_fault(octets, &mut said),
-        Look::Overview => put_front_line(octets, &mut said),
-        Look::Article => put_reading(octets, &mut said),
-    }
-    said.onto(sheet)
-}
-
-/// Writes a space, unless nothing but one stands in front.
-pub fn put_space(sheet: &mut Sheet) {
-    if !matches!(sheet.octets().last(), None | Some(b' ')) {
-        sheet.put(b" ");
+        Look::Command => sheet.debug(&Command::parse(sheet.alloc, octets)),
+        Look::Expression => sheet.debug(&Expr::parse(sheet.alloc, octets).err()),
+        Look::Overview => put_front_line(octets, sheet),
+        Look::Article => put_reading(octets, sheet),
+        Look::Pieces(stream, limit, wants) => put_in_two(octets, stream, limit, wants, sheet),
     }
 }
 
-/// Answers of a walk over a text: those that are equal one after another are written once, behind
-/// their number and a star.
-#[derive(Drop)]
-pub struct Runs {
-    said: Vec<u8>,
-    count: u64,
-}
-
-impl Runs {
-    /// Nothing was said.
-    pub fn new(alloc: Global) -> Runs {
-        Runs {
-            said: Vec::new(alloc),
-            count: 0,
-        }
-    }
-
-    /// Takes the next answer; where it is another, what was said before is written.
-    pub fn add(&mut self, said: Vec<u8>, sheet: &mut Sheet) {
-        if !is(&self.said, &said) {
-            self.end(sheet);
-            self.said = said;
-            self.count = 0;
-        }
-        self.count = self.count.saturating_add(1);
-    }
-
-    /// Writes what was said last.
-    pub fn end(&self, sheet: &mut Sheet) {
-        if self.count > 0 {
-            put_space(sheet);
-            sheet.number(self.count);
-            sheet.put(b"*");
-            sheet.put(&self.said);
-        }
-    }
+/// Writes what is cut off a stream in two pieces, of which this is the first.
+fn put_in_two(first: &[u8], stream: &[u8], limit: usize, wants: &[u8], sheet: &mut Sheet) {
+    let mut pieces = Vec::new(sheet.alloc);
+    add_octets(&mut pieces, first, sheet);
+    add_octets(&mut pieces, stream.get(first.len()..).unwrap_or(b""), sheet);
+    put_cuts(limit, wants, &pieces, sheet);
 }

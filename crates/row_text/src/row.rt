@@ -1,31 +1,34 @@
-//! The cells of a row, read one after another.
+//! A row that is answered.
 ghost use Rattle.std.specs.Prelude.{◌≤◌};
 
 use crate::sheet::Sheet;
 use line_words::number_within;
 
-/// The cells of a row that are still to be read. That one is missing, or writes no such number, is
-/// noted, and told at the end.
-#[derive(Clone, Copy)]
-pub struct Cells<'a> {
-    rest: &'a [Vec<u8>],
+/// The cells of a row that are still to be read, and what is written as its answer. That a cell is
+/// missing, or writes no such number, is noted, and told at the end.
+#[derive(Drop)]
+pub struct Row<'a> {
+    cells: &'a [Vec<u8>],
     is_bad: bool,
+    /// What is written as its answer.
+    pub sheet: Sheet,
 }
 
-impl<'a> Cells<'a> {
-    /// These cells.
-    pub fn new(cells: &'a [Vec<u8>]) -> Cells<'a> {
-        Cells {
-            rest: cells,
+impl<'a> Row<'a> {
+    /// A row of these cells, to be answered on this sheet.
+    pub fn new(cells: &'a [Vec<u8>], sheet: Sheet) -> Row<'a> {
+        Row {
+            cells,
             is_bad: false,
+            sheet,
         }
     }
 
     /// The next cell; where there is none, it is empty, and the row has no answer.
     pub fn next(&mut self) -> &'a [u8] {
-        match self.rest.split_first() {
+        match self.cells.split_first() {
             Some((first, rest)) => {
-                self.rest = rest;
+                self.cells = rest;
                 first
             }
             None => {
@@ -51,25 +54,27 @@ impl<'a> Cells<'a> {
 
     /// The cells that are left, which are read by that.
     pub fn rest(&mut self) -> &'a [Vec<u8>] {
-        let rest = self.rest;
-        self.rest = &[];
+        let rest = self.cells;
+        self.cells = &[];
         rest
     }
 
     /// Whether a cell is left.
     pub fn has_more(&self) -> bool {
-        !self.rest.is_empty()
+        !self.cells.is_empty()
     }
 
     /// Whether all were read, and are as they have to be.
     pub fn are_read(&self) -> bool {
-        !self.is_bad && self.rest.is_empty()
+        !self.is_bad && self.cells.is_empty()
     }
 
-    /// Where not all were read, or one isn't as it has to be, the row has no answer.
-    pub fn end(&self, sheet: &mut Sheet) {
+    /// Writes the answer on another sheet. The row has none where not all cells were read, or one
+    /// isn't as it has to be.
+    pub(crate) fn end(&mut self, other: &mut Sheet) {
         if !self.are_read() {
-            sheet.refuse();
+            self.sheet.refuse();
         }
+        self.sheet.end(other);
     }
 }
