@@ -139,12 +139,6 @@ refused-blind = record { same = by }
     by (claim.Stored token moment) = refl
     by (claim.Refused moment) = refl
 
--- such a test says the same of two claims with one mark
-pub blind_alike : (test : Claim → Bool) → IsBlind test → (c d : Claim) → mark_of c ≡ mark_of d
-    → test c ≡ test d
-blind_alike test blind c d alike =
-    sym (blind.same c) ∙ ap (λ m. test (claim_of m)) alike ∙ blind.same d
-
 abbrev Pairs : Type 0
 Pairs = List (String Global × Entry)
 

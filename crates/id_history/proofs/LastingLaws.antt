@@ -20,8 +20,8 @@ use Rattle.relay_model.specs.Claims as claim
 use Rattle.relay_model.specs.State.{put_id}
 use Rattle.id_history.specs.Lasting.{lasting, claim_since, claim_of_kept, ids_of, AreLasting}
 use Rattle.id_history.specs.Lasting.{put_all}
-use Rattle.id_history.specs.declared.claims.Shard.{Shard}
-use Rattle.id_history.specs.Shard.{Keeps}
+use Rattle.id_history.specs.declared.shards.Shards.{Shards}
+use Rattle.id_history.specs.Shards.{KeepsAll}
 use Rattle.id_history.proofs.JoinLemmas.{first_member}
 use Rattle.id_history.proofs.LastingJoins.{left_of_member}
 
@@ -199,12 +199,12 @@ left_twice claims entries are = record {
 }
 
 -- what a resume makes reads back as what it was given
-pub reads-back : (shard : Shard) (entries again : List KeptId) → Rises entries
+pub reads-back : (shards : Shards) (entries again : List KeptId) → Rises entries
     → ((claims : List ℕ → Claim) → AreLasting entries claims
-    → Keeps shard (λ id. lasting (claims id)))
-    → ((claims : List ℕ → Claim) → Keeps shard claims → AreLasting again claims)
+    → KeepsAll shards (λ id. lasting (claims id)))
+    → ((claims : List ℕ → Claim) → KeepsAll shards claims → AreLasting again claims)
     → again ≡ entries
-reads-back shard entries again up resumed read =
+reads-back shards entries again up resumed read =
     let claims = put_all (λ id. Unknown) entries in
     let are = some_left entries up in
     one_left (λ id. lasting (claims id)) again entries

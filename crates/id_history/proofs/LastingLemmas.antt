@@ -231,42 +231,14 @@ put_all-push base [] one id = refl
 put_all-push base (first ∷ entries) one id =
     put_all-push (put_id base first.id (claim_of_kept first)) entries one id
 
--- a shard that keeps claims keeps those that are equal to them
-pub Keeps-same : (shard : Shard) (claims others : List ℕ → Claim)
-    → ((id : List ℕ) → claims id ≡ others id) → Keeps shard claims → Keeps shard others
-Keeps-same shard claims others same keeps = record {
-  agrees = λ id. keeps.agrees id ∙ ap mark_of (same id);
-}
-
--- the next of those that are left was put
-pub Keeps-put_more : (old new : Shard) (entries more : List KeptId) (one : KeptId)
-    → more ≡ entries ++ one ∷ []
-    → ((claims : List ℕ → Claim) → Keeps old claims
-    → Keeps new (put_id claims one.id (claim_of_kept one)))
-    → Keeps old (put_all (λ id. Unknown) entries) → Keeps new (put_all (λ id. Unknown) more)
-Keeps-put_more old new entries more one is put keeps =
-    Keeps-same new (put_id (put_all (λ id. Unknown) entries) one.id (claim_of_kept one))
-    (put_all (λ id. Unknown) more)
-    (λ id. sym (put_all-push (λ other. Unknown) entries one id)
-    ∙ ap (λ es. put_all (λ other. Unknown) es id) (sym is))
-    (put (put_all (λ id. Unknown) entries) keeps)
-
--- what was put is what is left of the claims of which it is all
-pub Keeps-put_all : (shard : Shard) (so_far all : List KeptId) → so_far ≡ all
-    → Keeps shard (put_all (λ id. Unknown) so_far) → (claims : List ℕ → Claim)
-    → AreLasting all claims → Keeps shard (λ id. lasting (claims id))
-Keeps-put_all shard so_far all same keeps claims are =
-    Keeps-same shard (put_all (λ id. Unknown) so_far) (λ id. lasting (claims id))
-    (λ id. ap (λ es. put_all (λ other. Unknown) es id) same ∙ put_all-lasting claims all are id)
-    keeps
-
--- the same of sixteen shards
+-- shards that keep claims keep those that are equal to them
 KeepsAll-same : (shards : Shards) (claims others : List ℕ → Claim)
     → ((id : List ℕ) → claims id ≡ others id) → KeepsAll shards claims → KeepsAll shards others
 KeepsAll-same shards claims others same keeps = record {
   agrees = λ id none. keeps.agrees id none ∙ ap mark_of (same id);
 }
 
+-- the next of those that are left was put
 pub KeepsAll-put_more : (old new : Shards) (entries more : List KeptId) (one : KeptId)
     → more ≡ entries ++ one ∷ []
     → ((claims : List ℕ → Claim) → KeepsAll old claims
@@ -280,6 +252,7 @@ KeepsAll-put_more old new entries more one is put keeps =
     ∙ ap (λ es. put_all (λ other. Unknown) es id) (sym is))
     (put (put_all (λ id. Unknown) entries) keeps)
 
+-- what was put is what is left of the claims of which it is all
 pub KeepsAll-put_all : (shards : Shards) (so_far all : List KeptId) → so_far ≡ all
     → KeepsAll shards (put_all (λ id. Unknown) so_far) → (claims : List ℕ → Claim)
     → AreLasting all claims → KeepsAll shards (λ id. lasting (claims id))

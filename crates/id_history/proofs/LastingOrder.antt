@@ -29,7 +29,7 @@ use Rattle.id_history.specs.Views.{id_view}
 use Rattle.id_history.specs.declared.kept.KeptId as kept
 use Rattle.relay_model.specs.Claims.{Claim}
 use Rattle.id_history.specs.Lasting.{lasting, claim_of_kept, ids_of, HasLasting}
-use Rattle.id_history.specs.Lasting.{AreLasting, GathersLasting}
+use Rattle.id_history.specs.Lasting.{AreLasting}
 
 -- of two that differ, the second isn't below the first: the first is below it
 less_from : (a b : List ℕ) → is_lt (slice_cmp nat_cmp b a) ≡ false → bytes_eq a b ≡ false
@@ -112,27 +112,7 @@ AreLasting-sorted gathered sorted same rises claims are =
           ((is_member-Decides bytes_eq-Decides ids id).0 (are.whole id left)));
     }
 
--- the list began empty
-pub HasLasting-gathered : (after : List KeptId) (claims : List ℕ → Claim)
-    → GathersLasting [] after claims → HasLasting after claims
-HasLasting-gathered after claims gathers =
-    subst (λ xs. HasLasting xs claims) (sym gathers.is) gathers.are
-
--- so is what is shown of it, where the list began empty
-pub entries-sorted : (first gathered lent sorted shown : List kept.KeptId)
-    (claims : List ℕ → Claim) → first ≡ [] → lent ≡ gathered → IsPermutation lent sorted
-    → (IsDistinct bytes_eq (ids_of (map id_view lent)) → Rises (map id_view sorted))
-    → shown ≡ sorted → GathersLasting (map id_view first) (map id_view gathered) claims
-    → AreLasting (map id_view shown) claims
-entries-sorted first gathered lent sorted shown claims none same moved rises is gathers =
-    subst (λ (xs : List kept.KeptId). AreLasting (map id_view xs) claims) (sym is)
-    (AreLasting-sorted lent sorted moved rises claims
-    (subst (λ (xs : List kept.KeptId). HasLasting (map id_view xs) claims) (sym same)
-    (HasLasting-gathered (map id_view gathered) claims
-    (subst (λ (xs : List kept.KeptId). GathersLasting (map id_view xs)
-    (map id_view gathered) claims) none gathers))))
-
--- the same of what was gathered shard by shard
+-- so is what is shown of it
 pub all-sorted : (lent gathered sorted shown : List kept.KeptId) (claims : List ℕ → Claim)
     → lent ≡ gathered → IsPermutation lent sorted
     → (IsDistinct bytes_eq (ids_of (map id_view lent)) → Rises (map id_view sorted))

@@ -88,20 +88,6 @@ room_left first now had len room pairs others all pair split is begun long fits 
   length-left pair others,
 )
 
--- so many were put
-pub len_left : (first now : List kept.KeptId) (had len : ℕ) (pairs all : Pairs)
-    → map id_view now ≡ map id_view first ++ flat_map kept_of pairs → pairs ≡ all
-    → length first ≡ had → length now ≡ len → len ≡ had + length (flat_map kept_of all)
-len_left first now had len pairs all is same begun long = omega (
-  arith,
-  begun,
-  long,
-  ap length is ∙ length-append (map id_view first) (flat_map kept_of pairs),
-  length-map now id_view,
-  length-map first id_view,
-  ap (λ all. length (flat_map kept_of all)) same,
-)
-
 -- the counts of all entries
 pub lasting-counts : (shard : Shard) (counts : Counts)
     → Numbers counts (number_of (values shard.entries))

@@ -1,5 +1,5 @@
 //! What outlives a stop (docs/PROTOCOL.md, Clean stop and start).
-ghost use Rattle.std.specs.Prelude.{◌≡◌, ◌+◌, ℕ, List, map, max, IfOk, OnOk};
+ghost use Rattle.std.specs.Prelude.{◌≡◌, ◌+◌, ℕ, List, map, max, OnOk};
 ghost use Rattle.std.specs.Prelude.{vec_len, vec_capacity};
 ghost use Rattle.std.specs.List.{AllByRecursion, IsDistinct};
 ghost use Rattle.std.specs.List.Sorted.{IsPermutation};
@@ -7,32 +7,16 @@ ghost use Rattle.std.specs.Str.{bytes_eq};
 ghost use Rattle.id_history.specs.History.{IdFits, Rises};
 ghost use Rattle.id_history.specs.Views.{id_view};
 ghost use Rattle.relay_model.specs.Claims.{Claim};
-ghost use Rattle.id_history.specs.Lasting.{AreLasting, GathersLasting, ids_of, lasting};
+ghost use Rattle.id_history.specs.Lasting.{GathersLasting, ids_of};
 ghost use Rattle.id_history.specs.LastingIn.{lasting_count};
 ghost use Rattle.id_history.specs.Shard.{Keeps};
 
 use crate::claims::Shard;
 use crate::counts::Counts;
 use crate::kept::KeptId;
-use std::alloc::{AllocError, Global};
-use std::hash::RandomState;
+use std::alloc::AllocError;
 
 impl Shard {
-    /// The ids that are stored or were refused, rising by their octets.
-    pub fn entries(&self, alloc: Global) -> Result<Vec<KeptId>, AllocError>
-        ensures lasting { IfOk result (λ entries. (claims : List ℕ → Claim) → Keeps self.now claims
-            → AreLasting (map id_view entries.items) claims) }
-
-        // Each has room in the text of a history.
-        ensures fits { IfOk result (λ entries. AllByRecursion IdFits (map id_view entries.items)) }
-        ensures room { IfOk result (λ entries. vec_capacity entries ≡ vec_len entries) }
-    {
-        let mut entries = Vec::new(alloc);
-        self.gather(&mut entries)?;
-        sort(&mut entries);
-        Ok(entries)
-    }
-
     /// Puts the ids that are stored or were refused behind the list, in no order. It takes room
     /// for these alone, where the list hasn't it.
     pub fn gather(&self, list: &mut Vec<KeptId>) -> Result<(), AllocError>
@@ -47,23 +31,6 @@ impl Shard {
     {
         reserve(list, self.counts())?;
         self.append(list)
-    }
-
-    /// A shard that keeps what was left of the claims of another, with the room for its entries.
-    pub fn resume(
-        alloc: Global,
-        hasher: RandomState,
-        entries: Vec<KeptId>,
-    ) -> Result<Shard, AllocError>
-        ensures { IfOk result (λ shard. (claims : List ℕ → Claim)
-            → AreLasting (map id_view entries.items) claims
-            → Keeps shard (λ id. lasting (claims id))) }
-    {
-        let mut shard = Shard::new(alloc, hasher);
-        for one in entries {
-            shard.put(one)?;
-        }
-        Ok(shard)
     }
 }
 

@@ -39,7 +39,7 @@ pub fn one_is_left()
         → AreLasting other claims → one ≡ other }
 {}
 
-/// Each list of ids that rise is what is left of some claims, so of a shard that is resumed from it
+/// Each list of ids that rise is what is left of some claims, so of shards that are resumed from it
 /// something is said.
 pub fn each_was_left()
     ensures { (entries : List KeptId) → Rises entries
@@ -48,10 +48,10 @@ pub fn each_was_left()
 
 /// What a resume makes reads back as what it was given.
 pub fn reads_back()
-    ensures { (shard : Shard) (entries again : List KeptId) → Rises entries
+    ensures { (shards : Shards) (entries again : List KeptId) → Rises entries
         → ((claims : List ℕ → Claim) → AreLasting entries claims
-        → Keeps shard (λ id. lasting (claims id)))
-        → ((claims : List ℕ → Claim) → Keeps shard claims → AreLasting again claims)
+        → KeepsAll shards (λ id. lasting (claims id)))
+        → ((claims : List ℕ → Claim) → KeepsAll shards claims → AreLasting again claims)
         → again ≡ entries }
 {}
 

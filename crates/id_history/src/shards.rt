@@ -164,7 +164,8 @@ impl Shards {
         self.shards[shard].expire(now, remember, fronts);
     }
 
-    /// See `Shard::entries`: it gives those of all shards, rising by their octets.
+    /// The ids that are stored or were refused, rising by their octets. Each has room in the text of
+    /// a history.
     pub fn entries(&self, alloc: Global) -> Result<Vec<KeptId>, AllocError>
         ensures lasting { IfOk result (λ entries. (claims : List ℕ → Claim)
             → KeepsAll self.now claims → AreLasting (map id_view entries.items) claims) }
@@ -180,7 +181,7 @@ impl Shards {
         Ok(entries)
     }
 
-    /// See `Shard::resume`: all sixteen have this hasher.
+    /// Shards that keep what was left of the claims of others, with this hasher.
     pub fn resume(
         alloc: Global,
         hasher: RandomState,
