@@ -11,7 +11,7 @@ use Rattle.std.specs.Map.{lookup, keys_of, values_of}
 use Rattle.std.specs.Set.{is_member}
 use Rattle.std.specs.Str.{bytes_eq}
 use Rattle.std.specs.String.{string_bytes, string_eq, string_eq_equiv}
-use Rattle.relay_model.specs.Claims.{Claim, is_storing}
+use Rattle.relay_model.specs.Claims.{Accepted, Claim, Stage, is_storing}
 use Rattle.relay_model.specs.Claims as claim
 use Rattle.id_history.specs.declared.claims.Entry.{Entry}
 use Rattle.id_history.specs.declared.claims.Entry.TheVariants as entry
@@ -19,7 +19,7 @@ use Rattle.id_history.specs.declared.claims.Shard.{Shard}
 use Rattle.id_history.specs.declared.counts.Counts.{Counts}
 use Rattle.id_history.specs.Counts.{is_known, is_offered, is_stored, is_refused}
 use Rattle.id_history.specs.Counts.{Numbers, CountsOf, AtMost}
-use Rattle.id_history.specs.Mark.{mark_of, claim_of, entry_mark}
+use Rattle.id_history.specs.Mark.{mark_of, claim_of, entry_mark, no_article}
 use Rattle.id_history.specs.Shard.{mark_at, Keeps}
 
 -- a claim that the entry stands for
@@ -86,58 +86,20 @@ AtMost-one one c most some are = record {
     within false n a = omega (arith, a)
 
 -- a test that sees neither article nor stage
-pub record IsBlind (test : Claim → Bool) : Type 0 where
-  pub same : (c : Claim) → test (claim_of (mark_of c)) ≡ test c
+abbrev IsBlind : (Claim → Bool) → Type 0
+IsBlind test = (c : Claim) → test (claim_of (mark_of c)) ≡ test c
 
-pub known-blind : IsBlind is_known
-known-blind = record { same = by }
-  where
-    by : (c : Claim) → is_known (claim_of (mark_of c)) ≡ is_known c
-    by claim.Unknown = refl
-    by (claim.Offered session) = refl
-    by (claim.Storing session article stage) = refl
-    by (claim.Stored token moment) = refl
-    by (claim.Refused moment) = refl
-
-pub offered-blind : IsBlind is_offered
-offered-blind = record { same = by }
-  where
-    by : (c : Claim) → is_offered (claim_of (mark_of c)) ≡ is_offered c
-    by claim.Unknown = refl
-    by (claim.Offered session) = refl
-    by (claim.Storing session article stage) = refl
-    by (claim.Stored token moment) = refl
-    by (claim.Refused moment) = refl
-
-pub storing-blind : IsBlind is_storing
-storing-blind = record { same = by }
-  where
-    by : (c : Claim) → is_storing (claim_of (mark_of c)) ≡ is_storing c
-    by claim.Unknown = refl
-    by (claim.Offered session) = refl
-    by (claim.Storing session article stage) = refl
-    by (claim.Stored token moment) = refl
-    by (claim.Refused moment) = refl
-
-pub stored-blind : IsBlind is_stored
-stored-blind = record { same = by }
-  where
-    by : (c : Claim) → is_stored (claim_of (mark_of c)) ≡ is_stored c
-    by claim.Unknown = refl
-    by (claim.Offered session) = refl
-    by (claim.Storing session article stage) = refl
-    by (claim.Stored token moment) = refl
-    by (claim.Refused moment) = refl
-
-pub refused-blind : IsBlind is_refused
-refused-blind = record { same = by }
-  where
-    by : (c : Claim) → is_refused (claim_of (mark_of c)) ≡ is_refused c
-    by claim.Unknown = refl
-    by (claim.Offered session) = refl
-    by (claim.Storing session article stage) = refl
-    by (claim.Stored token moment) = refl
-    by (claim.Refused moment) = refl
+-- it is one that doesn't see those of an article that is being stored
+blind_by : (test : Claim → Bool)
+    → ((session : ℕ) (article : Accepted) (stage : Stage)
+    → test (claim.Storing session no_article claim.Waiting)
+    ≡ test (claim.Storing session article stage))
+    → IsBlind test
+blind_by test storing claim.Unknown = refl
+blind_by test storing (claim.Offered session) = refl
+blind_by test storing (claim.Storing session article stage) = storing session article stage
+blind_by test storing (claim.Stored token moment) = refl
+blind_by test storing (claim.Refused moment) = refl
 
 abbrev Pairs : Type 0
 Pairs = List (String Global × Entry)
@@ -223,7 +185,7 @@ agree_each shard claims test blind keeps [] found = tt
 agree_each shard claims test blind keeps (p ∷ pairs) found = (
   ap (λ o. test (claim_of (entry_mark o))) (sym found.0)
       ∙ ap (λ m. test (claim_of m)) (keeps.agrees (string_bytes p.0))
-      ∙ blind.same (claims (string_bytes p.0)),
+      ∙ blind (claims (string_bytes p.0)),
   agree_each shard claims test blind keeps pairs found.1,
 )
 
@@ -237,12 +199,12 @@ CountsOf-from_entries shard counts unique are claims keeps = record {
   once = ids_of-distinct shard.entries.entries unique;
   known = λ id. ids_of-found id shard.entries.entries
       ∙ known_entry (lookup (λ k. bytes_eq id (string_bytes k)) shard.entries.entries)
-      ∙ ap (λ m. is_known (claim_of m)) (keeps.agrees id) ∙ known-blind.same (claims id);
+      ∙ ap (λ m. is_known (claim_of m)) (keeps.agrees id) ∙ blind_by is_known (λ s a t. refl) (claims id);
   numbers = record {
-    offered = are.offered ∙ same is_offered offered-blind;
-    storing = are.storing ∙ same is_storing storing-blind;
-    stored = are.stored ∙ same is_stored stored-blind;
-    refused = are.refused ∙ same is_refused refused-blind;
+    offered = are.offered ∙ same is_offered (blind_by is_offered (λ s a t. refl));
+    storing = are.storing ∙ same is_storing (blind_by is_storing (λ s a t. refl));
+    stored = are.stored ∙ same is_stored (blind_by is_stored (λ s a t. refl));
+    refused = are.refused ∙ same is_refused (blind_by is_refused (λ s a t. refl));
   };
 }
   where

@@ -1,6 +1,6 @@
 -- Tokens and message-ids that are read are those that were written.
 use Rattle.std.proofs.Common.{◌≡◌, ℕ, zero, suc, ◌^◌, ◌<◌, List, [], ◌∷◌, ◌++◌, length}
-use Rattle.std.proofs.Common.{Option, Some, None, refl, sym, ap, subst, ◌∙◌, append_assoc, arith}
+use Rattle.std.proofs.Common.{Option, Some, None, refl, sym, ap, subst, ◌∙◌, append_assoc}
 use Rattle.std.specs.Prelude.{IfSome}
 use Rattle.std.specs.Int.{w32, w64, to_be_bytes}
 use Rattle.news_terms.specs.MessageId.{IdFault, id_fault}
@@ -43,8 +43,8 @@ token_takes bytes x fits e =
     {x = made} (some_is made x f.2) (
       af,
       record {
-        class = omega (arith, ta.1);
-        buffer = omega (arith, tb.1);
+        class = ta.1;
+        buffer = tb.1;
         cycle = tc.1;
         first = td.1;
         length = tf.1;
