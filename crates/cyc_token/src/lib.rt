@@ -12,7 +12,7 @@ mod text;
 pub use text::TokenError;
 
 /// Where a stored article lies and how long it is (docs/FORMATS.md, Tokens).
-#[derive(Clone, Copy, Debug, PartialEq, Eq, Hash)]
+#[derive(Clone, Copy, Debug, PartialEq, Eq)]
 pub struct Token {
     /// The number of its storage class.
     pub class: u8,
